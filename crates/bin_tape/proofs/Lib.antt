@@ -6,3 +6,5 @@ pub mod Runs
 pub mod Served
 
 pub mod Fronts
+pub mod FromSource
+pub mod GoesOn

@@ -5,4 +5,5 @@ pub mod Refuses
 pub mod Viable
 pub mod Reading
 pub mod Holds
+pub mod Served
 pub mod Serving

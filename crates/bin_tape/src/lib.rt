@@ -21,3 +21,6 @@ pub use image::Image;
 pub use read::{read_from, read_tape};
 pub use word::TapeWord;
 
+
+#[cfg(test)]
+mod tests;

@@ -1,11 +1,13 @@
 //! Reading a tape, whole or in pieces.
 
-ghost use Rattle.std.specs.Prelude.{◌≡◌, List, Option, ℕ, length, take, nat_lt, IfOk, IfErr, Ok, Err, false};
+ghost use Rattle.std.specs.Prelude.{◌≡◌, ◌≤◌, List, Option, ℕ, length, take, nat_lt, IfOk, IfErr, IfSome, Ok, Err, false};
 ghost use Rattle.bin_tape.specs.Tape.{IsTape};
-ghost use Rattle.bin_tape.specs.Refuses.{Refuses};
+ghost use Rattle.bin_tape.specs.Refuses.{Refuses, IsUnfinished};
+ghost use Rattle.bin_tape.specs.Serving.{Gave, IsPrompt, failed_to_read};
 ghost use Rattle.bin_tape.specs.Reading.{Answers, reads};
-ghost use Rattle.bin_tape.specs.Serving.{Serves};
+ghost use Rattle.bin_tape.specs.Served.{Serves};
 ghost use Rattle.bin_tape.specs.declared.fault.TapeFault.{TapeFault};
+ghost use Rattle.bin_tape.specs.declared.fault.TapeFault.TheVariants.{ReadFault};
 
 use crate::bytes::ByteSource;
 use crate::fault::TapeFault;
@@ -54,10 +56,11 @@ pub fn read_tape(frames: &[u8]) -> Result<Image, TapeFault>
     read_whole(frames)
 }
 
-/// The image of the tape that a source gives. It reads only while it needs frames.
-pub fn read_from<R: ByteSource>(source: &mut R) -> Result<Image, TapeFault>
-    requires { R.mark source.old ≡ false }
-    ensures { Serves (R.remaining source.old) (R.remaining source.new) result }
+/// The answer of the frames that a source gives, by the reading frame by frame.
+fn read_source<R: ByteSource>(source: &mut R) -> Result<Image, TapeFault>
+    requires unmarked { R.mark source.old ≡ false }
+    ensures serves { Serves (R.remaining source.old) (R.remaining source.new) result }
+    ensures marks { R.mark source.new ≡ failed_to_read result }
 {
     let mut reader = Reader::new();
     let mut piece = [0u8; PIECE];
@@ -83,4 +86,38 @@ pub fn read_from<R: ByteSource>(source: &mut R) -> Result<Image, TapeFault>
         Ok(0) => Err(reader.unfinished()),
         Ok(_) => Err(TapeFault::TooLong),
     }
+}
+
+/// The image of the tape that a source gives, as [`read_tape`] reads it. It reads only while it
+/// needs frames: 512 bytes at a time, and never more than are looked at.
+///
+/// # Errors
+///
+/// `ReadFault` where a read failed before the frames brought an answer; else the first fault in
+/// the order of the frames.
+pub fn read_from<R: ByteSource>(source: &mut R) -> Result<Image, TapeFault>
+    requires unmarked { R.mark source.old ≡ false }
+    // What is read is the tape of the source's bytes, whose trailer is within the limit.
+    ensures tape { IfOk result (λ image. IfSome (R.remaining source.old)
+        (λ bytes. IsTape (take 65536 bytes) image)) }
+    // Each such tape is read, unless a read fails.
+    ensures only { IfSome (R.remaining source.old) (λ bytes. (image : List (Option ℕ)) →
+        IsTape (take 65536 bytes) image → R.mark source.new ≡ false → result ≡ Ok image) }
+    // Where no read failed, a fault comes where it is that of the source's bytes,
+    ensures refused { R.mark source.new ≡ false → IfErr result (λ fault.
+        IfSome (R.remaining source.old) (λ bytes. Refuses 65536 bytes fault)) }
+    // and whichever is that of the bytes comes.
+    ensures exact { IfSome (R.remaining source.old) (λ bytes. (fault : TapeFault) →
+        Refuses 65536 bytes fault → R.mark source.new ≡ false → result ≡ Err fault) }
+    // ReadFault comes exactly where a read failed,
+    ensures failed { R.mark source.new ≡ failed_to_read result }
+    // and the bytes given before it bring no answer.
+    ensures unanswered { result ≡ Err ReadFault →
+        Gave (R.remaining source.old) (R.remaining source.new) IsUnfinished }
+    // At most 65,537 bytes are taken, and at most 511 past the one that brings the answer.
+    ensures limit { Gave (R.remaining source.old) (R.remaining source.new)
+        (λ given. length given ≤ 65537) }
+    ensures prompt { Gave (R.remaining source.old) (R.remaining source.new) (IsPrompt 511) }
+{
+    read_source(source)
 }

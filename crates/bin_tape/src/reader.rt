@@ -3,6 +3,7 @@
 ghost use Rattle.std.specs.Prelude.{◌≡◌, ◌+◌, ◌<◌, ◌^◌, length, ◌∷◌, [], List, Err, false};
 ghost use Rattle.bin_tape.specs.Tape.{Part, words};
 ghost use Rattle.bin_tape.specs.Reading.{Progress, Between, begun, ended, next, run, Answers};
+ghost use Rattle.bin_tape.specs.Serving.{is_read_fault};
 ghost use Rattle.bin_tape.specs.Holds.{Settles, Holds, Shows, Tells, EndsAs, IsOpen};
 ghost use Rattle.bin_tape.specs.declared.word.TapeWord.{TapeWord};
 
@@ -169,7 +170,8 @@ impl Reader {
 
     /// The fault of a list that ends here.
     pub(crate) fn unfinished(&self) -> TapeFault
-        ensures { (p : Progress) → Shows p self.now → IsOpen p → Answers false p (Err result) }
+        ensures answer { (p : Progress) → Shows p self.now → IsOpen p → Answers false p (Err result) }
+        ensures no_read { is_read_fault result ≡ false }
     {
         match (self.place, self.last) {
             (Place::Between, None) => TapeFault::NoWord,

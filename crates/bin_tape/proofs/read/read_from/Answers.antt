@@ -1,75 +1,18 @@
-use Rattle.std.proofs.Common.{Bool, true, false, ◌≡◌, ◌+◌, ◌<◌, ◌≤◌, List, ℕ, length, take, drop, length-append, get_or, arith, rules, [], refl}
-use Rattle.std.proofs.lemmas.List.{length-take-le, take-append-le, length-drop}
-use Rattle.std.specs.Io.KnownBytes.{Consumes, Keeps, IsAtEnd}
-use Rattle.bin_tape.specs.declared.reader.Fed.TheVariants.{More, End, Fault}
-use Rattle.bin_tape.specs.Reading.{Progress, run, reads, Answers}
-use Rattle.bin_tape.specs.Holds.{Shows, Tells, IsOpen}
-use Rattle.bin_tape.specs.Serving.{CameTo, Serves}
-use Rattle.bin_tape.proofs.Runs.{reads_none, end_answers, fault_answers}
-use Rattle.bin_tape.proofs.Served.{came_none, came_on, serve_closed, serve_long, serve_end, serve_failed}
+use Rattle.std.proofs.Common.{sym, ◌∙◌}
+use Rattle.bin_tape.proofs.FromSource.{serves_tape, serves_only, serves_refused, serves_exact, serves_unanswered, serves_limit, serves_prompt}
 use Rattle.bin_tape.proofs.read.read_from.Goals as goal
 
-pub loop-at-init : goal.loop-at-init
-loop-at-init g c = (came_none _ c.new-reader.result (rw reads_none c.new-reader.ensures) (rw reads_none tt), omega arith, refl)
-
-pub returns-then-count-eq0 : goal.returns-then-count-eq0
-returns-then-count-eq0 g c =
-    let came = c.loop-at.invariant.0 in
-    let none : c.in-Ok.count ≡ 0 = c.if-count-eq0.true in
-    let sized : length (take c.min-room.result c.loop-at.piece) ≡ c.min-room.result = length-take-le c.min-room.result c.loop-at.piece (omega arith) in
-    let some_room : 0 < length c.read.new.piece = omega (arith, sized, c.read.auto.piece) in
-    serve_end _ _ _ c.loop-at.at c.loop-at.reader _ c.loop-at.invariant.1 came (rw none at c.in-Ok.ensures.bytes.0) (c.in-Ok.ensures.bytes.1 none some_room)
-    (c.unfinished.ensures (reads came.given) came.shows came.unanswered)
-
-pub loop-at-preserved : goal.loop-at-preserved
-loop-at-preserved g c =
-    let came = c.loop-at.invariant.0 in
-    let fed = c.feed_all.ensures (reads came.given) came.shows came.unanswered in
-    let within : c.in-Ok.count ≤ length c.read.new.piece = c.in-Ok.ensures.count in
-    let front : List ℕ = take c.in-Ok.count c.read.new.piece in
-    let is : length front ≡ c.in-Ok.count = length-take-le c.in-Ok.count c.read.new.piece within in
-    let sized : length (take c.min-room.result c.loop-at.piece) ≡ c.min-room.result = length-take-le c.min-room.result c.loop-at.piece (omega arith) in
-    let fed' = rw (take-append-le c.in-Ok.count c.read.new.piece _ within) at fed in
-    (came_on _ _ _ c.loop-at.at c.loop-at.reader front came c.in-Ok.ensures.bytes.0 c.in-Ok.count c.feed_all.new.self is fed'.0 (rw (← c.in-More.is) fed'.1), omega (arith, within, sized, c.read.auto.piece), omega (arith, length-append c.read.new.piece (drop c.min-room.result c.loop-at.piece), length-drop c.min-room.result c.loop-at.piece, sized, c.read.auto.piece))
-
-pub returns-in-End : goal.returns-in-End
-returns-in-End g c =
-    let came = c.loop-at.invariant.0 in
-    let fed = c.feed_all.ensures (reads came.given) came.shows came.unanswered in
-    let within : c.in-Ok.count ≤ length c.read.new.piece = c.in-Ok.ensures.count in
-    let front : List ℕ = take c.in-Ok.count c.read.new.piece in
-    let is : length front ≡ c.in-Ok.count = length-take-le c.in-Ok.count c.read.new.piece within in
-    let sized : length (take c.min-room.result c.loop-at.piece) ≡ c.min-room.result = length-take-le c.min-room.result c.loop-at.piece (omega arith) in
-    let fed' = rw (take-append-le c.in-Ok.count c.read.new.piece _ within) at fed in
-    let end = λ (longer : Bool). end_answers longer (run c.loop-at.at (reads came.given) front) c.feed_all.new.self fed'.0 (rw (← c.in-End.is) fed'.1) in
-    serve_closed _ _ _ c.loop-at.at c.loop-at.reader front came c.in-Ok.ensures.bytes.0 _ (omega (arith, is, within, sized, c.read.auto.piece)) (end false).0 (λ longer. (end longer).1)
-
-pub returns-in-Fault : goal.returns-in-Fault
-returns-in-Fault g c =
-    let came = c.loop-at.invariant.0 in
-    let fed = c.feed_all.ensures (reads came.given) came.shows came.unanswered in
-    let within : c.in-Ok.count ≤ length c.read.new.piece = c.in-Ok.ensures.count in
-    let front : List ℕ = take c.in-Ok.count c.read.new.piece in
-    let is : length front ≡ c.in-Ok.count = length-take-le c.in-Ok.count c.read.new.piece within in
-    let sized : length (take c.min-room.result c.loop-at.piece) ≡ c.min-room.result = length-take-le c.min-room.result c.loop-at.piece (omega arith) in
-    let fed' = rw (take-append-le c.in-Ok.count c.read.new.piece _ within) at fed in
-    let end = λ (longer : Bool). fault_answers longer (run c.loop-at.at (reads came.given) front) c.in-Fault.fault (rw (← c.in-Fault.is) fed'.1) in
-    serve_closed _ _ _ c.loop-at.at c.loop-at.reader front came c.in-Ok.ensures.bytes.0 _ (omega (arith, is, within, sized, c.read.auto.piece)) (end false).0 (λ longer. (end longer).1)
-
-pub returns-in-Ok-eq0 : goal.returns-in-Ok-eq0
-returns-in-Ok-eq0 g c =
-    let came = c.loop-at.invariant.0 in
-    let none : c.in-Ok-eq0.field-0 ≡ 0 = c.in-Ok-eq0.field-0-test in
-    let sized : length (take 1 c.loop-at.piece) ≡ 1 = length-take-le 1 c.loop-at.piece (omega arith) in
-    let some_room : 0 < length c.read-2.new.piece = omega (arith, sized, c.read-2.auto.piece) in
-    serve_end _ _ _ c.loop-at.at c.loop-at.reader _ c.loop-at.invariant.1 came (rw none at c.in-Ok-eq0.ensures.bytes.0) (c.in-Ok-eq0.ensures.bytes.1 none some_room)
-    (c.unfinished-in-Ok-eq0.ensures (reads came.given) came.shows came.unanswered)
-
-pub returns-in-Ok-read : goal.returns-in-Ok-read
-returns-in-Ok-read g c =
-    let came = c.loop-at.invariant.0 in
-    let sized : length (take 1 c.loop-at.piece) ≡ 1 = length-take-le 1 c.loop-at.piece (omega arith) in
-    let within : c.in-Ok-read.field-0 ≤ length c.read-2.new.piece = c.in-Ok-read.ensures.count in
-    let is : length (take c.in-Ok-read.field-0 c.read-2.new.piece) ≡ c.in-Ok-read.field-0 = length-take-le c.in-Ok-read.field-0 c.read-2.new.piece within in
-    serve_long _ _ _ c.loop-at.at c.loop-at.reader (take c.in-Ok-read.field-0 c.read-2.new.piece) came c.in-Ok-read.ensures.bytes.0
-    (omega (arith, is, within, sized, c.read-2.auto.piece, c.in-Ok-read.field-0-test.1)) (omega arith)
+pub returns : goal.returns
+returns g c =
+    let served = c.read_source.ensures.serves in
+    let marked = c.read_source.ensures.marks in
+    record {
+      tape = serves_tape _ _ c.read_source.result served;
+      only = serves_only _ _ c.read_source.result _ marked served;
+      refused = λ unmarked. serves_refused _ _ c.read_source.result served (sym marked ∙ unmarked);
+      exact = serves_exact _ _ c.read_source.result _ marked served;
+      failed = marked;
+      unanswered = serves_unanswered _ _ c.read_source.result served;
+      limit = serves_limit _ _ c.read_source.result served;
+      prompt = serves_prompt _ _ c.read_source.result served;
+    }

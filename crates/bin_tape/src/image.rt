@@ -1,0 +1,48 @@
+//! What a tape carries into memory.
+
+ghost use Rattle.std.specs.Prelude.{◌≡◌, Some, None, replicate, slice_set};
+ghost use Rattle.bin_tape.specs.Image.{word_at};
+
+use std::marker::Model;
+use word12::Word;
+
+/// For each of the 4096 addresses, a word or none.
+#[derive(Clone, Copy)]
+pub struct Image {
+    cells: [Option<Word>; 4096],
+}
+
+impl Model for Image {
+    ghost use Rattle.std.specs.Prelude.{List, Option, ℕ};
+
+    ghost Value = { List (Option ℕ) };
+
+    ghost view = { λ image. image.cells };
+
+    ghost inverse = { λ cells. record { cells = cells } };
+}
+
+impl Image {
+    /// The image without any word.
+    pub fn empty() -> Image
+        ensures { result ≡ replicate 4096 None }
+    {
+        Image {
+            cells: [None; 4096],
+        }
+    }
+
+    /// The word at an address, if there is one.
+    pub fn get(&self, at: Word) -> Option<Word>
+        ensures { result ≡ word_at self.now at }
+    {
+        self.cells[at.index()]
+    }
+
+    /// Puts a word at an address, in place of the one that may be there.
+    pub fn set(&mut self, at: Word, word: Word)
+        ensures { self.new ≡ slice_set self.old at (Some word) }
+    {
+        self.cells[at.index()] = Some(word);
+    }
+}

@@ -8,3 +8,4 @@ pub mod Served
 pub mod Fronts
 pub mod FromSource
 pub mod GoesOn
+pub mod WordFrames

@@ -9,3 +9,4 @@ pub mod Fronts
 pub mod FromSource
 pub mod GoesOn
 pub mod WordFrames
+pub mod ReadBack

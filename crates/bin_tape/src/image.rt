@@ -9,15 +9,18 @@ use word12::Word;
 /// For each of the 4096 addresses, a word or none.
 #[derive(Clone, Copy)]
 pub struct Image {
-    cells: [Option<Word>; 4096],
+    pub(crate) cells: [Option<Word>; 4096],
 }
 
 impl Model for Image {
     ghost use Rattle.std.specs.Prelude.{List, Option, ℕ};
+    ghost use Rattle.bin_tape.specs.Image.{HoldsWords};
 
     ghost Value = { List (Option ℕ) };
 
     ghost view = { λ image. image.cells };
+
+    ghost invariant = { λ image. HoldsWords image.cells };
 
     ghost inverse = { λ cells. record { cells = cells } };
 }

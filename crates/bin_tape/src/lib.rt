@@ -23,4 +23,5 @@ pub use read::{read_from, read_tape};
 pub use word::TapeWord;
 pub use write::write_tape;
 
-
+#[cfg(test)]
+mod tests;

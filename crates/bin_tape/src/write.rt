@@ -3,13 +3,14 @@
 ghost use Rattle.std.specs.Prelude.{◌≡◌, ◌↔◌, ◌+◌, ◌%◌, ◌≤◌, ◌<◌, ◌++◌, ◌∷◌, [], false, Err, length, replicate, sum, OnOk, IfSome, IsNone};
 ghost use Rattle.std.specs.Io.KnownBytes.{Appends};
 ghost use Rattle.bin_tape.specs.Bytes.{AppendsFront};
-ghost use Rattle.bin_tape.specs.Tape.{frames};
+ghost use Rattle.bin_tape.specs.Tape.{frames, IsTape};
 ghost use Rattle.bin_tape.specs.Written.{cell_words, words_below, word_frames, written_tape, IsEmptyImage, failed_to_write};
 ghost use Rattle.bin_tape.specs.declared.fault.WriteTapeFault.TheVariants.{EmptyImage, WriteFault};
 
 use crate::bytes::{ByteSink, put};
 use crate::fault::WriteTapeFault;
 use crate::image::Image;
+use crate::laws::written_tapes_read_back;
 use crate::word::TapeWord;
 use std::marker::Model;
 use word12::Word;
@@ -150,6 +151,8 @@ fn tape_of(image: &Image) -> Option<Frames>
 pub fn write_tape<W: ByteSink>(image: &Image, sink: &mut W) -> Result<(), WriteTapeFault>
     requires unmarked { W.mark sink.old ≡ false }
     ensures whole { OnOk result (Appends (W.taken sink.old) (W.taken sink.new) (written_tape image.now)) }
+    // What went out is a tape with this image.
+    ensures tape { OnOk result (IsTape (written_tape image.now) image.now) }
     ensures empty { (result ≡ Err EmptyImage) ↔ IsEmptyImage image.now }
     ensures nothing { result ≡ Err EmptyImage → sink.new ≡ sink.old }
     ensures front { result ≡ Err WriteFault →
@@ -159,6 +162,7 @@ pub fn write_tape<W: ByteSink>(image: &Image, sink: &mut W) -> Result<(), WriteT
     let Some(tape) = tape_of(image) else {
         return Err(WriteTapeFault::EmptyImage);
     };
+    written_tapes_read_back(image);
     match put(sink, tape.as_slice()) {
         Ok(()) => Ok(()),
         Err(_) => Err(WriteTapeFault::WriteFault),

@@ -19,10 +19,9 @@ loop-at-init c = (rw no_frames (sym (append-nil _)), omega arith, refl)
 
 pub loop-at-preserved : goal.loop-at-preserved
 loop-at-preserved c =
-    let before = c.loop-at.invariant in
-    (
+    let before = c.loop-at.invariant in (
       frames_more c.args.image.now c.args.self.now c.loop-at.self _ c.loop-at.at c.from_index-address.result c.loop-at.begins c.get-cell.result
-      before.0 c.from_index-address.ensures before.2 c.get-cell.ensures c.push_cell.ensures.words,
+          before.0 c.from_index-address.ensures before.2 c.get-cell.ensures c.push_cell.ensures.words,
       omega (arith, before.1, c.push_cell.ensures.fits),
       none_begins c.args.image.now c.loop-at.at c.from_index-address.result c.get-cell.result c.is_none-begins.result c.from_index-address.ensures c.get-cell.ensures c.is_none-begins.ensures,
     )

@@ -85,6 +85,7 @@ module _ (old new : Option (List ℕ)) where
       here : (bytes : List ℕ) (s : ServesAll bytes new r) → ((r ≡ Err ReadFault) × IsOpen (reads s.given)) ⊎ Answers (nat_lt 65536 (length bytes)) (reads (take 65536 bytes)) r → IsUnfinished s.given
       here bytes s (inl (is, o)) = unfinished s.given o
       here bytes s (inr a) = absurd (refused_kind 65536 bytes ReadFault (refused_here 65536 bytes r ReadFault (is_refused 65536 bytes r a) e) refl)
+
       go : (old : Option (List ℕ)) → Serves old new r → Gave old new IsUnfinished
       go None s = tt
       go (Some bytes) s = (s.given, s.taken, here bytes s s.answer)

@@ -76,14 +76,20 @@ goes_on_after fs closing parts bytes whole =
 word_closed : (fs : List ℕ) (parts : List Part) (first : ℕ) → IsInWord fs parts first → (w : TapeWord) × IsWhole (fs ++ 0 ∷ []) (word w ∷ parts)
 unfolding spelling
 word_closed fs parts first h = elim (cases_lt first 64) [
-  | inl data_word ↦ (Data (64 * first), record {
-    spells = ap (λ xs. xs ++ 0 ∷ []) h.spells ∙ append_assoc (spelling parts) (first ∷ []) (0 ∷ []) ∙ ap (λ xs. spelling parts ++ xs) (two first 0 (64 * first / 64) (64 * first % 64) (omega arith) (omega arith));
-    lawful = ((omega arith, λ none. absurd (omega (arith, h.first_is.1 none))), h.lawful);
-  })
-  | inr origin ↦ (Origin (64 * first % 4096), record {
-    spells = ap (λ xs. xs ++ 0 ∷ []) h.spells ∙ append_assoc (spelling parts) (first ∷ []) (0 ∷ []) ∙ ap (λ xs. spelling parts ++ xs) (two first 0 (64 + 64 * first % 4096 / 64) (64 * first % 4096 % 64) (omega (arith, h.first_is.0)) (omega arith));
-    lawful = (omega arith, h.lawful);
-  })
+  | inl data_word ↦ (
+    Data (64 * first),
+    record {
+      spells = ap (λ xs. xs ++ 0 ∷ []) h.spells ∙ append_assoc (spelling parts) (first ∷ []) (0 ∷ []) ∙ ap (λ xs. spelling parts ++ xs) (two first 0 (64 * first / 64) (64 * first % 64) (omega arith) (omega arith));
+      lawful = ((omega arith, λ none. absurd (omega (arith, h.first_is.1 none))), h.lawful);
+    },
+  )
+  | inr origin ↦ (
+    Origin (64 * first % 4096),
+    record {
+      spells = ap (λ xs. xs ++ 0 ∷ []) h.spells ∙ append_assoc (spelling parts) (first ∷ []) (0 ∷ []) ∙ ap (λ xs. spelling parts ++ xs) (two first 0 (64 + 64 * first % 4096 / 64) (64 * first % 4096 % 64) (omega (arith, h.first_is.0)) (omega arith));
+      lawful = (omega arith, h.lawful);
+    },
+  )
 ]
   where
     two : (a b c d : ℕ) → a ≡ c → b ≡ d → a ∷ b ∷ [] ≡ c ∷ d ∷ []

@@ -3,6 +3,7 @@ pub mod Image
 pub mod Tape
 pub mod Refuses
 pub mod Viable
+pub mod Written
 pub mod Reading
 pub mod Holds
 pub mod Served

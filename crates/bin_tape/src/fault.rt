@@ -34,3 +34,14 @@ pub enum TapeFault {
     #[error("ReadFault")]
     ReadFault,
 }
+
+/// Why a tape isn't written, or not to its end.
+#[derive(Clone, Copy, PartialEq, Eq, Debug, Error)]
+pub enum WriteTapeFault {
+    /// The image has no word.
+    #[error("EmptyImage")]
+    EmptyImage,
+    /// A write failed or took nothing, after a front of the tape went out.
+    #[error("WriteFault")]
+    WriteFault,
+}

@@ -14,13 +14,14 @@ pub mod read;
 mod reader;
 pub mod standard;
 pub mod word;
+pub mod write;
 
 pub use bytes::{ByteSink, ByteSource, Failed, put};
-pub use fault::TapeFault;
+pub use fault::{TapeFault, WriteTapeFault};
 pub use image::Image;
 pub use read::{read_from, read_tape};
 pub use word::TapeWord;
-
+pub use write::write_tape;
 
 #[cfg(test)]
 mod tests;

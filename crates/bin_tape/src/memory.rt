@@ -32,6 +32,8 @@ impl<'a> MemorySource<'a> {
     /// Gives at most so many bytes in each read.
     pub fn in_pieces(self, piece: usize) -> MemorySource<'a>
         requires { 0 < piece }
+        ensures piece { result.piece ≡ piece }
+        ensures reads { result.reads ≡ self.entry.reads }
         ensures bytes { result.rest ≡ self.entry.rest }
         ensures mark { result.failed ≡ self.entry.failed }
     {
@@ -45,6 +47,8 @@ impl<'a> MemorySource<'a> {
 
     /// Fails at each read after so many.
     pub fn failing_after(self, reads: usize) -> MemorySource<'a>
+        ensures piece { result.piece ≡ self.entry.piece }
+        ensures reads { result.reads ≡ reads }
         ensures bytes { result.rest ≡ self.entry.rest }
         ensures mark { result.failed ≡ self.entry.failed }
     {

@@ -2,7 +2,10 @@
 
 use crate::memory::{MemorySink, MemorySource};
 use crate::standard::{Reads, Writes};
-use crate::{ByteSink, ByteSource, Failed, Image, TapeFault, put, read_from, read_tape};
+use crate::{
+    ByteSink, ByteSource, Failed, Image, TapeFault, TapeWord, WriteTapeFault, put, read_from,
+    read_tape, write_tape,
+};
 use std::test::Fail;
 use word12::Word;
 
@@ -43,6 +46,20 @@ fn hello_tape() -> [u8; 88] {
     tape
 }
 
+fn halt_image() -> Result<Image, Fail> {
+    let mut image = Image::empty();
+    image.set(word(0o200)?, word(0o7402)?);
+    Ok(image)
+}
+
+fn hello_image() -> Result<Image, Fail> {
+    let mut image = Image::empty();
+    for (at, value) in HELLO.iter().enumerate() {
+        image.set(word(0o200 + at as u16)?, word(*value)?);
+    }
+    Ok(image)
+}
+
 fn fault(answer: Result<Image, TapeFault>) -> Option<TapeFault> {
     answer.err()
 }
@@ -69,7 +86,10 @@ fn cut_tapes(rt: HostRuntime) -> Result<(), Fail> {
             17..=22 => Some(TapeFault::Truncated),
             _ => None,
         };
-        assert!(rt; fault_in_all_forms(&tape.as_slice()[..count])? == want, "{count}");
+        assert!(rt;
+            fault_in_all_forms(&tape.as_slice()[..count])? == want,
+            "{count}"
+        );
     }
     let tape = hello_tape();
     for count in 0..=88usize {
@@ -78,28 +98,24 @@ fn cut_tapes(rt: HostRuntime) -> Result<(), Fail> {
             17..=72 => Some(TapeFault::Truncated),
             _ => None,
         };
-        assert!(rt; fault_in_all_forms(&tape.as_slice()[..count])? == want, "{count}");
+        assert!(rt;
+            fault_in_all_forms(&tape.as_slice()[..count])? == want,
+            "{count}"
+        );
     }
     Ok(())
 }
 
 #[test]
 fn whole_tapes(rt: HostRuntime) -> Result<(), Fail> {
-    let Ok(image) = read_tape(&halt_tape()) else {
-        return Err("refused")?;
-    };
-    assert!(rt; image.get(word(0o200)?) == Some(word(0o7402)?));
-    assert!(rt; image.get(word(0o201)?) == None);
-    let tape = hello_tape();
-    let mut source = MemorySource::new(&tape).in_pieces(7);
-    let Ok(image) = read_from(&mut source) else {
-        return Err("refused")?;
-    };
-    for (at, value) in HELLO.iter().enumerate() {
-        assert!(rt; image.get(word(0o200 + at as u16)?) == Word::new(*value), "{at}");
-    }
-    assert!(rt; image.get(word(0o177)?) == None);
+    assert!(rt; read_tape(&halt_tape()) == Ok(halt_image()?));
+    let image = hello_image()?;
+    assert!(rt; image.get(word(0o231)?) == Some(word(0o317)?));
     assert!(rt; image.get(word(0o232)?) == None);
+    let tape = hello_tape();
+    assert!(rt; read_tape(&tape) == Ok(image));
+    let mut source = MemorySource::new(&tape).in_pieces(7);
+    assert!(rt; read_from(&mut source) == Ok(image));
     Ok(())
 }
 
@@ -120,10 +136,7 @@ fn skipped_frames(rt: HostRuntime) -> Result<(), Fail> {
     tape[42] = 0o201;
     tape[43] = 0o377;
     assert!(rt; fault_in_all_forms(&tape)? == None);
-    let Ok(image) = read_tape(&tape) else {
-        return Err("refused")?;
-    };
-    assert!(rt; image.get(word(0o200)?) == Some(word(0o7402)?));
+    assert!(rt; read_tape(&tape) == Ok(halt_image()?));
     Ok(())
 }
 
@@ -224,15 +237,91 @@ fn pieces_are_put(rt: HostRuntime) -> Result<(), Fail> {
 fn std_readers_and_writers(rt: HostRuntime) -> Result<(), Fail> {
     let tape = halt_tape();
     let mut source = Reads::new(tape.as_slice());
-    let Ok(image) = read_from(&mut source) else {
-        return Err("refused")?;
-    };
-    assert!(rt; image.get(word(0o200)?) == Some(word(0o7402)?));
+    assert!(rt; read_from(&mut source) == Ok(halt_image()?));
     assert!(rt; !source.failed());
     let mut room = [0u8; 4];
     let mut sink = Writes::new(room.as_mut_slice());
     assert!(rt; put(&mut sink, b"abcd") == Ok(()));
     assert!(rt; put(&mut sink, b"e") == Err(Failed));
     assert!(rt; sink.failed());
+    Ok(())
+}
+
+#[test]
+fn written_tapes(rt: HostRuntime) -> Result<(), Fail> {
+    let mut sink = MemorySink::new(rt.alloc(), 1000);
+    assert!(rt; write_tape(&halt_image()?, &mut sink) == Ok(()));
+    assert!(rt; sink.bytes() == halt_tape().as_slice());
+    let mut sink = MemorySink::new(rt.alloc(), 1000);
+    assert!(rt; write_tape(&hello_image()?, &mut sink) == Ok(()));
+    assert!(rt; sink.bytes() == hello_tape().as_slice());
+    let mut sink = MemorySink::new(rt.alloc(), 1000);
+    let empty = write_tape(&Image::empty(), &mut sink);
+    assert!(rt; empty == Err(WriteTapeFault::EmptyImage));
+    assert!(rt; sink.bytes().is_empty());
+    Ok(())
+}
+
+#[test]
+fn no_run_wraps(rt: HostRuntime) -> Result<(), Fail> {
+    let mut image = Image::empty();
+    image.set(word(0o7777)?, word(0o4020)?);
+    image.set(word(0o0000)?, word(0o7402)?);
+    let mut tape = [0o200; 42];
+    let frames = [
+        0o100, 0o000, 0o074, 0o002, 0o177, 0o077, 0o040, 0o020, 0o005, 0o054,
+    ];
+    for (at, frame) in frames.iter().enumerate() {
+        tape[16 + at] = *frame;
+    }
+    let mut sink = MemorySink::new(rt.alloc(), 1000);
+    assert!(rt; write_tape(&image, &mut sink) == Ok(()));
+    assert!(rt; sink.bytes() == tape.as_slice());
+    assert!(rt; TapeWord::Origin(word(0o7777)?).frames() == [0o177, 0o077]);
+    Ok(())
+}
+
+/// Takes nothing, and doesn't say that it failed.
+#[derive(Drop)]
+struct Full {
+    failed: bool,
+}
+
+impl ByteSink for Full {
+    ghost use Rattle.std.specs.Prelude.{None};
+
+    ghost taken = { λ _. None };
+
+    ghost mark = { λ sink. sink.failed };
+
+    fn write(&mut self, piece: &[u8]) -> Result<usize, Failed> {
+        if !piece.is_empty() {
+            self.failed = true;
+        }
+        Ok(0)
+    }
+
+    fn failed(&self) -> bool {
+        self.failed
+    }
+}
+
+#[test]
+fn failing_writes(rt: HostRuntime) -> Result<(), Fail> {
+    let tape = halt_tape();
+    let image = halt_image()?;
+    for room in 0..38usize {
+        let mut sink = MemorySink::new(rt.alloc(), room);
+        assert!(rt;
+            write_tape(&image, &mut sink) == Err(WriteTapeFault::WriteFault),
+            "{room}"
+        );
+        assert!(rt; sink.bytes() == &tape.as_slice()[..room], "{room}");
+    }
+    let mut sink = MemorySink::new(rt.alloc(), 38);
+    assert!(rt; write_tape(&image, &mut sink) == Ok(()));
+    let mut full = Full { failed: false };
+    assert!(rt; write_tape(&image, &mut full) == Err(WriteTapeFault::WriteFault));
+    assert!(rt; full.failed());
     Ok(())
 }

@@ -1,15 +1,14 @@
 -- Runs that are joined.
-use Rattle.std.proofs.Common.{ℕ, zero, suc, ◌≡◌, ◌+◌, ◌-◌, ◌<◌, ◌≤◌, Bool, true, false, if◌then◌else◌, List, [], ◌∷◌, ◌++◌, take, drop, length, refl, sym, ◌∙◌, ap, subst, append_assoc, append-nil, add_assoc, add-zero, add-suc, zero-add, arith}
+use Rattle.std.proofs.Common.{ℕ, zero, suc, ◌≡◌, ◌+◌, ◌-◌, ◌<◌, Bool, true, false, if◌then◌else◌, List, [], ◌∷◌, ◌++◌, take, drop, refl, sym, ◌∙◌, ap, subst, append_assoc, append-nil, add_assoc, add-zero, zero-add, arith}
 use Rattle.std.proofs.lemmas.List.{take-append-drop}
 use Rattle.instruct.specs.declared.Profile.{Profile}
 use Rattle.peripherals.specs.declared.Event.{Event}
 use Rattle.peripherals.specs.declared.Event.TheVariants.{Step, PrinterDone, PunchDone}
 use Rattle.peripherals.specs.declared.Seen.{Seen}
-use Rattle.peripherals.specs.declared.Seen.TheVariants.{NotEnabled, Changed, Ran, Halted, Unsupported}
+use Rattle.peripherals.specs.declared.Seen.TheVariants.{NotEnabled, Changed, Halted, Unsupported}
 use Rattle.peripherals.specs.Devices.{WorldState}
 use Rattle.peripherals.specs.Events.{Happens}
 use Rattle.peripherals.specs.Seen.{seen_of}
-use Rattle.workbench.specs.declared.follow.Next.{Next}
 use Rattle.workbench.specs.declared.follow.Next.TheVariants as next
 use Rattle.workbench.specs.Follows.{Follows, Ended, Stuck, Stopped, Went, Leads, goes_on, counted, rounds}
 

@@ -5,7 +5,7 @@ use Rattle.instruct.specs.declared.Profile.{Profile}
 use Rattle.peripherals.specs.declared.Event.{Event}
 use Rattle.peripherals.specs.declared.Event.TheVariants.{Step, PrinterDone, PunchDone}
 use Rattle.peripherals.specs.declared.Seen.{Seen}
-use Rattle.peripherals.specs.declared.Seen.TheVariants.{NotEnabled, Changed, Ran, Halted, Unsupported}
+use Rattle.peripherals.specs.declared.Seen.TheVariants.{Ran, Halted, Unsupported}
 use Rattle.workbench.specs.declared.follow.Next.{Next}
 use Rattle.workbench.specs.declared.follow.Next.TheVariants as next
 use Rattle.peripherals.specs.Devices.{WorldState}

@@ -1,5 +1,5 @@
 -- The run of a tape.
-use Rattle.std.specs.Prelude.{ℕ, ◌≡◌, Bool, true, false, if◌then◌else◌, None, List, Option, take}
+use Rattle.std.specs.Prelude.{ℕ, ◌≡◌, Bool, if◌then◌else◌, None, List, Option, take}
 use Rattle.std.specs.Io.KnownBytes.{Appends}
 use Rattle.instruct.specs.declared.Profile.{Profile}
 use Rattle.bin_tape.specs.Tape.{IsTape}

@@ -2,7 +2,12 @@
 #![tactic(auto)]
 
 pub mod commands;
+mod files;
 pub mod follow;
+mod program;
 pub mod status;
 mod text;
 mod trace;
+mod words;
+
+pub use program::exit_status;

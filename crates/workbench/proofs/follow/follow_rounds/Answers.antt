@@ -1,4 +1,4 @@
-use Rattle.std.proofs.Common.{◌≡◌, ◌+◌, ◌<◌, ◌≤◌, arith, add-zero, false, true, ◌∙◌}
+use Rattle.std.proofs.Common.{◌≡◌, ◌+◌, ◌≤◌, arith, add-zero, false, true, ◌∙◌}
 use Rattle.peripherals.specs.World.{view, profile_of}
 use Rattle.workbench.specs.Follows.{Leads, rounds}
 use Rattle.workbench.specs.declared.follow.Next.TheVariants as next

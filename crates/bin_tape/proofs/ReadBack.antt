@@ -5,9 +5,9 @@ use Rattle.std.proofs.lemmas.Bool.{cases_eq, eq-eqb, ne_eqb}
 use Rattle.std.proofs.lemmas.List.{replicate-append-replicate}
 use Rattle.bin_tape.specs.declared.word.TapeWord.{TapeWord}
 use Rattle.bin_tape.specs.declared.word.TapeWord.TheVariants.{Origin, Data}
-use Rattle.bin_tape.specs.Image.{word_at, HoldsWords}
+use Rattle.bin_tape.specs.Image.{word_at, HoldsWords, IsEmptyImage}
 use Rattle.bin_tape.specs.Tape.{Part, leader, word, words, frames, spelling, IsPart, AreParts, location, image_at, checksum, IsImage, IsTape}
-use Rattle.bin_tape.specs.Written.{begins_run, cell_words, words_below, word_frames, written_tape, IsEmptyImage}
+use Rattle.bin_tape.specs.Written.{begins_run, cell_words, words_below, word_frames, written_tape}
 use Rattle.bin_tape.proofs.WordFrames.{empty_below}
 
 -- ---- words after a leader, as parts

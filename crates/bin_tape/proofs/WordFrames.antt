@@ -7,9 +7,9 @@ use Rattle.std.proofs.Math.Seq.{drop-append_seam}
 use Rattle.std.proofs.lemmas.Bool.{cases_eq}
 use Rattle.bin_tape.specs.declared.word.TapeWord.{TapeWord}
 use Rattle.bin_tape.specs.declared.word.TapeWord.TheVariants.{Origin, Data}
-use Rattle.bin_tape.specs.Image.{word_at}
+use Rattle.bin_tape.specs.Image.{word_at, IsEmptyImage}
 use Rattle.bin_tape.specs.Tape.{frames, checksum}
-use Rattle.bin_tape.specs.Written.{begins_run, cell_words, words_below, word_frames, written_tape, IsEmptyImage}
+use Rattle.bin_tape.specs.Written.{begins_run, cell_words, words_below, word_frames, written_tape}
 
 pub word_frames-append : (xs ys : List TapeWord) → word_frames (xs ++ ys) ≡ word_frames ys ++ word_frames xs
 unfolding word_frames

@@ -1,6 +1,6 @@
 -- An unfinished front is completed: what is open is closed, and then come an origin, the checksum and the trailer.
-use Rattle.std.proofs.Common.{◌≡◌, ◌≢◌, ◌∙◌, sym, ap, refl, ℕ, ◌+◌, ◌*◌, ◌/◌, ◌%◌, ◌<◌, ◌≤◌, List, [], ◌∷◌, ◌++◌, length, take, get_or, map, arith, append_assoc, append-nil, length-append, lit≤, ◌⊎◌, inl, inr}
-use Rattle.std.specs.Prelude.{Option, Some, None, nat_lt, All, unwrap_or}
+use Rattle.std.proofs.Common.{◌≡◌, ◌∙◌, sym, ap, refl, ℕ, ◌+◌, ◌*◌, ◌/◌, ◌%◌, ◌<◌, List, [], ◌∷◌, ◌++◌, length, take, map, arith, append_assoc, append-nil, length-append, lit≤, inl, inr}
+use Rattle.std.specs.Prelude.{Option, None, All, unwrap_or}
 use Rattle.std.specs.List.{range_with_len}
 use Rattle.std.proofs.lemmas.List.FromFn.{length-map-range_with_len, get_or-map-range_with_len}
 use Rattle.std.specs.List.{slice_get}
@@ -8,12 +8,12 @@ use Rattle.std.proofs.lemmas.List.Elements.{All-nil, All-cons, All-append}
 use Rattle.std.proofs.lemmas.Option.{unwrap_or-slice_get}
 use Rattle.std.proofs.lemmas.List.{take_all}
 use Rattle.std.proofs.Math.Seq.{take-append-add, take-append_seam}
-use Rattle.std.proofs.lemmas.Bool.{cases_lt, lt-ltb, le-ltb}
+use Rattle.std.proofs.lemmas.Bool.{cases_lt}
 use Rattle.bin_tape.specs.declared.word.TapeWord.{TapeWord}
 use Rattle.bin_tape.specs.declared.word.TapeWord.TheVariants.{Origin, Data}
 use Rattle.bin_tape.specs.declared.fault.TapeFault.{TapeFault}
 use Rattle.bin_tape.specs.declared.fault.TapeFault.TheVariants.{TooLong, NoWord, NoOrigin, BadFrame, WrongField, Truncated, NoChecksum, Checksum, ReadFault}
-use Rattle.bin_tape.specs.Tape.{Part, field, rubout, word, words, frames, spelling, spelled, AreParts, checksum, image_at, IsImage, IsTape}
+use Rattle.bin_tape.specs.Tape.{Part, rubout, word, words, spelling, checksum, image_at, IsImage, IsTape}
 use Rattle.bin_tape.specs.Refuses.{IsWhole, IsInWord, IsInRubout, IsUnfinished, Stands, StandsSecond, Stops, Refuses}
 use Rattle.bin_tape.specs.Viable.{IsByte, IsViable, EndsAt, NamesPlace}
 use Rattle.bin_tape.proofs.Parsed.{no_tape}

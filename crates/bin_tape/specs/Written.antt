@@ -1,5 +1,5 @@
 -- The tape that is written of an image.
-use Rattle.std.specs.Prelude.{◌≡◌, ℕ, zero, suc, ◌%◌, if◌then◌else◌, Bool, true, List, [], ◌∷◌, ◌++◌, Option, Some, None, is_none, replicate, false, Result, Ok, Err}
+use Rattle.std.specs.Prelude.{ℕ, zero, suc, ◌%◌, if◌then◌else◌, Bool, true, List, [], ◌∷◌, ◌++◌, Option, Some, None, is_none, replicate, false, Result, Ok, Err}
 use Rattle.bin_tape.specs.declared.word.TapeWord.{TapeWord}
 use Rattle.bin_tape.specs.declared.word.TapeWord.TheVariants.{Origin, Data}
 use Rattle.bin_tape.specs.declared.fault.WriteTapeFault.{WriteTapeFault}

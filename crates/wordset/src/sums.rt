@@ -47,9 +47,12 @@ impl WordSet {
     fn has_sum_without_carry(&self, other: &WordSet) -> bool
         ensures { result ≡ carries (words self.now) (words other.now) 0 }
     {
-        match (self.first_from(0), other.first_from(0)) {
-            (Some(a), Some(b)) => !a.carries(b),
-            _ => false,
+        match self.first_from(0) {
+            None => false,
+            Some(a) => match other.first_from(0) {
+                None => false,
+                Some(b) => !a.carries(b),
+            },
         }
     }
 
@@ -57,9 +60,12 @@ impl WordSet {
     fn has_sum_with_carry(&self, other: &WordSet) -> bool
         ensures { result ≡ carries (words self.now) (words other.now) 1 }
     {
-        match (self.greatest(), other.greatest()) {
-            (Some(a), Some(b)) => a.carries(b),
-            _ => false,
+        match self.greatest() {
+            None => false,
+            Some(a) => match other.greatest() {
+                None => false,
+                Some(b) => a.carries(b),
+            },
         }
     }
 }

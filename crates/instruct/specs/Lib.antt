@@ -1,0 +1,4 @@
+pub mod Bits
+pub mod Operates
+pub mod Instructions
+pub mod Names

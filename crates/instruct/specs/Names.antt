@@ -1,0 +1,113 @@
+-- The names of the words, as a listing of a tape shows them.
+use Rattle.std.specs.Prelude.{ℕ, ◌≡◌, ◌+◌, ◌/◌, ◌%◌, Bool, true, false, ◌==◌, if◌then◌else◌, List, [], ◌∷◌, ◌++◌, length, codes}
+use Rattle.std.specs.List.{join_with_byte}
+use Rattle.instruct.specs.declared.Profile.{Profile}
+use Rattle.instruct.specs.declared.Instruction.{Instruction}
+use Rattle.instruct.specs.declared.Instruction.TheVariants.{Memory, Operate1, Operate2, Operate3, Iot, Unsupported}
+use Rattle.instruct.specs.Bits.{has_bit, is_indirect}
+use Rattle.instruct.specs.Instructions.{instruction_of}
+
+-- The mnemonic of a memory reference by its operation.
+abbrev pub mnemonic : ℕ → List ℕ
+mnemonic operation =
+    if operation == 0 then codes "AND"
+    else (if operation == 1 then codes "TAD"
+    else (if operation == 2 then codes "ISZ"
+    else (if operation == 3 then codes "DCA"
+    else (if operation == 4 then codes "JMS" else codes "JMP"))))
+
+-- The place in a page as three octal digits; 48 is the code of the digit 0.
+abbrev pub place_digits : ℕ → List ℕ
+place_digits place = (48 + place / 64) ∷ (48 + place / 8 % 8) ∷ (48 + place % 8) ∷ []
+
+-- The mnemonic, I if the reference is indirect, then Z for page zero or C for the current page with the place in it.
+abbrev pub memory_name : ℕ → List ℕ
+memory_name word =
+    mnemonic (word / 512) ++ (if is_indirect word then codes " I" else []) ++
+    (if has_bit 7 word then codes " C" else codes " Z") ++ place_digits (word % 128)
+
+-- A name that applies where a bit is set.
+abbrev pub named_if : Bool → List ℕ → List (List ℕ)
+named_if applies name = if applies then name ∷ [] else []
+
+-- The names that apply, with one space between two; NOP where there are none.
+abbrev pub spaced : List (List ℕ) → List ℕ
+spaced [] = codes "NOP"
+spaced (name ∷ names) = join_with_byte 32 (name ∷ names)
+
+abbrev pub rotate_names : ℕ → List (List ℕ)
+rotate_names word =
+    if has_bit 3 word then (if has_bit 1 word then codes "RTR" else codes "RAR") ∷ []
+    else (if has_bit 2 word then (if has_bit 1 word then codes "RTL" else codes "RAL") ∷ []
+    else named_if (has_bit 1 word) (codes "BSW"))
+
+abbrev pub group1_names : ℕ → List (List ℕ)
+group1_names word =
+    named_if (has_bit 7 word) (codes "CLA") ++ named_if (has_bit 6 word) (codes "CLL") ++
+    named_if (has_bit 5 word) (codes "CMA") ++ named_if (has_bit 4 word) (codes "CML") ++
+    named_if (has_bit 0 word) (codes "IAC") ++ rotate_names word
+
+-- SKP where no test is chosen.
+abbrev pub or_skip : List (List ℕ) → List (List ℕ)
+or_skip [] = codes "SKP" ∷ []
+or_skip (name ∷ names) = name ∷ names
+
+-- The tests; with 0010 the reversed ones, or SKP.
+abbrev pub test_names : ℕ → List (List ℕ)
+test_names word =
+    if has_bit 3 word
+    then or_skip (named_if (has_bit 6 word) (codes "SPA") ++ named_if (has_bit 5 word) (codes "SNA") ++
+    named_if (has_bit 4 word) (codes "SZL"))
+    else named_if (has_bit 6 word) (codes "SMA") ++ named_if (has_bit 5 word) (codes "SZA") ++
+    named_if (has_bit 4 word) (codes "SNL")
+
+abbrev pub group2_names : ℕ → List (List ℕ)
+group2_names word =
+    test_names word ++ named_if (has_bit 7 word) (codes "CLA") ++ named_if (has_bit 2 word) (codes "OSR") ++
+    named_if (has_bit 1 word) (codes "HLT")
+
+abbrev pub group3_name : ℕ → List ℕ
+group3_name word =
+    if word == 0o7421 then codes "MQL"
+    else (if word == 0o7501 then codes "MQA"
+    else (if word == 0o7521 then codes "SWP"
+    else (if word == 0o7621 then codes "CAM"
+    else (if word == 0o7701 then codes "CLA MQA" else codes "CLA SWP"))))
+
+abbrev pub device_name : ℕ → List ℕ
+device_name word =
+    if word == 0o6002 then codes "IOF"
+    else (if word == 0o6011 then codes "RSF"
+    else (if word == 0o6012 then codes "RRB"
+    else (if word == 0o6014 then codes "RFC"
+    else (if word == 0o6016 then codes "RRB RFC"
+    else (if word == 0o6021 then codes "PSF"
+    else (if word == 0o6022 then codes "PCF"
+    else (if word == 0o6024 then codes "PPC"
+    else (if word == 0o6026 then codes "PLS"
+    else (if word == 0o6030 then codes "KCF"
+    else (if word == 0o6031 then codes "KSF"
+    else (if word == 0o6032 then codes "KCC"
+    else (if word == 0o6034 then codes "KRS"
+    else (if word == 0o6036 then codes "KRB"
+    else (if word == 0o6040 then codes "TFL"
+    else (if word == 0o6041 then codes "TSF"
+    else (if word == 0o6042 then codes "TCF"
+    else (if word == 0o6044 then codes "TPC" else codes "TLS")))))))))))))))))
+
+abbrev pub name_by_kind : Instruction → ℕ → List ℕ
+name_by_kind Memory word = memory_name word
+name_by_kind Operate1 word = spaced (group1_names word)
+name_by_kind Operate2 word = spaced (group2_names word)
+name_by_kind Operate3 word = group3_name word
+name_by_kind Iot word = device_name word
+name_by_kind Unsupported word = codes "?"
+
+-- The name of a word on a machine of a profile.
+unfoldable pub name_of : Profile → ℕ → List ℕ
+name_of profile word = name_by_kind (instruction_of profile word) word
+
+-- A text is some names, with one space between two.
+pub record IsSpaced (names : List (List ℕ)) (text : List ℕ) : Type 0 where
+  pub joined : text ≡ join_with_byte 32 names
+  pub empty : (length text == 0) ≡ (length names == 0)

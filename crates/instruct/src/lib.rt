@@ -1,0 +1,140 @@
+//! The instruction words: what each of the 4096 words means on a PDP-8/I or a PDP-8/E.
+//!
+//! The table is that of DEC's Small Computer Handbook, basic instructions, with the words of the
+//! teletype and of the high-speed reader and punch. Words that the handbook leaves to chance (both
+//! rotates, group 3 of the 8/I) and device words of other devices are unsupported.
+#![tactic(auto)]
+
+mod bits;
+mod naming;
+mod operate;
+
+ghost use Rattle.std.specs.Prelude.{ℕ, ◌≡◌};
+ghost use Rattle.instruct.specs.Bits.{named_cell, is_indirect};
+ghost use Rattle.instruct.specs.Instructions.{instruction_of, kind_of, meaning_of, device_action, device_meaning, operate_meaning, group3_meaning, is_group1};
+
+use crate::bits::{Group1, Group2, Reference};
+use bitflags::Flags;
+pub use naming::name;
+pub use operate::{halts, operate1, operate2, operate3, reads_switches, skips};
+use word12::Word;
+
+/// Which machine's instructions are meant.
+#[derive(Clone, Copy, PartialEq, Eq, Debug)]
+pub enum Profile {
+    /// The PDP-8/I, basic instructions.
+    Pdp8I,
+    /// The PDP-8/E: those, the MQ register's words, BSW, KCF and TFL.
+    Pdp8E,
+}
+
+/// The kinds of instruction.
+#[derive(Clone, Copy, PartialEq, Eq, Debug)]
+pub enum Instruction {
+    /// AND, TAD, ISZ, DCA, JMS or JMP.
+    Memory,
+    /// Group 1: clears, complements, IAC and rotates.
+    Operate1,
+    /// Group 2: skips, CLA, OSR and HLT.
+    Operate2,
+    /// Group 3: the MQ register's words of the 8/E.
+    Operate3,
+    /// A word of the teletype, the reader or the punch, or IOF.
+    Iot,
+    /// A word that the machine of this profile doesn't have here.
+    Unsupported,
+}
+
+/// The kind of a word on a machine of a profile.
+#[tactic(auto, using(crate::proofs::KindLemmas::kinds), unfolding(crate::specs::Instructions::instruction_of))]
+pub fn decode(word: Word, profile: Profile) -> Instruction
+    // The kind doesn't depend on where the word stands.
+    ensures meaning { (at : ℕ) → result ≡ kind_of (meaning_of profile at word) }
+    ensures kind { result ≡ instruction_of profile word }
+{
+    let number = word.value();
+    match number >> 9 {
+        0..=5 => Instruction::Memory,
+        6 => decode_device(number, profile),
+        _ => decode_operate(number, profile),
+    }
+}
+
+fn decode_device(number: u16, profile: Profile) -> Instruction
+    ensures { result ≡ kind_of (device_meaning (device_action profile number)) }
+{
+    match number {
+        0o6011 | 0o6021 | 0o6031 | 0o6041 => Instruction::Iot,
+        0o6012 | 0o6016 | 0o6034 => Instruction::Iot,
+        0o6032 | 0o6036 => Instruction::Iot,
+        0o6002 | 0o6014 | 0o6022 | 0o6024 | 0o6026 | 0o6042 | 0o6044 | 0o6046 => Instruction::Iot,
+        0o6030 | 0o6040 if profile == Profile::Pdp8E => Instruction::Iot,
+        _ => Instruction::Unsupported,
+    }
+}
+
+#[tactic(auto, using(crate::proofs::Tests::bit_tests))]
+fn decode_operate(number: u16, profile: Profile) -> Instruction
+    ensures { result ≡ kind_of (operate_meaning profile number) }
+{
+    let bits = Group2(number);
+    if !bits.contains(Group2::NOT_GROUP1) {
+        if is_group_1(Group1(number), profile) {
+            Instruction::Operate1
+        } else {
+            Instruction::Unsupported
+        }
+    } else if !bits.contains(Group2::GROUP3) {
+        Instruction::Operate2
+    } else {
+        decode_group3(number, profile)
+    }
+}
+
+fn decode_group3(number: u16, profile: Profile) -> Instruction
+    ensures { result ≡ kind_of (group3_meaning profile number) }
+{
+    match profile {
+        Profile::Pdp8I => Instruction::Unsupported,
+        Profile::Pdp8E => {
+            match number {
+                0o7421 | 0o7501 | 0o7521 | 0o7621 | 0o7701 | 0o7721 => Instruction::Operate3,
+                _ => Instruction::Unsupported,
+            }
+        }
+    }
+}
+
+#[tactic(auto, using(crate::proofs::Tests::bit_tests))]
+fn is_group_1(bits: Group1, profile: Profile) -> bool
+    ensures { result ≡ is_group1 profile bits.0 }
+{
+    if bits.contains(Group1::RAR) {
+        !bits.contains(Group1::RAL)
+    } else if bits.contains(Group1::RAL) {
+        true
+    } else {
+        !bits.contains(Group1::TWICE) || profile == Profile::Pdp8E
+    }
+}
+
+/// The cell that a memory reference at an address names, before any indirection: the low seven
+/// bits of the word, on the word's own page where 0200 is set, else on page zero.
+#[tactic(auto, using(crate::proofs::Tests::bit_tests))]
+pub fn target(word: Word, at: Word) -> Word
+    ensures { result ≡ named_cell word at }
+{
+    if Reference(word.value()).contains(Reference::CURRENT_PAGE) {
+        word.in_page_of(at)
+    } else {
+        word.place()
+    }
+}
+
+/// Whether a memory reference is indirect: it takes its address from the cell that it names.
+#[tactic(auto, using(crate::proofs::Tests::bit_tests))]
+pub fn refers_indirectly(word: Word) -> bool
+    ensures { result ≡ is_indirect word }
+{
+    Reference(word.value()).contains(Reference::INDIRECT)
+}

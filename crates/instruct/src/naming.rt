@@ -1,0 +1,233 @@
+//! The names of the words.
+
+ghost use Rattle.std.specs.Prelude.{ℕ, ◌≡◌, ◌+◌, ◌≤◌, ◌==◌, if◌then◌else◌, List, [], ◌∷◌, ◌++◌, length, codes, IfSome, option_to_list};
+ghost use Rattle.std.specs.Option.{option_copied};
+ghost use Rattle.instruct.specs.Bits.{has_bit};
+ghost use Rattle.instruct.specs.declared.Profile.TheVariants.{Pdp8E};
+ghost use Rattle.instruct.specs.declared.Instruction.TheVariants.{Operate3, Iot};
+ghost use Rattle.instruct.specs.Instructions.{instruction_of};
+ghost use Rattle.instruct.specs.Names.{name_of, mnemonic, memory_name, named_if, spaced, rotate_names, group1_names, test_names, group2_names, group3_name, device_name, IsSpaced};
+
+use crate::bits::{Group1, Group2, Reference};
+use crate::{Instruction, Profile, decode, refers_indirectly};
+use arrayvec::ArrayString;
+use bitflags::Flags;
+use word12::Word;
+
+/// The name of a word on a machine of a profile, in at most 32 characters.
+///
+/// A memory reference is its mnemonic, ` I` if it is indirect, then ` Z` for page zero or ` C` for
+/// the current page with the place in three octal digits, as `TAD I Z010`. An operate word is the
+/// names of its bits with a space between two (`NOP` where there are none), a device word is the
+/// handbook's mnemonic, and an unsupported word is `?`.
+#[tactic(auto, unfolding(crate::specs::Names::name_of))]
+pub fn name(word: Word, profile: Profile) -> ArrayString<32>
+    ensures { result.bytes ≡ name_of profile word }
+{
+    match decode(word, profile) {
+        Instruction::Memory => name_memory(word),
+        Instruction::Operate1 => name_group1(Group1(word.value())),
+        Instruction::Operate2 => name_group2(Group2(word.value())),
+        Instruction::Operate3 => text_of(name_group3(word.value())),
+        Instruction::Iot => text_of(name_device(word.value())),
+        Instruction::Unsupported => text_of("?"),
+    }
+}
+
+fn text_of(name: &str) -> ArrayString<32>
+    requires { length name.now ≤ 7 }
+    ensures { result.bytes ≡ name.now }
+{
+    let mut text = ArrayString::new();
+    text.push_str(name);
+    text
+}
+
+fn name_operation(operation: u16) -> &'static str
+    ensures name { result.now ≡ mnemonic operation }
+    ensures short { length result.now ≡ 3 }
+{
+    match operation {
+        0 => "AND",
+        1 => "TAD",
+        2 => "ISZ",
+        3 => "DCA",
+        4 => "JMS",
+        _ => "JMP",
+    }
+}
+
+fn name_memory(word: Word) -> ArrayString<32>
+    ensures { result.bytes ≡ memory_name word }
+{
+    let mut text = text_of(name_operation(word.value() >> 9));
+    if refers_indirectly(word) {
+        text.push_str(" I");
+    }
+    text.push_str(name_page(word));
+    let [_, high, middle, low] = word.place().to_octal();
+    text.push(char::from(high));
+    text.push(char::from(middle));
+    text.push(char::from(low));
+    text
+}
+
+#[tactic(auto, using(crate::proofs::Tests::bit_tests))]
+fn name_page(word: Word) -> &'static str
+    ensures name { result.now ≡ (if has_bit 7 word then codes " C" else codes " Z") }
+    ensures short { length result.now ≡ 2 }
+{
+    if Reference(word.value()).contains(Reference::CURRENT_PAGE) {
+        " C"
+    } else {
+        " Z"
+    }
+}
+
+/// Adds a name, with a space before it where it isn't the first.
+fn push_name(text: &mut ArrayString<32>, name: &str)
+    requires room { length text.old.bytes ≤ 28 }
+    requires three { length name.now ≡ 3 }
+    ensures names { (names : List (List ℕ)) → IsSpaced names text.old.bytes → IsSpaced (names ++ name.now ∷ []) text.new.bytes }
+    ensures length { length text.new.bytes ≤ length text.old.bytes + 4 }
+{
+    if text.is_empty() {
+        text.push_str(name);
+    } else {
+        text.push(' ');
+        text.push_str(name);
+    }
+}
+
+/// Adds a name that applies.
+fn push_if(text: &mut ArrayString<32>, applies: bool, name: &str)
+    requires room { length text.old.bytes ≤ 28 }
+    requires three { length name.now ≡ 3 }
+    ensures names { (names : List (List ℕ)) → IsSpaced names text.old.bytes → IsSpaced (names ++ named_if applies name.now) text.new.bytes }
+    ensures length { length text.new.bytes ≤ length text.old.bytes + 4 }
+{
+    if applies {
+        push_name(text, name);
+    }
+}
+
+/// Adds a name where there is none.
+fn push_if_empty(text: &mut ArrayString<32>, name: &str)
+    requires three { length name.now ≡ 3 }
+    ensures { text.new.bytes ≡ (if length text.old.bytes == 0 then name.now else text.old.bytes) }
+{
+    if text.is_empty() {
+        text.push_str(name);
+    }
+}
+
+#[tactic(auto, using(crate::proofs::Tests::bit_tests))]
+fn name_rotate(bits: Group1) -> Option<&'static str>
+    ensures names { option_to_list (option_copied result) ≡ rotate_names bits.0 }
+    ensures three { IfSome result (λ name. length name.now ≡ 3) }
+{
+    let twice = bits.contains(Group1::TWICE);
+    if bits.contains(Group1::RAR) {
+        Some(if twice { "RTR" } else { "RAR" })
+    } else if bits.contains(Group1::RAL) {
+        Some(if twice { "RTL" } else { "RAL" })
+    } else if twice {
+        Some("BSW")
+    } else {
+        None
+    }
+}
+
+fn push_rotate(text: &mut ArrayString<32>, bits: Group1)
+    requires room { length text.old.bytes ≤ 28 }
+    ensures names { (names : List (List ℕ)) → IsSpaced names text.old.bytes → IsSpaced (names ++ rotate_names bits.0) text.new.bytes }
+    ensures length { length text.new.bytes ≤ length text.old.bytes + 4 }
+{
+    if let Some(rotate) = name_rotate(bits) {
+        push_name(text, rotate);
+    }
+}
+
+fn name_group1(bits: Group1) -> ArrayString<32>
+    ensures { result.bytes ≡ spaced (group1_names bits.0) }
+{
+    let mut text = ArrayString::new();
+    push_if(&mut text, bits.contains(Group1::CLA), "CLA");
+    push_if(&mut text, bits.contains(Group1::CLL), "CLL");
+    push_if(&mut text, bits.contains(Group1::CMA), "CMA");
+    push_if(&mut text, bits.contains(Group1::CML), "CML");
+    push_if(&mut text, bits.contains(Group1::IAC), "IAC");
+    push_rotate(&mut text, bits);
+    push_if_empty(&mut text, "NOP");
+    text
+}
+
+fn name_tests(bits: Group2) -> ArrayString<32>
+    ensures names { IsSpaced (test_names bits.0) result.bytes }
+    ensures length { length result.bytes ≤ 12 }
+{
+    let mut text = ArrayString::new();
+    if bits.contains(Group2::REVERSE) {
+        push_if(&mut text, bits.contains(Group2::SMA), "SPA");
+        push_if(&mut text, bits.contains(Group2::SZA), "SNA");
+        push_if(&mut text, bits.contains(Group2::SNL), "SZL");
+        push_if_empty(&mut text, "SKP");
+    } else {
+        push_if(&mut text, bits.contains(Group2::SMA), "SMA");
+        push_if(&mut text, bits.contains(Group2::SZA), "SZA");
+        push_if(&mut text, bits.contains(Group2::SNL), "SNL");
+    }
+    text
+}
+
+fn name_group2(bits: Group2) -> ArrayString<32>
+    ensures { result.bytes ≡ spaced (group2_names bits.0) }
+{
+    let mut text = name_tests(bits);
+    push_if(&mut text, bits.contains(Group2::CLA), "CLA");
+    push_if(&mut text, bits.contains(Group2::OSR), "OSR");
+    push_if(&mut text, bits.contains(Group2::HLT), "HLT");
+    push_if_empty(&mut text, "NOP");
+    text
+}
+
+fn name_group3(number: u16) -> &'static str
+    ensures name { result.now ≡ group3_name number }
+    ensures short { length result.now ≤ 7 }
+{
+    match number {
+        0o7421 => "MQL",
+        0o7501 => "MQA",
+        0o7521 => "SWP",
+        0o7621 => "CAM",
+        0o7701 => "CLA MQA",
+        _ => "CLA SWP",
+    }
+}
+
+fn name_device(number: u16) -> &'static str
+    ensures name { result.now ≡ device_name number }
+    ensures short { length result.now ≤ 7 }
+{
+    match number {
+        0o6002 => "IOF",
+        0o6011 => "RSF",
+        0o6012 => "RRB",
+        0o6014 => "RFC",
+        0o6016 => "RRB RFC",
+        0o6021 => "PSF",
+        0o6022 => "PCF",
+        0o6024 => "PPC",
+        0o6026 => "PLS",
+        0o6030 => "KCF",
+        0o6031 => "KSF",
+        0o6032 => "KCC",
+        0o6034 => "KRS",
+        0o6036 => "KRB",
+        0o6040 => "TFL",
+        0o6041 => "TSF",
+        0o6042 => "TCF",
+        0o6044 => "TPC",
+        _ => "TLS",
+    }
+}

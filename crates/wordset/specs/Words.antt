@@ -126,9 +126,13 @@ ors a b v = some_below 4096 (λ x. a x && some_below 4096 (λ y. b y && (bit_or 
 abbrev pub or_any : ℕ → Words → Words
 or_any mask a v = some_below 4096 (λ x. a x && some_below 4096 (λ m. (bit_and m mask == m) && (bit_or x m == v)))
 
--- All f a l for a word a and a link l of the sets.
+-- All f x for a word x of the set.
+abbrev pub images_at : (ℕ → ℕ) → Words → Words
+images_at f a v = some_below 4096 (λ x. a x && (v == f x))
+
+-- All f x l for a word x and a link l of the sets.
 abbrev pub images : (ℕ → ℕ → ℕ) → Words → Words → Words
-images f a links v = some_below 2 (λ l. links l && some_below 4096 (λ x. a x && (v == f x l)))
+images f a links v = some_below 2 (λ l. links l && images_at (λ x. f x l) a v)
 
 -- The word is in the set and is the least of those from a number on.
 pub record IsFirstFrom (from : ℕ) (set : Words) (w : ℕ) : Type 0 where

@@ -17,6 +17,7 @@ use word12::Word;
 
 mod bits;
 mod links;
+mod operate;
 mod sums;
 
 pub use links::{Carries, Links};

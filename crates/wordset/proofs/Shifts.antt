@@ -1,13 +1,13 @@
 -- A set moved up across lanes, and round the end.
-use Rattle.std.proofs.Common.{◌≡◌, ◌≢◌, ℕ, zero, suc, ◌+◌, ◌-◌, ◌*◌, ◌/◌, ◌%◌, ◌^◌, ◌<◌, ◌≤◌, ◌==◌, Bool, true, false, not, ◌&&◌, ◌||◌, List, [], ◌∷◌, length, get_or, replicate, map, refl, sym, ◌∙◌, ap, subst, inl, inr, arith, w64, ◌⊎◌, lit<, add-zero, zero-add}
+use Rattle.std.proofs.Common.{◌≡◌, ℕ, ◌+◌, ◌-◌, ◌*◌, ◌/◌, ◌%◌, ◌^◌, ◌<◌, ◌≤◌, ◌==◌, ◌||◌, List, length, get_or, replicate, map, sym, ◌∙◌, ap, inl, inr, arith, ◌⊎◌, add-zero, zero-add}
 use Rattle.std.specs.Prelude.{bit_or}
 use Rattle.std.specs.Int.{bit_at}
 use Rattle.std.proofs.lemmas.Bool.{cases_lt}
 use Rattle.std.proofs.lemmas.Nat.Bits.{bit_at_cat_low, bit_at_cat_high, bit_at_above, bit_at-zero}
 use Rattle.std.proofs.lemmas.Nat.{pow-add, pow_pos, div-add-mod'}
 use Rattle.std.proofs.Math.Nat.{div-div-eq-div-mul}
-use Rattle.std.proofs.lemmas.List.{get_or-replicate, get_or-map, length-map}
-use Rattle.std.proofs.lemmas.Simd.{get_or-zip2, length-zip2, zip2_splat, map-map, get_or-put_chunk_below, get_or-put_chunk_at, length-put_chunk, get_or-chunk, length-chunk}
+use Rattle.std.proofs.lemmas.List.{get_or-map, length-map}
+use Rattle.std.proofs.lemmas.Simd.{get_or-zip2, zip2_splat, map-map, get_or-put_chunk_below, get_or-put_chunk_at, length-put_chunk, get_or-chunk, length-chunk}
 use lib.Lanes.{zip2, chunk, put_chunk}
 use Rattle.wordset.specs.Words.{shifted, minus}
 use Rattle.wordset.specs.Lanes.{words, AreLanes}

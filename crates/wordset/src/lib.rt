@@ -18,6 +18,7 @@ use word12::Word;
 mod bits;
 mod links;
 mod operate;
+pub mod plain;
 mod sums;
 
 pub use links::{Carries, Links};

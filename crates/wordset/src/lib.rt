@@ -24,7 +24,7 @@ mod sums;
 pub use links::{Carries, Links};
 
 /// A set of words.
-#[derive(Clone, Copy, PartialEq, Eq)]
+#[derive(Clone, Copy, PartialEq, Eq, Debug)]
 pub struct WordSet {
     lanes: [u64; 64],
 }

@@ -23,7 +23,10 @@ fn set_of(words: &[u32]) -> WordSet {
 fn operated(operate: u32, ac: u32) -> (WordSet, Links) {
     let operate = word(operate);
     match decode(operate, Profile::Pdp8E) {
-        Instruction::Operate1 => WordSet::one(word(ac)).map_operate(operate, Links::one(Link::CLEAR)),
+        Instruction::Operate1 => WordSet::one(word(ac)).map_operate(
+            operate,
+            Links::one(Link::CLEAR),
+        ),
         _ => (WordSet::empty(), Links::none()),
     }
 }
@@ -87,40 +90,73 @@ fn links_are_toggled_by_carries(rt: HostRuntime) {
     assert!(rt; Links::none().is_empty());
 }
 
-/// Whether each kernel on two sets agrees with its plain body.
+/// Whether each kernel on two sets agrees with its plain body, which goes through the words of `a`.
 fn agree_on_two(a: &WordSet, b: &WordSet) -> bool {
+    let sums = plain::sums(a, b);
+    let ors = plain::ors(a, b);
+    let ands = plain::ands(a, b);
     a.union(b) == plain::union(a, b)
         && a.meet(b) == plain::meet(a, b)
         && a.minus(b) == plain::minus(a, b)
+        && b.minus(a) == plain::minus(b, a)
         && a.is_subset(b) == plain::is_subset(a, b)
-        && a.sums(b) == plain::sums(a, b)
-        && a.ors(b) == plain::ors(a, b)
-        && a.ands(b) == plain::ands(a, b)
+        && b.is_subset(a) == plain::is_subset(b, a)
+        && a.sums(b) == sums
+        && b.sums(a) == sums
+        && a.ors(b) == ors
+        && b.ors(a) == ors
+        && a.ands(b) == ands
+        && b.ands(a) == ands
 }
 
 /// Whether each kernel on a set and a word agrees with its plain body.
 fn agree_on_one(set: &WordSet, k: Word) -> bool {
-    set.count() == plain::count(set) && set.shift(k) == plain::shift(set, k) && set.or_any(k) == plain::or_any(set, k)
+    set.count() == plain::count(set) && set.shift(k) == plain::shift(set, k)
 }
 
 #[test]
 fn kernels_agree_on_the_edges_of_lanes(rt: HostRuntime) {
     let edges = [0, 0o77, 0o100, 0o7777];
-    let sets = [
+    let few = [
         WordSet::empty(),
+        set_of(&edges),
+        WordSet::one(word(0o7777)),
+        WordSet::range(word(0o76), word(0o101)),
+    ];
+    let any = [
         WordSet::all(),
         set_of(&edges),
         set_of(&edges).complements(),
-        WordSet::range(word(0o77), word(0o100)),
+        WordSet::all().minus(&set_of(&edges)),
     ];
-    for a in &sets {
-        for b in &sets {
+    for a in &few {
+        for b in &any {
             assert!(rt; agree_on_two(a, b));
         }
-        for k in edges {
-            assert!(rt; agree_on_one(a, word(k)));
+        for mask in [0, 0o100, 0o377, 0o7777] {
+            assert!(rt; a.or_any(word(mask)) == plain::or_any(a, word(mask)));
         }
     }
+    for set in &any {
+        for k in edges {
+            assert!(rt; agree_on_one(set, word(k)));
+        }
+    }
+}
+
+#[test]
+fn all_words_stay_all_words(rt: HostRuntime) {
+    let all = WordSet::all();
+    let both = Carries {
+        absent: true,
+        present: true,
+    };
+    assert!(rt; all.sums(&all) == (all, both));
+    assert!(rt; all.ors(&all) == all);
+    assert!(rt; all.ands(&all) == all);
+    assert!(rt; all.or_any(word(0o1234)) == all);
+    assert!(rt; all.shift(word(0o1234)) == all);
+    assert_eq!(rt; all.count(), 4096);
 }
 
 /// A set of some pseudo-random words.
@@ -135,10 +171,12 @@ fn scattered(random: &mut Pcg32, words: u32) -> WordSet {
 #[test]
 fn kernels_agree_on_scattered_sets(rt: HostRuntime) {
     let mut random = Pcg32::new(42, 54);
-    for round in 0..300u32 {
-        let a = scattered(&mut random, round % 60);
+    for round in 0..200u32 {
+        let a = scattered(&mut random, round % 40);
         let b = scattered(&mut random, 3 * round);
         assert!(rt; agree_on_two(&a, &b), "round {round}");
-        assert!(rt; agree_on_one(&a, word(random.next_word())), "round {round}");
+        assert!(rt; agree_on_one(&b, word(random.next_word())), "round {round}");
+        let mask = word(random.next_word());
+        assert!(rt; a.or_any(mask) == plain::or_any(&a, mask), "round {round}");
     }
 }

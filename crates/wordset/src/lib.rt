@@ -82,7 +82,8 @@ impl WordSet {
     /// The lanes of the set: bit j of lane i, the least bit being bit 0, is set exactly where the
     /// word 64 i + j is in the set.
     pub fn words(&self) -> &[u64; 64]
-        ensures { (i j : ℕ) → i < 64 → j < 64 → (bit_at (slice_index result.now i) j == 1) ≡ words self.now (64 * i + j) }
+        ensures { (i j : ℕ) → i < 64 → j < 64 →
+            (bit_at (slice_index result.now i) j == 1) ≡ words self.now (64 * i + j) }
     {
         &self.lanes
     }
@@ -144,7 +145,9 @@ impl WordSet {
 
     /// The least of the words from a number on.
     pub fn first_from(&self, from: usize) -> Option<Word>
-        ensures { MatchOption result (HasNoneFrom from (words self.now)) (λ w. IsFirstFrom from (words self.now) w) }
+        ensures { MatchOption result
+            (HasNoneFrom from (words self.now))
+            (λ w. IsFirstFrom from (words self.now) w) }
     {
         if from >= 4096 {
             return None;
@@ -159,7 +162,9 @@ impl WordSet {
     /// The least of the words in the lanes from one on.
     fn first_in_lanes(&self, start: usize) -> Option<Word>
         requires { start ≤ 64 }
-        ensures { MatchOption result (HasNoneFrom (64 * start) (words self.now)) (λ w. IsFirstFrom (64 * start) (words self.now) w) }
+        ensures { MatchOption result
+            (HasNoneFrom (64 * start) (words self.now))
+            (λ w. IsFirstFrom (64 * start) (words self.now) w) }
     {
         for i in start..64usize {
             let lane = self.lanes[i];
@@ -172,7 +177,9 @@ impl WordSet {
 
     /// The greatest word.
     pub fn greatest(&self) -> Option<Word>
-        ensures { MatchOption result (SameWords (words self.now) nothing) (λ w. IsGreatest (words self.now) w) }
+        ensures { MatchOption result
+            (SameWords (words self.now) nothing)
+            (λ w. IsGreatest (words self.now) w) }
     {
         for n in 0..64usize {
             let lane = self.lanes[63 - n];
@@ -279,7 +286,9 @@ fn taken(lanes: &[u64], at: usize) -> u64x64
 /// Each lane of `near` moved up, with what moves out of the lane of `far` below it.
 fn joined(near: u64x64, far: u64x64, by: usize) -> [u64; 64]
     requires { by < 64 }
-    ensures { result ≡ zip2 bit_or (map (λ x. x * 2 ^ by % 2 ^ 64) near) (map (λ x. x / 2 / 2 ^ (63 - by)) far) }
+    ensures { result ≡ zip2 bit_or
+        (map (λ x. x * 2 ^ by % 2 ^ 64) near)
+        (map (λ x. x / 2 / 2 ^ (63 - by)) far) }
 {
     let up = u64x64::splat(by as u64);
     let down = u64x64::splat((63 - by) as u64);

@@ -9,7 +9,7 @@ ghost use Rattle.std.specs.Prelude.{◌≡◌, ◌<◌, ◌≤◌, ◌+◌, ◌-
 ghost use Rattle.std.specs.Int.{bit_at};
 ghost use Rattle.std.specs.Simd.Lanes.{zip2, chunk, put_chunk};
 ghost use Rattle.wordset.specs.Words.{SameWords, IsWithin, nothing, everything, one, between, with_word, without, union, meet, difference, shifted, has_some, how_many, first_below, only, mirrored, IsFirstFrom, HasNoneFrom, IsGreatest};
-ghost use Rattle.wordset.specs.Lanes.{words};
+ghost use Rattle.wordset.specs.Lanes.{words, twice};
 
 use std::marker::Model;
 use std::simd::prelude::*;
@@ -243,13 +243,30 @@ impl WordSet {
     pub fn shift(&self, k: Word) -> WordSet
         ensures { SameWords (words result) (shifted (words self.now) k) }
     {
-        let by = k.index();
+        self.shift_from(&self.lanes_twice(), k)
+    }
+
+    /// The lanes stored twice in a row, from which every shift of the set is taken.
+    fn lanes_twice(&self) -> [u64; 128]
+        ensures { result ≡ twice self.now }
+    {
         let lanes = u64x64::from_array(self.lanes);
         let mut twice = [0u64; 128];
         put(&mut twice, 0, lanes);
         put(&mut twice, 64, lanes);
-        let near = taken(&twice, 64 - by / 64);
-        let far = taken(&twice, 63 - by / 64);
+        twice
+    }
+
+    /// The same shift, from the lanes of the set stored twice.
+    fn shift_from(&self, lanes: &[u64; 128], k: Word) -> WordSet
+        requires { lanes.now ≡ twice self.now }
+        ensures { SameWords (words result) (shifted (words self.now) k) }
+    {
+        // The proof needs the lanes of the set itself.
+        let _set = &self.lanes;
+        let by = k.index();
+        let near = taken(lanes, 64 - by / 64);
+        let far = taken(lanes, 63 - by / 64);
         WordSet {
             lanes: joined(near, far, by % 64),
         }

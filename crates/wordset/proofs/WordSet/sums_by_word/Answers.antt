@@ -22,7 +22,7 @@ loop-word-preserved c =
     record {
       inside = omega (arith, c.index-next.ensures.small);
       so_far = λ v h. some_next c.loop-word.next c.in-Some.word (words c.args.self.now) (λ x. words c.args.other.now (minus v x)) (words c.loop-word.found v) (words c.union-found.result v) first
-          (c.loop-word.invariant.so_far v h) (c.union-found.ensures v h ∙ ap (λ p. words c.loop-word.found v || p) (c.shift.ensures v h))
+          (c.loop-word.invariant.so_far v h) (c.union-found.ensures v h ∙ ap (λ p. words c.loop-word.found v || p) (c.shift_from.ensures v h))
           ∙ ap (λ n. some_below (n + 1) (λ x. words c.args.self.now x && words c.args.other.now (minus v x))) (sym same);
     }
 

@@ -1,6 +1,10 @@
 //! The devices of a PDP-8 and the events that happen to it.
 #![tactic(auto)]
 
+mod event_text;
+pub mod text;
+
+pub use event_text::{EventsFault, events};
 use word12::Word;
 
 /// Something that happens to a machine and its devices: one action of the processor, a device or

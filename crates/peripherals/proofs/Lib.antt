@@ -1,2 +1,4 @@
 pub mod NumberLemmas
 pub mod TextLemmas
+pub mod NumberedLines
+pub mod EventLemmas

@@ -1,13 +1,13 @@
 //! The text of events.
 
-ghost use Rattle.std.specs.Prelude.{◌≡◌, ◌≢◌, ◌⊎◌, ◌≤◌, ◌+◌, IfOk, IfErr, IsErrOf, OnOk, List, [], ◌∷◌, ◌++◌, replicate, vec_len};
+ghost use Rattle.std.specs.Prelude.{◌≡◌, ◌≢◌, ◌⊎◌, ◌≤◌, ◌+◌, IfOk, IfErr, IsErrOf, OnOk, List, [], ◌∷◌, ◌++◌, length, replicate, vec_len};
 ghost use Rattle.std.specs.Option.{option_map};
 ghost use Rattle.peripherals.specs.declared.Event.{Event};
 ghost use Rattle.peripherals.specs.declared.event_text.EventsFault.{EventsFault};
 ghost use Rattle.peripherals.specs.declared.event_text.EventsFault.TheVariants.{NoMemory};
 ghost use Rattle.peripherals.specs.declared.Event.TheVariants.{Step};
 ghost use Rattle.peripherals.specs.Text.{decimal_between};
-ghost use Rattle.peripherals.specs.EventText.{Spells, Fails, event_named, events_numbered, line_events, most_events};
+ghost use Rattle.peripherals.specs.EventText.{Spells, Fails, event_named, events_numbered, line_events, most_bytes, most_events};
 ghost use Rattle.peripherals.specs.Repeated.{repeated, RefusesMore};
 
 use crate::text::{Lines, Words};
@@ -61,6 +61,15 @@ pub fn events<A: Allocator>(alloc: A, text: &[u8]) -> Result<Vec<Event, A>, Even
     if text.len() > MOST_BYTES {
         return Err(EventsFault::TooMany);
     }
+    read_lines(alloc, text)
+}
+
+/// The events that a text lists which isn't too long.
+fn read_lines<A: Allocator>(alloc: A, text: &[u8]) -> Result<Vec<Event, A>, EventsFault>
+    requires { length text.now ≤ most_bytes }
+    ensures found { IfOk result (λ events. Spells text.now events.items) }
+    ensures refused { IfErr result (Fails text.now) }
+{
     let mut events = Vec::new(alloc);
     for (index, line) in Lines::of(text).enumerate() {
         let Some(more) = read_line(line) else {

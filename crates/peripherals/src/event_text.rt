@@ -168,3 +168,6 @@ fn steps(number: &[u8]) -> Option<Repeated>
         times,
     })
 }
+
+#[cfg(test)]
+mod tests;

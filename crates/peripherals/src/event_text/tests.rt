@@ -34,7 +34,8 @@ fn each_line_is_its_events(rt: HostRuntime) -> Result<(), Fail> {
 
 #[test]
 fn ends_comments_and_blanks(rt: HostRuntime) -> Result<(), Fail> {
-    let text = b"/ a comment\n\n \t \r\n\tstep\t0002 / two\r\nkey 377/the last\rone\nswitches  7777";
+    let text =
+        b"/ a comment\n\n \t \r\n\tstep\t0002 / two\r\nkey 377/the last\rone\nswitches  7777";
     let read = events(rt.alloc(), text)?;
     let wanted = [
         Event::Step,
@@ -70,14 +71,26 @@ fn bad_lines(rt: HostRuntime) {
     for text in texts {
         assert_eq!(rt; fault(&rt, text), Some(EventsFault::BadLine(1)));
     }
-    assert_eq!(rt; fault(&rt, b"step\r\n\nkey 1 /\nstep\rstep\nkey 9"), Some(EventsFault::BadLine(4)));
+    assert_eq!(rt;
+        fault(&rt, b"step\r\n\nkey 1 /\nstep\rstep\nkey 9"),
+        Some(EventsFault::BadLine(4))
+    );
 }
 
 #[test]
 fn limits(rt: HostRuntime) -> Result<(), Fail> {
-    assert_eq!(rt; fault(&rt, b"step 1000000\nstep 1000000"), Some(EventsFault::TooMany));
-    assert_eq!(rt; fault(&rt, b"step 1000000\nstep\nbad"), Some(EventsFault::TooMany));
-    assert_eq!(rt; events(rt.alloc(), b"step 1000000\n/ step")?.len(), 1_000_000);
+    assert_eq!(rt;
+        fault(&rt, b"step 1000000\nstep 1000000"),
+        Some(EventsFault::TooMany)
+    );
+    assert_eq!(rt;
+        fault(&rt, b"step 1000000\nstep\nbad"),
+        Some(EventsFault::TooMany)
+    );
+    assert_eq!(rt;
+        events(rt.alloc(), b"step 1000000\n/ step")?.len(),
+        1_000_000
+    );
     let mut text = [b' '; 65_537];
     assert_eq!(rt; fault(&rt, &text), Some(EventsFault::TooMany));
     text[0] = b'x';
@@ -90,8 +103,14 @@ fn limits(rt: HostRuntime) -> Result<(), Fail> {
 #[test]
 fn names_of_the_faults(rt: HostRuntime) -> Result<(), Fail> {
     let alloc = rt.alloc();
-    assert_eq!(rt; EventsFault::BadLine(3).to_string(alloc)?.as_str(), "BadLine 3");
+    assert_eq!(rt;
+        EventsFault::BadLine(3).to_string(alloc)?.as_str(),
+        "BadLine 3"
+    );
     assert_eq!(rt; EventsFault::TooMany.to_string(alloc)?.as_str(), "TooMany");
-    assert_eq!(rt; EventsFault::NoMemory.to_string(alloc)?.as_str(), "NoMemory");
+    assert_eq!(rt;
+        EventsFault::NoMemory.to_string(alloc)?.as_str(),
+        "NoMemory"
+    );
     Ok(())
 }

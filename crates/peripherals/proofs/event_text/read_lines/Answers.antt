@@ -34,7 +34,7 @@ loop-index-preserved g c =
     let appended = c.in_ok-append.ensures.appended in
     record {
       spell = rw (map-append (λ item. item.1.now) c.loop-index.yielded ((c.in-Some.index, c.in-Some.line) ∷ []), appended)
-        (LinesSpell-push (map (λ item. item.1.now) c.loop-index.yielded) c.loop-index.events.items c.in-Some.line.now _ c.loop-index.invariant.spell (sym c.in-Some-read_line.ensures));
+          (LinesSpell-push (map (λ item. item.1.now) c.loop-index.yielded) c.loop-index.events.items c.in-Some.line.now _ c.loop-index.invariant.spell (sym c.in-Some-read_line.ensures));
       few = omega (arith, ap length appended, c.in_ok-append.ensures.few, length-append c.loop-index.events.items (repeated c.in-Some-read_line.more), length-replicate c.in-Some-read_line.more.times c.in-Some-read_line.more.event, c.loop-index.events.ok.0);
     }
 
@@ -47,10 +47,10 @@ returns-in_err-append-clause-refused g c =
     let so_far = YieldsList-so_far road c.loop-index.yielded c.loop-index.index-iterator c.loop-index.yielded_by in
     let split = lines_split _ c.loop-index.yielded (text_lines c.args.text.now) (c.in-Some.index, c.in-Some.line.now) so_far turn in
     let good : GoodBefore c.args.text.now (map (λ item. item.1.now) c.loop-index.yielded) c.in-Some.line.now c.loop-index.events.items =
-      record { short = c.requires; after = split.0; stands = split.1; spells = c.loop-index.invariant.spell; few = c.loop-index.invariant.few } in
+    record { short = c.requires; after = split.0; stands = split.1; spells = c.loop-index.invariant.spell; few = c.loop-index.invariant.few } in
     passed_on _ c.args.text.now c.in_err-append.field-0.0 c.from_residual.ensures.1
-      (refused_there c.args.text.now _ c.in-Some.line.now c.loop-index.events.items c.in-Some-read_line.more c.in_err-append.field-0.0 good (sym c.in-Some-read_line.ensures)
-        (rw c.loop-index.events.ok.0 at c.in_err-append.ensures.refused))
+    (refused_there c.args.text.now _ c.in-Some.line.now c.loop-index.events.items c.in-Some-read_line.more c.in_err-append.field-0.0 good (sym c.in-Some-read_line.ensures)
+    (rw c.loop-index.events.ok.0 at c.in_err-append.ensures.refused))
 
 pub returns-clause-found : goal.returns-clause-found
 returns-clause-found g c =
@@ -65,5 +65,5 @@ loop-index-init-derived g c =
     let source : enumerate_source c.into_iter-index-iterator.result ≡ c.of.result = cc in
     let count : enumerate_count c.into_iter-index-iterator.result ≡ 0 = cc in
     let few : length (lines_left (enumerate_source c.into_iter-index-iterator.result)) ≤ length c.args.text.now + 1 =
-      rw (source, c.of.ensures) (length-text_lines c.args.text.now) in
+    rw (source, c.of.ensures) (length-text_lines c.args.text.now) in
     ((tt, tt, inl (omega (arith, few, count, c.requires))), tt)

@@ -9,7 +9,7 @@ use Rattle.peripherals.specs.declared.event_text.EventsFault.TheVariants.{BadLin
 use Rattle.peripherals.specs.declared.event_text.Repeated.{Repeated}
 use Rattle.peripherals.specs.Repeated.{repeated, RefusesMore}
 use Rattle.peripherals.specs.Text.{text_lines}
-use Rattle.peripherals.specs.EventText.{LinesSpell, Spells, GoodBefore, PassesLimit, StandsBad, AsksForMemory, Fails, line_events, most_events, most_bytes}
+use Rattle.peripherals.specs.EventText.{LinesSpell, Spells, GoodBefore, PassesLimit, StandsBad, Fails, line_events, most_events}
 
 -- one good line more
 pub LinesSpell-push : (ls : List (List ℕ)) (es : List Event) (l : List ℕ) (more : List Event) → LinesSpell ls es → line_events l ≡ Some more → LinesSpell (ls ++ l ∷ []) (es ++ more)

@@ -1,6 +1,6 @@
 -- The first line of a text and the first word of a line.
 use Rattle.std.proofs.Common.{ℕ, ◌≡◌, ◌<◌, ◌≤◌, ◌+◌, List, [], ◌∷◌, length, take, drop, arith, refl, Bool, true, false, not, sym, ◌∙◌, ap, map, filter, Some, None, unwrap_or, ltb, eqb, inl, inr, suc}
-use Rattle.std.specs.List.{position_or_len, position, slice_split, onto_first, before_first}
+use Rattle.std.specs.List.{position_or_len, position, slice_split, before_first}
 use Rattle.std.specs.Str.Lines.{strip_carriage_return}
 use Rattle.std.proofs.lemmas.Bool.{cases_Bool, cases_lt, lt-ltb, le-ltb, ne_eqb}
 use Rattle.std.proofs.lemmas.List.Sums.{prefix_len-le-length}

@@ -1,5 +1,5 @@
 -- One event, some times over, as a line brings it.
-use Rattle.std.specs.Prelude.{◌≡◌, ℕ, ◌+◌, ◌<◌, ◌≤◌, List, replicate}
+use Rattle.std.specs.Prelude.{ℕ, ◌+◌, ◌<◌, ◌≤◌, List, replicate}
 use Rattle.peripherals.specs.declared.Event.{Event}
 use Rattle.peripherals.specs.declared.event_text.Repeated.{Repeated}
 use Rattle.peripherals.specs.declared.event_text.EventsFault.{EventsFault}

@@ -1,12 +1,10 @@
-use Rattle.std.proofs.Common.{◌≡◌, ◌<◌, ◌≤◌, ◌+◌, ◌∙◌, ap, sym, length, map, arith, inl, [], ◌∷◌, length-append}
-use Rattle.std.specs.List.{enumerate_from}
+use Rattle.std.proofs.Common.{◌≡◌, ◌≤◌, ◌+◌, ap, sym, length, map, arith, inl, [], ◌∷◌, length-append}
 use Rattle.std.specs.Iterator.Adapters.{enumerate_source, enumerate_count}
 use Rattle.std.proofs.lemmas.List.{map-append, length-replicate}
-use Rattle.std.proofs.lemmas.Iterator.{YieldsList}
 use Rattle.std.proofs.lemmas.Iterator.Consumers.{YieldsList-from_first, YieldsList-from_enumerate, YieldsList-at, YieldsList-turn, YieldsList-so_far, YieldsList-end}
 use Rattle.peripherals.specs.Text.{text_lines}
 use Rattle.peripherals.specs.TextLeft.{lines_left}
-use Rattle.peripherals.specs.EventText.{LinesSpell, GoodBefore}
+use Rattle.peripherals.specs.EventText.{GoodBefore}
 use Rattle.peripherals.specs.Repeated.{repeated}
 use Rattle.peripherals.proofs.NumberedLines.{lines_split, lines_all, length-text_lines}
 use Rattle.peripherals.proofs.EventLemmas.{LinesSpell-push, refused_there, passed_on}

@@ -1,6 +1,5 @@
 use Rattle.std.proofs.Common.{◌<◌, sym, ap, length, arith}
 use Rattle.std.proofs.lemmas.Bool.{eqb-true, eqb-false}
-use Rattle.std.specs.List.{position_or_len}
 use Rattle.peripherals.specs.Text.{is_blank}
 use Rattle.peripherals.proofs.TextLemmas.{position_or_len-le, word_step, word_end}
 use Rattle.peripherals.proofs.text.WordsIterator.next.Goals as goal

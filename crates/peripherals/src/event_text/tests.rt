@@ -1,6 +1,7 @@
 //! Texts of events worked by hand from the description of their lines.
 
 use crate::{Event, EventsFault, events};
+use refusing::Refusing;
 use std::test::Fail;
 use word12::Word;
 
@@ -113,4 +114,41 @@ fn names_of_the_faults(rt: HostRuntime) -> Result<(), Fail> {
         "NoMemory"
     );
     Ok(())
+}
+
+#[test]
+fn each_growth_is_refused_in_turn(rt: HostRuntime) -> Result<(), Fail> {
+    let text = b"step 2\nkey 301\nstep 1000\nswitches 17\nstep 5000";
+    for count in 0..100u64 {
+        let heap = Refusing::new(rt.alloc(), count);
+        match events(&heap, text) {
+            Ok(read) => {
+                assert!(rt; !heap.has_refused());
+                assert_eq!(rt; read.len(), 6004);
+                assert!(rt; count > 2, "{count}");
+                return Ok(());
+            }
+            Err(fault) => {
+                assert_eq!(rt; fault, EventsFault::NoMemory);
+                assert!(rt; heap.has_refused());
+            }
+        }
+    }
+    panic!(rt; "it never ended")
+}
+
+#[test]
+fn a_fault_asks_for_no_memory(rt: HostRuntime) {
+    let heap = Refusing::new(rt.alloc(), 0);
+    assert_eq!(rt;
+        events(&heap, b"\nbad").err(),
+        Some(EventsFault::BadLine(2))
+    );
+    assert!(rt; !heap.has_refused());
+    let heap = Refusing::new(rt.alloc(), 1);
+    assert_eq!(rt;
+        events(&heap, b"step 1000000\nstep").err(),
+        Some(EventsFault::TooMany)
+    );
+    assert!(rt; !heap.has_refused());
 }

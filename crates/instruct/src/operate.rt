@@ -4,7 +4,7 @@ ghost use Rattle.std.specs.Prelude.{◌≡◌};
 ghost use Rattle.instruct.specs.declared.Profile.TheVariants.{Pdp8E};
 ghost use Rattle.instruct.specs.declared.Instruction.TheVariants.{Operate1, Operate2, Operate3};
 ghost use Rattle.instruct.specs.Instructions.{instruction_of};
-ghost use Rattle.instruct.specs.Operates.{operate1_of, any_test_holds, skips_of, operate2_of, operate3_of, cleared, complemented, counted, rotated, is_halt, reads_switches_of};
+ghost use Rattle.instruct.specs.Operates.{operate1_of, any_test_holds, skips_of, operate2_of, operate3_of, cleared, complemented, counted, rotated, is_halt};
 
 use crate::bits::{Group1, Group2};
 use bitflags::Flags;
@@ -172,13 +172,4 @@ pub fn halts(word: Word) -> bool
     ensures { result ≡ is_halt word }
 {
     Group2(word.value()).contains(Group2::HLT)
-}
-
-/// Whether a word of group 2 reads the switches.
-#[tactic(auto, using(crate::proofs::Tests::bit_tests))]
-pub fn reads_switches(word: Word) -> bool
-    requires { instruction_of Pdp8E word ≡ Operate2 }
-    ensures { result ≡ reads_switches_of word }
-{
-    Group2(word.value()).contains(Group2::OSR)
 }

@@ -1,0 +1,230 @@
+-- The least word from a number on, the least of all, and the only one.
+use Rattle.std.proofs.Common.{◌≡◌, ◌≢◌, ℕ, zero, suc, ◌+◌, ◌-◌, ◌*◌, ◌/◌, ◌%◌, ◌^◌, ◌<◌, ◌≤◌, ◌==◌, Bool, true, false, List, get_or, refl, sym, ◌∙◌, ap, inl, inr, arith, ◌⊎◌, w64}
+use Rattle.std.specs.Prelude.{if◌then◌else◌, Option, Some, None, MatchOption}
+use Rattle.std.specs.Int.{bit_at, trailing_zeros}
+use Rattle.std.proofs.lemmas.Bool.{cases_eq, cases_lt, eq-eqb, ne_eqb, eqb-true}
+use Rattle.std.proofs.lemmas.Nat.Bits.{bit_at-trailing_zeros, bit_at-zero, bit_at-lt, bit_at_above}
+use Rattle.std.proofs.Math.Nat.{div-le_self}
+use Rattle.wordset.specs.Words.{Words, how_many, some_below, first_below, only, only_of, without, IsFirstFrom, HasNoneFrom}
+use Rattle.wordset.specs.Lanes.{words, AreLanes}
+use Rattle.wordset.proofs.LaneBits.{words_at}
+use Rattle.wordset.proofs.Tests.{true_false, both_ways, some_from, some_none_of, none_of_some}
+use Rattle.wordset.proofs.Counts.{how_many_same}
+use Rattle.wordset.proofs.Shifts.{bit_div}
+
+-- ---- lane by lane
+
+-- the words from a number on, below 64 * i + n
+in_lane : (lanes : List ℕ) (from i n v : ℕ) → n ≤ 64 → ((u : ℕ) → from ≤ u → u < 64 * i → words lanes u ≡ false) → ((j : ℕ) → j < n → bit_at (get_or lanes i 0) j ≡ 0) → from ≤ v → v < 64 * i + n → words lanes v ≡ false
+in_lane lanes from i n v small before bits f h = elim (cases_lt v (64 * i)) [
+  | inl l ↦ before v f l
+  | inr g ↦
+      (let e : 64 * i + (v - 64 * i) ≡ v = omega arith in
+      let lt : v - 64 * i < 64 = omega arith in
+      ap (λ u. words lanes u) (sym e) ∙ words_at lanes i (v - 64 * i) lt ∙ ap (λ b. b == 1) (bits (v - 64 * i) (omega arith)))
+]
+
+pub none_more : (lanes : List ℕ) (from i : ℕ) → ((v : ℕ) → from ≤ v → v < 64 * i → words lanes v ≡ false) → get_or lanes i 0 ≡ 0 → (v : ℕ) → from ≤ v → v < 64 * (i + 1) → words lanes v ≡ false
+none_more lanes from i before z v f h = in_lane lanes from i 64 v (omega arith) before (λ j lt. ap (λ n. bit_at n j) z ∙ bit_at-zero j) f (omega arith)
+
+pub first_in_lane : (lanes : List ℕ) (from i : ℕ) → AreLanes lanes → i < 64 → from ≤ 64 * i → ((v : ℕ) → from ≤ v → v < 64 * i → words lanes v ≡ false) → get_or lanes i 0 ≢ 0
+    → IsFirstFrom from (words lanes) (64 * i + trailing_zeros w64 (get_or lanes i 0))
+first_in_lane lanes from i is h low before some =
+    let positive : 0 < get_or lanes i 0 = omega arith in
+    let zeros : (trailing_zeros w64 (get_or lanes i 0) < 64) × (bit_at (get_or lanes i 0) (trailing_zeros w64 (get_or lanes i 0)) ≡ 1) × ((j : ℕ) → j < trailing_zeros w64 (get_or lanes i 0) → bit_at (get_or lanes i 0) j ≡ 0) =
+    bit_at-trailing_zeros w64 (get_or lanes i 0) positive (is.fit i) in
+    let small : trailing_zeros w64 (get_or lanes i 0) < 64 = zeros.0 in
+    record {
+      small = omega arith;
+      reached = omega arith;
+      within = words_at lanes i (trailing_zeros w64 (get_or lanes i 0)) small ∙ ap (λ b. b == 1) zeros.1;
+      before = λ v f lt. in_lane lanes from i (trailing_zeros w64 (get_or lanes i 0)) v (omega arith) before zeros.2 f lt;
+    }
+
+-- ---- from the midst of a lane
+
+-- the rest of a lane from a word on
+abbrev pub rest_from : List ℕ → ℕ → ℕ
+rest_from lanes from = get_or lanes (from / 64) 0 / 2 ^ (from % 64)
+
+rest_bit : (lanes : List ℕ) (from d : ℕ) → from % 64 + d < 64 → words lanes (from + d) ≡ (bit_at (rest_from lanes from) d == 1)
+rest_bit lanes from d h =
+    let at : 64 * (from / 64) + (from % 64 + d) ≡ from + d = omega arith in
+    ap (λ v. words lanes v) (sym at) ∙ words_at lanes (from / 64) (from % 64 + d) h ∙ ap (λ b. b == 1) (sym (bit_div (get_or lanes (from / 64) 0) (from % 64) d))
+
+pub none_in_rest : (lanes : List ℕ) (from : ℕ) → rest_from lanes from ≡ 0 → (v : ℕ) → from ≤ v → v < 64 * (from / 64 + 1) → words lanes v ≡ false
+none_in_rest lanes from z v f h =
+    let at : from + (v - from) ≡ v = omega arith in
+    ap (λ u. words lanes u) (sym at) ∙ rest_bit lanes from (v - from) (omega arith) ∙ ap (λ n. bit_at n (v - from) == 1) z ∙ ap (λ b. b == 1) (bit_at-zero (v - from))
+
+pub rest_small : (lanes : List ℕ) (from : ℕ) → AreLanes lanes → rest_from lanes from < 2 ^ 64
+rest_small lanes from is = omega (arith, is.fit (from / 64), le (get_or lanes (from / 64) 0) (2 ^ (from % 64)))
+  where
+    le : (n k : ℕ) → n / k ≤ n
+    le n k = div-le_self n k
+
+pub first_in_rest : (lanes : List ℕ) (from : ℕ) → AreLanes lanes → from < 4096 → rest_from lanes from ≢ 0
+    → IsFirstFrom from (words lanes) (from + trailing_zeros w64 (rest_from lanes from))
+first_in_rest lanes from is h some =
+    let positive : 0 < rest_from lanes from = omega arith in
+    let zeros : (trailing_zeros w64 (rest_from lanes from) < 64) × (bit_at (rest_from lanes from) (trailing_zeros w64 (rest_from lanes from)) ≡ 1) × ((j : ℕ) → j < trailing_zeros w64 (rest_from lanes from) → bit_at (rest_from lanes from) j ≡ 0) =
+    bit_at-trailing_zeros w64 (rest_from lanes from) positive (rest_small lanes from is) in
+    let inside : from % 64 + trailing_zeros w64 (rest_from lanes from) < 64 = fits (trailing_zeros w64 (rest_from lanes from)) zeros.1 in
+    record {
+      small = omega arith;
+      reached = omega arith;
+      within = rest_bit lanes from (trailing_zeros w64 (rest_from lanes from)) inside ∙ ap (λ b. b == 1) zeros.1;
+      before = λ v f lt.
+          (let at : from + (v - from) ≡ v = omega arith in
+          ap (λ u. words lanes u) (sym at) ∙ rest_bit lanes from (v - from) (omega arith) ∙ ap (λ b. b == 1) (zeros.2 (v - from) (omega arith)));
+    }
+  where
+    fits : (d : ℕ) → bit_at (rest_from lanes from) d ≡ 1 → from % 64 + d < 64
+    fits d e = elim (cases_lt (from % 64 + d) 64) [
+      | inl l ↦ l
+      | inr g ↦
+          (let one : bit_at (get_or lanes (from / 64) 0) (from % 64 + d) ≡ 1 = sym (bit_div (get_or lanes (from / 64) 0) (from % 64) d) ∙ e in
+          let none : bit_at (get_or lanes (from / 64) 0) (from % 64 + d) ≡ 0 = bit_at_above (get_or lanes (from / 64) 0) 64 (from % 64 + d) (is.fit (from / 64)) g in
+          absurd (omega arith))
+    ]
+
+-- the answer from a later number is the answer, where there is no word between
+pub first_later : (o : Option ℕ) (a : Words) (from later : ℕ) → from ≤ later → ((v : ℕ) → from ≤ v → v < later → a v ≡ false)
+    → MatchOption o (HasNoneFrom later a) (λ w. IsFirstFrom later a w) → MatchOption o (HasNoneFrom from a) (λ w. IsFirstFrom from a w)
+first_later None a from later le between none = λ v f h. elim (cases_lt v later) [ inl l ↦ between v f l | inr g ↦ none v g h ]
+first_later (Some w) a from later le between is = record {
+  small = is.small;
+  reached = omega (arith, is.reached);
+  within = is.within;
+  before = λ v f h. elim (cases_lt v later) [ inl l ↦ between v f l | inr g ↦ is.before v g h ];
+}
+
+-- ---- the least of all
+
+first-some : (n : ℕ) (a : Words) (w : ℕ) → w < n → a w ≡ true → ((v : ℕ) → v < w → a v ≡ false) → first_below n a ≡ Some w
+unfolding first_below
+first-some zero a w h e before = absurd (omega arith)
+first-some (suc n) a w h e before = elim (cases_eq w n) [
+  | inl q ↦
+      (let here : a n ≡ true = ap a (sym q) ∙ e in
+      let none : some_below n a ≡ false = some_none_of n a (λ v l. before v (omega arith)) in
+      rw (none, here) (ap Some (sym q)))
+  | inr m ↦ (let some : some_below n a ≡ true = some_from n a w (omega arith) e in rw some (first-some n a w (omega arith) e before))
+]
+
+first-none : (n : ℕ) (a : Words) → ((v : ℕ) → v < n → a v ≡ false) → first_below n a ≡ None
+unfolding first_below
+first-none zero a none = refl
+first-none (suc n) a none =
+    let here : a n ≡ false = none n (omega arith) in
+    let rest : some_below n a ≡ false = some_none_of n a (λ v l. none v (omega arith)) in
+    rw (rest, here) refl
+
+pub first_is : (o : Option ℕ) (a : Words) → MatchOption o (HasNoneFrom 0 a) (λ w. IsFirstFrom 0 a w) → o ≡ first_below 4096 a
+first_is None a none = sym (first-none 4096 a (λ v h. none v (omega arith) h))
+first_is (Some w) a is = sym (first-some 4096 a w is.small is.within (λ v h. is.before v (omega arith) h))
+
+-- ---- one word and no other
+
+one_of : (n : ℕ) (a : ℕ → Bool) (v : ℕ) → v < n → a v ≡ true → 0 < how_many n a
+unfolding how_many
+one_of zero a v h e = absurd (omega arith)
+one_of (suc n) a v h e = elim (cases_eq v n) [
+  | inl q ↦ (let t : a n ≡ true = ap a (sym q) ∙ e in rw t (omega arith))
+  | inr m ↦ (let ih : 0 < how_many n a = one_of n a v (omega arith) e in omega arith)
+]
+
+two_of : (n : ℕ) (a : ℕ → Bool) (v w : ℕ) → v < w → w < n → a v ≡ true → a w ≡ true → 1 < how_many n a
+unfolding how_many
+two_of zero a v w l h e f = absurd (omega arith)
+two_of (suc n) a v w l h e f = elim (cases_eq w n) [
+  | inl q ↦ (let t : a n ≡ true = ap a (sym q) ∙ f in let one : 0 < how_many n a = one_of n a v (omega arith) e in rw t (omega arith))
+  | inr m ↦ (let ih : 1 < how_many n a = two_of n a v w l (omega arith) e f in omega arith)
+]
+
+absent : (n w : ℕ) → n ≤ w → how_many n (λ v. v == w) ≡ 0
+unfolding how_many
+absent zero w h = refl
+absent (suc n) w h = let t : (n == w) ≡ false = ne_eqb n w (λ e. omega arith) in rw (t, absent n w (omega arith)) refl
+
+alone : (n w : ℕ) → w < n → how_many n (λ v. v == w) ≡ 1
+unfolding how_many
+alone zero w h = absurd (omega arith)
+alone (suc n) w h = elim (cases_eq n w) [
+  | inl q ↦ (let t : (n == w) ≡ true = eq-eqb n w q in rw (t, absent n w (omega arith)) refl)
+  | inr m ↦ (let t : (n == w) ≡ false = ne_eqb n w m in rw (t, alone n w (omega arith)) refl)
+]
+
+none_of : (n : ℕ) (a : ℕ → Bool) → ((v : ℕ) → v < n → a v ≡ false) → how_many n a ≡ 0
+unfolding how_many
+none_of zero a none = refl
+none_of (suc n) a none = let here : a n ≡ false = none n (omega arith) in rw (here, none_of n a (λ v h. none v (omega arith))) refl
+
+-- what a set without w has, and what it has beside w
+left_out : (p q : Bool) → (if q then false else p) ≡ true → (p ≡ true) × (q ≡ false)
+left_out p true e = absurd (true_false (sym e))
+left_out p false e = (e, refl)
+
+-- a set of one word has no word beside it
+none_beside : (a : Words) (w : ℕ) → how_many 4096 a ≡ 1 → w < 4096 → a w ≡ true → some_below 4096 (without w a) ≡ false
+none_beside a w one small here = some_none_of 4096 (without w a) (λ v h. go v h (without w a v) refl)
+  where
+    go : (v : ℕ) → v < 4096 → (p : Bool) → without w a v ≡ p → without w a v ≡ false
+    go v h false e = e
+    go v h true e =
+        let parts : (a v ≡ true) × ((v == w) ≡ false) = left_out (a v) (v == w) e in
+        elim (cases_eq v w) [
+          | inl q ↦ absurd (true_false (sym (eq-eqb v w q) ∙ parts.1))
+          | inr m ↦ elim (cases_lt v w) [
+            | inl l ↦ (let two : 1 < how_many 4096 a = two_of 4096 a v w l small parts.0 here in absurd (omega arith))
+            | inr g ↦ (let two : 1 < how_many 4096 a = two_of 4096 a w v (omega arith) h here parts.0 in absurd (omega arith))
+          ]
+        ]
+
+-- a set that has no word beside one has one word
+one_alone : (a : Words) (w : ℕ) → w < 4096 → a w ≡ true → some_below 4096 (without w a) ≡ false → how_many 4096 a ≡ 1
+one_alone a w small here none = how_many_same 4096 a (λ v. v == w) (λ v h. both_ways (a v) (v == w) (there v h (v == w) refl) (λ e. ap a (eqb-true v w e) ∙ here)) ∙ alone 4096 w small
+  where
+    there : (v : ℕ) → v < 4096 → (q : Bool) → (v == w) ≡ q → a v ≡ true → q ≡ true
+    there v h true e t = refl
+    there v h false e t = absurd (true_false (sym (ap (λ q. if q then false else a v) e ∙ t) ∙ none_of_some 4096 (without w a) none v h))
+
+only_some : (o : Option ℕ) (a : Words) → how_many 4096 a ≡ 1 → MatchOption o (HasNoneFrom 0 a) (λ w. IsFirstFrom 0 a w) → o ≡ only_of a o
+only_some None a one none = refl
+only_some (Some w) a one is = let e : some_below 4096 (without w a) ≡ false = none_beside a w one is.small is.within in rw e refl
+
+only_none : (o : Option ℕ) (a : Words) → how_many 4096 a ≢ 1 → MatchOption o (HasNoneFrom 0 a) (λ w. IsFirstFrom 0 a w) → only_of a o ≡ None
+only_none None a many none = refl
+only_none (Some w) a many is = go (some_below 4096 (without w a)) refl
+  where
+    go : (p : Bool) → some_below 4096 (without w a) ≡ p → (if some_below 4096 (without w a) then (let n : Option ℕ = None in n) else Some w) ≡ None
+    go true e = rw e refl
+    go false e = absurd (many (one_alone a w is.small is.within e))
+
+-- the least of all is some number or none
+least_of : (n : ℕ) (a : Words) → n ≤ 4096 → MatchOption (first_below n a) ((v : ℕ) → v < n → a v ≡ false) (λ w. IsFirstFrom 0 a w)
+unfolding first_below
+least_of zero a le = λ v h. absurd (omega arith)
+least_of (suc n) a le = go (some_below n a) (a n) refl refl (least_of n a (omega arith))
+  where
+    go : (p q : Bool) → some_below n a ≡ p → a n ≡ q → MatchOption (first_below n a) ((v : ℕ) → v < n → a v ≡ false) (λ w. IsFirstFrom 0 a w)
+        → MatchOption (if p then first_below n a else (if q then Some n else None)) ((v : ℕ) → v < suc n → a v ≡ false) (λ w. IsFirstFrom 0 a w)
+    go true q some here rest = later (first_below n a) rest
+      where
+        later : (o : Option ℕ) → MatchOption o ((v : ℕ) → v < n → a v ≡ false) (λ w. IsFirstFrom 0 a w) → MatchOption o ((v : ℕ) → v < suc n → a v ≡ false) (λ w. IsFirstFrom 0 a w)
+        later None none = absurd (true_false (sym some ∙ some_none_of n a none))
+        later (Some w) is = is
+    go false true none here rest = record { small = omega arith; reached = omega arith; within = here; before = λ v f h. none_of_some n a none v h }
+    go false false none here rest = λ v h. elim (cases_eq v n) [ inl q ↦ ap a q ∙ here | inr m ↦ none_of_some n a none v (omega arith) ]
+
+from_zero : (o : Option ℕ) (a : Words) → MatchOption o ((v : ℕ) → v < 4096 → a v ≡ false) (λ w. IsFirstFrom 0 a w) → MatchOption o (HasNoneFrom 0 a) (λ w. IsFirstFrom 0 a w)
+from_zero None a none = λ v f h. none v h
+from_zero (Some w) a is = is
+
+pub only-one : (a : Words) → how_many 4096 a ≡ 1 → first_below 4096 a ≡ only a
+unfolding only
+only-one a one = only_some (first_below 4096 a) a one (from_zero (first_below 4096 a) a (least_of 4096 a (omega arith)))
+
+pub only-other : (a : Words) → how_many 4096 a ≢ 1 → None ≡ only a
+unfolding only
+only-other a many = sym (only_none (first_below 4096 a) a many (from_zero (first_below 4096 a) a (least_of 4096 a (omega arith))))

@@ -1,0 +1,11 @@
+pub mod Tests
+pub mod LaneBits
+pub mod Counts
+pub mod Shifts
+pub mod Ranges
+pub mod Firsts
+pub mod CarryLemmas
+pub mod Parts
+pub mod Ors
+pub mod Complements
+pub mod SumLemmas

@@ -1,0 +1,33 @@
+-- Sums of two sets: either may be gone through, and all words plus a word are all words.
+use Rattle.std.proofs.Common.{◌≡◌, ◌≢◌, ℕ, zero, suc, ◌+◌, ◌-◌, ◌%◌, ◌<◌, ◌≤◌, Bool, true, false, ◌&&◌, refl, sym, ◌∙◌, ap, arith, not}
+use Rattle.wordset.specs.Words.{Words, SameWords, some_below, sums, minus, everything, has_some}
+use Rattle.wordset.proofs.Tests.{both_ways, some_from, some_to, IsSome, and_both, and_first, and_second}
+
+half : (a b : Words) (v : ℕ) → v < 4096 → sums a b v ≡ true → sums b a v ≡ true
+half a b v h t =
+    let s : IsSome 4096 (λ x. a x && b (minus v x)) = some_to 4096 (λ x. a x && b (minus v x)) t in
+    let y : ℕ = minus v s.at in
+    let small : minus v s.at < 4096 = omega arith in
+    let back : minus v (minus v s.at) ≡ s.at = minus_twice v s.at h s.small in
+    some_from 4096 (λ x. b x && a (minus v x)) y small (and_both (b y) (a (minus v y)) (and_second (a s.at) (b y) s.holds) (ap a back ∙ and_first (a s.at) (b y) s.holds))
+  where
+    minus_twice : (v x : ℕ) → v < 4096 → x < 4096 → minus v (minus v x) ≡ x
+    minus_twice v x h g = omega arith
+
+-- the order of the two sets is the same to their sums
+pub sums_swap : (a b : Words) → SameWords (sums a b) (sums b a)
+sums_swap a b v h = both_ways (sums a b v) (sums b a v) (half a b v h) (half b a v h)
+
+pub sums_all : (a b : Words) → SameWords b everything → has_some a ≡ true → SameWords everything (sums a b)
+sums_all a b every some v h =
+    let s : IsSome 4096 a = some_to 4096 a some in
+    let small : minus v s.at < 4096 = omega arith in
+    sym (some_from 4096 (λ x. a x && b (minus v x)) s.at s.small (and_both (a s.at) (b (minus v s.at)) s.holds (every (minus v s.at) small)))
+
+-- from the answer that a set isn't empty
+pub has_some_from : (a : Words) (p : Bool) → p ≡ not (has_some a) → p ≡ false → has_some a ≡ true
+has_some_from a p is e = go (has_some a) (sym is ∙ e)
+  where
+    go : (q : Bool) → not q ≡ false → q ≡ true
+    go true e = refl
+    go false e = cc

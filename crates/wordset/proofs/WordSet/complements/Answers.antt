@@ -1,0 +1,21 @@
+use Rattle.std.proofs.Common.{◌≡◌, ◌<◌, ◌≢◌, ◌-◌, ℕ, length, arith, lit<, get_or-set_other, get_or-set_same, below_more}
+use Rattle.wordset.proofs.WordSet.complements.Goals as goal
+use Rattle.wordset.proofs.LaneBits.{filled, AreLanes-set}
+use Rattle.wordset.proofs.Complements.{words-mirrored}
+
+pub loop-i-init : goal.loop-i-init
+loop-i-init c = record { are = filled 0 (lit< tt); done = λ k h. absurd (omega arith) }
+
+pub loop-i-preserved : goal.loop-i-preserved
+loop-i-preserved c = record {
+  are = AreLanes-set c.loop-i.lanes c.loop-i.i c.reverse_bits.result c.loop-i-test.true c.reverse_bits.type_inv c.loop-i.invariant.are;
+  done = below_more _ _
+      (λ k h. let ne : k ≢ c.loop-i.i = omega arith in rw get_or-set_other (c.loop-i.invariant.done k h))
+      (let lt : c.loop-i.i < length c.loop-i.lanes = omega (arith, c.loop-i.invariant.are.long) in rw get_or-set_same c.reverse_bits.ensures);
+}
+
+pub invariant_of-result : goal.invariant_of-result
+invariant_of-result c = c.loop-i.invariant.are
+
+pub returns : goal.returns
+returns c = λ v h. rw (← c.self.view_is) (words-mirrored c.self.inside.lanes c.loop-i.lanes (λ i g. c.loop-i.invariant.done i (omega arith)) v h)

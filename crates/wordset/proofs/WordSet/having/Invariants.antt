@@ -1,0 +1,11 @@
+use Rattle.std.proofs.Common.{◌≡◌, ◌<◌, ◌+◌, ◌*◌, ◌==◌, ℕ, length, get_or}
+use Rattle.std.specs.Int.{bit_at}
+use Rattle.wordset.specs.Bits.{has_bit}
+use Rattle.wordset.specs.Lanes.{AreLanes}
+use Rattle.wordset.proofs.WordSet.having.Given as goal
+
+abbrev pub invariant-loop-i : goal.invariant-loop-i
+invariant-loop-i l = record {
+  are : AreLanes l.lanes;
+  done : (k : ℕ) → k < l.i → (j : ℕ) → j < 64 → (bit_at (get_or l.lanes k 0) j == 1) ≡ has_bit l.at (64 * k + j);
+}

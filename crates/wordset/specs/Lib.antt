@@ -1,0 +1,4 @@
+pub mod Words
+pub mod Lanes
+pub mod Links
+pub mod Bits

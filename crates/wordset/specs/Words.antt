@@ -1,0 +1,152 @@
+-- Sets of words as tests on the numbers below 4096, and the mathematical image of each call. What a test says of larger
+-- numbers has no meaning; two sets are the same where they agree below 4096.
+use Rattle.std.specs.Prelude.{◌≡◌, ℕ, ◌+◌, ◌-◌, ◌/◌, ◌%◌, ◌<◌, ◌≤◌, ◌==◌, nat_le, Bool, true, false, not, ◌&&◌, ◌||◌, if◌then◌else◌, Option, Some, None, bit_and, bit_or}
+use Rattle.std.proofs.Common.{zero, suc}
+
+-- Sums and differences of words are modulo 4096.
+abbrev pub plus : ℕ → ℕ → ℕ
+plus a b = (a + b) % 4096
+
+abbrev pub minus : ℕ → ℕ → ℕ
+minus a b = (a + (4096 - b % 4096)) % 4096
+
+-- A set of words, or of links or offsets, is a test.
+abbrev pub Words : Type 0
+Words = ℕ → Bool
+
+-- The two sets have the same words.
+abbrev pub SameWords : Words → Words → Type 0
+SameWords a b = (v : ℕ) → v < 4096 → a v ≡ b v
+
+-- Each word of the one set is in the other.
+abbrev pub IsWithin : Words → Words → Type 0
+IsWithin a b = (v : ℕ) → v < 4096 → a v ≡ true → b v ≡ true
+
+-- The two sets have the same links, and each link of the one set is in the other.
+abbrev pub SameLinks : Words → Words → Type 0
+SameLinks a b = (k : ℕ) → k < 2 → a k ≡ b k
+
+abbrev pub IsLinkWithin : Words → Words → Type 0
+IsLinkWithin a b = (k : ℕ) → k < 2 → a k ≡ true → b k ≡ true
+
+-- Is there a number below n that passes the test?
+unfoldable pub some_below : ℕ → (ℕ → Bool) → Bool
+some_below zero test = false
+some_below (suc n) test = test n || some_below n test
+
+-- How many numbers below n pass the test?
+unfoldable pub how_many : ℕ → (ℕ → Bool) → ℕ
+how_many zero test = 0
+how_many (suc n) test = (if test n then 1 else 0) + how_many n test
+
+-- The least number below n that passes the test.
+unfoldable pub first_below : ℕ → (ℕ → Bool) → Option ℕ
+first_below zero test = None
+first_below (suc n) test =
+    if some_below n test then first_below n test else (if test n then Some n else None)
+
+-- The set has a word.
+abbrev pub has_some : Words → Bool
+has_some set = some_below 4096 set
+
+-- The set has a link.
+abbrev pub has_link : Words → Bool
+has_link set = some_below 2 set
+
+-- No word, and every word.
+abbrev pub nothing : Words
+nothing v = false
+
+abbrev pub everything : Words
+everything v = true
+
+-- One word alone.
+abbrev pub one : ℕ → Words
+one a v = v == a
+
+-- The words from one to another, both of them in it.
+abbrev pub between : ℕ → ℕ → Words
+between low high v = nat_le low v && nat_le v high
+
+-- The set with a word more.
+abbrev pub with_word : ℕ → Words → Words
+with_word w a v = a v || v == w
+
+-- The set with a word left out.
+abbrev pub without : ℕ → Words → Words
+without w a v = if v == w then false else a v
+
+-- The words of either set, of both, and of the one alone.
+abbrev pub union : Words → Words → Words
+union a b v = a v || b v
+
+abbrev pub meet : Words → Words → Words
+meet a b v = a v && b v
+
+abbrev pub difference : Words → Words → Words
+difference a b v = a v && not (b v)
+
+-- The one word of a set, where it has one and no other.
+abbrev pub only_of : Words → Option ℕ → Option ℕ
+only_of set None = None
+only_of set (Some k) = if some_below 4096 (without k set) then None else Some k
+
+unfoldable pub only : Words → Option ℕ
+only set = only_of set (first_below 4096 set)
+
+-- All a + k for a in the set.
+abbrev pub shifted : Words → ℕ → Words
+shifted set k v = set (minus v k)
+
+-- The complements 4095 - a of the words of the set.
+abbrev pub mirrored : Words → Words
+mirrored set v = set (4095 - v)
+
+-- All a + b.
+abbrev pub sums : Words → Words → Words
+sums a b v = some_below 4096 (λ x. a x && b (minus v x))
+
+-- The carries of all a + b: 1 where one of these sums is 4096 or more, 0 where one is less.
+abbrev pub carries : Words → Words → Words
+carries a b k = some_below 4096 (λ x. a x && some_below 4096 (λ y. b y && ((x + y) / 4096 == k)))
+
+-- The links after such a sum: without a carry the link stays, and a carry complements it.
+abbrev pub toggled : Words → Words → Words
+toggled links carried k = (carried 0 && links k) || (carried 1 && links (1 - k))
+
+-- All a and b, bit by bit.
+abbrev pub ands : Words → Words → Words
+ands a b v = some_below 4096 (λ x. a x && some_below 4096 (λ y. b y && (bit_and x y == v)))
+
+-- All a or b, bit by bit.
+abbrev pub ors : Words → Words → Words
+ors a b v = some_below 4096 (λ x. a x && some_below 4096 (λ y. b y && (bit_or x y == v)))
+
+-- All a or m for the parts m of the mask, the words that have bits of the mask alone.
+abbrev pub or_any : ℕ → Words → Words
+or_any mask a v = some_below 4096 (λ x. a x && some_below 4096 (λ m. (bit_and m mask == m) && (bit_or x m == v)))
+
+-- All f x for a word x of the set.
+abbrev pub images_at : (ℕ → ℕ) → Words → Words
+images_at f a v = some_below 4096 (λ x. a x && (v == f x))
+
+-- All f x l for a word x and a link l of the sets.
+abbrev pub images : (ℕ → ℕ → ℕ) → Words → Words → Words
+images f a links v = some_below 2 (λ l. links l && images_at (λ x. f x l) a v)
+
+-- The word is in the set and is the least of those from a number on.
+pub record IsFirstFrom (from : ℕ) (set : Words) (w : ℕ) : Type 0 where
+  pub small : w < 4096
+  pub reached : from ≤ w
+  pub within : set w ≡ true
+  pub before : (v : ℕ) → from ≤ v → v < w → set v ≡ false
+
+-- The set has no word from a number on.
+abbrev pub HasNoneFrom : ℕ → Words → Type 0
+HasNoneFrom from set = (v : ℕ) → from ≤ v → v < 4096 → set v ≡ false
+
+-- The word is in the set and is the greatest.
+pub record IsGreatest (set : Words) (w : ℕ) : Type 0 where
+  pub small : w < 4096
+  pub within : set w ≡ true
+  pub after : (v : ℕ) → w < v → v < 4096 → set v ≡ false

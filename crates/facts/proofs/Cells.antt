@@ -2,9 +2,12 @@ use Rattle.std.proofs.Common.{◌≡◌, ℕ, ◌+◌, ◌-◌, ◌<◌, ◌≤�
 use Rattle.std.specs.Prelude.{if◌then◌else◌}
 use Rattle.std.proofs.lemmas.Bool.{and_from, eqb-true, eqb-false, eq-eqb, ne_eqb, true≢false, false≢true, cases_eq}
 use Rattle.wordset.specs.Words.{plus, minus, Words, everything}
-use Rattle.full.specs.Machine.{State, Cells, put}
-use Rattle.full.specs.Policy.{Declaration, IsDeclared, Call, Calls}
-use Rattle.full.specs.Facts.{Name, Ac, Cell, same, Equation, Fact, Values, AllTrue, Holds, narrowed, values, KeepsRest, Place, OwnWord, StandsIn, Means, own_words, is_routine, tape_word, words_in, possible}
+use Rattle.processor.specs.Cells.{Cells, updated}
+use Rattle.processor.specs.Machine.{State}
+use Rattle.policy.specs.Declaration.{Declaration, IsDeclared}
+use Rattle.policy.specs.Calls.{Call, Calls}
+use Rattle.facts.specs.Facts.{Name, Ac, Cell, same, Equation, Fact, Values, AllTrue, Holds, narrowed, values, KeepsRest, Place, OwnWord, StandsIn, Means, own_words, is_routine, tape_word, words_in, possible}
+use Rattle.facts.specs.Law.{IsState, TopIsEntry}
 use Rattle.facts.proofs.Numbers.{some_from}
 use Rattle.facts.proofs.Laws.{WordsAre, OnlyAt, narrowed_at}
 
@@ -14,23 +17,18 @@ if_true x y e = rw e
 pub if_false : {A : Type 0} {b : Bool} (x y : A) → b ≡ false → (if b then x else y) ≡ y
 if_false x y e = rw e
 
-pub put_same : (m : Cells) (a v : ℕ) → put m a v a ≡ v
-put_same m a v = rw (eq-eqb a a refl)
+pub updated_same : (m : Cells) (a v : ℕ) → updated m a v a ≡ v
+unfolding updated
+updated_same m a v = rw (eq-eqb a a refl)
 
-pub put_other : (m : Cells) (a v b : ℕ) → (b ≡ a → ⊥) → put m a v b ≡ m b
-put_other m a v b h = rw (ne_eqb b a h)
+pub updated_other : (m : Cells) (a v b : ℕ) → (b ≡ a → ⊥) → updated m a v b ≡ m b
+unfolding updated
+updated_other m a v b h = rw (ne_eqb b a h)
 
--- each part of the state is a word
-pub record IsState (s : State) : Type 0 where
-  pub ac : s.ac < 4096
-  pub link : s.link < 2
-  pub pc : s.pc < 4096
-  pub words : (a : ℕ) → s.memory a < 4096
-
-pub words_put : (m : Cells) (a v : ℕ) → v < 4096 → ((b : ℕ) → m b < 4096) → (b : ℕ) → put m a v b < 4096
-words_put m a v h ws b = elim (cases_eq b a) [
-  | inl e ↦ (rw (e, put_same m a v) h)
-  | inr n ↦ rw (put_other m a v b n) (ws b)
+pub words_updated : (m : Cells) (a v : ℕ) → v < 4096 → ((b : ℕ) → m b < 4096) → (b : ℕ) → updated m a v b < 4096
+words_updated m a v h ws b = elim (cases_eq b a) [
+  | inl e ↦ (rw (e, updated_same m a v) h)
+  | inr n ↦ rw (updated_other m a v b n) (ws b)
 ]
 
 pub values_words : (d : Declaration) (start : Cells) (ac : ℕ) (m : Cells) → ac < 4096 → ((a : ℕ) → start a < 4096) → ((a : ℕ) → m a < 4096) → WordsAre (values d start ac m)
@@ -48,12 +46,12 @@ values_words d start ac m h sw ws = record { each = each }
 pub value_of : (d : Declaration) (start : Cells) (ac : ℕ) (m : Cells) (a : ℕ) → d.variable a ≡ true → values d start ac m (Cell a) ≡ m a
 value_of d start ac m a e = rw e
 
-pub put_values : (d : Declaration) (start : Cells) (ac : ℕ) (m : Cells) (y v : ℕ) → OnlyAt (Cell y) (values d start ac m) (values d start ac (put m y v))
-put_values d start ac m y v = record { others = others }
+pub updated_values : (d : Declaration) (start : Cells) (ac : ℕ) (m : Cells) (y v : ℕ) → OnlyAt (Cell y) (values d start ac m) (values d start ac (updated m y v))
+updated_values d start ac m y v = record { others = others }
   where
-    others : (n : Name) → same n (Cell y) ≡ false → values d start ac (put m y v) n ≡ values d start ac m n
+    others : (n : Name) → same n (Cell y) ≡ false → values d start ac (updated m y v) n ≡ values d start ac m n
     others Ac q = refl
-    others (Cell a) q = let e : put m y v a ≡ m a = put_other m y v a (eqb-false a y q) in rw e
+    others (Cell a) q = let e : updated m y v a ≡ m a = updated_other m y v a (eqb-false a y q) in rw e
 
 pub ac_values : (d : Declaration) (start : Cells) (ac ac' : ℕ) (m : Cells) → OnlyAt Ac (values d start ac m) (values d start ac' m)
 ac_values d start ac ac' m = record { others = others }
@@ -63,11 +61,11 @@ ac_values d start ac ac' m = record { others = others }
     others (Cell a) q = refl
 
 -- what isn't a variable may be written unseen
-pub hidden_values : (d : Declaration) (start : Cells) (ac : ℕ) (m : Cells) (y v : ℕ) → d.variable y ≡ false → (n : Name) → values d start ac (put m y v) n ≡ values d start ac m n
+pub hidden_values : (d : Declaration) (start : Cells) (ac : ℕ) (m : Cells) (y v : ℕ) → d.variable y ≡ false → (n : Name) → values d start ac (updated m y v) n ≡ values d start ac m n
 hidden_values d start ac m y v e Ac = refl
 hidden_values d start ac m y v e (Cell a) = elim (cases_eq a y) [
   | inl q ↦ (let f : d.variable a ≡ false = rw q e in rw f)
-  | inr n ↦ (let p : put m y v a ≡ m a = put_other m y v a n in rw p)
+  | inr n ↦ (let p : updated m y v a ≡ m a = updated_other m y v a n in rw p)
 ]
 
 pub holds_at : {f : Fact} {v w : Values} → ((n : Name) → w n ≡ v n) → Holds f v → Holds f w
@@ -77,20 +75,15 @@ holds_at {f} {v} {w} e h = record { sets = λ n. rw (e n) (h.sets n); equations 
     go [] t = tt
     go (g ∷ gs) t = (e g.left ∙ (t.0 ∙ ap (λ x. plus x g.more) (sym (e g.right))), go gs t.1)
 
-pub rest_put : (d : Declaration) (start m : Cells) (y v : ℕ) → (d.variable y ≡ true) ⊎ (d.entry y ≡ true) → KeepsRest d start m → KeepsRest d start (put m y v)
-rest_put d start m y v w k a p q = elim (cases_eq a y) [
+pub rest_updated : (d : Declaration) (start m : Cells) (y v : ℕ) → (d.variable y ≡ true) ⊎ (d.entry y ≡ true) → KeepsRest d start m → KeepsRest d start (updated m y v)
+rest_updated d start m y v w k a p q = elim (cases_eq a y) [
   | inl e ↦ absurd (elim w [ inl t ↦ true≢false (sym (rw e t) ∙ p) | inr t ↦ true≢false (sym (rw e t) ∙ q) ])
-  | inr n ↦ put_other m y v a n ∙ k a p q
+  | inr n ↦ updated_other m y v a n ∙ k a p q
 ]
 
--- the running routine is an entry
-abbrev pub TopIsEntry : Declaration → Calls → Type 0
-TopIsEntry d [] = Unit {0}
-TopIsEntry d (k ∷ ks) = d.entry k.entry ≡ true
-
-pub own_put : (f : Fact) (m : Cells) (y v : ℕ) (ks : Calls) → ((k : Call) (rest : Calls) → ks ≡ k ∷ rest → k.entry ≡ y → ⊥) → OwnWord f m ks → OwnWord f (put m y v) ks
-own_put f m y v [] h o = tt
-own_put f m y v (k ∷ ks) h o = (o.0, o.1, o.2, put_other m y v k.entry (h k ks refl) ∙ o.3)
+pub own_updated : (f : Fact) (m : Cells) (y v : ℕ) (ks : Calls) → ((k : Call) (rest : Calls) → ks ≡ k ∷ rest → k.entry ≡ y → ⊥) → OwnWord f m ks → OwnWord f (updated m y v) ks
+own_updated f m y v [] h o = tt
+own_updated f m y v (k ∷ ks) h o = (o.0, o.1, o.2, updated_other m y v k.entry (h k ks refl) ∙ o.3)
 
 pub own_like : (f g : Fact) (m : Cells) (ks : Calls) → ((o : ℕ) → o < 8 → f.offsets o ≡ true → g.offsets o ≡ true) → OwnWord f m ks → OwnWord g m ks
 own_like f g m [] h o = tt

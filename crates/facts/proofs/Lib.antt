@@ -1,0 +1,6 @@
+pub mod Numbers
+pub mod Operates
+pub mod Laws
+pub mod Cells
+pub mod Steps
+pub mod Covers

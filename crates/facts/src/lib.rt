@@ -1,6 +1,8 @@
 //! Facts about a running program, and what each instruction makes of them.
 #![tactic(auto)]
 
+ghost use Rattle.facts.specs.Law.{StepLaw};
+
 /// The conditions that a certificate must meet.
 #[derive(Clone, Copy, PartialEq, Eq, Debug)]
 pub enum Condition {
@@ -36,4 +38,12 @@ pub enum Condition {
     /// Each cell that may be read is on the list of reads, where there is one, or the routine's own
     /// entry.
     V15,
+}
+
+/// The step law: from a state of a fact, a step by the word at the program counter lands in one of
+/// the word's outcomes, of the same call list. It is asked of words whose writes are declared and
+/// keep the entries; a JMS, a return and a HLT at a stop are apart.
+pub fn step_law()
+    ensures { StepLaw }
+{
 }

@@ -4,3 +4,4 @@ pub mod Laws
 pub mod Cells
 pub mod Steps
 pub mod Covers
+pub mod Starting

@@ -2,6 +2,7 @@
 #![tactic(auto)]
 
 ghost use Rattle.facts.specs.Law.{StepLaw};
+ghost use Rattle.facts.specs.Starts.{StartLaw};
 
 /// The conditions that a certificate must meet.
 #[derive(Clone, Copy, PartialEq, Eq, Debug)]
@@ -45,5 +46,12 @@ pub enum Condition {
 /// keep the entries; a JMS, a return and a HLT at a stop are apart.
 pub fn step_law()
     ensures { StepLaw }
+{
+}
+
+/// The test `holds_before` is true exactly where a fact holds of every start: whatever the
+/// accumulator, the link, MQ and the cells that aren't on the tape hold.
+pub fn start_law()
+    ensures { StartLaw }
 {
 }

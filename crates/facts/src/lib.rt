@@ -46,12 +46,10 @@ pub enum Condition {
 /// keep the entries; a JMS, a return and a HLT at a stop are apart.
 pub fn step_law()
     ensures { StepLaw }
-{
-}
+{}
 
 /// The test `holds_before` is true exactly where a fact holds of every start: whatever the
 /// accumulator, the link, MQ and the cells that aren't on the tape hold.
 pub fn start_law()
     ensures { StartLaw }
-{
-}
+{}

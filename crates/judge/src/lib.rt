@@ -22,5 +22,4 @@ pub fn headline()
     ensures events { EventsAreSafe }
     // Without a list of reads, the rule on reads and its condition ask nothing.
     ensures reads { UnlistedReadsAreFree }
-{
-}
+{}

@@ -1,0 +1,3 @@
+pub mod LoadLemmas
+pub mod RunLemmas
+pub mod StepLemmas

@@ -4,7 +4,7 @@ use Rattle.instruct.specs.declared.Profile.{Profile}
 use Rattle.processor.specs.Runs.{Image, IsStart}
 use Rattle.peripherals.specs.declared.Event.{Event}
 use Rattle.peripherals.specs.declared.Event.TheVariants.{Step, Key, PrinterDone, ReaderDone, PunchDone, Switches, Continue}
-use Rattle.peripherals.specs.Devices.{Keyboard, Reader, Writer, Devices, idle, WorldState, Instructs}
+use Rattle.peripherals.specs.Devices.{Reader, Writer, Devices, idle, WorldState, Instructs}
 
 -- A key is struck.
 abbrev pub struck : ℕ → Devices → Devices

@@ -1,2 +1,6 @@
 pub mod Devices
 pub mod Events
+pub mod Loading
+pub mod Runs
+pub mod Seen
+pub mod World

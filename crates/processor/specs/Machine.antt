@@ -1,6 +1,6 @@
 -- The machine: one instruction is one step from a state to a state, by an answer of the devices or the switches. The
 -- relation is the handbook's instruction table, a clause for each instruction.
-use Rattle.std.specs.Prelude.{ℕ, ◌≡◌, ◌+◌, ◌/◌, ◌%◌, ◌<◌, ◌==◌, Bool, true, false, ◌&&◌, if◌then◌else◌, nat_le, bit_and, bit_or}
+use Rattle.std.specs.Prelude.{ℕ, ◌≡◌, ◌+◌, ◌/◌, ◌%◌, ◌<◌, ◌==◌, Bool, false, ◌&&◌, if◌then◌else◌, nat_le, bit_and, bit_or}
 use Rattle.instruct.specs.declared.Profile.{Profile}
 use Rattle.instruct.specs.Operates.{operate1_of, operate2_of, skips_of, mq_operate, reads_switches_of}
 use Rattle.instruct.specs.Instructions.{Meaning, And, Tad, Isz, Dca, Jms, Jmp, Group1, Group2, Group3, Device, Undefined, DeviceAction, Skips, Ors, Clears, Takes, Leaves, meaning_of}

@@ -1,7 +1,7 @@
 -- Runs of the instruction table: any number of steps, each by some answer. A run goes on after a HLT.
 use Rattle.std.specs.Prelude.{ℕ, ◌≡◌, ◌<◌, Option, Some, List, [], ◌∷◌}
 use Rattle.instruct.specs.declared.Profile.{Profile}
-use Rattle.processor.specs.Cells.{Cells, AreWords}
+use Rattle.processor.specs.Cells.{AreWords}
 use Rattle.processor.specs.Machine.{State, Answer, Step}
 
 -- For each address the word that a tape puts there, or none.

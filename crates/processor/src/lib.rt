@@ -6,16 +6,20 @@
 
 mod memory;
 
-ghost use Rattle.std.specs.Prelude.{ℕ, ◌≡◌};
-ghost use Rattle.instruct.specs.declared.Instruction.TheVariants.{Iot, Operate1, Operate2, Operate3, Memory as IsMemory};
+ghost use Rattle.std.specs.Prelude.{ℕ, ◌≡◌, ◌+◌, ◌/◌, ◌%◌, if◌then◌else◌, IsSome};
+ghost use Rattle.instruct.specs.declared.Instruction.TheVariants.{Operate1, Operate2, Operate3, Memory as IsMemory};
 ghost use Rattle.instruct.specs.declared.Profile.TheVariants.{Pdp8E};
 ghost use Rattle.instruct.specs.Bits.{is_indirect, named_cell};
-ghost use Rattle.instruct.specs.Instructions.{instruction_of, meaning_of, device_action, And, Tad, Isz, Dca, Jms, Jmp, Group1, Group2};
+ghost use Rattle.instruct.specs.Instructions.{meaning_of, kind_of, device_action, And, Tad, Isz, Dca, Jms, Jmp};
+ghost use Rattle.instruct.specs.Operates.{reads_switches_of};
 ghost use Rattle.processor.specs.Cells.{cell_of};
-ghost use Rattle.processor.specs.Machine.{Answer, Silent, next_pc, seen, place, is_auto_index, instruction, Does};
+ghost use Rattle.processor.specs.Machine.{Answer, Silent, Switches, next_pc, seen, place, is_auto_index, instruction, Does};
 ghost use Rattle.processor.specs.Steps.{state_of, answer_taken, Happened, BusAfter, DeviceAnswers};
 
-use instruct::{Instruction, Profile, decode, halts, operate1, operate2, operate3, refers_indirectly, skips, target};
+use instruct::{
+    Instruction, Profile, decode, halts, operate1, operate2, operate3, refers_indirectly, skips,
+    target,
+};
 pub use memory::Memory;
 use word12::{Link, Word};
 
@@ -70,7 +74,7 @@ pub trait Bus {
     /// Carries out a device word. The answer is one that the instruction table allows for the word
     /// and some flag or byte.
     fn iot(&mut self, word: Word, ac: Word) -> IotAnswer
-        requires { instruction_of Pdp8E word ≡ Iot }
+        requires { IsSome (device_action Pdp8E word) }
         ensures table { DeviceAnswers (device_action Pdp8E word) ac (answer_to self.old word) result.ac result.skip }
         ensures device { goes_on self.old word ac self.new };
 
@@ -104,6 +108,17 @@ fn resolve(memory: &mut Memory, word: Word, at: Word) -> Word
     stepped
 }
 
+/// The link after a sum, whose carry complements it.
+fn carried(link: Link, left: Word, right: Word) -> Link
+    ensures { result ≡ (link + (left + right) / 4096) % 2 }
+{
+    if left.carries(right) {
+        link.complement()
+    } else {
+        link
+    }
+}
+
 /// The address of the next instruction, or where one skips, of the one after it.
 fn next_address(pc: Word, skip: bool) -> Word
     ensures { result ≡ next_pc pc skip }
@@ -130,9 +145,7 @@ impl Cpu {
     {
         let address = resolve(&mut self.memory, word, self.pc);
         let operand = self.memory.get(address);
-        if self.ac.carries(operand) {
-            self.link = self.link.complement();
-        }
+        self.link = carried(self.link, self.ac, operand);
         self.ac = self.ac.add(operand);
         self.pc = self.pc.increment();
     }
@@ -178,9 +191,8 @@ impl Cpu {
     }
 
     /// A memory reference.
-    #[tactic(auto, using(crate::proofs::Meanings::memory_meanings))]
     fn refer(&mut self, word: Word)
-        requires { instruction_of self.old.profile word ≡ IsMemory }
+        requires { kind_of (meaning_of self.old.profile self.old.pc word) ≡ IsMemory }
         ensures does { Does (meaning_of self.old.profile self.old.pc word) (state_of self.old) Silent (state_of self.new) }
         ensures profile { self.new.profile ≡ self.old.profile }
     {
@@ -196,8 +208,8 @@ impl Cpu {
 
     /// A word of group 1.
     fn operate_first(&mut self, word: Word)
-        requires { instruction_of self.old.profile word ≡ Operate1 }
-        ensures does { Does (Group1 word) (state_of self.old) Silent (state_of self.new) }
+        requires { kind_of (meaning_of self.old.profile self.old.pc word) ≡ Operate1 }
+        ensures does { Does (meaning_of self.old.profile self.old.pc word) (state_of self.old) Silent (state_of self.new) }
         ensures profile { self.new.profile ≡ self.old.profile }
     {
         let (ac, link) = operate1(word, self.ac, self.link);
@@ -208,8 +220,8 @@ impl Cpu {
 
     /// A word of group 2.
     fn operate_second(&mut self, word: Word, switches: Word)
-        requires { instruction_of self.old.profile word ≡ Operate2 }
-        ensures does { Does (Group2 word) (state_of self.old) (answer_taken (Group2 word) Silent switches) (state_of self.new) }
+        requires { kind_of (meaning_of self.old.profile self.old.pc word) ≡ Operate2 }
+        ensures does { Does (meaning_of self.old.profile self.old.pc word) (state_of self.old) (if reads_switches_of word then Switches switches else Silent) (state_of self.new) }
         ensures profile { self.new.profile ≡ self.old.profile }
     {
         self.pc = next_address(self.pc, skips(word, self.ac, self.link));
@@ -218,7 +230,7 @@ impl Cpu {
 
     /// A word of group 3.
     fn operate_third(&mut self, word: Word)
-        requires { instruction_of self.old.profile word ≡ Operate3 }
+        requires { kind_of (meaning_of self.old.profile self.old.pc word) ≡ Operate3 }
         ensures does { Does (meaning_of self.old.profile self.old.pc word) (state_of self.old) Silent (state_of self.new) }
         ensures profile { self.new.profile ≡ self.old.profile }
     {

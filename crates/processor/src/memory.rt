@@ -35,6 +35,13 @@ impl Memory {
         }
     }
 
+    /// A memory with the same words.
+    pub fn duplicate(&self) -> Memory
+        ensures { result ≡ self.now }
+    {
+        Memory { cells: self.cells }
+    }
+
     /// The word in a cell.
     pub fn get(&self, address: Word) -> Word
         ensures { result ≡ cell_of self.now address }

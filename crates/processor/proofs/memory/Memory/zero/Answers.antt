@@ -1,4 +1,3 @@
-use Rattle.std.proofs.Common.{arith}
 use Rattle.processor.proofs.CellLemmas.{cell_of-zeros, zeros_are_words}
 use Rattle.processor.proofs.memory.Memory.zero.Goals as goal
 

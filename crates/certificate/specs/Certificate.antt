@@ -1,5 +1,5 @@
 -- Certificates: what a guesser claims of a program, and a checker tests.
-use Rattle.std.specs.Prelude.{◌≡◌, ℕ, ◌<◌, true, Some, None}
+use Rattle.std.specs.Prelude.{◌≡◌, ℕ, true, Some, None}
 use Rattle.wordset.specs.Words.{Words, SameWords, nothing, everything}
 use Rattle.processor.specs.Runs.{Image}
 use Rattle.policy.specs.Declaration.{Routine, Declaration}

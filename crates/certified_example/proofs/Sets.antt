@@ -1,8 +1,8 @@
 -- Sets with one word.
-use Rattle.std.proofs.Common.{◌≡◌, ℕ, zero, suc, ◌<◌, ◌≤◌, ◌==◌, Bool, true, false, ◌&&◌, Some, refl, sym, ◌∙◌, inl, inr, arith}
+use Rattle.std.proofs.Common.{◌≡◌, ℕ, zero, suc, ◌<◌, ◌≤◌, ◌==◌, Bool, true, false, ◌&&◌, Some, refl, sym, inl, inr, arith}
 use Rattle.std.specs.Prelude.{if◌then◌else◌}
-use Rattle.std.proofs.lemmas.Bool.{cases_Bool, eqb-true, eq-eqb, ne_eqb, true≢false, false≢true, cases_eq}
-use Rattle.wordset.specs.Words.{Words, one, some_below, how_many, first_below, without, only_of, only}
+use Rattle.std.proofs.lemmas.Bool.{cases_Bool, eq-eqb, ne_eqb, cases_eq}
+use Rattle.wordset.specs.Words.{Words, one, some_below, how_many, first_below, without, only}
 use Rattle.facts.proofs.Numbers.{some_from}
 
 pub and_false : (b : Bool) → (b && false) ≡ false

@@ -1,21 +1,20 @@
 -- The declaration keeps the overlap rules, and every condition holds of the certificate.
-use Rattle.std.proofs.Common.{◌≡◌, ℕ, ◌<◌, ◌≤◌, ◌==◌, Bool, true, false, ◌&&◌, ◌||◌, ◌⊎◌, Option, Some, None, List, [], ◌∷◌, ◌++◌, refl, sym, ap, ◌∙◌, subst, inl, inr, arith}
+use Rattle.std.proofs.Common.{◌≡◌, ℕ, ◌<◌, ◌≤◌, ◌==◌, Bool, true, false, ◌&&◌, ◌||◌, ◌⊎◌, Some, None, List, [], ◌∷◌, ◌++◌, refl, sym, ap, ◌∙◌, subst, inl, inr, arith}
 use Rattle.std.specs.Prelude.{if◌then◌else◌}
 use Rattle.std.proofs.lemmas.Bool.{and_parts, cases_Bool, eqb-true, true≢false, false≢true, or_cases}
 use Rattle.instruct.specs.declared.Profile.TheVariants.{Pdp8I}
 use Rattle.instruct.specs.Instructions.{meaning_of}
-use Rattle.wordset.specs.Words.{Words, plus, nothing, everything, one, some_below, how_many, only}
+use Rattle.wordset.specs.Words.{Words, plus, nothing, everything, one, some_below, how_many}
 use Rattle.policy.specs.Declaration.{Routine, IsDeclared}
 use Rattle.facts.specs.Facts.{Name, Ac, Cell, Fact, narrowed, possible, Entails, joined}
 use Rattle.facts.specs.Changes.{moved, assigned, copied, with_equations, with_offsets}
 use Rattle.facts.specs.Outcomes.{Outcome, Goes, given, dca_case, part2, operated2}
 use Rattle.facts.specs.Starts.{HoldsOfStarts}
-use Rattle.facts.specs.declared.Condition.{Condition}
 use Rattle.facts.specs.declared.Condition.TheVariants.{V1, V2, V3, V4, V5, V6, V7, V8, V9, V10, V11, V12, V13, V14, V15}
 use Rattle.facts.proofs.Numbers.{some_from}
-use Rattle.judge.specs.Conditions.{Case, place_in, fact_at, LandsAt, LinesArePlaced, IsPlaced, EachOutcome, OutcomeLands, IsIn, IsLine, IsValid}
+use Rattle.judge.specs.Conditions.{place_in, fact_at, LandsAt, IsPlaced, EachOutcome, OutcomeLands, IsValid}
 use Rattle.judge.proofs.Fine.{Fine}
-use Rattle.certified_example.specs.Example.{image, main_cells, body, declaration, knowing, any, clear, changed, fact, certificate, example}
+use Rattle.certified_example.specs.Example.{main_cells, body, declaration, knowing, any, clear, changed, fact, certificate, example}
 use Rattle.certified_example.proofs.Sets.{and_false, none_in, few, only_one}
 
 -- the addresses, one by one

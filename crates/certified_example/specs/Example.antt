@@ -1,5 +1,5 @@
 -- A small program, its declaration and a certificate for it.
-use Rattle.std.specs.Prelude.{ℕ, ◌==◌, Bool, ◌&&◌, ◌||◌, if◌then◌else◌, Option, Some, None, []}
+use Rattle.std.specs.Prelude.{ℕ, ◌==◌, ◌&&◌, ◌||◌, if◌then◌else◌, Some, None, []}
 use Rattle.instruct.specs.declared.Profile.TheVariants.{Pdp8I}
 use Rattle.wordset.specs.Words.{Words, nothing, everything, one}
 use Rattle.processor.specs.Runs.{Image}

@@ -1,28 +1,27 @@
 -- The step law, over all instructions.
-use Rattle.std.proofs.Common.{◌≡◌, ℕ, ◌+◌, ◌*◌, ◌/◌, ◌%◌, ◌<◌, ◌==◌, Bool, true, false, ◌&&◌, ◌||◌, ◌⊎◌, Option, Some, None, [], ◌∷◌, refl, sym, ap, ◌∙◌, subst, inl, inr, arith}
-use Rattle.std.specs.Prelude.{if◌then◌else◌, bit_and}
+use Rattle.std.proofs.Common.{◌≡◌, ℕ, ◌+◌, ◌*◌, ◌/◌, ◌%◌, ◌<◌, ◌==◌, Bool, true, false, ◌&&◌, ◌⊎◌, Option, Some, None, [], ◌∷◌, refl, sym, ◌∙◌, subst, inl, inr, arith}
+use Rattle.std.specs.Prelude.{if◌then◌else◌}
 use Rattle.std.proofs.lemmas.Bool.{and_parts, and_from, eqb-true, eq-eqb, true≢false, false≢true}
 use Rattle.instruct.specs.declared.Profile.{Profile}
 use Rattle.instruct.specs.declared.Profile.TheVariants.{Pdp8I, Pdp8E}
-use Rattle.instruct.specs.Bits.{has_bit, is_one_of, named_cell}
-use Rattle.instruct.specs.Operates.{is_halt, skips_of, MqOperate, mq_operate_of}
-use Rattle.instruct.specs.Instructions.{Meaning, And, Tad, Isz, Dca, Jms, Jmp, Group1, Group2, Group3, Device, Undefined, DeviceAction, Skips, Ors, Clears, Takes, Leaves, flag_tests, byte_readers, quiet_words, quiet_words_of_8e, is_8e, device_action, device_meaning, is_group1, mq_meaning, group3_meaning, operate_meaning, meaning_of}
-use Rattle.wordset.specs.Words.{plus, Words}
+use Rattle.instruct.specs.Bits.{has_bit, named_cell}
+use Rattle.instruct.specs.Operates.{is_halt, MqOperate, mq_operate_of}
+use Rattle.instruct.specs.Instructions.{Meaning, And, Tad, Isz, Dca, Jms, Jmp, Group1, Group2, Group3, Device, Undefined, DeviceAction, Skips, Ors, Clears, Takes, Leaves, device_action, device_meaning, is_group1, mq_meaning, group3_meaning, operate_meaning, meaning_of}
+use Rattle.wordset.specs.Words.{plus}
 use Rattle.processor.specs.Cells.{Cells, updated}
-use Rattle.processor.specs.Machine.{State, Answer, Answers, seen, place, steps_pointer, next_pc, Does, Step, instruction}
-use Rattle.policy.specs.Declaration.{Declaration, IsDeclared}
-use Rattle.policy.specs.Calls.{Calls, current}
-use Rattle.policy.specs.Rules.{pointer_of}
+use Rattle.processor.specs.Machine.{State, Answer, Answers, seen, place, steps_pointer, next_pc, Does, instruction}
+use Rattle.policy.specs.Declaration.{IsDeclared}
+use Rattle.policy.specs.Calls.{Calls}
 use Rattle.policy.specs.Runs.{GoesOn}
 use Rattle.facts.specs.Facts.{Cell, Fact, Place, StandsIn, Means, is_routine}
 use Rattle.facts.specs.Changes.{moved}
 use Rattle.facts.specs.Outcomes.{stepped, targets, outcomes_of, all_operated2, ac_after, link_after}
-use Rattle.facts.specs.Conditions.{may_write, may_store, WritesAreDeclared, EntriesAreKept, CountsItsReturn}
-use Rattle.facts.specs.Law.{IsState, TopIsEntry, IsBegun, IsOrdinary, LandsIn, SomeOutcome, StepLaw}
+use Rattle.facts.specs.Conditions.{may_write, WritesAreDeclared, EntriesAreKept}
+use Rattle.facts.specs.Law.{IsState, TopIsEntry, IsOrdinary, LandsIn, SomeOutcome, StepLaw}
 use Rattle.facts.proofs.Numbers.{plus_lt, or_left, or_right}
 use Rattle.facts.proofs.Operates.{and_word, or_word, ac_after_word, link_after_bit, operate2_word, mq_words}
 use Rattle.facts.proofs.Cells.{words_updated}
-use Rattle.facts.proofs.Steps.{after_pointer, pointer_state, pointer_means, target_true, place_word, added, tad_step, counted, MayCount, isz_step, deposited, dca_step, jmp_step, and_step, operate1_step, operated, operate2_step, exchanged_state, operate3_step, skip_step, or_step, clear_step, take_step, leave_step}
+use Rattle.facts.proofs.Steps.{after_pointer, pointer_state, pointer_means, target_true, place_word, tad_step, MayCount, isz_step, dca_step, jmp_step, and_step, operate1_step, operate2_step, operate3_step, skip_step, or_step, clear_step, take_step, leave_step}
 
 -- an instruction names a word
 abbrev pub NamesWord : Meaning → Type 0

@@ -1,16 +1,15 @@
 -- The test of a fact against every start is exact.
-use Rattle.std.proofs.Common.{◌≡◌, ℕ, zero, suc, ◌+◌, ◌%◌, ◌<◌, ◌≤◌, ◌==◌, Bool, true, false, not, ◌&&◌, ◌⊎◌, Option, Some, None, List, [], ◌∷◌, refl, sym, ap, ◌∙◌, subst, inl, inr, arith}
+use Rattle.std.proofs.Common.{◌≡◌, ℕ, zero, suc, ◌%◌, ◌<◌, ◌==◌, Bool, true, false, not, Option, Some, None, List, [], ◌∷◌, refl, sym, ap, ◌∙◌, subst, inl, inr, arith}
 use Rattle.std.specs.Prelude.{if◌then◌else◌, nat_lt}
-use Rattle.std.proofs.lemmas.Bool.{and_parts, and_from, cases_Bool, eqb-true, eqb-false, eq-eqb, ne_eqb, true≢false, false≢true, cases_eq, ltb-true, ltb-false}
+use Rattle.std.proofs.lemmas.Bool.{and_parts, and_from, cases_Bool, eqb-true, eq-eqb, ne_eqb, true≢false, false≢true, ltb-true, ltb-false}
 use Rattle.wordset.specs.Words.{plus, Words, some_below}
 use Rattle.processor.specs.Cells.{Cells}
 use Rattle.processor.specs.Machine.{State}
 use Rattle.processor.specs.Runs.{Image, IsStart}
-use Rattle.policy.specs.Declaration.{Declaration}
-use Rattle.facts.specs.Facts.{Name, Ac, Cell, same, Equation, Fact, Values, IsTrueOf, AllTrue, Holds, values, Place, Means}
+use Rattle.facts.specs.Facts.{Name, Ac, Cell, same, Equation, Fact, Values, IsTrueOf, AllTrue, values, Place}
 use Rattle.facts.specs.Starts.{HoldsOfStarts, each_below, has_each, is_always_between, is_always_of, is_always, are_always, holds_before, AreTapeWords, TracksWords, StartLaw}
-use Rattle.facts.proofs.Numbers.{or_right, some_not}
-use Rattle.facts.proofs.Laws.{same_true, same_refl}
+use Rattle.facts.proofs.Numbers.{some_not}
+use Rattle.facts.proofs.Laws.{same_true}
 
 none_below : (n : ℕ) (test : ℕ → Bool) → ((k : ℕ) → k < n → test k ≡ true) → some_below n (λ v. not (test v)) ≡ false
 unfolding some_below

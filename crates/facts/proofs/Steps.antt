@@ -12,7 +12,7 @@ use Rattle.policy.specs.Declaration.{IsDeclared}
 use Rattle.policy.specs.Calls.{Calls}
 use Rattle.facts.specs.Facts.{Name, Ac, Cell, same, Fact, Values, Holds, narrowed, values, Place, OwnWord, StandsIn, Means, is_routine, words_in}
 use Rattle.facts.specs.Changes.{with_set, moved, assigned, smeared, with_equations, with_mq, with_link, with_offsets, with_name}
-use Rattle.facts.specs.Outcomes.{stepped, targets, words_at, Outcome, Goes, CallsTo, Returns, given, alive, goes, tad_word, tad_case, tad_fact, tad, isz_case, dca_case, jmp, anded, ac_after, link_after, changes_ac, related1, operated1, part2, related2, operated2, all_operated2, operated3, device_outcomes}
+use Rattle.facts.specs.Outcomes.{stepped, targets, words_at, Outcome, Goes, given, alive, goes, tad_word, tad_case, tad_fact, tad, isz_case, dca_case, jmp, anded, ac_after, link_after, changes_ac, related1, operated1, part2, related2, operated2, all_operated2, operated3, device_outcomes}
 use Rattle.facts.specs.Law.{IsState, TopIsEntry, LandsIn, SomeOutcome}
 use Rattle.facts.proofs.Numbers.{minus_plus, minus_other, plus_lt, or_left, or_right, only_tells, some_from}
 use Rattle.facts.proofs.Operates.{and_word, or_word, ac_after_word, link_after_bit, ac_kept, operate2_word, mq_words, ands_true, ors_true, or_byte_true, or_word_true}

@@ -1,7 +1,6 @@
 -- The step law: the outcomes of a word cover every step by it.
 use Rattle.std.specs.Prelude.{◌≡◌, ℕ, ◌<◌, true, false, ◌⊎◌, Some, List, [], ◌∷◌}
 use Rattle.instruct.specs.Instructions.{Meaning, Jms, Jmp}
-use Rattle.wordset.specs.Words.{Words}
 use Rattle.processor.specs.Cells.{Cells, AreWords}
 use Rattle.processor.specs.Machine.{State, Answer, instruction, Step}
 use Rattle.policy.specs.Declaration.{Declaration, IsDeclared}

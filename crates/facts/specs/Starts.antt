@@ -1,10 +1,9 @@
 -- Which facts hold of every start, as a statement and as a test.
-use Rattle.std.specs.Prelude.{◌≡◌, ℕ, ◌+◌, ◌%◌, ◌<◌, ◌≤◌, ◌==◌, Bool, true, false, not, ◌&&◌, if◌then◌else◌, Option, Some, None, List, [], ◌∷◌, ◌↔◌}
+use Rattle.std.specs.Prelude.{◌≡◌, ℕ, ◌%◌, ◌<◌, ◌≤◌, ◌==◌, Bool, true, false, not, ◌&&◌, if◌then◌else◌, Option, Some, None, List, [], ◌∷◌, ◌↔◌}
 use Rattle.wordset.specs.Words.{plus, Words, some_below}
 use Rattle.processor.specs.Machine.{State}
 use Rattle.processor.specs.Runs.{Image, IsStart}
-use Rattle.policy.specs.Declaration.{Declaration}
-use Rattle.facts.specs.Facts.{Name, Ac, Cell, same, Equation, Fact, Place, Means, tape_word}
+use Rattle.facts.specs.Facts.{Name, Ac, Cell, same, Equation, Fact, Place, Means}
 
 -- The fact holds of every start of the machine, with no call open.
 abbrev pub HoldsOfStarts : Place → Fact → Type 0

@@ -1,5 +1,5 @@
 -- What holds at every moment of a declared run of a program with a valid certificate, and that each step keeps it.
-use Rattle.std.proofs.Common.{◌≡◌, ℕ, ◌+◌, ◌-◌, ◌<◌, ◌≤◌, ◌==◌, Bool, true, false, ◌&&◌, ◌||◌, ◌⊎◌, Some, None, List, [], ◌∷◌, refl, sym, ap, ◌∙◌, subst, inl, inr, arith}
+use Rattle.std.proofs.Common.{◌≡◌, ℕ, ◌+◌, ◌-◌, ◌<◌, ◌≤◌, ◌==◌, Bool, true, false, ◌&&◌, ◌⊎◌, Some, None, List, [], ◌∷◌, refl, sym, ap, ◌∙◌, subst, inl, inr, arith}
 use Rattle.std.specs.Prelude.{if◌then◌else◌}
 use Rattle.std.proofs.lemmas.Bool.{and_parts, true≢false, false≢true}
 use Rattle.instruct.specs.Instructions.{Meaning, And, Tad, Isz, Dca, Jms, Jmp, Group1, Group2, Group3, Device, Undefined}
@@ -11,14 +11,13 @@ use Rattle.policy.specs.Calls.{Call, Calls, current, returned, calls_of, calls_a
 use Rattle.policy.specs.Runs.{GoesOn}
 use Rattle.facts.specs.Facts.{Cell, Fact, Values, Holds, values, Place, StandsIn, Means, Entails, EntailsOffsets, joined}
 use Rattle.facts.specs.Changes.{with_offsets}
-use Rattle.facts.specs.Outcomes.{targets, Outcome, Goes, CallsTo, Returns, outcomes_of}
-use Rattle.facts.specs.Conditions.{may_write, MayWrite}
-use Rattle.facts.specs.Law.{IsState, TopIsEntry, IsOrdinary, LandsIn, SomeOutcome}
+use Rattle.facts.specs.Outcomes.{Outcome, Goes, CallsTo, Returns, outcomes_of}
+use Rattle.facts.specs.Conditions.{may_write}
+use Rattle.facts.specs.Law.{IsState, IsOrdinary, LandsIn, SomeOutcome}
 use Rattle.facts.proofs.Numbers.{plus_lt, or_left, or_right}
 use Rattle.facts.proofs.Laws.{entails_holds, HoldsOutside, outside_holds, still_outside, joined_holds}
 use Rattle.facts.proofs.Cells.{updated_same, words_updated, values_words, hidden_values, holds_at, rest_updated, own_updated, own_like, possible_true}
 use Rattle.facts.proofs.Covers.{NamesWord, meaning_names, step_state, pointer_written, Accessed, accessed, covered}
-use Rattle.certificate.specs.Certificate.{Certificate, writes_of}
 use Rattle.judge.specs.Conditions.{Case, fact_at, place_in, LandsAt, IsLower, CoversCallee, MayCall, MayReturn, OutcomeLands, EachOutcome, IsValid}
 use Rattle.judge.proofs.Fine.{Fine, fine}
 use Rattle.judge.proofs.Frames.{Below, Frames, MayPut, top_is_entry, updated_frames, call_frames, seen_frames}

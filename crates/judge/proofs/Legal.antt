@@ -1,21 +1,20 @@
 -- The invariant makes the next step legal, and so all declared runs safe.
-use Rattle.std.proofs.Common.{◌≡◌, ℕ, ◌+◌, ◌<◌, ◌≤◌, ◌==◌, Bool, true, false, ◌&&◌, ◌||◌, ◌⊎◌, Some, None, List, [], ◌∷◌, refl, sym, ap, ◌∙◌, subst, inl, inr, arith}
-use Rattle.std.specs.Prelude.{if◌then◌else◌}
+use Rattle.std.proofs.Common.{◌≡◌, ℕ, ◌+◌, ◌<◌, ◌≤◌, ◌==◌, Bool, true, false, ◌&&◌, ◌||◌, ◌⊎◌, Some, None, List, [], ◌∷◌, refl, sym, ◌∙◌, subst, inl, inr, arith}
 use Rattle.std.proofs.lemmas.Bool.{and_parts, eqb-true, true≢false, false≢true}
 use Rattle.instruct.specs.Instructions.{Meaning, And, Tad, Isz, Dca, Jms, Jmp, Group1, Group2, Group3, Device, Undefined}
 use Rattle.wordset.specs.Words.{plus}
 use Rattle.processor.specs.Cells.{Cells}
 use Rattle.processor.specs.Machine.{State, Answer, place, steps_pointer, instruction}
 use Rattle.processor.specs.Runs.{IsStart}
-use Rattle.policy.specs.Declaration.{Declaration, IsDeclared}
-use Rattle.policy.specs.Calls.{Call, Calls, current, calls_after}
-use Rattle.policy.specs.Rules.{pointer_of, stored_at, read_by, CountsOwnEntry, WritesDeclared, CallsEntries, FindsItsCall, ReturnsToItsCall, HaltsDeclared, IsListed, ReadsListed, IsLegal}
+use Rattle.policy.specs.Declaration.{IsDeclared}
+use Rattle.policy.specs.Calls.{Calls, current, calls_after}
+use Rattle.policy.specs.Rules.{pointer_of, stored_at, CountsOwnEntry, WritesDeclared, CallsEntries, FindsItsCall, ReturnsToItsCall, IsListed, ReadsListed, IsLegal}
 use Rattle.policy.specs.Runs.{DeclaredRun}
 use Rattle.facts.specs.Facts.{Means}
-use Rattle.facts.specs.Conditions.{may_read, ReadsAreListed}
-use Rattle.facts.proofs.Numbers.{plus_lt, or_left, or_right}
+use Rattle.facts.specs.Conditions.{may_read}
+use Rattle.facts.proofs.Numbers.{or_left, or_right}
 use Rattle.facts.proofs.Covers.{NamesWord, meaning_names, Accessed}
-use Rattle.judge.specs.Conditions.{Case, fact_at, place_in, MayReturn, IsValid}
+use Rattle.judge.specs.Conditions.{Case, fact_at, place_in, IsValid}
 use Rattle.judge.specs.Headline.{RunsAreSafe}
 use Rattle.facts.specs.declared.Condition.TheVariants.{V1}
 use Rattle.judge.proofs.Fine.{Fine}

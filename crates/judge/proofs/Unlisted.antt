@@ -1,5 +1,5 @@
 -- Without a list of reads nothing is asked of them.
-use Rattle.std.proofs.Common.{◌≡◌, ℕ, true, ◌⊎◌, Option, None, sym, subst, inl}
+use Rattle.std.proofs.Common.{◌≡◌, ℕ, Option, None, sym, subst, inl}
 use Rattle.wordset.specs.Words.{Words}
 use Rattle.policy.specs.Rules.{IsListed}
 use Rattle.judge.specs.Headline.{UnlistedReadsAreFree}

@@ -1,18 +1,17 @@
 -- Lists of events: wherever the run may go on, now or after a CONTINUE, the invariant holds.
-use Rattle.std.proofs.Common.{◌≡◌, ℕ, ◌<◌, Bool, true, false, Option, Some, None, List, [], ◌∷◌, refl, sym, ap, ◌∙◌, subst, inl, inr}
+use Rattle.std.proofs.Common.{◌≡◌, ℕ, ◌<◌, Bool, true, false, Option, Some, None, List, [], ◌∷◌, refl, sym, ◌∙◌, subst, inl, inr}
 use Rattle.std.specs.Prelude.{if◌then◌else◌}
 use Rattle.std.proofs.lemmas.Bool.{true≢false}
-use Rattle.instruct.specs.Operates.{is_halt}
 use Rattle.instruct.specs.Instructions.{Meaning, Group2}
 use Rattle.processor.specs.Cells.{Cells}
-use Rattle.processor.specs.Machine.{State, instruction}
+use Rattle.processor.specs.Machine.{instruction}
 use Rattle.processor.specs.Steps.{halts_after}
 use Rattle.processor.specs.Runs.{IsStart}
 use Rattle.peripherals.specs.declared.Event.{Event}
 use Rattle.peripherals.specs.declared.Event.TheVariants.{Step as Instruct, Key, PrinterDone, ReaderDone, PunchDone, Switches, Continue}
 use Rattle.peripherals.specs.Devices.{WorldState}
 use Rattle.policy.specs.Declaration.{Declaration, IsDeclared}
-use Rattle.policy.specs.Calls.{Calls, calls_after}
+use Rattle.policy.specs.Calls.{Calls}
 use Rattle.policy.specs.Rules.{IsSupported}
 use Rattle.policy.specs.Runs.{GoesOn, resumed, HappensDeclared, calls_running, calls_by, DeclaredEvents}
 use Rattle.judge.specs.Conditions.{Case, IsValid}

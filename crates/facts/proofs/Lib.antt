@@ -5,3 +5,4 @@ pub mod Cells
 pub mod Steps
 pub mod Covers
 pub mod Starting
+pub mod Alike

@@ -4,3 +4,4 @@ pub mod Outcomes
 pub mod Conditions
 pub mod Law
 pub mod Starts
+pub mod Same

@@ -3,6 +3,7 @@
 
 ghost use Rattle.facts.specs.Law.{StepLaw};
 ghost use Rattle.facts.specs.Starts.{StartLaw};
+ghost use Rattle.facts.specs.Same.{SameLaw};
 
 /// The conditions that a certificate must meet.
 #[derive(Clone, Copy, PartialEq, Eq, Debug)]
@@ -53,3 +54,10 @@ pub fn step_law()
 pub fn start_law()
     ensures { StartLaw }
 {}
+
+/// Facts that agree on all words below 4096, on their equations as a set and on their offsets entail
+/// the same facts, and are entailed by the same.
+pub fn same_law()
+    ensures { SameLaw }
+{
+}

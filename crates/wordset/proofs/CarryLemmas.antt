@@ -1,15 +1,15 @@
 -- The greatest word, and the carries of sums.
-use Rattle.std.proofs.Common.{◌≡◌, ◌≢◌, ℕ, zero, suc, ◌+◌, ◌-◌, ◌*◌, ◌/◌, ◌%◌, ◌^◌, ◌<◌, ◌≤◌, ◌==◌, Bool, true, false, ◌&&◌, List, get_or, refl, sym, ◌∙◌, ap, inl, inr, arith, ◌⊎◌, not, IsTrue, ◌↔◌}
+use Rattle.std.proofs.Common.{◌≡◌, ◌≢◌, ℕ, suc, ◌+◌, ◌-◌, ◌*◌, ◌/◌, ◌%◌, ◌^◌, ◌<◌, ◌≤◌, ◌==◌, Bool, true, false, ◌&&◌, List, get_or, refl, sym, ◌∙◌, ap, inl, inr, arith, not, IsTrue, ◌↔◌}
 use Rattle.std.specs.Int.{bit_at}
 use Rattle.std.proofs.lemmas.Bool.{cases_eq, cases_lt, eq-eqb, eqb-true}
 use Rattle.std.proofs.lemmas.Nat.{pow_pos, mod-pow-add, leading_top}
 use Rattle.std.proofs.lemmas.Nat.Bits.{bit_at-zero, bit_at-lt, bit_at_above}
 use native.Mathlib.Nat.{mod-eq_of_lt}
 use lib.Count.{count_leading_zeros}
-use Rattle.wordset.specs.Words.{Words, SameWords, nothing, some_below, carries, IsFirstFrom, HasNoneFrom, IsGreatest}
+use Rattle.wordset.specs.Words.{Words, SameWords, nothing, some_below, carries, IsFirstFrom, IsGreatest}
 use Rattle.wordset.specs.Lanes.{words, AreLanes}
 use Rattle.wordset.proofs.LaneBits.{words_at}
-use Rattle.wordset.proofs.Tests.{true_false, both_ways, some_from, some_to, IsSome, and_both, and_first, and_second}
+use Rattle.wordset.proofs.Tests.{true_false, some_from, some_to, IsSome, and_both, and_first, and_second}
 
 -- a word below 64 * (i + 1) and at or above 64 * i + n
 past_lane : (lanes : List ℕ) (i n v : ℕ) → i < 64 → ((u : ℕ) → 64 * (i + 1) ≤ u → u < 4096 → words lanes u ≡ false) → ((j : ℕ) → n ≤ j → bit_at (get_or lanes i 0) j ≡ 0) → 64 * i + n ≤ v → v < 4096 → words lanes v ≡ false

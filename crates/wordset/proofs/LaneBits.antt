@@ -1,5 +1,5 @@
 -- A bit of a lane, and the test that it stands for.
-use Rattle.std.proofs.Common.{◌≡◌, ◌≢◌, ℕ, zero, suc, ◌+◌, ◌-◌, ◌*◌, ◌/◌, ◌%◌, ◌^◌, ◌<◌, ◌≤◌, ◌==◌, Bool, true, false, not, ◌&&◌, ◌||◌, List, [], ◌∷◌, length, get_or, replicate, map, refl, sym, ◌∙◌, ap, subst, inl, inr, arith, w64, get_or-set_same, get_or-set_other, IsTrue, lit<, ◌↔◌, ◌⊎◌, length-set}
+use Rattle.std.proofs.Common.{◌≡◌, ◌≢◌, ℕ, zero, suc, ◌+◌, ◌-◌, ◌*◌, ◌/◌, ◌%◌, ◌^◌, ◌<◌, ◌==◌, Bool, true, false, not, ◌&&◌, ◌||◌, List, [], ◌∷◌, length, get_or, replicate, map, refl, sym, ◌∙◌, ap, inl, inr, arith, w64, get_or-set_same, get_or-set_other, IsTrue, lit<, ◌↔◌, ◌⊎◌, length-set}
 use Rattle.std.specs.Prelude.{bit_or, bit_and, max, min, slice_set}
 use Rattle.std.specs.Int.{bit_at, bit_not}
 use Rattle.std.proofs.lemmas.Bool.{eq-eqb, eqb-true, ne_eqb, cases_eq, cases_lt}
@@ -7,7 +7,7 @@ use Rattle.std.proofs.lemmas.Nat.Bits.{bit_at_or, bit_at_and, bit_at_not, bit_at
 use Rattle.std.proofs.lemmas.List.{get_or-replicate, get_or-map, length-map, get_or_past}
 use Rattle.std.proofs.lemmas.Simd.{get_or-zip2, length-zip2}
 use Rattle.std.proofs.lemmas.Nat.{or_lt, and_le_l, and_le_r}
-use Rattle.std.specs.Int.Bits.{or_zero_l, or_zero_r}
+use Rattle.std.specs.Int.Bits.{or_zero_l}
 use lib.Bits.{or_add_and}
 use lib.Lanes.{zip2, fold_l}
 use Rattle.std.specs.Prelude.{if◌then◌else◌}

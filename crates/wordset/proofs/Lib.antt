@@ -9,3 +9,4 @@ pub mod Parts
 pub mod Ors
 pub mod Complements
 pub mod SumLemmas
+pub mod PlainLemmas

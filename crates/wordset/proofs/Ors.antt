@@ -1,13 +1,13 @@
 -- A word put into each word of a set, bit by bit.
-use Rattle.std.proofs.Common.{◌≡◌, ◌≢◌, ℕ, zero, suc, ◌+◌, ◌-◌, ◌*◌, ◌/◌, ◌%◌, ◌^◌, ◌<◌, ◌≤◌, ◌==◌, Bool, true, false, ◌&&◌, ◌||◌, refl, sym, ◌∙◌, ap, inl, inr, arith, ◌⊎◌, not}
-use Rattle.std.specs.Prelude.{bit_or, bit_and, max}
+use Rattle.std.proofs.Common.{◌≡◌, ◌≢◌, ℕ, ◌+◌, ◌%◌, ◌^◌, ◌<◌, ◌==◌, true, ◌&&◌, ◌||◌, sym, ◌∙◌, ap, inl, inr, arith, ◌⊎◌, not}
+use Rattle.std.specs.Prelude.{bit_or, bit_and}
 use Rattle.std.specs.Int.{bit_at}
 use Rattle.std.specs.Int.Bits.{or_zero_r}
-use Rattle.std.proofs.lemmas.Bool.{cases_eq, cases_lt, eqb-true, eq-eqb, ne_eqb}
-use Rattle.std.proofs.lemmas.Nat.{or_lt, mod-pow-add, and_le_l}
+use Rattle.std.proofs.lemmas.Bool.{cases_eq, eqb-true, eq-eqb}
+use Rattle.std.proofs.lemmas.Nat.{or_lt, and_le_l}
 use Rattle.std.proofs.lemmas.Nat.Bits.{bit_at-lt, bit_at_or, bit_at_and, bit_at_ones, same_from_bits, same_from_bits_below, bit_at-pow_same, bit_at-pow_other}
 use Rattle.wordset.specs.Bits.{has_bit, put_bit, ors_with}
-use Rattle.wordset.specs.Words.{Words, SameWords, some_below, ors, or_any, union, minus, everything}
+use Rattle.wordset.specs.Words.{Words, SameWords, some_below, ors, or_any, minus, everything}
 use Rattle.wordset.proofs.Parts.{weight_small, add_bit, NextMask, next_mask}
 use Rattle.wordset.proofs.Tests.{true_false, both_ways, some_from, some_to, IsSome, and_both, and_first, and_second, or_left, or_right, or_cases}
 

@@ -1,16 +1,16 @@
 -- A set moved up across lanes, and round the end.
-use Rattle.std.proofs.Common.{◌≡◌, ◌≢◌, ℕ, zero, suc, ◌+◌, ◌-◌, ◌*◌, ◌/◌, ◌%◌, ◌^◌, ◌<◌, ◌≤◌, ◌==◌, Bool, true, false, not, ◌&&◌, ◌||◌, List, [], ◌∷◌, length, get_or, replicate, map, refl, sym, ◌∙◌, ap, subst, inl, inr, arith, w64, ◌⊎◌, lit<, add-zero, zero-add}
+use Rattle.std.proofs.Common.{◌≡◌, ℕ, ◌+◌, ◌-◌, ◌*◌, ◌/◌, ◌%◌, ◌^◌, ◌<◌, ◌≤◌, ◌==◌, ◌||◌, List, length, get_or, replicate, map, sym, ◌∙◌, ap, inl, inr, arith, ◌⊎◌, add-zero, zero-add}
 use Rattle.std.specs.Prelude.{bit_or}
 use Rattle.std.specs.Int.{bit_at}
 use Rattle.std.proofs.lemmas.Bool.{cases_lt}
 use Rattle.std.proofs.lemmas.Nat.Bits.{bit_at_cat_low, bit_at_cat_high, bit_at_above, bit_at-zero}
 use Rattle.std.proofs.lemmas.Nat.{pow-add, pow_pos, div-add-mod'}
 use Rattle.std.proofs.Math.Nat.{div-div-eq-div-mul}
-use Rattle.std.proofs.lemmas.List.{get_or-replicate, get_or-map, length-map}
-use Rattle.std.proofs.lemmas.Simd.{get_or-zip2, length-zip2, zip2_splat, map-map, get_or-put_chunk_below, get_or-put_chunk_at, length-put_chunk, get_or-chunk, length-chunk}
+use Rattle.std.proofs.lemmas.List.{get_or-map, length-map}
+use Rattle.std.proofs.lemmas.Simd.{get_or-zip2, zip2_splat, map-map, get_or-put_chunk_below, get_or-put_chunk_at, length-put_chunk, get_or-chunk, length-chunk}
 use lib.Lanes.{zip2, chunk, put_chunk}
 use Rattle.wordset.specs.Words.{shifted, minus}
-use Rattle.wordset.specs.Lanes.{words, AreLanes}
+use Rattle.wordset.specs.Lanes.{words, AreLanes, twice}
 use Rattle.wordset.proofs.LaneBits.{or_bit, or_false}
 
 abbrev pub up : ℕ → ℕ → ℕ
@@ -56,9 +56,6 @@ down_bit : (n r j : ℕ) → r < 64 → bit_at (down r n) j ≡ bit_at n (64 - r
 down_bit n r j h = let e : 1 + (63 - r + j) ≡ 64 - r + j = omega arith in bit_div (n / 2) (63 - r) j ∙ bit_div n 1 (63 - r + j) ∙ ap (λ k. bit_at n k) e
 
 -- ---- the lanes twice over
-
-abbrev pub twice : List ℕ → List ℕ
-twice x = put_chunk 64 (put_chunk 0 (replicate 128 0) x) x
 
 twice_at : (x : List ℕ) (m : ℕ) → length x ≡ 64 → m < 128 → get_or (twice x) m 0 ≡ get_or x (m % 64) 0
 twice_at x m long h = elim (cases_lt m 64) [
@@ -132,15 +129,11 @@ words-moved x k is small v h = ap (λ y. bit_at y (v % 64) == 1) lane ∙ or_bit
             ap (λ i. bit_at (get_or x i 0) (v % 64 - k % 64)) a ∙ ap (λ j. bit_at (get_or x (minus v k / 64) 0) j) b
 
 -- the same, from what the steps gave
-pub words-shift : (x first whole near far lanes : List ℕ) (k : ℕ) → AreLanes x → k < 4096
-    → first ≡ put_chunk 0 (replicate 128 0) x → whole ≡ put_chunk 64 first x
-    → near ≡ chunk (64 - k / 64) 64 whole → far ≡ chunk (63 - k / 64) 64 whole
+pub words-shift : (x near far lanes : List ℕ) (k : ℕ) → AreLanes x → k < 4096
+    → near ≡ chunk (64 - k / 64) 64 (twice x) → far ≡ chunk (63 - k / 64) 64 (twice x)
     → lanes ≡ zip2 bit_or (map (up (k % 64)) near) (map (down (k % 64)) far)
     → (v : ℕ) → v < 4096 → words lanes v ≡ shifted (words x) k v
-words-shift x first whole near far lanes k is small a b c d e v h =
-    let whole_is : whole ≡ twice x = b ∙ ap (λ t. put_chunk 64 t x) a in
-    let near_is : near ≡ chunk (64 - k / 64) 64 (twice x) = c ∙ ap (λ t. chunk (64 - k / 64) 64 t) whole_is in
-    let far_is : far ≡ chunk (63 - k / 64) 64 (twice x) = d ∙ ap (λ t. chunk (63 - k / 64) 64 t) whole_is in
-    let lanes_is : lanes ≡ moved x k = e ∙ ap (λ t. zip2 bit_or (map (up (k % 64)) t) (map (down (k % 64)) far)) near_is
-    ∙ ap (λ t. zip2 bit_or (map (up (k % 64)) (chunk (64 - k / 64) 64 (twice x))) (map (down (k % 64)) t)) far_is in
+words-shift x near far lanes k is small c d e v h =
+    let lanes_is : lanes ≡ moved x k = e ∙ ap (λ t. zip2 bit_or (map (up (k % 64)) t) (map (down (k % 64)) far)) c
+    ∙ ap (λ t. zip2 bit_or (map (up (k % 64)) (chunk (64 - k / 64) 64 (twice x))) (map (down (k % 64)) t)) d in
     ap (λ l. words l v) lanes_is ∙ words-moved x k is small v h

@@ -1,6 +1,6 @@
 -- Sums of two sets: either may be gone through, and all words plus a word are all words.
-use Rattle.std.proofs.Common.{◌≡◌, ◌≢◌, ℕ, zero, suc, ◌+◌, ◌-◌, ◌%◌, ◌<◌, ◌≤◌, Bool, true, false, ◌&&◌, refl, sym, ◌∙◌, ap, arith, not}
-use Rattle.wordset.specs.Words.{Words, SameWords, some_below, sums, minus, everything, has_some}
+use Rattle.std.proofs.Common.{◌≡◌, ℕ, ◌<◌, Bool, true, false, ◌&&◌, refl, sym, ◌∙◌, ap, arith, not}
+use Rattle.wordset.specs.Words.{Words, SameWords, sums, minus, everything, has_some}
 use Rattle.wordset.proofs.Tests.{both_ways, some_from, some_to, IsSome, and_both, and_first, and_second}
 
 half : (a b : Words) (v : ℕ) → v < 4096 → sums a b v ≡ true → sums b a v ≡ true

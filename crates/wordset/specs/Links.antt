@@ -1,5 +1,5 @@
 -- Sets of links and of carries as tests on 0 and 1.
-use Rattle.std.specs.Prelude.{ℕ, ◌==◌, if◌then◌else◌}
+use Rattle.std.specs.Prelude.{◌==◌, if◌then◌else◌}
 use Rattle.wordset.specs.Words.{Words}
 use Rattle.wordset.specs.declared.links.Links.{Links}
 use Rattle.wordset.specs.declared.links.Carries.{Carries}

@@ -9,7 +9,7 @@ ghost use Rattle.std.specs.Prelude.{◌≡◌, ◌<◌, ◌≤◌, ◌+◌, ◌-
 ghost use Rattle.std.specs.Int.{bit_at};
 ghost use Rattle.std.specs.Simd.Lanes.{zip2, chunk, put_chunk};
 ghost use Rattle.wordset.specs.Words.{SameWords, IsWithin, nothing, everything, one, between, with_word, without, union, meet, difference, shifted, has_some, how_many, first_below, only, mirrored, IsFirstFrom, HasNoneFrom, IsGreatest};
-ghost use Rattle.wordset.specs.Lanes.{words};
+ghost use Rattle.wordset.specs.Lanes.{words, twice};
 
 use std::marker::Model;
 use std::simd::prelude::*;
@@ -18,12 +18,13 @@ use word12::Word;
 mod bits;
 mod links;
 mod operate;
+pub mod plain;
 mod sums;
 
 pub use links::{Carries, Links};
 
 /// A set of words.
-#[derive(Clone, Copy, PartialEq, Eq)]
+#[derive(Clone, Copy, PartialEq, Eq, Debug)]
 pub struct WordSet {
     lanes: [u64; 64],
 }
@@ -81,7 +82,8 @@ impl WordSet {
     /// The lanes of the set: bit j of lane i, the least bit being bit 0, is set exactly where the
     /// word 64 i + j is in the set.
     pub fn words(&self) -> &[u64; 64]
-        ensures { (i j : ℕ) → i < 64 → j < 64 → (bit_at (slice_index result.now i) j == 1) ≡ words self.now (64 * i + j) }
+        ensures { (i j : ℕ) → i < 64 → j < 64 →
+            (bit_at (slice_index result.now i) j == 1) ≡ words self.now (64 * i + j) }
     {
         &self.lanes
     }
@@ -143,7 +145,9 @@ impl WordSet {
 
     /// The least of the words from a number on.
     pub fn first_from(&self, from: usize) -> Option<Word>
-        ensures { MatchOption result (HasNoneFrom from (words self.now)) (λ w. IsFirstFrom from (words self.now) w) }
+        ensures { MatchOption result
+            (HasNoneFrom from (words self.now))
+            (λ w. IsFirstFrom from (words self.now) w) }
     {
         if from >= 4096 {
             return None;
@@ -158,7 +162,9 @@ impl WordSet {
     /// The least of the words in the lanes from one on.
     fn first_in_lanes(&self, start: usize) -> Option<Word>
         requires { start ≤ 64 }
-        ensures { MatchOption result (HasNoneFrom (64 * start) (words self.now)) (λ w. IsFirstFrom (64 * start) (words self.now) w) }
+        ensures { MatchOption result
+            (HasNoneFrom (64 * start) (words self.now))
+            (λ w. IsFirstFrom (64 * start) (words self.now) w) }
     {
         for i in start..64usize {
             let lane = self.lanes[i];
@@ -171,7 +177,9 @@ impl WordSet {
 
     /// The greatest word.
     pub fn greatest(&self) -> Option<Word>
-        ensures { MatchOption result (SameWords (words self.now) nothing) (λ w. IsGreatest (words self.now) w) }
+        ensures { MatchOption result
+            (SameWords (words self.now) nothing)
+            (λ w. IsGreatest (words self.now) w) }
     {
         for n in 0..64usize {
             let lane = self.lanes[63 - n];
@@ -235,13 +243,30 @@ impl WordSet {
     pub fn shift(&self, k: Word) -> WordSet
         ensures { SameWords (words result) (shifted (words self.now) k) }
     {
-        let by = k.index();
+        self.shift_from(&self.lanes_twice(), k)
+    }
+
+    /// The lanes stored twice in a row, from which every shift of the set is taken.
+    fn lanes_twice(&self) -> [u64; 128]
+        ensures { result ≡ twice self.now }
+    {
         let lanes = u64x64::from_array(self.lanes);
         let mut twice = [0u64; 128];
         put(&mut twice, 0, lanes);
         put(&mut twice, 64, lanes);
-        let near = taken(&twice, 64 - by / 64);
-        let far = taken(&twice, 63 - by / 64);
+        twice
+    }
+
+    /// The same shift, from the lanes of the set stored twice.
+    fn shift_from(&self, lanes: &[u64; 128], k: Word) -> WordSet
+        requires { lanes.now ≡ twice self.now }
+        ensures { SameWords (words result) (shifted (words self.now) k) }
+    {
+        // The proof needs the lanes of the set itself.
+        let _set = &self.lanes;
+        let by = k.index();
+        let near = taken(lanes, 64 - by / 64);
+        let far = taken(lanes, 63 - by / 64);
         WordSet {
             lanes: joined(near, far, by % 64),
         }
@@ -278,7 +303,9 @@ fn taken(lanes: &[u64], at: usize) -> u64x64
 /// Each lane of `near` moved up, with what moves out of the lane of `far` below it.
 fn joined(near: u64x64, far: u64x64, by: usize) -> [u64; 64]
     requires { by < 64 }
-    ensures { result ≡ zip2 bit_or (map (λ x. x * 2 ^ by % 2 ^ 64) near) (map (λ x. x / 2 / 2 ^ (63 - by)) far) }
+    ensures { result ≡ zip2 bit_or
+        (map (λ x. x * 2 ^ by % 2 ^ 64) near)
+        (map (λ x. x / 2 / 2 ^ (63 - by)) far) }
 {
     let up = u64x64::splat(by as u64);
     let down = u64x64::splat((63 - by) as u64);

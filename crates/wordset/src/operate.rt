@@ -18,8 +18,10 @@ impl WordSet {
     /// with each link of `links`: the accumulators and the links afterwards.
     pub fn map_operate(&self, word: Word, links: Links) -> (WordSet, Links)
         requires { instruction_of Pdp8E word ≡ Operate1 }
-        ensures words { SameWords (words result.0) (images (λ ac link. (operate1_of word (ac, link)).0) (words self.now) (links_of links)) }
-        ensures links { SameLinks (links_of result.1) (images (λ ac link. (operate1_of word (ac, link)).1) (words self.now) (links_of links)) }
+        ensures words { SameWords (words result.0)
+            (images (λ ac link. (operate1_of word (ac, link)).0) (words self.now) (links_of links)) }
+        ensures links { SameLinks (links_of result.1)
+            (images (λ ac link. (operate1_of word (ac, link)).1) (words self.now) (links_of links)) }
     {
         let (low, low_links) = self.operate_if(links.clear, word, Link::CLEAR);
         let (high, high_links) = self.operate_if(links.set, word, Link::SET);
@@ -29,8 +31,10 @@ impl WordSet {
     /// The images with one link where it is chosen, and else none.
     fn operate_if(&self, chosen: bool, word: Word, link: Link) -> (WordSet, Links)
         requires { instruction_of Pdp8E word ≡ Operate1 }
-        ensures words { (v : ℕ) → v < 4096 → words result.0 v ≡ (chosen && images_at (λ ac. (operate1_of word (ac, link)).0) (words self.now) v) }
-        ensures links { (k : ℕ) → k < 2 → links_of result.1 k ≡ (chosen && images_at (λ ac. (operate1_of word (ac, link)).1) (words self.now) k) }
+        ensures words { (v : ℕ) → v < 4096 →
+            words result.0 v ≡ (chosen && images_at (λ ac. (operate1_of word (ac, link)).0) (words self.now) v) }
+        ensures links { (k : ℕ) → k < 2 →
+            links_of result.1 k ≡ (chosen && images_at (λ ac. (operate1_of word (ac, link)).1) (words self.now) k) }
     {
         if chosen {
             self.operate_at(word, link)

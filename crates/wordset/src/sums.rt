@@ -34,10 +34,11 @@ impl WordSet {
         if other.is_all() && !self.is_empty() {
             return WordSet::all();
         }
+        let lanes = other.lanes_twice();
         let mut found = WordSet::empty();
         let mut next = 0usize;
         while let Some(word) = self.first_from(next) {
-            found = found.union(&other.shift(word));
+            found = found.union(&other.shift_from(&lanes, word));
             next = word.index() + 1;
         }
         found

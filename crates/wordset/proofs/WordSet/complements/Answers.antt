@@ -1,4 +1,4 @@
-use Rattle.std.proofs.Common.{◌≡◌, ◌<◌, ◌≢◌, ◌-◌, ℕ, length, arith, lit<, get_or-set_other, get_or-set_same, below_more}
+use Rattle.std.proofs.Common.{◌<◌, ◌≢◌, length, arith, lit<, get_or-set_other, get_or-set_same, below_more}
 use Rattle.wordset.proofs.WordSet.complements.Goals as goal
 use Rattle.wordset.proofs.LaneBits.{filled, AreLanes-set}
 use Rattle.wordset.proofs.Complements.{words-mirrored}

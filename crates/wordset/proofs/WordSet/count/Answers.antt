@@ -1,4 +1,4 @@
-use Rattle.std.proofs.Common.{◌≡◌, ◌+◌, ◌*◌, ◌<◌, ◌≤◌, ◌^◌, ℕ, get_or, arith, sym, ◌∙◌, ap, Fits}
+use Rattle.std.proofs.Common.{◌≡◌, ◌+◌, ◌*◌, ◌<◌, ◌^◌, get_or, arith, sym, ◌∙◌, ap}
 use lib.Count.{ones}
 use Rattle.wordset.specs.Words.{how_many}
 use Rattle.wordset.specs.Lanes.{words}

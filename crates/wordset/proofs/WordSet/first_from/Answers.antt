@@ -1,6 +1,5 @@
-use Rattle.std.proofs.Common.{◌≡◌, ◌<◌, ◌≤◌, ◌+◌, ◌*◌, ◌/◌, ◌%◌, arith}
+use Rattle.std.proofs.Common.{◌≤◌, ◌+◌, ◌*◌, ◌/◌, arith}
 use Rattle.wordset.specs.Lanes.{words}
-use Rattle.wordset.specs.Words.{IsFirstFrom}
 use Rattle.wordset.proofs.WordSet.first_from.Goals as goal
 use Rattle.wordset.proofs.Firsts.{first_in_rest, first_later, none_in_rest}
 

@@ -1,5 +1,4 @@
-use Rattle.std.proofs.Common.{◌≡◌, ◌+◌, ◌*◌, ◌<◌, ◌≤◌, ℕ, arith}
-use Rattle.wordset.specs.Lanes.{words}
+use Rattle.std.proofs.Common.{◌*◌, arith}
 use Rattle.wordset.proofs.WordSet.first_in_lanes.Goals as goal
 use Rattle.wordset.proofs.Firsts.{first_in_lane, none_more}
 

@@ -1,5 +1,4 @@
-use Rattle.std.proofs.Common.{◌≡◌, ◌+◌, ◌-◌, ◌*◌, ◌<◌, ◌≤◌, ℕ, arith, sym, ◌∙◌, ap, false}
-use Rattle.wordset.specs.Lanes.{words}
+use Rattle.std.proofs.Common.{◌-◌, arith}
 use Rattle.wordset.proofs.WordSet.greatest.Goals as goal
 use Rattle.wordset.proofs.CarryLemmas.{IsGreatest-lane, none_past}
 

@@ -1,4 +1,4 @@
-use Rattle.std.proofs.Common.{arith, ◌≤◌}
+use Rattle.std.proofs.Common.{arith}
 use Rattle.wordset.specs.Lanes.{words}
 use Rattle.wordset.proofs.WordSet.has_sum_without_carry.Goals as goal
 use Rattle.wordset.proofs.CarryLemmas.{no_left, no_right, stays}

@@ -1,4 +1,4 @@
-use Rattle.std.proofs.Common.{◌≡◌, ◌<◌, ◌+◌, ◌*◌, ◌==◌, ℕ, length, get_or}
+use Rattle.std.proofs.Common.{◌≡◌, ◌<◌, ◌+◌, ◌*◌, ◌==◌, ℕ, get_or}
 use Rattle.std.specs.Int.{bit_at}
 use Rattle.wordset.specs.Bits.{has_bit}
 use Rattle.wordset.specs.Lanes.{AreLanes}

@@ -1,4 +1,3 @@
-use Rattle.std.proofs.Common.{◌∙◌, refl}
 use Rattle.wordset.proofs.WordSet.is_all.Goals as goal
 
 pub returns : goal.returns

@@ -1,4 +1,4 @@
-use Rattle.std.proofs.Common.{◌≡◌, ◌≤◌, ◌<◌, ◌&&◌, ◌||◌, ◌==◌, ◌+◌, ◌∙◌, ℕ, sym, ap, arith, refl}
+use Rattle.std.proofs.Common.{◌≡◌, ◌&&◌, ◌||◌, ◌==◌, ◌+◌, ◌∙◌, ℕ, sym, ap, arith}
 use Rattle.instruct.specs.Operates.{operate1_of}
 use Rattle.wordset.specs.Words.{some_below, IsFirstFrom, HasNoneFrom}
 use Rattle.wordset.specs.Lanes.{words}

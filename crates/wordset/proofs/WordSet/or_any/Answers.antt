@@ -1,5 +1,5 @@
-use Rattle.std.proofs.Common.{◌≡◌, ◌+◌, ◌%◌, ◌^◌, ◌||◌, ℕ, Bool, true, false, refl, sym, ap, ◌∙◌, arith}
-use Rattle.wordset.specs.Words.{SameWords, or_any}
+use Rattle.std.proofs.Common.{◌≡◌, ◌%◌, ◌^◌, sym, ap, ◌∙◌, arith}
+use Rattle.wordset.specs.Words.{or_any}
 use Rattle.wordset.specs.Lanes.{words}
 use Rattle.wordset.proofs.WordSet.or_any.Goals as goal
 use Rattle.wordset.proofs.WordSet.or_any.Goals.{then-parts-at-eq1, else-parts-at-eq1}

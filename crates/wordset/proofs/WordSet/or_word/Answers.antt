@@ -1,4 +1,4 @@
-use Rattle.std.proofs.Common.{◌≡◌, ◌+◌, ◌%◌, ◌^◌, ◌||◌, ℕ, Bool, true, false, refl, sym, ap, ◌∙◌, arith}
+use Rattle.std.proofs.Common.{◌≡◌, ◌%◌, ◌^◌, sym, ap, ◌∙◌, arith}
 use Rattle.wordset.specs.Bits.{ors_with}
 use Rattle.wordset.specs.Lanes.{words}
 use Rattle.wordset.proofs.WordSet.or_word.Goals as goal

@@ -1,5 +1,5 @@
-use Rattle.std.proofs.Common.{◌≡◌, ◌≤◌, ◌<◌, ◌&&◌, ◌||◌, ◌+◌, ◌∙◌, sym, ap, arith, refl}
-use Rattle.wordset.specs.Words.{SameWords, some_below, or_any, IsFirstFrom, HasNoneFrom}
+use Rattle.std.proofs.Common.{◌≡◌, ◌&&◌, ◌||◌, ◌+◌, ◌∙◌, sym, ap, arith}
+use Rattle.wordset.specs.Words.{some_below, or_any, IsFirstFrom, HasNoneFrom}
 use Rattle.wordset.specs.Bits.{ors_with}
 use Rattle.wordset.specs.Lanes.{words}
 use Rattle.wordset.proofs.Tests.{some_none, some_next, some_last}

@@ -1,4 +1,4 @@
-use Rattle.std.proofs.Common.{◌≡◌, ◌≤◌, ◌+◌, ◌==◌, ◌||◌, ℕ, arith, sym, ◌∙◌, ap}
+use Rattle.std.proofs.Common.{◌≤◌, ◌==◌, ◌||◌, arith, sym, ◌∙◌, ap}
 use Rattle.wordset.specs.Lanes.{words}
 use Rattle.wordset.proofs.WordSet.range.Goals as goal
 use Rattle.wordset.proofs.Ranges.{from_to, range_none, range_more, range_all}

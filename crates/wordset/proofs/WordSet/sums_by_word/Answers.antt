@@ -1,5 +1,5 @@
-use Rattle.std.proofs.Common.{◌≡◌, ◌≤◌, ◌<◌, ◌&&◌, ◌||◌, ◌+◌, ◌∙◌, sym, ap, arith, refl}
-use Rattle.wordset.specs.Words.{SameWords, some_below, minus, IsFirstFrom, HasNoneFrom}
+use Rattle.std.proofs.Common.{◌≡◌, ◌&&◌, ◌||◌, ◌+◌, ◌∙◌, sym, ap, arith}
+use Rattle.wordset.specs.Words.{some_below, minus, IsFirstFrom, HasNoneFrom}
 use Rattle.wordset.specs.Lanes.{words}
 use Rattle.wordset.proofs.Tests.{some_none, some_next, some_last}
 use Rattle.wordset.proofs.SumLemmas.{sums_all, has_some_from}
@@ -22,7 +22,7 @@ loop-word-preserved c =
     record {
       inside = omega (arith, c.index-next.ensures.small);
       so_far = λ v h. some_next c.loop-word.next c.in-Some.word (words c.args.self.now) (λ x. words c.args.other.now (minus v x)) (words c.loop-word.found v) (words c.union-found.result v) first
-          (c.loop-word.invariant.so_far v h) (c.union-found.ensures v h ∙ ap (λ p. words c.loop-word.found v || p) (c.shift.ensures v h))
+          (c.loop-word.invariant.so_far v h) (c.union-found.ensures v h ∙ ap (λ p. words c.loop-word.found v || p) (c.shift_from.ensures v h))
           ∙ ap (λ n. some_below (n + 1) (λ x. words c.args.self.now x && words c.args.other.now (minus v x))) (sym same);
     }
 

@@ -1,4 +1,3 @@
-use Rattle.std.proofs.Common.{arith}
 use Rattle.wordset.proofs.bits.weight.Goals as goal
 use Rattle.wordset.proofs.Parts.{small_weight, weight_small}
 

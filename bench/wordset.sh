@@ -1,0 +1,20 @@
+#!/bin/sh
+# Times the kernels of `wordset` in one run: against their plain bodies, and against a plain Rust
+# program of the same lanes (rustc -O). Prints a table of nanoseconds for one call.
+# It proves and builds the Rattle program in a folder of its own, over copies of the crates.
+set -e
+top=$(cd "$(dirname "$0")/.." && pwd)
+work=${1:-$(mktemp -d)}
+mkdir -p "$work/crates/wordset_speed/src"
+for crate in word12 instruct wordset; do
+    cp -r "$top/crates/$crate" "$work/crates/"
+done
+cp "$top/bench/wordset/main.rt" "$work/crates/wordset_speed/src/main.rt"
+grep -E '^(word12|instruct|wordset):' "$top/crates.txt" >"$work/crates.txt"
+echo 'wordset_speed: word12 wordset anyhow' >>"$work/crates.txt"
+rustc -O -o "$work/lanes" "$top/bench/wordset/lanes.rs"
+# Building runs the program once, whose lines are left out.
+(cd "$work/crates/wordset_speed" && rt run >"$work/built" 2>&1) || { cat "$work/built"; exit 1; }
+"$work/crates/wordset_speed/out/wordset_speed" >"$work/times"
+"$work/lanes" >>"$work/times"
+python3 "$top/bench/wordset/table.py" "$work/times"

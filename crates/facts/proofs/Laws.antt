@@ -224,7 +224,7 @@ still_outside {f} {v} {w} written o h = record {
   equations = outside_kept v w written o f.equations h.equations;
 }
 
--- D17's joined fact
+-- the joined fact of a return
 pub joined_holds : {call exit : Fact} {v : Values} (written : Words) → HoldsOutside written call v → Holds exit v → Holds (joined call exit written) v
 unfolding joined
 joined_holds {call} {exit} {v} written c x = record {

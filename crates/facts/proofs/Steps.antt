@@ -248,7 +248,7 @@ module _ (pl : Place) (dd : IsDeclared pl.declaration) (start : Cells) (sw : (a 
     memory = updated s.memory y (plus (s.memory y) 1);
   }
 
-  -- what V5 and V14 say of a counted cell
+  -- what the conditions on writes say of a counted cell
   abbrev pub MayCount : Fact → Words → ℕ → Type 0
   MayCount f p y =
       (pl.declaration.variable y ≡ true) ⊎

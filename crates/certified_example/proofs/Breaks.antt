@@ -1,7 +1,7 @@
 -- Each of the programs breaks its rule.
-use Rattle.std.proofs.Common.{◌≡◌, ℕ, ◌<◌, ◌==◌, Bool, true, false, ◌⊎◌, Option, Some, None, [], refl, sym, ◌∙◌, inl, inr, arith}
+use Rattle.std.proofs.Common.{◌≡◌, ℕ, ◌<◌, ◌==◌, Bool, true, false, Option, Some, None, [], refl, inl, inr, arith}
 use Rattle.std.specs.Prelude.{if◌then◌else◌}
-use Rattle.std.proofs.lemmas.Bool.{true≢false, false≢true}
+use Rattle.std.proofs.lemmas.Bool.{false≢true}
 use Rattle.instruct.specs.Instructions.{meaning_of}
 use Rattle.wordset.specs.Words.{Words, nothing}
 use Rattle.processor.specs.Machine.{State}

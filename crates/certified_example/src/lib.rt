@@ -28,5 +28,4 @@ pub fn broken_are_unsafe()
     ensures return_without_call { IsUnsafe 0o5610 None }
     ensures undeclared_halt { IsUnsafe 0o7402 None }
     ensures unlisted_read { IsUnsafe 0o1205 (Some nothing) }
-{
-}
+{}

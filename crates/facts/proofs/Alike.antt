@@ -1,10 +1,10 @@
 -- Facts that agree entail alike.
-use Rattle.std.proofs.Common.{◌≡◌, ℕ, zero, suc, ◌<◌, ◌==◌, Bool, true, false, ◌&&◌, ◌⊎◌, Option, Some, None, List, [], ◌∷◌, refl, sym, ap, ◌∙◌, subst, inl, inr, arith}
+use Rattle.std.proofs.Common.{◌≡◌, ℕ, zero, suc, ◌<◌, ◌==◌, Bool, true, false, ◌&&◌, Option, Some, None, List, [], ◌∷◌, refl, sym, ap, ◌∙◌, subst, inl, inr, arith}
 use Rattle.std.specs.Prelude.{if◌then◌else◌}
-use Rattle.std.proofs.lemmas.Bool.{and_parts, and_from, cases_Bool, true≢false}
+use Rattle.std.proofs.lemmas.Bool.{and_parts, and_from}
 use Rattle.wordset.specs.Words.{plus, minus, Words, SameWords, some_below, first_below, only_of, only, without}
-use Rattle.facts.specs.Facts.{Name, same, Equation, Fact, met_by, narrowed, Among, Knows, KnowsAll, Entails}
-use Rattle.facts.specs.Same.{SameEquations, SameFact, SameLaw}
+use Rattle.facts.specs.Facts.{Name, same, Equation, Fact, met_by, narrowed, Among, Knows, KnowsAll}
+use Rattle.facts.specs.Same.{SameFact, SameLaw}
 use Rattle.facts.proofs.Numbers.{plus_lt, minus_lt}
 
 both_ways : (a b : Bool) → (a ≡ true → b ≡ true) → (b ≡ true → a ≡ true) → a ≡ b

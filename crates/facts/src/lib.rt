@@ -59,5 +59,4 @@ pub fn start_law()
 /// the same facts, and are entailed by the same.
 pub fn same_law()
     ensures { SameLaw }
-{
-}
+{}

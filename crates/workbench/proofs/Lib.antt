@@ -1,2 +1,4 @@
 pub mod FollowLemmas
 pub mod TextLemmas
+pub mod InputLemmas
+pub mod RunLemmas

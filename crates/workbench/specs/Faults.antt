@@ -1,35 +1,63 @@
 -- Which faults a command's own work may have.
-use Rattle.std.specs.Prelude.{ℕ, ◌≡◌, Bool, true, false, Result, Ok, Err, Option, List, IfSome}
+use Rattle.std.specs.Prelude.{ℕ, ◌≡◌, Bool, true, false, Result, Ok, Err, Option, List, IfSome, ◌||◌, take}
 use Rattle.bin_tape.specs.Refuses.{Refuses}
+use Rattle.peripherals.specs.EventText.{Fails}
 use Rattle.bin_tape.specs.declared.fault.TapeFault.{TapeFault}
 use Rattle.bin_tape.specs.declared.fault.TapeFault.TheVariants.{ReadFault}
 use Rattle.workbench.specs.declared.status.Fault.{Fault}
-use Rattle.workbench.specs.declared.status.Fault.TheVariants.{Tape, Device, NoMemory}
+use Rattle.workbench.specs.declared.status.Fault.TheVariants.{Tape, Events, Device}
+use Rattle.workbench.specs.declared.status.Fault.TheVariants as fault
+use Rattle.peripherals.specs.declared.event_text.EventsFault.{EventsFault}
+use Rattle.peripherals.specs.declared.event_text.EventsFault.TheVariants.{NoMemory}
 use Rattle.workbench.specs.declared.status.DeviceFault.TheVariants.{Read, Write}
 
 -- Memory was refused, or a write failed.
 abbrev pub IsRunFault : Fault → Type 0
 IsRunFault (Tape _) = ⊥
+IsRunFault (Events _) = ⊥
 IsRunFault (Device Read) = ⊥
 IsRunFault (Device Write) = Unit {0}
-IsRunFault NoMemory = Unit {0}
+IsRunFault fault.NoMemory = Unit {0}
 
 -- The answer is that a write failed.
 abbrev pub fails_to_write : {T : Type 0} → Result T Fault → Bool
 fails_to_write (Ok _) = false
 fails_to_write (Err (Tape _)) = false
+fails_to_write (Err (Events _)) = false
 fails_to_write (Err (Device Read)) = false
 fails_to_write (Err (Device Write)) = true
-fails_to_write (Err NoMemory) = false
+fails_to_write (Err fault.NoMemory) = false
 
 -- A read that failed is the device's fault; any other fault of a tape is the tape's.
 abbrev pub fault_of_tape : TapeFault → Fault
 fault_of_tape ReadFault = Device Read
 fault_of_tape fault = Tape fault
 
+-- A want of memory is nobody's fault; any other fault of a text of events is the text's.
+abbrev pub fault_of_events : EventsFault → Fault
+fault_of_events NoMemory = fault.NoMemory
+fault_of_events fault = Events fault
+
+-- A text wasn't read: a read failed, or memory was refused.
+abbrev pub IsInputFault : Bool → Fault → Type 0
+IsInputFault marked (Tape _) = ⊥
+IsInputFault marked (Events _) = ⊥
+IsInputFault marked (Device Read) = marked ≡ true
+IsInputFault marked (Device Write) = ⊥
+IsInputFault marked fault.NoMemory = Unit {0}
+
 -- A fault of the tape is the first fault of its bytes, if no read failed; a read fault comes where one did.
 abbrev pub IsTapeFault : Bool → Option (List ℕ) → Fault → Type 0
 IsTapeFault marked frames (Tape fault) = IfSome frames (λ bytes. Refuses 65536 bytes fault)
+IsTapeFault marked frames (Events _) = ⊥
 IsTapeFault marked frames (Device Read) = marked ≡ true
 IsTapeFault marked frames (Device Write) = Unit {0}
-IsTapeFault marked frames NoMemory = Unit {0}
+IsTapeFault marked frames fault.NoMemory = Unit {0}
+
+-- The same with a text of events, whose fault is the first of its own; its own reads may fail too.
+abbrev pub IsEventsFault : Bool → Option (List ℕ) → Bool → Option (List ℕ) → Fault → Type 0
+IsEventsFault marked frames text_marked text (Tape fault) = IfSome frames (λ bytes. Refuses 65536 bytes fault)
+IsEventsFault marked frames text_marked text (Events fault) = IfSome text (λ bytes. Fails (take 65537 bytes) fault)
+IsEventsFault marked frames text_marked text (Device Read) = (marked || text_marked) ≡ true
+IsEventsFault marked frames text_marked text (Device Write) = Unit {0}
+IsEventsFault marked frames text_marked text fault.NoMemory = Unit {0}

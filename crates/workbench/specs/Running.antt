@@ -1,10 +1,11 @@
 -- The run of a tape.
-use Rattle.std.specs.Prelude.{ℕ, ◌≡◌, Bool, if◌then◌else◌, None, List, Option, take}
+use Rattle.std.specs.Prelude.{ℕ, ◌≡◌, Bool, false, if◌then◌else◌, None, List, Option, take}
 use Rattle.std.specs.Io.KnownBytes.{Appends}
 use Rattle.instruct.specs.declared.Profile.{Profile}
 use Rattle.bin_tape.specs.Tape.{IsTape}
 use Rattle.peripherals.specs.declared.Event.{Event}
 use Rattle.peripherals.specs.Devices.{WorldState, idle}
+use Rattle.peripherals.specs.EventText.{Spells}
 use Rattle.peripherals.specs.Loading.{image_of, laid}
 use Rattle.workbench.specs.declared.status.Status.{Status}
 use Rattle.workbench.specs.declared.status.Status.TheVariants.{Done, Refused}
@@ -33,3 +34,9 @@ pub record WritesRun (profile : Profile) (start : ℕ) (ends_at_halt : Bool) (ev
   pub follows : Follows profile ends_at_halt events (fresh image start) steps stuck final
   pub written : Appends old new (summary stuck final steps)
   pub status_is : status ≡ status_of stuck
+
+-- The same by the events that a text spells; such a run goes on after a halt.
+pub record WritesEventRun (profile : Profile) (start : ℕ) (text frames : List ℕ) (old new : Option (List ℕ)) (status : Status) : Type 0 where
+  pub events : List Event
+  pub spelled : Spells (take 65537 text) events
+  pub run : WritesRun profile start false events frames old new status

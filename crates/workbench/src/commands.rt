@@ -5,18 +5,22 @@ ghost use Rattle.std.specs.Io.KnownBytes.{Appends};
 ghost use Rattle.bin_tape.specs.Tape.{IsTape};
 ghost use Rattle.bin_tape.specs.Refuses.{Refuses};
 ghost use Rattle.workbench.specs.Dumping.{dump_text, WritesDump};
-ghost use Rattle.workbench.specs.Faults.{fails_to_write, IsTapeFault};
+ghost use Rattle.workbench.specs.Faults.{fails_to_write, IsTapeFault, IsEventsFault};
 ghost use Rattle.workbench.specs.Follows.{rounds};
-ghost use Rattle.workbench.specs.Running.{WritesRun};
+ghost use Rattle.workbench.specs.Running.{WritesRun, WritesEventRun, status_of};
 
-use crate::follow::follow_rounds;
+use crate::follow::{follow_events, follow_rounds};
+use crate::input::read_text;
 use crate::status::{Fault, Status};
 use crate::text::{dump_of, summary_of};
 use bin_tape::{ByteSink, ByteSource, put, read_from};
 use instruct::Profile;
-use peripherals::{Start, World};
+use peripherals::{Start, World, events};
 use std::alloc::Allocator;
 use word12::Word;
+
+/// One byte more than a text of events may have, so that a longer one is seen to be too long.
+const MOST_TEXT: usize = 65_537;
 
 /// How a tape is run.
 #[derive(Clone, Copy, PartialEq, Eq, Debug)]
@@ -66,11 +70,51 @@ pub fn run<A: Allocator + Copy, R: ByteSource, W: ByteSink>(
     let progress = follow_rounds(&mut world, out, options.trace, options.rounds)?;
     let text = summary_of(alloc, progress.stuck, &world, progress.steps)?;
     put(out, &text)?;
-    Ok(if progress.stuck {
-        Status::Refused
-    } else {
-        Status::Done
-    })
+    Ok(status_of(progress.stuck))
+}
+
+/// Runs a tape by the events of a text in place of rounds, and writes the summary. The run ends
+/// early at an unsupported word alone; `rounds` of the options isn't looked at.
+///
+/// # Errors
+///
+/// As for [`run`], and the text's fault. The tape is read and, if it has a fault, refused first.
+pub fn run_events<A: Allocator + Copy, R: ByteSource, E: ByteSource, W: ByteSink>(
+    alloc: A,
+    tape: &mut R,
+    text: &mut E,
+    options: RunOptions,
+    out: &mut W,
+) -> Result<Status, Fault>
+    requires readable { R.mark tape.old ≡ false }
+    requires text_readable { E.mark text.old ≡ false }
+    requires writable { W.mark out.old ≡ false }
+    ensures run { IfOk result (λ status. options.trace ≡ false → IfSome (R.remaining tape.old) (λ frames. IfSome (E.remaining text.old)
+        (λ bytes. WritesEventRun options.profile options.start bytes frames (W.taken out.old) (W.taken out.new) status))) }
+    ensures faults { IfErr result (IsEventsFault (R.mark tape.new) (R.remaining tape.old) (E.mark text.new) (E.remaining text.old)) }
+    ensures marks { W.mark out.new ≡ fails_to_write result }
+{
+    let image = read_from(tape)?;
+    let bytes = read_text(alloc, text, MOST_TEXT)?;
+    let list = events(alloc, &bytes)?;
+    let mut world = World::load(
+        alloc,
+        &image,
+        options.start,
+        &Start::zero(),
+        options.profile,
+    );
+    let progress = follow_events(&mut world, out, options.trace, &list)?;
+    let summary = summary_of(alloc, progress.stuck, &world, progress.steps)?;
+    put(out, &summary)?;
+    Ok(status_of(progress.stuck))
+}
+
+/// A run that is stuck at an unsupported word is refused.
+fn status_of(stuck: bool) -> Status
+    ensures { result ≡ status_of stuck }
+{
+    if stuck { Status::Refused } else { Status::Done }
 }
 
 /// Writes a line for each word of a tape, in rising order of the addresses: the address, the word

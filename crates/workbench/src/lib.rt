@@ -4,6 +4,7 @@
 pub mod commands;
 mod files;
 pub mod follow;
+mod input;
 mod program;
 pub mod status;
 mod text;

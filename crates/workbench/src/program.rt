@@ -2,7 +2,7 @@
 
 ghost use Rattle.std.specs.Prelude.{◌≡◌, false};
 
-use crate::commands::{dump, run};
+use crate::commands::{RunOptions, dump, run, run_events};
 use crate::files::open;
 use crate::status::{Fault, Status};
 use crate::words::{Refused, Request, parse_words};
@@ -66,6 +66,9 @@ fn refuse<R: Print + Eprint>(rt: &R, refused: Refused) -> Status {
         Refused::Steps => eprintln!(rt;
             "error: bad value for '--steps': it is a number from 1 to 1000000"
         ),
+        Refused::BothStandardInput => eprintln!(rt;
+            "error: '-' stands for standard input in one place alone"
+        ),
         Refused::Profile => eprintln!(rt; "error: bad value for '--profile': it is 8i or 8e"),
     };
     match told {
@@ -73,35 +76,65 @@ fn refuse<R: Print + Eprint>(rt: &R, refused: Refused) -> Status {
     }
 }
 
-/// Opens the files of a request and carries it out.
+/// Opens the files of a request, in the order of its words, and carries it out.
 fn answer<R: Files + Input + Print>(
     rt: &R,
     alloc: Global,
     request: &Request<'_>,
 ) -> Result<Status, Fault> {
     match request {
-        Request::Run { tape, .. } | Request::Dump { tape, .. } => {
-            if *tape == "-" {
-                work(rt, alloc, request, Reads::new(rt.reader()))
-            } else {
-                work(rt, alloc, request, Reads::new(open(rt, tape)?))
-            }
+        Request::Run {
+            tape: "-",
+            events,
+            options,
+        } => run_from(rt, alloc, Reads::new(rt.reader()), *events, *options),
+        Request::Run {
+            tape,
+            events,
+            options,
+        } => run_from(rt, alloc, Reads::new(open(rt, tape)?), *events, *options),
+        Request::Dump { tape: "-", profile } => {
+            dump(
+                alloc,
+                &mut Reads::new(rt.reader()),
+                *profile,
+                &mut Writes::new(io::writer(rt)),
+            )
+        }
+        Request::Dump { tape, profile } => {
+            dump(
+                alloc,
+                &mut Reads::new(open(rt, tape)?),
+                *profile,
+                &mut Writes::new(io::writer(rt)),
+            )
         }
     }
 }
 
-/// Carries out a request on a tape.
-fn work<R: Print, S: ByteSource + Drop>(
+/// Runs the tape of a source, in rounds or by the events of a file.
+fn run_from<R: Files + Input + Print, S: ByteSource + Drop>(
     rt: &R,
     alloc: Global,
-    request: &Request<'_>,
     mut tape: S,
+    events: Option<&str>,
+    options: RunOptions,
 ) -> Result<Status, Fault>
     requires { S.mark tape ≡ false }
 {
     let mut out = Writes::new(io::writer(rt));
-    match request {
-        Request::Run { options, .. } => run(alloc, &mut tape, *options, &mut out),
-        Request::Dump { profile, .. } => dump(alloc, &mut tape, *profile, &mut out),
+    match events {
+        None => run(alloc, &mut tape, options, &mut out),
+        Some("-") => run_events(
+            alloc,
+            &mut tape,
+            &mut Reads::new(rt.reader()),
+            options,
+            &mut out,
+        ),
+        Some(name) => {
+            let mut text = Reads::new(open(rt, name)?);
+            run_events(alloc, &mut tape, &mut text, options, &mut out)
+        }
     }
 }

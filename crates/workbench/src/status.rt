@@ -3,10 +3,10 @@
 ghost use Rattle.std.specs.Prelude.{◌≡◌};
 ghost use Rattle.workbench.specs.declared.status.Fault.TheVariants.{Device, NoMemory};
 ghost use Rattle.workbench.specs.declared.status.DeviceFault.TheVariants.{Write};
-ghost use Rattle.workbench.specs.Faults.{fault_of_tape};
+ghost use Rattle.workbench.specs.Faults.{fault_of_tape, fault_of_events};
 
 use bin_tape::{Failed, TapeFault};
-use peripherals::NoMemory;
+use peripherals::{EventsFault, NoMemory};
 use std::alloc::AllocError;
 use thiserror::Error;
 
@@ -49,6 +49,9 @@ pub enum Fault {
     /// The tape is refused.
     #[error("pdp8: tape: {0}")]
     Tape(TapeFault),
+    /// The text of events is refused.
+    #[error("pdp8: events: {0}")]
+    Events(EventsFault),
     /// A device failed.
     #[error("pdp8: device: {0}")]
     Device(DeviceFault),
@@ -61,7 +64,7 @@ impl Fault {
     /// The status that the program ends with.
     pub fn status(self) -> Status {
         match self {
-            Fault::Tape(_) => Status::Refused,
+            Fault::Tape(_) | Fault::Events(_) => Status::Refused,
             Fault::Device(_) => Status::Device,
             Fault::NoMemory => Status::Memory,
         }
@@ -76,6 +79,18 @@ impl From<TapeFault> for Fault {
         match fault {
             TapeFault::ReadFault => Fault::Device(DeviceFault::Read),
             _ => Fault::Tape(fault),
+        }
+    }
+}
+
+impl From<EventsFault> for Fault {
+    ghost from_gives = { λ fault result. result ≡ fault_of_events fault };
+
+    /// A want of memory is not the text's fault.
+    fn from(fault: EventsFault) -> Fault {
+        match fault {
+            EventsFault::NoMemory => Fault::NoMemory,
+            _ => Fault::Events(fault),
         }
     }
 }

@@ -21,6 +21,8 @@ pub enum Request<'a> {
     Run {
         /// The name of the tape's file.
         tape: &'a str,
+        /// The name of the file of events that stand in place of rounds.
+        events: Option<&'a str>,
         /// How it is run.
         options: RunOptions,
     },
@@ -44,6 +46,8 @@ pub enum Refused {
     Steps,
     /// The value of `--profile` is neither `8i` nor `8e`.
     Profile,
+    /// The tape and the events are both to come from standard input.
+    BothStandardInput,
     /// Memory was refused.
     Memory,
 }
@@ -91,6 +95,10 @@ fn run_command<'a>(alloc: Global) -> Result<Command<'a>, AllocError> {
         .long("steps")
         .value_name("N")
         .help("how many rounds are made at most; 100000 without it");
+    let events = Arg::new(alloc, "events")
+        .long("events")
+        .value_name("FILE")
+        .help("the events that happen in place of the rounds, or - for standard input");
     let trace = Arg::new(alloc, "trace")
         .long("trace")
         .action(ArgAction::SetTrue)
@@ -100,6 +108,7 @@ fn run_command<'a>(alloc: Global) -> Result<Command<'a>, AllocError> {
         .arg(tape_word(alloc))?
         .arg(start)?
         .arg(steps)?
+        .arg(events)?
         .arg(trace)?
         .arg(profile_word(alloc))
 }
@@ -152,6 +161,19 @@ fn run_options(found: &ArgMatches<'_>) -> Result<RunOptions, Refused> {
     })
 }
 
+fn run_request<'a>(found: &ArgMatches<'a>) -> Result<Request<'a>, Refused> {
+    let tape = found.get_str("TAPE").unwrap_or("-");
+    let events = found.get_str("events");
+    if tape == "-" && events == Some("-") {
+        return Err(Refused::BothStandardInput);
+    }
+    Ok(Request::Run {
+        tape,
+        events,
+        options: run_options(found)?,
+    })
+}
+
 /// Reads the program's words, its own name among them.
 pub fn parse_words<'a, S: AsStr>(alloc: Global, words: &'a [S]) -> Result<Request<'a>, Refused> {
     let matches = command(alloc)?.try_get_matches_from(words)?;
@@ -160,10 +182,7 @@ pub fn parse_words<'a, S: AsStr>(alloc: Global, words: &'a [S]) -> Result<Reques
             tape: found.get_str("TAPE").unwrap_or("-"),
             profile: profile_of(found)?,
         }),
-        Some((_, found)) => Ok(Request::Run {
-            tape: found.get_str("TAPE").unwrap_or("-"),
-            options: run_options(found)?,
-        }),
+        Some((_, found)) => run_request(found),
         None => Err(Refused::Memory),
     }
 }

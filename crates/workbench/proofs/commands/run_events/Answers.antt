@@ -1,0 +1,15 @@
+use Rattle.std.proofs.Common.{rules, false}
+use Rattle.std.specs.Io.KnownBytes.{Appends}
+use Rattle.peripherals.specs.World.{view}
+use Rattle.workbench.specs.Follows.{Follows}
+use Rattle.workbench.specs.Running.{fresh}
+use Rattle.workbench.specs.Summary.{summary}
+use Rattle.workbench.proofs.RunLemmas.{event_run}
+use Rattle.workbench.proofs.commands.run_events.Goals as goal
+
+pub returns-clause-run : goal.returns-clause-run
+returns-clause-run g c = λ quiet.
+    let follows : Follows c.args.options.profile false c.in_ok-list.list.items (fresh c.in_ok-image.image c.args.options.start) c.in_ok-progress.progress.steps c.in_ok-progress.progress.stuck (view c.follow_events.new.world) = search rules in
+    let written : Appends (g.W.ByteSink.taken c.args.out.now) (g.W.ByteSink.taken c.put.new.sink) (summary c.in_ok-progress.progress.stuck (view c.follow_events.new.world) c.in_ok-progress.progress.steps) = search rules in
+    event_run c.args.options.profile c.args.options.start c.in_ok-progress.progress.steps c.in_ok-image.image c.in_ok-bytes.bytes.items c.in_ok-list.list.items c.in_ok-progress.progress.stuck (view c.follow_events.new.world) _ _ _ _ c.status_of.result
+    c.in_ok-image.ensures.tape c.in_ok-bytes.ensures.text (rw c.deref.ensures.value at c.in_ok-list.ensures.found) follows written c.status_of.ensures

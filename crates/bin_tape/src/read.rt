@@ -47,11 +47,13 @@ pub fn read_tape(frames: &[u8]) -> Result<Image, TapeFault>
     // What is read is a tape, whose trailer is within the limit, with this image.
     ensures tape { IfOk result (IsTape (take 65536 frames.now)) }
     // Each such tape is read.
-    ensures only { (image : List (Option ℕ)) → IsTape (take 65536 frames.now) image → result ≡ Ok image }
+    ensures only { (image : List (Option ℕ)) →
+        IsTape (take 65536 frames.now) image → result ≡ Ok image }
     // A fault comes where it is the tape's,
     ensures refused { IfErr result (Refuses 65536 frames.now) }
     // and whichever is the tape's comes.
-    ensures exact { (fault : TapeFault) → Refuses 65536 frames.now fault → result ≡ Err fault }
+    ensures exact { (fault : TapeFault) →
+        Refuses 65536 frames.now fault → result ≡ Err fault }
 {
     read_whole(frames)
 }

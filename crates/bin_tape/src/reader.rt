@@ -61,7 +61,8 @@ impl Reader {
 
     /// The word is no checksum, since another follows.
     fn settle(&mut self, word: TapeWord)
-        ensures settled { (before : List TapeWord) → Settles before self.old → Settles (word ∷ before) self.new }
+        ensures settled { (before : List TapeWord) →
+            Settles before self.old → Settles (word ∷ before) self.new }
         ensures place { self.new.place ≡ self.old.place }
         ensures last { self.new.last ≡ self.old.last }
     {
@@ -79,7 +80,8 @@ impl Reader {
 
     /// A whole word has come.
     fn take(&mut self, word: TapeWord)
-        ensures held { (before : List TapeWord) → Holds before self.old → Holds (word ∷ before) self.new }
+        ensures held { (before : List TapeWord) →
+            Holds before self.old → Holds (word ∷ before) self.new }
         ensures place { self.new.place ≡ self.old.place }
     {
         if let Some(last) = self.last {
@@ -91,7 +93,8 @@ impl Reader {
     /// What the frame 0200 is: `false` where no word came before it, and it is skipped; `true`
     /// where it is the trailer after a checksum.
     fn end(&self) -> Result<bool, TapeFault>
-        ensures { (parts : List Part) → Holds (words parts) self.now → EndsAs (ended parts (words parts)) result }
+        ensures { (parts : List Part) →
+            Holds (words parts) self.now → EndsAs (ended parts (words parts)) result }
     {
         match self.last {
             None => Ok(false),
@@ -170,7 +173,8 @@ impl Reader {
 
     /// The fault of a list that ends here.
     pub(crate) fn unfinished(&self) -> TapeFault
-        ensures answer { (p : Progress) → Shows p self.now → IsOpen p → Answers false p (Err result) }
+        ensures answer { (p : Progress) →
+            Shows p self.now → IsOpen p → Answers false p (Err result) }
         ensures no_read { is_read_fault result ≡ false }
     {
         match (self.place, self.last) {

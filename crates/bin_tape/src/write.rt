@@ -151,7 +151,8 @@ fn tape_of(image: &Image) -> Option<Frames>
 /// failed or took nothing, which the mark shows; a front of the tape went out before it.
 pub fn write_tape<W: ByteSink>(image: &Image, sink: &mut W) -> Result<(), WriteTapeFault>
     requires unmarked { W.mark sink.old ≡ false }
-    ensures whole { OnOk result (Appends (W.taken sink.old) (W.taken sink.new) (written_tape image.now)) }
+    ensures whole { OnOk result
+        (Appends (W.taken sink.old) (W.taken sink.new) (written_tape image.now)) }
     // What went out is a tape with this image.
     ensures tape { OnOk result (IsTape (written_tape image.now) image.now) }
     ensures empty { (result ≡ Err EmptyImage) ↔ IsEmptyImage image.now }

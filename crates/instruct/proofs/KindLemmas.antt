@@ -1,12 +1,12 @@
--- The kind of a word by its operation.
-use Rattle.std.proofs.Common.{ℕ, ◌<◌, ◌≡◌, ◌/◌, ◌≤◌, ◌==◌, arith, refl, Bool, true, false, if◌then◌else◌, Option, Some, None, IsSome}
+-- The kind of a word and its meaning, one from the other.
+use Rattle.std.proofs.Common.{ℕ, ◌<◌, ◌≡◌, ◌/◌, ◌≤◌, ◌==◌, arith, refl, sym, ◌∙◌, ap, Bool, true, false, if◌then◌else◌, Option, Some, None}
 use Rattle.std.proofs.lemmas.Bool.Decides.{nat_tests}
 use Rattle.instruct.specs.declared.Profile.{Profile}
-use Rattle.instruct.specs.declared.Profile.TheVariants.{Pdp8E}
-use Rattle.instruct.specs.declared.Instruction.TheVariants.{Memory, Operate3}
+use Rattle.instruct.specs.declared.Profile.TheVariants.{Pdp8I, Pdp8E}
+use Rattle.instruct.specs.declared.Instruction.TheVariants.{Memory, Operate1, Operate2, Operate3, Iot, Unsupported}
+use Rattle.instruct.specs.Bits.{has_bit, is_indirect, named_cell, is_one_of}
 use Rattle.instruct.specs.Operates.{MqOperate, mq_operate_of}
-use Rattle.instruct.specs.Instructions.{meaning_of, instruction_of, kind_of, operate_meaning, device_meaning, device_action, mq_meaning, is_group1, DeviceAction, Meaning, And, Tad, Isz, Dca, Jms, Jmp, Group1, Group2, Undefined}
-use Rattle.instruct.specs.Bits.{has_bit, is_indirect, named_cell}
+use Rattle.instruct.specs.Instructions.{DeviceAction, Skips, Ors, Clears, Takes, Leaves, Meaning, And, Tad, Isz, Dca, Jms, Jmp, Group1, Group2, Group3, Device, Undefined, flag_tests, byte_readers, quiet_words, quiet_words_of_8e, device_action, device_meaning, is_group1, mq_meaning, group3_meaning, operate_meaning, meaning_of, kind_of}
 
 pub memory_kind : (p : Profile) (at word : ℕ) → word / 512 < 6 → kind_of (meaning_of p at word) ≡ Memory
 unfolding meaning_of
@@ -22,42 +22,156 @@ operate_kind p at word h = grind (arith, nat_tests)
 
 pub ruleset kinds = (arith, memory_kind, device_kind, operate_kind)
 
-mq_kind : (o : Option MqOperate) → kind_of (mq_meaning o) ≡ Operate3 → IsSome o
-mq_kind (Some x) is = refl
-mq_kind None is = cc
+-- what a meaning says of its word
+pub data Shape (p : Profile) (word : ℕ) (m : Meaning) : Type 0 where
+  IsMemory : word / 512 < 6 → kind_of m ≡ Memory → Shape p word m
+  IsDevice : (a : DeviceAction) → device_action p word ≡ Some a → m ≡ Device a → Shape p word m
+  IsGroup1 : m ≡ Group1 word → Shape p word m
+  IsGroup2 : m ≡ Group2 word → Shape p word m
+  IsGroup3 : (o : MqOperate) → mq_operate_of word ≡ Some o → m ≡ Group3 o → Shape p word m
+  IsUndefined : m ≡ Undefined → Shape p word m
 
-action_kind : (o : Option DeviceAction) → kind_of (device_meaning o) ≡ Operate3 → ⊥
-action_kind (Some x) is = cc
-action_kind None is = cc
+device_shape : (p : Profile) (word : ℕ) (o : Option DeviceAction) → device_action p word ≡ o → Shape p word (device_meaning o)
+device_shape p word (Some a) is = IsDevice a is refl
+device_shape p word None is = IsUndefined refl
 
-group1_kind : (b : Bool) (word : ℕ) → kind_of (if b then Group1 word else Undefined) ≡ Operate3 → ⊥
-group1_kind true word is = cc
-group1_kind false word is = cc
+mq_shape : (p : Profile) (word : ℕ) (o : Option MqOperate) → mq_operate_of word ≡ o → Shape p word (mq_meaning o)
+mq_shape p word (Some o) is = IsGroup3 o is refl
+mq_shape p word None is = IsUndefined refl
 
-operate_words : (b g : Bool) (word : ℕ) → kind_of (if b then (if g then mq_meaning (mq_operate_of word) else Group2 word) else (if is_group1 Pdp8E word then Group1 word else Undefined)) ≡ Operate3 → IsSome (mq_operate_of word)
-operate_words true true word is = mq_kind (mq_operate_of word) is
-operate_words true false word is = cc
-operate_words false g word is = absurd (group1_kind (is_group1 Pdp8E word) word is)
+group3_shape : (p q : Profile) (word : ℕ) → Shape p word (group3_meaning q word)
+group3_shape p Pdp8I word = IsUndefined refl
+group3_shape p Pdp8E word = mq_shape p word (mq_operate_of word) refl
 
-past_memory : (b : Bool) (x y : Meaning) → kind_of x ≡ Memory → kind_of (if b then x else y) ≡ Operate3 → kind_of y ≡ Operate3
-past_memory true x y memory is = cc
-past_memory false x y memory is = is
+if_shape : (p : Profile) (word : ℕ) (b : Bool) (x y : Meaning) → Shape p word x → Shape p word y → Shape p word (if b then x else y)
+if_shape p word true x y sx sy = sx
+if_shape p word false x y sx sy = sy
 
-past_device : (b : Bool) (o : Option DeviceAction) (y : Meaning) → kind_of (if b then device_meaning o else y) ≡ Operate3 → kind_of y ≡ Operate3
-past_device true o y is = absurd (action_kind o is)
-past_device false o y is = is
+operate_shape : (p : Profile) (word : ℕ) → Shape p word (operate_meaning p word)
+operate_shape p word =
+    if_shape p word (has_bit 8 word) _ _
+    (if_shape p word (has_bit 0 word) _ _ (group3_shape p p word) (IsGroup2 refl))
+    (if_shape p word (is_group1 p word) _ _ (IsGroup1 refl) (IsUndefined refl))
 
--- only the six words are of group 3
-pub group3_words : (word : ℕ) → instruction_of Pdp8E word ≡ Operate3 → IsSome (mq_operate_of word)
-unfolding instruction_of meaning_of
-group3_words word is =
-    let i : Bool = is_indirect word in
-    let c : ℕ = named_cell word 0 in
-    operate_words (has_bit 8 word) (has_bit 0 word) word
-    (past_device (word / 512 == 6) (device_action Pdp8E word) _
-    (past_memory (word / 512 == 5) (Jmp i c) _ refl
-    (past_memory (word / 512 == 4) (Jms i c) _ refl
-    (past_memory (word / 512 == 3) (Dca i c) _ refl
-    (past_memory (word / 512 == 2) (Isz i c) _ refl
-    (past_memory (word / 512 == 1) (Tad i c) _ refl
-    (past_memory (word / 512 == 0) (And i c) _ refl is)))))))
+-- a memory reference, or the rest of the chain
+memory_shape : (p : Profile) (word k : ℕ) (b : Bool) (x y : Meaning) → k < 6 → (word / 512 == k) ≡ b → kind_of x ≡ Memory → Shape p word y → Shape p word (if b then x else y)
+memory_shape p word k true x y low is kind sy = let same : word / 512 ≡ k = grind (arith, nat_tests) in IsMemory (omega arith) kind
+memory_shape p word k false x y low is kind sy = sy
+
+pub shape : (p : Profile) (at word : ℕ) → Shape p word (meaning_of p at word)
+unfolding meaning_of
+shape p at word =
+    memory_shape p word 0 _ _ _ (omega arith) refl refl
+    (memory_shape p word 1 _ _ _ (omega arith) refl refl
+    (memory_shape p word 2 _ _ _ (omega arith) refl refl
+    (memory_shape p word 3 _ _ _ (omega arith) refl refl
+    (memory_shape p word 4 _ _ _ (omega arith) refl refl
+    (memory_shape p word 5 _ _ _ (omega arith) refl refl
+    (if_shape p word (word / 512 == 6) _ _ (device_shape p word (device_action p word) refl) (operate_shape p word)))))))
+
+memory_of : (p : Profile) (word : ℕ) (m : Meaning) → Shape p word m → kind_of m ≡ Memory → word / 512 < 6
+memory_of p word m (IsMemory low kind) is = low
+memory_of p word m (IsDevice a action same) is = let other : kind_of m ≡ Iot = ap kind_of same in cc
+memory_of p word m (IsGroup1 same) is = let other : kind_of m ≡ Operate1 = ap kind_of same in cc
+memory_of p word m (IsGroup2 same) is = let other : kind_of m ≡ Operate2 = ap kind_of same in cc
+memory_of p word m (IsGroup3 o operate same) is = let other : kind_of m ≡ Operate3 = ap kind_of same in cc
+memory_of p word m (IsUndefined same) is = let other : kind_of m ≡ Unsupported = ap kind_of same in cc
+
+group1_of : (p : Profile) (word : ℕ) (m : Meaning) → Shape p word m → kind_of m ≡ Operate1 → m ≡ Group1 word
+group1_of p word m (IsMemory low kind) is = cc
+group1_of p word m (IsDevice a action same) is = let other : kind_of m ≡ Iot = ap kind_of same in cc
+group1_of p word m (IsGroup1 same) is = same
+group1_of p word m (IsGroup2 same) is = let other : kind_of m ≡ Operate2 = ap kind_of same in cc
+group1_of p word m (IsGroup3 o operate same) is = let other : kind_of m ≡ Operate3 = ap kind_of same in cc
+group1_of p word m (IsUndefined same) is = let other : kind_of m ≡ Unsupported = ap kind_of same in cc
+
+group2_of : (p : Profile) (word : ℕ) (m : Meaning) → Shape p word m → kind_of m ≡ Operate2 → m ≡ Group2 word
+group2_of p word m (IsMemory low kind) is = cc
+group2_of p word m (IsDevice a action same) is = let other : kind_of m ≡ Iot = ap kind_of same in cc
+group2_of p word m (IsGroup1 same) is = let other : kind_of m ≡ Operate1 = ap kind_of same in cc
+group2_of p word m (IsGroup2 same) is = same
+group2_of p word m (IsGroup3 o operate same) is = let other : kind_of m ≡ Operate3 = ap kind_of same in cc
+group2_of p word m (IsUndefined same) is = let other : kind_of m ≡ Unsupported = ap kind_of same in cc
+
+group3_of : (p : Profile) (word : ℕ) (m : Meaning) → Shape p word m → kind_of m ≡ Operate3 → (o : MqOperate) × (mq_operate_of word ≡ Some o) × (m ≡ Group3 o)
+group3_of p word m (IsMemory low kind) is = cc
+group3_of p word m (IsDevice a action same) is = let other : kind_of m ≡ Iot = ap kind_of same in cc
+group3_of p word m (IsGroup1 same) is = let other : kind_of m ≡ Operate1 = ap kind_of same in cc
+group3_of p word m (IsGroup2 same) is = let other : kind_of m ≡ Operate2 = ap kind_of same in cc
+group3_of p word m (IsGroup3 o operate same) is = (o, operate, same)
+group3_of p word m (IsUndefined same) is = let other : kind_of m ≡ Unsupported = ap kind_of same in cc
+
+device_of : (p : Profile) (word : ℕ) (m : Meaning) → Shape p word m → kind_of m ≡ Iot → (a : DeviceAction) × (device_action p word ≡ Some a) × (m ≡ Device a)
+device_of p word m (IsMemory low kind) is = cc
+device_of p word m (IsDevice a action same) is = (a, action, same)
+device_of p word m (IsGroup1 same) is = let other : kind_of m ≡ Operate1 = ap kind_of same in cc
+device_of p word m (IsGroup2 same) is = let other : kind_of m ≡ Operate2 = ap kind_of same in cc
+device_of p word m (IsGroup3 o operate same) is = let other : kind_of m ≡ Operate3 = ap kind_of same in cc
+device_of p word m (IsUndefined same) is = let other : kind_of m ≡ Unsupported = ap kind_of same in cc
+
+undefined_of : (p : Profile) (word : ℕ) (m : Meaning) → Shape p word m → kind_of m ≡ Unsupported → m ≡ Undefined
+undefined_of p word m (IsMemory low kind) is = cc
+undefined_of p word m (IsDevice a action same) is = let other : kind_of m ≡ Iot = ap kind_of same in cc
+undefined_of p word m (IsGroup1 same) is = let other : kind_of m ≡ Operate1 = ap kind_of same in cc
+undefined_of p word m (IsGroup2 same) is = let other : kind_of m ≡ Operate2 = ap kind_of same in cc
+undefined_of p word m (IsGroup3 o operate same) is = let other : kind_of m ≡ Operate3 = ap kind_of same in cc
+undefined_of p word m (IsUndefined same) is = same
+
+-- the meaning of a word, from its kind
+pub memory_operation : (p : Profile) (at word : ℕ) → kind_of (meaning_of p at word) ≡ Memory → word / 512 < 6
+memory_operation p at word is = memory_of p word (meaning_of p at word) (shape p at word) is
+
+pub group1_meaning : (p : Profile) (at word : ℕ) → kind_of (meaning_of p at word) ≡ Operate1 → meaning_of p at word ≡ Group1 word
+group1_meaning p at word is = group1_of p word (meaning_of p at word) (shape p at word) is
+
+pub group2_meaning : (p : Profile) (at word : ℕ) → kind_of (meaning_of p at word) ≡ Operate2 → meaning_of p at word ≡ Group2 word
+group2_meaning p at word is = group2_of p word (meaning_of p at word) (shape p at word) is
+
+pub group3_meaning_of : (p : Profile) (at word : ℕ) → kind_of (meaning_of p at word) ≡ Operate3 → (o : MqOperate) × (mq_operate_of word ≡ Some o) × (meaning_of p at word ≡ Group3 o)
+group3_meaning_of p at word is = group3_of p word (meaning_of p at word) (shape p at word) is
+
+pub device_meaning_of : (p : Profile) (at word : ℕ) → kind_of (meaning_of p at word) ≡ Iot → (a : DeviceAction) × (device_action p word ≡ Some a) × (meaning_of p at word ≡ Device a)
+device_meaning_of p at word is = device_of p word (meaning_of p at word) (shape p at word) is
+
+pub undefined_meaning : (p : Profile) (at word : ℕ) → kind_of (meaning_of p at word) ≡ Unsupported → meaning_of p at word ≡ Undefined
+undefined_meaning p at word is = undefined_of p word (meaning_of p at word) (shape p at word) is
+
+action_chain : (b c d e f g : Bool) (a : DeviceAction) →
+    (if b then Some Skips else (if c then Some Ors else (if d then Some Clears else (if e then Some Takes else (if f then Some Leaves else None))))) ≡ Some a →
+    (if b then Some Skips else (if c then Some Ors else (if d then Some Clears else (if e then Some Takes else (if f then Some Leaves else (if g then Some Leaves else None)))))) ≡ Some a
+action_chain true c d e f g a is = is
+action_chain false true d e f g a is = is
+action_chain false false true e f g a is = is
+action_chain false false false true f g a is = is
+action_chain false false false false true g a is = is
+action_chain false false false false false g a is = cc
+
+-- the 8/E has each device word of the 8/I, with the same action
+pub action_of_8e : (p : Profile) (word : ℕ) (a : DeviceAction) → device_action p word ≡ Some a → device_action Pdp8E word ≡ Some a
+action_of_8e Pdp8E word a is = is
+action_of_8e Pdp8I word a is = action_chain (is_one_of flag_tests word) (is_one_of byte_readers word) (word == 0o6032) (word == 0o6036) (is_one_of quiet_words word) (is_one_of quiet_words_of_8e word) a is
+
+-- the operation decides the meaning of a memory reference
+pub and_meaning : (p : Profile) (at word : ℕ) → word / 512 ≡ 0 → meaning_of p at word ≡ And (is_indirect word) (named_cell word at)
+unfolding meaning_of
+and_meaning p at word is = rw is refl
+
+pub tad_meaning : (p : Profile) (at word : ℕ) → word / 512 ≡ 1 → meaning_of p at word ≡ Tad (is_indirect word) (named_cell word at)
+unfolding meaning_of
+tad_meaning p at word is = rw is refl
+
+pub isz_meaning : (p : Profile) (at word : ℕ) → word / 512 ≡ 2 → meaning_of p at word ≡ Isz (is_indirect word) (named_cell word at)
+unfolding meaning_of
+isz_meaning p at word is = rw is refl
+
+pub dca_meaning : (p : Profile) (at word : ℕ) → word / 512 ≡ 3 → meaning_of p at word ≡ Dca (is_indirect word) (named_cell word at)
+unfolding meaning_of
+dca_meaning p at word is = rw is refl
+
+pub jms_meaning : (p : Profile) (at word : ℕ) → word / 512 ≡ 4 → meaning_of p at word ≡ Jms (is_indirect word) (named_cell word at)
+unfolding meaning_of
+jms_meaning p at word is = rw is refl
+
+pub jmp_meaning : (p : Profile) (at word : ℕ) → word / 512 ≡ 5 → meaning_of p at word ≡ Jmp (is_indirect word) (named_cell word at)
+unfolding meaning_of
+jmp_meaning p at word is = rw is refl

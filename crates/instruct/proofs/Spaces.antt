@@ -1,5 +1,5 @@
 -- Names with a space between two.
-use Rattle.std.proofs.Common.{ℕ, suc, ◌≡◌, ◌==◌, arith, Bool, true, false, List, [], ◌∷◌, ◌++◌, length, codes, if◌then◌else◌, refl, ap, sym, ◌∙◌, append_assoc}
+use Rattle.std.proofs.Common.{ℕ, suc, ◌≡◌, ◌==◌, arith, Bool, false, List, [], ◌∷◌, ◌++◌, length, codes, if◌then◌else◌, refl, ap, sym, ◌∙◌, append_assoc}
 use Rattle.std.proofs.lemmas.Bool.Decides.{nat_tests}
 use Rattle.std.specs.List.{join_with_byte}
 use Rattle.instruct.specs.Names.{IsSpaced, named_if, spaced, or_skip}

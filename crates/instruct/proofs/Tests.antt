@@ -2,8 +2,7 @@
 use Rattle.std.proofs.Common.{ℕ, ◌<◌, ◌≡◌, ◌+◌, ◌*◌, ◌/◌, ◌%◌, ◌^◌, ◌-◌, ◌≤◌, ◌==◌, zero, suc, arith, refl, lit<, lit≤, rules, ◌∙◌, ap, Bool, true, false, one-mul, zero-mul, eq-eqb}
 use Rattle.std.proofs.lemmas.Nat.Bits.{and_pow}
 use Rattle.std.proofs.lemmas.Bool.Decides.{nat_tests}
-use Rattle.std.specs.Int.RustNames.{bit_or, bit_and}
-use Rattle.std.specs.Int.{bit_at}
+use Rattle.std.specs.Int.RustNames.{bit_and}
 use Rattle.instruct.specs.Bits.{has_bit}
 
 -- a bit at its weight is the weight exactly where the bit is 1

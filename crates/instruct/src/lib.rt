@@ -16,7 +16,7 @@ ghost use Rattle.instruct.specs.Instructions.{instruction_of, kind_of, meaning_o
 use crate::bits::{Group1, Group2, Reference};
 use bitflags::Flags;
 pub use naming::name;
-pub use operate::{halts, operate1, operate2, operate3, reads_switches, skips};
+pub use operate::{halts, operate1, operate2, operate3, skips};
 use word12::Word;
 
 /// Which machine's instructions are meant.

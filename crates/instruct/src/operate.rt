@@ -1,10 +1,7 @@
 //! What the operate words make of the accumulator, the link and MQ.
 
 ghost use Rattle.std.specs.Prelude.{◌≡◌};
-ghost use Rattle.instruct.specs.declared.Profile.TheVariants.{Pdp8E};
-ghost use Rattle.instruct.specs.declared.Instruction.TheVariants.{Operate1, Operate2, Operate3};
-ghost use Rattle.instruct.specs.Instructions.{instruction_of};
-ghost use Rattle.instruct.specs.Operates.{operate1_of, any_test_holds, skips_of, operate2_of, operate3_of, cleared, complemented, counted, rotated, is_halt, reads_switches_of};
+ghost use Rattle.instruct.specs.Operates.{operate1_of, any_test_holds, skips_of, operate2_of, operate3_of, cleared, complemented, counted, rotated, is_halt};
 
 use crate::bits::{Group1, Group2};
 use bitflags::Flags;
@@ -87,10 +84,9 @@ fn rotate(bits: Group1, ac: Word, link: Link) -> (Word, Link)
 /// The accumulator and the link after a word of group 1.
 ///
 /// The order is the machine's: CLA and CLL, CMA and CML, IAC, then the rotate or BSW. IAC on 7777
-/// gives 0000 and complements the link; rotates go through the link. The word has to be one that
-/// the 8/E decodes as group 1, which takes in all of the 8/I.
+/// gives 0000 and complements the link; rotates go through the link. It is meant for words that
+/// `decode` calls `Operate1`; of another word it reads the same bits.
 pub fn operate1(word: Word, ac: Word, link: Link) -> (Word, Link)
-    requires { instruction_of Pdp8E word ≡ Operate1 }
     ensures { result ≡ operate1_of word (ac, link) }
 {
     let bits = Group1(word.value());
@@ -116,7 +112,6 @@ fn passes_any_test(bits: Group2, ac: Word, link: Link) -> bool
 /// chosen test holds, or with the reverse bit (0010) where none does.
 #[tactic(auto, using(crate::proofs::Tests::bit_tests))]
 pub fn skips(word: Word, ac: Word, link: Link) -> bool
-    requires { instruction_of Pdp8E word ≡ Operate2 }
     ensures { result ≡ skips_of word ac link }
 {
     let bits = Group2(word.value());
@@ -131,7 +126,6 @@ pub fn skips(word: Word, ac: Word, link: Link) -> bool
 /// The accumulator after a word of group 2: first CLA, then OSR, which ors the switches in.
 #[tactic(auto, using(crate::proofs::Tests::bit_tests))]
 pub fn operate2(word: Word, ac: Word, switches: Word) -> Word
-    requires { instruction_of Pdp8E word ≡ Operate2 }
     ensures { result ≡ operate2_of word ac switches }
 {
     let bits = Group2(word.value());
@@ -150,9 +144,9 @@ pub fn operate2(word: Word, ac: Word, switches: Word) -> Word
 /// The accumulator and MQ, in this order, after one of the words of group 3 that the 8/E has here.
 ///
 /// MQL 7421 moves the accumulator to MQ and clears it, MQA 7501 ors MQ in, SWP 7521 exchanges the
-/// two, CAM 7621 clears both, CLA MQA 7701 takes MQ, CLA SWP 7721 takes MQ and clears it.
+/// two, CAM 7621 clears both, CLA MQA 7701 takes MQ, CLA SWP 7721 takes MQ and clears it. Any other
+/// word leaves both.
 pub fn operate3(word: Word, ac: Word, mq: Word) -> (Word, Word)
-    requires { instruction_of Pdp8E word ≡ Operate3 }
     ensures { result ≡ operate3_of word (ac, mq) }
 {
     match word.value() {
@@ -161,24 +155,15 @@ pub fn operate3(word: Word, ac: Word, mq: Word) -> (Word, Word)
         0o7521 => (mq, ac),
         0o7621 => (Word::ZERO, Word::ZERO),
         0o7701 => (mq, mq),
-        _ => (mq, Word::ZERO),
+        0o7721 => (mq, Word::ZERO),
+        _ => (ac, mq),
     }
 }
 
 /// Whether a word of group 2 halts the machine after it.
 #[tactic(auto, using(crate::proofs::Tests::bit_tests))]
 pub fn halts(word: Word) -> bool
-    requires { instruction_of Pdp8E word ≡ Operate2 }
     ensures { result ≡ is_halt word }
 {
     Group2(word.value()).contains(Group2::HLT)
-}
-
-/// Whether a word of group 2 reads the switches.
-#[tactic(auto, using(crate::proofs::Tests::bit_tests))]
-pub fn reads_switches(word: Word) -> bool
-    requires { instruction_of Pdp8E word ≡ Operate2 }
-    ensures { result ≡ reads_switches_of word }
-{
-    Group2(word.value()).contains(Group2::OSR)
 }

@@ -1,6 +1,6 @@
 use Rattle.std.proofs.Common.{◌++◌, [], codes, ◌≡◌, true, false, sym, ◌∙◌}
 use Rattle.instruct.specs.Bits.{has_bit}
-use Rattle.instruct.specs.Names.{IsSpaced, named_if, test_names}
+use Rattle.instruct.specs.Names.{IsSpaced, named_if}
 use Rattle.instruct.proofs.Tests.{contains_8, contains_16, contains_32, contains_64}
 use Rattle.instruct.proofs.Spaces.{no_names, by_bit, skip_or}
 use Rattle.instruct.proofs.naming.name_tests.Goals as goal

@@ -1,5 +1,4 @@
-use Rattle.std.proofs.Common.{ℕ, ◌<◌, ◌≡◌, ◌++◌, List, ◌==◌, length, false, ◌∷◌, [], sym, lit<}
-use Rattle.instruct.specs.Names.{IsSpaced}
+use Rattle.std.proofs.Common.{◌≡◌, ◌++◌, ◌==◌, length, false, ◌∷◌, [], sym, lit<}
 use Rattle.instruct.proofs.Spaces.{next_name}
 use Rattle.instruct.proofs.naming.push_name.Goals as goal
 

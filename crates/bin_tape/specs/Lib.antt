@@ -1,0 +1,10 @@
+pub mod Bytes
+pub mod Image
+pub mod Tape
+pub mod Refuses
+pub mod Viable
+pub mod Written
+pub mod Reading
+pub mod Holds
+pub mod Served
+pub mod Serving

@@ -1,0 +1,95 @@
+//! std's readers and writers as sources and sinks.
+
+ghost use Rattle.std.specs.Prelude.{◌≡◌, false};
+
+use crate::bytes::{ByteSink, ByteSource, Failed};
+use std::io;
+
+/// A reader of std, and whether a read of it failed. An interrupted read is tried again.
+#[derive(Drop)]
+pub struct Reads<R> {
+    inner: R,
+    failed: bool,
+}
+
+impl<R> Reads<R> {
+    /// Reads from this reader.
+    pub fn new(inner: R) -> Reads<R>
+        ensures inner { result.inner ≡ inner }
+        ensures unmarked { result.failed ≡ false }
+    {
+        Reads {
+            inner,
+            failed: false,
+        }
+    }
+}
+
+impl<R: io::Read> ByteSource for Reads<R> {
+    ghost remaining = { λ source. R.remaining source.inner };
+
+    ghost mark = { λ source. source.failed };
+
+    fn read(&mut self, piece: &mut [u8]) -> Result<usize, Failed> {
+        for _ in 0..u64::MAX {
+            match self.inner.read(piece) {
+                Ok(count) => return Ok(count),
+                Err(error) if error.kind() == io::ErrorKind::Interrupted => {}
+                Err(_) => break,
+            }
+        }
+        self.failed = true;
+        Err(Failed)
+    }
+
+    fn failed(&self) -> bool {
+        self.failed
+    }
+}
+
+/// A writer of std, and whether a write to it failed. An interrupted write is tried again.
+#[derive(Drop)]
+pub struct Writes<W> {
+    inner: W,
+    failed: bool,
+}
+
+impl<W> Writes<W> {
+    /// Writes to this writer.
+    pub fn new(inner: W) -> Writes<W>
+        ensures inner { result.inner ≡ inner }
+        ensures unmarked { result.failed ≡ false }
+    {
+        Writes {
+            inner,
+            failed: false,
+        }
+    }
+}
+
+impl<W: io::Write> ByteSink for Writes<W> {
+    ghost taken = { λ sink. W.contents sink.inner };
+
+    ghost mark = { λ sink. sink.failed };
+
+    fn write(&mut self, piece: &[u8]) -> Result<usize, Failed> {
+        for _ in 0..u64::MAX {
+            match self.inner.write(piece) {
+                Ok(count) => {
+                    if count == 0 && !piece.is_empty() {
+                        self.failed = true;
+                    }
+                    return Ok(count);
+                }
+                Err(error) if error.kind() == io::ErrorKind::Interrupted => {}
+                Err(_) => break,
+            }
+        }
+        self.failed = true;
+        Err(Failed)
+    }
+
+    fn failed(&self) -> bool {
+        self.failed
+    }
+}

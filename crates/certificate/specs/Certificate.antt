@@ -1,0 +1,36 @@
+-- Certificates: what a guesser claims of a program, and a checker tests.
+use Rattle.std.specs.Prelude.{◌≡◌, ℕ, true, Some, None}
+use Rattle.wordset.specs.Words.{Words, SameWords, nothing, everything}
+use Rattle.processor.specs.Runs.{Image}
+use Rattle.policy.specs.Declaration.{Routine, Declaration}
+use Rattle.facts.specs.Facts.{Fact, Place}
+
+-- For each routine that is listed its rank, the addresses of the JMS words that call it and the cells that it and its
+-- callees may write; a fact at some addresses; and for some entries and offsets what holds when the routine returns so.
+pub record Certificate : Type 0 where
+  pub listed : Words
+  pub rank : ℕ → ℕ
+  pub sites : ℕ → Words
+  pub writes : ℕ → Words
+  pub has_fact : Words
+  pub fact : ℕ → Fact
+  pub has_exit : ℕ → Words
+  pub exit : ℕ → ℕ → Fact
+
+abbrev pub sites_of : Certificate → Routine → Words
+sites_of c None = nothing
+sites_of c (Some e) = c.sites e
+
+-- Main has no written set.
+abbrev pub writes_of : Certificate → Routine → Words
+writes_of c None = nothing
+writes_of c (Some e) = c.writes e
+
+-- The place of the facts in a routine's body.
+abbrev pub place_of : Image → Declaration → Certificate → Routine → Place
+place_of image d c r = record { image = image; declaration = d; routine = r; sites = sites_of c r }
+
+-- A certificate of version 1 says nothing of MQ: its facts and exits allow every word in it.
+pub record SaysNothingOfMq (c : Certificate) : Type 0 where
+  pub facts : (a : ℕ) → c.has_fact a ≡ true → SameWords (c.fact a).mq everything
+  pub exits : (e o : ℕ) → c.has_exit e o ≡ true → SameWords (c.exit e o).mq everything

@@ -1,0 +1,2 @@
+//! Certificates: the claims about a program that a checker tests.
+#![tactic(auto)]

@@ -1,0 +1,32 @@
+-- Programs of one word, each of which breaks a rule at its first step.
+use Rattle.std.specs.Prelude.{ℕ, ◌==◌, false, if◌then◌else◌, Option, Some, None}
+use Rattle.instruct.specs.declared.Profile.TheVariants.{Pdp8I}
+use Rattle.wordset.specs.Words.{Words, nothing, one}
+use Rattle.processor.specs.Runs.{Image}
+use Rattle.policy.specs.Declaration.{Routine, Declaration}
+use Rattle.policy.specs.Runs.{IsSafeInRuns}
+
+-- The word at 0200, and nothing else on the tape.
+abbrev pub image_with : ℕ → Image
+image_with word a = if a == 0o200 then Some word else None
+
+abbrev pub body_alone : Routine → Words
+body_alone None a = a == 0o200
+body_alone (Some e) a = false
+
+-- Main is the cell 0200; 0210 is an entry; there are no variables and no halts.
+abbrev pub bare : Option Words → Declaration
+bare reads = record {
+  start = 0o200;
+  body = body_alone;
+  entry = one 0o210;
+  offset = λ e. one 0;
+  variable = nothing;
+  stop = nothing;
+  pause = nothing;
+  profile = Pdp8I;
+  reads = reads;
+}
+
+abbrev pub IsUnsafe : ℕ → Option Words → Type 0
+IsUnsafe word reads = IsSafeInRuns (image_with word) (bare reads) → ⊥

@@ -1,0 +1,160 @@
+-- What the operate words make of words: words again, and when the accumulator keeps its word.
+use Rattle.std.proofs.Common.{◌≡◌, ℕ, ◌+◌, ◌-◌, ◌%◌, ◌<◌, ◌==◌, Bool, true, false, ◌&&◌, ◌||◌, refl, ◌∙◌, arith}
+use Rattle.std.specs.Prelude.{if◌then◌else◌, bit_and, bit_or}
+use Rattle.std.proofs.lemmas.Bool.{and_from, eq-eqb, true≢false}
+use Rattle.std.proofs.lemmas.Nat.{and_le_l, or_lt, and_mask}
+use Rattle.instruct.specs.Bits.{has_bit}
+use Rattle.instruct.specs.Operates.{cleared, complemented, counted, left, right, exchanged, rotated, operate1_of, operate2_of, MqOperate, Mql, Mqa, Swp, Cam, ClaMqa, ClaSwp, mq_operate}
+use Rattle.wordset.specs.Words.{plus, Words, some_below, ands, ors, or_any}
+use Rattle.facts.specs.Outcomes.{ac_after, link_after, changes_ac}
+use Rattle.facts.proofs.Numbers.{some_from}
+
+pub and_word : (a b : ℕ) → a < 4096 → bit_and a b < 4096
+and_word a b h = omega (arith, and_le_l a b)
+
+pub or_word : (a b : ℕ) → a < 4096 → b < 4096 → bit_or a b < 4096
+or_word a b h g = or_lt 12 a b h g
+
+-- the pair of an accumulator and a link
+pub record IsPair (s : ℕ × ℕ) : Type 0 where
+  pub word : s.0 < 4096
+  pub bit : s.1 < 2
+
+cleared_pair : (w : ℕ) (s : ℕ × ℕ) → IsPair s → IsPair (cleared w s)
+cleared_pair w s h = record { word = word (has_bit 7 w); bit = bit (has_bit 6 w) }
+  where
+    word : (p : Bool) → (if p then 0 else s.0) < 4096
+    word true = omega arith
+    word false = h.word
+
+    bit : (p : Bool) → (if p then 0 else s.1) < 2
+    bit true = omega arith
+    bit false = h.bit
+
+complemented_pair : (w : ℕ) (s : ℕ × ℕ) → IsPair s → IsPair (complemented w s)
+complemented_pair w s h = record { word = word (has_bit 5 w); bit = bit (has_bit 4 w) }
+  where
+    word : (p : Bool) → (if p then 4095 - s.0 else s.0) < 4096
+    word true = omega arith
+    word false = h.word
+
+    bit : (p : Bool) → (if p then 1 - s.1 else s.1) < 2
+    bit true = omega arith
+    bit false = h.bit
+
+counted_pair : (w : ℕ) (s : ℕ × ℕ) → IsPair s → IsPair (counted w s)
+counted_pair w s h = go (has_bit 0 w)
+  where
+    turn : (b : Bool) → (if b then 1 - s.1 else s.1) < 2
+    turn true = omega arith
+    turn false = h.bit
+
+    go : (p : Bool) → IsPair (if p then ((s.0 + 1) % 4096, (if s.0 == 4095 then 1 - s.1 else s.1)) else s)
+    go true = record { word = omega arith; bit = turn (s.0 == 4095) }
+    go false = h
+
+left_pair : (s : ℕ × ℕ) → IsPair s → IsPair (left s)
+left_pair s h =
+    let a : s.0 < 4096 = h.word in
+    let l : s.1 < 2 = h.bit in
+    record { word = omega arith; bit = omega arith }
+
+right_pair : (s : ℕ × ℕ) → IsPair s → IsPair (right s)
+right_pair s h =
+    let a : s.0 < 4096 = h.word in
+    let l : s.1 < 2 = h.bit in
+    record { word = omega arith; bit = omega arith }
+
+exchanged_word : (a : ℕ) → a < 4096 → exchanged a < 4096
+exchanged_word a h = omega arith
+
+rotated_pair : (w : ℕ) (s : ℕ × ℕ) → IsPair s → IsPair (rotated w s)
+rotated_pair w s h = go (has_bit 3 w) (has_bit 2 w) (has_bit 1 w)
+  where
+    go : (p q r : Bool) → IsPair
+        (if p then (if r then right (right s) else right s)
+        else (if q then (if r then left (left s) else left s) else (if r then (exchanged s.0, s.1) else s)))
+    go true q true = right_pair (right s) (right_pair s h)
+    go true q false = right_pair s h
+    go false true true = left_pair (left s) (left_pair s h)
+    go false true false = left_pair s h
+    go false false true = record { word = exchanged_word s.0 h.word; bit = h.bit }
+    go false false false = h
+
+operate1_pair : (w : ℕ) (s : ℕ × ℕ) → IsPair s → IsPair (operate1_of w s)
+operate1_pair w s h =
+    rotated_pair w (counted w (complemented w (cleared w s)))
+    (counted_pair w (complemented w (cleared w s)) (complemented_pair w (cleared w s) (cleared_pair w s h)))
+
+pub ac_after_word : (w a l : ℕ) → a < 4096 → l < 2 → ac_after w a l < 4096
+unfolding ac_after
+ac_after_word w a l h g = (operate1_pair w (a, l) (record { word = h; bit = g })).word
+
+pub link_after_bit : (w a l : ℕ) → a < 4096 → l < 2 → link_after w a l < 2
+unfolding link_after
+link_after_bit w a l h g = (operate1_pair w (a, l) (record { word = h; bit = g })).bit
+
+-- without CLA, CMA, a rotate and BSW the accumulator keeps its word, or counts up under IAC
+pub ac_kept : (w a l : ℕ) → changes_ac w ≡ false → ac_after w a l ≡ (if has_bit 0 w then plus a 1 else a)
+unfolding ac_after
+ac_kept w a l = go (has_bit 7 w) (has_bit 5 w) (has_bit 3 w) (has_bit 2 w) (has_bit 1 w) (has_bit 0 w) (if has_bit 6 w then 0 else l) (has_bit 4 w)
+  where
+    go : (p q r t u v : Bool) (k : ℕ) (x : Bool) → (p || (q || (r || (t || u)))) ≡ false →
+        (let s : ℕ × ℕ = ((if q then 4095 - (if p then 0 else a) else (if p then 0 else a)), (if x then 1 - k else k)) in
+        let c : ℕ × ℕ = if v then ((s.0 + 1) % 4096, (if s.0 == 4095 then 1 - s.1 else s.1)) else s in
+        let d : ℕ × ℕ = (if r then (if u then right (right c) else right c)
+        else (if t then (if u then left (left c) else left c) else (if u then (exchanged c.0, c.1) else c))) in
+        d.0) ≡ (if v then plus a 1 else a)
+    go true q r t u v k x e = absurd (true≢false e)
+    go false true r t u v k x e = absurd (true≢false e)
+    go false false true t u v k x e = absurd (true≢false e)
+    go false false false true u v k x e = absurd (true≢false e)
+    go false false false false true v k x e = absurd (true≢false e)
+    go false false false false false true k x e = refl
+    go false false false false false false k x e = refl
+
+pub operate2_word : (w a v : ℕ) → a < 4096 → v < 4096 → operate2_of w a v < 4096
+operate2_word w a v h g = go (has_bit 2 w) (has_bit 7 w)
+  where
+    clear : (q : Bool) → (if q then 0 else a) < 4096
+    clear true = omega arith
+    clear false = h
+
+    go : (p q : Bool) → (let kept : ℕ = if q then 0 else a in if p then bit_or kept v else kept) < 4096
+    go true q = or_word _ v (clear q) g
+    go false q = clear q
+
+-- the accumulator and MQ after a word of group 3
+pub mq_words : (o : MqOperate) (a m : ℕ) → a < 4096 → m < 4096 → ((mq_operate o (a, m)).0 < 4096) × ((mq_operate o (a, m)).1 < 4096)
+mq_words Mql a m h g = ((let z : 0 < 4096 = omega arith in z), h)
+mq_words Mqa a m h g = (or_word a m h g, g)
+mq_words Swp a m h g = (g, h)
+mq_words Cam a m h g = ((let z : 0 < 4096 = omega arith in z), (let z : 0 < 4096 = omega arith in z))
+mq_words ClaMqa a m h g = (g, g)
+mq_words ClaSwp a m h g = (g, (let z : 0 < 4096 = omega arith in z))
+
+pub ands_true : (a b : Words) (x y : ℕ) → x < 4096 → y < 4096 → a x ≡ true → b y ≡ true → ands a b (bit_and x y) ≡ true
+ands_true a b x y hx hy p q =
+    some_from 4096 (λ n. a n && some_below 4096 (λ m. b m && (bit_and n m == bit_and x y))) x hx
+    (and_from _ _ p (some_from 4096 (λ m. b m && (bit_and x m == bit_and x y)) y hy (and_from _ _ q (eq-eqb (bit_and x y) (bit_and x y) refl))))
+
+pub ors_true : (a b : Words) (x y : ℕ) → x < 4096 → y < 4096 → a x ≡ true → b y ≡ true → ors a b (bit_or x y) ≡ true
+ors_true a b x y hx hy p q =
+    some_from 4096 (λ n. a n && some_below 4096 (λ m. b m && (bit_or n m == bit_or x y))) x hx
+    (and_from _ _ p (some_from 4096 (λ m. b m && (bit_or x m == bit_or x y)) y hy (and_from _ _ q (eq-eqb (bit_or x y) (bit_or x y) refl))))
+
+or_true : (mask : ℕ) (a : Words) (x m : ℕ) → x < 4096 → m < 4096 → bit_and m mask ≡ m → a x ≡ true → or_any mask a (bit_or x m) ≡ true
+or_true mask a x m hx hm part p =
+    some_from 4096 (λ n. a n && some_below 4096 (λ k. (bit_and k mask == k) && (bit_or n k == bit_or x m))) x hx
+    (and_from _ _ p (some_from 4096 (λ k. (bit_and k mask == k) && (bit_or x k == bit_or x m)) m hm (and_from _ _ (eq-eqb _ _ part) (eq-eqb (bit_or x m) (bit_or x m) refl))))
+
+pub or_byte_true : (a : Words) (x m : ℕ) → x < 4096 → m < 256 → a x ≡ true → or_any 255 a (bit_or x m) ≡ true
+or_byte_true a x m hx hm p =
+    let small : m < 4096 = omega arith in
+    let part : bit_and m 255 ≡ m = and_mask m 8 ∙ omega arith in
+    or_true 255 a x m hx small part p
+
+pub or_word_true : (a : Words) (x m : ℕ) → x < 4096 → m < 4096 → a x ≡ true → or_any 4095 a (bit_or x m) ≡ true
+or_word_true a x m hx hm p =
+    let part : bit_and m 4095 ≡ m = and_mask m 12 ∙ omega arith in
+    or_true 4095 a x m hx hm part p

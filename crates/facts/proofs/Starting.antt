@@ -1,0 +1,249 @@
+-- The test of a fact against every start is exact.
+use Rattle.std.proofs.Common.{◌≡◌, ℕ, zero, suc, ◌%◌, ◌<◌, ◌==◌, Bool, true, false, not, Option, Some, None, List, [], ◌∷◌, refl, sym, ap, ◌∙◌, subst, inl, inr, arith}
+use Rattle.std.specs.Prelude.{if◌then◌else◌, nat_lt}
+use Rattle.std.proofs.lemmas.Bool.{and_parts, and_from, cases_Bool, eqb-true, eq-eqb, ne_eqb, true≢false, false≢true, ltb-true, ltb-false}
+use Rattle.wordset.specs.Words.{plus, Words, some_below}
+use Rattle.processor.specs.Cells.{Cells}
+use Rattle.processor.specs.Machine.{State}
+use Rattle.processor.specs.Runs.{Image, IsStart}
+use Rattle.facts.specs.Facts.{Name, Ac, Cell, same, Equation, Fact, Values, IsTrueOf, AllTrue, values, Place}
+use Rattle.facts.specs.Starts.{HoldsOfStarts, each_below, has_each, is_always_between, is_always_of, is_always, are_always, holds_before, AreTapeWords, TracksWords, StartLaw}
+use Rattle.facts.proofs.Numbers.{some_not}
+use Rattle.facts.proofs.Laws.{same_true}
+
+none_below : (n : ℕ) (test : ℕ → Bool) → ((k : ℕ) → k < n → test k ≡ true) → some_below n (λ v. not (test v)) ≡ false
+unfolding some_below
+none_below zero test h = refl
+none_below (suc n) test h =
+    let here : test n ≡ true = h n (omega arith) in
+    rw here (none_below n test (λ k lt. h k (omega arith)))
+
+not_false : (b : Bool) → not b ≡ false → b ≡ true
+not_false true e = refl
+not_false false e = absurd (true≢false e)
+
+not_true : (b : Bool) → not b ≡ true → b ≡ false
+not_true true e = absurd (false≢true e)
+not_true false e = refl
+
+each_from : (n : ℕ) (test : ℕ → Bool) → ((k : ℕ) → k < n → test k ≡ true) → each_below n test ≡ true
+each_from n test h = let e : some_below n (λ v. not (test v)) ≡ false = none_below n test h in rw e
+
+each_at : (n : ℕ) (test : ℕ → Bool) (k : ℕ) → k < n → each_below n test ≡ true → test k ≡ true
+each_at n test k lt e = not_false (test k) (some_not n (λ v. not (test v)) k lt (not_true (some_below n (λ v. not (test v))) e))
+
+-- a cell of a memory with the tape's words laid over others
+abbrev pub laid_cell : Option ℕ → ℕ → ℕ
+laid_cell None v = v
+laid_cell (Some w) v = w
+
+abbrev pub laid : Image → Cells → Cells
+laid image fill a = laid_cell (image a) (fill a)
+
+module _ (pl : Place) (tape : AreTapeWords pl.image) (begin : pl.declaration.start < 4096) where
+  abbrev pub state_with : ℕ → ℕ → ℕ → Cells → State
+  state_with ac link mq fill = record { ac = ac; link = link; mq = mq; pc = pl.declaration.start; memory = laid pl.image fill }
+
+  is_start : (ac link mq : ℕ) (fill : Cells) → ac < 4096 → link < 2 → mq < 4096 → ((a : ℕ) → fill a < 4096) → IsStart pl.image pl.declaration.start (state_with ac link mq fill)
+  is_start ac link mq fill la ll lm lf = record {
+    pc = refl;
+    ac = la;
+    link = ll;
+    mq = lm;
+    words = λ a. word (pl.image a) (fill a) (λ w e. tape a w e) (lf a);
+    loaded = λ a w e. rw e;
+  }
+    where
+      word : (o : Option ℕ) (v : ℕ) → ((w : ℕ) → o ≡ Some w → w < 4096) → v < 4096 → laid_cell o v < 4096
+      word None v h l = l
+      word (Some w) v h l = h w refl
+
+  -- what the names stand for at a start
+  abbrev pub begun : State → Values
+  begun s = values pl.declaration s.memory s.ac s.memory
+
+  begun_cell : (s : State) (a : ℕ) → begun s (Cell a) ≡ s.memory a
+  begun_cell s a = go (pl.declaration.variable a)
+    where
+      go : (b : Bool) → (if b then s.memory a else s.memory a) ≡ s.memory a
+      go true = refl
+      go false = refl
+
+  begun_word : (s : State) → IsStart pl.image pl.declaration.start s → (n : Name) → begun s n < 4096
+  begun_word s st Ac = st.ac
+  begun_word s st (Cell a) = rw (begun_cell s a) (st.words a)
+
+  -- from the test to all starts
+  on_tape : (o : Option ℕ) (set : Words) (v : ℕ) → has_each o set ≡ true → v < 4096 → ((w : ℕ) → o ≡ Some w → v ≡ w) → set v ≡ true
+  on_tape None set v h lt e = each_at 4096 set v lt h
+  on_tape (Some w) set v h lt e = let q : v ≡ w = e w refl in rw q h
+
+  between_true : (o p : Option ℕ) (x y more : ℕ) → is_always_between o p more ≡ true → ((w : ℕ) → o ≡ Some w → x ≡ w) → ((w : ℕ) → p ≡ Some w → y ≡ w) → x ≡ plus y more
+  between_true (Some u) (Some v) x y more e l r = let a : x ≡ u = l u refl in let b : y ≡ v = r v refl in rw (a, b) (eqb-true u (plus v more) e)
+  between_true (Some u) None x y more e l r = absurd (false≢true e)
+  between_true None p x y more e l r = absurd (false≢true e)
+
+  of_true : (s : State) → IsStart pl.image pl.declaration.start s → (l r : Name) (more : ℕ) → is_always_of pl.image l r more ≡ true → begun s l ≡ plus (begun s r) more
+  of_true s st (Cell a) (Cell b) more e =
+      rw (begun_cell s a, begun_cell s b) (between_true (pl.image a) (pl.image b) (s.memory a) (s.memory b) more e (λ w q. st.loaded a w q) (λ w q. st.loaded b w q))
+  of_true s st Ac r more e = absurd (false≢true e)
+  of_true s st (Cell a) Ac more e = absurd (false≢true e)
+
+  turned : (x more : ℕ) → x < 4096 → more % 4096 ≡ 0 → x ≡ plus x more
+  turned x more lt e = omega arith
+
+  equation_true : (s : State) → IsStart pl.image pl.declaration.start s → (e : Equation) → is_always pl.image e ≡ true → IsTrueOf (begun s) e
+  equation_true s st e h = go (same e.left e.right) refl h
+    where
+      go : (b : Bool) → same e.left e.right ≡ b → (if b then e.more % 4096 == 0 else is_always_of pl.image e.left e.right e.more) ≡ true → IsTrueOf (begun s) e
+      go true q t = let l : e.left ≡ e.right = same_true e.left e.right q in rw l (turned (begun s e.right) e.more (begun_word s st e.right) (eqb-true (e.more % 4096) 0 t))
+      go false q t = of_true s st e.left e.right e.more t
+
+  all_true : (s : State) → IsStart pl.image pl.declaration.start s → (es : List Equation) → are_always pl.image es ≡ true → AllTrue (begun s) es
+  all_true s st [] h = tt
+  all_true s st (e ∷ es) h =
+      let both = and_parts (is_always pl.image e) (are_always pl.image es) h in
+      (equation_true s st e both.0, all_true s st es both.1)
+
+  -- from all starts to the test
+  zeros : (a : ℕ) → 0 < 4096
+  zeros a = omega arith
+
+  abbrev pub OfAll : (Values → Type 0) → Type 0
+  OfAll p = (s : State) → IsStart pl.image pl.declaration.start s → p (begun s)
+
+  start_of : (ac : ℕ) → ac < 4096 → (fill : Cells) → ((a : ℕ) → fill a < 4096) → IsStart pl.image pl.declaration.start (state_with ac 0 0 fill)
+  start_of ac la fill lf = is_start ac 0 0 fill la (omega arith) (omega arith) lf
+
+  -- a memory whose free cells are 0, but for one
+  abbrev pub but : ℕ → ℕ → Cells
+  but a v b = if b == a then v else 0
+
+  but_words : (a v : ℕ) → v < 4096 → (b : ℕ) → but a v b < 4096
+  but_words a v lt b = go (b == a)
+    where
+      go : (t : Bool) → (if t then v else 0) < 4096
+      go true = lt
+      go false = omega arith
+
+  no_number : (y more : ℕ) → 0 ≡ plus y more → 1 ≡ plus y more → ⊥
+  no_number y more e f = omega arith
+
+  no_shift : (x more : ℕ) → x ≡ plus 0 more → x ≡ plus 1 more → ⊥
+  no_shift x more e f = omega arith
+
+  unturned : (x more : ℕ) → x < 4096 → x ≡ plus x more → more % 4096 ≡ 0
+  unturned x more lt e = omega arith
+
+  -- the word of a cell in such a memory
+  free_cell : (a v ac : ℕ) → pl.image a ≡ None → begun (state_with ac 0 0 (but a v)) (Cell a) ≡ v
+  free_cell a v ac e = begun_cell (state_with ac 0 0 (but a v)) a ∙ rw (e, eq-eqb a a refl)
+
+  other_cell : (a b v ac : ℕ) → (b ≡ a → ⊥) → begun (state_with ac 0 0 (but a v)) (Cell b) ≡ laid_cell (pl.image b) 0
+  other_cell a b v ac n = begun_cell (state_with ac 0 0 (but a v)) b ∙ (let q : (b == a) ≡ false = ne_eqb b a n in rw q)
+
+  tape_cell : (a w ac : ℕ) (fill : Cells) → pl.image a ≡ Some w → begun (state_with ac 0 0 fill) (Cell a) ≡ w
+  tape_cell a w ac fill e = begun_cell (state_with ac 0 0 fill) a ∙ rw e
+
+  one_word : 1 < 4096
+  one_word = omega arith
+
+  zero_word : 0 < 4096
+  zero_word = omega arith
+
+  cells_always : (a b more : ℕ) → (a ≡ b → ⊥) → OfAll (λ v. v (Cell a) ≡ plus (v (Cell b)) more) → is_always_between (pl.image a) (pl.image b) more ≡ true
+  cells_always a b more n h = go (pl.image a) (pl.image b) refl refl
+    where
+      left : (v : ℕ) → v < 4096 → begun (state_with 0 0 0 (but a v)) (Cell a) ≡ plus (begun (state_with 0 0 0 (but a v)) (Cell b)) more
+      left v lt = h (state_with 0 0 0 (but a v)) (start_of 0 zero_word (but a v) (but_words a v lt))
+
+      right : (v : ℕ) → v < 4096 → begun (state_with 0 0 0 (but b v)) (Cell a) ≡ plus (begun (state_with 0 0 0 (but b v)) (Cell b)) more
+      right v lt = h (state_with 0 0 0 (but b v)) (start_of 0 zero_word (but b v) (but_words b v lt))
+
+      go : (o p : Option ℕ) → pl.image a ≡ o → pl.image b ≡ p → is_always_between o p more ≡ true
+      go (Some x) (Some y) e f = eq-eqb x (plus y more) (sym (tape_cell a x 0 (but a 0) e) ∙ (left 0 zero_word ∙ ap (λ z. plus z more) (tape_cell b y 0 (but a 0) f)))
+      go (Some x) None e f = absurd (no_shift x more
+          (sym (tape_cell a x 0 (but b 0) e) ∙ (right 0 zero_word ∙ ap (λ z. plus z more) (free_cell b 0 0 f)))
+          (sym (tape_cell a x 0 (but b 1) e) ∙ (right 1 one_word ∙ ap (λ z. plus z more) (free_cell b 1 0 f))))
+      go None p e f = absurd (no_number (laid_cell (pl.image b) 0) more
+          (sym (free_cell a 0 0 e) ∙ (left 0 zero_word ∙ ap (λ z. plus z more) (other_cell a b 0 0 (λ q. n (sym q)))))
+          (sym (free_cell a 1 0 e) ∙ (left 1 one_word ∙ ap (λ z. plus z more) (other_cell a b 1 0 (λ q. n (sym q))))))
+
+  ac_start : (ac : ℕ) → ac < 4096 → IsStart pl.image pl.declaration.start (state_with ac 0 0 (λ a. 0))
+  ac_start ac lt = start_of ac lt (λ a. 0) zeros
+
+  of_always : (l r : Name) (more : ℕ) → same l r ≡ false → OfAll (λ v. v l ≡ plus (v r) more) → is_always_of pl.image l r more ≡ true
+  of_always (Cell a) (Cell b) more n h = cells_always a b more (λ e. true≢false (sym (eq-eqb a b e) ∙ n)) h
+  of_always Ac Ac more n h = absurd (true≢false n)
+  of_always Ac (Cell b) more n h = absurd (no_number (begun (state_with 0 0 0 (λ a. 0)) (Cell b)) more
+      (h (state_with 0 0 0 (λ a. 0)) (ac_start 0 zero_word)) (h (state_with 1 0 0 (λ a. 0)) (ac_start 1 one_word)))
+  of_always (Cell a) Ac more n h = absurd (no_shift (begun (state_with 0 0 0 (λ b. 0)) (Cell a)) more
+      (h (state_with 0 0 0 (λ b. 0)) (ac_start 0 zero_word)) (h (state_with 1 0 0 (λ b. 0)) (ac_start 1 one_word)))
+
+  equation_always : (e : Equation) → OfAll (λ v. IsTrueOf v e) → is_always pl.image e ≡ true
+  equation_always e h = go (same e.left e.right) refl
+    where
+      go : (b : Bool) → same e.left e.right ≡ b → (if b then e.more % 4096 == 0 else is_always_of pl.image e.left e.right e.more) ≡ true
+      go true q =
+          let l : e.left ≡ e.right = same_true e.left e.right q in
+          let s : State = state_with 0 0 0 (λ a. 0) in
+          let st : IsStart pl.image pl.declaration.start s = ac_start 0 zero_word in
+          let t : begun s e.right ≡ plus (begun s e.right) e.more = subst (λ n. begun s n ≡ plus (begun s e.right) e.more) l (h s st) in
+          eq-eqb (e.more % 4096) 0 (unturned (begun s e.right) e.more (begun_word s st e.right) t)
+      go false q = of_always e.left e.right e.more q h
+
+  all_always : (es : List Equation) → OfAll (λ v. AllTrue v es) → are_always pl.image es ≡ true
+  all_always [] h = refl
+  all_always (e ∷ es) h = and_from _ _ (equation_always e (λ s st. (h s st).0)) (all_always es (λ s st. (h s st).1))
+
+  -- both ways
+  before_holds : (f : Fact) → TracksWords f → pl.routine ≡ None → holds_before pl.image f ≡ true → HoldsOfStarts pl f
+  unfolding holds_before
+  before_holds f tracks main h s st =
+      let a = and_parts _ _ h in
+      let b = and_parts _ _ a.1 in
+      let c = and_parts _ _ b.1 in
+      let e = and_parts _ _ c.1 in
+      record {
+        holds = record { sets = sets a.0 e.0; equations = all_true s st f.equations e.1 };
+        mq = each_at 4096 f.mq s.mq st.mq b.0;
+        link = each_at 2 f.link s.link st.link c.0;
+        rest = λ x p q. refl;
+        stands = main;
+        own = tt;
+      }
+    where
+      cell_set : each_below 4096 (λ x. has_each (pl.image x) (f.set (Cell x))) ≡ true → (x : ℕ) → f.set (Cell x) (s.memory x) ≡ true
+      cell_set q x = elim (cases_Bool (nat_lt x 4096)) [
+        | inl t ↦ on_tape (pl.image x) (f.set (Cell x)) (s.memory x) (each_at 4096 (λ y. has_each (pl.image y) (f.set (Cell y))) x (ltb-true x 4096 t) q) (st.words x) (λ w g. st.loaded x w g)
+        | inr t ↦ tracks x (s.memory x) (ltb-false x 4096 t)
+      ]
+
+      sets : each_below 4096 (f.set Ac) ≡ true → each_below 4096 (λ x. has_each (pl.image x) (f.set (Cell x))) ≡ true → (n : Name) → f.set n (begun s n) ≡ true
+      sets p q Ac = each_at 4096 (f.set Ac) s.ac st.ac p
+      sets p q (Cell x) = rw (begun_cell s x) (cell_set q x)
+
+  holds_is_before : (f : Fact) → HoldsOfStarts pl f → holds_before pl.image f ≡ true
+  unfolding holds_before
+  holds_is_before f h =
+      and_from _ _ (each_from 4096 (f.set Ac) (λ v lt. (h (state_with v 0 0 (λ a. 0)) (ac_start v lt)).holds.sets Ac))
+      (and_from _ _ (each_from 4096 f.mq (λ v lt. (h (state_with 0 0 v (λ a. 0)) (is_start 0 0 v (λ a. 0) zero_word (omega arith) lt zeros)).mq))
+      (and_from _ _ (each_from 2 f.link (λ l lt. (h (state_with 0 l 0 (λ a. 0)) (is_start 0 l 0 (λ a. 0) zero_word lt zero_word zeros)).link))
+      (and_from _ _ (each_from 4096 (λ a. has_each (pl.image a) (f.set (Cell a))) (λ a lt. cell a))
+      (all_always f.equations (λ s st. (h s st).holds.equations)))))
+    where
+      at : (a v : ℕ) → v < 4096 → f.set (Cell a) (begun (state_with 0 0 0 (but a v)) (Cell a)) ≡ true
+      at a v lt = (h (state_with 0 0 0 (but a v)) (start_of 0 zero_word (but a v) (but_words a v lt))).holds.sets (Cell a)
+
+      go : (a : ℕ) (o : Option ℕ) → pl.image a ≡ o → has_each o (f.set (Cell a)) ≡ true
+      go a None e = each_from 4096 (f.set (Cell a)) (λ v lt. rw (free_cell a v 0 e) at (at a v lt))
+      go a (Some w) e = rw (tape_cell a w 0 (but a 0) e) at (at a 0 zero_word)
+
+      cell : (a : ℕ) → has_each (pl.image a) (f.set (Cell a)) ≡ true
+      cell a = go a (pl.image a) refl
+
+pub start_law : StartLaw
+start_law pl f tape tracks main begin = (
+  λ h. before_holds pl tape begin f tracks main h,
+  λ h. holds_is_before pl tape begin f h,
+)

@@ -1,0 +1,60 @@
+-- What is asked of one word at the address of a fact before its outcomes are looked at.
+use Rattle.std.specs.Prelude.{◌≡◌, ℕ, ◌<◌, ◌==◌, true, false, ◌&&◌, ◌||◌, ◌⊎◌, Some, None}
+use Rattle.instruct.specs.Instructions.{Meaning, And, Tad, Isz, Dca, Jms, Jmp}
+use Rattle.wordset.specs.Words.{Words, only}
+use Rattle.policy.specs.Declaration.{Routine}
+use Rattle.policy.specs.Rules.{pointer_of, IsListed}
+use Rattle.facts.specs.Facts.{Fact, Place}
+use Rattle.facts.specs.Outcomes.{targets}
+
+-- The cells in which ISZ or DCA may store.
+abbrev pub may_store : Place → Fact → Meaning → Words
+may_store pl f (Isz i c) a = targets pl i c f a
+may_store pl f (Dca i c) a = targets pl i c f a
+may_store pl f _ a = false
+
+-- The cells that a word may write, a stepped pointer among them; save the one that a JMS itself writes.
+abbrev pub may_write : Place → Fact → Meaning → Words
+may_write pl f m a = pointer_of m a || may_store pl f m a
+
+-- The cells that a word may read: an indirect reference's pointer, and the operands of AND, TAD and ISZ.
+abbrev pub may_read : Place → Fact → Meaning → Words
+may_read pl f (And i c) a = (i && (a == c)) || targets pl i c f a
+may_read pl f (Tad i c) a = (i && (a == c)) || targets pl i c f a
+may_read pl f (Isz i c) a = (i && (a == c)) || targets pl i c f a
+may_read pl f (Dca i c) a = i && (a == c)
+may_read pl f (Jms i c) a = i && (a == c)
+may_read pl f (Jmp i c) a = i && (a == c)
+may_read pl f _ a = false
+
+-- Each cell that the word may write is a variable or an entry.
+abbrev pub WritesAreDeclared : Place → Fact → Meaning → Type 0
+WritesAreDeclared pl f m =
+    (a : ℕ) → a < 4096 → may_write pl f m a ≡ true →
+    (pl.declaration.variable a ≡ true) ⊎ (pl.declaration.entry a ≡ true)
+
+-- ISZ of the running routine's own entry alone, which isn't seven up already.
+abbrev pub CountsItsReturn : Place → Fact → Meaning → ℕ → Type 0
+CountsItsReturn pl f (Isz i c) a =
+    (pl.routine ≡ Some a) × (only (targets pl i c f) ≡ Some a) × (f.offsets 7 ≡ false)
+CountsItsReturn pl f _ a = ⊥
+
+-- No cell that the word may write is an entry, save under such an ISZ.
+abbrev pub EntriesAreKept : Place → Fact → Meaning → Type 0
+EntriesAreKept pl f m =
+    (a : ℕ) → a < 4096 → may_write pl f m a ≡ true → pl.declaration.entry a ≡ true → CountsItsReturn pl f m a
+
+-- In a routine a cell may be written where it is in the routine's written set or is its own entry; in main always.
+abbrev pub MayWrite : Words → Routine → ℕ → Type 0
+MayWrite writes None a = Unit {0}
+MayWrite writes (Some e) a = (writes a ≡ true) ⊎ (a ≡ e)
+
+-- Each cell that the word may write is one that the routine may write.
+abbrev pub WritesAreListed : Place → Words → Fact → Meaning → Type 0
+WritesAreListed pl writes f m =
+    (a : ℕ) → a < 4096 → may_write pl f m a ≡ true → MayWrite writes pl.routine a
+
+-- Each cell that the word may read is on the list of reads, if there is one, or is the routine's own entry.
+abbrev pub ReadsAreListed : Place → Fact → Meaning → Type 0
+ReadsAreListed pl f m =
+    (a : ℕ) → a < 4096 → may_read pl f m a ≡ true → IsListed pl.declaration.reads a ⊎ (pl.routine ≡ Some a)

@@ -1,0 +1,7 @@
+pub mod Facts
+pub mod Changes
+pub mod Outcomes
+pub mod Conditions
+pub mod Law
+pub mod Starts
+pub mod Same

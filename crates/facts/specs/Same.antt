@@ -1,0 +1,26 @@
+-- Facts that agree: what code knows of a fact is its words below 4096, and its equations in some order.
+use Rattle.std.specs.Prelude.{◌≡◌, ℕ, ◌<◌, List}
+use Rattle.wordset.specs.Words.{SameWords, SameLinks}
+use Rattle.facts.specs.Facts.{Name, Equation, Fact, Among, Entails, EntailsOffsets}
+
+-- The same equations, in whatever order and however often.
+pub record SameEquations (es gs : List Equation) : Type 0 where
+  pub to : (e : Equation) → Among e es → Among e gs
+  pub from : (e : Equation) → Among e gs → Among e es
+
+pub record SameFact (a b : Fact) : Type 0 where
+  pub sets : (n : Name) → SameWords (a.set n) (b.set n)
+  pub mq : SameWords a.mq b.mq
+  pub link : SameLinks a.link b.link
+  pub equations : SameEquations a.equations b.equations
+  pub offsets : (o : ℕ) → o < 8 → a.offsets o ≡ b.offsets o
+
+-- Facts that agree entail the same facts, and are entailed by the same.
+pub record EntailAlike (a b c : Fact) : Type 0 where
+  pub left : Entails a c → Entails b c
+  pub right : Entails c a → Entails c b
+  pub left_offsets : EntailsOffsets a c → EntailsOffsets b c
+  pub right_offsets : EntailsOffsets c a → EntailsOffsets c b
+
+abbrev pub SameLaw : Type 0
+SameLaw = (a b c : Fact) → SameFact a b → EntailAlike a b c

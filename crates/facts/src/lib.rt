@@ -1,0 +1,62 @@
+//! Facts about a running program, and what each instruction makes of them.
+#![tactic(auto)]
+
+ghost use Rattle.facts.specs.Law.{StepLaw};
+ghost use Rattle.facts.specs.Starts.{StartLaw};
+ghost use Rattle.facts.specs.Same.{SameLaw};
+
+/// The conditions that a certificate must meet.
+#[derive(Clone, Copy, PartialEq, Eq, Debug)]
+pub enum Condition {
+    /// There is a fact at the start, and it holds of every start.
+    V1,
+    /// Facts are in bodies, with offsets in routines alone; routine and exit lines are at entries.
+    V2,
+    /// At most 64 words are possible, and each is supported.
+    V3,
+    /// Each outcome entails the fact at each next address, in the same body.
+    V4,
+    /// Each cell that may be written is a variable or an entry.
+    V5,
+    /// In a routine it is in the routine's written set, or its own entry.
+    V6,
+    /// A JMS goes to listed entries of lower rank, and not through an auto-index cell.
+    V7,
+    /// In a routine the callee's written set and entry are in the routine's, whose entry isn't in
+    /// the callee's.
+    V8,
+    /// The address is a listed site of the callee, and at most 7767.
+    V9,
+    /// What the caller knows entails the fact at the callee's first address.
+    V10,
+    /// What the caller and an exit know entails the fact at the return address.
+    V11,
+    /// A JMP I through an entry is its own routine's, at declared offsets, and entails the exits.
+    V12,
+    /// A HLT is at a declared halt.
+    V13,
+    /// No entry may be written, save that ISZ may count the routine's own.
+    V14,
+    /// Each cell that may be read is on the list of reads, where there is one, or the routine's own
+    /// entry.
+    V15,
+}
+
+/// The step law: from a state of a fact, a step by the word at the program counter lands in one of
+/// the word's outcomes, of the same call list. It is asked of words whose writes are declared and
+/// keep the entries; a JMS, a return and a HLT at a stop are apart.
+pub fn step_law()
+    ensures { StepLaw }
+{}
+
+/// The test `holds_before` is true exactly where a fact holds of every start: whatever the
+/// accumulator, the link, MQ and the cells that aren't on the tape hold.
+pub fn start_law()
+    ensures { StartLaw }
+{}
+
+/// Facts that agree on all words below 4096, on their equations as a set and on their offsets entail
+/// the same facts, and are entailed by the same.
+pub fn same_law()
+    ensures { SameLaw }
+{}

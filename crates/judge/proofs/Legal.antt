@@ -1,0 +1,181 @@
+-- The invariant makes the next step legal, and so all declared runs safe.
+use Rattle.std.proofs.Common.{◌≡◌, ℕ, ◌+◌, ◌<◌, ◌≤◌, ◌==◌, Bool, true, false, ◌&&◌, ◌||◌, ◌⊎◌, Some, None, List, [], ◌∷◌, refl, sym, ◌∙◌, subst, inl, inr, arith}
+use Rattle.std.proofs.lemmas.Bool.{and_parts, eqb-true, true≢false, false≢true}
+use Rattle.instruct.specs.Instructions.{Meaning, And, Tad, Isz, Dca, Jms, Jmp, Group1, Group2, Group3, Device, Undefined}
+use Rattle.wordset.specs.Words.{plus}
+use Rattle.processor.specs.Cells.{Cells}
+use Rattle.processor.specs.Machine.{State, Answer, place, steps_pointer, instruction}
+use Rattle.processor.specs.Runs.{IsStart}
+use Rattle.policy.specs.Declaration.{IsDeclared}
+use Rattle.policy.specs.Calls.{Calls, current, calls_after}
+use Rattle.policy.specs.Rules.{pointer_of, stored_at, CountsOwnEntry, WritesDeclared, CallsEntries, FindsItsCall, ReturnsToItsCall, IsListed, ReadsListed, IsLegal}
+use Rattle.policy.specs.Runs.{DeclaredRun}
+use Rattle.facts.specs.Facts.{Means}
+use Rattle.facts.specs.Conditions.{may_read}
+use Rattle.facts.proofs.Numbers.{or_left, or_right}
+use Rattle.facts.proofs.Covers.{NamesWord, meaning_names, Accessed}
+use Rattle.judge.specs.Conditions.{Case, fact_at, place_in, IsValid}
+use Rattle.judge.specs.Headline.{RunsAreSafe}
+use Rattle.facts.specs.declared.Condition.TheVariants.{V1}
+use Rattle.judge.proofs.Fine.{Fine}
+use Rattle.judge.proofs.Induction.{Invariant, access, keeps, fine_at, not_entry}
+use Rattle.facts.proofs.Covers.{pointer_variable, pointer_written}
+
+or_either : (a b : Bool) → (a || b) ≡ true → (a ≡ true) ⊎ (b ≡ true)
+or_either true b e = inl refl
+or_either false b e = inr e
+
+module _ (j : Case) (dd : IsDeclared j.declaration) (valid : IsValid j) (start : Cells) (sw : (a : ℕ) → start a < 4096) (loaded : (a w : ℕ) → j.image a ≡ Some w → start a ≡ w) where
+  -- a memory reference's target, as the conditions speak of it
+  abbrev pub Access : State → Calls → Bool → ℕ → Type 0
+  Access s ks i c = Accessed (place_in j (current ks)) dd start sw loaded (fact_at j s.pc) s ks i c
+
+  steps : (i : Bool) (c : ℕ) (ks : Calls) → steps_pointer i c ≡ true → (steps_pointer i c && (c == c)) ≡ true
+  steps i c ks e = pointer_written (place_in j (current ks)) dd start sw loaded i c e
+
+  -- a stepped pointer is a variable
+  pointer_legal : (ks : Calls) (i : Bool) (c a : ℕ) → (steps_pointer i c ≡ true → (j.declaration.variable c ≡ true) ⊎ (j.declaration.entry c ≡ true)) →
+      (steps_pointer i c && (a == c)) ≡ true → j.declaration.variable a ≡ true
+  pointer_legal ks i c a v e =
+      let both = and_parts (steps_pointer i c) (a == c) e in
+      let ac : a ≡ c = eqb-true a c both.1 in
+      rw ac (pointer_variable (place_in j (current ks)) dd start sw loaded i c (v both.0) both.0)
+
+  pointers : (m : Meaning) (s : State) (ks : Calls) (a : ℕ) → NamesWord m → Fine j (current ks) s.pc m → pointer_of m a ≡ true → j.declaration.variable a ≡ true
+  pointers (And i c) s ks a n fine e = pointer_legal ks i c a (λ q. fine.v5 c n (or_left _ _ (steps i c ks q))) e
+  pointers (Tad i c) s ks a n fine e = pointer_legal ks i c a (λ q. fine.v5 c n (or_left _ _ (steps i c ks q))) e
+  pointers (Isz i c) s ks a n fine e = pointer_legal ks i c a (λ q. fine.v5 c n (or_left _ _ (steps i c ks q))) e
+  pointers (Dca i c) s ks a n fine e = pointer_legal ks i c a (λ q. fine.v5 c n (or_left _ _ (steps i c ks q))) e
+  pointers (Jms i c) s ks a n fine e = pointer_legal ks i c a (λ q. fine.v5 c n (or_left _ _ (steps i c ks q))) e
+  pointers (Jmp i c) s ks a n fine e = pointer_legal ks i c a (λ q. fine.v5 c n (or_left _ _ (steps i c ks q))) e
+  pointers (Group1 w) s ks a n fine e = absurd (false≢true e)
+  pointers (Group2 w) s ks a n fine e = absurd (false≢true e)
+  pointers (Group3 o) s ks a n fine e = absurd (false≢true e)
+  pointers (Device action) s ks a n fine e = absurd (false≢true e)
+  pointers Undefined s ks a n fine e = absurd (false≢true e)
+
+  stores : (m : Meaning) (s : State) (ks : Calls) (a : ℕ) → Invariant j dd valid start sw loaded s ks → NamesWord m → Fine j (current ks) s.pc m → stored_at m s.memory a ≡ true →
+      (j.declaration.variable a ≡ true) ⊎ CountsOwnEntry m ks a
+  stores (Isz i c) s ks a inv n fine e =
+      let x : Access s ks i c = access j dd valid start sw loaded s ks i c inv n (λ q. fine.v5 c n (or_left _ _ (steps i c ks q))) in
+      let at : a ≡ place i c s.memory = eqb-true a (place i c s.memory) e in
+      elim (fine.v5 (place i c s.memory) x.word (or_right _ _ x.target)) [
+        | inl v ↦ inl (rw at v)
+        | inr v ↦ inr (rw at (fine.v14 (place i c s.memory) x.word (or_right _ _ x.target) v).0)
+      ]
+  stores (Dca i c) s ks a inv n fine e =
+      let x : Access s ks i c = access j dd valid start sw loaded s ks i c inv n (λ q. fine.v5 c n (or_left _ _ (steps i c ks q))) in
+      let at : a ≡ place i c s.memory = eqb-true a (place i c s.memory) e in
+      elim (fine.v5 (place i c s.memory) x.word (or_right _ _ x.target)) [
+        | inl v ↦ inl (rw at v)
+        | inr v ↦ absurd (fine.v14 (place i c s.memory) x.word (or_right _ _ x.target) v)
+      ]
+  stores (And i c) s ks a inv n fine e = absurd (false≢true e)
+  stores (Tad i c) s ks a inv n fine e = absurd (false≢true e)
+  stores (Jms i c) s ks a inv n fine e = absurd (false≢true e)
+  stores (Jmp i c) s ks a inv n fine e = absurd (false≢true e)
+  stores (Group1 w) s ks a inv n fine e = absurd (false≢true e)
+  stores (Group2 w) s ks a inv n fine e = absurd (false≢true e)
+  stores (Group3 o) s ks a inv n fine e = absurd (false≢true e)
+  stores (Device action) s ks a inv n fine e = absurd (false≢true e)
+  stores Undefined s ks a inv n fine e = absurd (false≢true e)
+
+  legal_writes : (m : Meaning) (s : State) (ks : Calls) → Invariant j dd valid start sw loaded s ks → NamesWord m → Fine j (current ks) s.pc m → WritesDeclared j.declaration m s ks
+  legal_writes m s ks inv n fine a e = elim (or_either (pointer_of m a) (stored_at m s.memory a) e) [
+    | inl p ↦ inl (pointers m s ks a n fine p)
+    | inr q ↦ stores m s ks a inv n fine q
+  ]
+
+  legal_calls : (m : Meaning) (s : State) (ks : Calls) → Invariant j dd valid start sw loaded s ks → NamesWord m → Fine j (current ks) s.pc m → CallsEntries j.declaration m s
+  legal_calls (Jms i c) s ks inv n fine =
+      let still : steps_pointer i c ≡ false = fine.v7.0 in
+      let x : Access s ks i c = access j dd valid start sw loaded s ks i c inv n (λ e. absurd (true≢false (sym e ∙ still))) in
+      (fine.v7.1 (place i c s.memory) x.word x.target).entry
+  legal_calls _ s ks inv n fine = tt
+
+  finds : (s : State) (ks : Calls) (c : ℕ) → Invariant j dd valid start sw loaded s ks → Fine j (current ks) s.pc (Jmp true c) → j.declaration.entry c ≡ true → FindsItsCall j.declaration c s ks
+  finds s [] c inv fine en = absurd (let z : None ≡ Some c = (fine.v12 refl en).0 in cc)
+  finds s (k ∷ ks) c inv fine en =
+      let kw : k.entry ≡ c = (let q : Some k.entry ≡ Some c = (fine.v12 refl en).0 in cc) in
+      let own = inv.means.own in
+      let o : ℕ = own.0 in
+      let lo : o < 8 = own.1 in
+      let low : k.after ≤ 4088 = inv.frames.0.low in
+      let back : plus k.after o ≡ k.after + o = omega arith in
+      (kw, o, lo, ((fine.v12 refl en).1 o lo own.2).declared, rw (← kw, back) own.3)
+
+  legal_returns : (m : Meaning) (s : State) (ks : Calls) → Invariant j dd valid start sw loaded s ks → Fine j (current ks) s.pc m → ReturnsToItsCall j.declaration m s ks
+  legal_returns (Jmp true c) s ks inv fine = λ e en. finds s ks c inv fine en
+  legal_returns (Jmp false c) s ks inv fine = λ e en. absurd (false≢true e)
+  legal_returns _ s ks inv fine = tt
+
+  -- the operands that the conditions speak of are those that are read
+  operand_listed : (m : Meaning) (s : State) (ks : Calls) (i : Bool) (c a : ℕ) → Invariant j dd valid start sw loaded s ks → c < 4096 → Fine j (current ks) s.pc m → Access s ks i c →
+      ((b : ℕ) → (i && (b == c)) ≡ true → may_read (place_in j (current ks)) (fact_at j s.pc) m b ≡ true) →
+      (may_read (place_in j (current ks)) (fact_at j s.pc) m (place i c s.memory) ≡ true) →
+      ((i && (a == c)) || (a == place i c s.memory)) ≡ true → IsListed j.declaration.reads a ⊎ (current ks ≡ Some a)
+  operand_listed m s ks i c a inv n fine x left right e = elim (or_either (i && (a == c)) (a == place i c s.memory) e) [
+    | inl p ↦ (let ac : a ≡ c = eqb-true a c (and_parts i (a == c) p).1 in let lt : a < 4096 = rw ac n in fine.v15 a lt (left a p))
+    | inr p ↦ (let at : a ≡ place i c s.memory = eqb-true a (place i c s.memory) p in rw at (fine.v15 (place i c s.memory) x.word right))
+  ]
+
+  pointer_listed : (m : Meaning) (s : State) (ks : Calls) (i : Bool) (c a : ℕ) → c < 4096 → Fine j (current ks) s.pc m →
+      ((b : ℕ) → (i && (b == c)) ≡ true → may_read (place_in j (current ks)) (fact_at j s.pc) m b ≡ true) →
+      (i && (a == c)) ≡ true → IsListed j.declaration.reads a ⊎ (current ks ≡ Some a)
+  pointer_listed m s ks i c a n fine left p =
+      let ac : a ≡ c = eqb-true a c (and_parts i (a == c) p).1 in
+      let lt : a < 4096 = rw ac n in
+      fine.v15 a lt (left a p)
+
+  legal_reads : (m : Meaning) (s : State) (ks : Calls) → Invariant j dd valid start sw loaded s ks → NamesWord m → Fine j (current ks) s.pc m → ReadsListed j.declaration m s ks
+  legal_reads (And i c) s ks inv n fine a e =
+      let x : Access s ks i c = access j dd valid start sw loaded s ks i c inv n (λ q. fine.v5 c n (or_left _ _ (steps i c ks q))) in
+      operand_listed (And i c) s ks i c a inv n fine x (λ b q. or_left _ _ q) (or_right _ _ x.target) e
+  legal_reads (Tad i c) s ks inv n fine a e =
+      let x : Access s ks i c = access j dd valid start sw loaded s ks i c inv n (λ q. fine.v5 c n (or_left _ _ (steps i c ks q))) in
+      operand_listed (Tad i c) s ks i c a inv n fine x (λ b q. or_left _ _ q) (or_right _ _ x.target) e
+  legal_reads (Isz i c) s ks inv n fine a e =
+      let x : Access s ks i c = access j dd valid start sw loaded s ks i c inv n (λ q. fine.v5 c n (or_left _ _ (steps i c ks q))) in
+      operand_listed (Isz i c) s ks i c a inv n fine x (λ b q. or_left _ _ q) (or_right _ _ x.target) e
+  legal_reads (Dca i c) s ks inv n fine a e = pointer_listed (Dca i c) s ks i c a n fine (λ b q. q) e
+  legal_reads (Jms i c) s ks inv n fine a e = pointer_listed (Jms i c) s ks i c a n fine (λ b q. q) e
+  legal_reads (Jmp i c) s ks inv n fine a e = pointer_listed (Jmp i c) s ks i c a n fine (λ b q. q) e
+  legal_reads (Group1 w) s ks inv n fine a e = absurd (false≢true e)
+  legal_reads (Group2 w) s ks inv n fine a e = absurd (false≢true e)
+  legal_reads (Group3 o) s ks inv n fine a e = absurd (false≢true e)
+  legal_reads (Device action) s ks inv n fine a e = absurd (false≢true e)
+  legal_reads Undefined s ks inv n fine a e = absurd (false≢true e)
+
+  pub legal : (s : State) (ks : Calls) → Invariant j dd valid start sw loaded s ks → IsLegal j.image j.declaration s ks
+  legal s ks inv =
+      let fine : Fine j (current ks) s.pc (instruction j.declaration.profile s) = fine_at j dd valid start sw loaded s ks inv in
+      let n : NamesWord (instruction j.declaration.profile s) = meaning_names j.declaration.profile s.pc (s.memory s.pc) inv.state.pc in
+      record {
+        stays = record { in_body = inv.inside; supported = fine.v3 };
+        writes = legal_writes (instruction j.declaration.profile s) s ks inv n fine;
+        calls = legal_calls (instruction j.declaration.profile s) s ks inv n fine;
+        returns = legal_returns (instruction j.declaration.profile s) s ks inv fine;
+        halts = fine.v13;
+        code = λ r a w inside var tape. inv.means.rest a var (not_entry j dd valid start sw loaded r a inside) ∙ loaded a w tape;
+        reads = legal_reads (instruction j.declaration.profile s) s ks inv n fine;
+      }
+
+  pub all_legal : (answers : List Answer) (s t : State) (ks ls : Calls) → Invariant j dd valid start sw loaded s ks → DeclaredRun j.declaration answers s ks t ls → IsLegal j.image j.declaration t ls
+  all_legal [] s t ks ls inv run = subst (λ x. IsLegal j.image j.declaration t x) run.1 (subst (λ x. IsLegal j.image j.declaration x ks) run.0 (legal s ks inv))
+  all_legal (q ∷ qs) s t ks ls inv run = all_legal qs run.0 t (calls_after j.declaration s ks) ls (keeps j dd valid start sw loaded s run.0 q ks inv run.2 run.1) run.3
+
+pub starts : (j : Case) (dd : IsDeclared j.declaration) (valid : IsValid j) (s : State) (start : IsStart j.image j.declaration.start s) →
+    Invariant j dd valid s.memory start.words start.loaded s []
+starts j dd valid s start =
+    let v1 = valid V1 j.declaration.start refl in
+    record {
+      state = record { ac = start.ac; link = start.link; mq = start.mq; pc = (let e : s.pc ≡ j.declaration.start = start.pc in rw e dd.start_is_word); words = start.words };
+      there = (let e : s.pc ≡ j.declaration.start = start.pc in rw e v1.0);
+      inside = (let e : s.pc ≡ j.declaration.start = start.pc in rw e dd.start_in_main);
+      means = subst (λ p. Means (place_in j None) s.memory (fact_at j p) s []) (sym start.pc) (v1.1 s start);
+      frames = tt;
+    }
+
+pub runs_are_safe : RunsAreSafe
+runs_are_safe j dd valid s t ls answers start run =
+    all_legal j dd valid s.memory start.words start.loaded answers s t [] ls (starts j dd valid s start) run

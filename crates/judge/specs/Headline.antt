@@ -1,0 +1,24 @@
+-- The headline: a valid certificate makes a program safe.
+use Rattle.std.specs.Prelude.{◌≡◌, ℕ, None}
+use Rattle.policy.specs.Declaration.{IsDeclared}
+use Rattle.policy.specs.Rules.{ReadsListed}
+use Rattle.policy.specs.Runs.{IsSafeInRuns, IsSafeInEvents}
+use Rattle.processor.specs.Machine.{State, instruction}
+use Rattle.policy.specs.Calls.{Calls}
+use Rattle.judge.specs.Conditions.{Case, IsValid, HoldsAt}
+use Rattle.facts.specs.declared.Condition.TheVariants.{V15}
+
+-- In every declared run of the instruction table each step keeps the rules.
+abbrev pub RunsAreSafe : Type 0
+RunsAreSafe = (j : Case) → IsDeclared j.declaration → IsValid j → IsSafeInRuns j.image j.declaration
+
+-- In every list of events each step that is tried keeps the rules.
+abbrev pub EventsAreSafe : Type 0
+EventsAreSafe = (j : Case) → IsDeclared j.declaration → IsValid j → IsSafeInEvents j.image j.declaration
+
+-- Without a list of reads the rule on reads and its condition hold of everything.
+abbrev pub UnlistedReadsAreFree : Type 0
+UnlistedReadsAreFree =
+    (j : Case) → j.declaration.reads ≡ None →
+    ((a : ℕ) → HoldsAt j V15 a) ×
+    ((s : State) (ks : Calls) → ReadsListed j.declaration (instruction j.declaration.profile s) s ks)

@@ -1,0 +1,25 @@
+//! The conditions on a certificate, and the theorem that they make a program safe.
+#![tactic(auto)]
+
+ghost use Rattle.judge.specs.Headline.{RunsAreSafe, EventsAreSafe, UnlistedReadsAreFree};
+
+pub use facts::Condition;
+
+/// The headline: whenever every condition holds of a tape's words, a declaration and a certificate,
+/// then in every run from the declared start, whatever unset memory, the accumulator, the link and
+/// MQ hold and however keys, tape frames, completions and switches interleave with instructions,
+/// control stays in the running routine's body, writes hit only declared cells, fixed code words
+/// never change, each return reaches a declared place after its own call, halts are declared, and
+/// listed reads are kept.
+///
+/// Its premises are that the machine follows the instruction table of the declared profile in one
+/// field with interrupts off, that memory holds the tape's words at the start, and that the operator
+/// starts at the declared start, presses CONTINUE at pauses alone and deposits nothing. It doesn't
+/// say that a run ends, that a program computes what its author meant, or that a declaration is
+/// wise; and it says nothing of reads where none are listed.
+pub fn headline()
+    ensures runs { RunsAreSafe }
+    ensures events { EventsAreSafe }
+    // Without a list of reads, the rule on reads and its condition ask nothing.
+    ensures reads { UnlistedReadsAreFree }
+{}

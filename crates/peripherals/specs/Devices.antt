@@ -1,0 +1,113 @@
+-- The keyboard, the printer, the tape reader, the punch and the switches; and one instruction in front of them.
+use Rattle.std.specs.Prelude.{ℕ, ◌≡◌, ◌%◌, ◌==◌, Bool, true, false, ◌||◌, ◌⊎◌, if◌then◌else◌, Option, Some, None, List, [], ◌∷◌, ◌++◌}
+use Rattle.instruct.specs.declared.Profile.{Profile}
+use Rattle.instruct.specs.Instructions.{Undefined}
+use Rattle.processor.specs.Machine.{State, Answer, Silent, Truth, Byte, Step, instruction}
+use Rattle.processor.specs.Steps.{answer_taken, halts_after}
+
+-- The keyboard: its flag, and the byte of the last key.
+pub record Keyboard : Type 0 where
+  pub flag : Bool
+  pub buffer : ℕ
+
+-- The tape reader: its flag, the byte of the last frame, and whether a frame was asked for and hasn't come yet.
+pub record Reader : Type 0 where
+  pub flag : Bool
+  pub buffer : ℕ
+  pub fetching : Bool
+
+-- The printer or the punch: its flag, whether it is busy with a byte, and all bytes that it was given.
+pub record Writer : Type 0 where
+  pub flag : Bool
+  pub busy : Bool
+  pub output : List ℕ
+
+pub record Devices : Type 0 where
+  pub keyboard : Keyboard
+  pub printer : Writer
+  pub reader : Reader
+  pub punch : Writer
+  pub switches : ℕ
+
+-- When a program is loaded all flags are clear, all buffers and the switches are 0, and nothing is under way.
+abbrev pub idle_writer : Writer
+idle_writer = record { flag = false; busy = false; output = [] }
+
+abbrev pub idle : Devices
+idle = record {
+  keyboard = record { flag = false; buffer = 0 };
+  printer = idle_writer;
+  reader = record { flag = false; buffer = 0; fetching = false };
+  punch = idle_writer;
+  switches = 0;
+}
+
+-- A writer is given the low eight bits of the accumulator, also while it is busy.
+abbrev pub given : ℕ → Writer → Writer
+given ac d = record d { busy = true; output = d.output ++ (ac % 256) ∷ [] }
+
+abbrev pub with_writer_flag : Bool → Writer → Writer
+with_writer_flag flag d = record d { flag = flag }
+
+abbrev pub with_reader_flag : Bool → Reader → Reader
+with_reader_flag flag d = record d { flag = flag }
+
+abbrev pub with_keyboard_flag : Bool → Keyboard → Keyboard
+with_keyboard_flag flag d = record d { flag = flag }
+
+-- The reader drops its byte and fetches the next frame.
+abbrev pub fetched : Reader → Reader
+fetched d = record { flag = false; buffer = 0; fetching = true }
+
+-- The answer of the devices to a device word: RSF, PSF, KSF and TSF are told a flag, RRB, RRB RFC, KRS and KRB a byte.
+abbrev pub answer_to : Devices → ℕ → Answer
+answer_to v word =
+    if word == 0o6011 then Truth v.reader.flag
+    else (if word == 0o6021 then Truth v.punch.flag
+    else (if word == 0o6031 then Truth v.keyboard.flag
+    else (if word == 0o6041 then Truth v.printer.flag
+    else (if word == 0o6012 || word == 0o6016 then Byte v.reader.buffer
+    else (if word == 0o6034 || word == 0o6036 then Byte v.keyboard.buffer
+    else Silent)))))
+
+-- The devices after a word that is carried out, by the accumulator before it: RRB; RFC and RRB RFC; PCF; PPC; PLS;
+-- KCF, KCC and KRB; TFL; TCF; TPC; TLS. All other words leave them.
+unfoldable pub devices_after : Devices → ℕ → ℕ → Devices
+devices_after v word ac =
+    if word == 0o6012 then record v { reader = with_reader_flag false v.reader }
+    else (if word == 0o6014 || word == 0o6016 then record v { reader = fetched v.reader }
+    else (if word == 0o6022 then record v { punch = with_writer_flag false v.punch }
+    else (if word == 0o6024 then record v { punch = given ac v.punch }
+    else (if word == 0o6026 then record v { punch = given ac (with_writer_flag false v.punch) }
+    else (if word == 0o6030 || (word == 0o6032 || word == 0o6036)
+    then record v { keyboard = with_keyboard_flag false v.keyboard }
+    else (if word == 0o6040 then record v { printer = with_writer_flag true v.printer }
+    else (if word == 0o6042 then record v { printer = with_writer_flag false v.printer }
+    else (if word == 0o6044 then record v { printer = given ac v.printer }
+    else (if word == 0o6046 then record v { printer = given ac (with_writer_flag false v.printer) }
+    else v)))))))))
+
+-- The machine and its devices, and the address of the HLT at which it stands; none while it runs.
+pub record WorldState : Type 0 where
+  pub state : State
+  pub devices : Devices
+  pub halted_at : Option ℕ
+
+-- The word at the program counter.
+abbrev pub word_at_pc : WorldState → ℕ
+word_at_pc w = w.state.memory w.state.pc
+
+-- What the devices and the switches tell the next instruction.
+abbrev pub answer_of : Profile → WorldState → Answer
+answer_of profile w = answer_taken (instruction profile w.state) (answer_to w.devices (word_at_pc w)) w.devices.switches
+
+-- One instruction is carried out: the table leads from state to state by the devices' answer, and a HLT halts there.
+pub record CarriesOut (profile : Profile) (w x : WorldState) : Type 0 where
+  pub step : Step profile w.state (answer_of profile w) x.state
+  pub devices : x.devices ≡ devices_after w.devices (word_at_pc w) w.state.ac
+  pub halted_at : x.halted_at ≡ (if halts_after (instruction profile w.state) then Some w.state.pc else None)
+
+-- One instruction is tried: it is carried out, or at a word without a meaning nothing changes.
+abbrev pub Instructs : Profile → WorldState → WorldState → Type 0
+Instructs profile w x =
+    CarriesOut profile w x ⊎ ((instruction profile w.state ≡ Undefined) × (x ≡ w))

@@ -1,0 +1,10 @@
+pub mod Devices
+pub mod Events
+pub mod Loading
+pub mod Runs
+pub mod Seen
+pub mod World
+pub mod Text
+pub mod TextLeft
+pub mod EventText
+pub mod Repeated

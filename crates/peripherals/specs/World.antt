@@ -1,0 +1,57 @@
+-- What a world in code shows of the machine and its devices.
+use Rattle.std.specs.Prelude.{ℕ, ◌≡◌, ◌%◌, Bool, ◌||◌, ◌==◌, if◌then◌else◌, List, [], ◌∷◌, ◌++◌}
+use Rattle.instruct.specs.declared.Profile.{Profile}
+use Rattle.processor.specs.Machine.{Answer}
+use Rattle.processor.specs.Steps.{state_of}
+use Rattle.peripherals.specs.Devices.{Writer, Devices, WorldState, answer_to, devices_after}
+use Rattle.peripherals.specs.declared.devices.Outlet.{Outlet}
+use Rattle.peripherals.specs.declared.devices.Panel.{Panel}
+use Rattle.peripherals.specs.declared.world.World.{World}
+
+-- A printer or a punch with what it has put out.
+abbrev pub writer_of : Outlet → List ℕ → Writer
+writer_of o output = record { flag = o.flag; busy = o.busy; output = output }
+
+-- The devices of a panel, with what was printed and punched.
+abbrev pub devices_of : Panel → List ℕ → List ℕ → Devices
+devices_of p printed punched = record {
+  keyboard = record { flag = p.keyboard.flag; buffer = p.keyboard.buffer };
+  printer = writer_of p.printer printed;
+  reader = record { flag = p.reader.flag; buffer = p.reader.buffer; fetching = p.reader.fetching };
+  punch = writer_of p.punch punched;
+  switches = p.switches;
+}
+
+-- TPC and TLS print.
+abbrev pub prints : ℕ → Bool
+prints word = word == 0o6044 || word == 0o6046
+
+-- PPC and PLS punch.
+abbrev pub punches : ℕ → Bool
+punches word = word == 0o6024 || word == 0o6026
+
+-- The output of a device after a word that gives it the low eight bits of the accumulator, or doesn't.
+abbrev pub put_out : Bool → ℕ → List ℕ → List ℕ
+put_out gives ac output = if gives then output ++ (ac % 256) ∷ [] else output
+
+-- What the devices answer doesn't depend on what they have put out.
+abbrev pub panel_answer : Panel → ℕ → Answer
+panel_answer p = answer_to (devices_of p [] [])
+
+-- After a device word the panel is q, whatever was put out before.
+pub record GoesOn (p : Panel) (word ac : ℕ) (q : Panel) : Type 0 where
+  pub devices : (printed punched : List ℕ) →
+      devices_after (devices_of p printed punched) word ac ≡
+      devices_of q (put_out (prints word) ac printed) (put_out (punches word) ac punched)
+
+-- A world as the event table sees it.
+abbrev pub view : {A : Type 0} → World A → WorldState
+view w = record {
+  state = state_of w.cpu;
+  devices = devices_of w.panel w.printed.items w.punched.items;
+  halted_at = w.halted_at;
+}
+
+-- Whose instructions the machine has.
+abbrev pub profile_of : {A : Type 0} → World A → Profile
+profile_of w = w.cpu.profile

@@ -1,0 +1,185 @@
+//! The world: the machine with its devices, driven by events.
+
+ghost use Rattle.std.specs.Prelude.{ℕ, ◌≡◌, None, IsTrue, IfOk, OnOk, OnErr, ◌||◌};
+ghost use Rattle.processor.specs.Cells.{cell_of};
+ghost use Rattle.processor.specs.Steps.{state_of};
+ghost use Rattle.peripherals.specs.declared.Event.{Event};
+ghost use Rattle.peripherals.specs.Events.{Happens};
+ghost use Rattle.peripherals.specs.Loading.{image_of, laid, loaded};
+ghost use Rattle.peripherals.specs.Seen.{seen_of, puts_out};
+ghost use Rattle.peripherals.specs.World.{view, profile_of, prints, punches, put_out};
+
+use crate::devices::{Keyboard, Panel};
+use crate::{Event, NoMemory, Seen, Start};
+use bin_tape::Image;
+use instruct::Profile;
+use processor::{Cpu, Memory, Outcome};
+use std::alloc::Allocator;
+use word12::Word;
+
+/// A machine with its teletype, its high-speed reader and punch, and its switches.
+///
+/// Contracts see it as `view` shows it: the state of the machine, the devices with all that they
+/// have put out, and where the machine is halted.
+#[derive(Drop)]
+pub struct World<A: Allocator> {
+    cpu: Cpu,
+    panel: Panel,
+    printed: Vec<u8, A>,
+    punched: Vec<u8, A>,
+    halted_at: Option<Word>,
+}
+
+/// The words of an image laid over a memory.
+fn lay(image: &Image, start: &Memory) -> Memory
+    ensures { cell_of result ≡ laid (image_of image.now) (cell_of start.now) }
+{
+    let mut memory = start.duplicate();
+    for index in 0..4096 {
+        let at = Word::from_index(index);
+        if let Some(word) = image.get(at) {
+            memory.set(at, word);
+        }
+    }
+    memory
+}
+
+/// Puts out what a word prints or punches.
+fn put_out<A: Allocator>(
+    printed: &mut Vec<u8, A>,
+    punched: &mut Vec<u8, A>,
+    word: Word,
+    ac: Word,
+) -> Result<(), NoMemory>
+    ensures printed { OnOk result (printed.new.items ≡ put_out (prints word) ac printed.old.items) }
+    ensures punched { OnOk result (punched.new.items ≡ put_out (punches word) ac punched.old.items) }
+    ensures printed_kept { OnErr result (printed.new.items ≡ printed.old.items) }
+    ensures punched_kept { OnErr result (punched.new.items ≡ punched.old.items) }
+    ensures only { OnErr result (IsTrue (prints word || punches word)) }
+{
+    let byte = ac.low_byte();
+    match word.value() {
+        0o6044 | 0o6046 => printed.push(byte).map_err(|_| NoMemory),
+        0o6024 | 0o6026 => punched.push(byte).map_err(|_| NoMemory),
+        _ => Ok(()),
+    }
+}
+
+impl<A: Allocator> World<A> {
+    /// A machine that is loaded with a tape: the image is laid over the start's memory, all flags
+    /// are clear, the buffers and the switches are 0, nothing is under way, and the machine runs at
+    /// an address. It takes no memory; the allocator is kept for what is printed and punched.
+    pub fn load(alloc: A, image: &Image, pc: Word, start: &Start, profile: Profile) -> World<A>
+    where
+        A: Copy,
+        ensures view { view result ≡ loaded (image_of image.now) pc start.now }
+        ensures profile { profile_of result ≡ profile }
+    {
+        World {
+            cpu: Cpu {
+                memory: lay(image, &start.memory),
+                ac: start.ac,
+                link: start.link,
+                mq: start.mq,
+                pc,
+                profile,
+            },
+            panel: Panel::IDLE,
+            printed: Vec::new(alloc),
+            punched: Vec::new(alloc),
+            halted_at: None,
+        }
+    }
+
+    /// The processor, with its memory.
+    pub fn cpu(&self) -> &Cpu
+        ensures state { state_of result.now ≡ (view self.now).state }
+        ensures profile { result.now.profile ≡ profile_of self.now }
+    {
+        &self.cpu
+    }
+
+    /// All bytes that were printed, in order.
+    pub fn printed(&self) -> &[u8]
+        ensures { result.now ≡ (view self.now).devices.printer.output }
+    {
+        &self.printed
+    }
+
+    /// All bytes that were punched, in order.
+    pub fn punched(&self) -> &[u8]
+        ensures { result.now ≡ (view self.now).devices.punch.output }
+    {
+        &self.punched
+    }
+
+    /// The address of the HLT at which the machine is halted; none while it runs.
+    pub fn halted_at(&self) -> Option<Word>
+        ensures { result ≡ (view self.now).halted_at }
+    {
+        self.halted_at
+    }
+
+    /// Tries one instruction of a machine that runs.
+    fn step(&mut self) -> Result<Seen, NoMemory>
+        requires { (view self.old).halted_at ≡ None }
+        ensures happens { OnOk result (Happens (profile_of self.old) (view self.old) Event.Step (view self.new)) }
+        ensures seen { IfOk result (λ seen. seen ≡ seen_of (profile_of self.old) (view self.old) Event.Step) }
+        ensures profile { profile_of self.new ≡ profile_of self.old }
+        ensures unchanged { OnErr result (view self.new ≡ view self.old) }
+        ensures only_output { OnErr result (IsTrue (puts_out (view self.old) Event.Step)) }
+    {
+        let at = self.cpu.pc;
+        let word = self.cpu.memory.get(at);
+        put_out(&mut self.printed, &mut self.punched, word, self.cpu.ac)?;
+        match self.cpu.step(&mut self.panel) {
+            Outcome::Ran => Ok(Seen::Ran),
+            Outcome::Halted => {
+                self.halted_at = Some(at);
+                Ok(Seen::Halted)
+            }
+            Outcome::Unsupported(word) => Ok(Seen::Unsupported(word)),
+        }
+    }
+
+    /// Applies one event.
+    ///
+    /// An event that isn't enabled changes nothing. `Seen` tells what was done.
+    ///
+    /// # Errors
+    ///
+    /// `NoMemory` where the room for a byte that is printed or punched was refused; the world is
+    /// then as it was, and the same step may be tried again.
+    pub fn apply(&mut self, event: Event) -> Result<Seen, NoMemory>
+        ensures happens { OnOk result (Happens (profile_of self.old) (view self.old) event (view self.new)) }
+        ensures seen { IfOk result (λ seen. seen ≡ seen_of (profile_of self.old) (view self.old) event) }
+        ensures profile { profile_of self.new ≡ profile_of self.old }
+        ensures unchanged { OnErr result (view self.new ≡ view self.old) }
+        // Only a step that prints or punches can be refused.
+        ensures only_output { OnErr result (IsTrue (puts_out (view self.old) event)) }
+    {
+        match event {
+            Event::Step if self.halted_at.is_none() => self.step(),
+            Event::Step => Ok(Seen::NotEnabled),
+            Event::Key(byte) => {
+                self.panel.keyboard = Keyboard {
+                    flag: true,
+                    buffer: byte,
+                };
+                Ok(Seen::Changed)
+            }
+            Event::PrinterDone => Ok(self.panel.printer.finish()),
+            Event::ReaderDone(byte) => Ok(self.panel.reader.receive(byte)),
+            Event::PunchDone => Ok(self.panel.punch.finish()),
+            Event::Switches(word) => {
+                self.panel.switches = word;
+                Ok(Seen::Changed)
+            }
+            Event::Continue if self.halted_at.is_none() => Ok(Seen::NotEnabled),
+            Event::Continue => {
+                self.halted_at = None;
+                Ok(Seen::Changed)
+            }
+        }
+    }
+}

@@ -1,0 +1,4 @@
+pub mod Declaration
+pub mod Calls
+pub mod Rules
+pub mod Runs

@@ -1,0 +1,107 @@
+-- The seven rules that a declaration lays down for each step, and the steps that keep all of them.
+use Rattle.std.specs.Prelude.{◌≡◌, ℕ, ◌<◌, ◌==◌, true, false, ◌&&◌, ◌||◌, ◌⊎◌, Option, Some, None, [], ◌∷◌}
+use Rattle.instruct.specs.Operates.{is_halt}
+use Rattle.instruct.specs.Instructions.{Meaning, And, Tad, Isz, Dca, Jms, Jmp, Group2, Undefined}
+use Rattle.wordset.specs.Words.{Words}
+use Rattle.processor.specs.Cells.{Cells}
+use Rattle.processor.specs.Machine.{State, after, steps_pointer, place, instruction}
+use Rattle.processor.specs.Runs.{Image}
+use Rattle.policy.specs.Declaration.{Routine, Declaration}
+use Rattle.policy.specs.Calls.{Calls, current}
+
+-- The word means something on the declared machine.
+abbrev pub IsSupported : Meaning → Type 0
+IsSupported Undefined = ⊥
+IsSupported _ = Unit {0}
+
+-- The auto-index cell that an instruction steps first.
+abbrev pub pointer_of : Meaning → Words
+pointer_of (And i c) a = steps_pointer i c && (a == c)
+pointer_of (Tad i c) a = steps_pointer i c && (a == c)
+pointer_of (Isz i c) a = steps_pointer i c && (a == c)
+pointer_of (Dca i c) a = steps_pointer i c && (a == c)
+pointer_of (Jms i c) a = steps_pointer i c && (a == c)
+pointer_of (Jmp i c) a = steps_pointer i c && (a == c)
+pointer_of _ a = false
+
+-- The cell in which ISZ or DCA stores.
+abbrev pub stored_at : Meaning → Cells → Words
+stored_at (Isz i c) memory a = a == place i c memory
+stored_at (Dca i c) memory a = a == place i c memory
+stored_at _ memory a = false
+
+-- All cells that an instruction writes, save the one that a JMS itself writes.
+abbrev pub written_by : Meaning → Cells → Words
+written_by m memory a = pointer_of m a || stored_at m memory a
+
+-- The cells that an instruction reads: the pointer of an indirect reference, and the operand of AND, TAD and ISZ. The
+-- instruction word itself doesn't count.
+abbrev pub read_by : Meaning → Cells → Words
+read_by (And i c) memory a = (i && (a == c)) || (a == place i c memory)
+read_by (Tad i c) memory a = (i && (a == c)) || (a == place i c memory)
+read_by (Isz i c) memory a = (i && (a == c)) || (a == place i c memory)
+read_by (Dca i c) memory a = i && (a == c)
+read_by (Jms i c) memory a = i && (a == c)
+read_by (Jmp i c) memory a = i && (a == c)
+read_by _ memory a = false
+
+-- Rule 1: the program counter is in the running routine's body, at a word that is supported.
+pub record StaysInBody (d : Declaration) (s : State) (ks : Calls) : Type 0 where
+  pub in_body : d.body (current ks) s.pc ≡ true
+  pub supported : IsSupported (instruction d.profile s)
+
+-- ISZ may count the running routine's own entry up.
+abbrev pub CountsOwnEntry : Meaning → Calls → ℕ → Type 0
+CountsOwnEntry (Isz i c) ks a = current ks ≡ Some a
+CountsOwnEntry _ ks a = ⊥
+
+-- Rule 2: each cell that is written is a variable, or the running routine's own entry under ISZ.
+abbrev pub WritesDeclared : Declaration → Meaning → State → Calls → Type 0
+WritesDeclared d m s ks =
+    (a : ℕ) → written_by m s.memory a ≡ true → (d.variable a ≡ true) ⊎ CountsOwnEntry m ks a
+
+-- Rule 3: a JMS goes to an entry.
+abbrev pub CallsEntries : Declaration → Meaning → State → Type 0
+CallsEntries d (Jms i c) s = d.entry (place i c s.memory) ≡ true
+CallsEntries d _ s = Unit {0}
+
+-- The last call is one of e, and the word in e is that call's return address plus an offset declared for e.
+abbrev pub FindsItsCall : Declaration → ℕ → State → Calls → Type 0
+FindsItsCall d e s [] = ⊥
+FindsItsCall d e s (k ∷ ks) =
+    (k.entry ≡ e) × (o : ℕ) × (o < 8) × (d.offset e o ≡ true) × (s.memory e ≡ after k.after o)
+
+-- Rule 4: a JMP I through an entry returns from its own routine's last call, to a declared place after it.
+abbrev pub ReturnsToItsCall : Declaration → Meaning → State → Calls → Type 0
+ReturnsToItsCall d (Jmp i c) s ks = i ≡ true → d.entry c ≡ true → FindsItsCall d c s ks
+ReturnsToItsCall d _ s ks = Unit {0}
+
+-- Rule 5: a HLT stands at a declared halt.
+abbrev pub HaltsDeclared : Declaration → Meaning → ℕ → Type 0
+HaltsDeclared d (Group2 w) pc = is_halt w ≡ true → (d.stop pc || d.pause pc) ≡ true
+HaltsDeclared d _ pc = Unit {0}
+
+-- Rule 6: each cell of a body that is on the tape and is no variable holds the tape's word.
+abbrev pub KeepsCode : Image → Declaration → Cells → Type 0
+KeepsCode image d memory =
+    (r : Routine) (a w : ℕ) → d.body r a ≡ true → d.variable a ≡ false → image a ≡ Some w → memory a ≡ w
+
+-- Where reads are listed, the cell is on the list.
+abbrev pub IsListed : Option Words → ℕ → Type 0
+IsListed None a = Unit {0}
+IsListed (Some cells) a = cells a ≡ true
+
+-- Rule 7: each cell that is read is on the list of reads, if there is one, or is the running routine's own entry.
+abbrev pub ReadsListed : Declaration → Meaning → State → Calls → Type 0
+ReadsListed d m s ks =
+    (a : ℕ) → read_by m s.memory a ≡ true → IsListed d.reads a ⊎ (current ks ≡ Some a)
+
+-- A step keeps the rules.
+pub record IsLegal (image : Image) (d : Declaration) (s : State) (ks : Calls) : Type 0 where
+  pub stays : StaysInBody d s ks
+  pub writes : WritesDeclared d (instruction d.profile s) s ks
+  pub calls : CallsEntries d (instruction d.profile s) s
+  pub returns : ReturnsToItsCall d (instruction d.profile s) s ks
+  pub halts : HaltsDeclared d (instruction d.profile s) s.pc
+  pub code : KeepsCode image d s.memory
+  pub reads : ReadsListed d (instruction d.profile s) s ks

@@ -1,0 +1,2 @@
+//! Declarations: what a program promises of its runs, the rules that follow, and the safe programs.
+#![tactic(auto)]

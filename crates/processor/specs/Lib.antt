@@ -1,0 +1,4 @@
+pub mod Cells
+pub mod Machine
+pub mod Runs
+pub mod Steps

@@ -1,0 +1,43 @@
+-- What the calls say of a processor and of what it is connected to.
+use Rattle.std.specs.Prelude.{ℕ, ◌≡◌, Bool, true, false, if◌then◌else◌, Option, Some, None}
+use Rattle.instruct.specs.declared.Profile.{Profile}
+use Rattle.instruct.specs.Operates.{is_halt, reads_switches_of}
+use Rattle.instruct.specs.Instructions.{Meaning, Group2, Device, Undefined, DeviceAction}
+use Rattle.processor.specs.declared.Cpu.{Cpu}
+use Rattle.processor.specs.declared.Outcome.{Outcome}
+use Rattle.processor.specs.declared.Outcome.TheVariants.{Ran, Halted, Unsupported}
+use Rattle.processor.specs.Cells.{cell_of}
+use Rattle.processor.specs.Machine.{State, Answer, Silent, Switches, Answers, Step, instruction}
+
+-- The state that a processor stands for.
+abbrev pub state_of : Cpu → State
+state_of c = record { ac = c.ac; link = c.link; mq = c.mq; pc = c.pc; memory = cell_of c.memory }
+
+-- The answer that a step takes, by what the bus would answer to a device word and by its switches.
+abbrev pub answer_taken : Meaning → Answer → ℕ → Answer
+answer_taken (Device action) device switches = device
+answer_taken (Group2 w) device switches = if reads_switches_of w then Switches switches else Silent
+answer_taken _ device switches = Silent
+
+-- The instruction halts the machine after it.
+abbrev pub halts_after : Meaning → Bool
+halts_after (Group2 w) = is_halt w
+halts_after _ = false
+
+-- What an outcome says of the states before and after: a step by this answer, which halts the machine or not; or at a
+-- word without a meaning no change.
+abbrev pub Happened : Outcome → Profile → State → Answer → State → Type 0
+Happened Ran profile s q t = Step profile s q t × (halts_after (instruction profile s) ≡ false)
+Happened Halted profile s q t = Step profile s q t × (halts_after (instruction profile s) ≡ true)
+Happened (Unsupported word) profile s q t =
+    (word ≡ s.memory s.pc) × (instruction profile s ≡ Undefined) × (t ≡ s)
+
+-- A bus goes on at a device word, and otherwise stays as it is.
+abbrev pub BusAfter : Meaning → Type 0 → Type 0 → Type 0
+BusAfter (Device action) goes_on stays = goes_on
+BusAfter _ goes_on stays = stays
+
+-- A device's answer to a word of this action.
+abbrev pub DeviceAnswers : Option DeviceAction → ℕ → Answer → ℕ → Bool → Type 0
+DeviceAnswers (Some action) ac q ac' skip = Answers action ac q ac' skip
+DeviceAnswers None ac q ac' skip = ⊥

@@ -162,17 +162,27 @@ fn chain(mut set: Set, times: u32, f: impl Fn(&Set) -> Set) -> usize {
 }
 
 fn total(times: u32, mut f: impl FnMut(usize) -> usize) -> usize {
-    (0..times as usize).map(|i| f(i % 4096)).fold(0, usize::wrapping_add)
+    (0..times as usize)
+        .map(|i| f(i % 4096))
+        .fold(0, usize::wrapping_add)
 }
 
 fn main() {
     let few = scattered(1_103_515_245, 64);
     let many = scattered(22_695_477, 1024);
     let all = [u64::MAX; 64];
-    time("copy", 4_000_000, |times| chain(few, times, |set| *std::hint::black_box(set)));
-    time("union", 4_000_000, |times| chain(few, times, |set| union(set, &many)));
-    time("meet", 4_000_000, |times| chain(few, times, |set| meet(set, &many)));
-    time("minus", 4_000_000, |times| chain(few, times, |set| minus(set, &many)));
+    time("copy", 4_000_000, |times| {
+        chain(few, times, |set| *std::hint::black_box(set))
+    });
+    time("union", 4_000_000, |times| {
+        chain(few, times, |set| union(set, &many))
+    });
+    time("meet", 4_000_000, |times| {
+        chain(few, times, |set| meet(set, &many))
+    });
+    time("minus", 4_000_000, |times| {
+        chain(few, times, |set| minus(set, &many))
+    });
     time("is_subset", 4_000_000, |times| {
         let mut set = many;
         total(times, |i| {
@@ -194,14 +204,30 @@ fn main() {
         }
         count(&set)
     });
-    time("or_any", 100_000, |times| total(times, |i| count(&or_any(&few, 0o7777 - i % 2))));
-    time("sums 64 x 64", 20_000, |times| total(times, |i| count(&sums(&few, &shift(&few, i)))));
-    time("sums 64 x 1024", 20_000, |times| total(times, |i| count(&sums(&few, &shift(&many, i)))));
-    time("sums 64 x all", 200_000, |times| total(times, |i| count(&sums(&few, &shift(&all, i)))));
-    time("ors 64 x 64", 5_000, |times| total(times, |i| count(&ors(&few, &shift(&few, i)))));
-    time("ors 64 x all", 100_000, |times| total(times, |i| count(&ors(&few, &shift(&all, i)))));
-    time("ands 64 x 64", 5_000, |times| total(times, |i| count(&ands(&few, &shift(&few, i)))));
-    time("ands 64 x all", 100_000, |times| total(times, |i| count(&ands(&few, &shift(&all, i)))));
+    time("or_any", 100_000, |times| {
+        total(times, |i| count(&or_any(&few, 0o7777 - i % 2)))
+    });
+    time("sums 64 x 64", 20_000, |times| {
+        total(times, |i| count(&sums(&few, &shift(&few, i))))
+    });
+    time("sums 64 x 1024", 20_000, |times| {
+        total(times, |i| count(&sums(&few, &shift(&many, i))))
+    });
+    time("sums 64 x all", 200_000, |times| {
+        total(times, |i| count(&sums(&few, &shift(&all, i))))
+    });
+    time("ors 64 x 64", 5_000, |times| {
+        total(times, |i| count(&ors(&few, &shift(&few, i))))
+    });
+    time("ors 64 x all", 100_000, |times| {
+        total(times, |i| count(&ors(&few, &shift(&all, i))))
+    });
+    time("ands 64 x 64", 5_000, |times| {
+        total(times, |i| count(&ands(&few, &shift(&few, i))))
+    });
+    time("ands 64 x all", 100_000, |times| {
+        total(times, |i| count(&ands(&few, &shift(&all, i))))
+    });
     time_far(&few, &many);
 }
 
@@ -210,15 +236,21 @@ fn time_far(few: &Set, many: &Set) {
     let mut far = vec![*few; FAR];
     let from = vec![*many; FAR];
     time("copy far", FAR as u32, |_| {
-        far.iter_mut().zip(&from).for_each(|(set, other)| *set = *other);
+        far.iter_mut()
+            .zip(&from)
+            .for_each(|(set, other)| *set = *other);
         count(&far[FAR / 2])
     });
     time("union far", FAR as u32, |_| {
-        far.iter_mut().zip(&from).for_each(|(set, other)| *set = union(set, other));
+        far.iter_mut()
+            .zip(&from)
+            .for_each(|(set, other)| *set = union(set, other));
         count(&far[FAR / 2])
     });
     time("shift far", FAR as u32, |_| {
-        far.iter_mut().zip(&from).for_each(|(set, other)| *set = shift(other, 0o1234));
+        far.iter_mut()
+            .zip(&from)
+            .for_each(|(set, other)| *set = shift(other, 0o1234));
         count(&far[FAR / 2])
     });
 }

@@ -1,9 +1,8 @@
 -- Bits taken out of all words of a set: the complement of putting them in.
-use Rattle.std.proofs.Common.{◌≡◌, ◌≢◌, ℕ, zero, suc, ◌+◌, ◌-◌, ◌*◌, ◌/◌, ◌%◌, ◌^◌, ◌<◌, ◌≤◌, ◌==◌, Bool, true, false, ◌&&◌, ◌||◌, not, refl, sym, ◌∙◌, ap, inl, inr, arith, ◌⊎◌}
+use Rattle.std.proofs.Common.{◌≡◌, ℕ, zero, suc, ◌+◌, ◌-◌, ◌%◌, ◌^◌, ◌<◌, ◌==◌, ◌&&◌, ◌||◌, not, refl, sym, ◌∙◌, ap, arith}
 use Rattle.std.specs.Int.{bit_at}
-use Rattle.std.proofs.lemmas.Bool.{cases_eq}
 use Rattle.std.proofs.lemmas.Nat.Bits.{bit_at-lt, bit_at_ones}
-use Rattle.wordset.specs.Words.{Words, SameWords, plus, minus, mirrored, or_any, ors, ands, everything}
+use Rattle.wordset.specs.Words.{Words, SameWords, plus, minus, mirrored, or_any, ands, everything}
 use Rattle.wordset.specs.Bits.{has_bit, doubled, halved}
 use Rattle.wordset.proofs.Complements.{flipped, ands-complements}
 use Rattle.wordset.proofs.Parts.{weight_small, any_none, step_with}

@@ -1,4 +1,4 @@
-use Rattle.std.proofs.Common.{◌∙◌, ◌-◌, ◌≤◌, ◌<◌, arith}
+use Rattle.std.proofs.Common.{◌∙◌, ◌-◌, arith}
 use Rattle.wordset.specs.Lanes.{words}
 use Rattle.wordset.proofs.WordSet.ands.Goals as goal
 use Rattle.wordset.proofs.Complements.{ands-complements, ands_all, all_ands}

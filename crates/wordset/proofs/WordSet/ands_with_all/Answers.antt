@@ -1,4 +1,4 @@
-use Rattle.std.proofs.Common.{◌≡◌, ◌≤◌, ◌∙◌, arith}
+use Rattle.std.proofs.Common.{◌∙◌, arith}
 use Rattle.wordset.specs.Lanes.{words}
 use Rattle.wordset.proofs.Halves.{lowered_none, lowered_step, lowered_all}
 use Rattle.wordset.proofs.WordSet.ands_with_all.Goals as goal

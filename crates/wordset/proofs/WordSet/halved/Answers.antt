@@ -1,6 +1,5 @@
-use Rattle.std.proofs.Common.{◌≡◌, ◌∙◌, ◌<◌, ◌-◌, ◌^◌, ◌&&◌, ◌||◌, ℕ, ap, arith}
+use Rattle.std.proofs.Common.{◌≡◌, ◌∙◌, ◌<◌, ◌-◌, ◌^◌, ◌&&◌, ◌||◌, ap, arith}
 use Rattle.wordset.specs.Words.{minus, plus}
-use Rattle.wordset.specs.Bits.{has_bit}
 use Rattle.wordset.specs.Lanes.{words}
 use Rattle.wordset.proofs.Parts.{weight_small}
 use Rattle.wordset.proofs.Halves.{down_place, halved-steps}

@@ -1,1 +1,3 @@
 pub mod Certificate
+pub mod Spelling
+pub mod Sample

@@ -1,0 +1,39 @@
+-- A certificate line by line and the text that it has, as a sample of the spelling.
+use Rattle.std.specs.Prelude.{◌≡◌, ℕ, ◌==◌, ◌||◌, List, [], ◌∷◌, ◌++◌, codes}
+use Rattle.wordset.specs.Words.{Words, one, nothing, everything, between}
+use Rattle.facts.specs.Facts.{Ac, Cell}
+use Rattle.certificate.specs.declared.Version.TheVariants.{Two}
+use Rattle.certificate.specs.Spelling.{Statement, Lines, text}
+
+abbrev pub sample_statement : Statement
+sample_statement = record {
+  ac = λ v. between 0o310 0o314 v || (v == 0o305);
+  mq = everything;
+  link = everything;
+  cells = record { address = 0o10; set = between 0o225 0o231 } ∷ [];
+  equations = record { left = Cell 0o10; right = Cell 0o224; more = 0o231 } ∷ [];
+}
+
+abbrev pub sample : Lines
+sample = record {
+  version = Two;
+  routines = record { entry = 0o214; rank = 9; sites = one 0o207; writes = nothing } ∷ [];
+  facts = record { address = 0o206; statement = sample_statement; offsets = nothing } ∷ [];
+  exits = record { entry = 0o214; offset = 1; statement = record sample_statement { cells = []; equations = []; link = one 1 } } ∷ [];
+}
+
+abbrev pub line : List ℕ → List ℕ → List ℕ
+line bytes rest = bytes ++ 10 ∷ rest
+
+abbrev pub sample_text : List ℕ
+sample_text =
+    line (codes "PDP8-CERTIFICATE 2") (
+    line (codes "routine 0214 rank 11 sites 0207 writes -") (
+    line (codes "fact 0206 ac 0305,0310-0314 mq 0000-7777 link 01 offsets -") (
+    line (codes "cell 0010 0225-0231") (
+    line (codes "equal 0010 0224 0231") (
+    line (codes "exit 0214 1 ac 0305,0310-0314 mq 0000-7777 link 1") (
+    line (codes "end") []))))))
+
+abbrev pub SampleLaw : Type 0
+SampleLaw = text sample ≡ sample_text

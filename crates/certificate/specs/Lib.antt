@@ -1,3 +1,4 @@
 pub mod Certificate
 pub mod Spelling
+pub mod Reading
 pub mod Sample

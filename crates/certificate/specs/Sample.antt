@@ -4,7 +4,9 @@ use Rattle.wordset.specs.Words.{Words, one, nothing, everything, between}
 use Rattle.facts.specs.Facts.{Ac, Cell}
 use Rattle.certificate.specs.declared.Version.TheVariants.{Two}
 use Rattle.certificate.specs.Spelling.{Statement, Lines, text}
+use Rattle.certificate.specs.Reading.{AreLines}
 
+-- Some words of the accumulator, a tracked cell and an equation.
 abbrev pub sample_statement : Statement
 sample_statement = record {
   ac = λ v. between 0o310 0o314 v || (v == 0o305);
@@ -14,6 +16,7 @@ sample_statement = record {
   equations = record { left = Cell 0o10; right = Cell 0o224; more = 0o231 } ∷ [];
 }
 
+-- A routine, a fact and an exit.
 abbrev pub sample : Lines
 sample = record {
   version = Two;
@@ -22,9 +25,11 @@ sample = record {
   exits = record { entry = 0o214; offset = 1; statement = record sample_statement { cells = []; equations = []; link = one 1 } } ∷ [];
 }
 
+-- A line and what follows it.
 abbrev pub line : List ℕ → List ℕ → List ℕ
 line bytes rest = bytes ++ 10 ∷ rest
 
+-- The text as one reads it.
 abbrev pub sample_text : List ℕ
 sample_text =
     line (codes "PDP8-CERTIFICATE 2") (
@@ -35,5 +40,7 @@ sample_text =
     line (codes "exit 0214 1 ac 0305,0310-0314 mq 0000-7777 link 1") (
     line (codes "end") []))))))
 
-abbrev pub SampleLaw : Type 0
-SampleLaw = text sample ≡ sample_text
+-- The sample is in order, and this is its text.
+pub record SampleLaw : Type 0 where
+  pub lines : AreLines sample
+  pub text : text sample ≡ sample_text

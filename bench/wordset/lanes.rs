@@ -22,10 +22,6 @@ fn insert(set: &mut Set, word: u32) {
     set[(word / 64 % 64) as usize] |= 1 << (word % 64);
 }
 
-fn contains(set: &Set, word: usize) -> bool {
-    set[word / 64] >> (word % 64) & 1 == 1
-}
-
 fn zip(a: &Set, b: &Set, f: impl Fn(u64, u64) -> u64) -> Set {
     std::array::from_fn(|i| f(a[i], b[i]))
 }
@@ -52,11 +48,12 @@ fn count(set: &Set) -> usize {
 
 fn shift(set: &Set, k: usize) -> Set {
     let (lane, bit) = (k / 64, k % 64);
-    std::array::from_fn(|i| {
-        let near = set[(i + 64 - lane) % 64];
-        let far = set[(i + 63 - lane) % 64];
-        near << bit | far >> 1 >> (63 - bit)
-    })
+    let mut twice = [0; 128];
+    twice[..64].copy_from_slice(set);
+    twice[64..].copy_from_slice(set);
+    let near = &twice[64 - lane..][..64];
+    let far = &twice[63 - lane..][..64];
+    std::array::from_fn(|i| near[i] << bit | far[i] >> 1 >> (63 - bit))
 }
 
 fn having(at: usize) -> Set {
@@ -96,9 +93,12 @@ fn or_word(set: &Set, word: usize) -> Set {
 fn over(a: &Set, b: &Set, f: impl Fn(&Set, usize) -> Set) -> Set {
     let (few, many) = if count(a) <= count(b) { (a, b) } else { (b, a) };
     let mut found = [0; 64];
-    for word in 0..4096 {
-        if contains(few, word) {
+    for (i, lane) in few.iter().enumerate() {
+        let mut rest = *lane;
+        while rest != 0 {
+            let word = 64 * i + rest.trailing_zeros() as usize;
             found = union(&found, &f(many, word));
+            rest &= rest - 1;
         }
     }
     found
@@ -127,6 +127,13 @@ fn complements(set: &Set) -> Set {
 }
 
 fn ands(a: &Set, b: &Set) -> Set {
+    if is_all(b) {
+        let mut found = *a;
+        for at in 0..12 {
+            found = union(&found, &shift(&meet(&found, &having(at)), 4096 - (1 << at)));
+        }
+        return found;
+    }
     complements(&ors(&complements(a), &complements(b)))
 }
 

@@ -1,4 +1,4 @@
-"""A table of nanoseconds for one call from lines `NAME BODY TIMES ANSWER SPENT`, parted by tabs."""
+"""A table of the least nanoseconds for one call from lines `NAME BODY TIMES ANSWER SPENT`, parted by tabs."""
 
 import re
 import sys
@@ -14,9 +14,12 @@ def nanoseconds(spent):
 
 def main():
     cells = {}
-    for line in open(sys.argv[1], encoding="utf-8"):
+    with open(sys.argv[1], encoding="utf-8") as times_file:
+        lines = times_file.readlines()
+    for line in lines:
         name, body, times, _, spent = line.rstrip("\n").split("\t")
-        cells.setdefault(name, {})[body] = nanoseconds(spent) / int(times)
+        row = cells.setdefault(name, {})
+        row[body] = min(row.get(body, float("inf")), nanoseconds(spent) / int(times))
     print("| Call | " + " | ".join(BODIES) + " |")
     print("|---|---|---|---|")
     for name, row in cells.items():

@@ -1,7 +1,6 @@
 -- What the answer of a source says in the words of the grammar.
-use Rattle.std.proofs.Common.{◌≡◌, ◌≢◌, ◌∙◌, sym, ap, refl, ℕ, ◌+◌, ◌<◌, ◌≤◌, List, [], ◌∷◌, ◌++◌, length, take, arith, Bool, true, false, true≢false, ◌⊎◌, inl, inr}
+use Rattle.std.proofs.Common.{◌≡◌, ◌∙◌, sym, ap, refl, ℕ, ◌≤◌, List, length, take, Bool, false, true≢false, ◌⊎◌, inl, inr}
 use Rattle.std.specs.Prelude.{Option, Some, None, Result, Ok, Err, IfOk, IfErr, IfSome, nat_lt}
-use Rattle.std.specs.Io.KnownBytes.{Consumes}
 use Rattle.bin_tape.specs.declared.fault.TapeFault.{TapeFault}
 use Rattle.bin_tape.specs.declared.fault.TapeFault.TheVariants.{TooLong, NoWord, NoOrigin, BadFrame, WrongField, Truncated, NoChecksum, Checksum, ReadFault}
 use Rattle.bin_tape.specs.Tape.{IsTape}
@@ -9,7 +8,7 @@ use Rattle.bin_tape.specs.Refuses.{Refuses, IsUnfinished}
 use Rattle.bin_tape.specs.Reading.{Progress, Between, Second, Skipping, Ended, Faulty, reads, Answers}
 use Rattle.bin_tape.specs.Holds.{IsOpen}
 use Rattle.bin_tape.specs.Served.{ServesAll, Serves}
-use Rattle.bin_tape.specs.Serving.{Gave, IsPrompt, is_read_fault, failed_to_read}
+use Rattle.bin_tape.specs.Serving.{Gave, IsPrompt, failed_to_read}
 use Rattle.bin_tape.proofs.Means.{Means, reads_means}
 use Rattle.bin_tape.proofs.Decides.{is_tape, only_tape, only_fault, is_refused}
 

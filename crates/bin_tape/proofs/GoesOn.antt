@@ -1,19 +1,22 @@
 -- An unfinished front is completed: what is open is closed, and then come an origin, the checksum and the trailer.
-use Rattle.std.proofs.Common.{◌≡◌, ◌≢◌, ◌∙◌, sym, ap, refl, ℕ, ◌+◌, ◌*◌, ◌/◌, ◌%◌, ◌<◌, ◌≤◌, List, [], ◌∷◌, ◌++◌, length, take, get_or, map, arith, append_assoc, append-nil, lit≤, ◌⊎◌, inl, inr}
-use Rattle.std.specs.Prelude.{Option, Some, None, nat_lt, All, unwrap_or}
+use Rattle.std.proofs.Common.{◌≡◌, ◌∙◌, sym, ap, refl, ℕ, ◌+◌, ◌*◌, ◌/◌, ◌%◌, ◌<◌, List, [], ◌∷◌, ◌++◌, length, take, map, arith, append_assoc, append-nil, length-append, lit≤, inl, inr}
+use Rattle.std.specs.Prelude.{Option, None, All, unwrap_or}
 use Rattle.std.specs.List.{range_with_len}
 use Rattle.std.proofs.lemmas.List.FromFn.{length-map-range_with_len, get_or-map-range_with_len}
 use Rattle.std.specs.List.{slice_get}
 use Rattle.std.proofs.lemmas.List.Elements.{All-nil, All-cons, All-append}
 use Rattle.std.proofs.lemmas.Option.{unwrap_or-slice_get}
 use Rattle.std.proofs.lemmas.List.{take_all}
-use Rattle.std.proofs.lemmas.Bool.{cases_lt, lt-ltb, le-ltb}
+use Rattle.std.proofs.Math.Seq.{take-append-add, take-append_seam}
+use Rattle.std.proofs.lemmas.Bool.{cases_lt}
 use Rattle.bin_tape.specs.declared.word.TapeWord.{TapeWord}
 use Rattle.bin_tape.specs.declared.word.TapeWord.TheVariants.{Origin, Data}
-use Rattle.bin_tape.specs.declared.fault.TapeFault.TheVariants.{NoWord, Truncated, TooLong}
-use Rattle.bin_tape.specs.Tape.{Part, field, rubout, word, words, frames, spelling, spelled, AreParts, checksum, image_at, IsImage, IsTape}
-use Rattle.bin_tape.specs.Refuses.{IsWhole, IsInWord, IsInRubout, IsUnfinished, Refuses}
-use Rattle.bin_tape.specs.Viable.{IsByte, IsViable}
+use Rattle.bin_tape.specs.declared.fault.TapeFault.{TapeFault}
+use Rattle.bin_tape.specs.declared.fault.TapeFault.TheVariants.{TooLong, NoWord, NoOrigin, BadFrame, WrongField, Truncated, NoChecksum, Checksum, ReadFault}
+use Rattle.bin_tape.specs.Tape.{Part, rubout, word, words, spelling, checksum, image_at, IsImage, IsTape}
+use Rattle.bin_tape.specs.Refuses.{IsWhole, IsInWord, IsInRubout, IsUnfinished, Stands, StandsSecond, Stops, Refuses}
+use Rattle.bin_tape.specs.Viable.{IsByte, IsViable, EndsAt, NamesPlace}
+use Rattle.bin_tape.proofs.Parsed.{no_tape}
 
 -- the cells that words leave
 image_of : ℕ → List TapeWord → List (Option ℕ)
@@ -121,3 +124,55 @@ truncated_goes_on limit fs (le, inr h) = rw (take_all limit fs le) (unfinished_g
 
 pub too_long_goes_on : (limit : ℕ) (fs : List ℕ) → Refuses limit fs TooLong → IsViable (take limit fs)
 too_long_goes_on limit fs h = unfinished_goes_on (take limit fs) h.1
+
+-- where a frame stops every tape
+one_on : (xs ys : List ℕ) (y : ℕ) → take (length xs + 1) (xs ++ y ∷ ys) ≡ xs ++ y ∷ []
+one_on xs ys y = take-append-add xs (y ∷ ys) 1
+
+inside : (xs ys : List ℕ) (y : ℕ) → length xs < length (xs ++ y ∷ ys)
+inside xs ys y = omega (arith, length-append xs (y ∷ ys))
+
+stands_here : (fs : List ℕ) (P : List Part → ℕ → Type 0) (h : Stands fs P) → Stands (take (length (spelling h.parts) + 1) fs) P
+stands_here fs P h = record {
+  parts = h.parts;
+  frame = h.frame;
+  rest = [];
+  spells = ap (take (length (spelling h.parts) + 1)) h.spells ∙ one_on (spelling h.parts) h.rest h.frame;
+  lawful = h.lawful;
+  holds = h.holds;
+}
+
+stands_ends : (fs : List ℕ) (fault : TapeFault) (P : List Part → ℕ → Type 0) (h : Stands fs P) → ((xs : List ℕ) → Stands xs P → Stops xs fault) → EndsAt fs (length (spelling h.parts))
+stands_ends fs fault P h stops = record {
+  within = rw h.spells (inside (spelling h.parts) h.rest h.frame);
+  before = rw (ap (take (length (spelling h.parts))) h.spells ∙ take-append_seam (spelling h.parts) (h.frame ∷ h.rest)) (unfinished_goes_on (spelling h.parts) (inl (h.parts, record { spells = refl; lawful = h.lawful })));
+  after = no_tape (take (length (spelling h.parts) + 1) fs) fault (stops _ (stands_here fs P h));
+}
+
+second_ends : (fs : List ℕ) (fault : TapeFault) (P : List Part → ℕ → Type 0) (h : StandsSecond fs P) → ((xs : List ℕ) → StandsSecond xs P → Stops xs fault) → EndsAt fs (length (spelling h.parts ++ h.first ∷ []))
+second_ends fs fault P h stops = record {
+  within = rw h.spells (inside (spelling h.parts ++ h.first ∷ []) h.rest h.frame);
+  before = rw (ap (take (length (spelling h.parts ++ h.first ∷ []))) h.spells ∙ take-append_seam (spelling h.parts ++ h.first ∷ []) (h.frame ∷ h.rest)) (unfinished_goes_on (spelling h.parts ++ h.first ∷ []) (inr (inl (h.parts, h.first, record { spells = refl; lawful = h.lawful; first_is = h.first_is }))));
+  after = no_tape (take (length (spelling h.parts ++ h.first ∷ []) + 1) fs) fault (stops _ (record {
+    parts = h.parts;
+    first = h.first;
+    frame = h.frame;
+    rest = [];
+    spells = ap (take (length (spelling h.parts ++ h.first ∷ []) + 1)) h.spells ∙ one_on (spelling h.parts ++ h.first ∷ []) h.rest h.frame;
+    lawful = h.lawful;
+    first_is = h.first_is;
+    holds = h.holds;
+  }));
+}
+
+pub stops_viability : (fs : List ℕ) (fault : TapeFault) → Stops fs fault → (at : ℕ) × EndsAt fs at × NamesPlace fault at
+stops_viability fs NoOrigin h = (length (spelling h.parts), stands_ends fs NoOrigin _ h (λ xs s. s), tt)
+stops_viability fs (WrongField at) h = (length (spelling h.parts), stands_ends fs (WrongField at) _ h (λ xs s. s), h.holds.0)
+stops_viability fs (BadFrame at) (inl h) = (length (spelling h.parts), stands_ends fs (BadFrame at) _ h (λ xs s. inl s), h.holds.0)
+stops_viability fs (BadFrame at) (inr h) = (length (spelling h.parts ++ h.first ∷ []), second_ends fs (BadFrame at) _ h (λ xs s. inr s), h.holds.0 ∙ sym (length-append (spelling h.parts) (h.first ∷ [])))
+stops_viability fs NoChecksum h = (length (spelling h.parts), stands_ends fs NoChecksum _ h (λ xs s. s), tt)
+stops_viability fs (Checksum read counted) h = (length (spelling h.parts), stands_ends fs (Checksum read counted) _ h (λ xs s. s), tt)
+stops_viability fs TooLong h = absurd h
+stops_viability fs NoWord h = absurd h
+stops_viability fs Truncated h = absurd h
+stops_viability fs ReadFault h = absurd h

@@ -1,13 +1,13 @@
 -- The tape that is written of an image is a tape with this image.
-use Rattle.std.proofs.Common.{◌≡◌, ◌≢◌, ◌∙◌, sym, ap, subst, refl, ℕ, zero, suc, ◌+◌, ◌%◌, ◌<◌, ◌≤◌, List, [], ◌∷◌, ◌++◌, length, arith, lit≤, add-one, append_assoc, append-nil, replicate, Bool, true, false, true≢false, if◌then◌else◌, ◌⊎◌, inl, inr}
+use Rattle.std.proofs.Common.{◌≡◌, ◌≢◌, ◌∙◌, sym, ap, subst, refl, ℕ, zero, suc, ◌+◌, ◌%◌, ◌<◌, ◌≤◌, List, [], ◌∷◌, ◌++◌, arith, add-one, append_assoc, append-nil, replicate, Bool, true, false, true≢false, if◌then◌else◌, inl, inr}
 use Rattle.std.specs.Prelude.{Option, Some, None, is_none}
 use Rattle.std.proofs.lemmas.Bool.{cases_eq, eq-eqb, ne_eqb}
 use Rattle.std.proofs.lemmas.List.{replicate-append-replicate}
 use Rattle.bin_tape.specs.declared.word.TapeWord.{TapeWord}
 use Rattle.bin_tape.specs.declared.word.TapeWord.TheVariants.{Origin, Data}
-use Rattle.bin_tape.specs.Image.{word_at, HoldsWords}
-use Rattle.bin_tape.specs.Tape.{Part, leader, word, words, frames, spelling, IsPart, AreParts, location, image_at, checksum, IsImage, IsTape}
-use Rattle.bin_tape.specs.Written.{begins_run, cell_words, words_below, word_frames, written_tape, IsEmptyImage}
+use Rattle.bin_tape.specs.Image.{word_at, HoldsWords, IsEmptyImage}
+use Rattle.bin_tape.specs.Tape.{Part, leader, word, words, frames, spelling, IsPart, AreParts, location, image_at, checksum, IsTape}
+use Rattle.bin_tape.specs.Written.{begins_run, cell_words, words_below, word_frames, written_tape}
 use Rattle.bin_tape.proofs.WordFrames.{empty_below}
 
 -- ---- words after a leader, as parts

@@ -1,5 +1,5 @@
 -- The frames of the words of an image, address by address.
-use Rattle.std.proofs.Common.{◌≡◌, ◌≢◌, ◌∙◌, sym, ap, refl, ℕ, zero, suc, ◌+◌, ◌-◌, ◌%◌, ◌<◌, ◌≤◌, List, [], ◌∷◌, ◌++◌, length, drop, take, arith, add-one, append_assoc, append-nil, length-append, replicate, Bool, true, false, inl, inr}
+use Rattle.std.proofs.Common.{◌≡◌, ◌∙◌, sym, ap, refl, ℕ, zero, suc, ◌+◌, ◌-◌, ◌%◌, ◌<◌, ◌≤◌, List, [], ◌∷◌, ◌++◌, length, drop, take, arith, add-one, append_assoc, append-nil, length-append, replicate, Bool, inl, inr}
 use Rattle.std.specs.Prelude.{sum, Option, Some, None, is_none}
 use Rattle.std.proofs.lemmas.List.{take_all}
 use Rattle.std.proofs.lemmas.List.Sums.{sum_by-append}
@@ -7,9 +7,9 @@ use Rattle.std.proofs.Math.Seq.{drop-append_seam}
 use Rattle.std.proofs.lemmas.Bool.{cases_eq}
 use Rattle.bin_tape.specs.declared.word.TapeWord.{TapeWord}
 use Rattle.bin_tape.specs.declared.word.TapeWord.TheVariants.{Origin, Data}
-use Rattle.bin_tape.specs.Image.{word_at}
+use Rattle.bin_tape.specs.Image.{word_at, IsEmptyImage}
 use Rattle.bin_tape.specs.Tape.{frames, checksum}
-use Rattle.bin_tape.specs.Written.{begins_run, cell_words, words_below, word_frames, written_tape, IsEmptyImage}
+use Rattle.bin_tape.specs.Written.{begins_run, cell_words, words_below, word_frames, written_tape}
 
 pub word_frames-append : (xs ys : List TapeWord) → word_frames (xs ++ ys) ≡ word_frames ys ++ word_frames xs
 unfolding word_frames

@@ -10,3 +10,7 @@ word_at image a = unwrap_or (slice_get image a) None
 pub record HoldsWords (image : List (Option ℕ)) : Type 0 where
   pub size : length image ≡ 4096
   pub words : (a : ℕ) → ForSome (word_at image a) (λ v. v < 4096)
+
+-- No address has a word.
+abbrev pub IsEmptyImage : List (Option ℕ) → Type 0
+IsEmptyImage image = (a : ℕ) → a < 4096 → word_at image a ≡ None

@@ -1,5 +1,5 @@
 -- The tape that is written of an image.
-use Rattle.std.specs.Prelude.{◌≡◌, ℕ, zero, suc, ◌%◌, ◌<◌, if◌then◌else◌, Bool, true, List, [], ◌∷◌, ◌++◌, Option, Some, None, is_none, replicate, false, Result, Ok, Err}
+use Rattle.std.specs.Prelude.{ℕ, zero, suc, ◌%◌, if◌then◌else◌, Bool, true, List, [], ◌∷◌, ◌++◌, Option, Some, None, is_none, replicate, false, Result, Ok, Err}
 use Rattle.bin_tape.specs.declared.word.TapeWord.{TapeWord}
 use Rattle.bin_tape.specs.declared.word.TapeWord.TheVariants.{Origin, Data}
 use Rattle.bin_tape.specs.declared.fault.WriteTapeFault.{WriteTapeFault}
@@ -34,10 +34,6 @@ written_words ws = replicate 16 128 ++ word_frames ws ++ frames (Data (checksum 
 -- The tape of an image: the words of all 4096 addresses.
 unfoldable pub written_tape : List (Option ℕ) → List ℕ
 written_tape image = written_words (words_below image 4096)
-
--- No address has a word.
-abbrev pub IsEmptyImage : List (Option ℕ) → Type 0
-IsEmptyImage image = (a : ℕ) → a < 4096 → word_at image a ≡ None
 
 -- A write failed.
 abbrev pub failed_to_write : Result Unit WriteTapeFault → Bool

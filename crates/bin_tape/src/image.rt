@@ -1,8 +1,7 @@
 //! What a tape carries into memory.
 
 ghost use Rattle.std.specs.Prelude.{◌≡◌, ◌≢◌, ℕ, Some, None, replicate, slice_set};
-ghost use Rattle.bin_tape.specs.Written.{IsEmptyImage};
-ghost use Rattle.bin_tape.specs.Image.{word_at};
+ghost use Rattle.bin_tape.specs.Image.{word_at, IsEmptyImage};
 
 use std::marker::Model;
 use word12::Word;
@@ -50,6 +49,7 @@ impl Image {
         ensures here { word_at self.new at ≡ Some word }
         ensures others { (a : ℕ) → a ≢ at → word_at self.new a ≡ word_at self.old a }
     {
-        self.cells[at.index()] = Some(word);
+        let index = at.index();
+        self.cells[index] = Some(word);
     }
 }

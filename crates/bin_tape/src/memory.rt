@@ -1,6 +1,6 @@
 //! Sources and sinks over memory. They tell their bytes, and can be made to fail.
 
-ghost use Rattle.std.specs.Prelude.{◌≡◌, ◌<◌, [], Some, false};
+ghost use Rattle.std.specs.Prelude.{◌≡◌, ◌<◌, ◌-◌, ◌^◌, [], Some, false};
 
 use crate::bytes::{ByteSink, ByteSource, Failed};
 use std::alloc::Allocator;
@@ -19,6 +19,8 @@ impl<'a> MemorySource<'a> {
     /// Gives as much as each read asks for, and never fails.
     pub fn new(bytes: &'a [u8]) -> MemorySource<'a>
         ensures bytes { result.rest ≡ bytes.entry }
+        ensures piece { result.piece ≡ 2 ^ 64 - 1 }
+        ensures reads { result.reads ≡ 2 ^ 64 - 1 }
         ensures unmarked { result.failed ≡ false }
     {
         MemorySource {
@@ -96,6 +98,7 @@ impl<A: Allocator> MemorySink<A> {
     /// Has room for so many bytes, and takes its memory from this allocator.
     pub fn new(alloc: A, room: usize) -> MemorySink<A>
         ensures taken { result.bytes.items ≡ [] }
+        ensures room { result.room ≡ room }
         ensures unmarked { result.failed ≡ false }
     {
         MemorySink {

@@ -42,7 +42,7 @@ fn read_whole(frames: &[u8]) -> Result<Image, TapeFault>
 ///
 /// # Errors
 ///
-/// The first fault in the order of the frames; `ReadFault` is none of them.
+/// The first fault in the order of the frames, and never `ReadFault`.
 pub fn read_tape(frames: &[u8]) -> Result<Image, TapeFault>
     // What is read is a tape, whose trailer is within the limit, with this image.
     ensures tape { IfOk result (IsTape (take 65536 frames.now)) }

@@ -4,3 +4,7 @@ pub mod Loading
 pub mod Runs
 pub mod Seen
 pub mod World
+pub mod Text
+pub mod TextLeft
+pub mod EventText
+pub mod Repeated

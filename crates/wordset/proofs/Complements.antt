@@ -1,12 +1,12 @@
 -- The complements of the words of a set: the bits in the opposite order, lane by lane.
-use Rattle.std.proofs.Common.{◌≡◌, ℕ, zero, suc, ◌+◌, ◌-◌, ◌*◌, ◌/◌, ◌%◌, ◌^◌, ◌<◌, ◌≤◌, ◌==◌, true, ◌&&◌, List, get_or, sym, ◌∙◌, ap, inl, inr, arith, w64}
+use Rattle.std.proofs.Common.{◌≡◌, ℕ, zero, suc, ◌+◌, ◌-◌, ◌*◌, ◌/◌, ◌%◌, ◌^◌, ◌<◌, ◌≤◌, ◌==◌, true, ◌&&◌, List, get_or, sym, ◌∙◌, ap, inl, inr, arith, w64, refl}
 use Rattle.std.specs.Prelude.{bit_and, bit_or}
 use Rattle.std.specs.Int.{bit_at, reverse_bits, reverse_bits_onto}
 use Rattle.std.proofs.lemmas.Bool.{cases_lt, eq-eqb, eqb-true}
 use Rattle.std.proofs.lemmas.Nat.{or_lt, and_le_l}
-use Rattle.std.proofs.lemmas.Nat.Bits.{bit_at-suc, bit_at_lowest, bit_at-lt, bit_at_or, bit_at_and, same_from_bits_below}
+use Rattle.std.proofs.lemmas.Nat.Bits.{bit_at-suc, bit_at_lowest, bit_at-lt, bit_at_or, bit_at_and, same_from_bits, same_from_bits_below}
 use Rattle.std.proofs.Math.Nat.{pow-succ'}
-use Rattle.wordset.specs.Words.{Words, SameWords, some_below, ands, ors, mirrored}
+use Rattle.wordset.specs.Words.{Words, SameWords, some_below, ands, ors, mirrored, everything}
 use Rattle.wordset.specs.Lanes.{words}
 use Rattle.wordset.proofs.LaneBits.{words_bit}
 use Rattle.wordset.proofs.Tests.{both_ways, some_from, some_to, IsSome, and_both, and_first, and_second}
@@ -52,7 +52,7 @@ words-mirrored x lanes each v h =
 
 -- ---- the and of two words is the complement of the or of their complements
 
-flipped : (k x j : ℕ) → x < 2 ^ k → j < k → bit_at (2 ^ k - 1 - x) j ≡ 1 - bit_at x j
+pub flipped : (k x j : ℕ) → x < 2 ^ k → j < k → bit_at (2 ^ k - 1 - x) j ≡ 1 - bit_at x j
 flipped zero x j h g = absurd (omega arith)
 flipped (suc k) x zero h g =
     let twice : 2 ^ suc k ≡ 2 * 2 ^ k = pow-succ' 2 k in
@@ -136,3 +136,22 @@ ands-complements a b ca cb is_a is_b v h = both_ways (ors ca cb (4095 - v)) (and
       y_in = is_b (4095 - p.y) (omega arith) ∙ ap b (twice_over p.y p.y_small) ∙ p.y_in;
       is = or_of_complements p.x p.y p.x_small p.y_small ∙ ap (λ n. 4095 - n) p.is;
     }))
+
+-- ---- all words as the one set
+
+and_swap : (x y : ℕ) → x < 4096 → bit_and x y ≡ bit_and y x
+and_swap x y h = same_from_bits _ _ (λ j. omega (arith, bit_at_and x y j, bit_at_and y x j))
+
+pub ands_all : (a b : Words) → SameWords b everything → SameWords (ands a everything) (ands a b)
+ands_all a b every v h = both_ways (ands a everything v) (ands a b v)
+    (λ t. let p : IsPair bit_and a everything v = from_pairs bit_and a everything v t in
+    to_pairs bit_and a b v (record { x = p.x; y = p.y; x_small = p.x_small; y_small = p.y_small; x_in = p.x_in; y_in = every p.y p.y_small; is = p.is }))
+    (λ t. let p : IsPair bit_and a b v = from_pairs bit_and a b v t in
+    to_pairs bit_and a everything v (record { x = p.x; y = p.y; x_small = p.x_small; y_small = p.y_small; x_in = p.x_in; y_in = refl; is = p.is }))
+
+pub all_ands : (a b : Words) → SameWords b everything → SameWords (ands a everything) (ands b a)
+all_ands a b every v h = both_ways (ands a everything v) (ands b a v)
+    (λ t. let p : IsPair bit_and a everything v = from_pairs bit_and a everything v t in
+    to_pairs bit_and b a v (record { x = p.y; y = p.x; x_small = p.y_small; y_small = p.x_small; x_in = every p.y p.y_small; y_in = p.x_in; is = and_swap p.y p.x p.y_small ∙ p.is }))
+    (λ t. let p : IsPair bit_and b a v = from_pairs bit_and b a v t in
+    to_pairs bit_and a everything v (record { x = p.y; y = p.x; x_small = p.y_small; y_small = p.x_small; x_in = p.y_in; y_in = refl; is = and_swap p.y p.x p.y_small ∙ p.is }))

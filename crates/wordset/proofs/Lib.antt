@@ -10,3 +10,4 @@ pub mod Ors
 pub mod Complements
 pub mod SumLemmas
 pub mod PlainLemmas
+pub mod Halves

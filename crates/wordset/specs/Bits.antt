@@ -1,7 +1,7 @@
 -- One bit of the words of a set: the steps by which the bitwise operations are made.
 use Rattle.std.specs.Prelude.{ℕ, ◌+◌, ◌/◌, ◌^◌, ◌==◌, Bool, not, ◌&&◌, ◌||◌, bit_and, bit_or}
 use Rattle.std.specs.Int.{bit_at}
-use Rattle.wordset.specs.Words.{Words, minus, some_below}
+use Rattle.wordset.specs.Words.{Words, plus, minus, some_below}
 
 -- The words with the bit of weight 2 ^ at.
 abbrev pub has_bit : ℕ → Words
@@ -10,6 +10,10 @@ has_bit at v = bit_at v at == 1
 -- The words of a set, and those of them without the bit moved up by its weight.
 abbrev pub doubled : ℕ → Words → Words
 doubled at a v = let u = minus v (2 ^ at) in a v || (a u && not (has_bit at u))
+
+-- The words of a set, and those of them with the bit moved down by its weight.
+abbrev pub halved : ℕ → Words → Words
+halved at a v = let u = plus v (2 ^ at) in a v || (a u && has_bit at u)
 
 -- The words of a set with the bit, and those without it moved up by its weight.
 abbrev pub put_bit : ℕ → Words → Words

@@ -5,9 +5,9 @@
 
 ghost use Rattle.std.specs.Prelude.{◌≡◌, ◌<◌, ◌+◌, ◌*◌, ◌^◌, ◌==◌, ℕ};
 ghost use Rattle.std.specs.Int.{bit_at};
-ghost use Rattle.wordset.specs.Words.{SameWords, ands, ors, or_any};
+ghost use Rattle.wordset.specs.Words.{SameWords, ands, ors, or_any, everything};
 ghost use Rattle.wordset.specs.Lanes.{words};
-ghost use Rattle.wordset.specs.Bits.{has_bit, doubled, put_bit, ors_with};
+ghost use Rattle.wordset.specs.Bits.{has_bit, doubled, halved, put_bit, ors_with};
 
 use crate::WordSet;
 use word12::Word;
@@ -44,7 +44,24 @@ impl WordSet {
     pub fn ands(&self, other: &WordSet) -> WordSet
         ensures { SameWords (words result) (ands (words self.now) (words other.now)) }
     {
+        if other.is_all() {
+            return self.ands_with_all();
+        }
+        if self.is_all() {
+            return other.ands_with_all();
+        }
         self.complements().ors(&other.complements()).complements()
+    }
+
+    /// The words a and b, for the words a of the set and all words b.
+    fn ands_with_all(&self) -> WordSet
+        ensures { SameWords (words result) (ands (words self.now) everything) }
+    {
+        let mut found = *self;
+        for at in 0..12usize {
+            found = found.halved(at);
+        }
+        found
     }
 
     /// The words a or b, for each word a of this set; quick where the other set is all words.
@@ -84,6 +101,16 @@ impl WordSet {
     {
         let lacking = self.minus(&WordSet::having(at));
         self.union(&lacking.shift(weight(at)))
+    }
+
+    /// The words of the set, and each of them with the bit of weight 2 ^ at clear.
+    fn halved(&self, at: usize) -> WordSet
+        requires { at < 12 }
+        ensures { SameWords (words result) (halved at (words self.now)) }
+    {
+        let having = self.meet(&WordSet::having(at));
+        let negated = weight(at).complement().increment();
+        self.union(&having.shift(negated))
     }
 
     /// The words of the set with the bit of weight 2 ^ at set.

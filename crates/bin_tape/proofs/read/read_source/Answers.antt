@@ -1,10 +1,6 @@
-use Rattle.std.proofs.Common.{Bool, ◌∙◌, true, false, ◌≡◌, ◌+◌, ◌<◌, ◌≤◌, List, ℕ, length, take, drop, length-append, get_or, arith, rules, [], refl}
+use Rattle.std.proofs.Common.{Bool, ◌∙◌, false, ◌≡◌, ◌<◌, ◌≤◌, List, ℕ, length, take, drop, length-append, arith, rules, refl}
 use Rattle.std.proofs.lemmas.List.{length-take-le, take-append-le, length-drop}
-use Rattle.std.specs.Io.KnownBytes.{Consumes, Keeps, IsAtEnd}
-use Rattle.bin_tape.specs.declared.reader.Fed.TheVariants.{More, End, Fault}
-use Rattle.bin_tape.specs.Reading.{Progress, run, reads, Answers}
-use Rattle.bin_tape.specs.Holds.{Shows, Tells, IsOpen}
-use Rattle.bin_tape.specs.Served.{CameTo, Serves}
+use Rattle.bin_tape.specs.Reading.{run, reads}
 use Rattle.bin_tape.proofs.Runs.{reads_none, end_answers, fault_answers}
 use Rattle.bin_tape.proofs.Served.{fault_told, came_none, came_on, serve_closed, serve_long, serve_end, serve_failed}
 use Rattle.bin_tape.proofs.read.read_source.Goals as goal

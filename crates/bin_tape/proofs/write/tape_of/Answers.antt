@@ -1,8 +1,8 @@
-use Rattle.std.proofs.Common.{◌≡◌, ◌∙◌, sym, arith, refl, ap, ℕ, ◌<◌, ◌-◌, ◌%◌, ◌++◌, List, [], length, take, drop, replicate, Bool, true, false, true≢false}
-use Rattle.std.specs.Prelude.{Option, ◌==◌, sum}
+use Rattle.std.proofs.Common.{◌≡◌, ◌∙◌, sym, arith, refl, ap, ℕ, ◌-◌, ◌%◌, ◌++◌, List, [], length, take, drop, replicate, true≢false}
+use Rattle.std.specs.Prelude.{Option, sum}
 use Rattle.std.proofs.lemmas.Bool.{eqb-true, eqb-false}
-use Rattle.bin_tape.specs.Written.{words_below, word_frames, IsEmptyImage}
-use Rattle.bin_tape.proofs.WordFrames.{words_slice, gathered, no_words, empty_below, words_of_empty, no_frames_of}
+use Rattle.bin_tape.specs.Written.{words_below, word_frames}
+use Rattle.bin_tape.proofs.WordFrames.{words_slice, gathered, no_words, empty_below, no_frames_of}
 use Rattle.bin_tape.proofs.write.tape_of.Goals as goal
 
 -- what came after the leader

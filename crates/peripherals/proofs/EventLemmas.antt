@@ -1,0 +1,102 @@
+-- The fault of a text of events, as one function of its lines, and that no other fits.
+use Rattle.std.proofs.Common.{ℕ, ◌≡◌, ◌≢◌, ◌<◌, ◌≤◌, ◌+◌, List, [], ◌∷◌, ◌++◌, length, arith, refl, sym, ◌∙◌, ap, Option, Some, None, cond, ltb, Result, Ok, Err, IfOk, IfErr, ◌⊎◌, inl, inr, append_assoc, append-nil, add-zero, length-append}
+use Rattle.std.specs.Result.{IsErrAnd}
+use Rattle.std.proofs.lemmas.List.{length-replicate}
+use Rattle.std.proofs.lemmas.Bool.{le-ltb, lt-ltb}
+use Rattle.peripherals.specs.declared.Event.{Event}
+use Rattle.peripherals.specs.declared.event_text.EventsFault.{EventsFault}
+use Rattle.peripherals.specs.declared.event_text.EventsFault.TheVariants.{BadLine, TooMany, NoMemory}
+use Rattle.peripherals.specs.declared.event_text.Repeated.{Repeated}
+use Rattle.peripherals.specs.Repeated.{repeated, RefusesMore}
+use Rattle.peripherals.specs.Text.{text_lines}
+use Rattle.peripherals.specs.EventText.{LinesSpell, Spells, GoodBefore, PassesLimit, StandsBad, Fails, line_events, most_events}
+
+-- one good line more
+pub LinesSpell-push : (ls : List (List ℕ)) (es : List Event) (l : List ℕ) (more : List Event) → LinesSpell ls es → line_events l ≡ Some more → LinesSpell (ls ++ l ∷ []) (es ++ more)
+LinesSpell-push [] es l more none is = (more, [], is, refl, ap (λ z. z ++ more) none ∙ sym (append-nil more))
+LinesSpell-push (x ∷ ls) es l more spells is =
+    (spells.0, spells.1 ++ more, spells.2, LinesSpell-push ls spells.1 l more spells.3 is, ap (λ z. z ++ more) spells.4 ∙ append_assoc spells.0 spells.1 more)
+
+-- the fault at a line and after it, where so many lines and events came before and at most so many events are taken
+abbrev after : ℕ → Option (List Event) → ℕ → ℕ → (ℕ → ℕ → Option EventsFault) → Option EventsFault
+after most None n had go = Some (BadLine (n + 1))
+after most (Some more) n had go = cond (ltb most (had + length more)) (Some TooMany) (go (n + 1) (had + length more))
+
+abbrev verdict : ℕ → ℕ → ℕ → List (List ℕ) → Option EventsFault
+verdict most n had [] = None
+verdict most n had (l ∷ ls) = after most (line_events l) n had (λ m h. verdict most m h ls)
+
+-- good lines bring no fault
+verdict-good : (most : ℕ) (before rest : List (List ℕ)) (n had : ℕ) (es : List Event) → LinesSpell before es → had + length es ≤ most → verdict most n had (before ++ rest) ≡ verdict most (n + length before) (had + length es) rest
+verdict-good most [] rest n had es none few =
+    let zero : length es ≡ 0 = ap length none in
+    let same : had + length es ≡ had = omega arith in
+    rw (same, add-zero) refl
+verdict-good most (l ∷ ls) rest n had es spells few =
+    let long : length es ≡ length spells.0 + length spells.1 = ap length spells.4 ∙ length-append spells.0 spells.1 in
+    let within : had + length spells.0 ≤ most = omega arith in
+    let ih = verdict-good most ls rest (n + 1) (had + length spells.0) spells.1 spells.3 (omega arith) in
+    let lines : (n + 1) + length ls ≡ n + length (l ∷ ls) = omega arith in
+    let events : (had + length spells.0) + length spells.1 ≡ had + length es = omega arith in
+    rw (spells.2, le-ltb most (had + length spells.0) within) (ih ∙ rw (lines, events) refl)
+
+-- all lines good: no fault
+pub verdict-spells : (text : List ℕ) (es : List Event) → Spells text es → verdict most_events 0 0 (text_lines text) ≡ None
+verdict-spells text es s =
+    let whole : text_lines text ++ [] ≡ text_lines text = append-nil (text_lines text) in
+    rw whole at (verdict-good most_events (text_lines text) [] 0 0 es s.spells (omega (arith, s.few)))
+
+-- where a line stands after good ones, the fault is that of its line or after it
+verdict-at : (text : List ℕ) (before : List (List ℕ)) (line : List ℕ) (es : List Event) (g : GoodBefore text before line es) → verdict most_events 0 0 (text_lines text) ≡ verdict most_events (0 + length before) (0 + length es) (line ∷ g.after)
+verdict-at text before line es g = rw g.stands (verdict-good most_events before (line ∷ g.after) 0 0 es g.spells (omega (arith, g.few)))
+
+verdict-bad : (text : List ℕ) (number : ℕ) → StandsBad text number → verdict most_events 0 0 (text_lines text) ≡ Some (BadLine number)
+verdict-bad text number s =
+    let place : 0 + length s.before + 1 ≡ number = omega (arith, s.counted) in
+    verdict-at text s.before s.line s.events s.good ∙ (rw (s.bad) (ap (λ n. Some (BadLine n)) place))
+
+verdict-limit : (text : List ℕ) → PassesLimit text → verdict most_events 0 0 (text_lines text) ≡ Some TooMany
+verdict-limit text s =
+    let many : most_events < 0 + length s.events + length s.more = omega (arith, s.many) in
+    verdict-at text s.before s.line s.events s.good ∙ (rw (s.brings, lt-ltb most_events (0 + length s.events + length s.more) many) refl)
+
+-- a text that spells events fails by want of memory alone
+pub only_memory : (text : List ℕ) (es : List Event) (fault : EventsFault) → Spells text es → Fails text fault → fault ≡ NoMemory
+only_memory text es (BadLine number) s f = let a = verdict-spells text es s in let b = verdict-bad text number f in absurd (cc)
+only_memory text es TooMany s (inl long) = absurd (omega (arith, s.short))
+only_memory text es TooMany s (inr f) = let a = verdict-spells text es s in let b = verdict-limit text f in absurd (cc)
+only_memory text es NoMemory s f = refl
+
+-- of two faults of a text one is want of memory, or they are one
+pub same_fault : (text : List ℕ) (f g : EventsFault) → Fails text f → Fails text g → f ≢ NoMemory → (g ≡ f) ⊎ (g ≡ NoMemory)
+same_fault text NoMemory g a b known = absurd (known refl)
+same_fault text (BadLine n) NoMemory a b known = inr refl
+same_fault text (BadLine n) (BadLine m) a b known = let p = verdict-bad text n a in let q = verdict-bad text m b in inl (cc)
+same_fault text (BadLine n) TooMany a (inl long) known = absurd (omega (arith, a.good.short))
+same_fault text (BadLine n) TooMany a (inr b) known = let p = verdict-bad text n a in let q = verdict-limit text b in inl (cc)
+same_fault text TooMany NoMemory a b known = inr refl
+same_fault text TooMany TooMany a b known = inl refl
+same_fault text TooMany (BadLine m) (inl long) b known = absurd (omega (arith, b.good.short))
+same_fault text TooMany (BadLine m) (inr a) b known = let p = verdict-bad text m b in let q = verdict-limit text a in inl (cc)
+
+-- the same of the answer of a reading
+pub only_from : {V : Type 0} (r : Result V EventsFault) (text : List ℕ) → IfErr r (Fails text) → (es : List Event) → Spells text es → IfErr r (λ fault. fault ≡ NoMemory)
+only_from (Ok v) text refused es s = tt
+only_from (Err fault) text refused es s = only_memory text es fault s refused
+
+pub exact_from : {V : Type 0} (items : V → List Event) (r : Result V EventsFault) (text : List ℕ) → IfOk r (λ v. Spells text (items v)) → IfErr r (Fails text) → (fault : EventsFault) → Fails text fault → fault ≢ NoMemory → (r ≡ Err fault) ⊎ (r ≡ Err NoMemory)
+exact_from items (Ok v) text found refused fault f known = absurd (known (only_memory text (items v) fault found f))
+exact_from items (Err other) text found refused fault f known = elim (same_fault text fault other f refused known) [ inl e ↦ inl (ap Err e) | inr e ↦ inr (ap Err e) ]
+
+-- a line that isn't appended is a fault there
+pub refused_there : (text : List ℕ) (before : List (List ℕ)) (line : List ℕ) (es : List Event) (more : Repeated) (fault : EventsFault) → GoodBefore text before line es → line_events line ≡ Some (repeated more) → RefusesMore (length es) more.times fault → Fails text fault
+refused_there text before line es more (BadLine n) good brings r = absurd r
+refused_there text before line es more TooMany good brings r =
+    inr (record { before = before; line = line; events = es; more = repeated more; good = good; brings = brings; many = omega (arith, length-replicate more.times more.event) })
+refused_there text before line es more NoMemory good brings r =
+    record { before = before; line = line; events = es; more = repeated more; good = good; brings = brings; some = omega (arith, r.0, length-replicate more.times more.event); few = omega (arith, r.1, length-replicate more.times more.event) }
+
+-- a fault that `?` passes on is the fault
+pub passed_on : {V : Type 0} (r : Result V EventsFault) (text : List ℕ) (fault : EventsFault) → IsErrAnd r (λ e. e ≡ fault) → Fails text fault → IfErr r (Fails text)
+passed_on (Ok v) text fault h f = tt
+passed_on (Err e) text fault h f = rw h f

@@ -1,0 +1,17 @@
+-- One event, some times over, as a line brings it.
+use Rattle.std.specs.Prelude.{ℕ, ◌+◌, ◌<◌, ◌≤◌, List, replicate}
+use Rattle.peripherals.specs.declared.Event.{Event}
+use Rattle.peripherals.specs.declared.event_text.Repeated.{Repeated}
+use Rattle.peripherals.specs.declared.event_text.EventsFault.{EventsFault}
+use Rattle.peripherals.specs.declared.event_text.EventsFault.TheVariants.{BadLine, TooMany, NoMemory}
+use Rattle.peripherals.specs.EventText.{most_events}
+
+-- the list of so many events
+abbrev pub repeated : Repeated → List Event
+repeated more = replicate more.times more.event
+
+-- To so many events these aren't added: they are too many, or, where memory is refused, some.
+abbrev pub RefusesMore : ℕ → ℕ → EventsFault → Type 0
+RefusesMore had more (BadLine number) = ⊥
+RefusesMore had more TooMany = most_events < had + more
+RefusesMore had more NoMemory = (0 < more) × (had + more ≤ most_events)

@@ -1,0 +1,5 @@
+pub mod Follows
+pub mod Faults
+pub mod Running
+pub mod Summary
+pub mod Dumping

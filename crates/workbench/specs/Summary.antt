@@ -1,0 +1,42 @@
+-- The summary of a run.
+use Rattle.std.specs.Prelude.{ℕ, ◌+◌, ◌/◌, ◌%◌, Bool, true, false, Option, Some, None, List, [], ◌∷◌, ◌++◌, codes, decimal}
+use Rattle.word12.specs.Words.{octal_text}
+use Rattle.processor.specs.Machine.{State}
+use Rattle.peripherals.specs.Devices.{WorldState}
+
+-- A link as the digit 0 or 1.
+abbrev pub link_text : ℕ → List ℕ
+link_text link = (48 + link) ∷ []
+
+-- How a run ended and where: stuck at an unsupported word, halted by the HLT at this address, or at its bound.
+abbrev pub end_text : Bool → Option ℕ → ℕ → List ℕ
+end_text true halted pc = codes "UNSUPPORTED " ++ octal_text pc
+end_text false (Some at) pc = codes "HALT " ++ octal_text at
+end_text false None pc = codes "BOUND " ++ octal_text pc
+
+abbrev pub registers_text : State → List ℕ
+registers_text s =
+    codes " AC=" ++ octal_text s.ac ++ (codes " L=" ++ link_text s.link) ++ codes " PC=" ++ octal_text s.pc
+
+-- The first line: the end, the registers, and how many instructions were carried out.
+abbrev pub state_line : Bool → WorldState → ℕ → List ℕ
+state_line stuck w steps =
+    end_text stuck w.halted_at w.state.pc ++ registers_text w.state ++ (codes " STEPS=" ++ decimal steps ++ codes "\n")
+
+-- A byte after a space, as three octal digits.
+abbrev pub byte_text : ℕ → List ℕ
+byte_text b = 32 ∷ (48 + b / 64) ∷ (48 + b / 8 % 8) ∷ (48 + b % 8) ∷ []
+
+abbrev pub bytes_text : List ℕ → List ℕ
+bytes_text [] = []
+bytes_text (b ∷ bs) = byte_text b ++ bytes_text bs
+
+-- What a device put out, under its name; nothing where it put out nothing.
+abbrev pub output_line : List ℕ → List ℕ → List ℕ
+output_line name [] = []
+output_line name (b ∷ bs) = name ++ bytes_text (b ∷ bs) ++ codes "\n"
+
+abbrev pub summary : Bool → WorldState → ℕ → List ℕ
+summary stuck w steps =
+    state_line stuck w steps ++ output_line (codes "PRINTED") w.devices.printer.output ++
+    output_line (codes "PUNCHED") w.devices.punch.output

@@ -1,0 +1,99 @@
+//! The commands, over sources and sinks.
+
+ghost use Rattle.std.specs.Prelude.{ℕ, ◌≡◌, List, Option, Some, None, take, false, true, IfOk, IfErr, IfSome, OnOk};
+ghost use Rattle.std.specs.Io.KnownBytes.{Appends};
+ghost use Rattle.bin_tape.specs.Tape.{IsTape};
+ghost use Rattle.bin_tape.specs.Refuses.{Refuses};
+ghost use Rattle.workbench.specs.Dumping.{dump_text, WritesDump};
+ghost use Rattle.workbench.specs.Faults.{fails_to_write, IsTapeFault};
+ghost use Rattle.workbench.specs.Follows.{rounds};
+ghost use Rattle.workbench.specs.Running.{WritesRun};
+
+use crate::follow::follow_rounds;
+use crate::status::{Fault, Status};
+use crate::text::{dump_of, summary_of};
+use bin_tape::{ByteSink, ByteSource, put, read_from};
+use instruct::Profile;
+use peripherals::{Start, World};
+use std::alloc::Allocator;
+use word12::Word;
+
+/// How a tape is run.
+#[derive(Clone, Copy, PartialEq, Eq, Debug)]
+pub struct RunOptions {
+    /// The address of the first instruction.
+    pub start: Word,
+    /// How many rounds are made at most.
+    pub rounds: u32,
+    /// A line is written for each instruction.
+    pub trace: bool,
+    /// Whose instructions the machine has.
+    pub profile: Profile,
+}
+
+/// Runs a tape in rounds of an instruction, a completion of the printer and one of the punch, and
+/// writes the summary. The run ends early at a halt and at an unsupported word; the latter's status
+/// is `Refused`.
+///
+/// # Errors
+///
+/// The tape's fault; `Device` where a read or a write failed, after which a prefix of the text went
+/// out; `NoMemory`.
+pub fn run<A: Allocator + Copy, R: ByteSource, W: ByteSink>(
+    alloc: A,
+    tape: &mut R,
+    options: RunOptions,
+    out: &mut W,
+) -> Result<Status, Fault>
+    requires readable { R.mark tape.old ≡ false }
+    requires writable { W.mark out.old ≡ false }
+    // Without a trace, what is written is the summary of the run that follows from the tape.
+    ensures run { IfOk result (λ status. options.trace ≡ false → IfSome (R.remaining tape.old)
+        (λ frames. WritesRun options.profile options.start true (rounds options.rounds) frames (W.taken out.old) (W.taken out.new) status)) }
+    // A fault of the tape is the first fault of its bytes.
+    ensures tape { IfErr result (IsTapeFault (R.mark tape.new) (R.remaining tape.old)) }
+    // A write failed exactly where the answer says so.
+    ensures marks { W.mark out.new ≡ fails_to_write result }
+{
+    let image = read_from(tape)?;
+    let mut world = World::load(
+        alloc,
+        &image,
+        options.start,
+        &Start::zero(),
+        options.profile,
+    );
+    let progress = follow_rounds(&mut world, out, options.trace, options.rounds)?;
+    let text = summary_of(alloc, progress.stuck, &world, progress.steps)?;
+    put(out, &text)?;
+    Ok(if progress.stuck {
+        Status::Refused
+    } else {
+        Status::Done
+    })
+}
+
+/// Writes a line for each word of a tape, in rising order of the addresses: the address, the word
+/// and its name.
+///
+/// # Errors
+///
+/// As for [`run`].
+pub fn dump<A: Allocator + Copy, R: ByteSource, W: ByteSink>(
+    alloc: A,
+    tape: &mut R,
+    profile: Profile,
+    out: &mut W,
+) -> Result<Status, Fault>
+    requires readable { R.mark tape.old ≡ false }
+    requires writable { W.mark out.old ≡ false }
+    ensures dump { OnOk result (IfSome (R.remaining tape.old)
+        (λ frames. WritesDump profile frames (W.taken out.old) (W.taken out.new))) }
+    ensures tape { IfErr result (IsTapeFault (R.mark tape.new) (R.remaining tape.old)) }
+    ensures marks { W.mark out.new ≡ fails_to_write result }
+{
+    let image = read_from(tape)?;
+    let text = dump_of(alloc, &image, profile)?;
+    put(out, &text)?;
+    Ok(Status::Done)
+}

@@ -1,0 +1,13 @@
+//! The commands of the program `pdp8`, over sources and sinks, and its words.
+#![tactic(auto)]
+
+pub mod commands;
+mod files;
+pub mod follow;
+mod program;
+pub mod status;
+mod text;
+mod trace;
+mod words;
+
+pub use program::exit_status;

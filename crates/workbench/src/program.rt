@@ -1,0 +1,107 @@
+//! The program: from its words to its status.
+
+ghost use Rattle.std.specs.Prelude.{◌≡◌, false};
+
+use crate::commands::{dump, run};
+use crate::files::open;
+use crate::status::{Fault, Status};
+use crate::words::{Refused, Request, parse_words};
+use bin_tape::ByteSource;
+use bin_tape::standard::{Reads, Writes};
+use std::alloc::Global;
+use std::rt::{Env, Files};
+use std::{env, io};
+
+/// The words that stand for no words at all.
+static RUN_STANDARD_INPUT: [&str; 3] = ["pdp8", "run", "-"];
+
+/// Does what the program's words ask for, and says with which status it ends: 0 done, 1 refused, 2
+/// bad words, 3 a device's fault, 4 want of memory. Without words it runs the tape on standard
+/// input. Faults and the text for bad words go to standard error, help to standard output.
+pub fn exit_status<R: Env + Files + Input + Print + Eprint + AllocGlobal>(rt: &R) -> u8 {
+    let alloc = rt.alloc();
+    let Ok(arguments) = env::args(rt) else {
+        return Status::Words.code();
+    };
+    let Ok(words) = arguments.collect::<Vec<String>>(alloc) else {
+        return tell(rt, Fault::NoMemory).code();
+    };
+    let request = if words.len() < 2 {
+        parse_words(alloc, RUN_STANDARD_INPUT.as_slice())
+    } else {
+        parse_words(alloc, words.as_slice())
+    };
+    match request {
+        Ok(request) => match answer(rt, alloc, &request) {
+            Ok(status) => status.code(),
+            Err(fault) => tell(rt, fault).code(),
+        },
+        Err(refused) => refuse(rt, refused).code(),
+    }
+}
+
+/// Writes the line of a fault to standard error.
+fn tell<R: Eprint>(rt: &R, fault: Fault) -> Status {
+    match eprintln!(rt; "{fault}") {
+        Ok(()) | Err(_) => fault.status(),
+    }
+}
+
+/// Says why the words are bad, or gives the help that they ask for.
+fn refuse<R: Print + Eprint>(rt: &R, refused: Refused) -> Status {
+    let told = match refused {
+        Refused::Memory => return tell(rt, Fault::NoMemory),
+        Refused::Words(error) => {
+            let status = if error.use_stderr() {
+                Status::Words
+            } else {
+                Status::Done
+            };
+            return match error.print(rt) {
+                Ok(()) => status,
+                Err(_) => Status::Device,
+            };
+        }
+        Refused::Start(fault) => eprintln!(rt; "error: bad value for '--start': {fault}"),
+        Refused::Steps => eprintln!(rt;
+            "error: bad value for '--steps': it is a number from 1 to 1000000"
+        ),
+        Refused::Profile => eprintln!(rt; "error: bad value for '--profile': it is 8i or 8e"),
+    };
+    match told {
+        Ok(()) | Err(_) => Status::Words,
+    }
+}
+
+/// Opens the files of a request and carries it out.
+fn answer<R: Files + Input + Print>(
+    rt: &R,
+    alloc: Global,
+    request: &Request<'_>,
+) -> Result<Status, Fault> {
+    match request {
+        Request::Run { tape, .. } | Request::Dump { tape, .. } => {
+            if *tape == "-" {
+                work(rt, alloc, request, Reads::new(rt.reader()))
+            } else {
+                work(rt, alloc, request, Reads::new(open(rt, tape)?))
+            }
+        }
+    }
+}
+
+/// Carries out a request on a tape.
+fn work<R: Print, S: ByteSource + Drop>(
+    rt: &R,
+    alloc: Global,
+    request: &Request<'_>,
+    mut tape: S,
+) -> Result<Status, Fault>
+    requires { S.mark tape ≡ false }
+{
+    let mut out = Writes::new(io::writer(rt));
+    match request {
+        Request::Run { options, .. } => run(alloc, &mut tape, *options, &mut out),
+        Request::Dump { profile, .. } => dump(alloc, &mut tape, *profile, &mut out),
+    }
+}

@@ -1,0 +1,169 @@
+//! The program's words.
+
+use crate::commands::RunOptions;
+use clap::error::ErrorKind;
+use clap::{Arg, ArgAction, ArgMatches, Command, Error};
+use instruct::Profile;
+use std::alloc::{AllocError, Global};
+use std::convert::AsStr;
+use word12::{OctalFault, Word};
+
+/// How many rounds are made without `--steps`.
+const ROUNDS: u32 = 100_000;
+
+/// The most rounds that may be asked for.
+const MOST_ROUNDS: u32 = 1_000_000;
+
+/// What is asked for.
+#[derive(Drop, Debug)]
+pub enum Request<'a> {
+    /// To run a tape.
+    Run {
+        /// The name of the tape's file.
+        tape: &'a str,
+        /// How it is run.
+        options: RunOptions,
+    },
+    /// To list the words of a tape.
+    Dump {
+        /// The name of the tape's file.
+        tape: &'a str,
+        /// Whose names the words have.
+        profile: Profile,
+    },
+}
+
+/// Why nothing is done.
+#[derive(Drop)]
+pub enum Refused {
+    /// The words are bad, or ask for help.
+    Words(Error),
+    /// The value of `--start` is no address.
+    Start(OctalFault),
+    /// The value of `--steps` is no number from 1 to 1,000,000.
+    Steps,
+    /// The value of `--profile` is neither `8i` nor `8e`.
+    Profile,
+    /// Memory was refused.
+    Memory,
+}
+
+impl From<Error> for Refused {
+    fn from(error: Error) -> Refused {
+        if error.kind() == ErrorKind::OutOfMemory {
+            Refused::Memory
+        } else {
+            Refused::Words(error)
+        }
+    }
+}
+
+impl From<AllocError> for Refused {
+    fn from(_: AllocError) -> Refused {
+        Refused::Memory
+    }
+}
+
+impl From<OctalFault> for Refused {
+    fn from(fault: OctalFault) -> Refused {
+        Refused::Start(fault)
+    }
+}
+
+fn tape_word<'a>(alloc: Global) -> Arg<'a> {
+    Arg::new(alloc, "TAPE")
+        .required(true)
+        .help("the tape, or - for standard input")
+}
+
+fn profile_word<'a>(alloc: Global) -> Arg<'a> {
+    Arg::new(alloc, "profile")
+        .long("profile")
+        .value_name("P")
+        .help("8i or 8e: whose instructions are meant; 8i without it")
+}
+
+fn run_command<'a>(alloc: Global) -> Result<Command<'a>, AllocError> {
+    let start = Arg::new(alloc, "start").long("start").value_name("A").help(
+        "the octal address of the first instruction; 0200 without it",
+    );
+    let steps = Arg::new(alloc, "steps")
+        .long("steps")
+        .value_name("N")
+        .help("how many rounds are made at most; 100000 without it");
+    let trace = Arg::new(alloc, "trace")
+        .long("trace")
+        .action(ArgAction::SetTrue)
+        .help("writes a line for each instruction");
+    Command::new(alloc, "run")
+        .about("Runs a tape and writes where it ended and what it printed and punched")
+        .arg(tape_word(alloc))?
+        .arg(start)?
+        .arg(steps)?
+        .arg(trace)?
+        .arg(profile_word(alloc))
+}
+
+fn dump_command<'a>(alloc: Global) -> Result<Command<'a>, AllocError> {
+    Command::new(alloc, "dump")
+        .about("Writes address, word and name for each word on a tape")
+        .arg(tape_word(alloc))?
+        .arg(profile_word(alloc))
+}
+
+fn command<'a>(alloc: Global) -> Result<Command<'a>, AllocError> {
+    Command::new(alloc, "pdp8")
+        .about("A workbench for PDP-8 paper tapes")
+        .subcommand_required(true)
+        .subcommand(run_command(alloc)?)?
+        .subcommand(dump_command(alloc)?)
+}
+
+/// The number that decimal digits spell, if it is one from 1 to 1,000,000. There is no sign.
+fn rounds_of(text: &str) -> Option<u32> {
+    if !text.bytes().all(|digit| digit.is_ascii_digit()) {
+        return None;
+    }
+    match text.parse::<u32>() {
+        Ok(count) if 1 <= count && count <= MOST_ROUNDS => Some(count),
+        _ => None,
+    }
+}
+
+fn profile_of(found: &ArgMatches<'_>) -> Result<Profile, Refused> {
+    match found.get_str("profile") {
+        None | Some("8i") => Ok(Profile::Pdp8I),
+        Some("8e") => Ok(Profile::Pdp8E),
+        Some(_) => Err(Refused::Profile),
+    }
+}
+
+fn run_options(found: &ArgMatches<'_>) -> Result<RunOptions, Refused> {
+    let start = Word::from_octal(found.get_str("start").unwrap_or("0200").as_bytes())?;
+    let rounds = match found.get_str("steps") {
+        None => ROUNDS,
+        Some(text) => rounds_of(text).ok_or(Refused::Steps)?,
+    };
+    Ok(RunOptions {
+        start,
+        rounds,
+        trace: found.get_flag("trace"),
+        profile: profile_of(found)?,
+    })
+}
+
+/// Reads the program's words, its own name among them.
+pub fn parse_words<'a, S: AsStr>(alloc: Global, words: &'a [S]) -> Result<Request<'a>, Refused> {
+    let matches = command(alloc)?.try_get_matches_from(words)?;
+    match matches.subcommand() {
+        Some(("dump", found)) => Ok(Request::Dump {
+            tape: found.get_str("TAPE").unwrap_or("-"),
+            profile: profile_of(found)?,
+        }),
+        Some((_, found)) => Ok(Request::Run {
+            tape: found.get_str("TAPE").unwrap_or("-"),
+            options: run_options(found)?,
+        }),
+        None => Err(Refused::Memory),
+    }
+}

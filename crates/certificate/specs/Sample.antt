@@ -1,7 +1,7 @@
 -- A certificate line by line and the text that it has, as a sample of the spelling.
 use Rattle.std.specs.Prelude.{◌≡◌, ℕ, ◌==◌, ◌||◌, List, [], ◌∷◌, ◌++◌, codes}
-use Rattle.wordset.specs.Words.{Words, one, nothing, everything, between}
-use Rattle.facts.specs.Facts.{Ac, Cell}
+use Rattle.wordset.specs.Words.{one, nothing, everything, between}
+use Rattle.facts.specs.Facts.{Cell}
 use Rattle.certificate.specs.declared.Version.TheVariants.{Two}
 use Rattle.certificate.specs.Spelling.{Statement, Lines, text}
 use Rattle.certificate.specs.Reading.{AreLines}

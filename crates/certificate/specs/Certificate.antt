@@ -17,6 +17,7 @@ pub record Certificate : Type 0 where
   pub has_exit : ℕ → Words
   pub exit : ℕ → ℕ → Fact
 
+-- Main has no sites.
 abbrev pub sites_of : Certificate → Routine → Words
 sites_of c None = nothing
 sites_of c (Some e) = c.sites e

@@ -1,1 +1,4 @@
 pub mod Certificate
+pub mod Spelling
+pub mod Reading
+pub mod Sample

@@ -10,6 +10,7 @@ use Rattle.policy.specs.Runs.{IsSafeInRuns}
 abbrev pub image_with : ℕ → Image
 image_with word a = if a == 0o200 then Some word else None
 
+-- The body of main is one cell, and no routine has one.
 abbrev pub body_alone : Routine → Words
 body_alone None a = a == 0o200
 body_alone (Some e) a = false
@@ -28,5 +29,6 @@ bare reads = record {
   reads = reads;
 }
 
+-- The program of this word isn't safe.
 abbrev pub IsUnsafe : ℕ → Option Words → Type 0
 IsUnsafe word reads = IsSafeInRuns (image_with word) (bare reads) → ⊥

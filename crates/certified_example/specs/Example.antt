@@ -28,6 +28,7 @@ abbrev pub main_cells : Words
 main_cells a =
     a == 0o200 || (a == 0o201 || (a == 0o202 || (a == 0o203 || (a == 0o204 || (a == 0o205 || a == 0o206)))))
 
+-- Main's cells, and the body of the one routine.
 abbrev pub body : Routine → Words
 body None a = main_cells a
 body (Some e) a = e == 0o210 && a == 0o211
@@ -36,6 +37,7 @@ body (Some e) a = e == 0o210 && a == 0o211
 abbrev pub variables : Words
 variables a = a == 0o10 || a == 0o202
 
+-- Main at 0200 to 0206, a routine at 0210 that returns to the next word, two variables and a pause at 0205.
 abbrev pub declaration : Declaration
 declaration = record {
   start = 0o200;
@@ -53,6 +55,7 @@ declaration = record {
 abbrev pub knowing : (Name → Words) → Words → Fact
 knowing sets offsets = record { set = sets; mq = everything; link = everything; equations = []; offsets = offsets }
 
+-- Nothing is known.
 abbrev pub any : Name → Words
 any n = everything
 
@@ -66,12 +69,14 @@ abbrev pub changed : Name → Words
 changed Ac = everything
 changed (Cell a) = if a == 0o202 then one 0 else everything
 
+-- The accumulator is known at 0201, and the changed cell at 0202; the routine's return word is its call's own.
 abbrev pub fact : ℕ → Fact
 fact a =
     if a == 0o201 then knowing clear nothing
     else (if a == 0o202 then knowing changed nothing
     else (if a == 0o211 then knowing any (one 0) else knowing any nothing))
 
+-- The routine has rank 0, is called from 0203 alone, and writes nothing.
 abbrev pub certificate : Certificate
 certificate = record {
   listed = one 0o210;
@@ -84,5 +89,6 @@ certificate = record {
   exit = λ e o. knowing any nothing;
 }
 
+-- The tape, the declaration and the certificate.
 abbrev pub example : Case
 example = record { image = image; declaration = declaration; certificate = certificate }

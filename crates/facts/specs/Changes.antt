@@ -11,10 +11,12 @@ moved_equation n k e = record {
   more = plus (if same e.left n then plus e.more k else e.more) (if same e.right n then minus 0 k else 0);
 }
 
+-- All equations after n's word went up by k.
 abbrev pub moved_equations : Name → ℕ → List Equation → List Equation
 moved_equations n k [] = []
 moved_equations n k (e ∷ es) = moved_equation n k e ∷ moved_equations n k es
 
+-- The sets with another one for n.
 abbrev pub with_set : Name → Words → (Name → Words) → Name → Words
 with_set n set sets m = if same m n then set else sets m
 
@@ -42,6 +44,8 @@ abbrev pub cells_of : Words → Name → Bool
 cells_of cells Ac = false
 cells_of cells (Cell a) = nat_lt a 4096 && cells a
 
+-- The sets after one cell a of the set, unknown which, took some word of new a: each of them may still hold its old
+-- word.
 abbrev pub smeared_set : Words → (ℕ → Words) → (Name → Words) → Name → Words
 smeared_set cells new sets Ac = sets Ac
 smeared_set cells new sets (Cell a) =
@@ -60,6 +64,7 @@ oriented y z k =
     if nat_lt y z then record { left = Cell y; right = Cell z; more = k }
     else record { left = Cell z; right = Cell y; more = minus 0 k }
 
+-- What one equation says of the accumulator, said of y, before the rest.
 abbrev pub copy_of : ℕ → Name → Name → ℕ → List Equation → List Equation
 copy_of y Ac (Cell z) k rest = if z == y then rest else oriented y z k ∷ rest
 copy_of y Ac Ac k rest = rest
@@ -70,17 +75,22 @@ abbrev pub copied : ℕ → List Equation → List Equation
 copied y [] = []
 copied y (e ∷ es) = copy_of y e.left e.right e.more (copied y es)
 
+-- The fact with further equations.
 abbrev pub with_equations : List Equation → Fact → Fact
 with_equations es f = record f { equations = es ++ f.equations }
 
+-- The fact with another set of MQ.
 abbrev pub with_mq : Words → Fact → Fact
 with_mq set f = record f { mq = set }
 
+-- The fact with another set of links.
 abbrev pub with_link : Words → Fact → Fact
 with_link links f = record f { link = links }
 
+-- The fact with other offsets.
 abbrev pub with_offsets : Words → Fact → Fact
 with_offsets offsets f = record f { offsets = offsets }
 
+-- The fact with another set of a name; its equations stay.
 abbrev pub with_name : Name → Words → Fact → Fact
 with_name n set f = record f { set = with_set n set f.set }

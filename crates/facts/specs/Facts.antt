@@ -12,6 +12,7 @@ pub data Name : Type 0 where
   Ac : Name
   Cell : ℕ → Name
 
+-- The two names are one.
 abbrev pub same : Name → Name → Bool
 same Ac Ac = true
 same Ac (Cell b) = false
@@ -37,9 +38,11 @@ pub record Fact : Type 0 where
 abbrev pub Values : Type 0
 Values = Name → ℕ
 
+-- An equation is true of values.
 abbrev pub IsTrueOf : Values → Equation → Type 0
 IsTrueOf v e = v e.left ≡ plus (v e.right) e.more
 
+-- All equations are true of values.
 abbrev pub AllTrue : Values → List Equation → Type 0
 AllTrue v [] = Unit {0}
 AllTrue v (e ∷ es) = IsTrueOf v e × AllTrue v es
@@ -102,6 +105,7 @@ narrowed f n v = f.set n v && met_by f n f.equations v
 abbrev pub own_words : Words → Fact → Words
 own_words sites f v = some_below 8 (λ o. f.offsets o && sites (minus v (o + 1)))
 
+-- The routine's entry is this cell.
 abbrev pub is_routine : Routine → ℕ → Bool
 is_routine None a = false
 is_routine (Some e) a = a == e
@@ -124,6 +128,7 @@ words_in pl f a =
 unfoldable pub possible : Place → Fact → ℕ → Words
 possible pl f a = if pl.declaration.variable a then narrowed f (Cell a) else tape_word (pl.image a)
 
+-- The equation is one of the list.
 abbrev pub Among : Equation → List Equation → Type 0
 Among e [] = ⊥
 Among e (g ∷ gs) = (g ≡ e) ⊎ Among e gs
@@ -134,6 +139,7 @@ Knows f e =
     Among e f.equations ⊎
     ((x : ℕ) × (y : ℕ) × (only (narrowed f e.left) ≡ Some x) × (only (narrowed f e.right) ≡ Some y) × (x ≡ plus y e.more))
 
+-- Each equation of the list is known.
 abbrev pub KnowsAll : Fact → List Equation → Type 0
 KnowsAll f [] = Unit {0}
 KnowsAll f (e ∷ es) = Knows f e × KnowsAll f es
@@ -145,6 +151,7 @@ pub record Entails (a b : Fact) : Type 0 where
   pub link : IsLinkWithin a.link b.link
   pub equations : KnowsAll a b.equations
 
+-- Each offset of a is one of b.
 abbrev pub EntailsOffsets : Fact → Fact → Type 0
 EntailsOffsets a b = (o : ℕ) → o < 8 → a.offsets o ≡ true → b.offsets o ≡ true
 
@@ -153,6 +160,7 @@ abbrev pub is_outside : Words → Name → Bool
 is_outside written Ac = false
 is_outside written (Cell a) = not (written a)
 
+-- The equations between cells outside the written set.
 abbrev pub outside : Words → List Equation → List Equation
 outside written [] = []
 outside written (e ∷ es) =

@@ -28,6 +28,7 @@ pub data Outcome : Type 0 where
   CallsTo : Words → Fact → Outcome
   Returns : Fact → Outcome
 
+-- An outcome that is given where the test is true.
 abbrev pub given : Bool → Outcome → List Outcome
 given b o = if b then o ∷ [] else []
 
@@ -37,6 +38,7 @@ abbrev pub alive : Words → Fact → Words → Fact → Bool
 alive p f changed g =
     has_some p && (has_some (narrowed f Ac) && (has_some (g.set Ac) && (has_some g.mq && (has_link g.link && has_some changed))))
 
+-- The outcome that goes on at these addresses with the fact g, where it can come about.
 abbrev pub goes : Words → Fact → Words → Words → Fact → List Outcome
 goes p f changed next g = given (alive p f changed g) (Goes next g)
 
@@ -69,6 +71,7 @@ tad_fact pl f p =
       link = toggled f.link (carries (narrowed f Ac) (words_at pl f p));
     }
 
+-- TAD goes on at the next address.
 abbrev pub tad : Place → ℕ → Fact → Words → List Outcome
 tad pl at f p = goes p f everything (one (plus at 1)) (tad_fact pl f p)
 
@@ -104,10 +107,11 @@ abbrev pub jmp : Place → Bool → ℕ → Fact → Words → List Outcome
 jmp pl i c f p =
     if i && is_routine pl.routine c then given (alive p f everything f) (Returns f) else goes p f everything p f
 
--- The accumulator and the link after a word of group 1.
+-- The accumulator after a word of group 1.
 unfoldable pub ac_after : ℕ → ℕ → ℕ → ℕ
 ac_after w ac link = (operate1_of w (ac, link)).0
 
+-- The link after a word of group 1.
 unfoldable pub link_after : ℕ → ℕ → ℕ → ℕ
 link_after w ac link = (operate1_of w (ac, link)).1
 
@@ -136,6 +140,7 @@ related2 w part f =
     if has_bit 2 w then assigned Ac (or_any 4095 (if has_bit 7 w then one 0 else part)) f
     else (if has_bit 7 w then assigned Ac (one 0) f else with_name Ac part f)
 
+-- The words that skip, or those that don't, under one link; then what the word makes of them.
 abbrev pub operated2 : ℕ → ℕ → Fact → ℕ → Bool → List Outcome
 operated2 at w f l skip =
     let after : Fact = with_link (one l) (related2 w (part2 w f l skip) f) in

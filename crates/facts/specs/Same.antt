@@ -8,6 +8,7 @@ pub record SameEquations (es gs : List Equation) : Type 0 where
   pub to : (e : Equation) → Among e es → Among e gs
   pub from : (e : Equation) → Among e gs → Among e es
 
+-- The same words below 4096, links, equations and offsets.
 pub record SameFact (a b : Fact) : Type 0 where
   pub sets : (n : Name) → SameWords (a.set n) (b.set n)
   pub mq : SameWords a.mq b.mq
@@ -22,5 +23,6 @@ pub record EntailAlike (a b c : Fact) : Type 0 where
   pub left_offsets : EntailsOffsets a c → EntailsOffsets b c
   pub right_offsets : EntailsOffsets c a → EntailsOffsets c b
 
+-- This holds of all facts that agree.
 abbrev pub SameLaw : Type 0
 SameLaw = (a b c : Fact) → SameFact a b → EntailAlike a b c

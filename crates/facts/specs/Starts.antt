@@ -25,15 +25,18 @@ is_always_between (Some x) (Some y) more = x == plus y more
 is_always_between (Some x) None more = false
 is_always_between None y more = false
 
+-- The equation between two different names is true whatever the start.
 abbrev pub is_always_of : Image → Name → Name → ℕ → Bool
 is_always_of image (Cell a) (Cell b) more = is_always_between (image a) (image b) more
 is_always_of image Ac right more = false
 is_always_of image (Cell a) Ac more = false
 
+-- An equation is true whatever the start.
 abbrev pub is_always : Image → Equation → Bool
 is_always image e =
     if same e.left e.right then e.more % 4096 == 0 else is_always_of image e.left e.right e.more
 
+-- All equations are true whatever the start.
 abbrev pub are_always : Image → List Equation → Bool
 are_always image [] = true
 are_always image (e ∷ es) = is_always image e && are_always image es

@@ -21,10 +21,11 @@ pub record Case : Type 0 where
   pub declaration : Declaration
   pub certificate : Certificate
 
--- The fact at an address, and the place of the facts of a routine.
+-- The fact at an address.
 abbrev pub fact_at : Case → ℕ → Fact
 fact_at j a = j.certificate.fact a
 
+-- The place of the facts in a routine's body.
 abbrev pub place_in : Case → Routine → Place
 place_in j r = place_of j.image j.declaration j.certificate r
 
@@ -63,6 +64,7 @@ abbrev pub IsLower : Certificate → Routine → ℕ → Type 0
 IsLower c None e = Unit {0}
 IsLower c (Some r) e = c.rank e < c.rank r
 
+-- The target is an entry that has a routine line, of lower rank.
 pub record MayCall (j : Case) (r : Routine) (e : ℕ) : Type 0 where
   pub entry : j.declaration.entry e ≡ true
   pub listed : j.certificate.listed e ≡ true
@@ -75,6 +77,7 @@ pub record Covers (c : Certificate) (r e : ℕ) : Type 0 where
   pub entry : c.writes r e ≡ true
   pub own : c.writes e r ≡ false
 
+-- Nothing of this is asked of main.
 abbrev pub CoversCallee : Certificate → Routine → ℕ → Type 0
 CoversCallee c None e = Unit {0}
 CoversCallee c (Some r) e = Covers c r e
@@ -98,6 +101,7 @@ OutcomeLands j r (Goes next f) = (a : ℕ) → a < 4096 → next a ≡ true → 
 OutcomeLands j r (CallsTo next f) = Unit {0}
 OutcomeLands j r (Returns f) = Unit {0}
 
+-- Each outcome of the list has the property.
 abbrev pub EachOutcome : (Outcome → Type 0) → List Outcome → Type 0
 EachOutcome p [] = Unit {0}
 EachOutcome p (o ∷ os) = p o × EachOutcome p os
@@ -169,6 +173,7 @@ abbrev pub IsLine : Case → ℕ → Type 0
 IsLine j a =
     (j.certificate.listed a || (j.certificate.has_fact a || some_below 8 (j.certificate.has_exit a))) ≡ true
 
+-- The condition on the start.
 abbrev pub is_first_condition : Condition → Bool
 is_first_condition V1 = true
 is_first_condition _ = false
@@ -178,6 +183,7 @@ abbrev pub IsAskedAs : Bool → Case → ℕ → Type 0
 IsAskedAs true j a = a ≡ j.declaration.start
 IsAskedAs false j a = (a < 4096) × IsLine j a
 
+-- Where a condition is asked.
 abbrev pub IsAsked : Case → Condition → ℕ → Type 0
 IsAsked j v a = IsAskedAs (is_first_condition v) j a
 

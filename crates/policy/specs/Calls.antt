@@ -18,6 +18,7 @@ abbrev pub current : Calls → Routine
 current [] = None
 current (k ∷ ks) = Some k.entry
 
+-- The list without the last call.
 abbrev pub returned : Calls → Calls
 returned [] = []
 returned (k ∷ ks) = ks
@@ -29,5 +30,6 @@ calls_of d (Jms i c) s ks =
 calls_of d (Jmp i c) s ks = if i && d.entry c then returned ks else ks
 calls_of d _ s ks = ks
 
+-- The call list after the instruction at the program counter.
 abbrev pub calls_after : Declaration → State → Calls → Calls
 calls_after d s ks = calls_of d (instruction d.profile s) s ks

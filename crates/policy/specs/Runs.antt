@@ -50,6 +50,7 @@ abbrev pub calls_running : Declaration → WorldState → Option ℕ → Calls �
 calls_running d w None ks = calls_after d w.state ks
 calls_running d w (Some at) ks = ks
 
+-- Only a step changes the call list.
 abbrev pub calls_by : Declaration → WorldState → Event → Calls → Calls
 calls_by d w Instruct ks = calls_running d w w.halted_at ks
 calls_by d w _ ks = ks

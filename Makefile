@@ -1,0 +1,26 @@
+# Thin: each target calls rt or a script.
+PREFIX ?= /usr/local
+
+.PHONY: run test install bench fmt
+
+# Builds the program and runs it on the stored tape.
+run:
+	cd crates/pdp8 && rt run < stdin
+
+# The gate: every proof from nothing, the edits that must fail, every test and the program.
+test:
+	rt ci
+
+# Puts pdp8 into $(PREFIX)/bin.
+install:
+	cd crates/pdp8 && rt run < stdin
+	install -D -m 755 crates/pdp8/out/pdp8 $(PREFIX)/bin/pdp8
+
+# Times the machine, the tapes and the sets; needs Debian's simh.
+bench:
+	bench/run.sh
+	bench/wordset.sh
+
+# Lays out the sources.
+fmt:
+	rt fmt

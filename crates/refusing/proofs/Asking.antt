@@ -1,5 +1,5 @@
 -- The call of `is_refused`, as a walk makes it: what it takes, and that what it gives back is a truth value.
-use Rattle.std.proofs.Common.{◌≡◌, ℕ, List, [], ◌∷◌, refl, zero, suc}
+use Rattle.std.proofs.Common.{ℕ, List, [], ◌∷◌, refl, zero, suc}
 use seplogic.Ra.Ura.{Ura}
 use mir.Syntax.{Body, seq}
 use mir.Val.{Val, vptr}

@@ -2,11 +2,8 @@
 
 use super::*;
 
-/// The word of a number that is known to be one.
-fn word(value: usize) -> Word
-    requires { value < 4096 }
-{
-    Word::from_index(value)
+fn word(value: u16) -> Word {
+    Word::new(value).unwrap_or(Word::ZERO)
 }
 
 #[test]
@@ -15,6 +12,7 @@ fn words_are_below_4096(rt: HostRuntime) {
     assert_eq!(rt; Word::new(0o10000), None);
     assert_eq!(rt; word(0o1234).value(), 0o1234);
     assert_eq!(rt; word(0o1234).index(), 0o1234);
+    assert_eq!(rt; Word::from_index(0o1234), word(0o1234));
     assert_eq!(rt; Word::from_byte(0o377), word(0o377));
     assert_eq!(rt; Word::from_halves(0o74, 0o02), word(0o7402));
     assert_eq!(rt; word(0o7402).high_half(), 0o74);

@@ -1,6 +1,7 @@
 -- Which faults a command's own work may have.
 use Rattle.std.specs.Prelude.{ℕ, ◌≡◌, Bool, true, false, Result, Ok, Err, Option, List, IfSome, ◌||◌, take}
 use Rattle.bin_tape.specs.Refuses.{Refuses}
+use Rattle.bin_tape.specs.Tape.{IsTape}
 use Rattle.peripherals.specs.EventText.{Fails}
 use Rattle.bin_tape.specs.declared.fault.TapeFault.{TapeFault}
 use Rattle.bin_tape.specs.declared.fault.TapeFault.TheVariants.{ReadFault}
@@ -54,10 +55,21 @@ IsTapeFault marked frames (Device Read) = marked ≡ true
 IsTapeFault marked frames (Device Write) = Unit {0}
 IsTapeFault marked frames fault.NoMemory = Unit {0}
 
--- The same with a text of events, whose fault is the first of its own; its own reads may fail too.
+-- The frames are a tape, within the limit of what is looked at.
+pub record AreTape (frames : List ℕ) : Type 0 where
+  pub image : List (Option ℕ)
+  pub tape : IsTape (take 65536 frames) image
+
+-- The text has this fault; a want of memory is none.
+abbrev pub IsTextFault : List ℕ → EventsFault → Type 0
+IsTextFault text NoMemory = ⊥
+IsTextFault text fault = Fails text fault
+
+-- The same with a text of events, which is looked at where the tape is good; a read of either may fail.
 abbrev pub IsEventsFault : Bool → Option (List ℕ) → Bool → Option (List ℕ) → Fault → Type 0
 IsEventsFault marked frames text_marked text (Tape fault) = IfSome frames (λ bytes. Refuses 65536 bytes fault)
-IsEventsFault marked frames text_marked text (Events fault) = IfSome text (λ bytes. Fails (take 65537 bytes) fault)
+IsEventsFault marked frames text_marked text (Events fault) =
+    IfSome frames AreTape × IfSome text (λ bytes. IsTextFault (take 65537 bytes) fault)
 IsEventsFault marked frames text_marked text (Device Read) = (marked || text_marked) ≡ true
 IsEventsFault marked frames text_marked text (Device Write) = Unit {0}
 IsEventsFault marked frames text_marked text fault.NoMemory = Unit {0}

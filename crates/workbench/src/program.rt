@@ -4,7 +4,7 @@ ghost use Rattle.std.specs.Prelude.{◌≡◌, false};
 
 use crate::commands::{RunOptions, dump, run, run_events};
 use crate::files::open;
-use crate::status::{Fault, Status};
+use crate::status::{DeviceFault, Fault, Status};
 use crate::words::{Refused, Request, parse_words};
 use bin_tape::ByteSource;
 use bin_tape::standard::{Reads, Writes};
@@ -21,7 +21,7 @@ static RUN_STANDARD_INPUT: [&str; 3] = ["pdp8", "run", "-"];
 pub fn exit_status<R: Env + Files + Input + Print + Eprint + AllocGlobal>(rt: &R) -> u8 {
     let alloc = rt.alloc();
     let Ok(arguments) = env::args(rt) else {
-        return Status::Words.code();
+        return refuse(rt, Refused::NotText).code();
     };
     let Ok(words) = arguments.collect::<Vec<String>>(alloc) else {
         return tell(rt, Fault::NoMemory).code();
@@ -59,9 +59,10 @@ fn refuse<R: Print + Eprint>(rt: &R, refused: Refused) -> Status {
             };
             return match error.print(rt) {
                 Ok(()) => status,
-                Err(_) => Status::Device,
+                Err(_) => tell(rt, Fault::Device(DeviceFault::Write)),
             };
         }
+        Refused::NotText => eprintln!(rt; "error: a word of the command line isn't text"),
         Refused::Start(fault) => eprintln!(rt; "error: bad value for '--start': {fault}"),
         Refused::Steps => eprintln!(rt;
             "error: bad value for '--steps': it is a number from 1 to 1000000"

@@ -40,6 +40,8 @@ pub enum Request<'a> {
 pub enum Refused {
     /// The words are bad, or ask for help.
     Words(Error),
+    /// A word is no text.
+    NotText,
     /// The value of `--start` is no address.
     Start(OctalFault),
     /// The value of `--steps` is no number from 1 to 1,000,000.

@@ -1,0 +1,9 @@
+//! Tests that cross crates: instructions, worlds and commands on whole tapes.
+#![tactic(auto)]
+
+#[cfg(test)]
+mod commands;
+#[cfg(test)]
+mod instructions;
+#[cfg(test)]
+mod worlds;

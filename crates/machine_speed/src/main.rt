@@ -2,16 +2,18 @@
 //!
 //! `machine_speed cpu ROUNDS` runs a loop of ISZ and JMP on the processor alone, `world ROUNDS` runs
 //! it by events, a round being 33,558,529 instructions; `tapes TIMES` writes the fullest image and
-//! reads it back. Without words it does a little of each. It prints what came out, and no times.
+//! reads it back; these print what came out, and no times. `tape` writes the tape of that image to standard
+//! output. Without words it does a little of the first three.
 #![tactic(auto)]
 
 use bin_tape::memory::MemorySink;
+use bin_tape::standard::Writes;
 use bin_tape::{Image, read_tape, write_tape};
 use instruct::Profile;
 use peripherals::{Event, Panel, Seen, Start, World};
 use processor::{Cpu, Outcome};
 use std::alloc::Allocator;
-use std::env;
+use std::{env, io};
 use word12::Word;
 
 /// Where the loop begins.
@@ -143,6 +145,13 @@ fn time_tapes<R: Print + AllocGlobal>(rt: &R, times: u16) -> anyhow::Result<()> 
     Ok(())
 }
 
+/// Writes the tape of the fullest image to standard output.
+fn put_tape<R: Print>(rt: &R) -> anyhow::Result<()> {
+    let mut out = Writes::new(io::writer(rt));
+    write_tape(&fullest(), &mut out)?;
+    Ok(())
+}
+
 fn main(rt: HostRuntime) -> anyhow::Result<()> {
     let words = env::args(&rt)?.collect::<Vec<String>>(rt.alloc())?;
     let number = match words.get(2) {
@@ -153,6 +162,7 @@ fn main(rt: HostRuntime) -> anyhow::Result<()> {
         Some("cpu") => time_processor(&rt, number),
         Some("world") => time_world(&rt, number),
         Some("tapes") => time_tapes(&rt, number),
+        Some("tape") => put_tape(&rt),
         _ => {
             time_processor(&rt, number)?;
             time_world(&rt, number)?;

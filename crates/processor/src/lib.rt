@@ -6,7 +6,7 @@
 
 mod memory;
 
-ghost use Rattle.std.specs.Prelude.{ℕ, ◌≡◌, ◌+◌, ◌/◌, ◌%◌, if◌then◌else◌, IsSome};
+ghost use Rattle.std.specs.Prelude.{ℕ, ◌≡◌, ◌+◌, ◌/◌, ◌%◌, if◌then◌else◌, IsSome, true};
 ghost use Rattle.instruct.specs.declared.Instruction.TheVariants.{Operate1, Operate2, Operate3, Memory as IsMemory};
 ghost use Rattle.instruct.specs.declared.Profile.TheVariants.{Pdp8E};
 ghost use Rattle.instruct.specs.Bits.{is_indirect, named_cell};
@@ -119,12 +119,26 @@ fn carried(link: Link, left: Word, right: Word) -> Link
     }
 }
 
+/// The address of the instruction after the next one.
+///
+/// Not inlined, so that a skip stays a branch: the host then guesses it, in place of waiting for the
+/// count or the test before it can fetch the next instruction.
+#[inline(never)]
+fn address_past_next(pc: Word) -> Word
+    ensures { result ≡ next_pc pc true }
+{
+    pc.increment().increment()
+}
+
 /// The address of the next instruction, or where one skips, of the one after it.
 fn next_address(pc: Word, skip: bool) -> Word
     ensures { result ≡ next_pc pc skip }
 {
-    let next = pc.increment();
-    if skip { next.increment() } else { next }
+    if skip {
+        address_past_next(pc)
+    } else {
+        pc.increment()
+    }
 }
 
 impl Cpu {

@@ -53,13 +53,7 @@ fn loaded<A: Allocator + Copy>(alloc: A, rounds: u16) -> World<A> {
         image.set(word(at), word(number));
     }
     image.set(word(ROUNDS), word(rounds).complement().increment());
-    World::load(
-        alloc,
-        &image,
-        word(START),
-        &Start::zero(),
-        Profile::Pdp8I,
-    )
+    World::load(alloc, &image, word(START), &Start::zero(), Profile::Pdp8I)
 }
 
 /// Runs a processor beside idle devices until it halts, and counts the instructions.

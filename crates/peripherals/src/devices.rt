@@ -181,6 +181,7 @@ impl Bus for Panel {
 
     ghost goes_on = { GoesOn };
 
+    #[inline(never)]
     fn iot(&mut self, word: Word, ac: Word) -> IotAnswer {
         let answer = self.answer(word, ac);
         *self = self.after(word);

@@ -6,7 +6,7 @@
 
 mod memory;
 
-ghost use Rattle.std.specs.Prelude.{ℕ, ◌≡◌, ◌+◌, ◌/◌, ◌%◌, if◌then◌else◌, IsSome};
+ghost use Rattle.std.specs.Prelude.{ℕ, ◌≡◌, ◌+◌, ◌/◌, ◌%◌, if◌then◌else◌, IsSome, true};
 ghost use Rattle.instruct.specs.declared.Instruction.TheVariants.{Operate1, Operate2, Operate3, Memory as IsMemory};
 ghost use Rattle.instruct.specs.declared.Profile.TheVariants.{Pdp8E};
 ghost use Rattle.instruct.specs.Bits.{is_indirect, named_cell};
@@ -119,12 +119,26 @@ fn carried(link: Link, left: Word, right: Word) -> Link
     }
 }
 
+/// The address of the instruction after the next one.
+///
+/// Not inlined, so that a skip stays a branch: the host then guesses it, in place of waiting for the
+/// count or the test before it can fetch the next instruction.
+#[inline(never)]
+fn address_past_next(pc: Word) -> Word
+    ensures { result ≡ next_pc pc true }
+{
+    pc.increment().increment()
+}
+
 /// The address of the next instruction, or where one skips, of the one after it.
 fn next_address(pc: Word, skip: bool) -> Word
     ensures { result ≡ next_pc pc skip }
 {
-    let next = pc.increment();
-    if skip { next.increment() } else { next }
+    if skip {
+        address_past_next(pc)
+    } else {
+        pc.increment()
+    }
 }
 
 impl Cpu {
@@ -191,6 +205,7 @@ impl Cpu {
     }
 
     /// A memory reference.
+    #[inline(always)]
     fn refer(&mut self, word: Word)
         requires { kind_of (meaning_of self.old.profile self.old.pc word) ≡ IsMemory }
         ensures does { Does (meaning_of self.old.profile self.old.pc word) (state_of self.old) Silent (state_of self.new) }
@@ -207,6 +222,7 @@ impl Cpu {
     }
 
     /// A word of group 1.
+    #[inline(never)]
     fn operate_first(&mut self, word: Word)
         requires { kind_of (meaning_of self.old.profile self.old.pc word) ≡ Operate1 }
         ensures does { Does (meaning_of self.old.profile self.old.pc word) (state_of self.old) Silent (state_of self.new) }
@@ -219,6 +235,7 @@ impl Cpu {
     }
 
     /// A word of group 2.
+    #[inline(never)]
     fn operate_second(&mut self, word: Word, switches: Word)
         requires { kind_of (meaning_of self.old.profile self.old.pc word) ≡ Operate2 }
         ensures does { Does (meaning_of self.old.profile self.old.pc word) (state_of self.old) (if reads_switches_of word then Switches switches else Silent) (state_of self.new) }
@@ -229,6 +246,7 @@ impl Cpu {
     }
 
     /// A word of group 3.
+    #[inline(never)]
     fn operate_third(&mut self, word: Word)
         requires { kind_of (meaning_of self.old.profile self.old.pc word) ≡ Operate3 }
         ensures does { Does (meaning_of self.old.profile self.old.pc word) (state_of self.old) Silent (state_of self.new) }
@@ -254,6 +272,7 @@ impl Cpu {
     /// A word that the machine of this profile doesn't have changes nothing and is given back in
     /// `Unsupported`. After `Halted` the program counter has moved on: the next step is what
     /// CONTINUE leads to.
+    #[inline(always)]
     pub fn step<B: Bus>(&mut self, bus: &mut B) -> Outcome
         // By the table, with the answer that the bus gave.
         ensures happened { Happened result self.old.profile (state_of self.old) (answer_taken (instruction self.old.profile (state_of self.old)) (B.answer_to bus.old (cell_of self.old.memory self.old.pc)) (B.switch_word bus.old)) (state_of self.new) }

@@ -1,0 +1,20 @@
+-- What a part of a source is.
+use Rattle.std.specs.Prelude.{◌≡◌, ℕ, List, length, take}
+use Rattle.pal_text.specs.declared.tokens.Token.{Token}
+use Rattle.pal_text.specs.declared.cut.Statement.{Statement}
+use Rattle.pal_text.specs.declared.cut.Ending.{Ending}
+use Rattle.pal_text.specs.declared.lines.Line.{Line}
+use Rattle.pal_text.specs.Names.{part_tokens}
+use Rattle.pal_text.specs.Statements.{pieces, closed, Stand, Breaks}
+use Rattle.pal_text.specs.Lines.{all_lines}
+
+-- These bytes are a part with these tokens, statements, lines and this ending.
+pub record IsPart (source : List ℕ) (tokens : List Token) (statements : List Statement) (lines : List Line) (ending : Ending) : Type 0 where
+  pub stop : ℕ
+  pub tokens_are : tokens ≡ part_tokens source
+  pub statements_are : Stand tokens (length source) (pieces 0 0 tokens) statements (closed ending stop)
+  pub lines_are : lines ≡ all_lines (take stop source)
+
+-- The first statement of these bytes that has no form is on this line.
+abbrev pub IsIllegal : List ℕ → ℕ → Type 0
+IsIllegal source line = Breaks (part_tokens source) (pieces 0 0 (part_tokens source)) line

@@ -3,3 +3,7 @@ pub mod Readings
 pub mod NamesLemmas
 pub mod InPlace
 pub mod Cuts
+pub mod Rises
+pub mod Ends
+pub mod Unique
+pub mod Told

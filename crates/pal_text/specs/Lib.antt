@@ -6,3 +6,4 @@ pub mod Reading
 pub mod Statements
 pub mod Lines
 pub mod Parts
+pub mod Order

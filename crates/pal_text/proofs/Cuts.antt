@@ -44,7 +44,7 @@ reached_same tokens size first at statements d h e r =
     record {
       stands = λ ss c s. r.stands ss c (let P : List Piece → Type 0 = λ ps. Stand tokens size ps ss c in subst P same s);
       breaks = λ n b. r.breaks n (let P : List Piece → Type 0 = λ ps. Breaks tokens ps n in subst P same b);
-      forward = omega (arith, r.forward)
+      forward = omega (arith, r.forward);
     }
 
 -- what the code makes of a piece
@@ -63,14 +63,14 @@ reached_more tokens size first at statements d s h e is goes r =
     let same : piece first at t ∷ left tokens (at + 1) (at + 1) ≡ left tokens first at = sym (left_piece tokens first at d h e) in
     record {
       stands = λ ss c later.
-        (let G : Option Close → Type 0 = λ o. Goes o ss c (Stand tokens size (left tokens (at + 1) (at + 1)) ss c) in
-        let P : List Piece → Type 0 = λ ps. Stand tokens size ps (made first at t s ∷ ss) c in
-        let Q : List Statement → Type 0 = λ all. Stand tokens size (pieces 0 0 tokens) all c in
-        subst Q (sym (append_assoc statements (made first at t s ∷ []) ss)) (r.stands (made first at t s ∷ ss) c (subst P same (fills, subst G (sym goes) later))));
+          (let G : Option Close → Type 0 = λ o. Goes o ss c (Stand tokens size (left tokens (at + 1) (at + 1)) ss c) in
+          let P : List Piece → Type 0 = λ ps. Stand tokens size ps (made first at t s ∷ ss) c in
+          let Q : List Statement → Type 0 = λ all. Stand tokens size (pieces 0 0 tokens) all c in
+          subst Q (sym (append_assoc statements (made first at t s ∷ []) ss)) (r.stands (made first at t s ∷ ss) c (subst P same (fills, subst G (sym goes) later))));
       breaks = λ n later.
-        (let P : List Piece → Type 0 = λ ps. Breaks tokens ps n in
-        r.breaks n (subst P same (inr (record { statement = made first at t s; fills = fills; goes_on = goes }, later))));
-      forward = omega arith
+          (let P : List Piece → Type 0 = λ ps. Breaks tokens ps n in
+          r.breaks n (subst P same (inr (record { statement = made first at t s; fills = fills; goes_on = goes }, later))));
+      forward = omega arith;
     }
 
 -- the part ends by a statement

@@ -7,3 +7,4 @@ pub mod Rises
 pub mod Ends
 pub mod Unique
 pub mod Told
+pub mod Placed

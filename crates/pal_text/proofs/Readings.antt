@@ -88,10 +88,10 @@ body_means (k ∷ j ∷ ks) f h = elim (cases_Bool (is_star k)) [
       (sym (ap (λ t. if t then if_expression (j ∷ ks) form.Origin else (if is_name k && is_equals j then if_expression ks form.Assign else if_expression (k ∷ j ∷ ks) form.Word)) star) ∙ h)
   | inr no_star ↦ (let h' : (if is_name k && is_equals j then if_expression ks form.Assign else if_expression (k ∷ j ∷ ks) form.Word) ≡ Some f = sym (ap (λ t. if t then if_expression (j ∷ ks) form.Origin else (if is_name k && is_equals j then if_expression ks form.Assign else if_expression (k ∷ j ∷ ks) form.Word)) no_star) ∙ h in
       elim (cases_Bool (is_name k && is_equals j)) [
-      | inl assigned ↦ means_expression (k ∷ j ∷ ks) ks f form.Assign (assign k ks) (ap (λ x. k ∷ x ∷ ks) (is_equals-Equals j (both (is_name k) (is_equals j) assigned).1)) (λ e. ((both (is_name k) (is_equals j) assigned).0, e)) refl
-          (sym (ap (λ t. if t then if_expression ks form.Assign else if_expression (k ∷ j ∷ ks) form.Word) assigned) ∙ h')
-      | inr plain ↦ means_expression (k ∷ j ∷ ks) (k ∷ j ∷ ks) f form.Word (word (k ∷ j ∷ ks)) refl (λ e. e) refl
-          (sym (ap (λ t. if t then if_expression ks form.Assign else if_expression (k ∷ j ∷ ks) form.Word) plain) ∙ h')
+        | inl assigned ↦ means_expression (k ∷ j ∷ ks) ks f form.Assign (assign k ks) (ap (λ x. k ∷ x ∷ ks) (is_equals-Equals j (both (is_name k) (is_equals j) assigned).1)) (λ e. ((both (is_name k) (is_equals j) assigned).0, e)) refl
+            (sym (ap (λ t. if t then if_expression ks form.Assign else if_expression (k ∷ j ∷ ks) form.Word) assigned) ∙ h')
+        | inr plain ↦ means_expression (k ∷ j ∷ ks) (k ∷ j ∷ ks) f form.Word (word (k ∷ j ∷ ks)) refl (λ e. e) refl
+            (sym (ap (λ t. if t then if_expression ks form.Assign else if_expression (k ∷ j ∷ ks) form.Word) plain) ∙ h')
       ])
 ]
 
@@ -108,9 +108,12 @@ tag_then k j ks n read t f =
     let q : j ≡ Comma = is_comma-Comma j (both (is_name k) (is_comma j) t).1 in
     let place : (n + 1) + length f.names ≡ n + length (k ∷ f.names) = omega arith in
     record {
-      names = k ∷ f.names; does = f.does; spells = λ x. k ∷ q x ∷ f.spells x;
-      names_are = ((both (is_name k) (is_comma j) t).0, f.names_are); body_is = f.body_is;
-      is = f.is ∙ (λ x. record { tags = place x; form = form_of f.does })
+      names = k ∷ f.names;
+      does = f.does;
+      spells = λ x. k ∷ q x ∷ f.spells x;
+      names_are = ((both (is_name k) (is_comma j) t).0, f.names_are);
+      body_is = f.body_is;
+      is = f.is ∙ (λ x. record { tags = place x; form = form_of f.does });
     }
 
 found : (ks : List Kind) (n : ℕ) (read : Shape) → shape n ks ≡ Some read → Found ks n read
@@ -175,7 +178,7 @@ begins_by_sign : (k j : Kind) → is_sign k ≡ true → Begins k j
 begins_by_sign k j s = record {
   no_star = sign_no_star k s;
   no_tag = first_fails (is_name k) (is_comma j) (sign_no_name k s);
-  no_value = first_fails (is_name k) (is_equals j) (sign_no_name k s)
+  no_value = first_fails (is_name k) (is_equals j) (sign_no_name k s);
 }
 
 begins_by_term : (k j : Kind) (ks : List Kind) → is_terms (k ∷ j ∷ ks) ≡ true → Begins k j
@@ -184,7 +187,7 @@ begins_by_term k j ks h =
     record {
       no_star = term_no_star k front.0;
       no_tag = second_fails (is_name k) (is_comma j) (joiner_no_comma j front.1);
-      no_value = second_fails (is_name k) (is_equals j) (joiner_no_equals j front.1)
+      no_value = second_fails (is_name k) (is_equals j) (joiner_no_equals j front.1);
     }
 
 begins : (k j : Kind) (ks : List Kind) → is_expression (k ∷ j ∷ ks) ≡ true → Begins k j

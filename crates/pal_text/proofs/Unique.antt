@@ -20,8 +20,8 @@ some_same x y e = cc
 shape_of_fills : (tokens : List Token) (p : Piece) (s t : Statement) → Fills tokens p s → Fills tokens p t → (s.tags ≡ t.tags) × (s.form ≡ t.form)
 shape_of_fills tokens p s t f g =
     let e : record { tags = s.tags; form = s.form } ≡ record { tags = t.tags; form = t.form } =
-      some_same {X = Shape} (record { tags = s.tags; form = s.form }) (record { tags = t.tags; form = t.form })
-      (sym (shape_complete (kinds (own tokens p)) s.tags s.form f.reads) ∙ shape_complete (kinds (own tokens p)) t.tags t.form g.reads) in
+    some_same {X = Shape} (record { tags = s.tags; form = s.form }) (record { tags = t.tags; form = t.form })
+    (sym (shape_complete (kinds (own tokens p)) s.tags s.form f.reads) ∙ shape_complete (kinds (own tokens p)) t.tags t.form g.reads) in
     (let tags_in : Shape → ℕ = λ x. x.tags in ap tags_in e, let form_in : Shape → Form = λ x. x.form in ap form_in e)
 
 -- a piece is one statement
@@ -84,7 +84,7 @@ agrees source tokens tokens' ss ss' lines lines' e e' h k =
       tokens_are = sym same;
       statements_are = r.0;
       lines_are = h.lines_are ∙ ap (λ n. all_lines (take n source)) (ap stop_in r.1) ∙ sym k.lines_are;
-      ending_is = ap ending_in r.1
+      ending_is = ap ending_in r.1;
     }
 
 -- a part that has a reading has no fault

@@ -65,7 +65,10 @@ fn equals(kind: Kind) -> bool
 fn named(kind: Kind) -> bool
     ensures { result ≡ is_name kind }
 {
-    matches!(kind, Kind::Symbol | Kind::Decimal | Kind::Octal | Kind::Pause)
+    matches!(
+        kind,
+        Kind::Symbol | Kind::Decimal | Kind::Octal | Kind::Pause
+    )
 }
 
 fn tag(first: Kind, second: Kind) -> bool
@@ -126,7 +129,11 @@ fn body_of(tokens: &[Token]) -> Option<Form>
         }
         _ => (Form::Word, tokens),
     };
-    if expression(operand) { Some(form) } else { None }
+    if expression(operand) {
+        Some(form)
+    } else {
+        None
+    }
 }
 
 /// What the tokens of a statement are; none where they are no statement.

@@ -6,19 +6,21 @@
 #![tactic(auto)]
 
 pub mod characters;
-pub mod tokens;
-pub mod names;
-pub mod grammar;
 pub mod cut;
-pub mod lines;
 pub mod fault;
+pub mod grammar;
+pub mod lines;
+pub mod names;
 pub mod part;
+pub mod tokens;
 
 pub use cut::{Ending, Statement};
+pub use fault::TextFault;
 pub use grammar::Form;
 pub use lines::Line;
 pub use names::Name;
-pub use fault::TextFault;
 pub use part::{LONGEST, Part, statements};
 pub use tokens::{Kind, Token};
 
+#[cfg(test)]
+mod tests;

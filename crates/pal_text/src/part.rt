@@ -2,7 +2,7 @@
 
 ghost use Rattle.std.specs.Prelude.{◌≡◌, ◌↔◌, ◌≤◌, ◌<◌, length, reverse, slice_range, IfOk, IfErr, MatchResult, Err, ℕ, List};
 ghost use Rattle.std.specs.List.{AllByRecursion};
-ghost use Rattle.pal_text.specs.Order.{IsOrdered};
+ghost use Rattle.pal_text.specs.Order.{IsOrdered, IsPlaced, IsLineWithin};
 ghost use Rattle.pal_text.specs.Names.{IsWithin, bytes_of, part_tokens};
 ghost use Rattle.pal_text.specs.Statements.{IsFault};
 ghost use Rattle.pal_text.specs.Parts.{IsPart, IsIllegal, Agrees, IsSilent, TellsOnly};
@@ -43,8 +43,7 @@ impl<'s, A: Allocator + Copy> Part<'s, A> {
 
     /// The tokens of a statement: each of its tags and a comma, and then what it does.
     pub fn tokens_of(&self, statement: Statement) -> &[Token]
-        requires forward { statement.first ≤ statement.last }
-        requires inside { statement.last ≤ length self.now.tokens.items }
+        requires { IsPlaced self.now.tokens.items statement }
         ensures { result.now ≡ slice_range self.now.tokens.items statement.first statement.last }
     {
         &self.tokens[statement.first..statement.last]
@@ -52,8 +51,7 @@ impl<'s, A: Allocator + Copy> Part<'s, A> {
 
     /// The bytes of a line, as a slice of the source.
     pub fn line_bytes(&self, line: Line) -> &'s [u8]
-        requires forward { line.start ≤ line.end }
-        requires inside { line.end ≤ length self.now.source.now }
+        requires { IsLineWithin (length self.now.source.now) line }
         ensures { result.now ≡ slice_range self.now.source.now line.start line.end }
     {
         &self.source[line.start..line.end]
@@ -71,10 +69,7 @@ fn part_tokens_of<A: Allocator>(alloc: A, source: &[u8]) -> Result<Vec<Token, A>
 }
 
 /// Reads a part that isn't too long.
-fn read_part<'s, A: Allocator + Copy>(
-    alloc: A,
-    source: &'s [u8],
-) -> Result<Part<'s, A>, TextFault>
+fn read_part<'s, A: Allocator + Copy>(alloc: A, source: &'s [u8]) -> Result<Part<'s, A>, TextFault>
     requires { length source.now ≤ 65536 }
     ensures source { IfOk result (λ part. part.source.now ≡ source.now) }
     ensures part { IfOk result (λ part. IsPart source.now part.tokens.items part.statements.items part.lines.items part.ending) }
@@ -110,6 +105,8 @@ pub fn statements<'s, A: Allocator + Copy>(
     ensures part { IfOk result (λ part. IsPart source.now part.tokens.items part.statements.items part.lines.items part.ending) }
     ensures in_order { IfOk result (λ part. IsOrdered (length source.now) (reverse part.tokens.items)) }
     ensures within { IfOk result (λ part. AllByRecursion (IsWithin (length source.now)) part.tokens.items) }
+    ensures placed { IfOk result (λ part. AllByRecursion (IsPlaced part.tokens.items) part.statements.items) }
+    ensures lines_within { IfOk result (λ part. AllByRecursion (IsLineWithin (length source.now)) part.lines.items) }
     ensures too_long { (result ≡ Err TextFault.TooLong) ↔ (65536 < length source.now) }
     ensures part_told { (tokens : List Tokened) (told : List Stated) (lines : List Lined) (ending : Ended) → IsPart source.now tokens told lines ending → MatchResult result (λ part. Agrees part.tokens.items part.statements.items part.lines.items part.ending tokens told lines ending) IsSilent }
     ensures illegal_told { (line : ℕ) → IsIllegal source.now line → MatchResult result (λ _. ⊥) (TellsOnly line) }

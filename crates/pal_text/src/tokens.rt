@@ -180,10 +180,7 @@ fn grow<A: Allocator>(
 }
 
 /// The tokens of a part in order, its end as the last of them.
-pub(crate) fn tokens_of<A: Allocator>(
-    alloc: A,
-    source: &[u8],
-) -> Result<Vec<Token, A>, AllocError>
+pub(crate) fn tokens_of<A: Allocator>(alloc: A, source: &[u8]) -> Result<Vec<Token, A>, AllocError>
     requires { length source.now ≤ 65536 }
     ensures { IfOk result (λ out. out.items ≡ all_tokens source.now) }
 {

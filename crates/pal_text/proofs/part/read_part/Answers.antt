@@ -12,4 +12,4 @@ slice_bounds-lines_of-end g c =
     let P : List Token → Type 0 = λ ts. AllByRecursion (IsWithin (length c.args.source.now)) ts in
     sym (length-take-le c.in_ok-cut.cut.close.stop c.args.source.now
     (stop_within c.deref.result.now (length c.args.source.now) c.in_ok-cut.cut.statements.items c.in_ok-cut.cut.close
-      (subst P (sym (c.deref.ensures.value ∙ c.in-Ok.ensures)) (part_tokens_within c.args.source.now)) c.in_ok-cut.ensures.statements))
+    (subst P (sym (c.deref.ensures.value ∙ c.in-Ok.ensures)) (part_tokens_within c.args.source.now)) c.in_ok-cut.ensures.statements))

@@ -1,7 +1,9 @@
 use Rattle.std.specs.Prelude.{length, reverse}
 use Rattle.std.specs.List.{AllByRecursion}
 use Rattle.pal_text.specs.Names.{IsWithin, part_tokens}
-use Rattle.pal_text.specs.Order.{IsOrdered}
+use Rattle.pal_text.specs.Order.{IsOrdered, IsPlaced, IsLineWithin}
+use Rattle.pal_text.specs.Statements.{closed}
+use Rattle.pal_text.proofs.Placed.{placed_by, lines_within_by}
 use Rattle.pal_text.specs.Statements.{IsFault}
 use Rattle.pal_text.specs.Parts.{IsPart, Agrees, IsSilent, TellsOnly}
 use Rattle.pal_text.proofs.Unique.{agrees, no_fault}
@@ -31,3 +33,13 @@ returns-clause-illegal_told g c line k =
     (λ part. ⊥) (IsFault (part_tokens c.args.source.now)) (TellsOnly line)
     c.read_part.ensures.part c.read_part.ensures.fault (λ part h. no_fault c.args.source.now part.tokens.items part.statements.items part.lines.items part.ending line h k)
     (tells_only c.args.source.now line k)
+
+pub returns-clause-placed : goal.returns-clause-placed
+returns-clause-placed g c =
+    ok_also c.read_part.result (λ part. IsPart c.args.source.now part.tokens.items part.statements.items part.lines.items part.ending) (λ part. AllByRecursion (IsPlaced part.tokens.items) part.statements.items)
+    c.read_part.ensures.part (λ part h. placed_by part.tokens.items (length c.args.source.now) part.statements.items (closed part.ending h.stop) h.statements_are)
+
+pub returns-clause-lines_within : goal.returns-clause-lines_within
+returns-clause-lines_within g c =
+    ok_also c.read_part.result (λ part. IsPart c.args.source.now part.tokens.items part.statements.items part.lines.items part.ending) (λ part. AllByRecursion (IsLineWithin (length c.args.source.now)) part.lines.items)
+    c.read_part.ensures.part (λ part h. lines_within_by c.args.source.now h.stop part.lines.items h.lines_are)

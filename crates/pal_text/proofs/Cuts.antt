@@ -1,16 +1,14 @@
 -- The statements of a part, piece by piece.
-use Rattle.std.proofs.Common.{◌≡◌, ◌∙◌, sym, ap, refl, subst, ℕ, ◌+◌, ◌-◌, ◌<◌, ◌≤◌, List, [], ◌∷◌, ◌++◌, Bool, true, false, if◌then◌else◌, Option, Some, None, inl, inr, arith, length, take, drop, get_or, append_assoc}
+use Rattle.std.proofs.Common.{◌≡◌, ◌∙◌, sym, ap, refl, subst, ℕ, ◌+◌, ◌<◌, ◌≤◌, List, [], ◌∷◌, ◌++◌, Bool, true, false, if◌then◌else◌, Option, Some, None, inl, inr, arith, length, drop, get_or, append_assoc}
 use Rattle.std.specs.Prelude.{slice_range}
 use Rattle.std.proofs.lemmas.List.{drop_more, drop_all, append-nil}
 use Rattle.pal_text.specs.declared.tokens.Token.{Token}
-use Rattle.pal_text.specs.declared.grammar.Form.{Form}
 use Rattle.pal_text.specs.declared.grammar.Shape.{Shape}
 use Rattle.pal_text.specs.declared.cut.Statement.{Statement}
 use Rattle.pal_text.specs.declared.cut.Ending.TheVariants as ending
 use Rattle.pal_text.specs.declared.cut.Close.{Close}
-use Rattle.pal_text.specs.Grammar.{IsStatement}
 use Rattle.pal_text.specs.Reading.{kinds, shape}
-use Rattle.pal_text.specs.Statements.{is_end, Piece, piece, pieces, own, Fills, IsNone, closing, closed, Goes, Stand, Passes, Breaks}
+use Rattle.pal_text.specs.Statements.{is_end, Piece, piece, pieces, own, Fills, IsNone, closing, closed, Goes, Stand, Breaks}
 use Rattle.pal_text.proofs.Readings.{shape_sound, shape_complete}
 
 -- the pieces that are left, where the tokens before the place `at` were read and the piece there begins at `first`

@@ -1,5 +1,5 @@
 -- A list changed in place, element by element.
-use Rattle.std.proofs.Common.{◌≡◌, ◌∙◌, sym, ap, ℕ, suc, ◌+◌, ◌<◌, List, [], ◌∷◌, ◌++◌, arith, length, take, drop, set, get_or, append_assoc, min}
+use Rattle.std.proofs.Common.{◌≡◌, ◌∙◌, sym, ap, ℕ, ◌+◌, ◌<◌, List, [], ◌∷◌, ◌++◌, arith, length, take, drop, set, get_or, append_assoc}
 use Rattle.std.specs.Prelude.{map}
 use Rattle.std.proofs.lemmas.List.{drop_more, get_or_at, set_at, map_more, length-map, length-take-le}
 

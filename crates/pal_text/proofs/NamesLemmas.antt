@@ -1,5 +1,5 @@
 -- The first six characters of a symbol, one by one.
-use Rattle.std.proofs.Common.{◌≡◌, ◌∙◌, sym, ap, refl, ℕ, zero, suc, ◌+◌, ◌<◌, ◌≤◌, List, [], ◌∷◌, ◌++◌, Bool, true, false, cond, arith, length, take, set, get_or, append_assoc, subst, inl, inr}
+use Rattle.std.proofs.Common.{◌≡◌, ◌∙◌, sym, ap, ℕ, zero, suc, ◌+◌, ◌<◌, ◌≤◌, List, [], ◌∷◌, ◌++◌, true, false, cond, arith, length, take, set, get_or, append_assoc, subst, inl, inr}
 use Rattle.std.specs.Prelude.{replicate, filter, map}
 use Rattle.std.proofs.lemmas.List.{take_more, map_push, take-append-le, take-replicate, append-nil, length_push}
 use Rattle.std.proofs.lemmas.List.Elements.{filter-append}

@@ -1,10 +1,10 @@
 -- What is read from the kinds of a statement is what the grammar spells, and all that it spells.
-use Rattle.std.proofs.Common.{◌≡◌, ◌∙◌, sym, ap, refl, ℕ, zero, suc, ◌+◌, List, [], ◌∷◌, Bool, true, false, ◌&&◌, if◌then◌else◌, Option, Some, None, ◌⊎◌, inl, inr, arith, ◌≤◌, ◌-◌, length, take, drop, get_or}
+use Rattle.std.proofs.Common.{◌≡◌, ◌∙◌, sym, ap, refl, ℕ, ◌+◌, List, [], ◌∷◌, Bool, true, false, ◌&&◌, if◌then◌else◌, Option, Some, None, inl, inr, arith, ◌≤◌, ◌-◌, length, take, drop, get_or}
 use Rattle.std.proofs.lemmas.List.{take_all}
 use Rattle.std.proofs.lemmas.Bool.{cases_Bool}
 use Rattle.std.specs.List.{AllByRecursion}
 use Rattle.pal_text.specs.declared.tokens.Kind.{Kind}
-use Rattle.pal_text.specs.declared.tokens.Kind.TheVariants.{Symbol, Decimal, Octal, Pause, Number, Here, Space, Comma, Equals, Plus, Minus, Star}
+use Rattle.pal_text.specs.declared.tokens.Kind.TheVariants.{Decimal, Octal, Pause, Comma, Equals, Plus, Minus, Star}
 use Rattle.pal_text.specs.declared.tokens.Token.{Token}
 use Rattle.pal_text.specs.declared.grammar.Form.{Form}
 use Rattle.pal_text.specs.declared.grammar.Form.TheVariants as form

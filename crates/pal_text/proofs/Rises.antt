@@ -1,6 +1,6 @@
 -- Tokens stand in order and within the part.
-use Rattle.std.proofs.Common.{◌≡◌, ◌∙◌, sym, ap, refl, subst, ℕ, ◌+◌, ◌-◌, ◌<◌, ◌≤◌, List, [], ◌∷◌, ◌++◌, Bool, true, false, ◌||◌, ◌&&◌, if◌then◌else◌, Option, Some, None, inl, inr, arith, length, take, drop, zero, suc}
-use Rattle.std.specs.Prelude.{nat_eq, reverse, map, slice_range}
+use Rattle.std.proofs.Common.{◌≡◌, ◌∙◌, sym, ap, refl, subst, ℕ, ◌+◌, ◌≤◌, List, [], ◌∷◌, ◌++◌, Bool, ◌||◌, ◌&&◌, if◌then◌else◌, Option, Some, None, inl, inr, arith, length, take, drop, zero, suc}
+use Rattle.std.specs.Prelude.{nat_eq, reverse, map}
 use Rattle.std.specs.List.{AllByRecursion}
 use Rattle.std.proofs.lemmas.Bool.{cases_Bool}
 use Rattle.std.proofs.lemmas.List.{length-reverse, reverse-reverse, map-append, take_at}

@@ -11,7 +11,7 @@ use Rattle.pal_text.specs.Lines.{all_lines}
 use Rattle.pal_text.specs.Names.{part_tokens}
 use Rattle.pal_text.specs.Parts.{IsPart, IsIllegal, Agrees}
 use Rattle.pal_text.specs.Reading.{kinds}
-use Rattle.pal_text.specs.Statements.{Piece, own, Fills, IsNone, closing, closed, pieces, Goes, Stand, Passes, Breaks}
+use Rattle.pal_text.specs.Statements.{Piece, own, Fills, closing, closed, pieces, Goes, Stand, Breaks}
 use Rattle.pal_text.proofs.Readings.{shape_complete}
 
 some_same : {X : Type 0} (x y : X) → Some x ≡ Some y → x ≡ y

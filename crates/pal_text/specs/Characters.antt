@@ -1,5 +1,5 @@
 -- The characters and lines of a part. A list of bytes has the newest first here: each byte is judged by what stands before it.
-use Rattle.std.specs.Prelude.{ℕ, ◌+◌, ◌%◌, Bool, true, false, ◌||◌, ◌&&◌, not, if◌then◌else◌, List, [], ◌∷◌, nat_eq, nat_le, filter, map}
+use Rattle.std.specs.Prelude.{ℕ, ◌+◌, ◌%◌, Bool, true, false, ◌||◌, not, if◌then◌else◌, List, [], ◌∷◌, nat_eq, filter, map}
 use Rattle.pal_text.specs.declared.characters.Meaning.{Meaning}
 use Rattle.pal_text.specs.declared.characters.Meaning.TheVariants.{Ignored, LineEnd, Character}
 

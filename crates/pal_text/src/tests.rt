@@ -4,24 +4,17 @@ use super::*;
 use crate::characters::is_character_code;
 use std::test::Fail;
 
-/// The forms of the statements of a part, one letter each.
-fn forms<'a>(statements: &[Statement], out: &'a mut [u8; 16]) -> &'a [u8] {
-    let mut count = 0;
-    for statement in statements {
-        if count < 16 {
-            out[count] = match statement.form {
-                Form::Empty => b'.',
-                Form::Origin => b'*',
-                Form::Assign => b'=',
-                Form::Decimal => b'D',
-                Form::Octal => b'O',
-                Form::Pause => b'P',
-                Form::Word => b'w',
-            };
-            count += 1;
-        }
+/// A letter for a form.
+fn letter(form: Form) -> u8 {
+    match form {
+        Form::Empty => b'.',
+        Form::Origin => b'*',
+        Form::Assign => b'=',
+        Form::Decimal => b'D',
+        Form::Octal => b'O',
+        Form::Pause => b'P',
+        Form::Word => b'w',
     }
-    &out[..count]
 }
 
 #[test]
@@ -45,9 +38,11 @@ fn statements_have_forms(rt: HostRuntime) -> Result<(), Fail> {
         (b"DECIMATE\t", b"D", Ending::Bytes),
     ];
     for (source, expected, ending) in rows {
-        let mut out = [0; 16];
         let part = statements(rt.alloc(), source)?;
-        assert_eq!(rt; forms(&part.statements, &mut out), expected);
+        assert_eq!(rt; part.statements.len(), expected.len());
+        for (statement, form) in part.statements.iter().zip(expected) {
+            assert_eq!(rt; letter(statement.form), *form);
+        }
         assert_eq!(rt; part.ending, ending);
     }
     Ok(())

@@ -1,4 +1,4 @@
-use Rattle.std.proofs.Common.{◌≡◌, ◌∙◌, sym, ap, ◌+◌}
+use Rattle.std.proofs.Common.{◌∙◌, sym, ap, ◌+◌}
 use Rattle.std.specs.Prelude.{not}
 use Rattle.pal_text.proofs.Cuts.{reached_same, reached_more, stands_closed, stands_all, breaks_here, pushed, stands_at, reached_at}
 use Rattle.pal_text.proofs.cut.cut_statements.Goals.{then-ends_statement+in-Some+else-is_err+in_default-close_of, else-ends_statement}

@@ -1,4 +1,4 @@
-use Rattle.std.proofs.Common.{◌≡◌, ◌∙◌, rules, sym}
+use Rattle.std.proofs.Common.{◌∙◌, rules, sym}
 use Rattle.pal_text.proofs.Readings.{strip}
 use Rattle.pal_text.proofs.grammar.shape_of.Goals as goal
 

@@ -1,4 +1,4 @@
-use Rattle.std.proofs.Common.{◌≡◌, ◌≤◌, ◌+◌, take}
+use Rattle.std.proofs.Common.{◌≡◌, ◌≤◌, take}
 use Rattle.std.specs.Prelude.{reverse}
 use Rattle.pal_text.specs.Characters.{returned}
 use Rattle.pal_text.specs.Lines.{ended_lines, line_start, is_begun}

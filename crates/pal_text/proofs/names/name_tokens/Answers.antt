@@ -1,4 +1,4 @@
-use Rattle.std.proofs.Common.{◌≡◌, ◌∙◌, ap, set}
+use Rattle.std.proofs.Common.{◌∙◌, ap, set}
 use Rattle.pal_text.specs.Names.{named}
 use Rattle.pal_text.proofs.InPlace.{in_place_more}
 use Rattle.pal_text.proofs.names.name_tokens.Goals as goal

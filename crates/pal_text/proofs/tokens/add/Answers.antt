@@ -1,4 +1,4 @@
-use Rattle.std.proofs.Common.{◌≡◌, ◌∙◌, sym, arith}
+use Rattle.std.proofs.Common.{◌∙◌, sym, arith}
 use Rattle.pal_text.proofs.Grows.{grow_one, grow_both}
 use Rattle.pal_text.proofs.tokens.add.Goals as goal
 

@@ -1,4 +1,4 @@
-use Rattle.std.proofs.Common.{◌≡◌, ◌≤◌, ◌+◌, take, length}
+use Rattle.std.proofs.Common.{◌≡◌, ◌≤◌, ◌+◌, take}
 use Rattle.std.specs.Prelude.{reverse}
 use Rattle.pal_text.specs.Characters.{line, returned, in_comment}
 use Rattle.pal_text.specs.Tokens.{tokens}

@@ -1,4 +1,4 @@
-use Rattle.std.proofs.Common.{◌≡◌, ◌∙◌, ◌+◌, sym, take, get_or, set}
+use Rattle.std.proofs.Common.{◌∙◌, ◌+◌, sym, take, get_or}
 use Rattle.pal_text.specs.Characters.{characters, code}
 use Rattle.pal_text.proofs.NamesLemmas.{six_same, six_put, six_past, six_at, characters_more, characters_same}
 use Rattle.pal_text.proofs.names.Name.new.Goals.{then-count-lt6+then-is_character_code, else-count-lt6, else-count-lt6-via-then-count-lt6+else-is_character_code, else-count-lt6-via-else-count-lt6}

@@ -1,0 +1,10 @@
+pub mod Grows
+pub mod Readings
+pub mod NamesLemmas
+pub mod InPlace
+pub mod Cuts
+pub mod Rises
+pub mod Ends
+pub mod Unique
+pub mod Told
+pub mod Placed

@@ -1,0 +1,86 @@
+-- Statements stand among the tokens, and lines within the bytes.
+use Rattle.std.proofs.Common.{◌≡◌, sym, subst, ℕ, ◌+◌, ◌<◌, ◌≤◌, List, [], ◌∷◌, Bool, if◌then◌else◌, Option, Some, None, inl, inr, arith, length, take}
+use Rattle.std.specs.Prelude.{reverse}
+use Rattle.std.specs.List.{AllByRecursion}
+use Rattle.std.proofs.lemmas.Bool.{cases_Bool}
+use Rattle.std.proofs.lemmas.List.{length-reverse, length-take}
+use Rattle.pal_text.specs.declared.characters.Meaning.{Meaning}
+use Rattle.pal_text.specs.declared.characters.Meaning.TheVariants.{Ignored, LineEnd, Character}
+use Rattle.pal_text.specs.declared.tokens.Token.{Token}
+use Rattle.pal_text.specs.declared.cut.Statement.{Statement}
+use Rattle.pal_text.specs.declared.cut.Close.{Close}
+use Rattle.pal_text.specs.declared.lines.Line.{Line}
+use Rattle.pal_text.specs.Characters.{meaning_after}
+use Rattle.pal_text.specs.Lines.{line_start, is_begun, ended_lines, line_of, lines, all_lines, start_by, lines_by}
+use Rattle.pal_text.specs.Order.{IsPlaced, IsLineWithin}
+use Rattle.pal_text.specs.Statements.{is_end, Piece, piece, pieces, own, closing, Goes, Stand}
+use Rattle.pal_text.proofs.Rises.{all_reverse}
+
+-- a piece stands before so many tokens
+record IsBefore (n : ℕ) (p : Piece) : Type 0 where
+  forward : p.first ≤ p.last
+  inside : p.last < n
+
+pieces_before : (n first at : ℕ) (ts : List Token) → first ≤ at → at + length ts ≤ n → AllByRecursion (IsBefore n) (pieces first at ts)
+pieces_before n first at [] f h = tt
+pieces_before n first at (t ∷ ts) f h = elim (cases_Bool (is_end t.kind)) [
+  | inl ends ↦ (let P : Bool → Type 0 = λ b. AllByRecursion (IsBefore n) (if b then piece first at t ∷ pieces (at + 1) (at + 1) ts else pieces first (at + 1) ts) in
+      subst P (sym ends) (record { forward = f; inside = omega arith }, pieces_before n (at + 1) (at + 1) ts (omega arith) (omega arith)))
+  | inr other ↦ (let P : Bool → Type 0 = λ b. AllByRecursion (IsBefore n) (if b then piece first at t ∷ pieces (at + 1) (at + 1) ts else pieces first (at + 1) ts) in
+      subst P (sym other) (pieces_before n first (at + 1) ts (omega arith) (omega arith)))
+]
+
+goes_placed : (tokens : List Token) (o : Option Close) (ss : List Statement) (c : Close) (rest : Type 0) → (rest → AllByRecursion (IsPlaced tokens) ss) → Goes o ss c rest → AllByRecursion (IsPlaced tokens) ss
+goes_placed tokens None ss c rest k h = k h
+goes_placed tokens (Some d) ss c rest k h = let P : List Statement → Type 0 = λ l. AllByRecursion (IsPlaced tokens) l in subst P (sym h.0) tt
+
+stands_placed : (tokens : List Token) (size : ℕ) (ps : List Piece) (ss : List Statement) (c : Close) → AllByRecursion (IsBefore (length tokens)) ps → Stand tokens size ps ss c → AllByRecursion (IsPlaced tokens) ss
+stands_placed tokens size [] [] c all h = tt
+stands_placed tokens size [] (s ∷ ss) c all h = absurd h
+stands_placed tokens size (p ∷ ps) [] c all h = absurd h
+stands_placed tokens size (p ∷ ps) (s ∷ ss) c all h = (
+  record { forward = omega (arith, h.0.first, h.0.last, all.0.forward); inside = omega (arith, h.0.last, all.0.inside) },
+  goes_placed tokens (closing (own tokens p) p.mark s.form) ss c (Stand tokens size ps ss c) (stands_placed tokens size ps ss c all.1) h.1,
+)
+
+pub placed_by : (tokens : List Token) (size : ℕ) (ss : List Statement) (c : Close) → Stand tokens size (pieces 0 0 tokens) ss c → AllByRecursion (IsPlaced tokens) ss
+placed_by tokens size ss c h = stands_placed tokens size (pieces 0 0 tokens) ss c (pieces_before (length tokens) 0 0 tokens (omega arith) (omega arith)) h
+
+start_by_within : (start n : ℕ) (m : Meaning) → start ≤ n → start_by start (n + 1) m ≤ n + 1
+start_by_within start n LineEnd h = omega arith
+start_by_within start n Ignored h = omega arith
+start_by_within start n (Character c) h = omega arith
+
+start_within : (before : List ℕ) → line_start before ≤ length before
+start_within [] = omega arith
+start_within (b ∷ before) = omega (arith, start_by_within (line_start before) (length before) (meaning_after before b) (start_within before))
+
+wider : (m n : ℕ) (ls : List Line) → m ≤ n → AllByRecursion (IsLineWithin m) ls → AllByRecursion (IsLineWithin n) ls
+wider m n [] h all = tt
+wider m n (l ∷ ls) h all = (record { forward = all.0.forward; inside = omega (arith, all.0.inside) }, wider m n ls h all.1)
+
+lines_by_within : (n : ℕ) (ls : List Line) (start at : ℕ) (m : Meaning) → start ≤ at → at ≤ n → AllByRecursion (IsLineWithin n) ls → AllByRecursion (IsLineWithin n) (lines_by ls start at m)
+lines_by_within n ls start at LineEnd f h all = (record { forward = f; inside = h }, all)
+lines_by_within n ls start at Ignored f h all = all
+lines_by_within n ls start at (Character c) f h all = all
+
+ended_within : (before : List ℕ) → AllByRecursion (IsLineWithin (length before)) (ended_lines before)
+ended_within [] = tt
+ended_within (b ∷ before) = lines_by_within (length (b ∷ before)) (ended_lines before) (line_start before) (length before) (meaning_after before b) (start_within before) (omega arith)
+    (wider (length before) (length (b ∷ before)) (ended_lines before) (omega arith) (ended_within before))
+
+lines_within : (before : List ℕ) → AllByRecursion (IsLineWithin (length before)) (lines before)
+lines_within before = elim (cases_Bool (is_begun before)) [
+  | inl begun ↦ (let P : Bool → Type 0 = λ b. AllByRecursion (IsLineWithin (length before)) (if b then line_of (line_start before) (length before) ∷ ended_lines before else ended_lines before) in
+      subst P (sym begun) (record { forward = start_within before; inside = omega arith }, ended_within before))
+  | inr ended ↦ (let P : Bool → Type 0 = λ b. AllByRecursion (IsLineWithin (length before)) (if b then line_of (line_start before) (length before) ∷ ended_lines before else ended_lines before) in
+      subst P (sym ended) (ended_within before))
+]
+
+-- the lines of a front of the bytes
+pub lines_within_by : (source : List ℕ) (stop : ℕ) (ls : List Line) → ls ≡ all_lines (take stop source) → AllByRecursion (IsLineWithin (length source)) ls
+lines_within_by source stop ls e =
+    let front : List ℕ = take stop source in
+    let P : List Line → Type 0 = λ l. AllByRecursion (IsLineWithin (length source)) l in
+    subst P (sym e) (all_reverse (IsLineWithin (length source)) (lines (reverse front))
+    (wider (length (reverse front)) (length source) (lines (reverse front)) (omega (arith, length-reverse front, length-take stop source)) (lines_within (reverse front))))

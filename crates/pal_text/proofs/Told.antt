@@ -1,0 +1,43 @@
+-- What is said of each outcome of a reading follows from what is known of it.
+use Rattle.std.proofs.Common.{◌≡◌, sym, subst, Result, Ok, Err, List, ℕ, length}
+use Rattle.std.specs.Prelude.{IfOk, IfErr, MatchResult, reverse}
+use Rattle.std.specs.List.{AllByRecursion}
+use Rattle.pal_text.specs.declared.tokens.Token.{Token}
+use Rattle.pal_text.specs.declared.cut.Statement.{Statement}
+use Rattle.pal_text.specs.declared.cut.Ending.{Ending}
+use Rattle.pal_text.specs.declared.lines.Line.{Line}
+use Rattle.pal_text.specs.declared.fault.TextFault.{TextFault}
+use Rattle.pal_text.specs.declared.fault.TextFault.TheVariants.{Illegal, TooLong, NoMemory}
+use Rattle.pal_text.specs.Names.{IsWithin, part_tokens}
+use Rattle.pal_text.specs.Order.{IsOrdered}
+use Rattle.pal_text.specs.Statements.{IsFault}
+use Rattle.pal_text.specs.Parts.{IsPart, IsIllegal, IsSilent, TellsOnly}
+use Rattle.pal_text.proofs.Unique.{no_fault, one_line}
+use Rattle.pal_text.proofs.Rises.{part_tokens_within, part_tokens_ordered}
+
+pub matched : {X : Type 0} (r : Result X TextFault) (P Q : X → Type 0) (F G : TextFault → Type 0) → IfOk r P → IfErr r F → ((x : X) → P x → Q x) → ((e : TextFault) → F e → G e) → MatchResult r Q G
+matched (Ok x) P Q F G ok err p f = p x ok
+matched (Err e) P Q F G ok err p f = f e err
+
+-- a part with a reading is refused for its length or for want of memory alone
+pub silent : (source : List ℕ) (tokens : List Token) (ss : List Statement) (lines : List Line) (end : Ending) → IsPart source tokens ss lines end → (e : TextFault) → IsFault (part_tokens source) e → IsSilent e
+silent source tokens ss lines end h (Illegal n) f = no_fault source tokens ss lines end n h f
+silent source tokens ss lines end h TooLong f = tt
+silent source tokens ss lines end h NoMemory f = tt
+
+-- and one with a fault names no other line
+pub tells_only : (source : List ℕ) (line : ℕ) → IsIllegal source line → (e : TextFault) → IsFault (part_tokens source) e → TellsOnly line e
+tells_only source line h (Illegal n) f = one_line source n line f h
+tells_only source line h TooLong f = tt
+tells_only source line h NoMemory f = tt
+
+pub ok_also : {X : Type 0} (r : Result X TextFault) (P Q : X → Type 0) → IfOk r P → ((x : X) → P x → Q x) → IfOk r Q
+ok_also (Ok x) P Q h f = f x h
+ok_also (Err e) P Q h f = tt
+
+-- the tokens of a part stand within it and in order
+pub within_by : (source : List ℕ) (tokens : List Token) → tokens ≡ part_tokens source → AllByRecursion (IsWithin (length source)) tokens
+within_by source tokens e = let P : List Token → Type 0 = λ ts. AllByRecursion (IsWithin (length source)) ts in subst P (sym e) (part_tokens_within source)
+
+pub ordered_by : (source : List ℕ) (tokens : List Token) → tokens ≡ part_tokens source → IsOrdered (length source) (reverse tokens)
+ordered_by source tokens e = let P : List Token → Type 0 = λ ts. IsOrdered (length source) (reverse ts) in subst P (sym e) (part_tokens_ordered source)

@@ -1,0 +1,44 @@
+-- Symbols by their first six characters.
+use Rattle.std.specs.Prelude.{ℕ, ◌≤◌, if◌then◌else◌, List, ◌++◌, map, take, replicate, slice_range, nat_eq, codes}
+use Rattle.std.specs.Cmp.Lexicographic.{pointwise}
+use Rattle.pal_text.specs.declared.tokens.Kind.{Kind}
+use Rattle.pal_text.specs.declared.tokens.Kind.TheVariants.{Symbol, Decimal, Octal, Pause}
+use Rattle.pal_text.specs.declared.tokens.Token.{Token}
+use Rattle.pal_text.specs.Characters.{characters}
+use Rattle.pal_text.specs.Tokens.{all_tokens}
+
+-- The first six of some characters, with spaces after fewer.
+abbrev pub first_six : List ℕ → List ℕ
+first_six cs = take 6 (cs ++ replicate 6 32)
+
+-- The name of the symbol with these bytes.
+abbrev pub name : List ℕ → List ℕ
+name bytes = first_six (characters bytes)
+
+-- DECIMAL, OCTAL and PAUSE are told by their names. Every other symbol is an ordinary one.
+abbrev pub named_kind : List ℕ → Kind
+named_kind letters =
+    if pointwise nat_eq letters (codes "DECIMA") then Decimal else
+    if pointwise nat_eq letters (codes "OCTAL ") then Octal else
+    if pointwise nat_eq letters (codes "PAUSE ") then Pause else Symbol
+
+-- A token stands within so many bytes.
+pub record IsWithin (size : ℕ) (t : Token) : Type 0 where
+  pub forward : t.start ≤ t.end
+  pub inside : t.end ≤ size
+
+-- The bytes of a token.
+abbrev pub bytes_of : List ℕ → Token → List ℕ
+bytes_of source t = slice_range source t.start t.end
+
+abbrev pub with_name : List ℕ → Token → Kind → Kind
+with_name source t Symbol = named_kind (name (bytes_of source t))
+with_name source t k = k
+
+-- A token of this part with its kind told by its name, if it is a symbol.
+abbrev pub named : List ℕ → Token → Token
+named source t = record t { kind = with_name source t t.kind }
+
+-- The tokens of a part in order, with directions told from other symbols.
+abbrev pub part_tokens : List ℕ → List Token
+part_tokens source = map (named source) (all_tokens source)

@@ -1,0 +1,41 @@
+-- What a part of a source is.
+use Rattle.std.specs.Prelude.{◌≡◌, ℕ, List, length, take}
+use Rattle.pal_text.specs.declared.tokens.Token.{Token}
+use Rattle.pal_text.specs.declared.cut.Statement.{Statement}
+use Rattle.pal_text.specs.declared.cut.Ending.{Ending}
+use Rattle.pal_text.specs.declared.lines.Line.{Line}
+use Rattle.pal_text.specs.declared.fault.TextFault.{TextFault}
+use Rattle.pal_text.specs.declared.fault.TextFault.TheVariants.{Illegal, TooLong, NoMemory}
+use Rattle.pal_text.specs.Names.{part_tokens}
+use Rattle.pal_text.specs.Statements.{pieces, closed, Stand, Breaks}
+use Rattle.pal_text.specs.Lines.{all_lines}
+
+-- These bytes are a part with these tokens, statements, lines and this ending.
+pub record IsPart (source : List ℕ) (tokens : List Token) (statements : List Statement) (lines : List Line) (ending : Ending) : Type 0 where
+  pub stop : ℕ
+  pub tokens_are : tokens ≡ part_tokens source
+  pub statements_are : Stand tokens (length source) (pieces 0 0 tokens) statements (closed ending stop)
+  pub lines_are : lines ≡ all_lines (take stop source)
+
+-- The first statement of these bytes that has no form is on this line.
+abbrev pub IsIllegal : List ℕ → ℕ → Type 0
+IsIllegal source line = Breaks (part_tokens source) (pieces 0 0 (part_tokens source)) line
+
+-- Two readings are the same.
+pub record Agrees (tokens : List Token) (statements : List Statement) (lines : List Line) (ending : Ending) (tokens' : List Token) (statements' : List Statement) (lines' : List Line) (ending' : Ending) : Type 0 where
+  pub tokens_are : tokens ≡ tokens'
+  pub statements_are : statements ≡ statements'
+  pub lines_are : lines ≡ lines'
+  pub ending_is : ending ≡ ending'
+
+-- A refusal that says nothing of the statements' form.
+abbrev pub IsSilent : TextFault → Type 0
+IsSilent (Illegal n) = ⊥
+IsSilent TooLong = Unit {0}
+IsSilent NoMemory = Unit {0}
+
+-- A refusal that names no other line than this.
+abbrev pub TellsOnly : ℕ → TextFault → Type 0
+TellsOnly line (Illegal n) = n ≡ line
+TellsOnly line TooLong = Unit {0}
+TellsOnly line NoMemory = Unit {0}

@@ -1,0 +1,58 @@
+-- How a statement is read from its kinds. That this is the grammar is proved of it.
+use Rattle.std.specs.Prelude.{ℕ, ◌+◌, Bool, true, false, ◌&&◌, if◌then◌else◌, List, [], ◌∷◌, Option, Some, None, map}
+use Rattle.pal_text.specs.declared.tokens.Kind.{Kind}
+use Rattle.pal_text.specs.declared.tokens.Kind.TheVariants.{Decimal, Octal, Pause, Comma, Equals, Star}
+use Rattle.pal_text.specs.declared.tokens.Token.{Token}
+use Rattle.pal_text.specs.declared.grammar.Form.{Form}
+use Rattle.pal_text.specs.declared.grammar.Form.TheVariants as form
+use Rattle.pal_text.specs.declared.grammar.Shape.{Shape}
+use Rattle.pal_text.specs.Grammar.{is_term, is_name, is_expression}
+
+abbrev pub kind_in : Token → Kind
+kind_in t = t.kind
+
+abbrev pub kinds : List Token → List Kind
+kinds ts = map kind_in ts
+
+abbrev pub is_star : Kind → Bool
+is_star Star = true
+is_star _ = false
+
+abbrev pub is_equals : Kind → Bool
+is_equals Equals = true
+is_equals _ = false
+
+abbrev pub is_comma : Kind → Bool
+is_comma Comma = true
+is_comma _ = false
+
+abbrev pub is_tag : Kind → Kind → Bool
+is_tag n k = is_name n && is_comma k
+
+abbrev pub if_expression : List Kind → Form → Option Form
+if_expression e f = if is_expression e then Some f else None
+
+abbrev pub direction : Kind → Option Form
+direction Decimal = Some form.Decimal
+direction Octal = Some form.Octal
+direction Pause = Some form.Pause
+direction _ = None
+
+abbrev pub single : Kind → Option Form
+single k = if is_term k then Some form.Word else direction k
+
+abbrev pub body : List Kind → Option Form
+body [] = Some form.Empty
+body (k ∷ []) = single k
+body (k ∷ j ∷ ks) =
+    if is_star k then if_expression (j ∷ ks) form.Origin else
+    if is_name k && is_equals j then if_expression ks form.Assign else if_expression (k ∷ j ∷ ks) form.Word
+
+abbrev pub shaped : ℕ → Option Form → Option Shape
+shaped n None = None
+shaped n (Some f) = Some (record { tags = n; form = f })
+
+abbrev pub shape : ℕ → List Kind → Option Shape
+shape n [] = shaped n (body [])
+shape n (k ∷ []) = shaped n (body (k ∷ []))
+shape n (k ∷ j ∷ ks) = if is_tag k j then shape (n + 1) ks else shaped n (body (k ∷ j ∷ ks))

@@ -1,0 +1,154 @@
+//! What the tokens of a statement are: its tags, and then what it does.
+
+ghost use Rattle.std.specs.Prelude.{◌≡◌};
+ghost use Rattle.pal_text.specs.Grammar.{is_term, is_joiner, is_sign, is_name, is_terms, is_expression};
+ghost use Rattle.pal_text.specs.Reading.{kinds, is_tag, is_star, is_equals, single, body, shape};
+
+use crate::tokens::{Kind, Token};
+
+/// What a statement does after its tags.
+#[derive(Clone, Copy, PartialEq, Eq, Debug)]
+pub enum Form {
+    /// Nothing.
+    Empty,
+    /// `*e`
+    Origin,
+    /// `symbol=e`
+    Assign,
+    /// DECIMAL
+    Decimal,
+    /// OCTAL
+    Octal,
+    /// PAUSE
+    Pause,
+    /// A word, by an expression.
+    Word,
+}
+
+/// What a statement is: so many tags, and then this.
+#[derive(Clone, Copy, PartialEq, Eq, Debug)]
+pub struct Shape {
+    pub tags: usize,
+    pub form: Form,
+}
+
+fn term(kind: Kind) -> bool
+    ensures { result ≡ is_term kind }
+{
+    matches!(kind, Kind::Symbol | Kind::Number | Kind::Here)
+}
+
+fn joiner(kind: Kind) -> bool
+    ensures { result ≡ is_joiner kind }
+{
+    matches!(kind, Kind::Space | Kind::Plus | Kind::Minus)
+}
+
+fn sign(kind: Kind) -> bool
+    ensures { result ≡ is_sign kind }
+{
+    matches!(kind, Kind::Plus | Kind::Minus)
+}
+
+fn star(kind: Kind) -> bool
+    ensures { result ≡ is_star kind }
+{
+    matches!(kind, Kind::Star)
+}
+
+fn equals(kind: Kind) -> bool
+    ensures { result ≡ is_equals kind }
+{
+    matches!(kind, Kind::Equals)
+}
+
+fn named(kind: Kind) -> bool
+    ensures { result ≡ is_name kind }
+{
+    matches!(
+        kind,
+        Kind::Symbol | Kind::Decimal | Kind::Octal | Kind::Pause
+    )
+}
+
+fn tag(first: Kind, second: Kind) -> bool
+    ensures { result ≡ is_tag first second }
+{
+    named(first) && matches!(second, Kind::Comma)
+}
+
+/// Whether these are terms with a joiner between each two.
+fn terms(tokens: &[Token]) -> bool
+    ensures { result ≡ is_terms (kinds tokens.now) }
+{
+    let mut rest = tokens;
+    while let [first, second, more @ ..] = rest {
+        if !term(first.kind) || !joiner(second.kind) {
+            return false;
+        }
+        rest = more;
+    }
+    match rest {
+        [last] => term(last.kind),
+        _ => false,
+    }
+}
+
+/// Whether these are an expression: terms, after a sign or without one.
+fn expression(tokens: &[Token]) -> bool
+    ensures { result ≡ is_expression (kinds tokens.now) }
+{
+    match tokens {
+        [first, rest @ ..] if sign(first.kind) => terms(rest),
+        _ => terms(tokens),
+    }
+}
+
+fn single_form(kind: Kind) -> Option<Form>
+    ensures { result ≡ single kind }
+{
+    match kind {
+        Kind::Symbol | Kind::Number | Kind::Here => Some(Form::Word),
+        Kind::Decimal => Some(Form::Decimal),
+        Kind::Octal => Some(Form::Octal),
+        Kind::Pause => Some(Form::Pause),
+        _ => None,
+    }
+}
+
+/// What these tokens do, which stand after the tags.
+fn body_of(tokens: &[Token]) -> Option<Form>
+    ensures { result ≡ body (kinds tokens.now) }
+{
+    let (form, operand) = match tokens {
+        [] => return Some(Form::Empty),
+        [only] => return single_form(only.kind),
+        [first, rest @ ..] if star(first.kind) => (Form::Origin, rest),
+        [first, second, rest @ ..] if named(first.kind) && equals(second.kind) => {
+            (Form::Assign, rest)
+        }
+        _ => (Form::Word, tokens),
+    };
+    if expression(operand) {
+        Some(form)
+    } else {
+        None
+    }
+}
+
+/// What the tokens of a statement are; none where they are no statement.
+pub(crate) fn shape_of(tokens: &[Token]) -> Option<Shape>
+    ensures { result ≡ shape 0 (kinds tokens.now) }
+{
+    let mut tags = 0;
+    let mut rest = tokens;
+    while let [first, second, more @ ..] = rest {
+        if !tag(first.kind, second.kind) {
+            break;
+        }
+        tags += 1;
+        rest = more;
+    }
+    let form = body_of(rest)?;
+    Some(Shape { tags, form })
+}

@@ -1,0 +1,26 @@
+//! The text of a PAL III source: its characters, lines, tokens and statements.
+//!
+//! A source is read part by part. A part is a list of bytes; [`statements`] gives its statements
+//! with their tokens, or the first fault of its form. What numbers and symbols are worth is not
+//! looked at here.
+#![tactic(auto)]
+
+pub mod characters;
+pub mod cut;
+pub mod fault;
+pub mod grammar;
+pub mod lines;
+pub mod names;
+pub mod part;
+pub mod tokens;
+
+pub use cut::{Ending, Statement};
+pub use fault::TextFault;
+pub use grammar::Form;
+pub use lines::Line;
+pub use names::Name;
+pub use part::{LONGEST, Part, statements};
+pub use tokens::{Kind, Token};
+
+#[cfg(test)]
+mod tests;

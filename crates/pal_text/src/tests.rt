@@ -1,0 +1,136 @@
+//! Parts worked by hand from the rules of the language.
+
+use super::*;
+use crate::characters::is_character_code;
+use std::test::Fail;
+
+/// A letter for a form.
+fn letter(form: Form) -> u8 {
+    match form {
+        Form::Empty => b'.',
+        Form::Origin => b'*',
+        Form::Assign => b'=',
+        Form::Decimal => b'D',
+        Form::Octal => b'O',
+        Form::Pause => b'P',
+        Form::Word => b'w',
+    }
+}
+
+#[test]
+fn statements_have_forms(rt: HostRuntime) -> Result<(), Fail> {
+    let rows: [(&[u8], &[u8], Ending); 12] = [
+        (b"*200\nHLT\n$\n", b"*w.", Ending::Dollar),
+        (b"$", b".", Ending::Dollar),
+        (b"", b".", Ending::Bytes),
+        (b"A,B, C=-5;X,;TAD I 10", b"=.w", Ending::Bytes),
+        (b" DECIMAL ; OCTALS ; OCTAL", b"DwO", Ending::Bytes),
+        (b"A=5\r\nPAUSE / the end\r\n?", b"=P", Ending::Pause),
+        (b"PAUSE$", b"P", Ending::Pause),
+        (b"PAUSE,1;OCTAL=2", b"w=", Ending::Bytes),
+        (
+            b"TAD 10 / $ is a comment's\n/ and so is this",
+            b"w.",
+            Ending::Bytes,
+        ),
+        (b"300 5;1 2+1;-10;.-1 ", b"wwww", Ending::Bytes),
+        (b"* -1;HLT$? 8A", b"*w", Ending::Dollar),
+        (b"DECIMATE\t", b"D", Ending::Bytes),
+    ];
+    for (source, expected, ending) in rows {
+        let part = statements(rt.alloc(), source)?;
+        assert_eq!(rt; part.statements.len(), expected.len());
+        for (statement, form) in part.statements.iter().zip(expected) {
+            assert_eq!(rt; letter(statement.form), *form);
+        }
+        assert_eq!(rt; part.ending, ending);
+    }
+    Ok(())
+}
+
+#[test]
+fn the_first_line_without_a_form_is_named(rt: HostRuntime) -> Result<(), Fail> {
+    let rows: [(&[u8], usize); 15] = [
+        (b"?", 1),
+        (b"HLT\n\nA B,\n?", 3),
+        (b"* 200", 1),
+        (b"5A", 1),
+        (b"A=PAUSE", 1),
+        (b"TAD DECIMAL", 1),
+        (b"X,\r\nTAD+\r\n", 2),
+        (b"\r\r\nA..", 3),
+        (b"A=", 1),
+        (b",", 1),
+        (b"A=5=6", 1),
+        (b"1+-2", 1),
+        (b"\n\n+$", 3),
+        (b"a", 1),
+        (b"HLT;*\nPAUSE", 1),
+    ];
+    for (source, line) in rows {
+        match statements(rt.alloc(), source) {
+            Ok(_) => assert!(rt; false),
+            Err(fault) => assert_eq!(rt; fault, TextFault::Illegal(line)),
+        }
+    }
+    Ok(())
+}
+
+#[test]
+fn a_token_lends_its_slice(rt: HostRuntime) -> Result<(), Fail> {
+    let part = statements(rt.alloc(), b"TA\xffD")?;
+    assert_eq!(rt; part.statements.len(), 1);
+    let statement = part.statements[0];
+    assert_eq!(rt;
+        (statement.first, statement.last, statement.tags),
+        (0, 1, 0)
+    );
+    assert_eq!(rt; part.tokens.len(), 2);
+    let token = part.tokens[0];
+    assert_eq!(rt;
+        (token.kind, token.line, token.start, token.end),
+        (Kind::Symbol, 1, 0, 4)
+    );
+    assert_eq!(rt; &part.source[token.start..token.end], b"TA\xffD".as_slice());
+    assert_eq!(rt; Name::new(b"TA\xffD").letters, *b"TAD   ");
+    assert_eq!(rt; Name::new(b"\xd4WO\x00WORDS").letters, *b"TWOWOR");
+    assert_eq!(rt; Name::new(b"DECIMALS").kind(), Kind::Decimal);
+    assert!(rt; is_character_code(b'A') && !is_character_code(10));
+    Ok(())
+}
+
+#[test]
+fn lines_end_by_returns_and_feeds(rt: HostRuntime) -> Result<(), Fail> {
+    let rows: [(&[u8], usize, usize); 10] = [
+        (b"*200\x8dHLT\x8d$\x8d", 3, 10),
+        (b"*200\r\nHLT\r\n$\r\n", 3, 12),
+        (b"*200\r\xff\nHLT\r\xff\n$\r\xff\n", 3, 14),
+        (b"*200\nHLT\n$\n", 3, 10),
+        (b"", 0, 0),
+        (b"\n\x00\x7f", 1, 0),
+        (b"\r\n\nA", 2, 4),
+        (b" ", 1, 1),
+        (b"A;PAUSE / more\nB", 1, 7),
+        (b"A$B\nC", 1, 2),
+    ];
+    for (source, count, end) in rows {
+        let part = statements(rt.alloc(), source)?;
+        assert_eq!(rt; part.lines.len(), count);
+        if let [.., last] = part.lines.as_slice() {
+            assert_eq!(rt; last.end, end);
+        }
+    }
+    Ok(())
+}
+
+#[test]
+fn a_part_has_at_most_65536_bytes(rt: HostRuntime) -> Result<(), Fail> {
+    let longest = vec![in rt.alloc(); b' '; 65_536]?;
+    assert!(rt; statements(rt.alloc(), &longest).is_ok());
+    let longer = vec![in rt.alloc(); b'?'; 65_537]?;
+    match statements(rt.alloc(), &longer) {
+        Ok(_) => assert!(rt; false),
+        Err(fault) => assert_eq!(rt; fault, TextFault::TooLong),
+    }
+    Ok(())
+}

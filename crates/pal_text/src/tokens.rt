@@ -1,0 +1,211 @@
+//! The tokens of a part.
+
+ghost use Rattle.std.specs.Prelude.{◌≡◌, ◌+◌, ◌<◌, ◌≤◌, ◌^◌, List, ℕ, reverse, length, OnOk, IfOk};
+ghost use Rattle.pal_text.specs.Tokens.{kind_of, is_run, is_space, absorbs, longer, joined, added, grown, all_tokens};
+ghost use Rattle.pal_text.specs.declared.tokens.Token.{Token as Tokened};
+
+use crate::characters::{Meaning, comment_after, meaning_of, returned_after};
+use std::alloc::{AllocError, Allocator};
+
+/// What a token is.
+#[derive(Clone, Copy, PartialEq, Eq, Debug)]
+pub enum Kind {
+    /// A letter, and letters and digits after it.
+    Symbol,
+    /// The symbol DECIMAL.
+    Decimal,
+    /// The symbol OCTAL.
+    Octal,
+    /// The symbol PAUSE.
+    Pause,
+    /// Digits.
+    Number,
+    /// A digit, and letters and digits after it with a letter among them.
+    Mixed,
+    /// `.`
+    Here,
+    /// Spaces that join two terms.
+    Space,
+    /// `,`
+    Comma,
+    /// `=`
+    Equals,
+    /// `+`
+    Plus,
+    /// `-`
+    Minus,
+    /// `*`
+    Star,
+    /// The end of a statement: `;`, a line's end, or the end of the part.
+    End,
+    /// `$`
+    Dollar,
+    /// Any other character.
+    Other,
+}
+
+/// A token: what it is, its line, counted from 1, and where it stands in the part: from the byte
+/// at `start` up to the one before `end`.
+#[derive(Clone, Copy, PartialEq, Eq, Debug)]
+pub struct Token {
+    pub kind: Kind,
+    pub line: usize,
+    pub start: usize,
+    pub end: usize,
+}
+
+fn kind_for(code: u8) -> Kind
+    ensures { result ≡ kind_of code }
+{
+    match code {
+        b'A'..=b'Z' => Kind::Symbol,
+        b'0'..=b'9' => Kind::Number,
+        b'.' => Kind::Here,
+        b' ' => Kind::Space,
+        b',' => Kind::Comma,
+        b'=' => Kind::Equals,
+        b'+' => Kind::Plus,
+        b'-' => Kind::Minus,
+        b'*' => Kind::Star,
+        b';' => Kind::End,
+        b'$' => Kind::Dollar,
+        _ => Kind::Other,
+    }
+}
+
+fn is_letter_or_digit(kind: Kind) -> bool
+    ensures { result ≡ is_run kind }
+{
+    matches!(kind, Kind::Symbol | Kind::Number)
+}
+
+pub(crate) fn is_a_space(kind: Kind) -> bool
+    ensures { result ≡ is_space kind }
+{
+    matches!(kind, Kind::Space)
+}
+
+/// Whether a space beside a token of this kind doesn't count.
+fn absorbs_spaces(kind: Kind) -> bool
+    ensures { result ≡ absorbs kind }
+{
+    matches!(
+        kind,
+        Kind::Comma | Kind::Equals | Kind::Plus | Kind::Minus | Kind::End | Kind::Dollar
+    )
+}
+
+/// The kind of a token with one more character, where the character goes onto it.
+fn longer_kind(kind: Kind, next: Kind) -> Option<Kind>
+    ensures { result ≡ longer kind next }
+{
+    match kind {
+        Kind::Symbol if is_letter_or_digit(next) => Some(Kind::Symbol),
+        Kind::Number if next == Kind::Number => Some(Kind::Number),
+        Kind::Number | Kind::Mixed if is_letter_or_digit(next) => Some(Kind::Mixed),
+        Kind::Space if is_a_space(next) => Some(Kind::Space),
+        _ => None,
+    }
+}
+
+/// The one token that two neighbours make, where the second doesn't stand after the first.
+fn join(last: Token, next: Token) -> Option<Token>
+    ensures { result ≡ joined last next }
+{
+    if let Some(kind) = longer_kind(last.kind, next.kind) {
+        return Some(Token {
+            kind,
+            line: last.line,
+            start: last.start,
+            end: next.end,
+        });
+    }
+    if is_a_space(next.kind) && absorbs_spaces(last.kind) {
+        Some(last)
+    } else if is_a_space(last.kind) && absorbs_spaces(next.kind) {
+        Some(next)
+    } else {
+        None
+    }
+}
+
+/// Adds a character.
+fn add<A: Allocator>(out: &mut Vec<Token, A>, next: Token) -> Result<(), AllocError>
+    ensures { OnOk result ((ts : List Tokened) → out.old.items ≡ reverse ts → out.new.items ≡ reverse (added next ts)) }
+{
+    let count = out.len();
+    if count == 0 {
+        if !is_a_space(next.kind) {
+            out.push(next)?;
+        }
+        return Ok(());
+    }
+    match join(out[count - 1], next) {
+        Some(one) => out[count - 1] = one,
+        None => out.push(next)?,
+    }
+    Ok(())
+}
+
+/// Adds what the byte at a place brings.
+fn grow<A: Allocator>(
+    out: &mut Vec<Token, A>,
+    at: usize,
+    line: usize,
+    comment: bool,
+    meaning: Meaning,
+) -> Result<(), AllocError>
+    requires { at + 1 < 2 ^ 64 }
+    ensures { OnOk result ((ts : List Tokened) → out.old.items ≡ reverse ts → out.new.items ≡ reverse (grown at line comment meaning ts)) }
+{
+    let kind = match meaning {
+        Meaning::Ignored => return Ok(()),
+        Meaning::LineEnd => Kind::End,
+        Meaning::Character(code) => {
+            if comment || code == b'/' {
+                return Ok(());
+            }
+            kind_for(code)
+        }
+    };
+    add(
+        out,
+        Token {
+            kind,
+            line,
+            start: at,
+            end: at + 1,
+        },
+    )
+}
+
+/// The tokens of a part in order, its end as the last of them.
+pub(crate) fn tokens_of<A: Allocator>(alloc: A, source: &[u8]) -> Result<Vec<Token, A>, AllocError>
+    requires { length source.now ≤ 65536 }
+    ensures { IfOk result (λ out. out.items ≡ all_tokens source.now) }
+{
+    let mut out = Vec::new(alloc);
+    let mut line = 1;
+    let mut returned = false;
+    let mut comment = false;
+    for (at, byte) in source.iter().enumerate() {
+        let meaning = meaning_of(returned, *byte);
+        grow(&mut out, at, line, comment, meaning)?;
+        returned = returned_after(returned, *byte);
+        comment = comment_after(comment, meaning);
+        if meaning == Meaning::LineEnd {
+            line += 1;
+        }
+    }
+    let end = source.len();
+    add(
+        &mut out,
+        Token {
+            kind: Kind::End,
+            line,
+            start: end,
+            end,
+        },
+    )?;
+    Ok(out)
+}

@@ -14,11 +14,10 @@ ghost use Rattle.std.specs.Prelude.{◌≡◌};
 ghost use Rattle.processor.specs.Cells.{cell_of};
 ghost use Rattle.peripherals.specs.Runs.{EventsAreRuns};
 
-use std::alloc::AllocError;
-
 pub use devices::{Keyboard, Outlet, Panel, Reader};
 pub use event_text::{EventsFault, events};
 use processor::Memory;
+use std::alloc::AllocError;
 use thiserror::Error;
 use word12::{Link, Word};
 pub use world::World;

@@ -11,9 +11,18 @@ fn word(value: u16) -> Word {
 #[test]
 fn group_1_goes_in_its_order(rt: HostRuntime) {
     let clear = Link::CLEAR;
-    assert_eq!(rt; operate1(word(0o7005), word(0o7777), clear), (word(0o0001), clear));
-    assert_eq!(rt; operate1(word(0o7002), word(0o1234), clear), (word(0o3412), clear));
-    assert_eq!(rt; operate1(word(0o7003), word(0o0077), clear), (word(0o0001), clear));
+    assert_eq!(rt;
+        operate1(word(0o7005), word(0o7777), clear),
+        (word(0o0001), clear)
+    );
+    assert_eq!(rt;
+        operate1(word(0o7002), word(0o1234), clear),
+        (word(0o3412), clear)
+    );
+    assert_eq!(rt;
+        operate1(word(0o7003), word(0o0077), clear),
+        (word(0o0001), clear)
+    );
 }
 
 #[test]
@@ -21,8 +30,14 @@ fn group_2_tests_first(rt: HostRuntime) {
     let clear = Link::CLEAR;
     assert!(rt; skips(word(0o7650), word(0o0001), clear));
     assert!(rt; !skips(word(0o7650), Word::ZERO, clear));
-    assert_eq!(rt; operate2(word(0o7650), word(0o0001), Word::ZERO), Word::ZERO);
-    assert_eq!(rt; operate2(word(0o7604), word(0o0007), word(0o0300)), word(0o0300));
+    assert_eq!(rt;
+        operate2(word(0o7650), word(0o0001), Word::ZERO),
+        Word::ZERO
+    );
+    assert_eq!(rt;
+        operate2(word(0o7604), word(0o0007), word(0o0300)),
+        word(0o0300)
+    );
 }
 
 #[test]
@@ -38,7 +53,10 @@ fn group_3_moves_mq(rt: HostRuntime) {
     ] {
         assert_eq!(rt; operate3(word(number), ac, mq), after);
         assert_eq!(rt; decode(word(number), Profile::Pdp8E), Instruction::Operate3);
-        assert_eq!(rt; decode(word(number), Profile::Pdp8I), Instruction::Unsupported);
+        assert_eq!(rt;
+            decode(word(number), Profile::Pdp8I),
+            Instruction::Unsupported
+        );
     }
 }
 
@@ -51,10 +69,16 @@ fn profiles_have_their_words(rt: HostRuntime) {
         (0o7401, Instruction::Unsupported),
     ] {
         assert_eq!(rt; decode(word(number), Profile::Pdp8E), kind);
-        assert_eq!(rt; decode(word(number), Profile::Pdp8I), Instruction::Unsupported);
+        assert_eq!(rt;
+            decode(word(number), Profile::Pdp8I),
+            Instruction::Unsupported
+        );
     }
     for number in [0o6033, 0o6035, 0o6037, 0o6047, 0o6001, 0o7014, 0o7601] {
-        assert_eq!(rt; decode(word(number), Profile::Pdp8E), Instruction::Unsupported);
+        assert_eq!(rt;
+            decode(word(number), Profile::Pdp8E),
+            Instruction::Unsupported
+        );
     }
 }
 

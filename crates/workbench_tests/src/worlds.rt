@@ -1,12 +1,11 @@
 //! Worlds driven event by event.
 
-use std::alloc::{Allocator, Global};
-use std::test::Fail;
-
 use bin_tape::Image;
 use instruct::Profile;
 use peripherals::{Event, Seen, Start, World};
 use refusing::Refusing;
+use std::alloc::{Allocator, Global};
+use std::test::Fail;
 use word12::{Link, Word};
 
 fn word(value: u16) -> Word {
@@ -82,7 +81,12 @@ fn a_call_at_the_last_cell_wraps(rt: HostRuntime) -> Result<(), Fail> {
 #[test]
 fn events_that_are_not_enabled_change_nothing(rt: HostRuntime) -> Result<(), Fail> {
     let mut world = load(rt.alloc(), &image(0o0200, &[0o7401]), 0o0200);
-    for event in [Event::Continue, Event::PrinterDone, Event::PunchDone, Event::ReaderDone(1)] {
+    for event in [
+        Event::Continue,
+        Event::PrinterDone,
+        Event::PunchDone,
+        Event::ReaderDone(1),
+    ] {
         assert_eq!(rt; world.apply(event)?, Seen::NotEnabled);
     }
     assert_eq!(rt; world.apply(Event::Step)?, Seen::Unsupported(word(0o7401)));
@@ -108,8 +112,17 @@ fn a_halt_stands_until_continue(rt: HostRuntime) -> Result<(), Fail> {
 #[test]
 fn a_fetch_clears_the_readers_buffer(rt: HostRuntime) -> Result<(), Fail> {
     for (second, ac) in [(0o6014, 0), (0o6012, 0o101)] {
-        let mut world = load(rt.alloc(), &image(0o0200, &[0o6014, second, 0o6012]), 0o0200);
-        for event in [Event::Step, Event::ReaderDone(0o101), Event::Step, Event::Step] {
+        let mut world = load(
+            rt.alloc(),
+            &image(0o0200, &[0o6014, second, 0o6012]),
+            0o0200,
+        );
+        for event in [
+            Event::Step,
+            Event::ReaderDone(0o101),
+            Event::Step,
+            Event::Step,
+        ] {
             world.apply(event)?;
         }
         assert_eq!(rt; world.cpu().ac, word(ac));

@@ -4,7 +4,9 @@
 set -euo pipefail
 top=$(cd "$(dirname "$0")/.." && pwd)
 program=${PDP8:-$top/crates/pdp8/out/pdp8}
-[ -x "$program" ] || (cd "$top/crates/pdp8" && rt run <stdin >/dev/null)
+work=$(mktemp -d)
+trap 'rm -r "$work"' EXIT
+[ -x "$program" ] || (cd "$top/crates/pdp8" && rt run <stdin >"$work/built" 2>&1) || { cat "$work/built"; exit 1; }
 hundred() {
     for _ in {1..100}; do
         "$program" <"$top/crates/pdp8/stdin" >/dev/null

@@ -13,10 +13,11 @@ fi
 work=$(mktemp -d)
 trap 'rm -r "$work"' EXIT
 build() {
-    [ -x "$top/crates/$1/out/$1" ] || (cd "$top/crates/$1" && if [ -f stdin ]; then rt run <stdin; else rt run; fi) >"$work/built" 2>&1 || { cat "$work/built"; exit 1; }
+    cd "$top/crates/$1"
+    [ -x "out/$1" ] || rt run <"$2" >"$work/built" 2>&1 || { cat "$work/built"; exit 1; }
 }
 program=${PDP8:-$top/crates/pdp8/out/pdp8}
-[ -x "$program" ] || build pdp8
-build machine_speed
+[ -x "$program" ] || build pdp8 stdin
+build machine_speed /dev/null
 "$top/crates/machine_speed/out/machine_speed" tape >"$work/fullest.bin"
 python3 "$top/tests/simh.py" "$simh" "$program" "$work"

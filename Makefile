@@ -23,4 +23,4 @@ bench:
 
 # Lays out the sources.
 fmt:
-	rt fmt
+	for crate in crates/*/; do (cd $$crate && rt fmt); done

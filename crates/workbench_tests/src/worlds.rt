@@ -4,7 +4,7 @@ use bin_tape::Image;
 use instruct::Profile;
 use peripherals::{Event, Seen, Start, World};
 use refusing::Refusing;
-use std::alloc::{Allocator, Global};
+use std::alloc::Allocator;
 use std::test::Fail;
 use word12::{Link, Word};
 
@@ -145,5 +145,42 @@ fn a_refused_print_changes_nothing(rt: HostRuntime) -> Result<(), Fail> {
     assert_eq!(rt; world.apply(Event::PrinterDone)?, Seen::Changed);
     assert_eq!(rt; world.apply(Event::Step)?, Seen::Ran);
     assert_eq!(rt; world.punched(), [0o001].as_slice());
+    Ok(())
+}
+
+/// The words of a program that prints HELLO, from 0200 on.
+static HELLO: [u16; 26] = [
+    0o7300, 0o6046, 0o1222, 0o3010, 0o1223, 0o3224, 0o1410, 0o4214, 0o2224, 0o5206, 0o7402, 0o5200,
+    0o0000, 0o6041, 0o5215, 0o6046, 0o7200, 0o5614, 0o0224, 0o7773, 0o0000, 0o0310, 0o0305, 0o0314,
+    0o0314, 0o0317,
+];
+
+#[test]
+fn hello_prints_the_same_from_any_start(rt: HostRuntime) -> Result<(), Fail> {
+    let image = image(0o0200, &HELLO);
+    for (ac, link, filled) in [
+        (0, Link::CLEAR, 0),
+        (0o1234, Link::SET, 0o7402),
+        (0o7777, Link::SET, 0o5555),
+    ] {
+        let mut start = Start::zero();
+        start.ac = word(ac);
+        start.link = link;
+        start.mq = word(ac);
+        for address in 0..4096 {
+            start.memory.set(Word::from_index(address), word(filled));
+        }
+        let mut world = World::load(rt.alloc(), &image, word(0o0200), &start, Profile::Pdp8I);
+        for _round in 0..46 {
+            world.apply(Event::Step)?;
+            world.apply(Event::PrinterDone)?;
+            world.apply(Event::PunchDone)?;
+        }
+        assert_eq!(rt; world.halted_at(), Some(word(0o0212)));
+        assert_eq!(rt;
+            world.printed(),
+            [0, 0o310, 0o305, 0o314, 0o314, 0o317].as_slice()
+        );
+    }
     Ok(())
 }

@@ -19,6 +19,8 @@ install:
 # Times the machine, the tapes and the sets; needs Debian's simh.
 bench:
 	bench/run.sh
+	bench/tapes.sh
+	bench/start.sh
 	bench/wordset.sh
 
 # Lays out the sources.

@@ -1,6 +1,6 @@
 -- Certificates: what a guesser claims of a program, and a checker tests.
-use Rattle.std.specs.Prelude.{◌≡◌, ℕ, true, Some, None}
-use Rattle.wordset.specs.Words.{Words, SameWords, nothing, everything}
+use Rattle.std.specs.Prelude.{ℕ, Some, None}
+use Rattle.wordset.specs.Words.{Words, nothing}
 use Rattle.processor.specs.Runs.{Image}
 use Rattle.policy.specs.Declaration.{Routine, Declaration}
 use Rattle.facts.specs.Facts.{Fact, Place}
@@ -30,8 +30,3 @@ writes_of c (Some e) = c.writes e
 -- The place of the facts in a routine's body.
 abbrev pub place_of : Image → Declaration → Certificate → Routine → Place
 place_of image d c r = record { image = image; declaration = d; routine = r; sites = sites_of c r }
-
--- A certificate of version 1 says nothing of MQ: its facts and exits allow every word in it.
-pub record SaysNothingOfMq (c : Certificate) : Type 0 where
-  pub facts : (a : ℕ) → c.has_fact a ≡ true → SameWords (c.fact a).mq everything
-  pub exits : (e o : ℕ) → c.has_exit e o ≡ true → SameWords (c.exit e o).mq everything

@@ -70,7 +70,8 @@ pub record IsExit (v : Version) (e : ExitLine) : Type 0 where
   pub offset : e.offset < 8
   pub statement : IsStatement v e.statement
 
--- The lines of a certificate: each of its form, in rising order, within the limits.
+-- The lines of a certificate: each of its form, in rising order, within the limits on lines.
+-- A certificate may be longer than what is read of a text; that limit is the reader's.
 pub record AreLines (c : Lines) : Type 0 where
   pub routines : Each IsRoutine c.routines
   pub routines_rise : RiseFrom 0 (map (λ r. r.entry) c.routines)

@@ -176,7 +176,8 @@ outcomes_of pl f at (And i c) = anded pl at (stepped i c f) (targets pl i c f)
 outcomes_of pl f at (Tad i c) = tad pl at (stepped i c f) (targets pl i c f)
 outcomes_of pl f at (Isz i c) = isz_case pl at (stepped i c f) (targets pl i c f) (only (targets pl i c f))
 outcomes_of pl f at (Dca i c) = dca_case pl at (stepped i c f) (targets pl i c f) (only (targets pl i c f))
-outcomes_of pl f at (Jms i c) = given (alive (targets pl i c f) f everything f) (CallsTo (targets pl i c f) f)
+outcomes_of pl f at (Jms i c) =
+    given (alive (targets pl i c f) (stepped i c f) everything (stepped i c f)) (CallsTo (targets pl i c f) (stepped i c f))
 outcomes_of pl f at (Jmp i c) = jmp pl i c (stepped i c f) (targets pl i c f)
 outcomes_of pl f at (Group1 w) = goes everything f everything (one (plus at 1)) (operated1 w f)
 outcomes_of pl f at (Group2 w) = if is_halt w && pl.declaration.stop at then [] else all_operated2 at w f

@@ -19,7 +19,7 @@ abbrev pub has_each : Option ℕ → Words → Bool
 has_each None set = each_below 4096 set
 has_each (Some w) set = set w
 
--- The equation is true whatever the start: both sides are one name, or two cells of the tape whose words fulfil it.
+-- Two cells that are both on the tape, and whose words fulfil the equation.
 abbrev pub is_always_between : Option ℕ → Option ℕ → ℕ → Bool
 is_always_between (Some x) (Some y) more = x == plus y more
 is_always_between (Some x) None more = false

@@ -16,7 +16,7 @@ pub enum Condition {
     V3,
     /// Each outcome entails the fact at each next address, in the same body.
     V4,
-    /// Each cell that may be written is a variable or an entry.
+    /// Each cell that may be written, a JMS's own apart, is a variable or an entry.
     V5,
     /// In a routine it is in the routine's written set, or its own entry.
     V6,
@@ -35,7 +35,8 @@ pub enum Condition {
     V12,
     /// A HLT is at a declared halt.
     V13,
-    /// No entry may be written, save that ISZ may count the routine's own.
+    /// No entry may be written, a JMS's own cell apart, save that ISZ may count the routine's own
+    /// as its only target where 7 is none of the offsets.
     V14,
     /// Each cell that may be read is on the list of reads, where there is one, or the routine's own
     /// entry.

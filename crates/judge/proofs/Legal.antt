@@ -9,13 +9,12 @@ use Rattle.processor.specs.Runs.{IsStart}
 use Rattle.policy.specs.Declaration.{IsDeclared}
 use Rattle.policy.specs.Calls.{Calls, current, calls_after}
 use Rattle.policy.specs.Rules.{pointer_of, stored_at, CountsOwnEntry, WritesDeclared, CallsEntries, FindsItsCall, ReturnsToItsCall, IsListed, ReadsListed, IsLegal}
-use Rattle.policy.specs.Runs.{DeclaredRun}
+use Rattle.policy.specs.Runs.{DeclaredRun, IsSafeInRuns}
 use Rattle.facts.specs.Facts.{Means}
 use Rattle.facts.specs.Conditions.{may_read}
 use Rattle.facts.proofs.Numbers.{or_left, or_right}
 use Rattle.facts.proofs.Covers.{NamesWord, meaning_names, Accessed}
 use Rattle.judge.specs.Conditions.{Case, fact_at, place_in, IsValid}
-use Rattle.judge.specs.Headline.{RunsAreSafe}
 use Rattle.facts.specs.declared.Condition.TheVariants.{V1}
 use Rattle.judge.proofs.Fine.{Fine}
 use Rattle.judge.proofs.Induction.{Invariant, access, keeps, fine_at, not_entry}
@@ -176,6 +175,6 @@ starts j dd valid s start =
       frames = tt;
     }
 
-pub runs_are_safe : RunsAreSafe
+pub runs_are_safe : (j : Case) → IsDeclared j.declaration → IsValid j → IsSafeInRuns j.image j.declaration
 runs_are_safe j dd valid s t ls answers start run =
     all_legal j dd valid s.memory start.words start.loaded answers s t [] ls (starts j dd valid s start) run

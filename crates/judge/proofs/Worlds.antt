@@ -13,9 +13,8 @@ use Rattle.peripherals.specs.Devices.{WorldState}
 use Rattle.policy.specs.Declaration.{Declaration, IsDeclared}
 use Rattle.policy.specs.Calls.{Calls}
 use Rattle.policy.specs.Rules.{IsSupported}
-use Rattle.policy.specs.Runs.{GoesOn, resumed, HappensDeclared, calls_running, calls_by, DeclaredEvents}
+use Rattle.policy.specs.Runs.{GoesOn, resumed, HappensDeclared, calls_running, calls_by, DeclaredEvents, IsSafeInEvents}
 use Rattle.judge.specs.Conditions.{Case, IsValid}
-use Rattle.judge.specs.Headline.{EventsAreSafe}
 use Rattle.judge.proofs.Induction.{Invariant, keeps}
 use Rattle.judge.proofs.Legal.{legal, starts}
 
@@ -64,7 +63,7 @@ module _ (j : Case) (dd : IsDeclared j.declaration) (valid : IsValid j) (start :
   ready_all [] w x ks ls ready run = subst (λ l. Ready x l) run.1 (subst (λ y. Ready y ks) run.0 ready)
   ready_all (e ∷ es) w x ks ls ready run = ready_all es run.0 x (calls_by j.declaration w e ks) ls (ready_step w run.0 e ks ready run.1) run.2
 
-pub events_are_safe : EventsAreSafe
+pub events_are_safe : (j : Case) → IsDeclared j.declaration → IsValid j → IsSafeInEvents j.image j.declaration
 events_are_safe j dd valid w x ls events load run running =
     let start : IsStart j.image j.declaration.start w.state = load.state in
     legal j dd valid w.state.memory start.words start.loaded x.state ls

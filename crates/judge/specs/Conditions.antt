@@ -1,4 +1,4 @@
--- The conditions that a certificate must meet, each a fact about an address.
+-- The conditions that a certificate must meet, each asked at an address.
 use Rattle.std.specs.Prelude.{◌≡◌, ℕ, ◌+◌, ◌*◌, ◌<◌, ◌≤◌, Bool, true, false, ◌||◌, ◌⊎◌, if◌then◌else◌, Some, None, List, [], ◌∷◌}
 use Rattle.instruct.specs.Instructions.{Meaning, Jms, Jmp, meaning_of}
 use Rattle.wordset.specs.Words.{plus, one, some_below, how_many, IsWithin}
@@ -188,26 +188,26 @@ abbrev pub IsAsked : Case → Condition → ℕ → Type 0
 IsAsked j v a = IsAskedAs (is_first_condition v) j a
 
 -- The place of a condition among those at one address.
-abbrev pub rank : Condition → ℕ
-rank V1 = 0
-rank V2 = 1
-rank V3 = 2
-rank V5 = 3
-rank V14 = 4
-rank V6 = 5
-rank V13 = 6
-rank V7 = 7
-rank V8 = 8
-rank V9 = 9
-rank V10 = 10
-rank V12 = 11
-rank V11 = 12
-rank V4 = 13
-rank V15 = 14
+abbrev pub place_among : Condition → ℕ
+place_among V1 = 0
+place_among V2 = 1
+place_among V3 = 2
+place_among V5 = 3
+place_among V14 = 4
+place_among V6 = 5
+place_among V13 = 6
+place_among V7 = 7
+place_among V8 = 8
+place_among V9 = 9
+place_among V10 = 10
+place_among V12 = 11
+place_among V11 = 12
+place_among V4 = 13
+place_among V15 = 14
 
--- The order in which the conditions are asked: the first one, then by rising address, then by rank.
+-- The order in which the conditions are asked: the first one, then by rising address, then by the place among those at one address.
 abbrev pub order : Condition → ℕ → ℕ
-order v a = if is_first_condition v then 0 else 16 * a + rank v
+order v a = if is_first_condition v then 0 else 16 * a + place_among v
 
 -- Every condition holds wherever it is asked.
 abbrev pub IsValid : Case → Type 0

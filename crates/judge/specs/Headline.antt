@@ -2,19 +2,16 @@
 use Rattle.std.specs.Prelude.{◌≡◌, ℕ, None}
 use Rattle.policy.specs.Declaration.{IsDeclared}
 use Rattle.policy.specs.Rules.{ReadsListed}
-use Rattle.policy.specs.Runs.{IsSafeInRuns, IsSafeInEvents}
+use Rattle.policy.specs.Runs.{IsSafe}
 use Rattle.processor.specs.Machine.{State, instruction}
 use Rattle.policy.specs.Calls.{Calls}
 use Rattle.judge.specs.Conditions.{Case, IsValid, HoldsAt}
 use Rattle.facts.specs.declared.Condition.TheVariants.{V15}
 
--- In every declared run of the instruction table each step keeps the rules.
-abbrev pub RunsAreSafe : Type 0
-RunsAreSafe = (j : Case) → IsDeclared j.declaration → IsValid j → IsSafeInRuns j.image j.declaration
-
--- In every list of events each step that is tried keeps the rules.
-abbrev pub EventsAreSafe : Type 0
-EventsAreSafe = (j : Case) → IsDeclared j.declaration → IsValid j → IsSafeInEvents j.image j.declaration
+-- Where every condition holds, the program keeps its declaration in every declared run, of the instruction table and of
+-- event lists.
+abbrev pub ProgramsAreSafe : Type 0
+ProgramsAreSafe = (j : Case) → IsDeclared j.declaration → IsValid j → IsSafe j.image j.declaration
 
 -- Without a list of reads the rule on reads and its condition hold of everything.
 abbrev pub UnlistedReadsAreFree : Type 0

@@ -1,7 +1,7 @@
 //! The conditions on a certificate, and the theorem that they make a program safe.
 #![tactic(auto)]
 
-ghost use Rattle.judge.specs.Headline.{RunsAreSafe, EventsAreSafe, UnlistedReadsAreFree};
+ghost use Rattle.judge.specs.Headline.{ProgramsAreSafe, UnlistedReadsAreFree};
 
 pub use facts::Condition;
 
@@ -14,12 +14,12 @@ pub use facts::Condition;
 ///
 /// Its premises are that the machine follows the instruction table of the declared profile in one
 /// field with interrupts off, that memory holds the tape's words at the start, and that the operator
-/// starts at the declared start, presses CONTINUE at pauses alone and deposits nothing. It doesn't
+/// starts at the declared start, presses CONTINUE at pauses alone, sets the switches freely and
+/// deposits nothing. It doesn't
 /// say that a run ends, that a program computes what its author meant, or that a declaration is
 /// wise; and it says nothing of reads where none are listed.
 pub fn headline()
-    ensures runs { RunsAreSafe }
-    ensures events { EventsAreSafe }
+    ensures safe { ProgramsAreSafe }
     // Without a list of reads, the rule on reads and its condition ask nothing.
     ensures reads { UnlistedReadsAreFree }
 {}

@@ -9,7 +9,4 @@ pub returns-clause-valid : goal.returns-clause-valid
 returns-clause-valid c = is_valid
 
 pub returns-clause-safe : goal.returns-clause-safe
-returns-clause-safe c = record {
-  runs = c.headline.ensures.runs example is_declared is_valid;
-  events = c.headline.ensures.events example is_declared is_valid;
-}
+returns-clause-safe c = c.headline.ensures.safe example is_declared is_valid

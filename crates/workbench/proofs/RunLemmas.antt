@@ -4,6 +4,7 @@ use Rattle.std.specs.Prelude.{Option, Some, None, IfSome, Result, Ok, Err, IsErr
 use Rattle.workbench.specs.declared.status.Fault.{Fault}
 use Rattle.std.specs.Io.KnownBytes.{Appends}
 use Rattle.instruct.specs.declared.Profile.{Profile}
+use Rattle.bin_tape.specs.Bytes.{AppendsFront}
 use Rattle.bin_tape.specs.Tape.{IsTape}
 use Rattle.peripherals.specs.declared.Event.{Event}
 use Rattle.peripherals.specs.Devices.{WorldState}
@@ -13,7 +14,7 @@ use Rattle.peripherals.specs.declared.event_text.EventsFault.TheVariants.{BadLin
 use Rattle.workbench.specs.Faults.{AreTape, IsTextFault, IsEventsFault, fault_of_events}
 use Rattle.workbench.specs.declared.status.Status.{Status}
 use Rattle.workbench.specs.Follows.{Follows}
-use Rattle.workbench.specs.Running.{WritesEventRun, fresh, status_of}
+use Rattle.workbench.specs.Running.{WritesEventRun, FrontOfRun, FrontOfEventRun, fresh, status_of}
 use Rattle.workbench.specs.Summary.{summary}
 
 pub event_run : (profile : Profile) (start steps : ℕ) (image : List (Option ℕ)) (text : List ℕ) (events : List Event) (stuck : Bool) (final : WorldState) (tape known old new : Option (List ℕ)) (status : Status) →
@@ -50,3 +51,22 @@ text_fault (BadLine n) image text marked text_marked tape known is read fails = 
 pub error_is : (r : Result Status Fault) (f : Fault) (P : Fault → Type 0) → IsErrAnd r (λ g. g ≡ f) → P f → IfErr r P
 error_is (Ok x) f P is p = tt
 error_is (Err g) f P is p = subst P (sym is) p
+
+-- a run of which a front was written, from its parts
+pub front_run : (profile : Profile) (start steps : ℕ) (ends : Bool) (events : List Event) (image : List (Option ℕ)) (stuck : Bool) (final : WorldState) (tape old new : Option (List ℕ)) →
+    IfSome tape (λ frames. IsTape (take 65536 frames) image) → Follows profile ends events (fresh image start) steps stuck final → AppendsFront old new (summary stuck final steps) →
+    IfSome tape (λ frames. FrontOfRun profile start ends events frames old new)
+front_run profile start steps ends events image stuck final None old new is follows front = tt
+front_run profile start steps ends events image stuck final (Some frames) old new is follows front = record { image = image; tape = is; steps = steps; stuck = stuck; final = final; follows = follows; front = front }
+
+pub front_event_run : (profile : Profile) (start steps : ℕ) (image : List (Option ℕ)) (text : List ℕ) (events : List Event) (stuck : Bool) (final : WorldState) (tape known old new : Option (List ℕ)) →
+    IfSome tape (λ frames. IsTape (take 65536 frames) image) → IfSome known (λ bytes. text ≡ take 65537 bytes) → Spells text events →
+    Follows profile false events (fresh image start) steps stuck final → AppendsFront old new (summary stuck final steps) →
+    IfSome tape (λ frames. IfSome known (λ bytes. FrontOfEventRun profile start bytes frames old new))
+front_event_run profile start steps image text events stuck final None known old new is read spelled follows front = tt
+front_event_run profile start steps image text events stuck final (Some frames) None old new is read spelled follows front = tt
+front_event_run profile start steps image text events stuck final (Some frames) (Some bytes) old new is read spelled follows front = record {
+  events = events;
+  spelled = rw read at spelled;
+  run = record { image = image; tape = is; steps = steps; stuck = stuck; final = final; follows = follows; front = front };
+}

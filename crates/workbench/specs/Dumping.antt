@@ -6,6 +6,7 @@ use Rattle.instruct.specs.declared.Profile.{Profile}
 use Rattle.instruct.specs.Names.{name_of}
 use Rattle.std.specs.Io.KnownBytes.{Appends}
 use Rattle.bin_tape.specs.Image.{word_at}
+use Rattle.bin_tape.specs.Bytes.{AppendsFront}
 use Rattle.bin_tape.specs.Tape.{IsTape}
 
 -- The address, the word and its name.
@@ -27,3 +28,9 @@ pub record WritesDump (profile : Profile) (frames : List ℕ) (old new : Option 
   pub image : List (Option ℕ)
   pub tape : IsTape (take 65536 frames) image
   pub written : Appends old new (dump_text profile image)
+
+-- The frames are a tape, and a front of the text of its image was written.
+pub record FrontOfDump (profile : Profile) (frames : List ℕ) (old new : Option (List ℕ)) : Type 0 where
+  pub image : List (Option ℕ)
+  pub tape : IsTape (take 65536 frames) image
+  pub front : AppendsFront old new (dump_text profile image)

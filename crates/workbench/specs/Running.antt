@@ -2,6 +2,7 @@
 use Rattle.std.specs.Prelude.{ℕ, ◌≡◌, Bool, false, if◌then◌else◌, None, List, Option, take}
 use Rattle.std.specs.Io.KnownBytes.{Appends}
 use Rattle.instruct.specs.declared.Profile.{Profile}
+use Rattle.bin_tape.specs.Bytes.{AppendsFront}
 use Rattle.bin_tape.specs.Tape.{IsTape}
 use Rattle.peripherals.specs.declared.Event.{Event}
 use Rattle.peripherals.specs.Devices.{WorldState, idle}
@@ -40,3 +41,19 @@ pub record WritesEventRun (profile : Profile) (start : ℕ) (text frames : List 
   pub events : List Event
   pub spelled : Spells (take 65537 text) events
   pub run : WritesRun profile start false events frames old new status
+
+-- The frames are a tape, and these events follow from its image; a front of the summary was written.
+pub record FrontOfRun (profile : Profile) (start : ℕ) (ends_at_halt : Bool) (events : List Event) (frames : List ℕ) (old new : Option (List ℕ)) : Type 0 where
+  pub image : List (Option ℕ)
+  pub tape : IsTape (take 65536 frames) image
+  pub steps : ℕ
+  pub stuck : Bool
+  pub final : WorldState
+  pub follows : Follows profile ends_at_halt events (fresh image start) steps stuck final
+  pub front : AppendsFront old new (summary stuck final steps)
+
+-- The same by the events that a text spells.
+pub record FrontOfEventRun (profile : Profile) (start : ℕ) (text frames : List ℕ) (old new : Option (List ℕ)) : Type 0 where
+  pub events : List Event
+  pub spelled : Spells (take 65537 text) events
+  pub run : FrontOfRun profile start false events frames old new

@@ -1,13 +1,13 @@
 //! The commands, over sources and sinks.
 
-ghost use Rattle.std.specs.Prelude.{ℕ, ◌≡◌, List, Option, Some, None, take, false, true, IfOk, IfErr, IfSome, OnOk};
+ghost use Rattle.std.specs.Prelude.{ℕ, ◌≡◌, List, Option, Some, None, take, false, true, IfOk, IfErr, IfSome, OnOk, OnErr};
 ghost use Rattle.std.specs.Io.KnownBytes.{Appends};
 ghost use Rattle.bin_tape.specs.Tape.{IsTape};
 ghost use Rattle.bin_tape.specs.Refuses.{Refuses};
-ghost use Rattle.workbench.specs.Dumping.{dump_text, WritesDump};
+ghost use Rattle.workbench.specs.Dumping.{dump_text, WritesDump, FrontOfDump};
 ghost use Rattle.workbench.specs.Faults.{fails_to_write, IsTapeFault, IsEventsFault};
 ghost use Rattle.workbench.specs.Follows.{rounds};
-ghost use Rattle.workbench.specs.Running.{WritesRun, WritesEventRun, status_of};
+ghost use Rattle.workbench.specs.Running.{WritesRun, WritesEventRun, FrontOfRun, FrontOfEventRun, status_of};
 
 use crate::follow::{follow_events, follow_rounds};
 use crate::input::read_text;
@@ -56,6 +56,11 @@ pub fn run<A: Allocator + Copy, R: ByteSource, W: ByteSink>(
         (λ frames. WritesRun options.profile options.start true (rounds options.rounds) frames (W.taken out.old) (W.taken out.new) status)) }
     // A fault of the tape is the first fault of its bytes.
     ensures tape { IfErr result (IsTapeFault (R.mark tape.new) (R.remaining tape.old)) }
+    // Where a write failed, a front of that summary went out,
+    ensures front { W.mark out.new ≡ true → options.trace ≡ false → IfSome (R.remaining tape.old)
+        (λ frames. FrontOfRun options.profile options.start true (rounds options.rounds) frames (W.taken out.old) (W.taken out.new)) }
+    // and any other fault leaves the output as it was.
+    ensures nothing { OnErr result (W.mark out.new ≡ false → options.trace ≡ false → W.taken out.new ≡ W.taken out.old) }
     // A write failed exactly where the answer says so.
     ensures marks { W.mark out.new ≡ fails_to_write result }
 {
@@ -92,6 +97,9 @@ pub fn run_events<A: Allocator + Copy, R: ByteSource, E: ByteSource, W: ByteSink
     ensures run { IfOk result (λ status. options.trace ≡ false → IfSome (R.remaining tape.old) (λ frames. IfSome (E.remaining text.old)
         (λ bytes. WritesEventRun options.profile options.start bytes frames (W.taken out.old) (W.taken out.new) status))) }
     ensures faults { IfErr result (IsEventsFault (R.mark tape.new) (R.remaining tape.old) (E.mark text.new) (E.remaining text.old)) }
+    ensures front { W.mark out.new ≡ true → options.trace ≡ false → IfSome (R.remaining tape.old) (λ frames. IfSome (E.remaining text.old)
+        (λ bytes. FrontOfEventRun options.profile options.start bytes frames (W.taken out.old) (W.taken out.new))) }
+    ensures nothing { OnErr result (W.mark out.new ≡ false → options.trace ≡ false → W.taken out.new ≡ W.taken out.old) }
     ensures marks { W.mark out.new ≡ fails_to_write result }
 {
     let image = read_from(tape)?;
@@ -134,6 +142,9 @@ pub fn dump<A: Allocator + Copy, R: ByteSource, W: ByteSink>(
     ensures dump { OnOk result (IfSome (R.remaining tape.old)
         (λ frames. WritesDump profile frames (W.taken out.old) (W.taken out.new))) }
     ensures tape { IfErr result (IsTapeFault (R.mark tape.new) (R.remaining tape.old)) }
+    ensures front { W.mark out.new ≡ true → IfSome (R.remaining tape.old)
+        (λ frames. FrontOfDump profile frames (W.taken out.old) (W.taken out.new)) }
+    ensures nothing { OnErr result (W.mark out.new ≡ false → W.taken out.new ≡ W.taken out.old) }
     ensures marks { W.mark out.new ≡ fails_to_write result }
 {
     let image = read_from(tape)?;

@@ -4,7 +4,8 @@ use Rattle.peripherals.specs.World.{view}
 use Rattle.workbench.specs.Follows.{Follows}
 use Rattle.workbench.specs.Running.{fresh}
 use Rattle.workbench.specs.Summary.{summary}
-use Rattle.workbench.proofs.RunLemmas.{event_run, error_is, text_fault}
+use Rattle.workbench.proofs.RunLemmas.{event_run, front_event_run, error_is, text_fault}
+use Rattle.bin_tape.specs.Bytes.{AppendsFront}
 use Rattle.workbench.specs.Faults.{fault_of_events}
 use Rattle.workbench.proofs.commands.run_events.Goals as goal
 
@@ -19,3 +20,10 @@ pub returns-in_err-list-clause-faults : goal.returns-in_err-list-clause-faults
 returns-in_err-list-clause-faults g c =
     error_is c.from_residual-in_err-list.result (fault_of_events c.in_err-list.field-0.0) _ c.from_residual-in_err-list.ensures.1
     (text_fault c.in_err-list.field-0.0 c.in_ok-image.image c.in_ok-bytes.bytes.items (g.R.ByteSource.mark c.read_from.new.source) (g.E.ByteSource.mark c.read_text.new.source) _ _ c.in_ok-image.ensures.tape c.in_ok-bytes.ensures.text (rw c.deref.ensures.value at c.in_err-list.ensures.refused))
+
+pub returns-in_err-put-clause-front : goal.returns-in_err-put-clause-front
+returns-in_err-put-clause-front g c = λ marked quiet.
+    let follows : Follows c.args.options.profile false c.in_ok-list.list.items (fresh c.in_ok-image.image c.args.options.start) c.in_ok-progress.progress.steps c.in_ok-progress.progress.stuck (view c.follow_events.new.world) = search rules in
+    let front : AppendsFront (g.W.ByteSink.taken c.args.out.now) (g.W.ByteSink.taken c.put.new.sink) (summary c.in_ok-progress.progress.stuck (view c.follow_events.new.world) c.in_ok-progress.progress.steps) = search rules in
+    front_event_run c.args.options.profile c.args.options.start c.in_ok-progress.progress.steps c.in_ok-image.image c.in_ok-bytes.bytes.items c.in_ok-list.list.items c.in_ok-progress.progress.stuck (view c.follow_events.new.world) _ _ _ _
+    c.in_ok-image.ensures.tape c.in_ok-bytes.ensures.text (rw c.deref.ensures.value at c.in_ok-list.ensures.found) follows front

@@ -1,6 +1,7 @@
 -- Which faults a command's own work may have.
 use Rattle.std.specs.Prelude.{ℕ, ◌≡◌, Bool, true, false, Result, Ok, Err, Option, List, IfSome, ◌||◌, take}
-use Rattle.bin_tape.specs.Refuses.{Refuses}
+use Rattle.bin_tape.specs.Refuses.{Refuses, IsUnfinished}
+use Rattle.bin_tape.specs.Serving.{Gave}
 use Rattle.bin_tape.specs.Tape.{IsTape}
 use Rattle.peripherals.specs.EventText.{Fails}
 use Rattle.bin_tape.specs.declared.fault.TapeFault.{TapeFault}
@@ -47,13 +48,14 @@ IsInputFault marked (Device Read) = marked ≡ true
 IsInputFault marked (Device Write) = ⊥
 IsInputFault marked fault.NoMemory = Unit {0}
 
--- A fault of the tape is the first fault of its bytes, if no read failed; a read fault comes where one did.
-abbrev pub IsTapeFault : Bool → Option (List ℕ) → Fault → Type 0
-IsTapeFault marked frames (Tape fault) = IfSome frames (λ bytes. Refuses 65536 bytes fault)
-IsTapeFault marked frames (Events _) = ⊥
-IsTapeFault marked frames (Device Read) = marked ≡ true
-IsTapeFault marked frames (Device Write) = Unit {0}
-IsTapeFault marked frames fault.NoMemory = Unit {0}
+-- A fault of the tape is the first fault of its bytes, if no read failed; a read fault comes where one did, and the bytes
+-- given before it bring no answer.
+abbrev pub IsTapeFault : Bool → Option (List ℕ) → Option (List ℕ) → Fault → Type 0
+IsTapeFault marked old new (Tape fault) = IfSome old (λ bytes. Refuses 65536 bytes fault)
+IsTapeFault marked old new (Events _) = ⊥
+IsTapeFault marked old new (Device Read) = (marked ≡ true) × Gave old new IsUnfinished
+IsTapeFault marked old new (Device Write) = Unit {0}
+IsTapeFault marked old new fault.NoMemory = Unit {0}
 
 -- The frames are a tape, within the limit of what is looked at.
 pub record AreTape (frames : List ℕ) : Type 0 where

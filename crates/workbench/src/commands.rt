@@ -55,7 +55,7 @@ pub fn run<A: Allocator + Copy, R: ByteSource, W: ByteSink>(
     ensures run { IfOk result (λ status. options.trace ≡ false → IfSome (R.remaining tape.old)
         (λ frames. WritesRun options.profile options.start true (rounds options.rounds) frames (W.taken out.old) (W.taken out.new) status)) }
     // A fault of the tape is the first fault of its bytes.
-    ensures tape { IfErr result (IsTapeFault (R.mark tape.new) (R.remaining tape.old)) }
+    ensures tape { IfErr result (IsTapeFault (R.mark tape.new) (R.remaining tape.old) (R.remaining tape.new)) }
     // Where a write failed, a front of that summary went out,
     ensures front { W.mark out.new ≡ true → options.trace ≡ false → IfSome (R.remaining tape.old)
         (λ frames. FrontOfRun options.profile options.start true (rounds options.rounds) frames (W.taken out.old) (W.taken out.new)) }
@@ -141,7 +141,7 @@ pub fn dump<A: Allocator + Copy, R: ByteSource, W: ByteSink>(
     requires writable { W.mark out.old ≡ false }
     ensures dump { OnOk result (IfSome (R.remaining tape.old)
         (λ frames. WritesDump profile frames (W.taken out.old) (W.taken out.new))) }
-    ensures tape { IfErr result (IsTapeFault (R.mark tape.new) (R.remaining tape.old)) }
+    ensures tape { IfErr result (IsTapeFault (R.mark tape.new) (R.remaining tape.old) (R.remaining tape.new)) }
     ensures front { W.mark out.new ≡ true → IfSome (R.remaining tape.old)
         (λ frames. FrontOfDump profile frames (W.taken out.old) (W.taken out.new)) }
     ensures nothing { OnErr result (W.mark out.new ≡ false → W.taken out.new ≡ W.taken out.old) }

@@ -3,3 +3,4 @@ pub mod Faults
 pub mod Running
 pub mod Summary
 pub mod Dumping
+pub mod WatchText

@@ -9,6 +9,7 @@ mod program;
 pub mod status;
 mod text;
 mod trace;
+pub mod watching;
 mod words;
 
 pub use program::exit_status;

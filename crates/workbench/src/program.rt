@@ -1,13 +1,11 @@
 //! The program: from its words to its status.
 
-ghost use Rattle.std.specs.Prelude.{◌≡◌, false};
-
 use crate::commands::{RunOptions, dump, run, run_events};
-use crate::files::open;
+use crate::files::open_input;
 use crate::status::{DeviceFault, Fault, Status};
+use crate::watching::watch;
 use crate::words::{Refused, Request, parse_words};
-use bin_tape::ByteSource;
-use bin_tape::standard::{Reads, Writes};
+use bin_tape::standard::Writes;
 use std::alloc::Global;
 use std::rt::{Env, Files};
 use std::{env, io};
@@ -85,57 +83,41 @@ fn answer<R: Files + Input + Print>(
 ) -> Result<Status, Fault> {
     match request {
         Request::Run {
-            tape: "-",
-            events,
-            options,
-        } => run_from(rt, alloc, Reads::new(rt.reader()), *events, *options),
-        Request::Run {
             tape,
             events,
             options,
-        } => run_from(rt, alloc, Reads::new(open(rt, tape)?), *events, *options),
-        Request::Dump { tape: "-", profile } => {
-            dump(
-                alloc,
-                &mut Reads::new(rt.reader()),
-                *profile,
-                &mut Writes::new(io::writer(rt)),
-            )
-        }
+        } => run_from(rt, alloc, tape, *events, *options),
         Request::Dump { tape, profile } => {
-            dump(
-                alloc,
-                &mut Reads::new(open(rt, tape)?),
-                *profile,
-                &mut Writes::new(io::writer(rt)),
-            )
+            let mut frames = open_input(rt, tape)?;
+            dump(alloc, &mut frames, *profile, &mut Writes::new(io::writer(rt)))
+        }
+        Request::Watch {
+            tape,
+            declaration,
+            events,
+        } => {
+            let mut frames = open_input(rt, tape)?;
+            let mut text = open_input(rt, declaration)?;
+            let mut list = open_input(rt, events)?;
+            let mut out = Writes::new(io::writer(rt));
+            watch(alloc, &mut frames, &mut text, &mut list, &mut out)
         }
     }
 }
 
-/// Runs the tape of a source, in rounds or by the events of a file.
-fn run_from<R: Files + Input + Print, S: ByteSource + Drop>(
+/// Runs a tape, in rounds or by the events of a file.
+fn run_from<R: Files + Input + Print>(
     rt: &R,
     alloc: Global,
-    mut tape: S,
+    tape: &str,
     events: Option<&str>,
     options: RunOptions,
-) -> Result<Status, Fault>
-    requires { S.mark tape ≡ false }
-{
+) -> Result<Status, Fault> {
+    let mut frames = open_input(rt, tape)?;
+    let Some(events) = events else {
+        return run(alloc, &mut frames, options, &mut Writes::new(io::writer(rt)));
+    };
+    let mut list = open_input(rt, events)?;
     let mut out = Writes::new(io::writer(rt));
-    match events {
-        None => run(alloc, &mut tape, options, &mut out),
-        Some("-") => run_events(
-            alloc,
-            &mut tape,
-            &mut Reads::new(rt.reader()),
-            options,
-            &mut out,
-        ),
-        Some(name) => {
-            let mut text = Reads::new(open(rt, name)?);
-            run_events(alloc, &mut tape, &mut text, options, &mut out)
-        }
-    }
+    run_events(alloc, &mut frames, &mut list, options, &mut out)
 }

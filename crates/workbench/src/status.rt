@@ -7,6 +7,7 @@ ghost use Rattle.workbench.specs.Faults.{fault_of_tape, fault_of_events};
 
 use bin_tape::{Failed, TapeFault};
 use peripherals::{EventsFault, NoMemory};
+use policy::DeclarationFault;
 use std::alloc::AllocError;
 use thiserror::Error;
 
@@ -49,6 +50,9 @@ pub enum Fault {
     /// The tape is refused.
     #[error("pdp8: tape: {0}")]
     Tape(TapeFault),
+    /// The declaration is refused.
+    #[error("pdp8: declaration: {0}")]
+    Declared(DeclarationFault),
     /// The text of events is refused.
     #[error("pdp8: events: {0}")]
     Events(EventsFault),
@@ -64,7 +68,7 @@ impl Fault {
     /// The status that the program ends with.
     pub fn status(self) -> Status {
         match self {
-            Fault::Tape(_) | Fault::Events(_) => Status::Refused,
+            Fault::Tape(_) | Fault::Declared(_) | Fault::Events(_) => Status::Refused,
             Fault::Device(_) => Status::Device,
             Fault::NoMemory => Status::Memory,
         }

@@ -33,6 +33,15 @@ pub enum Request<'a> {
         /// Whose names the words have.
         profile: Profile,
     },
+    /// To watch a run.
+    Watch {
+        /// The name of the tape's file.
+        tape: &'a str,
+        /// The name of the declaration's file.
+        declaration: &'a str,
+        /// The name of the file of events.
+        events: &'a str,
+    },
 }
 
 /// Why nothing is done.
@@ -48,7 +57,7 @@ pub enum Refused {
     Steps,
     /// The value of `--profile` is neither `8i` nor `8e`.
     Profile,
-    /// The tape and the events are both to come from standard input.
+    /// Two inputs are to come from standard input.
     BothStandardInput,
     /// Memory was refused.
     Memory,
@@ -122,12 +131,27 @@ fn dump_command<'a>(alloc: Global) -> Result<Command<'a>, AllocError> {
         .arg(profile_word(alloc))
 }
 
+fn watch_command<'a>(alloc: Global) -> Result<Command<'a>, AllocError> {
+    let declaration = Arg::new(alloc, "DECLARATION")
+        .required(true)
+        .help("the declaration, or - for standard input");
+    let events = Arg::new(alloc, "EVENTS")
+        .required(true)
+        .help("the events that happen, or - for standard input");
+    Command::new(alloc, "watch")
+        .about("Writes whether a run keeps its declaration, or where it first breaks which rule")
+        .arg(tape_word(alloc))?
+        .arg(declaration)?
+        .arg(events)
+}
+
 fn command<'a>(alloc: Global) -> Result<Command<'a>, AllocError> {
     Command::new(alloc, "pdp8")
         .about("A workbench for PDP-8 paper tapes")
         .subcommand_required(true)
         .subcommand(run_command(alloc)?)?
-        .subcommand(dump_command(alloc)?)
+        .subcommand(dump_command(alloc)?)?
+        .subcommand(watch_command(alloc)?)
 }
 
 /// The number that decimal digits spell, if it is one from 1 to 1,000,000. There is no sign.
@@ -176,6 +200,19 @@ fn run_request<'a>(found: &ArgMatches<'a>) -> Result<Request<'a>, Refused> {
     })
 }
 
+fn watch_request<'a>(found: &ArgMatches<'a>) -> Result<Request<'a>, Refused> {
+    let inputs = ["TAPE", "DECLARATION", "EVENTS"].map(|name| found.get_str(name).unwrap_or("-"));
+    let [tape, declaration, events] = inputs;
+    if inputs.iter().filter(|name| **name == "-").count() > 1 {
+        return Err(Refused::BothStandardInput);
+    }
+    Ok(Request::Watch {
+        tape,
+        declaration,
+        events,
+    })
+}
+
 /// Reads the program's words, its own name among them.
 pub fn parse_words<'a, S: AsStr>(alloc: Global, words: &'a [S]) -> Result<Request<'a>, Refused> {
     let matches = command(alloc)?.try_get_matches_from(words)?;
@@ -184,6 +221,7 @@ pub fn parse_words<'a, S: AsStr>(alloc: Global, words: &'a [S]) -> Result<Reques
             tape: found.get_str("TAPE").unwrap_or("-"),
             profile: profile_of(found)?,
         }),
+        Some(("watch", found)) => watch_request(found),
         Some((_, found)) => run_request(found),
         None => Err(Refused::Memory),
     }

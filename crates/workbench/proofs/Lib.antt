@@ -2,3 +2,4 @@ pub mod FollowLemmas
 pub mod TextLemmas
 pub mod InputLemmas
 pub mod RunLemmas
+pub mod SourceLemmas

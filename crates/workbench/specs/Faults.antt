@@ -7,7 +7,7 @@ use Rattle.peripherals.specs.EventText.{Fails}
 use Rattle.bin_tape.specs.declared.fault.TapeFault.{TapeFault}
 use Rattle.bin_tape.specs.declared.fault.TapeFault.TheVariants.{ReadFault}
 use Rattle.workbench.specs.declared.status.Fault.{Fault}
-use Rattle.workbench.specs.declared.status.Fault.TheVariants.{Tape, Declared, Events, Device}
+use Rattle.workbench.specs.declared.status.Fault.TheVariants.{Tape, EmptyImage, Source, Declared, Events, Device}
 use Rattle.workbench.specs.declared.status.Fault.TheVariants as fault
 use Rattle.peripherals.specs.declared.event_text.EventsFault.{EventsFault}
 use Rattle.peripherals.specs.declared.event_text.EventsFault.TheVariants.{NoMemory}
@@ -16,6 +16,8 @@ use Rattle.workbench.specs.declared.status.DeviceFault.TheVariants.{Read, Write}
 -- Memory was refused, or a write failed.
 abbrev pub IsRunFault : Fault → Type 0
 IsRunFault (Tape _) = ⊥
+IsRunFault EmptyImage = ⊥
+IsRunFault (Source _) = ⊥
 IsRunFault (Declared _) = ⊥
 IsRunFault (Events _) = ⊥
 IsRunFault (Device Read) = ⊥
@@ -26,6 +28,8 @@ IsRunFault fault.NoMemory = Unit {0}
 abbrev pub fails_to_write : {T : Type 0} → Result T Fault → Bool
 fails_to_write (Ok _) = false
 fails_to_write (Err (Tape _)) = false
+fails_to_write (Err EmptyImage) = false
+fails_to_write (Err (Source _)) = false
 fails_to_write (Err (Declared _)) = false
 fails_to_write (Err (Events _)) = false
 fails_to_write (Err (Device Read)) = false
@@ -45,6 +49,8 @@ fault_of_events fault = Events fault
 -- A text wasn't read: a read failed, or memory was refused.
 abbrev pub IsInputFault : Bool → Fault → Type 0
 IsInputFault marked (Tape _) = ⊥
+IsInputFault marked EmptyImage = ⊥
+IsInputFault marked (Source _) = ⊥
 IsInputFault marked (Declared _) = ⊥
 IsInputFault marked (Events _) = ⊥
 IsInputFault marked (Device Read) = marked ≡ true
@@ -55,6 +61,8 @@ IsInputFault marked fault.NoMemory = Unit {0}
 -- given before it bring no answer.
 abbrev pub IsTapeFault : Bool → Option (List ℕ) → Option (List ℕ) → Fault → Type 0
 IsTapeFault marked old new (Tape fault) = IfSome old (λ bytes. Refuses 65536 bytes fault)
+IsTapeFault marked old new EmptyImage = ⊥
+IsTapeFault marked old new (Source _) = ⊥
 IsTapeFault marked old new (Declared _) = ⊥
 IsTapeFault marked old new (Events _) = ⊥
 IsTapeFault marked old new (Device Read) = (marked ≡ true) × Gave old new IsUnfinished
@@ -74,6 +82,8 @@ IsTextFault text fault = Fails text fault
 -- The same with a text of events, which is looked at where the tape is good; a read of either may fail.
 abbrev pub IsEventsFault : Bool → Option (List ℕ) → Bool → Option (List ℕ) → Fault → Type 0
 IsEventsFault marked frames text_marked text (Tape fault) = IfSome frames (λ bytes. Refuses 65536 bytes fault)
+IsEventsFault marked frames text_marked text EmptyImage = ⊥
+IsEventsFault marked frames text_marked text (Source fault) = ⊥
 IsEventsFault marked frames text_marked text (Declared fault) = ⊥
 IsEventsFault marked frames text_marked text (Events fault) =
     IfSome frames AreTape × IfSome text (λ bytes. IsTextFault (take 65537 bytes) fault)

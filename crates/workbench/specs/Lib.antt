@@ -4,3 +4,4 @@ pub mod Running
 pub mod Summary
 pub mod Dumping
 pub mod WatchText
+pub mod SourceTexts

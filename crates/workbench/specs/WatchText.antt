@@ -16,7 +16,7 @@ use Rattle.policy.specs.declared.watch.Watched.{Watched}
 use Rattle.policy.specs.declared.watch.Watched.TheVariants.{Clean, Broken}
 use Rattle.policy.specs.Watching.{IsClean, BreaksAt, number_of}
 use Rattle.workbench.specs.declared.status.Fault.{Fault}
-use Rattle.workbench.specs.declared.status.Fault.TheVariants.{Tape, Declared, Events, Device}
+use Rattle.workbench.specs.declared.status.Fault.TheVariants.{Tape, EmptyImage, Source, Declared, Events, Device}
 use Rattle.workbench.specs.declared.status.Fault.TheVariants as fault
 use Rattle.workbench.specs.declared.status.DeviceFault.TheVariants.{Read, Write}
 use Rattle.workbench.specs.declared.status.Status.{Status}
@@ -81,6 +81,8 @@ IsDeclarationFault text fault = Fails text fault
 -- Why a declaration wasn't read: it has this fault, a read failed, or memory was refused.
 abbrev pub IsDeclarationInputFault : Bool → Option (List ℕ) → Fault → Type 0
 IsDeclarationInputFault marked text (Tape fault) = ⊥
+IsDeclarationInputFault marked text EmptyImage = ⊥
+IsDeclarationInputFault marked text (Source fault) = ⊥
 IsDeclarationInputFault marked text (Declared fault) = IfSome text (λ bytes. IsDeclarationFault (take 16385 bytes) fault)
 IsDeclarationInputFault marked text (Events fault) = ⊥
 IsDeclarationInputFault marked text (Device Read) = marked ≡ true
@@ -90,6 +92,8 @@ IsDeclarationInputFault marked text fault.NoMemory = Unit {0}
 -- The same of a text of events.
 abbrev pub IsEventsInputFault : Bool → Option (List ℕ) → Fault → Type 0
 IsEventsInputFault marked list (Tape fault) = ⊥
+IsEventsInputFault marked list EmptyImage = ⊥
+IsEventsInputFault marked list (Source fault) = ⊥
 IsEventsInputFault marked list (Declared fault) = ⊥
 IsEventsInputFault marked list (Events fault) = IfSome list (λ bytes. IsTextFault (take 65537 bytes) fault)
 IsEventsInputFault marked list (Device Read) = marked ≡ true
@@ -99,6 +103,8 @@ IsEventsInputFault marked list fault.NoMemory = Unit {0}
 -- Each input is looked at where those before it are good: the tape, the declaration, the events. A read of each may fail.
 abbrev pub IsWatchFault : Bool → Option (List ℕ) → Option (List ℕ) → Option (List ℕ) → Fault → Type 0
 IsWatchFault marked frames text list (Tape fault) = IfSome frames (λ bytes. Refuses 65536 bytes fault)
+IsWatchFault marked frames text list EmptyImage = ⊥
+IsWatchFault marked frames text list (Source fault) = ⊥
 IsWatchFault marked frames text list (Declared fault) =
     IfSome frames AreTape × IfSome text (λ bytes. IsDeclarationFault (take 16385 bytes) fault)
 IsWatchFault marked frames text list (Events fault) =

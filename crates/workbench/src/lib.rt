@@ -6,6 +6,7 @@ mod files;
 pub mod follow;
 mod input;
 mod program;
+mod sources;
 pub mod status;
 mod text;
 mod trace;

@@ -7,6 +7,7 @@ ghost use Rattle.workbench.specs.Faults.{fault_of_tape, fault_of_events};
 
 use bin_tape::{Failed, TapeFault};
 use peripherals::{EventsFault, NoMemory};
+use pal_asm::PalFault;
 use policy::DeclarationFault;
 use std::alloc::AllocError;
 use thiserror::Error;
@@ -50,6 +51,12 @@ pub enum Fault {
     /// The tape is refused.
     #[error("pdp8: tape: {0}")]
     Tape(TapeFault),
+    /// The source is assembled to no word, so there is no tape.
+    #[error("pdp8: tape: EmptyImage")]
+    EmptyImage,
+    /// The source is refused.
+    #[error("pdp8: source: {0}")]
+    Source(PalFault),
     /// The declaration is refused.
     #[error("pdp8: declaration: {0}")]
     Declared(DeclarationFault),
@@ -68,7 +75,11 @@ impl Fault {
     /// The status that the program ends with.
     pub fn status(self) -> Status {
         match self {
-            Fault::Tape(_) | Fault::Declared(_) | Fault::Events(_) => Status::Refused,
+            Fault::Tape(_)
+            | Fault::EmptyImage
+            | Fault::Source(_)
+            | Fault::Declared(_)
+            | Fault::Events(_) => Status::Refused,
             Fault::Device(_) => Status::Device,
             Fault::NoMemory => Status::Memory,
         }

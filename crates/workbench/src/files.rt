@@ -1,10 +1,13 @@
 //! The files and streams that the commands work on.
 
 ghost use Rattle.std.specs.Prelude.{◌≡◌, false, IfOk};
+ghost use Rattle.std.specs.List.{AllByRecursion};
 
 use crate::status::{DeviceFault, Fault};
-use bin_tape::standard::Reads;
+use bin_tape::standard::{Reads, Writes};
 use either::Either;
+use std::alloc::Global;
+use std::io::{self, Printer};
 use std::fs;
 use std::rt::Files;
 
@@ -25,5 +28,48 @@ pub fn open_input<R: Files + Input>(
     match fs::open(rt, name) {
         Ok(file) => Ok(Reads::new(Either::Right(file))),
         Err(_) => Err(Fault::Device(DeviceFault::Read)),
+    }
+}
+
+/// Opens the parts of a source, in order.
+///
+/// # Errors
+///
+/// As for [`open_input`], and `NoMemory`.
+pub fn open_inputs<R: Files + Input>(
+    rt: &R,
+    alloc: Global,
+    names: &[&str],
+) -> Result<Vec<Reads<Either<R::Reader, R::File>>>, Fault>
+    ensures { IfOk result (λ inputs. AllByRecursion (λ input. input.failed ≡ false) inputs.items) }
+{
+    let mut inputs = Vec::new(alloc);
+    for name in names {
+        let input = open_input(rt, name)?;
+        if inputs.push(input).is_err() {
+            return Err(Fault::NoMemory);
+        }
+    }
+    Ok(inputs)
+}
+
+/// Creates or empties what a name of the command line stands for: `-` for standard output, else a
+/// file.
+///
+/// # Errors
+///
+/// `Device` where a file can't be made, which is told as one that can't be written.
+pub fn open_output<'r, R: Files + Print>(
+    rt: &'r R,
+    name: &str,
+) -> Result<Writes<Either<Printer<'r, R>, R::File>>, Fault>
+    ensures { IfOk result (λ output. output.failed ≡ false) }
+{
+    if name == "-" {
+        return Ok(Writes::new(Either::Left(io::writer(rt))));
+    }
+    match fs::create(rt, name) {
+        Ok(file) => Ok(Writes::new(Either::Right(file))),
+        Err(_) => Err(Fault::Device(DeviceFault::Write)),
     }
 }

@@ -1,6 +1,7 @@
 //! The commands of the program `pdp8`, over sources and sinks, and its words.
 #![tactic(auto)]
 
+pub mod assembling;
 pub mod commands;
 mod files;
 pub mod follow;

@@ -1,7 +1,8 @@
 //! The program: from its words to its status.
 
+use crate::assembling::{assemble, list};
 use crate::commands::{RunOptions, dump, run, run_events};
-use crate::files::open_input;
+use crate::files::{open_input, open_inputs, open_output};
 use crate::status::{DeviceFault, Fault, Status};
 use crate::watching::watch;
 use crate::words::{Refused, Request, parse_words};
@@ -90,6 +91,19 @@ fn answer<R: Files + Input + Print>(
         Request::Dump { tape, profile } => {
             let mut frames = open_input(rt, tape)?;
             dump(alloc, &mut frames, *profile, &mut Writes::new(io::writer(rt)))
+        }
+        Request::Assemble {
+            out,
+            sources,
+            profile,
+        } => {
+            let mut tape = open_output(rt, out)?;
+            let mut parts = open_inputs(rt, alloc, sources)?;
+            assemble(alloc, &mut parts, *profile, &mut tape)
+        }
+        Request::List { sources, profile } => {
+            let mut parts = open_inputs(rt, alloc, sources)?;
+            list(alloc, &mut parts, *profile, &mut Writes::new(io::writer(rt)))
         }
         Request::Watch {
             tape,

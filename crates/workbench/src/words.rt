@@ -33,6 +33,22 @@ pub enum Request<'a> {
         /// Whose names the words have.
         profile: Profile,
     },
+    /// To assemble a source.
+    Assemble {
+        /// The name of the file that the tape goes to.
+        out: &'a str,
+        /// The names of the files of the parts, in order.
+        sources: Vec<&'a str>,
+        /// Whose permanent symbols there are.
+        profile: Profile,
+    },
+    /// To list a source.
+    List {
+        /// The names of the files of the parts, in order.
+        sources: Vec<&'a str>,
+        /// Whose permanent symbols there are.
+        profile: Profile,
+    },
     /// To watch a run.
     Watch {
         /// The name of the tape's file.
@@ -131,6 +147,31 @@ fn dump_command<'a>(alloc: Global) -> Result<Command<'a>, AllocError> {
         .arg(profile_word(alloc))
 }
 
+fn source_words<'a>(alloc: Global) -> Arg<'a> {
+    Arg::new(alloc, "SOURCE")
+        .required(true)
+        .num_args(1..)
+        .help("the parts of the source, in order; - for standard input in one place")
+}
+
+fn assemble_command<'a>(alloc: Global) -> Result<Command<'a>, AllocError> {
+    let out = Arg::new(alloc, "OUT")
+        .required(true)
+        .help("where the tape goes, or - for standard output");
+    Command::new(alloc, "assemble")
+        .about("Assembles a PAL III source and writes its tape")
+        .arg(out)?
+        .arg(source_words(alloc))?
+        .arg(profile_word(alloc))
+}
+
+fn list_command<'a>(alloc: Global) -> Result<Command<'a>, AllocError> {
+    Command::new(alloc, "list")
+        .about("Assembles a PAL III source and writes its listing")
+        .arg(source_words(alloc))?
+        .arg(profile_word(alloc))
+}
+
 fn watch_command<'a>(alloc: Global) -> Result<Command<'a>, AllocError> {
     let declaration = Arg::new(alloc, "DECLARATION")
         .required(true)
@@ -151,6 +192,8 @@ fn command<'a>(alloc: Global) -> Result<Command<'a>, AllocError> {
         .subcommand_required(true)
         .subcommand(run_command(alloc)?)?
         .subcommand(dump_command(alloc)?)?
+        .subcommand(assemble_command(alloc)?)?
+        .subcommand(list_command(alloc)?)?
         .subcommand(watch_command(alloc)?)
 }
 
@@ -200,10 +243,44 @@ fn run_request<'a>(found: &ArgMatches<'a>) -> Result<Request<'a>, Refused> {
     })
 }
 
+/// Whether more than one of these is standard input.
+fn share_standard_input(names: &[&str]) -> bool {
+    names.iter().filter(|name| **name == "-").count() > 1
+}
+
+/// The names of a source's parts.
+fn source_names<'a>(alloc: Global, found: &ArgMatches<'a>) -> Result<Vec<&'a str>, Refused> {
+    let mut names = Vec::new(alloc);
+    if let Some(given) = found.get_strs("SOURCE") {
+        if share_standard_input(given) {
+            return Err(Refused::BothStandardInput);
+        }
+        names.extend_from_slice(given)?;
+    }
+    Ok(names)
+}
+
+fn assemble_request<'a>(alloc: Global, found: &ArgMatches<'a>) -> Result<Request<'a>, Refused> {
+    let sources = source_names(alloc, found)?;
+    Ok(Request::Assemble {
+        out: found.get_str("OUT").unwrap_or("-"),
+        sources,
+        profile: profile_of(found)?,
+    })
+}
+
+fn list_request<'a>(alloc: Global, found: &ArgMatches<'a>) -> Result<Request<'a>, Refused> {
+    let sources = source_names(alloc, found)?;
+    Ok(Request::List {
+        sources,
+        profile: profile_of(found)?,
+    })
+}
+
 fn watch_request<'a>(found: &ArgMatches<'a>) -> Result<Request<'a>, Refused> {
     let inputs = ["TAPE", "DECLARATION", "EVENTS"].map(|name| found.get_str(name).unwrap_or("-"));
     let [tape, declaration, events] = inputs;
-    if inputs.iter().filter(|name| **name == "-").count() > 1 {
+    if share_standard_input(&inputs) {
         return Err(Refused::BothStandardInput);
     }
     Ok(Request::Watch {
@@ -221,6 +298,8 @@ pub fn parse_words<'a, S: AsStr>(alloc: Global, words: &'a [S]) -> Result<Reques
             tape: found.get_str("TAPE").unwrap_or("-"),
             profile: profile_of(found)?,
         }),
+        Some(("assemble", found)) => assemble_request(alloc, found),
+        Some(("list", found)) => list_request(alloc, found),
         Some(("watch", found)) => watch_request(found),
         Some((_, found)) => run_request(found),
         None => Err(Refused::Memory),

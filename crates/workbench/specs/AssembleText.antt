@@ -1,0 +1,67 @@
+-- What `assemble` and `list` write, and why they may have no answer.
+use Rattle.std.specs.Prelude.{ℕ, ◌≡◌, Bool, true, List, Option, ◌++◌}
+use Rattle.std.specs.Io.KnownBytes.{Appends}
+use Rattle.instruct.specs.declared.Profile.{Profile}
+use Rattle.bin_tape.specs.Bytes.{AppendsFront}
+use Rattle.bin_tape.specs.Image.{IsEmptyImage}
+use Rattle.bin_tape.specs.Tape.{IsTape}
+use Rattle.bin_tape.specs.Written.{written_tape}
+use Rattle.pal_text.specs.declared.names.Name.{Name}
+use Rattle.pal_acts.specs.Permanent.{permanent}
+use Rattle.pal_asm.specs.Sources.{Means, IsFault}
+use Rattle.workbench.specs.declared.status.Fault.{Fault}
+use Rattle.workbench.specs.declared.status.Fault.TheVariants.{Tape, EmptyImage, Source, Declared, Events, Device}
+use Rattle.workbench.specs.declared.status.Fault.TheVariants as fault
+use Rattle.workbench.specs.declared.status.DeviceFault.TheVariants.{Read, Write}
+use Rattle.workbench.specs.SourceTexts.{AreRead}
+
+-- Sources with these bytes, as far as they are known, are read as these parts, which mean these symbols and this image.
+pub record Assembles (profile : Profile) (sources : List (Option (List ℕ))) (symbols : List (Name × ℕ)) (image : List (Option ℕ)) : Type 0 where
+  pub parts : List (List ℕ)
+  pub read : AreRead sources parts
+  pub means : Means (permanent profile) parts symbols image
+
+-- The tape of that image was written: it reads back as that image.
+pub record WritesTape (profile : Profile) (sources : List (Option (List ℕ))) (old new : Option (List ℕ)) : Type 0 where
+  pub symbols : List (Name × ℕ)
+  pub image : List (Option ℕ)
+  pub assembles : Assembles profile sources symbols image
+  pub written : Appends old new (written_tape image)
+  pub reads_back : IsTape (written_tape image) image
+
+-- A front of the tape of that image was written.
+pub record FrontOfTape (profile : Profile) (sources : List (Option (List ℕ))) (old new : Option (List ℕ)) : Type 0 where
+  pub symbols : List (Name × ℕ)
+  pub image : List (Option ℕ)
+  pub assembles : Assembles profile sources symbols image
+  pub front : AppendsFront old new (written_tape image)
+
+-- The source means an image without a word.
+pub record MeansNothing (profile : Profile) (sources : List (Option (List ℕ))) : Type 0 where
+  pub symbols : List (Name × ℕ)
+  pub image : List (Option ℕ)
+  pub assembles : Assembles profile sources symbols image
+  pub empty : IsEmptyImage image
+
+-- The parts that were read have this fault.
+pub record HasFault (profile : Profile) (sources : List (Option (List ℕ))) (fault : PalFault) : Type 0 where
+  pub parts : List (List ℕ)
+  pub read : AreRead sources parts
+  pub is : IsFault (permanent profile) parts fault
+
+-- Why the parts of a source aren't assembled.
+abbrev pub IsAssemblyFault : Profile → List (List ℕ) → Fault → Type 0
+IsAssemblyFault profile parts (Source fault) = IsFault (permanent profile) parts fault
+IsAssemblyFault profile parts fault.NoMemory = Unit {0}
+IsAssemblyFault profile parts fault = ⊥
+
+-- Why a command of a source has no result. A read of some source may fail.
+abbrev pub IsSourceFault : Profile → Bool → List (Option (List ℕ)) → Fault → Type 0
+IsSourceFault profile marked sources (Tape fault) = ⊥
+IsSourceFault profile marked sources EmptyImage = MeansNothing profile sources
+IsSourceFault profile marked sources (Source fault) = HasFault profile sources fault
+IsSourceFault profile marked sources (Declared fault) = ⊥
+IsSourceFault profile marked sources (Events fault) = ⊥
+IsSourceFault profile marked sources (Device Read) = marked ≡ true
+IsSourceFault profile marked sources (Device Write) = Unit {0}
+IsSourceFault profile marked sources fault.NoMemory = Unit {0}

@@ -1,0 +1,66 @@
+//! The commands that assemble a source.
+
+ghost use Rattle.std.specs.Prelude.{◌≡◌, false, true, map, IfOk, IfErr, OnErr};
+ghost use Rattle.std.specs.List.{AllByRecursion, list_any};
+ghost use Rattle.workbench.specs.AssembleText.{HasMeaning, IsAssemblyFault, IsSourceFault, WritesTape, FrontOfTape, WritesListing, FrontOfListing};
+ghost use Rattle.workbench.specs.Faults.{fails_to_write};
+ghost use Rattle.workbench.specs.SourceTexts.{lent};
+
+use crate::sources::{lend, read_parts};
+use crate::status::{DeviceFault, Fault, Status};
+use bin_tape::{ByteSink, ByteSource, WriteTapeFault, write_tape};
+use instruct::Profile;
+use pal_asm::{AssembleFault, Program};
+use std::alloc::Allocator;
+
+/// Assembles the parts of a source.
+fn program_of<'s, A: Allocator + Copy>(
+    alloc: A,
+    parts: &[&'s [u8]],
+    profile: Profile,
+) -> Result<Program<'s, A>, Fault>
+    ensures found { IfOk result (HasMeaning profile (lent parts.now)) }
+    ensures faults { IfErr result (IsAssemblyFault profile (lent parts.now)) }
+{
+    match pal_asm::assemble(alloc, parts, profile) {
+        Ok(program) => Ok(program),
+        Err(AssembleFault::Source(fault)) => Err(Fault::Source(fault)),
+        Err(AssembleFault::NoMemory) => Err(Fault::NoMemory),
+    }
+}
+
+/// Assembles a source of one part or more, in order, and writes its tape.
+///
+/// # Errors
+///
+/// `Source` with the first fault of the source; `EmptyImage` where it has no word, and then nothing
+/// is written; `Device` where a read or a write failed, after which a prefix of the tape went out;
+/// `NoMemory`.
+pub fn assemble<A: Allocator + Copy, R: ByteSource, W: ByteSink>(
+    alloc: A,
+    sources: &mut [R],
+    profile: Profile,
+    out: &mut W,
+) -> Result<Status, Fault>
+    requires readable { AllByRecursion (λ source. R.mark source ≡ false) sources.old }
+    requires writable { W.mark out.old ≡ false }
+    // What is written is the tape of the image that the source means.
+    ensures tape { IfOk result (λ status. WritesTape profile (map R.remaining sources.old) (W.taken out.old) (W.taken out.new)) }
+    // A fault of the source is its one fault.
+    ensures faults { IfErr result (IsSourceFault profile (list_any R.mark sources.new) (map R.remaining sources.old)) }
+    // Where a write failed, a front of that tape went out,
+    ensures front { W.mark out.new ≡ true → FrontOfTape profile (map R.remaining sources.old) (W.taken out.old) (W.taken out.new) }
+    // and any other fault leaves the output as it was.
+    ensures nothing { OnErr result (W.mark out.new ≡ false → W.taken out.new ≡ W.taken out.old) }
+    // A write failed exactly where the answer says so.
+    ensures marks { W.mark out.new ≡ fails_to_write result }
+{
+    let parts = read_parts(alloc, sources)?;
+    let slices = lend(alloc, &parts)?;
+    let program = program_of(alloc, &slices, profile)?;
+    match write_tape(program.image(), out) {
+        Ok(()) => Ok(Status::Done),
+        Err(WriteTapeFault::EmptyImage) => Err(Fault::EmptyImage),
+        Err(WriteTapeFault::WriteFault) => Err(Fault::Device(DeviceFault::Write)),
+    }
+}

@@ -7,7 +7,7 @@ use Rattle.bin_tape.specs.Image.{IsEmptyImage}
 use Rattle.bin_tape.specs.Tape.{IsTape}
 use Rattle.bin_tape.specs.Written.{written_tape}
 use Rattle.pal_text.specs.declared.names.Name.{Name}
-use Rattle.pal_acts.specs.Permanent.{permanent}
+use Rattle.pal_acts.specs.Permanent.{permanent_symbols}
 use Rattle.pal_asm.specs.Sources.{Means, IsFault}
 use Rattle.workbench.specs.declared.status.Fault.{Fault}
 use Rattle.workbench.specs.declared.status.Fault.TheVariants.{Tape, EmptyImage, Source, Declared, Events, Device}
@@ -19,7 +19,7 @@ use Rattle.workbench.specs.SourceTexts.{AreRead}
 pub record Assembles (profile : Profile) (sources : List (Option (List ℕ))) (symbols : List (Name × ℕ)) (image : List (Option ℕ)) : Type 0 where
   pub parts : List (List ℕ)
   pub read : AreRead sources parts
-  pub means : Means (permanent profile) parts symbols image
+  pub means : Means (permanent_symbols profile) parts symbols image
 
 -- The tape of that image was written: it reads back as that image.
 pub record WritesTape (profile : Profile) (sources : List (Option (List ℕ))) (old new : Option (List ℕ)) : Type 0 where
@@ -47,11 +47,11 @@ pub record MeansNothing (profile : Profile) (sources : List (Option (List ℕ)))
 pub record HasFault (profile : Profile) (sources : List (Option (List ℕ))) (fault : PalFault) : Type 0 where
   pub parts : List (List ℕ)
   pub read : AreRead sources parts
-  pub is : IsFault (permanent profile) parts fault
+  pub is : IsFault (permanent_symbols profile) parts fault
 
 -- Why the parts of a source aren't assembled.
 abbrev pub IsAssemblyFault : Profile → List (List ℕ) → Fault → Type 0
-IsAssemblyFault profile parts (Source fault) = IsFault (permanent profile) parts fault
+IsAssemblyFault profile parts (Source fault) = IsFault (permanent_symbols profile) parts fault
 IsAssemblyFault profile parts fault.NoMemory = Unit {0}
 IsAssemblyFault profile parts fault = ⊥
 

@@ -12,7 +12,8 @@ use Rattle.pal_acts.specs.declared.act.Act.{Act}
 use Rattle.pal_acts.specs.declared.act.Act.TheVariants as act
 use Rattle.pal_acts.specs.declared.code.Code.{Code}
 use Rattle.pal_acts.specs.declared.code.Code.TheVariants.{IllegalCharacter, TooLong}
-use Rattle.pal_acts.specs.Words.{IsSource, IsRefused}
+use Rattle.pal_acts.specs.Sources.{IsSource}
+use Rattle.pal_acts.specs.Faults.{IsRefused}
 use Rattle.pal_asm.specs.declared.number.Radix.{Radix}
 use Rattle.pal_asm.specs.declared.number.Radix.TheVariants.{Octal}
 use Rattle.pal_asm.specs.declared.fault.PalFault.{PalFault}

@@ -1,0 +1,2 @@
+use crate::*;
+use std::test::Fail;

@@ -10,7 +10,7 @@ use Rattle.pal_acts.specs.declared.assembly.Refused.TheVariants.{Fault, NoMemory
 use Rattle.pal_acts.specs.Values.{Values, known}
 use Rattle.pal_acts.specs.Meaning.{location}
 use Rattle.pal_acts.specs.Sources.{IsImage, Encodes}
-use Rattle.pal_acts.specs.Faults.{fault, after, giving_fault, giving_table, Stops, AsksForMemory, WordBreaks, Finds}
+use Rattle.pal_acts.specs.Faults.{fault, after, Stops, AsksForMemory, WordBreaks, Finds}
 
 -- A refusal by this fault; or memory was refused where there is no fault and the symbols become one more.
 abbrev pub IsFault : ℕ → Option Code → List (Name × ℕ) → Refusal → Type 0

@@ -101,13 +101,28 @@ fn encode<'p, A: Allocator + Copy>(
     Ok(image)
 }
 
+/// The meaning of a source, or its first fault.
+fn assemble_acts<'p, A: Allocator + Copy>(
+    alloc: A,
+    permanent: &'p [(Name, Word)],
+    acts: &[Act<'_>],
+) -> Result<Assembled<'p, A>, Refused>
+    ensures permanent { IfOk result (λ found. found.symbols.permanent.now ≡ permanent.now) }
+    ensures found { IfOk result (λ found. IsSource permanent.now 1024 acts.now found.symbols.own.entries found.image) }
+    ensures refused { IfErr result (Refuses permanent.now 1024 acts.now) }
+{
+    let symbols = define(alloc, permanent, acts)?;
+    let image = encode(&symbols, acts)?;
+    Ok(Assembled { symbols, image })
+}
+
 /// The symbols and the image of a source whose permanent symbols these are.
 ///
 /// # Errors
 ///
 /// `Fault` with the first fault of the source and its act: first those of what the acts define, in
 /// order, and where there is none those of words. `NoMemory` where memory was refused for a symbol
-/// that an act defines; no act before it has a fault, but for words.
+/// that an act defines; neither that act nor one before it has a fault, but as a word.
 pub fn assemble<'p, A: Allocator + Copy>(
     alloc: A,
     permanent: &'p [(Name, Word)],
@@ -117,11 +132,11 @@ pub fn assemble<'p, A: Allocator + Copy>(
     ensures found { IfOk result (λ found. IsSource permanent.now 1024 acts.now found.symbols.own.entries found.image) }
     ensures refused { IfErr result (Refuses permanent.now 1024 acts.now) }
     // A source that has a meaning is answered by no fault.
-    ensures meant { (own : List (Named × ℕ)) (image : List (Option ℕ)) → IsSource permanent.now 1024 acts.now own image → MatchResult result (λ found. (found.symbols.own.entries ≡ own) × (found.image ≡ image)) IsSilent }
+    ensures meant { (own : List (Named × ℕ)) (image : List (Option ℕ)) → IsSource permanent.now 1024 acts.now own image →
+        MatchResult result (λ found. (found.symbols.own.entries ≡ own) × (found.image ≡ image)) IsSilent }
     // A source that has a fault is answered by no other, and by no meaning.
-    ensures faulty { (at : ℕ) (code : Coded) → IsRefused permanent.now 1024 acts.now at code → MatchResult result (λ found. ⊥) (TellsOnly at code) }
+    ensures faulty { (at : ℕ) (code : Coded) → IsRefused permanent.now 1024 acts.now at code →
+        MatchResult result (λ found. ⊥) (TellsOnly at code) }
 {
-    let symbols = define(alloc, permanent, acts)?;
-    let image = encode(&symbols, acts)?;
-    Ok(Assembled { symbols, image })
+    assemble_acts(alloc, permanent, acts)
 }

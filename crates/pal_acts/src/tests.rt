@@ -1,2 +1,0 @@
-use crate::*;
-use std::test::Fail;

@@ -1,2 +1,4 @@
 pub mod Digits
 pub mod Terms
+pub mod Within
+pub mod Turned

@@ -50,8 +50,5 @@ none_left b source xs s ts e = ap (λ l. with_front xs (joins b source s l)) e �
 -- what holds of each element holds of one
 pub one_of_all : {X : Type 0} (P : X → Type 0) (xs : List X) (i : ℕ) (d : X) → i < length xs → AllByRecursion P xs → P (get_or xs i d)
 one_of_all P [] i d h all = absurd (omega arith)
-one_of_all P (x ∷ xs) i d h all = by i h
-  where
-    by : (i : ℕ) → i < length (x ∷ xs) → P (get_or (x ∷ xs) i d)
-    by zero h = all.0
-    by (suc i) h = one_of_all P xs i d (omega arith) all.1
+one_of_all P (x ∷ xs) zero d h all = all.0
+one_of_all P (x ∷ xs) (suc i) d h all = one_of_all P xs i d (omega arith) all.1

@@ -5,6 +5,6 @@ use Rattle.pal_asm.proofs.reading.keep_statements.Given as goal
 
 abbrev pub invariant-loop-statement : goal.invariant-loop-statement
 invariant-loop-statement g l =
-    (last_radix l.radix (drop l.statement-index l.part.statements.items) ≡ last_radix l.before l.part.statements.items)
+    (last_radix l.radix (drop l.statement-index l.part.statements.items) ≡ last_radix l.fn.before l.part.statements.items)
     × (acts_in l.deeds.items ++ part_acts l.number l.last l.part.source.now l.part.tokens.items l.radix (drop l.statement-index l.part.statements.items)
-    ≡ acts_in l.fn.deeds.items ++ part_acts l.number l.last l.part.source.now l.part.tokens.items l.before l.part.statements.items)
+    ≡ acts_in l.fn.deeds.items ++ part_acts l.number l.last l.part.source.now l.part.tokens.items l.fn.before l.part.statements.items)

@@ -2,3 +2,4 @@ pub mod Digits
 pub mod Terms
 pub mod Within
 pub mod Turned
+pub mod Bared

@@ -1,8 +1,9 @@
 -- Parts read one after another.
-use Rattle.std.proofs.Common.{◌≡◌, ◌∙◌, sym, ap, refl, subst, ℕ, zero, suc, ◌+◌, ◌<◌, ◌≤◌, List, [], ◌∷◌, ◌++◌, append_assoc, Bool, true, false, arith, length, get_or, drop, inl, inr}
+use Rattle.std.proofs.Common.{◌≡◌, ◌∙◌, sym, ap, refl, subst, ℕ, zero, suc, ◌+◌, ◌<◌, ◌≤◌, List, [], ◌∷◌, ◌++◌, append_assoc, Bool, true, false, arith, length, get_or, drop, inl, inr, ◌⊎◌}
 use Rattle.std.specs.Prelude.{nat_eq}
 use Rattle.std.specs.Borrow.{Bor}
-use Rattle.std.proofs.lemmas.List.{drop_more, append-nil}
+use Rattle.std.proofs.lemmas.Bool.{cases_eq, eq-eqb, ne_eqb}
+use Rattle.std.proofs.lemmas.List.{drop_more, drop_all, append-nil}
 use Rattle.pal_text.specs.declared.tokens.Token.{Token}
 use Rattle.pal_text.specs.declared.cut.Statement.{Statement}
 use Rattle.pal_text.specs.declared.cut.Ending.{Ending}
@@ -42,12 +43,15 @@ turned n r r' last bytes source tokens ss lines ending old new turn same is radi
   );
 }
 
+below : (k n : ℕ) → k ≤ n → (k ≡ n → ⊥) → k < n
+below k n h ne = omega arith
+
 -- whether a part is the last one
 pub last_here : (parts : List (Bor (List ℕ))) (k : ℕ) → k ≤ length parts → nat_eq k (length parts) ≡ is_empty (texts (drop k parts))
-last_here [] zero h = refl
-last_here [] (suc k) h = absurd (omega arith)
-last_here (p ∷ ps) zero h = refl
-last_here (p ∷ ps) (suc k) h = last_here ps k (omega arith)
+last_here parts k h = elim (cases_eq k (length parts)) [
+  | inl e ↦ eq-eqb k (length parts) e ∙ sym (ap (λ l. is_empty (texts l)) (drop_all k parts (omega arith)))
+  | inr ne ↦ ne_eqb k (length parts) ne ∙ sym (ap (λ l. is_empty (texts l)) (drop_more parts k (record { ref_ptr = (0, 0); now = [] }) (below k (length parts) h ne)))
+]
 
 abbrev pub Reached : List (Bor (List ℕ)) → ℕ → Radix → List PlacedAct → Type 0
 Reached parts i r acts = (later : List PlacedAct) → Gives (i + 1) r (texts (drop i parts)) later → Gives 1 Octal (texts parts) (acts ++ later)
@@ -62,8 +66,27 @@ module _ (parts : List (Bor (List ℕ))) (i : ℕ) (d : Bor (List ℕ)) (r : Rad
       let Q : List PlacedAct → Type 0 = λ l. Gives 1 Octal (texts parts) l in
       subst Q (sym (append_assoc old t.more later) ∙ ap (λ l. l ++ later) (sym t.new_is)) (reached (t.more ++ later) (subst P (sym (ap texts (drop_more parts i d h))) given))
 
-  pub ends_here : Turns (i + 1) r last (get_or parts i d).now old new Ends → Gives 1 Octal (texts parts) new
-  ends_here t = let Q : List PlacedAct → Type 0 = λ l. Gives 1 Octal (texts parts) l in subst Q (append-nil new) (reached_with Ends t [] refl)
+  pub ends_here : (turn : Turn) → turn ≡ Ends → Turns (i + 1) r last (get_or parts i d).now old new turn → Gives 1 Octal (texts parts) new
+  ends_here turn is t =
+      let Q : List PlacedAct → Type 0 = λ l. Gives 1 Octal (texts parts) l in
+      let P : Turn → Type 0 = λ x. Next x (i + 1 + 1) (texts (drop (i + 1) parts)) [] in
+      subst Q (append-nil new) (reached_with turn t [] (subst P (sym is) refl))
 
-  pub goes_on : (r' : Radix) → Turns (i + 1) r last (get_or parts i d).now old new (On r') → Reached parts (i + 1) r' new
-  goes_on r' t later next = reached_with (On r') t later next
+  pub goes_on : (r' : Radix) (turn : Turn) → turn ≡ On r' → Turns (i + 1) r last (get_or parts i d).now old new turn → Reached parts (i + 1) r' new
+  goes_on r' turn is t later next =
+      let P : Turn → Type 0 = λ x. Next x (i + 1 + 1) (texts (drop (i + 1) parts)) later in
+      reached_with turn t later (subst P (sym is) next)
+
+-- all parts were read
+pub all_read : (parts : List (Bor (List ℕ))) (i : ℕ) (r : Radix) (acts : List PlacedAct) → length parts ≤ i → Reached parts i r acts → Gives 1 Octal (texts parts) acts
+all_read parts i r acts h reached =
+    let P : List (Bor (List ℕ)) → Type 0 = λ ps. Gives (i + 1) r (texts ps) [] in
+    let Q : List PlacedAct → Type 0 = λ l. Gives 1 Octal (texts parts) l in
+    subst Q (append-nil acts) (reached [] (subst P (sym (drop_all i parts h)) refl))
+
+pub leads_by : (ending : Ending) (r : Radix) → ending ≡ Dollar → Leads ending r Ends
+leads_by ending r e = let P : Ending → Type 0 = λ x. Leads x r Ends in subst P (sym e) refl
+
+pub leads_on : (ending : Ending) (r : Radix) → (ending ≡ Pause) ⊎ (ending ≡ Bytes) → Leads ending r (On r)
+leads_on ending r (inl e) = let P : Ending → Type 0 = λ x. Leads x r (On r) in subst P (sym e) refl
+leads_on ending r (inr e) = let P : Ending → Type 0 = λ x. Leads x r (On r) in subst P (sym e) refl

@@ -1,5 +1,5 @@
 -- Tokens of a part are within it, and parts are short.
-use Rattle.std.proofs.Common.{◌≡◌, ◌∙◌, sym, ap, ℕ, zero, suc, ◌+◌, ◌-◌, ◌<◌, ◌≤◌, List, [], ◌∷◌, Bool, true, false, ◌||◌, Option, Some, None, arith, length, get_or, drop, inl, inr}
+use Rattle.std.proofs.Common.{◌≡◌, ◌∙◌, sym, ap, refl, ℕ, zero, suc, ◌+◌, ◌-◌, ◌<◌, ◌≤◌, List, [], ◌∷◌, Bool, true, false, ◌||◌, Option, Some, None, arith, length, get_or, drop, inl, inr}
 use Rattle.std.specs.Prelude.{slice_range, nat_lt, if◌then◌else◌}
 use Rattle.std.specs.Borrow.{Bor}
 use Rattle.std.specs.List.{AllByRecursion}
@@ -33,12 +33,12 @@ some_none : {X : Type 0} (x : X) → Some x ≡ None → ⊥
 some_none x e = cc
 
 long_none : (o : Option ℕ) → long_fault o ≡ None → o ≡ None
-long_none None e = e
+long_none None e = refl
 long_none (Some n) e = absurd (some_none _ e)
 
 chosen : {X : Type 0} (b : Bool) (x : X) (o : Option X) → (if b then Some x else o) ≡ None → (b ≡ false) × (o ≡ None)
 chosen true x o e = absurd (some_none x e)
-chosen false x o e = ((λ _. false), e)
+chosen false x o e = (refl, e)
 
 -- a part that isn't told is short
 short_from : (n : ℕ) (parts : List (Bor (List ℕ))) (i : ℕ) (d : Bor (List ℕ)) → first_long n (texts parts) ≡ None → i < length parts → length (get_or parts i d).now ≤ 65536

@@ -11,7 +11,10 @@ use Rattle.pal_asm.specs.declared.number.Radix.{Radix}
 use Rattle.pal_asm.specs.declared.reading.Turn.{Turn}
 use Rattle.pal_asm.specs.declared.reading.Turn.TheVariants.{On, Ends}
 use Rattle.pal_asm.specs.Acts.{lying, PlacedAct, placed}
-use Rattle.pal_asm.specs.Sources.{Gives, is_empty}
+use Rattle.pal_asm.specs.declared.fault.AssembleFault.{AssembleFault}
+use Rattle.pal_asm.specs.declared.fault.AssembleFault.TheVariants.{Source, NoMemory}
+use Rattle.pal_text.specs.declared.names.Name.{Name}
+use Rattle.pal_asm.specs.Sources.{Gives, is_empty, IsFaultOf}
 
 -- An act without the place in memory of its expression.
 abbrev pub bare : Act → Act
@@ -51,3 +54,8 @@ pub record Turns (n : ℕ) (r : Radix) (last : Bool) (part : List ℕ) (old new 
   pub more : List PlacedAct
   pub new_is : new ≡ old ++ more
   pub gives : (rest : List (List ℕ)) (later : List PlacedAct) → last ≡ is_empty rest → Next turn (n + 1) rest later → Gives n r (part ∷ rest) (more ++ later)
+
+-- Kept acts are refused so: by their fault, or memory was refused.
+abbrev pub RefusesActs : List (Name × ℕ) → List PlacedAct → AssembleFault → Type 0
+RefusesActs permanent acts (Source fault) = IsFaultOf permanent acts fault
+RefusesActs permanent acts NoMemory = Unit {0}

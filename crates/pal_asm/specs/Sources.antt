@@ -17,6 +17,8 @@ use Rattle.pal_acts.specs.Faults.{IsRefused}
 use Rattle.pal_asm.specs.declared.number.Radix.{Radix}
 use Rattle.pal_asm.specs.declared.number.Radix.TheVariants.{Octal}
 use Rattle.pal_asm.specs.declared.fault.PalFault.{PalFault}
+use Rattle.pal_asm.specs.declared.fault.AssembleFault.{AssembleFault}
+use Rattle.pal_asm.specs.declared.fault.AssembleFault.TheVariants.{Source, NoMemory}
 use Rattle.pal_asm.specs.Acts.{PlacedAct, placed, part_acts, last_radix}
 
 abbrev pub fault_at : Code → ℕ → ℕ → PalFault
@@ -72,11 +74,8 @@ pub record Means (permanent : List (Name × ℕ)) (parts : List (List ℕ)) (sym
   pub gives : Gives 1 Octal parts acts
   pub is_source : IsSource permanent 1024 (map act_in acts) symbols image
 
--- The fault of the acts that the parts give, told at its part and line.
-pub record Breaks (permanent : List (Name × ℕ)) (parts : List (List ℕ)) (fault : PalFault) : Type 0 where
-  pub acts : List PlacedAct
-  pub sizes : size_fault parts ≡ None
-  pub gives : Gives 1 Octal parts acts
+-- The first fault of acts over these permanent symbols, told at the part and the line of its act.
+pub record IsFaultOf (permanent : List (Name × ℕ)) (acts : List PlacedAct) (fault : PalFault) : Type 0 where
   pub at : ℕ
   pub is_refused : IsRefused permanent 1024 (map act_in acts) at fault.code
   pub bad : PlacedAct
@@ -84,9 +83,31 @@ pub record Breaks (permanent : List (Name × ℕ)) (parts : List (List ℕ)) (fa
   pub part : fault.part ≡ bad.part
   pub line : fault.line ≡ bad.line
 
+-- A source breaks so: its sizes are good, and this is the fault of the acts that the parts give.
+pub record Breaks (permanent : List (Name × ℕ)) (parts : List (List ℕ)) (fault : PalFault) : Type 0 where
+  pub acts : List PlacedAct
+  pub sizes : size_fault parts ≡ None
+  pub gives : Gives 1 Octal parts acts
+  pub is_fault : IsFaultOf permanent acts fault
+
 -- The fault of a source.
 abbrev pub IsFault : List (Name × ℕ) → List (List ℕ) → PalFault → Type 0
 IsFault permanent parts fault = (size_fault parts ≡ Some fault) ⊎ Breaks permanent parts fault
+
+-- A source is refused so: by its fault, or memory was refused.
+abbrev pub Refuses : List (Name × ℕ) → List (List ℕ) → AssembleFault → Type 0
+Refuses permanent parts (Source fault) = IsFault permanent parts fault
+Refuses permanent parts NoMemory = Unit {0}
+
+-- A refusal that tells no fault.
+abbrev pub IsSilent : AssembleFault → Type 0
+IsSilent (Source fault) = ⊥
+IsSilent NoMemory = Unit {0}
+
+-- A refusal that tells no other fault than this.
+abbrev pub TellsOnly : PalFault → AssembleFault → Type 0
+TellsOnly fault (Source told) = told ≡ fault
+TellsOnly fault NoMemory = Unit {0}
 
 abbrev pub now_of : Bor (List ℕ) → List ℕ
 now_of p = p.now

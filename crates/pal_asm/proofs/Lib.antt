@@ -3,3 +3,5 @@ pub mod Terms
 pub mod Within
 pub mod Turned
 pub mod Bared
+pub mod One
+pub mod Laid

@@ -5,3 +5,4 @@ pub mod Images
 pub mod Unique
 pub mod First
 pub mod Told
+pub mod PermanentLemmas

@@ -5,3 +5,4 @@ pub mod Sources
 pub mod Faults
 pub mod Laws
 pub mod Steps
+pub mod Permanent

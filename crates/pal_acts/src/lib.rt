@@ -9,12 +9,14 @@ pub mod act;
 pub mod assembly;
 pub mod code;
 pub mod laws;
+pub mod permanent;
 pub mod symbols;
 mod words;
 
 pub use act::{Act, Join, Name, Sign, Term};
 pub use assembly::{Assembled, Refused, assemble};
 pub use code::Code;
+pub use permanent::PermanentSymbols;
 pub use symbols::Symbols;
 
 #[cfg(test)]

@@ -1,0 +1,52 @@
+-- Looking names up in tables.
+use Rattle.std.proofs.Common.{◌≡◌, ◌∙◌, sym, ap, refl, ℕ, ◌+◌, ◌<◌, List, [], ◌∷◌, ◌++◌, length, drop, get_or, add-one, drop-cons, Bool, true, false, Some, None, Option, is_some, inl, inr}
+use Rattle.std.specs.List.{list_any}
+use Rattle.std.specs.Map.{lookup, keys_of}
+use Rattle.std.proofs.lemmas.Bool.{cases_Bool}
+use Rattle.pal_text.specs.declared.names.Name.{Name}
+use Rattle.pal_acts.specs.Values.{same, in_table}
+use Rattle.pal_acts.specs.Meaning.{has}
+
+pub found : (t : List (Name × ℕ)) (i : ℕ) (n : Name) (e : Name × ℕ) → i < length t → e ≡ get_or t i e → same n e.0 ≡ true → in_table (drop i t) n ≡ Some e.1
+found t i n e h is eq = rw (drop-cons t i e h, ← is, eq) refl
+
+pub skipped : (t : List (Name × ℕ)) (i : ℕ) (n : Name) (e : Name × ℕ) → i < length t → e ≡ get_or t i e → same n e.0 ≡ false → in_table (drop i t) n ≡ in_table (drop (i + 1) t) n
+skipped t i n e h is eq = rw (drop-cons t i e h, ← is, eq, add-one) refl
+
+-- a name in the first of two tables
+pub lookup-left : {K : Type 0} (test : K → Bool) (xs ys : List (K × ℕ)) (v : ℕ) → lookup test xs ≡ Some v → lookup test (xs ++ ys) ≡ Some v
+lookup-left test [] ys v h = cc
+lookup-left {K} test (x ∷ xs) ys v h =
+    elim (cases_Bool (test x.0)) [
+      | inl is ↦ rw is (rw is at h)
+      | inr not ↦ rw not (lookup-left test xs ys v (rw not at h))
+    ]
+
+-- a name that isn't
+pub lookup-right : {K : Type 0} (test : K → Bool) (xs ys : List (K × ℕ)) → lookup test xs ≡ None → lookup test (xs ++ ys) ≡ lookup test ys
+lookup-right test [] ys h = refl
+lookup-right {K} test (x ∷ xs) ys h =
+    elim (cases_Bool (test x.0)) [
+      | inl is ↦ cc (rw is at h)
+      | inr not ↦ rw not (lookup-right test xs ys (rw not at h))
+    ]
+
+-- the names of a table are those that have a value
+pub is_some-lookup : {K : Type 0} (test : K → Bool) (xs : List (K × ℕ)) → is_some (lookup test xs) ≡ list_any test (keys_of xs)
+is_some-lookup test [] = refl
+is_some-lookup {K} test (x ∷ xs) =
+    elim (cases_Bool (test x.0)) [
+      | inl is ↦ rw is refl
+      | inr not ↦ rw not (is_some-lookup test xs)
+    ]
+
+pub has_lookup : (t : List (Name × ℕ)) (n : Name) (o : Option ℕ) → in_table t n ≡ o → has (keys_of t) n ≡ is_some o
+has_lookup t n o e = sym (is_some-lookup (same n) t) ∙ ap is_some e
+
+pub lookup-none : {K : Type 0} (test : K → Bool) (xs ys : List (K × ℕ)) → lookup test (xs ++ ys) ≡ None → lookup test ys ≡ None
+lookup-none test [] ys h = h
+lookup-none {K} test (x ∷ xs) ys h =
+    elim (cases_Bool (test x.0)) [
+      | inl is ↦ cc (rw is at h)
+      | inr not ↦ lookup-none test xs ys (rw not at h)
+    ]

@@ -1,0 +1,231 @@
+-- The symbols of acts are those of the acts before the last, and then that one's: so acts have one list of symbols.
+use Rattle.std.proofs.Common.{◌≡◌, ◌∙◌, sym, ap, refl, ℕ, ◌≤◌, ◌<◌, List, [], ◌∷◌, ◌++◌, length, arith, append_assoc, append-nil, length-append, true, false, Some, None, Option, inl, inr, subst}
+use Rattle.std.specs.List.{AllByRecursion}
+use Rattle.std.specs.Option.{option_and_then}
+use Rattle.std.specs.Map.{keys_of}
+use Rattle.std.proofs.lemmas.Bool.{cases_Bool, eq-eqb, lt-ltb}
+use Rattle.pal_text.specs.declared.names.Name.{Name}
+use Rattle.pal_acts.specs.declared.act.Term.{Term}
+use Rattle.pal_acts.specs.declared.act.Term.TheVariants.{Number, Symbol, Here}
+use Rattle.pal_acts.specs.declared.act.Join.{Join}
+use Rattle.pal_acts.specs.declared.act.Act.{Act}
+use Rattle.pal_acts.specs.declared.act.Act.TheVariants as act
+use Rattle.pal_acts.specs.declared.code.Code.{Code}
+use Rattle.pal_acts.specs.declared.code.Code.TheVariants.{Redefined, DuplicateTag}
+use Rattle.pal_acts.specs.Values.{same, Values, in_table, term_value, joined, value_after, value, or_zero}
+use Rattle.pal_acts.specs.Meaning.{location, givings, has, with_name, names, IsTermOf, Names, IsLawful, IsGiven, Defines}
+use Rattle.pal_acts.specs.Faults.{giving_fault, giving_table, fault, after, origin_fault, assign_fault, assign_table}
+use Rattle.pal_acts.proofs.Table.{lookup-right, has_lookup}
+use Rattle.pal_acts.proofs.Agree.{Agrees, value_agree, location_agree, givings_agree, grows, has-with, has_not, has_it, keys-append, same_self}
+
+-- an expression has a value where its names have
+term_known : (t : List (Name × ℕ)) (here : ℕ) (x : Term) → IsTermOf (keys_of t) x → (v : ℕ) × (term_value (in_table t) here x ≡ Some v)
+term_known t here (Number w) h = (w, refl)
+term_known t here (Symbol n) h = by (in_table t n) refl
+  where
+    by : (o : Option ℕ) → in_table t n ≡ o → (v : ℕ) × (in_table t n ≡ Some v)
+    by None e = cc (sym h ∙ has_lookup t n None e)
+    by (Some v) e = (v, e)
+term_known t here Here h = (here, refl)
+
+value_known : (t : List (Name × ℕ)) (here a : ℕ) (js : List Join) → Names (keys_of t) js → (v : ℕ) × (value_after (in_table t) here a js ≡ Some v)
+value_known t here a [] h = (a, refl)
+value_known t here a (j ∷ js) h =
+    let k : (v : ℕ) × (term_value (in_table t) here j.term ≡ Some v) = term_known t here j.term h.0 in
+    let r : (v : ℕ) × (value_after (in_table t) here (joined j.sign a k.0) js ≡ Some v) = value_known t here (joined j.sign a k.0) js h.1 in
+    (r.0, ap (option_and_then (λ v. value_after (in_table t) here (joined j.sign a v) js)) k.1 ∙ r.1)
+
+-- every name that is given a value is among the names
+abbrev IsNamed : List Name → Name × ℕ → Type 0
+IsNamed ns g = has ns g.0 ≡ true
+
+named_more : (ns : List Name) (n : Name) (gs : List (Name × ℕ)) → AllByRecursion (IsNamed ns) gs → AllByRecursion (IsNamed (with_name ns n)) gs
+named_more ns n [] h = tt
+named_more ns n (g ∷ gs) h = (has-with ns n g.0 h.0, named_more ns n gs h.1)
+
+has-last : (ns : List Name) (n : Name) → has (ns ++ n ∷ []) n ≡ true
+has-last [] n = rw (same_self n) refl
+has-last (m ∷ ns) n = elim (cases_Bool (same n m)) [
+  | inl is ↦ rw is refl
+  | inr not ↦ rw not (has-last ns n)
+]
+
+has-given : (ns : List Name) (n : Name) → has (with_name ns n) n ≡ true
+has-given ns n = elim (cases_Bool (has ns n)) [
+  | inl is ↦ rw is is
+  | inr not ↦ rw not (has-last ns n)
+]
+
+givings_named : (perm : List Name) (σ : Values) (before : List Act) → AllByRecursion (IsNamed (names perm before)) (givings σ before)
+givings_named perm σ [] = tt
+givings_named perm σ (act.Tag n ∷ before) = (has-given (names perm before) n, named_more (names perm before) n (givings σ before) (givings_named perm σ before))
+givings_named perm σ (act.Assign n e ∷ before) = (has-given (names perm before) n, named_more (names perm before) n (givings σ before) (givings_named perm σ before))
+givings_named perm σ (act.Origin e ∷ before) = givings_named perm σ before
+givings_named perm σ (act.Word e ∷ before) = givings_named perm σ before
+givings_named perm σ (act.Wrong c ∷ before) = givings_named perm σ before
+givings_named perm σ (act.LastPause ∷ before) = givings_named perm σ before
+
+given_back : (ns : List Name) (σ τ : Values) (gs : List (Name × ℕ)) → Agrees ns σ τ → AllByRecursion (IsNamed ns) gs → AllByRecursion (IsGiven τ) gs → AllByRecursion (IsGiven σ) gs
+given_back ns σ τ [] e k h = tt
+given_back ns σ τ (g ∷ gs) e k h = (e g.0 k.0 ∙ h.0, given_back ns σ τ gs e k.1 h.1)
+
+-- the permanent names come first
+names_with : (perm ns : List Name) (n : Name) → (us : List Name) × (ns ≡ perm ++ us) → (us : List Name) × (with_name ns n ≡ perm ++ us)
+names_with perm ns n (us, e) = elim (cases_Bool (has ns n)) [
+  | inl is ↦ (us, has_it ns n is ∙ e)
+  | inr not ↦ (us ++ n ∷ [], has_not ns n not ∙ ap (λ l. l ++ n ∷ []) e ∙ append_assoc perm us (n ∷ []))
+]
+
+names_front : (perm : List Name) (before : List Act) → (us : List Name) × (names perm before ≡ perm ++ us)
+names_front perm [] = ([], sym (append-nil perm))
+names_front perm (act.Tag n ∷ before) = names_with perm (names perm before) n (names_front perm before)
+names_front perm (act.Assign n e ∷ before) = names_with perm (names perm before) n (names_front perm before)
+names_front perm (act.Origin e ∷ before) = names_front perm before
+names_front perm (act.Word e ∷ before) = names_front perm before
+names_front perm (act.Wrong c ∷ before) = names_front perm before
+names_front perm (act.LastPause ∷ before) = names_front perm before
+
+-- the last entry of a table with these names
+pub last_entry : (t : List (Name × ℕ)) (us : List Name) (n : Name) → keys_of t ≡ us ++ n ∷ [] → (s : List (Name × ℕ)) × (w : ℕ) × (t ≡ s ++ (n, w) ∷ []) × (keys_of s ≡ us)
+last_entry [] [] n e = cc
+last_entry [] (u ∷ us) n e = cc
+last_entry (x ∷ []) [] n e = ([], x.1, (let k : x.0 ≡ n = cc in λ i. (k i, x.1) ∷ []), refl)
+last_entry (x ∷ y ∷ t) [] n e = cc
+last_entry (x ∷ t) (u ∷ us) n e =
+    let k : x.0 ≡ u = cc in
+    let tail : keys_of t ≡ us ++ n ∷ [] = cc in
+    let r = last_entry t us n tail in
+    (x ∷ r.0, r.1, ap (λ l. x ∷ l) r.2, λ i. k i ∷ r.3 i)
+
+cancel : {X : Type 0} (xs ys zs : List X) → xs ++ ys ≡ xs ++ zs → ys ≡ zs
+cancel [] ys zs e = e
+cancel (x ∷ xs) ys zs e = let tail : xs ++ ys ≡ xs ++ zs = cc in cancel xs ys zs tail
+
+lookup_absent : (t : List (Name × ℕ)) (n : Name) → has (keys_of t) n ≡ false → in_table t n ≡ None
+lookup_absent t n h = by (in_table t n) refl
+  where
+    by : (o : Option ℕ) → in_table t n ≡ o → in_table t n ≡ None
+    by None e = e
+    by (Some v) e = cc (sym h ∙ has_lookup t n (Some v) e)
+
+some_same : (v w : ℕ) → Some v ≡ Some w → v ≡ w
+some_same v w e = cc
+
+-- what stood before a name was given a value
+pub record Ungiven (perm : List (Name × ℕ)) (limit : ℕ) (before : List Act) (new : List (Name × ℕ)) (n : Name) (v : ℕ) (code : Code) : Type 0 where
+  pub symbols : List (Name × ℕ)
+  pub defines : Defines perm limit before symbols
+  pub none : giving_fault code limit (length symbols) (in_table (perm ++ symbols) n) v ≡ None
+  pub new_is : new ≡ giving_table symbols n (in_table (perm ++ symbols) n) v
+  pub agrees : Agrees (names (keys_of perm) before) (in_table (perm ++ symbols)) (in_table (perm ++ new))
+
+ungive_old : (perm : List (Name × ℕ)) (limit : ℕ) (before : List Act) (new : List (Name × ℕ)) (n : Name) (v : ℕ) (code : Code)
+    → keys_of (perm ++ new) ≡ names (keys_of perm) before → in_table (perm ++ new) n ≡ Some v
+    → AllByRecursion (IsGiven (in_table (perm ++ new))) (givings (in_table (perm ++ new)) before) → IsLawful (keys_of perm) before → length new ≤ limit
+    → Ungiven perm limit before new n v code
+ungive_old perm limit before new n v code order is others lawful room = record {
+  symbols = new;
+  defines = record { order = order; one_value = others; lawful = lawful; room = room };
+  none = ap (λ o. giving_fault code limit (length new) o v) is ∙ (rw (eq-eqb v v refl) refl);
+  new_is = sym (ap (λ o. giving_table new n o v) is);
+  agrees = λ m h. refl;
+}
+
+ungive_new : (perm : List (Name × ℕ)) (limit : ℕ) (before : List Act) (new s : List (Name × ℕ)) (n : Name) (v w : ℕ) (code : Code)
+    → keys_of (perm ++ s) ≡ names (keys_of perm) before → has (names (keys_of perm) before) n ≡ false → new ≡ s ++ (n, w) ∷ [] → in_table (perm ++ new) n ≡ Some v
+    → AllByRecursion (IsGiven (in_table (perm ++ new))) (givings (in_table (perm ++ new)) before) → IsLawful (keys_of perm) before → length new ≤ limit
+    → Ungiven perm limit before new n v code
+ungive_new perm limit before new s n v w code order absent new_is is others lawful room =
+    let t : List (Name × ℕ) = perm ++ s in
+    let ns : List Name = names (keys_of perm) before in
+    let all : perm ++ new ≡ t ++ (n, w) ∷ [] = ap (λ l. perm ++ l) new_is ∙ sym (append_assoc perm s ((n, w) ∷ [])) in
+    let none : in_table t n ≡ None = lookup_absent t n (ap (λ l. has l n) order ∙ absent) in
+    let last : in_table (t ++ (n, w) ∷ []) n ≡ Some w = lookup-right (same n) t ((n, w) ∷ []) none ∙ rw (same_self n) refl in
+    let same_value : w ≡ v = some_same w v (sym last ∙ ap (λ u. in_table u n) (sym all) ∙ is) in
+    let P : List (Name × ℕ) → Type 0 = λ u. Agrees ns (in_table t) (in_table u) in
+    let ag : P (perm ++ new) = subst P (sym all) (λ m h. grows t ((n, w) ∷ []) m (ap (λ l. has l m) order ∙ h)) in
+    let G : List (Name × ℕ) → Type 0 = λ gs. AllByRecursion (IsGiven (in_table (perm ++ new))) gs in
+    let small : length s < limit = omega (arith, ap length new_is, length-append s ((n, w) ∷ [])) in
+    record {
+      symbols = s;
+      defines = record {
+        order = order;
+        one_value = given_back ns (in_table t) (in_table (perm ++ new)) (givings (in_table t) before) ag (givings_named (keys_of perm) (in_table t) before)
+            (subst G (sym (givings_agree (keys_of perm) (in_table t) (in_table (perm ++ new)) before lawful ag)) others);
+        lawful = lawful;
+        room = omega arith;
+      };
+      none = ap (λ o. giving_fault code limit (length s) o v) none ∙ (rw (lt-ltb (length s) limit small) refl);
+      new_is = new_is ∙ ap (λ w. s ++ (n, w) ∷ []) same_value ∙ sym (ap (λ o. giving_table s n o v) none);
+      agrees = ag;
+    }
+
+ungive : (perm : List (Name × ℕ)) (limit : ℕ) (before : List Act) (new : List (Name × ℕ)) (n : Name) (v : ℕ) (code : Code)
+    → keys_of (perm ++ new) ≡ with_name (names (keys_of perm) before) n → in_table (perm ++ new) n ≡ Some v
+    → AllByRecursion (IsGiven (in_table (perm ++ new))) (givings (in_table (perm ++ new)) before) → IsLawful (keys_of perm) before → length new ≤ limit
+    → Ungiven perm limit before new n v code
+ungive perm limit before new n v code order is others lawful room =
+    let ns : List Name = names (keys_of perm) before in
+    elim (cases_Bool (has ns n)) [
+      | inl there ↦ ungive_old perm limit before new n v code (order ∙ has_it ns n there) is others lawful room
+      | inr absent ↦
+          let front : (us : List Name) × (ns ≡ keys_of perm ++ us) = names_front (keys_of perm) before in
+          let keys : keys_of new ≡ front.0 ++ n ∷ [] = cancel (keys_of perm) (keys_of new) (front.0 ++ n ∷ [])
+          (sym (keys-append perm new) ∙ order ∙ has_not ns n absent ∙ ap (λ l. l ++ n ∷ []) front.1 ∙ append_assoc (keys_of perm) front.0 (n ∷ [])) in
+          let l = last_entry new front.0 n keys in
+          ungive_new perm limit before new l.0 n v l.1 code (keys-append perm l.0 ∙ ap (λ k. keys_of perm ++ k) l.3 ∙ sym front.1) absent l.2 is others lawful room
+    ]
+
+-- what stood before an act
+pub record Before (perm : List (Name × ℕ)) (limit : ℕ) (before : List Act) (next : Act) (new : List (Name × ℕ)) : Type 0 where
+  pub symbols : List (Name × ℕ)
+  pub defines : Defines perm limit before symbols
+  pub none : fault perm limit symbols before next ≡ None
+  pub new_is : new ≡ after perm limit symbols before next
+
+pub stood : (perm : List (Name × ℕ)) (limit : ℕ) (before : List Act) (next : Act) (new : List (Name × ℕ)) → Defines perm limit (next ∷ before) new → Before perm limit before next new
+stood perm limit before (act.Wrong c) new d = absurd d.lawful
+stood perm limit before act.LastPause new d = absurd d.lawful
+stood perm limit before (act.Word e) new d = record { symbols = new; defines = record { order = d.order; one_value = d.one_value; lawful = d.lawful; room = d.room }; none = refl; new_is = refl }
+stood perm limit before (act.Origin e) new d =
+    let k = value_known (perm ++ new) (location (in_table (perm ++ new)) before) 0 e.now (subst (λ ns. Names ns e.now) (sym d.order) d.lawful.0) in
+    record { symbols = new; defines = record { order = d.order; one_value = d.one_value; lawful = d.lawful.1; room = d.room }; none = ap origin_fault k.1; new_is = refl }
+stood perm limit before (act.Tag n) new d =
+    let τ : Values = in_table (perm ++ new) in
+    let u : Ungiven perm limit before new n (location τ before) DuplicateTag = ungive perm limit before new n (location τ before) DuplicateTag d.order d.one_value.0 d.one_value.1 d.lawful d.room in
+    let σ : Values = in_table (perm ++ u.symbols) in
+    let here : location σ before ≡ location τ before = location_agree (keys_of perm) σ τ before d.lawful u.agrees in
+    record {
+      symbols = u.symbols;
+      defines = u.defines;
+      none = ap (λ l. giving_fault DuplicateTag limit (length u.symbols) (σ n) l) here ∙ u.none;
+      new_is = u.new_is ∙ sym (ap (λ l. giving_table u.symbols n (σ n) l) here);
+    }
+stood perm limit before (act.Assign n e) new d =
+    let τ : Values = in_table (perm ++ new) in
+    let v : ℕ = or_zero (value τ (location τ before) e.now) in
+    let u : Ungiven perm limit before new n v Redefined = ungive perm limit before new n v Redefined d.order d.one_value.0 d.one_value.1 d.lawful.1 d.room in
+    let σ : Values = in_table (perm ++ u.symbols) in
+    let here : location σ before ≡ location τ before = location_agree (keys_of perm) σ τ before d.lawful.1 u.agrees in
+    let same_value : value σ (location σ before) e.now ≡ value τ (location τ before) e.now = ap (λ l. value σ l e.now) here ∙ value_agree (names (keys_of perm) before) σ τ (location τ before) 0 e.now d.lawful.0 u.agrees in
+    let k = value_known (perm ++ u.symbols) (location σ before) 0 e.now (subst (λ ns. Names ns e.now) (sym u.defines.order) d.lawful.0) in
+    let is : k.0 ≡ v = ap or_zero (sym k.1 ∙ same_value) in
+    record {
+      symbols = u.symbols;
+      defines = u.defines;
+      none = ap (assign_fault perm limit u.symbols n) k.1 ∙ ap (λ l. giving_fault Redefined limit (length u.symbols) (σ n) l) is ∙ u.none;
+      new_is = u.new_is ∙ sym (ap (assign_table perm limit u.symbols n) k.1 ∙ ap (λ l. giving_table u.symbols n (σ n) l) is);
+    }
+
+none_left : (s : List (Name × ℕ)) (perm : List (Name × ℕ)) → keys_of (perm ++ s) ≡ keys_of perm → s ≡ []
+none_left [] perm e = refl
+none_left (x ∷ s) perm e = absurd (omega (arith, ap length (sym (keys-append perm (x ∷ s)) ∙ e), length-append (keys_of perm) (keys_of (x ∷ s))))
+
+-- acts have one list of symbols
+pub unique : (perm : List (Name × ℕ)) (limit : ℕ) (acts : List Act) (s u : List (Name × ℕ)) → Defines perm limit acts s → Defines perm limit acts u → s ≡ u
+unique perm limit [] s u d e = none_left s perm d.order ∙ sym (none_left u perm e.order)
+unique perm limit (next ∷ before) s u d e =
+    let b : Before perm limit before next s = stood perm limit before next s d in
+    let c : Before perm limit before next u = stood perm limit before next u e in
+    let old : b.symbols ≡ c.symbols = unique perm limit before b.symbols c.symbols b.defines c.defines in
+    b.new_is ∙ ap (λ s. after perm limit s before next) old ∙ sym c.new_is

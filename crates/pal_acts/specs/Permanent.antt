@@ -1,0 +1,60 @@
+-- The permanent symbols of both profiles.
+use Prim.Native.String.{String}
+use Rattle.std.specs.Prelude.{◌≡◌, ℕ, ◌%◌, Bool, true, ◌&&◌, not, List, [], ◌∷◌, ◌++◌, codes}
+use Rattle.std.specs.List.{list_all}
+use Rattle.std.specs.Map.{keys_of}
+use Rattle.word12.specs.Octal.{octal_value}
+use Rattle.instruct.specs.declared.Profile.{Profile}
+use Rattle.instruct.specs.declared.Profile.TheVariants.{Pdp8I, Pdp8E}
+use Rattle.pal_text.specs.declared.names.Name.{Name}
+use Rattle.pal_acts.specs.Meaning.{has}
+use Rattle.pal_acts.specs.Words.{named, references, indirect_mark, zero_mark}
+
+-- A symbol by its six characters, and its value in octal digits.
+abbrev pub symbol : String → String → Name × ℕ
+symbol characters value = (named (codes characters), octal_value (codes value))
+
+-- Those of the PDP-8/I: the operations that take an address, I and Z; the operate instructions and their usual
+-- combinations; ION and IOF; and the words of the reader, the punch, the keyboard and the printer.
+unfoldable pub common_symbols : List (Name × ℕ)
+common_symbols =
+    symbol "AND   " "0000" ∷ symbol "TAD   " "1000" ∷ symbol "ISZ   " "2000" ∷ symbol "DCA   " "3000"
+    ∷ symbol "JMS   " "4000" ∷ symbol "JMP   " "5000" ∷ symbol "I     " "0400" ∷ symbol "Z     " "0000"
+    ∷ symbol "NOP   " "7000" ∷ symbol "CLA   " "7200" ∷ symbol "CLL   " "7100" ∷ symbol "CMA   " "7040"
+    ∷ symbol "CML   " "7020" ∷ symbol "RAR   " "7010" ∷ symbol "RTR   " "7012" ∷ symbol "RAL   " "7004"
+    ∷ symbol "RTL   " "7006" ∷ symbol "IAC   " "7001" ∷ symbol "SMA   " "7500" ∷ symbol "SZA   " "7440"
+    ∷ symbol "SPA   " "7510" ∷ symbol "SNA   " "7450" ∷ symbol "SNL   " "7420" ∷ symbol "SZL   " "7430"
+    ∷ symbol "SKP   " "7410" ∷ symbol "OSR   " "7404" ∷ symbol "HLT   " "7402" ∷ symbol "CIA   " "7041"
+    ∷ symbol "LAS   " "7604" ∷ symbol "STL   " "7120" ∷ symbol "STA   " "7240" ∷ symbol "GLK   " "7204"
+    ∷ symbol "ION   " "6001" ∷ symbol "IOF   " "6002" ∷ symbol "RSF   " "6011" ∷ symbol "RRB   " "6012"
+    ∷ symbol "RFC   " "6014" ∷ symbol "PSF   " "6021" ∷ symbol "PCF   " "6022" ∷ symbol "PPC   " "6024"
+    ∷ symbol "PLS   " "6026" ∷ symbol "KSF   " "6031" ∷ symbol "KCC   " "6032" ∷ symbol "KRS   " "6034"
+    ∷ symbol "KRB   " "6036" ∷ symbol "TSF   " "6041" ∷ symbol "TCF   " "6042" ∷ symbol "TPC   " "6044"
+    ∷ symbol "TLS   " "6046" ∷ []
+
+-- Those that the PDP-8/E has beside them: the words of MQ, BSW, KCF and TFL.
+unfoldable pub further_symbols : List (Name × ℕ)
+further_symbols =
+    symbol "MQL   " "7421" ∷ symbol "MQA   " "7501" ∷ symbol "SWP   " "7521" ∷ symbol "CAM   " "7621"
+    ∷ symbol "BSW   " "7002" ∷ symbol "KCF   " "6030" ∷ symbol "TFL   " "6040" ∷ []
+
+unfoldable pub permanent_symbols : Profile → List (Name × ℕ)
+permanent_symbols Pdp8I = common_symbols
+permanent_symbols Pdp8E = common_symbols ++ further_symbols
+
+-- A symbol as the code lists it, with its value as a word.
+abbrev pub listed : List ℕ × ℕ → Name × ℕ
+listed s = (named s.0, s.1 % 4096)
+
+-- No name stands twice among these.
+abbrev pub no_name_twice : List Name → Bool
+no_name_twice [] = true
+no_name_twice (n ∷ ns) = not (has ns n) && no_name_twice ns
+
+-- Under both profiles each permanent symbol has one value.
+abbrev pub PermanentOnce : Type 0
+PermanentOnce = (profile : Profile) → no_name_twice (keys_of (permanent_symbols profile)) ≡ true
+
+-- Under both profiles the operations that take an address, I and Z are permanent symbols.
+abbrev pub ReferencesPermanent : Type 0
+ReferencesPermanent = (profile : Profile) → list_all (has (keys_of (permanent_symbols profile))) (references ++ indirect_mark ∷ zero_mark ∷ []) ≡ true

@@ -1,0 +1,107 @@
+-- The word that an expression is.
+use Rattle.std.specs.Prelude.{ℕ, ◌/◌, ◌%◌, Bool, true, false, ◌&&◌, if◌then◌else◌, List, [], ◌∷◌, Option, Some, None, Result, Ok, Err, nat_eq, nat_lt, bit_or, codes}
+use Rattle.std.specs.List.{list_any}
+use Rattle.pal_text.specs.declared.names.Name.{Name}
+use Rattle.pal_acts.specs.declared.act.Sign.{Sign}
+use Rattle.pal_acts.specs.declared.act.Sign.TheVariants.{Plus, Minus, Or}
+use Rattle.pal_acts.specs.declared.act.Term.{Term}
+use Rattle.pal_acts.specs.declared.act.Term.TheVariants.{Number, Symbol, Here}
+use Rattle.pal_acts.specs.declared.act.Join.{Join}
+use Rattle.pal_acts.specs.declared.code.Code.{Code}
+use Rattle.pal_acts.specs.declared.code.Code.TheVariants.{Undefined, IllegalReference}
+use Rattle.pal_acts.specs.Values.{Values, same, term_value, value}
+
+-- The name with these six characters.
+abbrev pub named : List ℕ → Name
+named letters = record { letters = letters }
+
+-- The mark of an indirect reference, and that of page zero.
+abbrev pub indirect_mark : Name
+indirect_mark = named (codes "I     ")
+
+abbrev pub zero_mark : Name
+zero_mark = named (codes "Z     ")
+
+-- The operations that take an address.
+abbrev pub references : List Name
+references =
+    named (codes "AND   ") ∷ named (codes "TAD   ") ∷ named (codes "ISZ   ")
+    ∷ named (codes "DCA   ") ∷ named (codes "JMS   ") ∷ named (codes "JMP   ") ∷ []
+
+abbrev pub is_or : Sign → Bool
+is_or Or = true
+is_or Plus = false
+is_or Minus = false
+
+-- A term is one of these symbols.
+abbrev pub is_one_of : List Name → Term → Bool
+is_one_of ns (Symbol n) = list_any (same n) ns
+is_one_of ns (Number w) = false
+is_one_of ns Here = false
+
+-- A term stands where it begins an expression or follows a space, and is one of these symbols.
+abbrev pub joins_one_of : List Name → Join → Bool
+joins_one_of ns j = is_or j.sign && is_one_of ns j.term
+
+abbrev pub is_reference : Join → Bool
+is_reference j = joins_one_of references j
+
+abbrev pub is_indirect : Join → Bool
+is_indirect j = joins_one_of (indirect_mark ∷ []) j
+
+abbrev pub is_zero : Join → Bool
+is_zero j = joins_one_of (zero_mark ∷ []) j
+
+-- What follows an operation that takes an address: whether I stands there, whether Z does, and the address after them.
+pub record Marked : Type 0 where
+  pub indirect : Bool
+  pub zero : Bool
+  pub address : List Join
+
+abbrev pub marked : Bool → Bool → List Join → Marked
+marked i z js = record { indirect = i; zero = z; address = js }
+
+abbrev pub after_indirect : List Join → Marked
+after_indirect [] = marked true false []
+after_indirect (j ∷ js) = if is_zero j then marked true true js else marked true false (j ∷ js)
+
+abbrev pub after_zero : List Join → Marked
+after_zero [] = marked false true []
+after_zero (j ∷ js) = if is_indirect j then marked true true js else marked false true (j ∷ js)
+
+-- I and Z, in either order, each at most once; the rest is the address.
+abbrev pub marks : List Join → Marked
+marks [] = marked false false []
+marks (j ∷ js) = if is_indirect j then after_indirect js else if is_zero j then after_zero js else marked false false (j ∷ js)
+
+-- An expression that names a symbol without a value is no word.
+abbrev pub plain : Option ℕ → Result ℕ Code
+plain None = Err Undefined
+plain (Some v) = Ok v
+
+-- A reference to an address: below 0200 it is coded on page zero; in the page of the location with 0200, unless Z stands
+-- there; no other address can be referred to.
+abbrev pub addressed : ℕ → Bool → ℕ → ℕ → Result ℕ Code
+addressed base zero here a =
+    if nat_lt a 128 then Ok (bit_or base a)
+    else if zero then Err IllegalReference
+    else if nat_eq (a / 128) (here / 128) then Ok (bit_or (bit_or base 128) (a % 128))
+    else Err IllegalReference
+
+abbrev pub referring : ℕ → Bool → ℕ → Option ℕ → Result ℕ Code
+referring base zero here None = Err Undefined
+referring base zero here (Some a) = addressed base zero here a
+
+-- An operation, with 0400 where the reference is indirect.
+abbrev pub base : ℕ → Bool → ℕ
+base operation indirect = if indirect then bit_or operation 256 else operation
+
+abbrev pub reference : Values → ℕ → Option ℕ → Marked → Result ℕ Code
+reference σ here None m = Err Undefined
+reference σ here (Some operation) m = referring (base operation m.indirect) m.zero here (value σ here m.address)
+
+-- The word that an expression is at a location, or why it is none: a reference where it begins with an operation that
+-- takes an address, and its value otherwise.
+abbrev pub word_value : Values → ℕ → List Join → Result ℕ Code
+word_value σ here [] = plain (value σ here [])
+word_value σ here (j ∷ js) = if is_reference j then reference σ here (term_value σ here j.term) (marks js) else plain (value σ here (j ∷ js))

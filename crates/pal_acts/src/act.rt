@@ -1,0 +1,51 @@
+//! What a source is made of.
+
+use crate::code::Code;
+pub use pal_text::Name;
+use word12::Word;
+
+/// How a term joins what stands before it.
+#[derive(Clone, Copy, PartialEq, Eq, Debug)]
+pub enum Sign {
+    /// The sum, modulo 4096.
+    Plus,
+    /// The difference, modulo 4096.
+    Minus,
+    /// The bitwise inclusive or, as a space says it. An unsigned first term is joined so to 0.
+    Or,
+}
+
+/// A term of an expression.
+#[derive(Clone, Copy, PartialEq, Eq, Debug)]
+pub enum Term {
+    /// A number.
+    Number(Word),
+    /// A symbol, by its name.
+    Symbol(Name),
+    /// The current location.
+    Here,
+}
+
+/// A term, and how it joins what stands before it; an expression is a list of these.
+#[derive(Clone, Copy, PartialEq, Eq, Debug)]
+pub struct Join {
+    pub sign: Sign,
+    pub term: Term,
+}
+
+/// One thing that a source does. Its acts stand in the order in which faults are looked for.
+#[derive(Clone, Copy, Debug)]
+pub enum Act<'t> {
+    /// It is wrong by itself: a form, a digit or a number.
+    Wrong(Code),
+    /// `symbol,`: the symbol gets the current location.
+    Tag(Name),
+    /// `*e`: the location becomes the value of the expression.
+    Origin(&'t [Join]),
+    /// `symbol=e`: the symbol gets the value of the expression.
+    Assign(Name, &'t [Join]),
+    /// A word, which goes to the current location.
+    Word(&'t [Join]),
+    /// The last part ends by PAUSE.
+    LastPause,
+}

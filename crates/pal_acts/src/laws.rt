@@ -1,0 +1,29 @@
+//! Laws over the definitions alone. Each is the contract of a function that does nothing.
+
+ghost use Rattle.pal_acts.specs.Laws.{NotBoth, OneFault, OneSource};
+ghost use Rattle.pal_acts.specs.Permanent.{PermanentOnce, ReferencesPermanent};
+
+/// A source has one list of own symbols and one image.
+pub fn one_source()
+    ensures { OneSource }
+{}
+
+/// A source that has a meaning has no fault.
+pub fn not_both()
+    ensures { NotBoth }
+{}
+
+/// A source has one fault, at one act.
+pub fn one_fault()
+    ensures { OneFault }
+{}
+
+/// No permanent symbol stands twice in the list of a profile.
+pub fn permanent_symbols_stand_once()
+    ensures { PermanentOnce }
+{}
+
+/// Under both profiles the operations that take an address, I and Z are permanent symbols.
+pub fn references_are_permanent()
+    ensures { ReferencesPermanent }
+{}

@@ -1,0 +1,23 @@
+//! What the acts of a PAL III source mean: its symbols and its image, or its first fault.
+//!
+//! A source is a list of acts in the order in which faults are looked for: tags, origins,
+//! assignments, words, and what is wrong by itself. [`assemble`] gives the one meaning of such a
+//! list, or its one fault. How a text becomes acts is not looked at here.
+#![tactic(auto)]
+
+pub mod act;
+pub mod assembly;
+pub mod code;
+pub mod laws;
+pub mod permanent;
+pub mod symbols;
+mod words;
+
+pub use act::{Act, Join, Name, Sign, Term};
+pub use assembly::{Assembled, Refused, assemble};
+pub use code::Code;
+pub use permanent::PermanentSymbols;
+pub use symbols::Symbols;
+
+#[cfg(test)]
+mod tests;

@@ -1,0 +1,151 @@
+//! The symbols of a source and their values.
+
+ghost use Rattle.std.specs.Prelude.{◌≡◌, None, [], ◌++◌, length, OnOk, IfErr};
+ghost use Rattle.pal_acts.specs.Values.{in_table, known, term_value, value, joined};
+ghost use Rattle.pal_acts.specs.Faults.{giving_fault, giving_table};
+ghost use Rattle.pal_acts.specs.Steps.{IsFault, Goes, Breaks};
+
+use crate::act::{Act, Join, Name, Sign, Term};
+use crate::code::Code;
+use indexmap::IndexMap;
+use std::alloc::Allocator;
+use std::hash::{BuildHasherDefault, FoldHasher};
+use word12::Word;
+
+/// How many symbols a source may have beside the permanent ones.
+pub const MOST_SYMBOLS: usize = 1024;
+
+/// Why an act is refused.
+#[derive(Clone, Copy, Debug, PartialEq, Eq)]
+pub(crate) enum Refusal {
+    Fault(Code),
+    NoMemory,
+}
+
+/// The value of a name's first entry in a table.
+fn find(table: &[(Name, Word)], name: Name) -> Option<Word>
+    ensures { result ≡ in_table table.now name }
+{
+    for (known, value) in table {
+        if name == *known {
+            return Some(*value);
+        }
+    }
+    None
+}
+
+fn join(sign: Sign, left: Word, right: Word) -> Word
+    ensures { result ≡ joined sign left right }
+{
+    match sign {
+        Sign::Plus => left.add(right),
+        Sign::Minus => left.add(right.complement()).increment(),
+        Sign::Or => left.or(right),
+    }
+}
+
+/// The permanent symbols, and a source's own in the order of their definition.
+#[derive(Drop)]
+pub struct Symbols<'p, A: Allocator + Copy> {
+    pub permanent: &'p [(Name, Word)],
+    pub own: IndexMap<Name, Word, BuildHasherDefault<FoldHasher>, A>,
+}
+
+impl<'p, A: Allocator + Copy> Symbols<'p, A> {
+    pub(crate) fn new(alloc: A, permanent: &'p [(Name, Word)]) -> Self
+        ensures permanent { result.permanent.now ≡ permanent.now }
+        ensures none { result.own.entries ≡ [] }
+    {
+        Symbols {
+            permanent,
+            own: IndexMap::new(alloc),
+        }
+    }
+
+    /// The value of a symbol, if it has one; a permanent one keeps its own.
+    pub fn get(&self, name: Name) -> Option<Word>
+        ensures { result ≡ known self.now.permanent.now self.now.own.entries name }
+    {
+        match find(self.permanent, name) {
+            Some(value) => Some(value),
+            None => self.own.get(&name).copied(),
+        }
+    }
+
+    /// The value of a term at a location, if it has one.
+    pub(crate) fn term(&self, here: Word, term: Term) -> Option<Word>
+        ensures { result ≡ term_value (known self.now.permanent.now self.now.own.entries) here term }
+    {
+        match term {
+            Term::Number(word) => Some(word),
+            Term::Symbol(name) => self.get(name),
+            Term::Here => Some(here),
+        }
+    }
+
+    /// The value of an expression at a location; none where a symbol has none.
+    pub fn value(&self, here: Word, joins: &[Join]) -> Option<Word>
+        ensures { result ≡ value (known self.now.permanent.now self.now.own.entries) here joins.now }
+    {
+        let mut sum = Word::ZERO;
+        for item in joins {
+            sum = join(item.sign, sum, self.term(here, item.term)?);
+        }
+        Some(sum)
+    }
+
+    /// Gives a name a value. Where it has another, that is the fault `other`.
+    fn give(&mut self, name: Name, value: Word, other: Code) -> Result<(), Refusal>
+        ensures sound { OnOk result (giving_fault other 1024 (length self.old.own.entries) (known self.old.permanent.now self.old.own.entries name) value ≡ None) }
+        ensures given { OnOk result (self.new.own.entries ≡ giving_table self.old.own.entries name (known self.old.permanent.now self.old.own.entries name) value) }
+        ensures refused { IfErr result (IsFault (length self.old.own.entries) (giving_fault other 1024 (length self.old.own.entries) (known self.old.permanent.now self.old.own.entries name) value) (giving_table self.old.own.entries name (known self.old.permanent.now self.old.own.entries name) value)) }
+        ensures permanent { self.new.permanent ≡ self.old.permanent }
+    {
+        match self.get(name) {
+            Some(old) => {
+                if old == value {
+                    Ok(())
+                } else {
+                    Err(Refusal::Fault(other))
+                }
+            }
+            None => {
+                if self.own.len() >= MOST_SYMBOLS {
+                    return Err(Refusal::Fault(Code::TableFull));
+                }
+                match self.own.insert(name, value) {
+                    Ok(_) => Ok(()),
+                    Err(_) => Err(Refusal::NoMemory),
+                }
+            }
+        }
+    }
+
+    /// Takes the next act, at the current location; its word is not looked at.
+    pub(crate) fn act(&mut self, here: &mut Word, act: Act<'_>) -> Result<(), Refusal>
+        ensures goes { OnOk result (Goes self.old.permanent.now 1024 act.entry self.old.own.entries here.old self.new.own.entries here.new) }
+        ensures refused { IfErr result (Breaks self.old.permanent.now 1024 act.entry self.old.own.entries here.old) }
+        ensures permanent { self.new.permanent ≡ self.old.permanent }
+    {
+        match act {
+            Act::Wrong(code) => Err(Refusal::Fault(code)),
+            Act::LastPause => Err(Refusal::Fault(Code::PauseInLastPart)),
+            Act::Tag(name) => self.give(name, *here, Code::DuplicateTag),
+            Act::Origin(joins) => match self.value(*here, joins) {
+                Some(origin) => {
+                    *here = origin;
+                    Ok(())
+                }
+                None => Err(Refusal::Fault(Code::Undefined)),
+            },
+            Act::Assign(name, joins) => match self.value(*here, joins) {
+                Some(value) => self.give(name, value, Code::Redefined),
+                None => Err(Refusal::Fault(Code::Undefined)),
+            },
+            Act::Word(_) => {
+                *here = here.increment();
+                Ok(())
+            }
+        }
+    }
+}

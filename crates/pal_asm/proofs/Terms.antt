@@ -1,0 +1,54 @@
+-- Terms taken one by one.
+use Rattle.std.proofs.Common.{◌≡◌, ◌∙◌, sym, ap, refl, ℕ, zero, suc, ◌+◌, ◌<◌, List, [], ◌∷◌, ◌++◌, append_assoc, arith, Bool, true, false, if◌then◌else◌, length, get_or, drop}
+use Rattle.std.specs.Prelude.{Result, Ok, Err}
+use Rattle.std.specs.List.{AllByRecursion}
+use Rattle.std.proofs.lemmas.Bool.{cond-true, cond-false}
+use Rattle.std.proofs.lemmas.List.{drop_more, append-nil}
+use Rattle.pal_text.specs.declared.tokens.Token.{Token}
+use Rattle.pal_text.specs.Grammar.{is_joiner}
+use Rattle.pal_acts.specs.declared.act.Sign.{Sign}
+use Rattle.pal_acts.specs.declared.act.Sign.TheVariants.{Or}
+use Rattle.pal_acts.specs.declared.act.Term.{Term}
+use Rattle.pal_acts.specs.declared.act.Join.{Join}
+use Rattle.pal_acts.specs.declared.code.Code.{Code}
+use Rattle.pal_asm.specs.Expressions.{sign_of, term, join, in_front, joins}
+
+-- these terms before others
+abbrev pub with_front : List Join → Result (List Join) Code → Result (List Join) Code
+with_front xs (Ok ys) = Ok (xs ++ ys)
+with_front xs (Err c) = Err c
+
+pub with_none : (r : Result (List Join) Code) → with_front [] r ≡ r
+with_none (Ok ys) = refl
+with_none (Err c) = refl
+
+one_more : (xs : List Join) (s : Sign) (t : Term) (r : Result (List Join) Code) → with_front xs (in_front s (Ok t) r) ≡ with_front (xs ++ join s t ∷ []) r
+one_more xs s t (Ok ys) = ap Ok (sym (append_assoc xs (join s t ∷ []) ys))
+one_more xs s t (Err c) = refl
+
+module _ (b : ℕ) (source : List ℕ) (xs : List Join) (s : Sign) (ts : List Token) (i : ℕ) (d : Token) (h : i < length ts) where
+  left : joins b source s (drop i ts)
+      ≡ (if is_joiner (get_or ts i d).kind then joins b source (sign_of (get_or ts i d).kind) (drop (i + 1) ts) else in_front s (term b source (get_or ts i d)) (joins b source Or (drop (i + 1) ts)))
+  left = ap (joins b source s) (drop_more ts i d h)
+
+  pub joiner_left : is_joiner (get_or ts i d).kind ≡ true → with_front xs (joins b source s (drop i ts)) ≡ with_front xs (joins b source (sign_of (get_or ts i d).kind) (drop (i + 1) ts))
+  joiner_left is = ap (with_front xs) (left ∙ cond-true (is_joiner (get_or ts i d).kind) _ _ is)
+
+  pub term_left : (t : Term) → is_joiner (get_or ts i d).kind ≡ false → term b source (get_or ts i d) ≡ Ok t
+      → with_front xs (joins b source s (drop i ts)) ≡ with_front (xs ++ join s t ∷ []) (joins b source Or (drop (i + 1) ts))
+  term_left t is reads =
+      ap (with_front xs) (left ∙ cond-false (is_joiner (get_or ts i d).kind) _ _ is ∙ ap (λ r. in_front s r (joins b source Or (drop (i + 1) ts))) reads)
+      ∙ one_more xs s t (joins b source Or (drop (i + 1) ts))
+
+  pub bad_left : (c : Code) → is_joiner (get_or ts i d).kind ≡ false → term b source (get_or ts i d) ≡ Err c → with_front xs (joins b source s (drop i ts)) ≡ Err c
+  bad_left c is reads =
+      ap (with_front xs) (left ∙ cond-false (is_joiner (get_or ts i d).kind) _ _ is ∙ ap (λ r. in_front s r (joins b source Or (drop (i + 1) ts))) reads)
+
+pub none_left : (b : ℕ) (source : List ℕ) (xs : List Join) (s : Sign) (ts : List Token) → ts ≡ [] → with_front xs (joins b source s ts) ≡ Ok xs
+none_left b source xs s ts e = ap (λ l. with_front xs (joins b source s l)) e ∙ ap Ok (append-nil xs)
+
+-- what holds of each element holds of one
+pub one_of_all : {X : Type 0} (P : X → Type 0) (xs : List X) (i : ℕ) (d : X) → i < length xs → AllByRecursion P xs → P (get_or xs i d)
+one_of_all P [] i d h all = absurd (omega arith)
+one_of_all P (x ∷ xs) zero d h all = all.0
+one_of_all P (x ∷ xs) (suc i) d h all = one_of_all P xs i d (omega arith) all.1

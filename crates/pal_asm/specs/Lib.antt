@@ -1,0 +1,5 @@
+pub mod Numbers
+pub mod Expressions
+pub mod Acts
+pub mod Sources
+pub mod Kept

@@ -1,0 +1,82 @@
+//! Expressions, by their tokens.
+
+ghost use Rattle.std.specs.Prelude.{◌≡◌, length, IfOk};
+ghost use Rattle.std.specs.List.{AllByRecursion};
+ghost use Rattle.pal_text.specs.Names.{IsWithin};
+ghost use Rattle.pal_text.specs.Grammar.{is_joiner};
+ghost use Rattle.pal_asm.specs.Numbers.{base};
+ghost use Rattle.pal_asm.specs.Expressions.{sign_of, term, expression, name_of};
+ghost use Rattle.pal_asm.specs.Kept.{read_of};
+
+use crate::number::{Radix, number_of};
+use pal_acts::{Code, Join, Sign, Term};
+use pal_text::{Kind, Name, Token};
+use std::alloc::{AllocError, Allocator};
+
+fn joins_terms(kind: Kind) -> bool
+    ensures { result ≡ is_joiner kind }
+{
+    matches!(kind, Kind::Space | Kind::Plus | Kind::Minus)
+}
+
+fn sign(kind: Kind) -> Sign
+    ensures { result ≡ sign_of kind }
+{
+    match kind {
+        Kind::Plus => Sign::Plus,
+        Kind::Minus => Sign::Minus,
+        _ => Sign::Or,
+    }
+}
+
+/// The name of a symbol's token.
+pub(crate) fn name(source: &[u8], token: Token) -> Name
+    requires { IsWithin (length source.now) token }
+    ensures { result ≡ name_of source.now token }
+{
+    Name::new(&source[token.start..token.end])
+}
+
+/// The term of a token.
+fn term_of(radix: Radix, source: &[u8], token: Token) -> Result<Term, Code>
+    requires { IsWithin (length source.now) token }
+    ensures { result ≡ term (base radix) source.now token }
+{
+    match token.kind {
+        Kind::Number => match number_of(radix, &source[token.start..token.end]) {
+            Ok(word) => Ok(Term::Number(word)),
+            Err(code) => Err(code),
+        },
+        Kind::Here => Ok(Term::Here),
+        _ => Ok(Term::Symbol(name(source, token))),
+    }
+}
+
+/// An expression with the terms of these tokens, or what is wrong with the first bad number.
+pub(crate) fn expression_of<A: Allocator>(
+    alloc: A,
+    radix: Radix,
+    source: &[u8],
+    tokens: &[Token],
+) -> Result<Result<Vec<Join, A>, Code>, AllocError>
+    requires { AllByRecursion (IsWithin (length source.now)) tokens.now }
+    ensures { IfOk result (λ read. read_of read ≡ expression (base radix) source.now tokens.now) }
+{
+    let mut joins = Vec::new(alloc);
+    let mut joined_by = Sign::Or;
+    for token in tokens {
+        if joins_terms(token.kind) {
+            joined_by = sign(token.kind);
+        } else {
+            match term_of(radix, source, *token) {
+                Ok(term) => joins.push(Join {
+                    sign: joined_by,
+                    term,
+                })?,
+                Err(code) => return Ok(Err(code)),
+            }
+            joined_by = Sign::Or;
+        }
+    }
+    Ok(Ok(joins))
+}

@@ -1,0 +1,21 @@
+//! The assembler: from the parts of a PAL III source to its image and its symbols.
+//!
+//! A source is a list of parts, and each part is a list of bytes. [`assemble`] gives what the
+//! source means, or its one fault with the part and the line where it stands.
+#![tactic(auto)]
+
+pub mod assemble;
+pub mod deed;
+pub mod expression;
+pub mod fault;
+pub mod number;
+pub mod reading;
+pub mod sizes;
+pub mod statement;
+
+
+pub use assemble::assemble_with;
+pub use fault::{AssembleFault, PalFault};
+
+
+

@@ -1,0 +1,86 @@
+//! Numbers as they are written.
+
+ghost use Rattle.std.specs.Prelude.{◌≡◌, ◌≤◌, ◌<◌, ◌+◌, ◌-◌, ◌*◌, if◌then◌else◌, nat_lt};
+ghost use Rattle.pal_text.specs.Characters.{characters};
+ghost use Rattle.pal_asm.specs.Numbers.{base, radix_after, number};
+
+use pal_acts::Code;
+use pal_text::Form;
+use pal_text::characters::is_character_code;
+use word12::Word;
+
+/// How numbers are written.
+#[derive(Clone, Copy, PartialEq, Eq, Debug)]
+pub enum Radix {
+    /// With eight digits, as at first and after OCTAL.
+    Octal,
+    /// With ten digits, as after DECIMAL.
+    Decimal,
+}
+
+impl Radix {
+    fn base(self) -> u16
+        ensures is { result ≡ base self }
+        ensures least { 1 ≤ result }
+        ensures most { result ≤ 10 }
+    {
+        match self {
+            Radix::Octal => 8,
+            Radix::Decimal => 10,
+        }
+    }
+
+    /// How numbers are written after a statement of this form.
+    pub(crate) fn after(self, form: Form) -> Radix
+        ensures { result ≡ radix_after self form }
+    {
+        match form {
+            Form::Decimal => Radix::Decimal,
+            Form::Octal => Radix::Octal,
+            _ => self,
+        }
+    }
+}
+
+/// A number with one digit more; from 4096 on it is 4096.
+fn with_digit(base: u16, value: u16, digit: u16) -> u16
+    requires base { base ≤ 10 }
+    requires value { value ≤ 4096 }
+    requires digit { digit < base }
+    ensures grown { result ≡ (if nat_lt (value * base + digit) 4096 then value * base + digit else 4096) }
+    ensures most { result ≤ 4096 }
+{
+    let next = value * base + digit;
+    if next < 4096 {
+        next
+    } else {
+        4096
+    }
+}
+
+/// The number that the bytes of a token spell.
+///
+/// # Errors
+///
+/// `IllegalCharacter` where a character is no digit in this radix, and else `NumberTooLarge` where
+/// the number is above 4095.
+pub(crate) fn number_of(radix: Radix, bytes: &[u8]) -> Result<Word, Code>
+    ensures { result ≡ number (base radix) (characters bytes.now) }
+{
+    let base = radix.base();
+    let mut value = 0;
+    for byte in bytes {
+        let code = *byte % 128;
+        if is_character_code(code) {
+            let digit = u16::from(code.saturating_sub(b'0'));
+            if digit >= base {
+                return Err(Code::IllegalCharacter);
+            }
+            value = with_digit(base, value, digit);
+        }
+    }
+    match Word::new(value) {
+        Some(word) => Ok(word),
+        None => Err(Code::NumberTooLarge),
+    }
+}

@@ -3,3 +3,4 @@ pub mod Expressions
 pub mod Acts
 pub mod Sources
 pub mod Kept
+pub mod Programs

@@ -4,7 +4,7 @@
 //! source means, or its one fault with the part and the line where it stands.
 #![tactic(auto)]
 
-pub mod assemble;
+pub mod program;
 pub mod deed;
 pub mod expression;
 pub mod fault;
@@ -14,7 +14,7 @@ pub mod sizes;
 pub mod statement;
 
 
-pub use assemble::assemble_with;
+pub use program::{Program, SymbolTable, assemble};
 pub use fault::{AssembleFault, PalFault};
 
 

@@ -4,7 +4,7 @@ use Rattle.pal_acts.specs.Faults.{IsRefused}
 use Rattle.pal_asm.specs.Sources.{act_in}
 use Rattle.pal_asm.specs.Kept.{bare, acts_in}
 use Rattle.pal_asm.proofs.Laid.{bound, source_of, fault_of}
-use Rattle.pal_asm.proofs.assemble.assemble_deeds.Goals as goal
+use Rattle.pal_asm.proofs.program.assemble_deeds.Goals as goal
 
 pub returns-in-Ok-assemble-clause-found : goal.returns-in-Ok-assemble-clause-found
 returns-in-Ok-assemble-clause-found g c =

@@ -1,0 +1,12 @@
+-- What a program is, as its calls show it.
+use Rattle.std.specs.Prelude.{ℕ, List, Option}
+use Rattle.pal_text.specs.declared.names.Name.{Name}
+use Rattle.pal_asm.specs.declared.program.Program.{Program}
+
+-- The own symbols of a program with their values, in the order of their definition.
+abbrev pub symbols_of : {A : Type 0} → Program A → List (Name × ℕ)
+symbols_of p = p.own.entries
+
+-- The image of a program: for each address a word or none.
+abbrev pub image_of : {A : Type 0} → Program A → List (Option ℕ)
+image_of p = p.image

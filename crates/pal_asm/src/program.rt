@@ -1,0 +1,141 @@
+//! The image and the symbols of a source.
+
+ghost use Rattle.std.specs.Prelude.{◌≡◌, IfOk, IfErr, MatchResult, map, ℕ, List, Option, Some, Err};
+ghost use Rattle.pal_text.specs.declared.names.Name.{Name as Named};
+ghost use Rattle.pal_acts.specs.Sources.{IsSource};
+ghost use Rattle.pal_asm.specs.declared.fault.PalFault.{PalFault as Faulty};
+ghost use Rattle.pal_acts.specs.Permanent.{permanent_symbols};
+ghost use Rattle.pal_asm.specs.Sources.{act_in, texts, size_fault, Means, IsFault, Refuses, IsSilent, TellsOnly};
+ghost use Rattle.pal_asm.specs.Programs.{symbols_of, image_of};
+ghost use Rattle.pal_asm.specs.Kept.{acts_in, RefusesActs};
+
+use crate::deed::{PlacedDeed, acts_of};
+use crate::fault::{AssembleFault, PalFault};
+use crate::reading::read_source;
+use crate::sizes::fault_of_sizes;
+use bin_tape::Image;
+use indexmap::IndexMap;
+use instruct::Profile;
+use pal_acts::{Assembled, Name, PermanentSymbols, Refused, Symbols};
+use std::alloc::Allocator;
+use std::hash::{BuildHasherDefault, FoldHasher};
+use word12::Word;
+
+/// Symbols with their values.
+pub type SymbolTable<A> = IndexMap<Name, Word, BuildHasherDefault<FoldHasher>, A>;
+
+/// What the acts that are kept mean, or their fault at its place.
+fn assemble_deeds<'p, A: Allocator + Copy>(
+    alloc: A,
+    permanent: &'p [(Name, Word)],
+    deeds: &[PlacedDeed<A>],
+) -> Result<Assembled<'p, A>, AssembleFault>
+    ensures permanent { IfOk result (λ found. found.symbols.permanent.now ≡ permanent.now) }
+    ensures found { IfOk result (λ found. IsSource permanent.now 1024 (map act_in (acts_in deeds.now)) found.symbols.own.entries found.image) }
+    ensures refused { IfErr result (RefusesActs permanent.now (acts_in deeds.now)) }
+{
+    let Ok(acts) = acts_of(alloc, deeds) else {
+        return Err(AssembleFault::NoMemory);
+    };
+    match pal_acts::assemble(alloc, permanent, &acts) {
+        Ok(found) => Ok(found),
+        Err(Refused::Fault(at, code)) => {
+            let place = deeds[at].place;
+            Err(AssembleFault::Source(PalFault {
+                code,
+                part: place.part,
+                line: place.line,
+            }))
+        }
+        Err(Refused::NoMemory) => Err(AssembleFault::NoMemory),
+    }
+}
+
+/// What a source means, or its fault.
+fn assemble_parts<'p, A: Allocator + Copy>(
+    alloc: A,
+    permanent: &'p [(Name, Word)],
+    parts: &[&[u8]],
+) -> Result<Assembled<'p, A>, AssembleFault>
+    ensures permanent { IfOk result (λ found. found.symbols.permanent.now ≡ permanent.now) }
+    ensures found { IfOk result (λ found. Means permanent.now (texts parts.now) found.symbols.own.entries found.image) }
+    ensures refused { IfErr result (Refuses permanent.now (texts parts.now)) }
+    ensures sized { (fault : Faulty) → size_fault (texts parts.now) ≡ Some fault → result ≡ Err (AssembleFault.Source fault) }
+{
+    if let Some(fault) = fault_of_sizes(parts) {
+        return Err(AssembleFault::Source(fault));
+    }
+    let Ok(deeds) = read_source(alloc, parts) else {
+        return Err(AssembleFault::NoMemory);
+    };
+    assemble_deeds(alloc, permanent, &deeds)
+}
+
+/// What a source means: its image and its own symbols.
+#[derive(Drop)]
+pub struct Program<A: Allocator + Copy> {
+    image: Image,
+    own: SymbolTable<A>,
+}
+
+impl<A: Allocator + Copy> Program<A> {
+    /// The words of the program, each at its address.
+    pub fn image(&self) -> &Image
+        ensures { result.now ≡ image_of self.now }
+    {
+        &self.image
+    }
+
+    /// The symbols that the source defines with their values, in the order of their definition.
+    pub fn symbols(&self) -> &SymbolTable<A>
+        ensures { result.now.entries ≡ symbols_of self.now }
+    {
+        &self.own
+    }
+}
+
+/// What a source means under the permanent symbols of a profile.
+fn assemble_for<A: Allocator + Copy>(
+    alloc: A,
+    parts: &[&[u8]],
+    profile: Profile,
+) -> Result<Program<A>, AssembleFault>
+    ensures meaning { IfOk result (λ program. Means (permanent_symbols profile) (texts parts.now) (symbols_of program) (image_of program)) }
+    ensures refused { IfErr result (Refuses (permanent_symbols profile) (texts parts.now)) }
+    ensures sized { (fault : Faulty) → size_fault (texts parts.now) ≡ Some fault → result ≡ Err (AssembleFault.Source fault) }
+{
+    let permanent = PermanentSymbols::new(profile);
+    match assemble_parts(alloc, permanent.as_slice(), parts) {
+        Ok(found) => {
+            let Assembled { symbols, image } = found;
+            let Symbols { own, .. } = symbols;
+            Ok(Program { image, own })
+        }
+        Err(fault) => Err(fault),
+    }
+}
+
+/// Assembles a source: its parts one after another, up to `$` or the end of the last one.
+///
+/// # Errors
+///
+/// `Source` with the one fault of the source, at its part and its line. That there are no parts or
+/// more than 16, or that a part has more than 65,536 bytes, is told before anything else.
+/// `NoMemory` where memory was refused.
+pub fn assemble<A: Allocator + Copy>(
+    alloc: A,
+    parts: &[&[u8]],
+    profile: Profile,
+) -> Result<Program<A>, AssembleFault>
+    ensures meaning { IfOk result (λ program. Means (permanent_symbols profile) (texts parts.now) (symbols_of program) (image_of program)) }
+    ensures refused { IfErr result (Refuses (permanent_symbols profile) (texts parts.now)) }
+    // A source that has a meaning is answered by no fault.
+    ensures meant { (own : List (Named × ℕ)) (image : List (Option ℕ)) → Means (permanent_symbols profile) (texts parts.now) own image →
+        MatchResult result (λ program. (symbols_of program ≡ own) × (image_of program ≡ image)) IsSilent }
+    // A source that has a fault is answered by no other, and by no meaning.
+    ensures faulty { (fault : Faulty) → IsFault (permanent_symbols profile) (texts parts.now) fault → MatchResult result (λ program. ⊥) (TellsOnly fault) }
+    // What is wrong with the sizes is told without memory.
+    ensures sized { (fault : Faulty) → size_fault (texts parts.now) ≡ Some fault → result ≡ Err (AssembleFault.Source fault) }
+{
+    assemble_for(alloc, parts, profile)
+}

@@ -2,3 +2,4 @@ pub mod Declaration
 pub mod Calls
 pub mod Rules
 pub mod Runs
+pub mod Kept

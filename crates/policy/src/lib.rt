@@ -3,4 +3,4 @@
 
 mod declaration;
 
-pub use declaration::{Declaration, Offsets, Routine};
+pub use declaration::{Declaration, DeclarationFault, Offsets, Routine};

@@ -2,11 +2,11 @@
 
 ghost use Rattle.std.specs.Prelude.{◌≡◌, ◌<◌, ◌==◌, ◌||◌, [], ◌∷◌, IfSome, OnSome};
 ghost use Rattle.peripherals.specs.Text.{octal_word};
-ghost use Rattle.std.specs.List.{after_first};
+ghost use Rattle.std.specs.List.{after_first, position};
 ghost use Rattle.std.specs.Option.{option_map};
 ghost use Rattle.peripherals.specs.TextLeft.{words_left};
 ghost use Rattle.policy.specs.Kept.{cells, offsets_of};
-ghost use Rattle.policy.specs.DeclarationLines.{range_of, address_of, offset_of, any_of, these, all_read, some_read, span, is_returns, body_read, offsets_read, routine, start_line, sub_line, profile_line, named_line, line_of};
+ghost use Rattle.policy.specs.DeclarationLines.{is_dash, range_of, address_of, offset_of, any_of, these, all_read, some_read, span, is_returns, body_read, offsets_read, routine, start_line, sub_line, profile_line, named_line, line_of};
 ghost use Rattle.policy.specs.Drafts.{cells_read, ranges_before, said};
 
 use super::{Offsets, Routine, sets};
@@ -272,10 +272,17 @@ fn address(word: &[u8]) -> Option<WordSet>
 fn range(word: &[u8]) -> Option<WordSet>
     ensures { option_map cells result ≡ range_of word.now }
 {
-    match word.iter().position(|byte| *byte == b'-') {
+    match place_of_dash(word) {
         None => address(word),
         Some(at) => span(&word[..at], &word[at + 1..]),
     }
+}
+
+/// The first place of a dash.
+fn place_of_dash(word: &[u8]) -> Option<usize>
+    ensures { result ≡ position is_dash word.now }
+{
+    word.iter().position(|byte| *byte == b'-')
 }
 
 /// The cells from one address to another.

@@ -1,6 +1,6 @@
 -- What is gathered while a declaration is read.
-use Rattle.std.specs.Prelude.{◌≡◌, ℕ, ◌+◌, ◌<◌, ◌≤◌, nat_le, Bool, if◌then◌else◌, unwrap_or, List, [], ◌∷◌, ◌++◌, length, map, Option, Some, None}
-use Rattle.std.specs.List.{list_any, before_first}
+use Rattle.std.specs.Prelude.{◌≡◌, ℕ, ◌+◌, ◌<◌, ◌≤◌, nat_le, ◌==◌, Bool, if◌then◌else◌, unwrap_or, List, [], ◌∷◌, ◌++◌, length, map, Option, Some, None}
+use Rattle.std.specs.List.{list_any, count_by, before_first}
 use Rattle.std.specs.Option.{option_map, option_to_list}
 use Rattle.instruct.specs.declared.Profile.{Profile}
 use Rattle.wordset.specs.Words.{Words, nothing, union}
@@ -97,3 +97,10 @@ Refuses c line number (HaltNotInBody a) = ⊥
 pub record Counts (coverage : Coverage) (number : ℕ → ℕ) : Type 0 where
   pub once : (a : ℕ) → a < 4096 → words coverage.once a ≡ nat_le 1 (number a)
   pub twice : (a : ℕ) → a < 4096 → words coverage.twice a ≡ nat_le 2 (number a)
+
+-- In how many bodies a cell is, and how many routines have an entry, of those that are kept.
+abbrev pub kept_bodies : List ℕ → List KeptRoutine → ℕ → ℕ
+kept_bodies main routines a = (if cells main a then 1 else 0) + count_by (λ r. cells r.body a) routines
+
+abbrev pub kept_entries : List KeptRoutine → ℕ → ℕ
+kept_entries routines a = count_by (λ r. r.entry == a) routines

@@ -1,13 +1,13 @@
 //! What the lines of a declaration say together, and the rules that it keeps.
 
 ghost use Rattle.std.specs.Prelude.{ℕ, ◌≡◌, ◌<◌, ◌+◌, [], ◌∷◌, if◌then◌else◌, OnOk, IfOk, IfErr};
-ghost use Rattle.std.specs.List.{count_by};
 ghost use Rattle.wordset.specs.Words.{SameWords};
 ghost use Rattle.wordset.specs.Lanes.{words};
 ghost use Rattle.processor.specs.Machine.{is_auto_index};
+ghost use Rattle.policy.specs.Declaration.{IsDeclared};
 ghost use Rattle.policy.specs.Kept.{meaning};
-ghost use Rattle.policy.specs.DeclarationText.{contents, Says, KeepsRules, Breaks, overlaps, bodies_at, entries_at};
-ghost use Rattle.policy.specs.Drafts.{gathered, said, with_line, MayFollow, Refuses, Counts};
+ghost use Rattle.policy.specs.DeclarationText.{contents, Says, KeepsRules, Breaks, overlaps, entry_in_index, halt_outside, bodies_at, entries_at};
+ghost use Rattle.policy.specs.Drafts.{gathered, said, with_line, MayFollow, Refuses, Counts, kept_bodies, kept_entries};
 
 use super::lines::Line;
 use super::sets::{self, Coverage};
@@ -123,6 +123,7 @@ impl<A: Allocator> Draft<A> {
     pub fn finish(self) -> Result<Declaration<A>, DeclarationFault>
         ensures says { IfOk result (λ d. Says (gathered self) (meaning d)) }
         ensures rules { IfOk result (λ d. KeepsRules (gathered self) (meaning d).start) }
+        ensures declared { IfOk result (λ d. IsDeclared (meaning d)) }
         ensures broken { IfErr result (Breaks (gathered self)) }
     {
         let Some(start) = self.start else {
@@ -149,19 +150,18 @@ impl<A: Allocator> Draft<A> {
         ensures kept { OnOk result (KeepsRules (gathered self.now) start) }
         ensures broken { IfErr result (Breaks (gathered self.now)) }
     {
-        let bodies = self.bodies();
-        let entries = self.entries();
+        let bodies = bodies(&self.main, &self.routines);
+        let entries = entries(&self.routines);
         if let Some(at) = self.overlaps(&bodies, &entries).first_from(0) {
             return Err(DeclarationFault::Overlap(at));
         }
-        if let Some(at) = index_cells().meet(&entries.once).first_from(0) {
+        if let Some(at) = self.entries_in_index(&entries).first_from(0) {
             return Err(DeclarationFault::EntryInAutoIndex(at));
         }
         if !self.main.contains(start) {
             return Err(DeclarationFault::StartNotInMain);
         }
-        let halts = self.stops.union(&self.pauses);
-        if let Some(at) = halts.minus(&bodies.once).first_from(0) {
+        if let Some(at) = self.halts_outside(&bodies).first_from(0) {
             return Err(DeclarationFault::HaltNotInBody(at));
         }
         Ok(())
@@ -181,28 +181,44 @@ impl<A: Allocator> Draft<A> {
             .union(&self.stops.meet(&self.pauses))
     }
 
-    /// The cells of bodies.
-    fn bodies(&self) -> Coverage
-        ensures { Counts result (bodies_at (gathered self.now)) }
+    /// The entries that are auto-index cells.
+    fn entries_in_index(&self, entries: &Coverage) -> WordSet
+        requires { Counts entries.now (entries_at (gathered self.now)) }
+        ensures { SameWords (words result) (entry_in_index (gathered self.now)) }
     {
-        let mut bodies = Coverage::none();
-        bodies.add(&self.main);
-        for routine in &self.routines {
-            bodies.add(&routine.body);
-        }
-        bodies
+        entries.once.meet(&index_cells())
     }
 
-    /// The entries.
-    fn entries(&self) -> Coverage
-        ensures { Counts result (entries_at (gathered self.now)) }
+    /// The declared halts that are in no body.
+    fn halts_outside(&self, bodies: &Coverage) -> WordSet
+        requires { Counts bodies.now (bodies_at (gathered self.now)) }
+        ensures { SameWords (words result) (halt_outside (gathered self.now)) }
     {
-        let mut entries = Coverage::none();
-        for routine in &self.routines {
-            entries.add(&WordSet::one(routine.entry));
-        }
-        entries
+        self.stops.union(&self.pauses).minus(&bodies.once)
     }
+}
+
+/// The cells of main's body and of those of some routines.
+fn bodies(main: &WordSet, routines: &[Routine]) -> Coverage
+    ensures { Counts result (kept_bodies main.now routines.now) }
+{
+    let mut bodies = Coverage::none();
+    bodies.add(main);
+    for routine in routines {
+        bodies.add(&routine.body);
+    }
+    bodies
+}
+
+/// The entries of some routines.
+fn entries(routines: &[Routine]) -> Coverage
+    ensures { Counts result (kept_entries routines.now) }
+{
+    let mut entries = Coverage::none();
+    for routine in routines {
+        entries.add(&WordSet::one(routine.entry));
+    }
+    entries
 }
 
 /// The auto-index cells.

@@ -30,7 +30,7 @@ impl Coverage {
     /// Of one set more.
     pub fn add(&mut self, set: &WordSet)
         ensures { (number : ℕ → ℕ) → Counts self.old number
-            → Counts self.new (λ a. number a + (if words set.now a then 1 else 0)) }
+            → Counts self.new (λ a. number a + (if cells set.now a then 1 else 0)) }
     {
         self.twice = self.twice.union(&self.once.meet(set));
         self.once = self.once.union(set);

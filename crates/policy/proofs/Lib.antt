@@ -1,0 +1,3 @@
+pub mod LineLemmas
+pub mod DraftLemmas
+pub mod RuleLemmas

@@ -9,6 +9,7 @@ use Rattle.bin_tape.specs.Written.{written_tape}
 use Rattle.pal_text.specs.declared.names.Name.{Name}
 use Rattle.pal_acts.specs.Permanent.{permanent_symbols}
 use Rattle.pal_asm.specs.Sources.{Means, IsFault}
+use Rattle.pal_asm.specs.declared.fault.PalFault.{PalFault}
 use Rattle.workbench.specs.declared.status.Fault.{Fault}
 use Rattle.workbench.specs.declared.status.Fault.TheVariants.{Tape, EmptyImage, Source, Declared, Events, Device}
 use Rattle.workbench.specs.declared.status.Fault.TheVariants as fault

@@ -5,3 +5,4 @@ pub mod Summary
 pub mod Dumping
 pub mod WatchText
 pub mod SourceTexts
+pub mod AssembleText

@@ -9,8 +9,8 @@ use Rattle.peripherals.specs.EventText.{Spells}
 use Rattle.peripherals.specs.Loading.{image_of}
 use Rattle.policy.specs.Declaration.{Declaration}
 use Rattle.policy.specs.DeclarationText.{Declares, Fails}
-use Rattle.policy.specs.declared.parse.DeclarationFault.{DeclarationFault}
-use Rattle.policy.specs.declared.parse.DeclarationFault.TheVariants.{NoMemory}
+use Rattle.policy.specs.declared.declaration.DeclarationFault.{DeclarationFault}
+use Rattle.policy.specs.declared.declaration.DeclarationFault.TheVariants.{NoMemory}
 use Rattle.policy.specs.declared.rules.Rule.{Rule}
 use Rattle.policy.specs.declared.watch.Watched.{Watched}
 use Rattle.policy.specs.declared.watch.Watched.TheVariants.{Clean, Broken}

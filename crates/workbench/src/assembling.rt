@@ -2,9 +2,11 @@
 
 ghost use Rattle.std.specs.Prelude.{◌≡◌, false, true, map, IfOk, IfErr, OnErr};
 ghost use Rattle.std.specs.List.{AllByRecursion, list_any};
-ghost use Rattle.workbench.specs.AssembleText.{HasMeaning, IsAssemblyFault, IsSourceFault, WritesTape, FrontOfTape, WritesListing, FrontOfListing};
+ghost use Rattle.pal_acts.specs.Permanent.{permanent_symbols};
+ghost use Rattle.pal_asm.specs.Programs.{symbols_of, image_of};
+ghost use Rattle.pal_asm.specs.Sources.{texts, Means};
+ghost use Rattle.workbench.specs.AssembleText.{IsAssemblyFault, IsSourceFault, WritesTape, FrontOfTape};
 ghost use Rattle.workbench.specs.Faults.{fails_to_write};
-ghost use Rattle.workbench.specs.SourceTexts.{lent};
 
 use crate::sources::{lend, read_parts};
 use crate::status::{DeviceFault, Fault, Status};
@@ -14,13 +16,13 @@ use pal_asm::{AssembleFault, Program};
 use std::alloc::Allocator;
 
 /// Assembles the parts of a source.
-fn program_of<'s, A: Allocator + Copy>(
+fn program_of<A: Allocator + Copy>(
     alloc: A,
-    parts: &[&'s [u8]],
+    parts: &[&[u8]],
     profile: Profile,
-) -> Result<Program<'s, A>, Fault>
-    ensures found { IfOk result (HasMeaning profile (lent parts.now)) }
-    ensures faults { IfErr result (IsAssemblyFault profile (lent parts.now)) }
+) -> Result<Program<A>, Fault>
+    ensures found { IfOk result (λ program. Means (permanent_symbols profile) (texts parts.now) (symbols_of program) (image_of program)) }
+    ensures faults { IfErr result (IsAssemblyFault profile (texts parts.now)) }
 {
     match pal_asm::assemble(alloc, parts, profile) {
         Ok(program) => Ok(program),

@@ -3,7 +3,8 @@
 ghost use Rattle.std.specs.Prelude.{◌≡◌, false, map, IfOk, IfErr, List, ℕ};
 ghost use Rattle.std.specs.List.{AllByRecursion, list_any};
 ghost use Rattle.workbench.specs.Faults.{IsInputFault};
-ghost use Rattle.workbench.specs.SourceTexts.{AreRead, lent};
+ghost use Rattle.pal_asm.specs.Sources.{texts};
+ghost use Rattle.workbench.specs.SourceTexts.{AreRead};
 
 use crate::input::read_text;
 use crate::status::Fault;
@@ -41,7 +42,7 @@ pub(crate) fn lend<'t, A: Allocator + Copy>(
     alloc: A,
     parts: &'t [Vec<u8, A>],
 ) -> Result<Vec<&'t [u8], A>, AllocError>
-    ensures { IfOk result (λ slices. lent slices.items ≡ map (λ part. part.items) parts.now) }
+    ensures { IfOk result (λ slices. texts slices.items ≡ map (λ part. part.items) parts.now) }
 {
     let mut slices = Vec::new(alloc);
     for part in parts {

@@ -131,7 +131,8 @@ bare_refused perm limit acts at code (inl s) = inl (record {
   defines = bare_defines perm limit s.earlier s.own s.defines;
   breaks = bare_fault perm limit s.own s.earlier s.next ∙ s.breaks;
 })
-bare_refused perm limit acts at code (inr (own, d, f)) = inr (own,
+bare_refused perm limit acts at code (inr (own, d, f)) = inr (
+  own,
   subst (λ l. Defines perm limit l own) (map_reverse acts) (bare_defines perm limit (reverse acts) own d),
   record {
     earlier = map bare f.earlier;
@@ -141,4 +142,5 @@ bare_refused perm limit acts at code (inr (own, d, f)) = inr (own,
     place = f.place ∙ sym (length-map f.earlier bare);
     encodes = bare_encodes (known perm own) f.earlier f.encodes;
     breaks = bare_word_breaks (known perm own) f.earlier f.next code f.breaks;
-  })
+  },
+)

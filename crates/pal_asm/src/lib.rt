@@ -4,18 +4,17 @@
 //! source means, or its one fault with the part and the line where it stands.
 #![tactic(auto)]
 
-pub mod program;
 pub mod deed;
 pub mod expression;
 pub mod fault;
 pub mod number;
+pub mod program;
 pub mod reading;
 pub mod sizes;
 pub mod statement;
 
-
-pub use program::{Program, SymbolTable, assemble};
 pub use fault::{AssembleFault, PalFault};
+pub use program::{Program, SymbolTable, assemble};
 
-
-
+#[cfg(test)]
+mod tests;

@@ -51,11 +51,7 @@ fn with_digit(base: u16, value: u16, digit: u16) -> u16
     ensures most { result ≤ 4096 }
 {
     let next = value * base + digit;
-    if next < 4096 {
-        next
-    } else {
-        4096
-    }
+    if next < 4096 { next } else { 4096 }
 }
 
 /// The number that the bytes of a token spell.

@@ -71,7 +71,8 @@ fn read_part<A: Allocator + Copy>(
             keep(deeds, place, Deed::Wrong(Code::IllegalCharacter))?;
             Ok(Turn::Ends)
         }
-        Err(TextFault::TooLong | TextFault::NoMemory) => Err(AllocError),
+        Err(TextFault::NoMemory) => Err(AllocError),
+        Err(TextFault::TooLong) => unreachable!(),
     }
 }
 

@@ -1,0 +1,227 @@
+//! Sources worked by hand from the rules of the language.
+
+use crate::{AssembleFault, PalFault, assemble};
+use instruct::Profile;
+use pal_acts::Code;
+use std::alloc::Allocator;
+use std::format;
+use std::test::Fail;
+use word12::Word;
+
+/// A program that prints HELLO.
+const HELLO: &[u8] =
+    b"/HELLO\n*200\nSTART, CLA CLL\n TLS\n TAD TABLE\n DCA 10\n TAD COUNT\n DCA LEFT\nLOOP, TAD I 10\n JMS TYPE\n ISZ LEFT\n JMP LOOP\n HLT\n JMP START\nTYPE, 0\n TSF\n JMP .-1\n TLS\n CLA\n JMP I TYPE\nTABLE, LEFT\nCOUNT, -5\nLEFT, 0\n 310;305;314;314;317\n$\n";
+
+/// The same from 0200 on.
+const HELLO_WORDS: [u16; 26] = [
+    0o7300, 0o6046, 0o1222, 0o3010, 0o1223, 0o3224, 0o1410, 0o4214, 0o2224, 0o5206, 0o7402, 0o5200,
+    0o0000, 0o6041, 0o5215, 0o6046, 0o7200, 0o5614, 0o0224, 0o7773, 0o0000, 0o0310, 0o0305, 0o0314,
+    0o0314, 0o0317,
+];
+
+/// The parts of a source, the address of its first word, and its words from there on.
+type Row<'t> = (&'t [&'t [u8]], usize, &'t [u16]);
+
+/// Whether a source has exactly these words.
+fn has_words<A: Allocator + Copy>(alloc: A, profile: Profile, row: Row<'_>) -> Result<bool, Fail> {
+    let (parts, first, words) = row;
+    let program = assemble(alloc, parts, profile)?;
+    for at in 0..4096 {
+        let found = program
+            .image()
+            .get(Word::from_index(at))
+            .map(|word| word.value());
+        let expected = if at < first {
+            None
+        } else {
+            words.get(at - first).copied()
+        };
+        if found != expected {
+            return Ok(false);
+        }
+    }
+    Ok(true)
+}
+
+#[test]
+fn sources_have_images(rt: HostRuntime) -> Result<(), Fail> {
+    let rows: [Row<'_>; 16] = [
+        (&[b"*200\nHLT\n$\n"], 0o200, &[0o7402]),
+        (&[b"*200\x8dHLT\x8d$\x8d"], 0o200, &[0o7402]),
+        (&[b"*200\r\nHLT\r\n$\r\n"], 0o200, &[0o7402]),
+        (&[b"*200\r\xff\nHLT\r\xff\n$\r\xff\n"], 0o200, &[0o7402]),
+        (&[b"$"], 0, &[]),
+        (&[b"*10;TAD 20;$"], 0o10, &[0o1020]),
+        (
+            &[b"DECIMAL;-10;OCTAL;10;300 5;1 2+1;$"],
+            0o200,
+            &[0o7766, 0o0010, 0o0305, 0o0004],
+        ),
+        (&[b"A=5\nPAUSE\n", b"TAD A\n$\n"], 0o200, &[0o1005]),
+        (&[b"DECIMAL\n", b"10\n", b"$?"], 0o200, &[0o0012]),
+        (&[b"1$", b"?"], 0o200, &[0o0001]),
+        (&[b"*200;1;*200;2"], 0o200, &[0o0002]),
+        (&[b"*7777;1;*.-1;2"], 0o7777, &[0o0002]),
+        (
+            &[b"TAD I+5;TAD+5;TAD -7770;-TAD 5"],
+            0o200,
+            &[0o1405, 0o1005, 0o1010, 0o7005],
+        ),
+        (&[b"*400;TAD I I 10"], 0o400, &[0o1610]),
+        (&[b"TAD=1000;*400;I,Z"], 0o400, &[0o0000]),
+        (&[HELLO], 0o200, &HELLO_WORDS),
+    ];
+    for row in rows {
+        assert!(rt; has_words(rt.alloc(), Profile::Pdp8I, row)?);
+    }
+    let row: Row<'_> = (&[b"MQL;CLA SWP;BSW;$"], 0o200, &[0o7421, 0o7721, 0o7002]);
+    assert!(rt; has_words(rt.alloc(), Profile::Pdp8E, row)?);
+    Ok(())
+}
+
+#[test]
+fn symbols_stand_in_order_of_definition(rt: HostRuntime) -> Result<(), Fail> {
+    let expected: [([u8; 6], u16); 6] = [
+        (*b"START ", 0o200),
+        (*b"LOOP  ", 0o206),
+        (*b"TYPE  ", 0o214),
+        (*b"TABLE ", 0o222),
+        (*b"COUNT ", 0o223),
+        (*b"LEFT  ", 0o224),
+    ];
+    let program = assemble(rt.alloc(), &[HELLO], Profile::Pdp8I)?;
+    assert_eq!(rt; program.symbols().len(), 6);
+    for ((name, value), (letters, word)) in program.symbols().iter().zip(expected.iter()) {
+        assert_eq!(rt; (name.letters, value.value()), (*letters, *word));
+    }
+    Ok(())
+}
+
+/// Whether a source is refused with this fault.
+fn is_refused<A: Allocator + Copy>(
+    alloc: A,
+    profile: Profile,
+    parts: &[&[u8]],
+    fault: (Code, usize, usize),
+) -> bool {
+    let (code, part, line) = fault;
+    match assemble(alloc, parts, profile) {
+        Ok(_) => false,
+        Err(found) => found == AssembleFault::Source(PalFault { code, part, line }),
+    }
+}
+
+#[test]
+fn the_first_fault_is_told(rt: HostRuntime) -> Result<(), Fail> {
+    let rows: [(&[&[u8]], Code, usize, usize); 31] = [
+        (&[b"TAD 600"], Code::IllegalReference, 1, 1),
+        (&[b"TAD Z 300"], Code::IllegalReference, 1, 1),
+        (&[b"X,1\nX,2"], Code::DuplicateTag, 1, 2),
+        (&[b"A=1;A=2"], Code::Redefined, 1, 1),
+        (&[b"TAD Q"], Code::Undefined, 1, 1),
+        (&[b"8"], Code::IllegalCharacter, 1, 1),
+        (&[b"?"], Code::IllegalCharacter, 1, 1),
+        (&[b"10000"], Code::NumberTooLarge, 1, 1),
+        (&[b"PAUSE"], Code::PauseInLastPart, 1, 1),
+        (&[b"PAUSE$"], Code::PauseInLastPart, 1, 1),
+        (&[b"1\nA,PAUSE"], Code::PauseInLastPart, 1, 2),
+        (&[], Code::TooLong, 0, 0),
+        (&[b"TAD Q", b"?"], Code::IllegalCharacter, 2, 1),
+        (&[b"A=Q", b"?"], Code::Undefined, 1, 1),
+        (&[b"TAD Q;A=Q"], Code::Undefined, 1, 1),
+        (&[b"TAD 600", b"TAD Q\nA=Q"], Code::Undefined, 2, 2),
+        (&[b"8\n?"], Code::IllegalCharacter, 1, 2),
+        (&[b"DECIMAL,1"], Code::DuplicateTag, 1, 1),
+        (&[b"\nPAUSE=1"], Code::Redefined, 1, 2),
+        (&[b"OCTALS=1;OCTAL=Q"], Code::Undefined, 1, 1),
+        (&[b"TAD=1001"], Code::Redefined, 1, 1),
+        (&[b"I,1"], Code::DuplicateTag, 1, 1),
+        (&[b"X,8 10000"], Code::IllegalCharacter, 1, 1),
+        (&[b"X,10000+8"], Code::NumberTooLarge, 1, 1),
+        (&[b"X,1\nX,10000"], Code::NumberTooLarge, 1, 2),
+        (&[b"DECIMAL;9;4096"], Code::NumberTooLarge, 1, 1),
+        (
+            &[b"DECIMAL;PAUSE", b"OCTAL;18"],
+            Code::IllegalCharacter,
+            2,
+            1,
+        ),
+        (&[b"X,Y,1;Y=0201"], Code::Redefined, 1, 1),
+        (&[b"*Q"], Code::Undefined, 1, 1),
+        (&[b"88888"], Code::IllegalCharacter, 1, 1),
+        (&[b"MQL"], Code::Undefined, 1, 1),
+    ];
+    for (parts, code, part, line) in rows {
+        assert!(rt; is_refused(rt.alloc(), Profile::Pdp8I, parts, (code, part, line)));
+    }
+    assert!(rt;
+        is_refused(
+            rt.alloc(),
+            Profile::Pdp8E,
+            &[b"BSW,"],
+            (Code::DuplicateTag, 1, 1)
+        )
+    );
+    Ok(())
+}
+
+#[test]
+fn a_user_has_at_most_1024_symbols(rt: HostRuntime) -> Result<(), Fail> {
+    let mut source: Vec<u8, _> = Vec::new(rt.alloc());
+    for count in 0..1024 {
+        source.extend_from_slice(format!(in rt.alloc(); "A{count}=1\n")?.as_bytes())?;
+    }
+    let program = assemble(rt.alloc(), &[&source], Profile::Pdp8I)?;
+    assert_eq!(rt; program.symbols().len(), 1024);
+    source.extend_from_slice(b"A3=1\nB=1\n")?;
+    assert!(rt;
+        is_refused(
+            rt.alloc(),
+            Profile::Pdp8I,
+            &[&source],
+            (Code::TableFull, 1, 1026)
+        )
+    );
+    Ok(())
+}
+
+#[test]
+fn parts_are_16_of_65536_bytes(rt: HostRuntime) -> Result<(), Fail> {
+    let longest = vec![in rt.alloc(); b' '; 65_536]?;
+    let longer = vec![in rt.alloc(); b'?'; 65_537]?;
+    assert!(rt; assemble(rt.alloc(), &[&longest], Profile::Pdp8I).is_ok());
+    assert!(rt;
+        is_refused(
+            rt.alloc(),
+            Profile::Pdp8I,
+            &[&longer],
+            (Code::TooLong, 1, 0)
+        )
+    );
+    assert!(rt;
+        is_refused(
+            rt.alloc(),
+            Profile::Pdp8I,
+            &[b"?", &longest, b"$", &longer],
+            (Code::TooLong, 4, 0)
+        )
+    );
+    let mut parts: [&[u8]; 17] = [b"1"; 17];
+    assert!(rt; assemble(rt.alloc(), &parts[..16], Profile::Pdp8I).is_ok());
+    parts[0] = &longer;
+    assert!(rt; is_refused(rt.alloc(), Profile::Pdp8I, &parts, (Code::TooLong, 0, 0)));
+    Ok(())
+}
+
+#[test]
+fn faults_are_written(rt: HostRuntime) -> Result<(), Fail> {
+    let fault = PalFault {
+        code: Code::IllegalReference,
+        part: 1,
+        line: 12,
+    };
+    assert_eq!(rt; format!(in rt.alloc(); "{fault}")?.as_str(), "IR 1 12");
+    let refused = AssembleFault::Source(fault);
+    assert_eq!(rt; format!(in rt.alloc(); "{refused}")?.as_str(), "IR 1 12");
+    Ok(())
+}

@@ -1,3 +1,6 @@
 pub mod LineLemmas
 pub mod DraftLemmas
 pub mod RuleLemmas
+pub mod IsDeclaredLemmas
+pub mod EntryLemmas
+pub mod FaultLemmas

@@ -2,13 +2,16 @@
 use Rattle.std.proofs.Common.{ℕ, zero, suc, ◌≡◌, ◌<◌, ◌≤◌, ◌+◌, ◌==◌, Bool, true, false, not, ◌&&◌, ◌||◌, cond, leb, ltb, List, [], ◌∷◌, length, map, take, get_or, zero-add, add-zero, add_assoc, arith, refl, subst, sym, ◌∙◌, ap, Option, Some, None, inl, inr}
 use Rattle.std.specs.Prelude.{nat_le, nat_lt, if◌then◌else◌, MatchOption}
 use Rattle.std.specs.List.{list_any, count_by, sum_by}
-use Rattle.std.proofs.lemmas.Bool.{cases_Bool, cases_eq, ne_eqb, cases_lt, lt-ltb, le-ltb, le-leb, lt-leb}
+use Rattle.std.specs.Option.{option_to_list, unwrap_or}
+use Rattle.instruct.specs.declared.Profile.{Profile}
+use Rattle.instruct.specs.declared.Profile.TheVariants.{Pdp8I}
+use Rattle.std.proofs.lemmas.Bool.{cases_Bool, and_parts, ltb-true, cases_eq, ne_eqb, cases_lt, lt-ltb, le-ltb, le-leb, lt-leb}
 use Rattle.std.proofs.lemmas.List.Sums.{sum_by_more, sum_by-cons}
 use Rattle.wordset.specs.Words.{Words, SameWords, union, meet, IsFirstFrom, HasNoneFrom}
 use Rattle.wordset.specs.Lanes.{words}
 use Rattle.policy.specs.Kept.{cells}
 use Rattle.policy.specs.DeclarationLines.{Subroutine}
-use Rattle.policy.specs.DeclarationText.{Contents, is_entry, in_bodies, bodies_at, entries_at, overlaps, entry_in_index, halt_outside}
+use Rattle.policy.specs.DeclarationText.{Contents, profile_of, is_entry, in_bodies, bodies_at, entries_at, overlaps, entry_in_index, halt_outside}
 use Rattle.processor.specs.Machine.{is_auto_index}
 use Rattle.policy.specs.Drafts.{Counts, subroutine_of, kept_bodies, kept_entries}
 use Rattle.policy.specs.declared.declaration.sets.Coverage.{Coverage}
@@ -34,7 +37,7 @@ none_same set other same none = λ v low h. sym (same v h) ∙ none v low h
 -- ---- counting
 
 -- the first of a list counts for itself
-count-cons : {X : Type 0} (p : X → Bool) (x : X) (xs : List X) → count_by p (x ∷ xs) ≡ (if p x then 1 else 0) + count_by p xs
+pub count-cons : {X : Type 0} (p : X → Bool) (x : X) (xs : List X) → count_by p (x ∷ xs) ≡ (if p x then 1 else 0) + count_by p xs
 count-cons p x xs = sum_by-cons (λ y. cond (p y) 1 0) x xs
 
 some_or : (b : Bool) (n : ℕ) → nat_le 1 ((if b then 1 else 0) + n) ≡ (b || nat_le 1 n)
@@ -42,7 +45,7 @@ some_or true n = le-leb 1 (1 + n) (omega arith)
 some_or false n = ap (λ k. nat_le 1 k) (zero-add n)
 
 -- in one or more of some sets
-some_counted : {X : Type 0} (p : X → Bool) (xs : List X) → nat_le 1 (count_by p xs) ≡ list_any p xs
+pub some_counted : {X : Type 0} (p : X → Bool) (xs : List X) → nat_le 1 (count_by p xs) ≡ list_any p xs
 some_counted p [] = refl
 some_counted p (x ∷ xs) = ap (λ n. nat_le 1 n) (count-cons p x xs) ∙ (some_or (p x) (count_by p xs) ∙ ap (λ b. p x || b) (some_counted p xs))
 
@@ -128,17 +131,17 @@ pub bodies_all : (coverage : Coverage) (c : Contents) (main : List ℕ) (routine
     → Counts coverage (kept_bodies main routines) → Counts coverage (bodies_at c)
 bodies_all coverage c main routines items same is_main are_routines counts =
     Counts-same coverage (kept_bodies main routines) (bodies_at c) counts (λ a h.
-      ap (λ rs. (if cells main a then 1 else 0) + count_by (λ r. cells r.body a) rs) same
-      ∙ (ap (λ n. (if cells main a then 1 else 0) + n) (sym (count_map subroutine_of (λ r. r.body a) items))
-      ∙ (ap (λ m. (if m a then 1 else 0) + count_by (λ r. r.body a) (map subroutine_of items)) (sym is_main)
-      ∙ ap (λ rs. (if c.main a then 1 else 0) + count_by (λ r. r.body a) rs) (sym are_routines))))
+    ap (λ rs. (if cells main a then 1 else 0) + count_by (λ r. cells r.body a) rs) same
+    ∙ (ap (λ n. (if cells main a then 1 else 0) + n) (sym (count_map subroutine_of (λ r. r.body a) items))
+    ∙ (ap (λ m. (if m a then 1 else 0) + count_by (λ r. r.body a) (map subroutine_of items)) (sym is_main)
+    ∙ ap (λ rs. (if c.main a then 1 else 0) + count_by (λ r. r.body a) rs) (sym are_routines))))
 
 pub entries_all : (coverage : Coverage) (c : Contents) (routines items : List KeptRoutine) → routines ≡ items → c.routines ≡ map subroutine_of items
     → Counts coverage (kept_entries routines) → Counts coverage (entries_at c)
 entries_all coverage c routines items same are_routines counts =
     Counts-same coverage (kept_entries routines) (entries_at c) counts (λ a h.
-      ap (λ rs. count_by (λ r. r.entry == a) rs) same
-      ∙ (sym (count_map subroutine_of (λ r. r.entry == a) items) ∙ ap (λ rs. count_by (λ r. r.entry == a) rs) (sym are_routines)))
+    ap (λ rs. count_by (λ r. r.entry == a) rs) same
+    ∙ (sym (count_map subroutine_of (λ r. r.entry == a) items) ∙ ap (λ rs. count_by (λ r. r.entry == a) rs) (sym are_routines)))
 
 -- ---- entries in auto-index cells, and halts in no body
 
@@ -149,3 +152,25 @@ entry_in_index_found c entries index v h e is = rw (e.once v h, is_entry_once c 
 pub halt_outside_found : (c : Contents) (bodies : Coverage) (v : ℕ) → v < 4096 → Counts bodies (bodies_at c) → (stop pause : Bool) → stop ≡ c.stop v → pause ≡ c.pause v
     → ((stop || pause) && not (words bodies.once v)) ≡ halt_outside c v
 halt_outside_found c bodies v h b stop pause is_stop is_pause = rw (b.once v h, in_bodies_once c v, is_stop, is_pause) refl
+
+-- the machine, or the 8/I
+pub profile_or : (p : Option Profile) → unwrap_or p Pdp8I ≡ profile_of (option_to_list p)
+profile_or None = refl
+profile_or (Some p) = refl
+
+-- the cells that are kept are words
+pub cell_below : (lanes : List ℕ) (a : ℕ) → cells lanes a ≡ true → a < 4096
+cell_below lanes a is = ltb-true a 4096 (and_parts (nat_lt a 4096) (words lanes a) is).0
+
+body_below : (routines : List KeptRoutine) (a : ℕ) → list_any (λ r. r.body a) (map subroutine_of routines) ≡ true → a < 4096
+body_below [] a is = absurd (cc)
+body_below (r ∷ rs) a is = elim (cases_Bool (cells r.body a)) [
+  | inl e ↦ cell_below r.body a e
+  | inr e ↦ body_below rs a (rw e at is)
+]
+
+pub in_bodies_below : (main : List ℕ) (routines : List KeptRoutine) (a : ℕ) → (cells main a || list_any (λ r. r.body a) (map subroutine_of routines)) ≡ true → a < 4096
+in_bodies_below main routines a is = elim (cases_Bool (cells main a)) [
+  | inl e ↦ cell_below main a e
+  | inr e ↦ body_below routines a (rw e at is)
+]

@@ -1,10 +1,10 @@
 //! Declarations as they are kept, and their readers.
 
-ghost use Rattle.std.specs.Prelude.{ℕ, ◌≡◌, ◌≢◌, ◌⊎◌, ◌≤◌, ◌↔◌, ◌==◌, length, IsTrue, IfOk, IfErr, IsErrOf, None, Some, is_some};
+ghost use Rattle.std.specs.Prelude.{ℕ, ◌≡◌, ◌≢◌, ◌⊎◌, ◌<◌, ◌≤◌, ◌↔◌, ◌==◌, length, IsTrue, IfOk, IfErr, IsErrOf, None, Some, is_some};
 ghost use Rattle.std.specs.Option.{option_map};
 ghost use Rattle.policy.specs.Declaration.{Declaration as Rules, IsDeclared};
 ghost use Rattle.policy.specs.Rules.{IsListed};
-ghost use Rattle.policy.specs.DeclarationText.{Declares, Fails, HasLines, most_bytes};
+ghost use Rattle.policy.specs.DeclarationText.{Declares, Fails, HasLines, is_entry, most_bytes};
 ghost use Rattle.policy.specs.Drafts.{gathered};
 ghost use Rattle.policy.specs.declared.declaration.DeclarationFault.{DeclarationFault};
 ghost use Rattle.policy.specs.declared.declaration.DeclarationFault.TheVariants.{NoMemory};
@@ -290,6 +290,7 @@ impl<A: Allocator> Declaration<A> {
 fn read_lines<A: Allocator>(alloc: A, text: &[u8]) -> Result<Draft<A>, DeclarationFault>
     requires { length text.now ≤ most_bytes }
     ensures found { IfOk result (λ draft. HasLines text.now (gathered draft)) }
+    ensures fit { IfOk result (λ draft. (e : ℕ) → IsTrue (is_entry (gathered draft) e) → e < 4096) }
     ensures refused { IfErr result (Fails text.now) }
 {
     let mut draft = Draft::new(alloc);

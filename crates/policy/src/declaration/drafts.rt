@@ -1,12 +1,12 @@
 //! What the lines of a declaration say together, and the rules that it keeps.
 
-ghost use Rattle.std.specs.Prelude.{ℕ, ◌≡◌, ◌<◌, ◌+◌, [], ◌∷◌, if◌then◌else◌, OnOk, IfOk, IfErr};
+ghost use Rattle.std.specs.Prelude.{ℕ, ◌≡◌, ◌<◌, ◌+◌, [], ◌∷◌, if◌then◌else◌, IsTrue, OnOk, IfOk, IfErr};
 ghost use Rattle.wordset.specs.Words.{SameWords};
 ghost use Rattle.wordset.specs.Lanes.{words};
 ghost use Rattle.processor.specs.Machine.{is_auto_index};
 ghost use Rattle.policy.specs.Declaration.{IsDeclared};
 ghost use Rattle.policy.specs.Kept.{meaning};
-ghost use Rattle.policy.specs.DeclarationText.{contents, Says, KeepsRules, Breaks, overlaps, entry_in_index, halt_outside, bodies_at, entries_at};
+ghost use Rattle.policy.specs.DeclarationText.{contents, is_entry, Says, KeepsRules, Breaks, overlaps, entry_in_index, halt_outside, bodies_at, entries_at};
 ghost use Rattle.policy.specs.Drafts.{gathered, said, with_line, MayFollow, Refuses, Counts, kept_bodies, kept_entries};
 
 use super::lines::Line;
@@ -121,6 +121,7 @@ impl<A: Allocator> Draft<A> {
 
     /// The declaration, where all that was said keeps the rules.
     pub fn finish(self) -> Result<Declaration<A>, DeclarationFault>
+        requires { (e : ℕ) → IsTrue (is_entry (gathered self) e) → e < 4096 }
         ensures says { IfOk result (λ d. Says (gathered self) (meaning d)) }
         ensures rules { IfOk result (λ d. KeepsRules (gathered self) (meaning d).start) }
         ensures declared { IfOk result (λ d. IsDeclared (meaning d)) }
@@ -158,7 +159,7 @@ impl<A: Allocator> Draft<A> {
         if let Some(at) = self.entries_in_index(&entries).first_from(0) {
             return Err(DeclarationFault::EntryInAutoIndex(at));
         }
-        if !self.main.contains(start) {
+        if !sets::has(&self.main, start) {
             return Err(DeclarationFault::StartNotInMain);
         }
         if let Some(at) = self.halts_outside(&bodies).first_from(0) {

@@ -58,6 +58,13 @@ pub fn from_to(low: Word, high: Word) -> WordSet
     WordSet::range(low, high)
 }
 
+/// Whether a cell is in a set.
+pub fn has(set: &WordSet, at: Word) -> bool
+    ensures { result ≡ cells set.now at }
+{
+    set.contains(at)
+}
+
 /// Puts the cells of a set into another.
 pub fn add(set: &mut WordSet, more: &WordSet)
     ensures { cells set.new ≡ union (cells set.old) (cells more.now) }

@@ -3,3 +3,7 @@ pub mod Calls
 pub mod Rules
 pub mod Runs
 pub mod Kept
+pub mod Actions
+pub mod Watching
+pub mod Decided
+pub mod OpenCalls

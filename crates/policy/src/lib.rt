@@ -1,6 +1,10 @@
 //! Declarations: what a program promises of its runs, the rules that follow, and the safe programs.
 #![tactic(auto)]
 
+mod actions;
 mod declaration;
+mod legality;
+mod rules;
 
 pub use declaration::{Declaration, Offsets, Routine};
+pub use rules::Rule;

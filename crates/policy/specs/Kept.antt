@@ -1,5 +1,5 @@
 -- A declaration as it's kept in code, and the declaration that it means.
-use Rattle.std.specs.Prelude.{ℕ, ◌==◌, nat_lt, ◌&&◌, List, slice_index, Option, Some, None}
+use Rattle.std.specs.Prelude.{ℕ, ◌==◌, nat_lt, ◌&&◌, List, slice_index_or, false, Some, None}
 use Rattle.std.specs.List.{list_any}
 use Rattle.std.specs.Option.{option_map}
 use Rattle.wordset.specs.Words.{Words}
@@ -13,9 +13,9 @@ use Rattle.policy.specs.declared.declaration.Declaration.{Declaration as KeptDec
 abbrev pub cells : List ℕ → Words
 cells lanes a = nat_lt a 4096 && words lanes a
 
--- The offsets of a routine: all of them are below 8.
+-- The offsets of a routine, each of them below 8.
 abbrev pub offsets_of : Offsets → Words
-offsets_of offsets o = nat_lt o 8 && slice_index offsets.declared o
+offsets_of offsets o = slice_index_or offsets.declared o false
 
 -- The routines of a declaration.
 abbrev pub routines_of : {A : Type 0} → KeptDeclaration A → List KeptRoutine

@@ -1,1 +1,3 @@
 pub mod ActionLemmas
+pub mod CallLemmas
+pub mod RuleLemmas

@@ -47,26 +47,19 @@ is_jmp _ = false
 abbrev pub implies : Bool → Bool → Bool
 implies a b = if a then b else true
 
--- The program counter is in the running routine's body, at a word that is supported.
-abbrev pub stays : Declaration → Action → ℕ → Routine → Bool
-stays d Unsupported pc running = false
-stays d _ pc running = d.body running pc
-
 -- A reference by this operation may write the cell.
 abbrev pub may_write : Declaration → Operation → Routine → ℕ → Bool
 may_write d o running a = d.variable a || (is_isz o && is_own running a)
 
 -- The pointer that is stepped and the cell that is stored in may be written.
-abbrev pub writes : Declaration → Action → Routine → Bool
-writes d (Refers r) running =
+abbrev pub writes : Declaration → Reference → Routine → Bool
+writes d r running =
     implies (steps_pointer r.indirect r.named) (may_write d r.operation running r.named) &&
     implies (stores r.operation) (may_write d r.operation running r.place)
-writes d _ running = true
 
 -- A JMS goes to an entry.
-abbrev pub calls_entry : Declaration → Action → Bool
-calls_entry d (Refers r) = implies (is_jms r.operation) (d.entry r.place)
-calls_entry d _ = true
+abbrev pub calls_entry : Declaration → Reference → Bool
+calls_entry d r = implies (is_jms r.operation) (d.entry r.place)
 
 -- The last call is one of e, and the word in e is a declared distance after that call.
 abbrev pub finds_call : Declaration → ℕ → ℕ → Calls → Bool
@@ -79,14 +72,8 @@ abbrev pub is_return : Declaration → Reference → Bool
 is_return d r = is_jmp r.operation && (r.indirect && d.entry r.named)
 
 -- It returns from its own routine's last call.
-abbrev pub returns : Declaration → Action → Cells → Calls → Bool
-returns d (Refers r) memory ks = implies (is_return d r) (finds_call d r.named (memory r.named) ks)
-returns d _ memory ks = true
-
--- A HLT stands at a declared halt.
-abbrev pub halts : Declaration → Action → ℕ → Bool
-halts d Halts pc = d.stop pc || d.pause pc
-halts d _ pc = true
+abbrev pub returns : Declaration → Reference → Cells → Calls → Bool
+returns d r memory ks = implies (is_return d r) (finds_call d r.named (memory r.named) ks)
 
 -- The cell is on the list of reads, if there is one.
 abbrev pub is_listed : Option Words → ℕ → Bool
@@ -98,18 +85,27 @@ abbrev pub may_load : Declaration → Routine → ℕ → Bool
 may_load d running a = is_listed d.reads a || is_own running a
 
 -- The pointer and the operand may be read.
-abbrev pub reads : Declaration → Action → Routine → Bool
-reads d (Refers r) running =
+abbrev pub reads : Declaration → Reference → Routine → Bool
+reads d r running =
     implies r.indirect (may_load d running r.named) && implies (loads r.operation) (may_load d running r.place)
-reads d _ running = true
 
--- The least rule that is broken, where fixed code is as it was.
+-- The least rule on memory references that one breaks.
+abbrev pub broken_by_reference : Declaration → Reference → Routine → Cells → Calls → Option Rule
+broken_by_reference d r running memory ks =
+    if not (writes d r running) then Some rule.WritesDeclared
+    else (if not (calls_entry d r) then Some rule.CallsEntries
+    else (if not (returns d r memory ks) then Some rule.ReturnsToItsCall
+    else (if not (reads d r running) then Some rule.ReadsListed
+    else None)))
+
+-- The least rule that an instruction in the running routine's body breaks, where fixed code is as it was.
+abbrev pub broken_by : Declaration → Action → ℕ → Routine → Cells → Calls → Option Rule
+broken_by d (Refers r) pc running memory ks = broken_by_reference d r running memory ks
+broken_by d Halts pc running memory ks = if d.stop pc || d.pause pc then None else Some rule.HaltsDeclared
+broken_by d GoesOn pc running memory ks = None
+broken_by d Unsupported pc running memory ks = Some rule.StaysInBody
+
+-- The least rule that the next step breaks, where fixed code is as it was.
 abbrev pub least_broken : Declaration → Action → ℕ → Routine → Cells → Calls → Option Rule
 least_broken d action pc running memory ks =
-    if not (stays d action pc running) then Some rule.StaysInBody
-    else (if not (writes d action running) then Some rule.WritesDeclared
-    else (if not (calls_entry d action) then Some rule.CallsEntries
-    else (if not (returns d action memory ks) then Some rule.ReturnsToItsCall
-    else (if not (halts d action pc) then Some rule.HaltsDeclared
-    else (if not (reads d action running) then Some rule.ReadsListed
-    else None)))))
+    if d.body running pc then broken_by d action pc running memory ks else Some rule.StaysInBody

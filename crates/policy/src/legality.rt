@@ -1,6 +1,6 @@
 //! Whether the next step keeps the rules.
 
-ghost use Rattle.std.specs.Prelude.{◌≡◌, ◌<◌, None, Some};
+ghost use Rattle.std.specs.Prelude.{◌≡◌, ◌||◌, None, Some};
 ghost use Rattle.wordset.specs.Words.{minus};
 ghost use Rattle.processor.specs.Cells.{cell_of};
 ghost use Rattle.processor.specs.Machine.{instruction};
@@ -9,8 +9,10 @@ ghost use Rattle.processor.specs.Steps.{state_of};
 ghost use Rattle.policy.specs.Calls.{current};
 ghost use Rattle.policy.specs.Rules.{KeepsCode, IsLegal};
 ghost use Rattle.policy.specs.Kept.{meaning};
+ghost use Rattle.policy.specs.declared.rules.Rule.{Rule};
+ghost use Rattle.policy.specs.Watching.{IsLeastBroken};
 ghost use Rattle.policy.specs.OpenCalls.{open_calls};
-ghost use Rattle.policy.specs.Decided.{is_own, is_isz, stores, loads, stays, may_write, writes, calls_entry, finds_call, is_return, returns, halts, may_load, reads};
+ghost use Rattle.policy.specs.Decided.{is_own, may_write, writes, calls_entry, finds_call, is_return, returns, may_load, reads, broken_by_reference, least_broken};
 
 use crate::actions::{Action, Operation, Reference, is_auto, next_action};
 use crate::declaration::Declaration;
@@ -26,41 +28,27 @@ pub struct Call {
     pub after: Word,
 }
 
-/// The entry of the running routine, which was called last; none in main.
-pub fn running(calls: &[Call]) -> Option<Word>
-    ensures { result ≡ current (open_calls calls.now) }
+/// Whether a cell is the running routine's own entry.
+fn is_own(calls: &[Call], cell: Word) -> bool
+    ensures { result ≡ is_own (current (open_calls calls.now)) cell }
 {
     match calls.last() {
-        None => None,
-        Some(call) => Some(call.entry),
-    }
-}
-
-/// Whether a cell is the running routine's own entry.
-fn is_own(running: Option<Word>, cell: Word) -> bool
-    ensures { result ≡ is_own running cell }
-{
-    match running {
         None => false,
-        Some(entry) => entry == cell,
+        Some(call) => call.entry == cell,
     }
 }
 
-/// Whether the program counter is in the running routine's body, at a word that is supported.
-fn stays<A: Allocator>(
+/// Whether the program counter is in the running routine's body.
+fn in_body<A: Allocator>(
     declaration: &Declaration<A>,
-    action: Action,
+    calls: &[Call],
     pc: Word,
-    running: Option<Word>,
 ) -> bool
-    ensures { result ≡ stays (meaning declaration.now) action pc running }
+    ensures { result ≡ (meaning declaration.now).body (current (open_calls calls.now)) pc }
 {
-    if let Action::Unsupported = action {
-        return false;
-    }
-    match running {
+    match calls.last() {
         None => declaration.in_main(pc),
-        Some(entry) => declaration.in_body(entry, pc),
+        Some(call) => declaration.in_body(call.entry, pc),
     }
 }
 
@@ -68,45 +56,40 @@ fn stays<A: Allocator>(
 fn may_write<A: Allocator>(
     declaration: &Declaration<A>,
     operation: Operation,
-    running: Option<Word>,
+    calls: &[Call],
     cell: Word,
 ) -> bool
-    ensures { result ≡ may_write (meaning declaration.now) operation running cell }
+    ensures { result ≡ may_write (meaning declaration.now) operation (current (open_calls calls.now)) cell }
 {
-    declaration.is_variable(cell) || (matches!(operation, Operation::Isz) && is_own(running, cell))
+    declaration.is_variable(cell) || (matches!(operation, Operation::Isz) && is_own(calls, cell))
 }
 
 /// Whether the pointer that is stepped and the cell that is stored in may be written.
 fn writes<A: Allocator>(
     declaration: &Declaration<A>,
-    action: Action,
-    running: Option<Word>,
+    reference: &Reference,
+    calls: &[Call],
 ) -> bool
-    ensures { result ≡ writes (meaning declaration.now) action running }
+    ensures { result ≡ writes (meaning declaration.now) reference.now (current (open_calls calls.now)) }
 {
-    let Action::Refers(reference) = action else {
-        return true;
-    };
     let steps = reference.indirect && is_auto(reference.named);
-    if steps && !may_write(declaration, reference.operation, running, reference.named) {
+    if steps && !may_write(declaration, reference.operation, calls, reference.named) {
         return false;
     }
     match reference.operation {
         Operation::Isz | Operation::Dca => {
-            may_write(declaration, reference.operation, running, reference.place)
+            may_write(declaration, reference.operation, calls, reference.place)
         }
         _ => true,
     }
 }
 
 /// Whether a JMS goes to an entry.
-fn calls_entry<A: Allocator>(declaration: &Declaration<A>, action: Action) -> bool
-    ensures { result ≡ calls_entry (meaning declaration.now) action }
+fn calls_entry<A: Allocator>(declaration: &Declaration<A>, reference: &Reference) -> bool
+    ensures { result ≡ calls_entry (meaning declaration.now) reference.now }
 {
-    match action {
-        Action::Refers(reference) if matches!(reference.operation, Operation::Jms) => {
-            declaration.is_entry(reference.place)
-        }
+    match reference.operation {
+        Operation::Jms => declaration.is_entry(reference.place),
         _ => true,
     }
 }
@@ -138,8 +121,8 @@ fn finds_call<A: Allocator>(
 }
 
 /// Whether a memory reference is a JMP I through an entry.
-pub fn is_return<A: Allocator>(declaration: &Declaration<A>, reference: Reference) -> bool
-    ensures { result ≡ is_return (meaning declaration.now) reference }
+pub fn is_return<A: Allocator>(declaration: &Declaration<A>, reference: &Reference) -> bool
+    ensures { result ≡ is_return (meaning declaration.now) reference.now }
 {
     matches!(reference.operation, Operation::Jmp)
         && (reference.indirect && declaration.is_entry(reference.named))
@@ -148,59 +131,120 @@ pub fn is_return<A: Allocator>(declaration: &Declaration<A>, reference: Referenc
 /// Whether a JMP I through an entry returns from its own routine's last call.
 fn returns<A: Allocator>(
     declaration: &Declaration<A>,
-    action: Action,
+    reference: &Reference,
     memory: &Memory,
     calls: &[Call],
 ) -> bool
-    ensures { result ≡ returns (meaning declaration.now) action (cell_of memory.now) (open_calls calls.now) }
+    ensures { result ≡ returns (meaning declaration.now) reference.now (cell_of memory.now) (open_calls calls.now) }
 {
-    match action {
-        Action::Refers(reference) if is_return(declaration, reference) => {
-            finds_call(declaration, reference.named, memory.get(reference.named), calls)
-        }
-        _ => true,
-    }
-}
-
-/// Whether a HLT stands at a declared halt.
-fn halts<A: Allocator>(declaration: &Declaration<A>, action: Action, pc: Word) -> bool
-    ensures { result ≡ halts (meaning declaration.now) action pc }
-{
-    match action {
-        Action::Halts => declaration.is_stop(pc) || declaration.is_pause(pc),
-        _ => true,
+    if is_return(declaration, reference) {
+        finds_call(declaration, reference.named, memory.get(reference.named), calls)
+    } else {
+        true
     }
 }
 
 /// Whether a cell may be read: it's on the list of reads, if there is one, or is the own entry.
 fn may_load<A: Allocator>(
     declaration: &Declaration<A>,
-    running: Option<Word>,
+    calls: &[Call],
     cell: Word,
 ) -> bool
-    ensures { result ≡ may_load (meaning declaration.now) running cell }
+    ensures { result ≡ may_load (meaning declaration.now) (current (open_calls calls.now)) cell }
 {
-    declaration.may_read(cell) || is_own(running, cell)
+    declaration.may_read(cell) || is_own(calls, cell)
 }
 
 /// Whether the pointer and the operand may be read.
 fn reads<A: Allocator>(
     declaration: &Declaration<A>,
-    action: Action,
-    running: Option<Word>,
+    reference: &Reference,
+    calls: &[Call],
 ) -> bool
-    ensures { result ≡ reads (meaning declaration.now) action running }
+    ensures { result ≡ reads (meaning declaration.now) reference.now (current (open_calls calls.now)) }
 {
-    let Action::Refers(reference) = action else {
-        return true;
-    };
-    if reference.indirect && !may_load(declaration, running, reference.named) {
+    if reference.indirect && !may_load(declaration, calls, reference.named) {
         return false;
     }
     match reference.operation {
         Operation::And | Operation::Tad | Operation::Isz => {
-            may_load(declaration, running, reference.place)
+            may_load(declaration, calls, reference.place)
         }
         _ => true,
     }
+}
+
+/// The least rule on memory references that one breaks.
+fn broken_by_reference<A: Allocator>(
+    declaration: &Declaration<A>,
+    reference: &Reference,
+    memory: &Memory,
+    calls: &[Call],
+) -> Option<Rule>
+    ensures { result ≡ broken_by_reference (meaning declaration.now) reference.now (current (open_calls calls.now)) (cell_of memory.now) (open_calls calls.now) }
+{
+    if !writes(declaration, reference, calls) {
+        return Some(Rule::WritesDeclared);
+    }
+    if !calls_entry(declaration, reference) {
+        return Some(Rule::CallsEntries);
+    }
+    if !returns(declaration, reference, memory, calls) {
+        return Some(Rule::ReturnsToItsCall);
+    }
+    if !reads(declaration, reference, calls) {
+        return Some(Rule::ReadsListed);
+    }
+    None
+}
+
+/// Whether a HLT stands at a declared halt.
+fn is_halt<A: Allocator>(declaration: &Declaration<A>, pc: Word) -> bool
+    ensures { result ≡ ((meaning declaration.now).stop pc || (meaning declaration.now).pause pc) }
+{
+    declaration.is_stop(pc) || declaration.is_pause(pc)
+}
+
+/// The least rule that an action breaks, where fixed code is as it was.
+fn broken_by<A: Allocator>(
+    declaration: &Declaration<A>,
+    action: &Action,
+    cpu: &Cpu,
+    calls: &[Call],
+) -> Option<Rule>
+    ensures { result ≡ least_broken (meaning declaration.now) action.now cpu.now.pc (current (open_calls calls.now)) (cell_of cpu.now.memory) (open_calls calls.now) }
+{
+    if !in_body(declaration, calls, cpu.pc) {
+        return Some(Rule::StaysInBody);
+    }
+    match action {
+        Action::Refers(reference) => {
+            broken_by_reference(declaration, reference, &cpu.memory, calls)
+        }
+        Action::Halts => {
+            if is_halt(declaration, cpu.pc) {
+                None
+            } else {
+                Some(Rule::HaltsDeclared)
+            }
+        }
+        Action::GoesOn => None,
+        Action::Unsupported => Some(Rule::StaysInBody),
+    }
+}
+
+/// The least rule that the next step breaks; none where it keeps all of them.
+///
+/// It doesn't look whether fixed code is as the tape had it: its caller knows that it is.
+pub fn broken_rule<A: Allocator>(
+    declaration: &Declaration<A>,
+    cpu: &Cpu,
+    calls: &[Call],
+) -> Option<Rule>
+    ensures legal { (image : Image) → KeepsCode image (meaning declaration.now) (cell_of cpu.now.memory) → result ≡ None → IsLegal image (meaning declaration.now) (state_of cpu.now) (open_calls calls.now) }
+    ensures broken { (image : Image) (rule : Rule) → KeepsCode image (meaning declaration.now) (cell_of cpu.now.memory) → result ≡ Some rule → IsLeastBroken image (meaning declaration.now) (state_of cpu.now) (open_calls calls.now) rule }
+{
+    cpu.memory.are_words();
+    let action = next_action(cpu, declaration.profile());
+    broken_by(declaration, &action, cpu, calls)
 }

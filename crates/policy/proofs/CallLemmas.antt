@@ -1,6 +1,7 @@
 -- The call list, of which the code keeps the last call last.
 use Rattle.std.proofs.Common.{ℕ, ◌≡◌, ◌==◌, ◌&&◌, nat_lt, ◌-◌, List, [], ◌∷◌, ◌++◌, Option, Some, None, length, arith, refl, ap, ◌∙◌}
 use Rattle.std.specs.Prelude.{slice_get}
+use Rattle.std.specs.Option.{option_to_list}
 use Rattle.std.proofs.lemmas.Grind.{common_steps}
 use Rattle.wordset.specs.Words.{minus}
 use Rattle.policy.specs.Declaration.{Declaration}
@@ -49,3 +50,8 @@ no_last_call (d ∷ cs) is = absurd (past d cs (length (d ∷ cs) - 1) (grind (a
 pub last_found : (d : Declaration) (e word : ℕ) (cs : List KeptCall) (c : KeptCall) → slice_get cs (length cs - 1) ≡ Some c →
     finds_call d e word (open_calls cs) ≡ ((c.entry == e) && (nat_lt (minus word c.after) 8 && d.offset e (minus word c.after)))
 last_found d e word cs c is = rw (last_call cs c is).1 refl
+
+-- a call less
+pub popped_calls : (cs ds : List KeptCall) (last : Option KeptCall) → cs ≡ ds ++ option_to_list last → (last ≡ None → ds ≡ []) → open_calls ds ≡ returned (open_calls cs)
+popped_calls cs ds None is none = rw (is, none refl) refl
+popped_calls cs ds (Some c) is none = rw (is, more_calls ds c) refl

@@ -1,3 +1,5 @@
 pub mod ActionLemmas
 pub mod CallLemmas
 pub mod RuleLemmas
+pub mod WatchLemmas
+pub mod CodeLemmas

@@ -1,5 +1,5 @@
 -- Each rule as a test, on what the instruction is about to do, the running routine and the cells.
-use Rattle.std.specs.Prelude.{ℕ, ◌==◌, Bool, true, false, not, ◌&&◌, ◌||◌, nat_lt, if◌then◌else◌, Option, Some, None, List, [], ◌∷◌}
+use Rattle.std.specs.Prelude.{◌≡◌, ℕ, ◌==◌, Bool, true, false, not, ◌&&◌, ◌||◌, nat_lt, if◌then◌else◌, Option, Some, None, List, [], ◌∷◌}
 use Rattle.wordset.specs.Words.{Words, minus}
 use Rattle.processor.specs.Cells.{Cells}
 use Rattle.processor.specs.Machine.{steps_pointer}
@@ -11,7 +11,7 @@ use Rattle.policy.specs.declared.actions.Action.TheVariants.{Refers, Halts, Goes
 use Rattle.policy.specs.declared.rules.Rule.{Rule}
 use Rattle.policy.specs.declared.rules.Rule.TheVariants as rule
 use Rattle.policy.specs.Declaration.{Routine, Declaration}
-use Rattle.policy.specs.Calls.{Call, Calls}
+use Rattle.policy.specs.Calls.{Call, Calls, returned}
 
 -- The cell is the running routine's own entry.
 abbrev pub is_own : Routine → ℕ → Bool
@@ -109,3 +109,23 @@ broken_by d Unsupported pc running memory ks = Some rule.StaysInBody
 abbrev pub least_broken : Declaration → Action → ℕ → Routine → Cells → Calls → Option Rule
 least_broken d action pc running memory ks =
     if d.body running pc then broken_by d action pc running memory ks else Some rule.StaysInBody
+
+-- A JMS into an entry.
+abbrev pub is_call : Declaration → Reference → Bool
+is_call d r = is_jms r.operation && d.entry r.place
+
+-- The call list after an action, where the address after it is this one.
+abbrev pub followed : Declaration → Action → ℕ → Calls → Calls
+followed d (Refers r) after ks =
+    if is_call d r then record { entry = r.place; after = after } ∷ ks
+    else (if is_return d r then returned ks else ks)
+followed d Halts after ks = ks
+followed d GoesOn after ks = ks
+followed d Unsupported after ks = ks
+
+-- The action is a JMS into an entry.
+abbrev pub IsCall : Declaration → Action → Type 0
+IsCall d (Refers r) = is_call d r ≡ true
+IsCall d Halts = ⊥
+IsCall d GoesOn = ⊥
+IsCall d Unsupported = ⊥

@@ -7,3 +7,4 @@ pub mod Actions
 pub mod Watching
 pub mod Decided
 pub mod OpenCalls
+pub mod WatchedSteps

@@ -5,6 +5,8 @@ mod actions;
 mod declaration;
 mod legality;
 mod rules;
+mod watcher;
 
 pub use declaration::{Declaration, Offsets, Routine};
 pub use rules::Rule;
+pub use watcher::Watched;

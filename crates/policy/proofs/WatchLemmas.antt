@@ -1,7 +1,8 @@
 -- Watched runs: each event leads to one world, and the code stays.
-use Rattle.std.proofs.Common.{ℕ, ◌≡◌, ◌≢◌, ◌<◌, ◌+◌, ◌==◌, Bool, true, false, ◌&&◌, ◌||◌, ◌⊎◌, inl, inr, Option, Some, None, List, [], ◌∷◌, ◌++◌, refl, sym, ap, ◌∙◌, subst, arith}
-use Rattle.std.specs.Prelude.{if◌then◌else◌, not, IsTrue}
-use Rattle.std.proofs.lemmas.Bool.{true≢false, false≢true}
+use Rattle.std.proofs.Common.{ℕ, ◌≡◌, ◌≢◌, ◌<◌, ◌≤◌, ◌+◌, ◌==◌, Bool, true, false, ◌&&◌, ◌||◌, ◌⊎◌, inl, inr, Option, Some, None, List, [], ◌∷◌, ◌++◌, refl, sym, ap, ◌∙◌, subst, arith}
+use Rattle.std.specs.Prelude.{if◌then◌else◌, not, IsTrue, take, length, slice_get}
+use Rattle.std.proofs.lemmas.Option.{slice_get_within}
+use Rattle.std.proofs.lemmas.Bool.{true≢false, false≢true, cases_eq}
 use Rattle.std.proofs.lemmas.Bool.Decides.{eqb_tells}
 use Rattle.instruct.specs.declared.Profile.{Profile}
 use Rattle.instruct.specs.Operates.{is_halt, operate2_of, reads_switches_of, skips_of}
@@ -24,9 +25,9 @@ use Rattle.policy.specs.Actions.{action_of}
 use Rattle.policy.specs.declared.legality.Call.{Call as KeptCall}
 use Rattle.policy.specs.OpenCalls.{open_calls}
 use Rattle.policy.specs.declared.rules.Rule.{Rule}
-use Rattle.policy.specs.Watching.{IsLeastBroken}
+use Rattle.policy.specs.Watching.{IsLeastBroken, TriesAt, IsCleanBefore, IsClean, BreaksAt}
 use Rattle.policy.specs.Decided.{followed, IsCall}
-use Rattle.policy.specs.WatchedSteps.{Goes, Stops, Watches, CallsRoutine, TakesMemory, Passes, waits}
+use Rattle.policy.specs.WatchedSteps.{Goes, Stops, Watches, CallsRoutine, TakesMemory, Passes, waits, Grows, SomeStepTakesMemory}
 use Rattle.policy.proofs.CodeLemmas.{step_keeps}
 
 -- one answer, one accumulator and one skip
@@ -265,3 +266,83 @@ pub broken_here : (d : Declaration) (t s : State) (cs ds : List KeptCall) (r : R
 broken_here d t s cs ds r same calls broken =
     subst (λ (x : State). (image : Image) → KeepsCode image d x.memory → IsLeastBroken image d x (open_calls ds) r) same
     (subst (λ (l : List KeptCall). (image : Image) → KeepsCode image d t.memory → IsLeastBroken image d t (open_calls l) r) calls broken)
+
+-- what is known when so many events were taken
+pub record Taken (d : Declaration) (events : List Event) (w : WorldState) (n : ℕ) (x : WorldState) (ks : Calls) : Type 0 where
+  pub run : DeclaredEvents d (take n events) w [] x ks
+  pub code : (image : Image) → KeepsCode image d w.state.memory → KeepsCode image d x.state.memory
+  pub clean : (image : Image) → KeepsCode image d w.state.memory → IsCleanBefore image d events w n
+
+pub none_taken : (d : Declaration) (events : List Event) (w : WorldState) (ks : Calls) → ks ≡ [] → Taken d events w 0 w ks
+none_taken d events w ks none = record {
+  run = (refl, sym none);
+  code = λ image keeps. keeps;
+  clean = λ image keeps m x ls less. absurd (omega arith);
+}
+
+-- the world of an event is that to which the events before it lead
+same_step : (image : Image) (d : Declaration) (events : List Event) (w : WorldState) (n m : ℕ) (e : Event) (x y : WorldState) (ks ls : Calls) → m ≡ n →
+    slice_get events n ≡ Some e → DeclaredEvents d (take n events) w [] x ks → TriesAt d events w m y ls →
+    (e ≡ Instruct → x.halted_at ≡ None → IsLegal image d x.state ks) → IsLegal image d y.state ls
+same_step image d events w n m e x y ks ls at is run tries legal =
+    let here : TriesAt d events w n y ls = subst (λ (k : ℕ). TriesAt d events w k y ls) at tries in
+    let step : e ≡ Instruct = some_event e Instruct (sym is ∙ here.step) in
+    let one = run_one d (take n events) w [] x y ks ls run here.before in
+    let running : x.halted_at ≡ None = subst (λ (v : WorldState). v.halted_at ≡ None) (sym one.0) here.runs in
+    subst (λ (l : Calls). IsLegal image d y.state l) one.1 (subst (λ (v : WorldState). IsLegal image d v.state ks) one.0 (legal step running))
+  where
+    some_event : (e f : Event) → Some e ≡ Some f → e ≡ f
+    some_event e f same = cc
+
+pub taken_more : (d : Declaration) → IsDeclared d → (events : List Event) (w : WorldState) (n : ℕ) (e : Event) (x y : WorldState) (ks ls : Calls) →
+    slice_get events n ≡ Some e → take (n + 1) events ≡ take n events ++ e ∷ [] → Taken d events w n x ks → Goes d x ks e y ls → Taken d events w (n + 1) y ls
+taken_more d dd events w n e x y ks ls is more taken goes = record {
+  run =
+      let longer : DeclaredEvents d (take n events ++ e ∷ []) w [] y (calls_by d x e ks) = run_more d (take n events) w [] x ks e y taken.run goes.happens in
+      subst (λ (l : Calls). DeclaredEvents d (take (n + 1) events) w [] y l) (sym goes.calls) (subst (λ (es : List Event). DeclaredEvents d es w [] y (calls_by d x e ks)) (sym more) longer);
+  code = λ image keeps. goes.code dd image (taken.code image keeps);
+  clean = λ image keeps m v ms less tries. elim (cases_eq m n) [
+    | inl at ↦ same_step image d events w n m e x v ks ms at is taken.run tries (goes.legal image (taken.code image keeps))
+    | inr other ↦ taken.clean image keeps m v ms (omega arith) tries
+  ];
+}
+
+-- the end of the list
+pub all_taken : (image : Image) (d : Declaration) (events : List Event) (w : WorldState) (n : ℕ) (x : WorldState) (ks : Calls) → length events ≤ n →
+    Taken d events w n x ks → KeepsCode image d w.state.memory → IsClean image d events w
+all_taken image d events w n x ks whole taken keeps = λ m v ms tries.
+    let inside : m < length events = slice_get_within events m Instruct tries.step in
+    taken.clean image keeps m v ms (omega arith) tries
+
+-- a step that breaks a rule
+pub stopped : (image : Image) (d : Declaration) (events : List Event) (w : WorldState) (n : ℕ) (e : Event) (x : WorldState) (ks : Calls) (r : Rule) →
+    slice_get events n ≡ Some e → Taken d events w n x ks → Stops d x ks e r → KeepsCode image d w.state.memory → BreaksAt image d events w n r
+stopped image d events w n e x ks r is taken stops keeps = record {
+  world = x;
+  calls = ks;
+  tries = record { step = is ∙ ap (λ (f : Event). Some f) stops.step; before = taken.run; runs = stops.runs };
+  broken = stops.broken image (taken.code image keeps);
+  first = taken.clean image keeps;
+}
+
+-- an event that takes memory
+grows_step : (d : Declaration) (w : WorldState) (e : Event) → Grows d w e → (e ≡ Instruct) × (w.halted_at ≡ None) × TakesMemory d w
+grows_step d w Instruct grows = (refl, grows.0, grows.1)
+grows_step d w (Key byte) grows = absurd grows
+grows_step d w PrinterDone grows = absurd grows
+grows_step d w (ReaderDone byte) grows = absurd grows
+grows_step d w PunchDone grows = absurd grows
+grows_step d w (Switches word) grows = absurd grows
+grows_step d w Continue grows = absurd grows
+
+pub grown : (d : Declaration) (events : List Event) (w : WorldState) (n : ℕ) (e : Event) (x : WorldState) (ks : Calls) →
+    slice_get events n ≡ Some e → Taken d events w n x ks → Grows d x e → SomeStepTakesMemory d events w
+grown d events w n e x ks is taken grows =
+    let step = grows_step d x e grows in
+    record {
+      place = n;
+      world = x;
+      calls = ks;
+      tries = record { step = is ∙ ap (λ (f : Event). Some f) step.0; before = taken.run; runs = step.1 };
+      takes = step.2;
+    }

@@ -6,6 +6,8 @@ use Rattle.peripherals.specs.declared.Event.{Event}
 use Rattle.peripherals.specs.declared.Event.TheVariants.{Step as Instruct}
 use Rattle.peripherals.specs.Devices.{WorldState}
 use Rattle.policy.specs.declared.rules.Rule.{Rule}
+use Rattle.policy.specs.declared.watcher.Watched.{Watched}
+use Rattle.policy.specs.declared.watcher.Watched.TheVariants.{Clean, Broken}
 use Rattle.policy.specs.declared.rules.Rule.TheVariants as rule
 use Rattle.policy.specs.Declaration.{Declaration}
 use Rattle.policy.specs.Calls.{Calls}
@@ -61,3 +63,8 @@ pub record BreaksAt (image : Image) (d : Declaration) (events : List Event) (w :
   pub tries : TriesAt d events w n world calls
   pub broken : IsLeastBroken image d world.state calls r
   pub first : IsCleanBefore image d events w n
+
+-- What a watched run tells is true.
+abbrev pub Tells : Image → Declaration → List Event → WorldState → Watched → Type 0
+Tells image d events w Clean = IsClean image d events w
+Tells image d events w (Broken n r) = BreaksAt image d events w n r

@@ -14,7 +14,7 @@ ghost use Rattle.policy.specs.Runs.{IsSafe};
 ghost use Rattle.policy.specs.Kept.{meaning};
 ghost use Rattle.policy.specs.OpenCalls.{open_calls};
 ghost use Rattle.policy.specs.Decided.{is_call, followed, IsCall};
-ghost use Rattle.policy.specs.Watching.{IsClean, BreaksAt};
+ghost use Rattle.policy.specs.Watching.{IsClean, BreaksAt, Tells};
 ghost use Rattle.policy.specs.WatchedSteps.{Watches, TakesMemory, Grows, Passes, waits, SomeStepTakesMemory};
 
 use crate::actions::{Action, Operation, Reference, next_action};
@@ -187,4 +187,26 @@ impl<A: Allocator> Watcher<A> {
             | Event::Switches(_) => self.pass(declaration, event),
         }
     }
+}
+
+/// Takes the events one after the other, up to the first step that breaks a rule.
+fn watch_events<A: Allocator, D: Allocator>(
+    watcher: &mut Watcher<A>,
+    declaration: &Declaration<D>,
+    events: &[Event],
+) -> Result<Watched, NoMemory>
+    requires declared { IsDeclared (meaning declaration.now) }
+    requires profile { profile_of watcher.old.world ≡ (meaning declaration.now).profile }
+    requires no_calls { open_calls watcher.old.calls.items ≡ [] }
+    ensures tells { IfOk result (λ told. (image : Words) → KeepsCode image (meaning declaration.now) (view watcher.old.world).state.memory → Tells image (meaning declaration.now) events.now (view watcher.old.world) told) }
+    ensures only_growth { OnErr result (SomeStepTakesMemory (meaning declaration.now) events.now (view watcher.old.world)) }
+{
+    for index in 0..events.len() {
+        match watcher.follow(declaration, events[index]) {
+            Ok(None) => {}
+            Ok(Some(rule)) => return Ok(Watched::Broken { event: index, rule }),
+            Err(NoMemory) => return Err(NoMemory),
+        }
+    }
+    Ok(Watched::Clean)
 }

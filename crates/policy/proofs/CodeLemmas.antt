@@ -85,7 +85,7 @@ module _ (image : Image) (d : Declaration) (dd : IsDeclared d) where
   step_keeps s t q ks legal does = does_keeps (instruction d.profile s) s t q ks legal.stays.in_body legal.writes legal.calls does legal.code
 
 -- what is loaded is the tape's
-loaded_word : (image : Image) (memory : Cells) (a w : ℕ) → image a ≡ Some w → laid image memory a ≡ w
+pub loaded_word : (image : Image) (memory : Cells) (a w : ℕ) → image a ≡ Some w → laid image memory a ≡ w
 loaded_word image memory a w is = rw is refl
 
 pub loaded_keeps : (image : Image) (d : Declaration) (memory : Cells) → KeepsCode image d (laid image memory)

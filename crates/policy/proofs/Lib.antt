@@ -3,3 +3,4 @@ pub mod CallLemmas
 pub mod RuleLemmas
 pub mod WatchLemmas
 pub mod CodeLemmas
+pub mod TellLemmas

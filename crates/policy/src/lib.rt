@@ -9,4 +9,4 @@ mod watcher;
 
 pub use declaration::{Declaration, Offsets, Routine};
 pub use rules::Rule;
-pub use watcher::Watched;
+pub use watcher::{Watched, watch};

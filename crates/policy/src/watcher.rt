@@ -1,12 +1,13 @@
 //! Watching a run: whether each of its steps keeps the rules.
 
-ghost use Rattle.std.specs.Prelude.{◌≡◌, ℕ, None, Some, List, [], IfOk, OnOk, OnErr};
-ghost use Rattle.processor.specs.Machine.{instruction};
+ghost use Rattle.std.specs.Prelude.{◌≡◌, ℕ, ◌<◌, None, [], IfOk, OnOk, OnErr};
+ghost use Rattle.processor.specs.Cells.{AreWords};
 ghost use Rattle.processor.specs.Runs.{Image as Words};
 ghost use Rattle.peripherals.specs.declared.Event.{Event};
 ghost use Rattle.peripherals.specs.Events.{Happens};
 ghost use Rattle.peripherals.specs.Loading.{image_of, loaded};
 ghost use Rattle.peripherals.specs.World.{view, profile_of};
+ghost use Rattle.policy.specs.declared.rules.Rule.{Rule};
 ghost use Rattle.policy.specs.Declaration.{IsDeclared};
 ghost use Rattle.policy.specs.Calls.{calls_after};
 ghost use Rattle.policy.specs.Rules.{KeepsCode};
@@ -24,7 +25,7 @@ use crate::rules::Rule;
 use bin_tape::Image;
 use peripherals::{Event, NoMemory, Start, World};
 use std::alloc::Allocator;
-use word12::Word;
+use word12::{Link, Word};
 
 /// What a watched run shows.
 #[derive(Clone, Copy, PartialEq, Eq, Debug)]
@@ -209,4 +210,61 @@ fn watch_events<A: Allocator, D: Allocator>(
         }
     }
     Ok(Watched::Clean)
+}
+
+/// Shows that registers hold words.
+fn are_registers(ac: Word, link: Link, mq: Word)
+    ensures ac { ac < 4096 }
+    ensures link { link < 2 }
+    ensures mq { mq < 4096 }
+{}
+
+/// Shows that a world's machine holds words, which proofs about a borrowed world need.
+fn holds_words<A: Allocator>(world: &World<A>)
+    ensures ac { (view world.now).state.ac < 4096 }
+    ensures link { (view world.now).state.link < 2 }
+    ensures mq { (view world.now).state.mq < 4096 }
+    ensures memory { AreWords (view world.now).state.memory }
+{
+    let cpu = world.cpu();
+    cpu.memory.are_words();
+    are_registers(cpu.ac, cpu.link, cpu.mq);
+}
+
+/// Watches the declared run of a tape's program by a list of events: whether each step that is
+/// enabled keeps the rules of the declaration.
+///
+/// The run begins at the declared start, on the declared machine, with the tape's words over the
+/// given start. A CONTINUE is enabled at a pause alone. A step at a word that isn't supported breaks
+/// the first rule. After the step that is told no event is looked at.
+///
+/// # Errors
+///
+/// `NoMemory` where room for a call on the call list, or for a byte that is printed or punched, was
+/// refused.
+pub fn watch<A: Allocator + Copy, D: Allocator>(
+    alloc: A,
+    image: &Image,
+    declaration: &Declaration<D>,
+    start: &Start,
+    events: &[Event],
+) -> Result<Watched, NoMemory>
+    requires { IsDeclared (meaning declaration.now) }
+    // It tells the truth, and all of it.
+    ensures clean { IfOk result (λ told. told ≡ Watched.Clean → IsClean (image_of image.now) (meaning declaration.now) events.now (loaded (image_of image.now) (meaning declaration.now).start start.now)) }
+    ensures broken { IfOk result (λ told. (event : ℕ) (rule : Rule) → told ≡ Watched.Broken event rule → BreaksAt (image_of image.now) (meaning declaration.now) events.now (loaded (image_of image.now) (meaning declaration.now).start start.now) event rule) }
+    ensures only_clean { IfOk result (λ told. IsClean (image_of image.now) (meaning declaration.now) events.now (loaded (image_of image.now) (meaning declaration.now).start start.now) → told ≡ Watched.Clean) }
+    ensures only_broken { IfOk result (λ told. (event : ℕ) (rule : Rule) → BreaksAt (image_of image.now) (meaning declaration.now) events.now (loaded (image_of image.now) (meaning declaration.now).start start.now) event rule → told ≡ Watched.Broken event rule) }
+    // Of a safe program it tells nothing else.
+    ensures safe { IfOk result (λ told. IsSafe (image_of image.now) (meaning declaration.now) → told ≡ Watched.Clean) }
+    // Only a step that prints, punches or calls a routine can be refused.
+    ensures only_growth { OnErr result (SomeStepTakesMemory (meaning declaration.now) events.now (loaded (image_of image.now) (meaning declaration.now).start start.now)) }
+{
+    let world = World::load(alloc, image, declaration.start(), start, declaration.profile());
+    holds_words(&world);
+    let mut watcher = Watcher {
+        world,
+        calls: Vec::new(alloc),
+    };
+    watch_events(&mut watcher, declaration, events)
 }

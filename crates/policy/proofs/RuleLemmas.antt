@@ -1,439 +1,176 @@
--- The tests on an action decide the rules on its instruction.
-use Rattle.std.proofs.Common.{ℕ, ◌≡◌, ◌<◌, ◌≤◌, ◌+◌, ◌-◌, ◌%◌, ◌==◌, Bool, true, false, ◌&&◌, ◌||◌, ◌⊎◌, inl, inr, Option, Some, None, List, [], ◌∷◌, refl, sym, ap, ◌∙◌, subst, arith}
-use Rattle.std.specs.Prelude.{if◌then◌else◌, not, nat_lt}
-use Rattle.std.proofs.lemmas.Bool.{and_parts, true≢false, false≢true, ltb-true, lt-ltb}
-use Rattle.std.proofs.lemmas.Bool.Decides.{eqb_tells}
-use Rattle.instruct.specs.Operates.{is_halt}
-use Rattle.instruct.specs.Instructions.{Meaning, And, Tad, Isz, Dca, Jms, Jmp, Group1, Group2, Group3, Device, Undefined}
-use Rattle.wordset.specs.Words.{Words, minus}
-use Rattle.processor.specs.Cells.{Cells, AreWords}
-use Rattle.processor.specs.Machine.{State, after, place, steps_pointer, instruction}
-use Rattle.processor.specs.Runs.{Image}
-use Rattle.policy.specs.declared.actions.Operation.{Operation}
-use Rattle.policy.specs.declared.actions.Operation.TheVariants as operation
-use Rattle.policy.specs.declared.actions.Reference.{Reference}
-use Rattle.policy.specs.declared.actions.Action.TheVariants as action
-use Rattle.policy.specs.declared.rules.Rule.{Rule}
-use Rattle.policy.specs.declared.rules.Rule.TheVariants as rule
-use Rattle.policy.specs.Declaration.{Routine, Declaration}
-use Rattle.policy.specs.Calls.{Call, Calls, current}
-use Rattle.policy.specs.Rules.{IsSupported, pointer_of, stored_at, written_by, read_by, StaysInBody, CountsOwnEntry, WritesDeclared, CallsEntries, FindsItsCall, ReturnsToItsCall, HaltsDeclared, IsListed, ReadsListed, KeepsCode, IsLegal}
-use Rattle.policy.specs.Actions.{action_of, refers}
-use Rattle.policy.specs.Decided.{is_own, is_isz, is_jms, is_jmp, stores, loads, implies, may_write, writes, calls_entry, finds_call, is_return, returns, is_listed, may_load, reads, broken_by, broken_by_reference, least_broken}
-use Rattle.policy.specs.Watching.{number_of, Keeps, IsLeastBroken}
+-- The sets by which the rules are checked.
+use Rattle.std.proofs.Common.{ℕ, zero, suc, ◌≡◌, ◌<◌, ◌≤◌, ◌+◌, ◌==◌, Bool, true, false, not, ◌&&◌, ◌||◌, cond, leb, ltb, List, [], ◌∷◌, length, map, take, get_or, zero-add, add-zero, add_assoc, arith, refl, subst, sym, ◌∙◌, ap, Option, Some, None, inl, inr}
+use Rattle.std.specs.Prelude.{nat_le, nat_lt, if◌then◌else◌, MatchOption}
+use Rattle.std.specs.List.{list_any, count_by, sum_by}
+use Rattle.std.specs.Option.{option_to_list, unwrap_or}
+use Rattle.instruct.specs.declared.Profile.{Profile}
+use Rattle.instruct.specs.declared.Profile.TheVariants.{Pdp8I}
+use Rattle.std.proofs.lemmas.Bool.{cases_Bool, and_parts, ltb-true, cases_eq, ne_eqb, cases_lt, lt-ltb, le-ltb, le-leb, lt-leb}
+use Rattle.std.proofs.lemmas.List.Sums.{sum_by_more, sum_by-cons}
+use Rattle.wordset.specs.Words.{Words, SameWords, union, meet, IsFirstFrom, HasNoneFrom}
+use Rattle.wordset.specs.Lanes.{words}
+use Rattle.policy.specs.Kept.{cells}
+use Rattle.policy.specs.DeclarationLines.{Subroutine}
+use Rattle.policy.specs.DeclarationText.{Contents, profile_of, is_entry, in_bodies, bodies_at, entries_at, overlaps, entry_in_index, halt_outside}
+use Rattle.processor.specs.Machine.{is_auto_index}
+use Rattle.policy.specs.Drafts.{Counts, subroutine_of, kept_bodies, kept_entries}
+use Rattle.policy.specs.declared.declaration.sets.Coverage.{Coverage}
+use Rattle.policy.specs.declared.declaration.Routine.{Routine as KeptRoutine}
 
--- a test that is true exactly where a fact holds
-abbrev pub Decides : Bool → Type 0 → Type 0
-Decides b P = (b ≡ true → P) × (P → b ≡ true)
+-- ---- sets below 4096
 
-or_cases : (a b : Bool) → (a || b) ≡ true → (a ≡ true) ⊎ (b ≡ true)
-or_cases true b h = inl refl
-or_cases false b h = inr h
+pub cells_below : (lanes : List ℕ) (a : ℕ) → a < 4096 → cells lanes a ≡ words lanes a
+cells_below lanes a h = rw (lt-ltb a 4096 h) refl
 
-or_first : (a b : Bool) → a ≡ true → (a || b) ≡ true
-or_first true b h = refl
-or_first false b h = cc
+-- the first of a set is the first of another that has the same words
+pub first_same : (set other : Words) (w : ℕ) → SameWords set other → IsFirstFrom 0 set w → IsFirstFrom 0 other w
+first_same set other w same f = record {
+  small = f.small;
+  reached = f.reached;
+  within = sym (same w f.small) ∙ f.within;
+  before = λ v low h. sym (same v (omega (arith, f.small))) ∙ f.before v low h;
+}
 
-or_second : (a b : Bool) → b ≡ true → (a || b) ≡ true
-or_second true b h = refl
-or_second false b h = h
+pub none_same : (set other : Words) → SameWords set other → HasNoneFrom 0 set → HasNoneFrom 0 other
+none_same set other same none = λ v low h. sym (same v h) ∙ none v low h
 
-and_both : (a b : Bool) → a ≡ true → b ≡ true → (a && b) ≡ true
-and_both true b p q = q
-and_both false b p q = p
+-- ---- counting
 
-implies_on : (a b : Bool) → implies a b ≡ true → a ≡ true → b ≡ true
-implies_on true b h on = h
-implies_on false b h on = cc
+-- the first of a list counts for itself
+pub count-cons : {X : Type 0} (p : X → Bool) (x : X) (xs : List X) → count_by p (x ∷ xs) ≡ (if p x then 1 else 0) + count_by p xs
+count-cons p x xs = sum_by-cons (λ y. cond (p y) 1 0) x xs
 
-implies_made : (a b : Bool) → (a ≡ true → b ≡ true) → implies a b ≡ true
-implies_made true b f = f refl
-implies_made false b f = refl
+some_or : (b : Bool) (n : ℕ) → nat_le 1 ((if b then 1 else 0) + n) ≡ (b || nat_le 1 n)
+some_or true n = le-leb 1 (1 + n) (omega arith)
+some_or false n = ap (λ k. nat_le 1 k) (zero-add n)
 
-same_number : (a b : ℕ) → (a == b) ≡ true → a ≡ b
-same_number a b h = elim (eqb_tells a b) [
-  | inl same ↦ same.1
-  | inr apart ↦ absurd (true≢false (sym h ∙ apart.0))
+-- in one or more of some sets
+pub some_counted : {X : Type 0} (p : X → Bool) (xs : List X) → nat_le 1 (count_by p xs) ≡ list_any p xs
+some_counted p [] = refl
+some_counted p (x ∷ xs) = ap (λ n. nat_le 1 n) (count-cons p x xs) ∙ (some_or (p x) (count_by p xs) ∙ ap (λ b. p x || b) (some_counted p xs))
+
+-- a cell is in a body where it's in one body or more; a word is an entry likewise
+pub in_bodies_once : (c : Contents) (a : ℕ) → nat_le 1 (bodies_at c a) ≡ in_bodies c a
+in_bodies_once c a = some_or (c.main a) (count_by (λ r. r.body a) c.routines) ∙ ap (λ b. c.main a || b) (some_counted (λ r. r.body a) c.routines)
+
+pub is_entry_once : (c : Contents) (a : ℕ) → nat_le 1 (entries_at c a) ≡ is_entry c a
+is_entry_once c a = some_counted (λ r. r.entry == a) c.routines
+
+-- counting in a mapped list
+pub count_map : {X Y : Type 0} (f : X → Y) (p : Y → Bool) (xs : List X) → count_by p (map f xs) ≡ count_by (λ x. p (f x)) xs
+count_map f p [] = refl
+count_map f p (x ∷ xs) = count-cons p (f x) (map f xs) ∙ (ap (λ n. (if p (f x) then 1 else 0) + n) (count_map f p xs) ∙ sym (count-cons (λ y. p (f y)) x xs))
+
+pub any_map : {X Y : Type 0} (f : X → Y) (p : Y → Bool) (xs : List X) → list_any p (map f xs) ≡ list_any (λ x. p (f x)) xs
+any_map f p [] = refl
+any_map f p (x ∷ xs) = ap (λ b. p (f x) || b) (any_map f p xs)
+
+-- counts that agree below 4096
+pub Counts-same : (coverage : Coverage) (n m : ℕ → ℕ) → Counts coverage n → ((a : ℕ) → a < 4096 → n a ≡ m a) → Counts coverage m
+Counts-same coverage n m counts same = record {
+  once = λ a h. counts.once a h ∙ ap (λ k. nat_le 1 k) (same a h);
+  twice = λ a h. counts.twice a h ∙ ap (λ k. nat_le 2 k) (same a h);
+}
+
+-- ---- overlaps
+
+pub overlaps_found : (c : Contents) (bodies entries : Coverage) (v : ℕ) → v < 4096 → Counts bodies (bodies_at c) → Counts entries (entries_at c)
+    → (variable stop pause : Bool) → variable ≡ c.variable v → stop ≡ c.stop v → pause ≡ c.pause v
+    → (words bodies.twice v || (words entries.once v && words bodies.once v) || (words entries.once v && variable) || words entries.twice v || (stop && pause)) ≡ overlaps c v
+overlaps_found c bodies entries v h b e variable stop pause is_variable is_stop is_pause =
+    rw (b.twice v h, b.once v h, e.twice v h, e.once v h, in_bodies_once c v, is_entry_once c v, is_variable, is_stop, is_pause) refl
+
+-- ---- the loops over routines
+
+-- none is counted yet
+pub bodies_start : (coverage grown : Coverage) (main : List ℕ) (routines : List KeptRoutine) → Counts coverage (λ _. 0)
+    → ((number : ℕ → ℕ) → Counts coverage number → Counts grown (λ a. number a + (if cells main a then 1 else 0)))
+    → Counts grown (kept_bodies main (take 0 routines))
+bodies_start coverage grown main routines none add =
+    Counts-same grown (λ a. 0 + (if cells main a then 1 else 0)) (kept_bodies main (take 0 routines)) (add (λ _. 0) none) (λ a h. zero-add (if cells main a then 1 else 0) ∙ sym (add-zero (if cells main a then 1 else 0)))
+
+eqb-turned : (a b : ℕ) → (a == b) ≡ (b == a)
+eqb-turned a b = elim (cases_eq a b) [ inl e ↦ rw e refl | inr ne ↦ ne_eqb a b ne ∙ sym (ne_eqb b a (λ e. ne (sym e))) ]
+
+-- one routine more
+bodies_more : (main : List ℕ) (routines : List KeptRoutine) (i : ℕ) (r : KeptRoutine) (a : ℕ) → i < length routines → r ≡ get_or routines i r
+    → kept_bodies main (take i routines) a + (if cells r.body a then 1 else 0) ≡ kept_bodies main (take (i + 1) routines) a
+bodies_more main routines i r a h is =
+    let more : count_by (λ x. cells x.body a) (take (i + 1) routines) ≡ count_by (λ x. cells x.body a) (take i routines) + (if cells (get_or routines i r).body a then 1 else 0) =
+    sum_by_more (λ x. cond (cells x.body a) 1 0) routines i r h in
+    let same : (if cells r.body a then 1 else 0) ≡ (if cells (get_or routines i r).body a then 1 else 0) = ap (λ (x : KeptRoutine). if cells x.body a then 1 else 0) is in
+    add_assoc (if cells main a then 1 else 0) (count_by (λ x. cells x.body a) (take i routines)) (if cells r.body a then 1 else 0)
+    ∙ ap (λ n. (if cells main a then 1 else 0) + n) (ap (λ n. count_by (λ x. cells x.body a) (take i routines) + n) same ∙ sym more)
+
+pub bodies_step : (coverage grown : Coverage) (main : List ℕ) (routines : List KeptRoutine) (i : ℕ) (r : KeptRoutine) → i < length routines → r ≡ get_or routines i r
+    → Counts coverage (kept_bodies main (take i routines))
+    → ((number : ℕ → ℕ) → Counts coverage number → Counts grown (λ a. number a + (if cells r.body a then 1 else 0)))
+    → Counts grown (kept_bodies main (take (i + 1) routines))
+bodies_step coverage grown main routines i r h is so_far add =
+    Counts-same grown (λ a. kept_bodies main (take i routines) a + (if cells r.body a then 1 else 0)) (kept_bodies main (take (i + 1) routines)) (add (kept_bodies main (take i routines)) so_far) (λ a small. bodies_more main routines i r a h is)
+
+entries_more : (routines : List KeptRoutine) (i : ℕ) (r : KeptRoutine) (set : List ℕ) (a : ℕ) → i < length routines → r ≡ get_or routines i r → cells set a ≡ (r.entry == a)
+    → kept_entries (take i routines) a + (if cells set a then 1 else 0) ≡ kept_entries (take (i + 1) routines) a
+entries_more routines i r set a h is inside =
+    let more : count_by (λ x. x.entry == a) (take (i + 1) routines) ≡ count_by (λ x. x.entry == a) (take i routines) + (if (get_or routines i r).entry == a then 1 else 0) =
+    sum_by_more (λ x. cond (x.entry == a) 1 0) routines i r h in
+    let same : (if cells set a then 1 else 0) ≡ (if (get_or routines i r).entry == a then 1 else 0) = ap (λ b. if b then 1 else 0) inside ∙ ap (λ (x : KeptRoutine). if x.entry == a then 1 else 0) is in
+    ap (λ n. kept_entries (take i routines) a + n) same ∙ sym more
+
+pub entries_step : (coverage grown : Coverage) (routines : List KeptRoutine) (i : ℕ) (r : KeptRoutine) (set : List ℕ) → i < length routines → r ≡ get_or routines i r
+    → SameWords (words set) (λ a. a == r.entry)
+    → Counts coverage (kept_entries (take i routines))
+    → ((number : ℕ → ℕ) → Counts coverage number → Counts grown (λ a. number a + (if cells set a then 1 else 0)))
+    → Counts grown (kept_entries (take (i + 1) routines))
+entries_step coverage grown routines i r set h is one so_far add =
+    Counts-same grown (λ a. kept_entries (take i routines) a + (if cells set a then 1 else 0)) (kept_entries (take (i + 1) routines)) (add (kept_entries (take i routines)) so_far)
+    (λ a small. entries_more routines i r set a h is (cells_below set a small ∙ (one a small ∙ eqb-turned a r.entry)))
+
+-- of all that is kept
+pub bodies_all : (coverage : Coverage) (c : Contents) (main : List ℕ) (routines items : List KeptRoutine) → routines ≡ items → c.main ≡ cells main → c.routines ≡ map subroutine_of items
+    → Counts coverage (kept_bodies main routines) → Counts coverage (bodies_at c)
+bodies_all coverage c main routines items same is_main are_routines counts =
+    Counts-same coverage (kept_bodies main routines) (bodies_at c) counts (λ a h.
+    ap (λ rs. (if cells main a then 1 else 0) + count_by (λ r. cells r.body a) rs) same
+    ∙ (ap (λ n. (if cells main a then 1 else 0) + n) (sym (count_map subroutine_of (λ r. r.body a) items))
+    ∙ (ap (λ m. (if m a then 1 else 0) + count_by (λ r. r.body a) (map subroutine_of items)) (sym is_main)
+    ∙ ap (λ rs. (if c.main a then 1 else 0) + count_by (λ r. r.body a) rs) (sym are_routines))))
+
+pub entries_all : (coverage : Coverage) (c : Contents) (routines items : List KeptRoutine) → routines ≡ items → c.routines ≡ map subroutine_of items
+    → Counts coverage (kept_entries routines) → Counts coverage (entries_at c)
+entries_all coverage c routines items same are_routines counts =
+    Counts-same coverage (kept_entries routines) (entries_at c) counts (λ a h.
+    ap (λ rs. count_by (λ r. r.entry == a) rs) same
+    ∙ (sym (count_map subroutine_of (λ r. r.entry == a) items) ∙ ap (λ rs. count_by (λ r. r.entry == a) rs) (sym are_routines)))
+
+-- ---- entries in auto-index cells, and halts in no body
+
+pub entry_in_index_found : (c : Contents) (entries : Coverage) (index : List ℕ) (v : ℕ) → v < 4096 → Counts entries (entries_at c) → words index v ≡ is_auto_index v
+    → (words entries.once v && words index v) ≡ entry_in_index c v
+entry_in_index_found c entries index v h e is = rw (e.once v h, is_entry_once c v, is) refl
+
+pub halt_outside_found : (c : Contents) (bodies : Coverage) (v : ℕ) → v < 4096 → Counts bodies (bodies_at c) → (stop pause : Bool) → stop ≡ c.stop v → pause ≡ c.pause v
+    → ((stop || pause) && not (words bodies.once v)) ≡ halt_outside c v
+halt_outside_found c bodies v h b stop pause is_stop is_pause = rw (b.once v h, in_bodies_once c v, is_stop, is_pause) refl
+
+-- the machine, or the 8/I
+pub profile_or : (p : Option Profile) → unwrap_or p Pdp8I ≡ profile_of (option_to_list p)
+profile_or None = refl
+profile_or (Some p) = refl
+
+-- the cells that are kept are words
+pub cell_below : (lanes : List ℕ) (a : ℕ) → cells lanes a ≡ true → a < 4096
+cell_below lanes a is = ltb-true a 4096 (and_parts (nat_lt a 4096) (words lanes a) is).0
+
+body_below : (routines : List KeptRoutine) (a : ℕ) → list_any (λ r. r.body a) (map subroutine_of routines) ≡ true → a < 4096
+body_below [] a is = absurd (cc)
+body_below (r ∷ rs) a is = elim (cases_Bool (cells r.body a)) [
+  | inl e ↦ cell_below r.body a e
+  | inr e ↦ body_below rs a (rw e at is)
 ]
 
-equal_number : (a : ℕ) → (a == a) ≡ true
-equal_number a = elim (eqb_tells a a) [
-  | inl same ↦ same.0
-  | inr apart ↦ absurd (apart.1 refl)
+pub in_bodies_below : (main : List ℕ) (routines : List KeptRoutine) (a : ℕ) → (cells main a || list_any (λ r. r.body a) (map subroutine_of routines)) ≡ true → a < 4096
+in_bodies_below main routines a is = elim (cases_Bool (cells main a)) [
+  | inl e ↦ cell_below main a e
+  | inr e ↦ body_below routines a (rw e at is)
 ]
-
--- the own entry
-own : (r : Routine) (a : ℕ) → Decides (is_own r a) (r ≡ Some a)
-own None a = (λ h. cc, λ h. cc)
-own (Some e) a = (λ h. ap (λ (x : ℕ). Some x) (same_number e a h), λ h. let same : e ≡ a = cc in rw same (equal_number a))
-
-or_decides : (a b : Bool) (P Q : Type 0) → Decides a P → Decides b Q → Decides (a || b) (P ⊎ Q)
-or_decides true b P Q da db = (λ h. inl (da.0 refl), λ h. refl)
-or_decides false b P Q da db = (λ h. inr (db.0 h), λ (h : P ⊎ Q). elim h [ | inl p ↦ absurd (false≢true (da.1 p)) | inr q ↦ db.1 q ])
-
--- what is asked of up to two cells
-one_cell : (ok : ℕ → Bool) (Ok : ℕ → Type 0) → ((a : ℕ) → Decides (ok a) (Ok a)) → (p : Bool) (c : ℕ) →
-    Decides (implies p (ok c)) ((a : ℕ) → (p && (a == c)) ≡ true → Ok a)
-one_cell ok Ok decide true c = (λ h a at. subst Ok (sym (same_number a c at)) ((decide c).0 h), λ f. (decide c).1 (f c (equal_number c)))
-one_cell ok Ok decide false c = (λ h a at. absurd (false≢true at), λ f. refl)
-
-both : (a b : Bool) (P Q R : Type 0) → Decides a P → Decides b Q → (P → Q → R) → (R → P) → (R → Q) → Decides (a && b) R
-both true true P Q R da db pq p q = (λ h. pq (da.0 refl) (db.0 refl), λ r. refl)
-both true false P Q R da db pq p q = (λ h. cc, λ r. db.1 (q r))
-both false b P Q R da db pq p q = (λ h. cc, λ r. da.1 (p r))
-
-two_cells : (ok : ℕ → Bool) (Ok : ℕ → Type 0) → ((a : ℕ) → Decides (ok a) (Ok a)) → (p : Bool) (c : ℕ) (q : Bool) (y : ℕ) →
-    Decides (implies p (ok c) && implies q (ok y)) ((a : ℕ) → ((p && (a == c)) || (q && (a == y))) ≡ true → Ok a)
-two_cells ok Ok decide p c q y =
-    both (implies p (ok c)) (implies q (ok y))
-    ((a : ℕ) → (p && (a == c)) ≡ true → Ok a)
-    ((a : ℕ) → (q && (a == y)) ≡ true → Ok a)
-    ((a : ℕ) → ((p && (a == c)) || (q && (a == y))) ≡ true → Ok a)
-    (one_cell ok Ok decide p c) (one_cell ok Ok decide q y)
-    (λ f g a at. elim (or_cases (p && (a == c)) (q && (a == y)) at) [ | inl x ↦ f a x | inr x ↦ g a x ])
-    (λ f a at. f a (or_first (p && (a == c)) (q && (a == y)) at))
-    (λ f a at. f a (or_second (p && (a == c)) (q && (a == y)) at))
-
--- one_cell beside nothing
-alone : (ok : ℕ → Bool) (Ok : ℕ → Type 0) → ((a : ℕ) → Decides (ok a) (Ok a)) → (p : Bool) (c : ℕ) →
-    Decides (implies p (ok c) && true) ((a : ℕ) → (p && (a == c)) ≡ true → Ok a)
-alone ok Ok decide true c = (λ h. (one_cell ok Ok decide true c).0 (and_parts (ok c) true h).0, λ f. and_both (ok c) true ((one_cell ok Ok decide true c).1 f) refl)
-alone ok Ok decide false c = (λ h a at. absurd (false≢true at), λ f. refl)
-
--- the own entry under ISZ alone
-plain_write : (d : Declaration) (o : Operation) (ks : Calls) → is_isz o ≡ false → (a : ℕ) → Decides (may_write d o (current ks) a) ((d.variable a ≡ true) ⊎ ⊥)
-plain_write d o ks not_isz a = rw not_isz (or_decides (d.variable a) false (d.variable a ≡ true) ⊥ (λ h. h, λ h. h) (λ h. cc, λ h. absurd h))
-
-isz_write : (d : Declaration) (ks : Calls) (a : ℕ) → Decides (may_write d operation.Isz (current ks) a) ((d.variable a ≡ true) ⊎ (current ks ≡ Some a))
-isz_write d ks a = or_decides (d.variable a) (is_own (current ks) a) (d.variable a ≡ true) (current ks ≡ Some a) (λ h. h, λ h. h) (own (current ks) a)
-
-listed : (r : Option Words) (a : ℕ) → Decides (is_listed r a) (IsListed r a)
-listed None a = (λ h. tt, λ h. refl)
-listed (Some cells) a = (λ h. h, λ h. h)
-
-load : (d : Declaration) (ks : Calls) (a : ℕ) → Decides (may_load d (current ks) a) (IsListed d.reads a ⊎ (current ks ≡ Some a))
-load d ks a = or_decides (is_listed d.reads a) (is_own (current ks) a) (IsListed d.reads a) (current ks ≡ Some a) (listed d.reads a) (own (current ks) a)
-
--- a return address and its distance from the call
-back : (word from : ℕ) → word < 4096 → word ≡ (from + minus word from) % 4096
-back word from small = omega arith
-
-away : (from o : ℕ) → o < 8 → minus ((from + o) % 4096) from ≡ o
-away from o low = omega arith
-
-found : (d : Declaration) (e : ℕ) (s : State) (ks : Calls) → AreWords s.memory → Decides (finds_call d e (s.memory e) ks) (FindsItsCall d e s ks)
-found d e s [] words = (λ h. cc, λ h. absurd h)
-found d e s (k ∷ ks) words = (
-  λ h.
-      let parts = and_parts (k.entry == e) _ h in
-      let more = and_parts (nat_lt (minus (s.memory e) k.after) 8) _ parts.1 in
-      (same_number k.entry e parts.0, minus (s.memory e) k.after, ltb-true (minus (s.memory e) k.after) 8 more.0, more.1, back (s.memory e) k.after (words e)),
-  λ f.
-      let at : minus (s.memory e) k.after ≡ f.1 = rw f.4 (away k.after f.1 f.2) in
-      let same : (k.entry == e) ≡ true = rw f.0 (equal_number e) in
-      let low : nat_lt f.1 8 ≡ true = lt-ltb f.1 8 f.2 in
-      rw at (and_both (k.entry == e) _ same (and_both (nat_lt f.1 8) _ low f.3))
-)
-
-return_decides : (d : Declaration) (i : Bool) (c : ℕ) (s : State) (ks : Calls) → AreWords s.memory →
-    Decides (implies (i && d.entry c) (finds_call d c (s.memory c) ks)) (i ≡ true → d.entry c ≡ true → FindsItsCall d c s ks)
-return_decides d i c s ks words = (
-  λ h on entry. (found d c s ks words).0 (implies_on (i && d.entry c) (finds_call d c (s.memory c) ks) h (and_both i (d.entry c) on entry)),
-  λ f. implies_made (i && d.entry c) (finds_call d c (s.memory c) ks) (λ on. (found d c s ks words).1 (f (and_parts i (d.entry c) on).0 (and_parts i (d.entry c) on).1))
-)
-
--- the least rule by six tests
-abbrev pub chain : Bool → Bool → Bool → Bool → Bool → Bool → Option Rule
-chain b w c r h l =
-    if not b then Some rule.StaysInBody
-    else (if not w then Some rule.WritesDeclared
-    else (if not c then Some rule.CallsEntries
-    else (if not r then Some rule.ReturnsToItsCall
-    else (if not h then Some rule.HaltsDeclared
-    else (if not l then Some rule.ReadsListed
-    else None)))))
-
--- the six tests of an instruction
-pub record Tests (d : Declaration) (m : Meaning) (s : State) (ks : Calls) : Type 0 where
-  pub b : Bool
-  pub w : Bool
-  pub c : Bool
-  pub r : Bool
-  pub h : Bool
-  pub l : Bool
-  pub stays : Decides b ((d.body (current ks) s.pc ≡ true) × IsSupported m)
-  pub writes : Decides w (WritesDeclared d m s ks)
-  pub calls : Decides c (CallsEntries d m s)
-  pub returns : Decides r (ReturnsToItsCall d m s ks)
-  pub halts : Decides h (HaltsDeclared d m s.pc)
-  pub reads : Decides l (ReadsListed d m s ks)
-  pub is : least_broken d (action_of m s.memory) s.pc (current ks) s.memory ks ≡ chain b w c r h l
-
--- the test of the body comes first
-in_body : (b : Bool) (x : Option Rule) → (if b then x else Some rule.StaysInBody) ≡ (if not b then Some rule.StaysInBody else x)
-in_body true x = refl
-in_body false x = refl
-
-abbrev reference : Operation → Bool → ℕ → Cells → Reference
-reference o i c memory = record { operation = o; indirect = i; named = c; place = place i c memory }
-
-nothing_decides : (P : Type 0) → P → Decides true P
-nothing_decides P p = (λ h. p, λ q. refl)
-
-stays_decides : (d : Declaration) (m : Meaning) (s : State) (ks : Calls) → IsSupported m → Decides (d.body (current ks) s.pc) ((d.body (current ks) s.pc ≡ true) × IsSupported m)
-stays_decides d m s ks supported = (λ h. (h, supported), λ p. p.0)
-
--- a memory reference that isn't a JMS or a JMP I is asked only of what it writes and reads
-plain_tests : (d : Declaration) (m : Meaning) (s : State) (ks : Calls) (r : Reference) → action_of m s.memory ≡ action.Refers r →
-    IsSupported m → is_jms r.operation ≡ false → is_jmp r.operation ≡ false →
-    CallsEntries d m s → ReturnsToItsCall d m s ks → HaltsDeclared d m s.pc →
-    Decides (writes d r (current ks)) (WritesDeclared d m s ks) → Decides (reads d r (current ks)) (ReadsListed d m s ks) → Tests d m s ks
-plain_tests d m s ks r does supported not_jms not_jmp calls returns halts dw dr = record {
-  b = d.body (current ks) s.pc;
-  w = writes d r (current ks);
-  c = true;
-  r = true;
-  h = true;
-  l = reads d r (current ks);
-  stays = stays_decides d m s ks supported;
-  writes = dw;
-  calls = nothing_decides (CallsEntries d m s) calls;
-  returns = nothing_decides (ReturnsToItsCall d m s ks) returns;
-  halts = nothing_decides (HaltsDeclared d m s.pc) halts;
-  reads = dr;
-  is = rw (does, not_jms, not_jmp) (in_body (d.body (current ks) s.pc) _);
-}
-
--- an instruction that doesn't refer to memory
-quiet_tests : (d : Declaration) (m : Meaning) (s : State) (ks : Calls) → action_of m s.memory ≡ action.GoesOn →
-    IsSupported m → WritesDeclared d m s ks → CallsEntries d m s → ReturnsToItsCall d m s ks → HaltsDeclared d m s.pc → ReadsListed d m s ks → Tests d m s ks
-quiet_tests d m s ks does supported writes calls returns halts reads = record {
-  b = d.body (current ks) s.pc;
-  w = true;
-  c = true;
-  r = true;
-  h = true;
-  l = true;
-  stays = stays_decides d m s ks supported;
-  writes = nothing_decides (WritesDeclared d m s ks) writes;
-  calls = nothing_decides (CallsEntries d m s) calls;
-  returns = nothing_decides (ReturnsToItsCall d m s ks) returns;
-  halts = nothing_decides (HaltsDeclared d m s.pc) halts;
-  reads = nothing_decides (ReadsListed d m s ks) reads;
-  is = rw does (in_body (d.body (current ks) s.pc) _);
-}
-
-no_write : (d : Declaration) (m : Meaning) (s : State) (ks : Calls) → ((a : ℕ) → written_by m s.memory a ≡ false) → WritesDeclared d m s ks
-no_write d m s ks none = λ a at. absurd (false≢true (sym (none a) ∙ at))
-
-no_read : (d : Declaration) (m : Meaning) (s : State) (ks : Calls) → ((a : ℕ) → read_by m s.memory a ≡ false) → ReadsListed d m s ks
-no_read d m s ks none = λ a at. absurd (false≢true (sym (none a) ∙ at))
-
-jms_tests : (d : Declaration) (i : Bool) (c : ℕ) (s : State) (ks : Calls) → Tests d (Jms i c) s ks
-jms_tests d i c s ks = record {
-  b = d.body (current ks) s.pc;
-  w = writes d (reference operation.Jms i c s.memory) (current ks);
-  c = d.entry (place i c s.memory);
-  r = true;
-  h = true;
-  l = reads d (reference operation.Jms i c s.memory) (current ks);
-  stays = stays_decides d (Jms i c) s ks tt;
-  writes = two_cells (may_write d operation.Jms (current ks)) (λ a. (d.variable a ≡ true) ⊎ ⊥) (plain_write d operation.Jms ks refl) (steps_pointer i c) c false 0;
-  calls = (λ h. h, λ h. h);
-  returns = nothing_decides (Unit {0}) tt;
-  halts = nothing_decides (Unit {0}) tt;
-  reads = alone (may_load d (current ks)) (λ a. IsListed d.reads a ⊎ (current ks ≡ Some a)) (load d ks) i c;
-  is = in_body (d.body (current ks) s.pc) _;
-}
-
-jmp_tests : (d : Declaration) (i : Bool) (c : ℕ) (s : State) (ks : Calls) → AreWords s.memory → Tests d (Jmp i c) s ks
-jmp_tests d i c s ks words = record {
-  b = d.body (current ks) s.pc;
-  w = writes d (reference operation.Jmp i c s.memory) (current ks);
-  c = true;
-  r = implies (i && d.entry c) (finds_call d c (s.memory c) ks);
-  h = true;
-  l = reads d (reference operation.Jmp i c s.memory) (current ks);
-  stays = stays_decides d (Jmp i c) s ks tt;
-  writes = two_cells (may_write d operation.Jmp (current ks)) (λ a. (d.variable a ≡ true) ⊎ ⊥) (plain_write d operation.Jmp ks refl) (steps_pointer i c) c false 0;
-  calls = nothing_decides (Unit {0}) tt;
-  returns = return_decides d i c s ks words;
-  halts = nothing_decides (Unit {0}) tt;
-  reads = alone (may_load d (current ks)) (λ a. IsListed d.reads a ⊎ (current ks ≡ Some a)) (load d ks) i c;
-  is = in_body (d.body (current ks) s.pc) _;
-}
-
-halt_is : (b h : Bool) → (if b then (if h then None else Some rule.HaltsDeclared) else Some rule.StaysInBody) ≡ chain b true true true h true
-halt_is true true = refl
-halt_is true false = refl
-halt_is false h = refl
-
-halt_tests : (d : Declaration) (word : ℕ) (s : State) (ks : Calls) → is_halt word ≡ true → Tests d (Group2 word) s ks
-halt_tests d word s ks halt = record {
-  b = d.body (current ks) s.pc;
-  w = true;
-  c = true;
-  r = true;
-  h = d.stop s.pc || d.pause s.pc;
-  l = true;
-  stays = stays_decides d (Group2 word) s ks tt;
-  writes = nothing_decides (WritesDeclared d (Group2 word) s ks) (no_write d (Group2 word) s ks (λ a. refl));
-  calls = nothing_decides (Unit {0}) tt;
-  returns = nothing_decides (Unit {0}) tt;
-  halts = (λ h on. h, λ f. f halt);
-  reads = nothing_decides (ReadsListed d (Group2 word) s ks) (no_read d (Group2 word) s ks (λ a. refl));
-  is = rw halt (halt_is (d.body (current ks) s.pc) (d.stop s.pc || d.pause s.pc));
-}
-
-go_tests : (d : Declaration) (word : ℕ) (s : State) (ks : Calls) → is_halt word ≡ false → Tests d (Group2 word) s ks
-go_tests d word s ks none =
-    quiet_tests d (Group2 word) s ks (rw none refl) tt (no_write d (Group2 word) s ks (λ a. refl)) tt tt (λ on. absurd (false≢true (sym none ∙ on))) (no_read d (Group2 word) s ks (λ a. refl))
-
-group2_tests : (d : Declaration) (word : ℕ) (s : State) (ks : Calls) (halt : Bool) → is_halt word ≡ halt → Tests d (Group2 word) s ks
-group2_tests d word s ks true is = halt_tests d word s ks is
-group2_tests d word s ks false is = go_tests d word s ks is
-
-undefined_is : (b : Bool) → (if b then Some rule.StaysInBody else Some rule.StaysInBody) ≡ chain false true true true true true
-undefined_is true = refl
-undefined_is false = refl
-
-undefined_tests : (d : Declaration) (s : State) (ks : Calls) → Tests d Undefined s ks
-undefined_tests d s ks = record {
-  b = false;
-  w = true;
-  c = true;
-  r = true;
-  h = true;
-  l = true;
-  stays = (λ h. cc, λ p. absurd p.1);
-  writes = nothing_decides (WritesDeclared d Undefined s ks) (no_write d Undefined s ks (λ a. refl));
-  calls = nothing_decides (Unit {0}) tt;
-  returns = nothing_decides (Unit {0}) tt;
-  halts = nothing_decides (Unit {0}) tt;
-  reads = nothing_decides (ReadsListed d Undefined s ks) (no_read d Undefined s ks (λ a. refl));
-  is = undefined_is (d.body (current ks) s.pc);
-}
-
--- the tests of each instruction
-pub tests : (d : Declaration) (m : Meaning) (s : State) (ks : Calls) → AreWords s.memory → Tests d m s ks
-tests d (And i c) s ks words =
-    plain_tests d (And i c) s ks (reference operation.And i c s.memory) refl tt refl refl tt tt tt
-    (two_cells (may_write d operation.And (current ks)) (λ a. (d.variable a ≡ true) ⊎ ⊥) (plain_write d operation.And ks refl) (steps_pointer i c) c false 0)
-    (two_cells (may_load d (current ks)) (λ a. IsListed d.reads a ⊎ (current ks ≡ Some a)) (load d ks) i c true (place i c s.memory))
-tests d (Tad i c) s ks words =
-    plain_tests d (Tad i c) s ks (reference operation.Tad i c s.memory) refl tt refl refl tt tt tt
-    (two_cells (may_write d operation.Tad (current ks)) (λ a. (d.variable a ≡ true) ⊎ ⊥) (plain_write d operation.Tad ks refl) (steps_pointer i c) c false 0)
-    (two_cells (may_load d (current ks)) (λ a. IsListed d.reads a ⊎ (current ks ≡ Some a)) (load d ks) i c true (place i c s.memory))
-tests d (Isz i c) s ks words =
-    plain_tests d (Isz i c) s ks (reference operation.Isz i c s.memory) refl tt refl refl tt tt tt
-    (two_cells (may_write d operation.Isz (current ks)) (λ a. (d.variable a ≡ true) ⊎ (current ks ≡ Some a)) (isz_write d ks) (steps_pointer i c) c true (place i c s.memory))
-    (two_cells (may_load d (current ks)) (λ a. IsListed d.reads a ⊎ (current ks ≡ Some a)) (load d ks) i c true (place i c s.memory))
-tests d (Dca i c) s ks words =
-    plain_tests d (Dca i c) s ks (reference operation.Dca i c s.memory) refl tt refl refl tt tt tt
-    (two_cells (may_write d operation.Dca (current ks)) (λ a. (d.variable a ≡ true) ⊎ ⊥) (plain_write d operation.Dca ks refl) (steps_pointer i c) c true (place i c s.memory))
-    (alone (may_load d (current ks)) (λ a. IsListed d.reads a ⊎ (current ks ≡ Some a)) (load d ks) i c)
-tests d (Jms i c) s ks words = jms_tests d i c s ks
-tests d (Jmp i c) s ks words = jmp_tests d i c s ks words
-tests d (Group1 w) s ks words = quiet_tests d (Group1 w) s ks refl tt (no_write d (Group1 w) s ks (λ a. refl)) tt tt tt (no_read d (Group1 w) s ks (λ a. refl))
-tests d (Group2 w) s ks words = group2_tests d w s ks (is_halt w) refl
-tests d (Group3 o) s ks words = quiet_tests d (Group3 o) s ks refl tt (no_write d (Group3 o) s ks (λ a. refl)) tt tt tt (no_read d (Group3 o) s ks (λ a. refl))
-tests d (Device x) s ks words = quiet_tests d (Device x) s ks refl tt (no_write d (Device x) s ks (λ a. refl)) tt tt tt (no_read d (Device x) s ks (λ a. refl))
-tests d Undefined s ks words = undefined_tests d s ks
-
--- where no test fails, all of them hold
-all_hold : (b w c r h l : Bool) → chain b w c r h l ≡ None → (b ≡ true) × (w ≡ true) × (c ≡ true) × (r ≡ true) × (h ≡ true) × (l ≡ true)
-all_hold false w c r h l is = cc
-all_hold true false c r h l is = cc
-all_hold true true false r h l is = cc
-all_hold true true true false h l is = cc
-all_hold true true true true false l is = cc
-all_hold true true true true true false is = cc
-all_hold true true true true true true is = (refl, refl, refl, refl, refl, refl)
-
-legal_by : (image : Image) (d : Declaration) (s : State) (ks : Calls) → KeepsCode image d s.memory → (t : Tests d (instruction d.profile s) s ks) → chain t.b t.w t.c t.r t.h t.l ≡ None → IsLegal image d s ks
-legal_by image d s ks code t is =
-    let all = all_hold t.b t.w t.c t.r t.h t.l is in
-    let stays = t.stays.0 all.0 in
-    record {
-      stays = record { in_body = stays.0; supported = stays.1 };
-      writes = t.writes.0 all.1;
-      calls = t.calls.0 all.2;
-      returns = t.returns.0 all.3;
-      halts = t.halts.0 all.4;
-      code = code;
-      reads = t.reads.0 all.5;
-    }
-
--- a rule fails, and those of lesser numbers hold
-pub record Least (K : Rule → Type 0) (failing : Rule) : Type 0 where
-  pub broken : K failing → ⊥
-  pub least : (other : Rule) → number_of other < number_of failing → K other
-
-by_number : (K : Rule → Type 0) (n : ℕ) → (1 < n → K rule.StaysInBody) → (2 < n → K rule.WritesDeclared) → (3 < n → K rule.CallsEntries) → (4 < n → K rule.ReturnsToItsCall) →
-    (5 < n → K rule.HaltsDeclared) → (6 < n → K rule.KeepsCode) → (7 < n → K rule.ReadsListed) → (other : Rule) → number_of other < n → K other
-by_number K n k1 k2 k3 k4 k5 k6 k7 rule.StaysInBody less = k1 less
-by_number K n k1 k2 k3 k4 k5 k6 k7 rule.WritesDeclared less = k2 less
-by_number K n k1 k2 k3 k4 k5 k6 k7 rule.CallsEntries less = k3 less
-by_number K n k1 k2 k3 k4 k5 k6 k7 rule.ReturnsToItsCall less = k4 less
-by_number K n k1 k2 k3 k4 k5 k6 k7 rule.HaltsDeclared less = k5 less
-by_number K n k1 k2 k3 k4 k5 k6 k7 rule.KeepsCode less = k6 less
-by_number K n k1 k2 k3 k4 k5 k6 k7 rule.ReadsListed less = k7 less
-
-below : (P : Type 0) (m n : ℕ) → n ≤ m → m < n → P
-below P m n high less = absurd (omega arith)
-
-failed : (b : Bool) (P : Type 0) → b ≡ false → Decides b P → P → ⊥
-failed b P is d p = false≢true (sym is ∙ d.1 p)
-
-at_rule : (K : Rule → Type 0) (first failing : Rule) → Some first ≡ Some failing → Least K first → Least K failing
-at_rule K first failing is least = let same : first ≡ failing = cc in subst (λ (x : Rule). Least K x) same least
-
-least_by : (K : Rule → Type 0) (b w c r h l : Bool) → Decides b (K rule.StaysInBody) → Decides w (K rule.WritesDeclared) → Decides c (K rule.CallsEntries) → Decides r (K rule.ReturnsToItsCall) →
-    Decides h (K rule.HaltsDeclared) → K rule.KeepsCode → Decides l (K rule.ReadsListed) → (failing : Rule) → chain b w c r h l ≡ Some failing → Least K failing
-least_by K false w c r h l k1 k2 k3 k4 k5 k6 k7 failing is = at_rule K rule.StaysInBody failing is (record {
-  broken = failed false (K rule.StaysInBody) refl k1;
-  least = by_number K 1 (λ x. below _ 1 1 (omega arith) x) (λ x. below _ 2 1 (omega arith) x) (λ x. below _ 3 1 (omega arith) x) (λ x. below _ 4 1 (omega arith) x) (λ x. below _ 5 1 (omega arith) x) (λ x. below _ 6 1 (omega arith) x) (λ x. below _ 7 1 (omega arith) x);
-})
-least_by K true false c r h l k1 k2 k3 k4 k5 k6 k7 failing is = at_rule K rule.WritesDeclared failing is (record {
-  broken = failed false (K rule.WritesDeclared) refl k2;
-  least = by_number K 2 (λ x. k1.0 refl) (λ x. below _ 2 2 (omega arith) x) (λ x. below _ 3 2 (omega arith) x) (λ x. below _ 4 2 (omega arith) x) (λ x. below _ 5 2 (omega arith) x) (λ x. below _ 6 2 (omega arith) x) (λ x. below _ 7 2 (omega arith) x);
-})
-least_by K true true false r h l k1 k2 k3 k4 k5 k6 k7 failing is = at_rule K rule.CallsEntries failing is (record {
-  broken = failed false (K rule.CallsEntries) refl k3;
-  least = by_number K 3 (λ x. k1.0 refl) (λ x. k2.0 refl) (λ x. below _ 3 3 (omega arith) x) (λ x. below _ 4 3 (omega arith) x) (λ x. below _ 5 3 (omega arith) x) (λ x. below _ 6 3 (omega arith) x) (λ x. below _ 7 3 (omega arith) x);
-})
-least_by K true true true false h l k1 k2 k3 k4 k5 k6 k7 failing is = at_rule K rule.ReturnsToItsCall failing is (record {
-  broken = failed false (K rule.ReturnsToItsCall) refl k4;
-  least = by_number K 4 (λ x. k1.0 refl) (λ x. k2.0 refl) (λ x. k3.0 refl) (λ x. below _ 4 4 (omega arith) x) (λ x. below _ 5 4 (omega arith) x) (λ x. below _ 6 4 (omega arith) x) (λ x. below _ 7 4 (omega arith) x);
-})
-least_by K true true true true false l k1 k2 k3 k4 k5 k6 k7 failing is = at_rule K rule.HaltsDeclared failing is (record {
-  broken = failed false (K rule.HaltsDeclared) refl k5;
-  least = by_number K 5 (λ x. k1.0 refl) (λ x. k2.0 refl) (λ x. k3.0 refl) (λ x. k4.0 refl) (λ x. below _ 5 5 (omega arith) x) (λ x. below _ 6 5 (omega arith) x) (λ x. below _ 7 5 (omega arith) x);
-})
-least_by K true true true true true false k1 k2 k3 k4 k5 k6 k7 failing is = at_rule K rule.ReadsListed failing is (record {
-  broken = failed false (K rule.ReadsListed) refl k7;
-  least = by_number K 7 (λ x. k1.0 refl) (λ x. k2.0 refl) (λ x. k3.0 refl) (λ x. k4.0 refl) (λ x. k5.0 refl) (λ x. k6) (λ x. below _ 7 7 (omega arith) x);
-})
-least_by K true true true true true true k1 k2 k3 k4 k5 k6 k7 failing is = cc
-
-body_decides : (b : Bool) (d : Declaration) (s : State) (ks : Calls) → Decides b ((d.body (current ks) s.pc ≡ true) × IsSupported (instruction d.profile s)) → Decides b (StaysInBody d s ks)
-body_decides b d s ks t = (λ h. record { in_body = (t.0 h).0; supported = (t.0 h).1 }, λ p. t.1 (p.in_body, p.supported))
-
-least_broken_by : (image : Image) (d : Declaration) (s : State) (ks : Calls) → KeepsCode image d s.memory → (t : Tests d (instruction d.profile s) s ks) →
-    (failing : Rule) → chain t.b t.w t.c t.r t.h t.l ≡ Some failing → IsLeastBroken image d s ks failing
-least_broken_by image d s ks code t failing is =
-    let least : Least (λ r. Keeps r image d s ks) failing = least_by (λ r. Keeps r image d s ks) t.b t.w t.c t.r t.h t.l (body_decides t.b d s ks t.stays) t.writes t.calls t.returns t.halts code t.reads failing is in
-    record { broken = least.broken; least = least.least }
-
--- what the tests of the next step say
-pub kept_legal : (image : Image) (d : Declaration) (s : State) (ks : Calls) → AreWords s.memory → KeepsCode image d s.memory →
-    least_broken d (action_of (instruction d.profile s) s.memory) s.pc (current ks) s.memory ks ≡ None → IsLegal image d s ks
-kept_legal image d s ks words code is =
-    let t : Tests d (instruction d.profile s) s ks = tests d (instruction d.profile s) s ks words in
-    legal_by image d s ks code t (sym t.is ∙ is)
-
-pub first_broken : (image : Image) (d : Declaration) (s : State) (ks : Calls) (failing : Rule) → AreWords s.memory → KeepsCode image d s.memory →
-    least_broken d (action_of (instruction d.profile s) s.memory) s.pc (current ks) s.memory ks ≡ Some failing → IsLeastBroken image d s ks failing
-first_broken image d s ks failing words code is =
-    let t : Tests d (instruction d.profile s) s ks = tests d (instruction d.profile s) s ks words in
-    least_broken_by image d s ks code t failing (sym t.is ∙ is)

@@ -1,14 +1,66 @@
 //! Declarations as they are kept, and their readers.
 
-ghost use Rattle.std.specs.Prelude.{ℕ, ◌≡◌, ◌↔◌, ◌==◌, IsTrue, None, Some, is_some};
+ghost use Rattle.std.specs.Prelude.{ℕ, ◌≡◌, ◌≢◌, ◌⊎◌, ◌<◌, ◌≤◌, ◌↔◌, ◌==◌, length, IsTrue, IfOk, IfErr, IsErrOf, None, Some, is_some};
 ghost use Rattle.std.specs.Option.{option_map};
+ghost use Rattle.policy.specs.Declaration.{Declaration as Rules, IsDeclared};
 ghost use Rattle.policy.specs.Rules.{IsListed};
+ghost use Rattle.policy.specs.DeclarationText.{Declares, Fails, HasLines, is_entry, most_bytes};
+ghost use Rattle.policy.specs.Drafts.{gathered};
+ghost use Rattle.policy.specs.declared.declaration.DeclarationFault.{DeclarationFault};
+ghost use Rattle.policy.specs.declared.declaration.DeclarationFault.TheVariants.{NoMemory};
 ghost use Rattle.policy.specs.Kept.{cells, offsets_of, routines_of, meaning};
 
+use crate::declaration::drafts::Draft;
+use crate::declaration::lines::read_line;
 use instruct::Profile;
+use peripherals::text::Lines;
 use std::alloc::Allocator;
+use thiserror::Error;
 use word12::Word;
 use wordset::WordSet;
+
+mod drafts;
+mod lines;
+mod sets;
+
+/// The most bytes of a declaration.
+const MOST_BYTES: usize = 16_384;
+
+/// Why a text is no declaration.
+#[derive(Clone, Copy, PartialEq, Eq, Debug, Error)]
+pub enum DeclarationFault {
+    /// The line of this number, counted from 1, is none of the lines that there are.
+    #[error("BadLine {0}")]
+    BadLine(usize),
+    /// The line of this number gives a second start.
+    #[error("TwoStarts {0}")]
+    TwoStarts(usize),
+    /// The line of this number gives a second machine.
+    #[error("TwoProfiles {0}")]
+    TwoProfiles(usize),
+    /// No line gives the start.
+    #[error("NoStart")]
+    NoStart,
+    /// The cell is in two bodies; or it's an entry, and in a body, a variable or another entry; or
+    /// it's both a stop and a pause.
+    #[error("Overlap {0}")]
+    Overlap(Word),
+    /// The entry is one of the cells 0010 to 0017, which an indirect reference steps.
+    #[error("EntryInAutoIndex {0}")]
+    EntryInAutoIndex(Word),
+    /// The start isn't in main's body.
+    #[error("StartNotInMain")]
+    StartNotInMain,
+    /// The text has more than 16,384 bytes or more than 64 routines.
+    #[error("TooMany")]
+    TooMany,
+    /// The declared halt is in no body.
+    #[error("HaltNotInBody {0}")]
+    HaltNotInBody(Word),
+    /// A growth of the list of routines was refused.
+    #[error("NoMemory")]
+    NoMemory,
+}
 
 /// Some of the offsets 0 to 7, at which a routine may return.
 #[derive(Clone, Copy, PartialEq, Eq, Debug)]
@@ -77,6 +129,39 @@ impl Routine {
 }
 
 impl<A: Allocator> Declaration<A> {
+    /// The declaration of a text.
+    ///
+    /// Each line is one of `start A`, `main R..`, `sub E body R.. returns d..`, `var R..`,
+    /// `stop A..`, `pause A..`, `profile 8i` or `profile 8e`, and `read R..`, or empty. A range `R`
+    /// is an address `A` or two, `A-B`; an address is one to four octal digits, an offset `d` one
+    /// octal digit. There may be no offsets, and no ranges after `read`. Words stand between spaces
+    /// and tabs, and a `/` begins a comment. Lines of one kind add to one another, but there is one
+    /// start and at most one machine, which is the 8/I without a line.
+    ///
+    /// # Errors
+    ///
+    /// `TooMany` first for a text of more than 16,384 bytes. Then, by the first line at which one
+    /// of them is due, `BadLine`, `TwoStarts` or `TwoProfiles` with the line's number, `TooMany`
+    /// for a 65th routine, or `NoMemory` where a growth was refused, in this order. Then `NoStart`,
+    /// `Overlap`, `EntryInAutoIndex`, `StartNotInMain` and `HaltNotInBody`, in this order, with the
+    /// least address that shows the fault.
+    pub fn parse(alloc: A, text: &[u8]) -> Result<Declaration<A>, DeclarationFault>
+        ensures found { IfOk result (λ d. Declares text.now (meaning d)) }
+        ensures declared { IfOk result (λ d. IsDeclared (meaning d)) }
+        ensures only { (d : Rules) → Declares text.now d → IfErr result (λ fault. fault ≡ NoMemory) }
+        ensures refused { IfErr result (Fails text.now) }
+        ensures exact { (fault : DeclarationFault) → Fails text.now fault → fault ≢ NoMemory
+            → IsErrOf result fault ⊎ IsErrOf result NoMemory }
+    {
+        if text.len() > MOST_BYTES {
+            return Err(DeclarationFault::TooMany);
+        }
+        match read_lines(alloc, text) {
+            Ok(draft) => draft.finish(),
+            Err(fault) => Err(fault),
+        }
+    }
+
     /// Where the program starts.
     pub fn start(&self) -> Word
         ensures { result ≡ (meaning self.now).start }
@@ -199,4 +284,23 @@ impl<A: Allocator> Declaration<A> {
             Some(cells) => cells.contains(at),
         }
     }
+}
+
+/// What the lines of a text that isn't too long say together.
+fn read_lines<A: Allocator>(alloc: A, text: &[u8]) -> Result<Draft<A>, DeclarationFault>
+    requires { length text.now ≤ most_bytes }
+    ensures found { IfOk result (λ draft. HasLines text.now (gathered draft)) }
+    ensures fit { IfOk result (λ draft. (e : ℕ) → IsTrue (is_entry (gathered draft) e) → e < 4096) }
+    ensures refused { IfErr result (Fails text.now) }
+{
+    let mut draft = Draft::new(alloc);
+    for (index, line) in Lines::of(text).enumerate() {
+        let Some(said) = read_line(line) else {
+            return Err(DeclarationFault::BadLine(index + 1));
+        };
+        if let Err(fault) = draft.add(&said, index + 1) {
+            return Err(fault);
+        }
+    }
+    Ok(draft)
 }

@@ -7,6 +7,6 @@ mod legality;
 mod rules;
 mod watcher;
 
-pub use declaration::{Declaration, Offsets, Routine};
+pub use declaration::{Declaration, DeclarationFault, Offsets, Routine};
 pub use rules::Rule;
 pub use watcher::{Watched, watch};

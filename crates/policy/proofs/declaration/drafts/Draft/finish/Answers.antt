@@ -1,0 +1,28 @@
+use Rattle.std.proofs.Common.{◌≡◌, ◌&&◌, ◌==◌, refl, sym, ap, ◌∙◌}
+use Rattle.std.specs.Option.{option_to_list}
+use Rattle.policy.specs.Drafts.{gathered, subroutine_of}
+use Rattle.policy.proofs.RuleLemmas.{any_map, profile_or, cell_below, in_bodies_below}
+use Rattle.policy.proofs.IsDeclaredLemmas.{IsDeclared-from}
+use Rattle.policy.proofs.declaration.drafts.Draft.finish.Goals as goal
+
+pub returns-clause-says : goal.returns-clause-says
+returns-clause-says g c = record {
+  start = ap option_to_list c.in-Some.is;
+  profile = c.unwrap_or.ensures ∙ profile_or c.args.self.profile;
+  main = refl;
+  body = λ e a. sym (any_map subroutine_of (λ r. r.entry == e && r.body a) c.args.self.routines.items);
+  entry = λ e. sym (any_map subroutine_of (λ r. r.entry == e) c.args.self.routines.items);
+  offset = λ e o. sym (any_map subroutine_of (λ r. r.entry == e && r.offsets o) c.args.self.routines.items);
+  variable = refl;
+  stop = refl;
+  pause = refl;
+  reads = refl;
+}
+
+pub returns-clause-declared : goal.returns-clause-declared
+returns-clause-declared g c = IsDeclared-from (gathered c.args.self) _ (returns-clause-says g c) c.in_default-keeps_rules.ensures.kept (record {
+  bodies = λ a is. in_bodies_below c.args.self.main c.args.self.routines.items a is;
+  entries = c.requires;
+  stops = λ a is. cell_below c.args.self.stops a is;
+  pauses = λ a is. cell_below c.args.self.pauses a is;
+})

@@ -6,3 +6,8 @@ pub mod Kept
 pub mod DeclarationLines
 pub mod DeclarationText
 pub mod Drafts
+pub mod Actions
+pub mod Watching
+pub mod Decided
+pub mod OpenCalls
+pub mod WatchedSteps

@@ -1,6 +1,12 @@
 //! Declarations: what a program promises of its runs, the rules that follow, and the safe programs.
 #![tactic(auto)]
 
+mod actions;
 mod declaration;
+mod legality;
+mod rules;
+mod watcher;
 
 pub use declaration::{Declaration, DeclarationFault, Offsets, Routine};
+pub use rules::Rule;
+pub use watcher::{Watched, watch};

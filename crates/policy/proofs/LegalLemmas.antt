@@ -1,0 +1,439 @@
+-- The tests on an action decide the rules on its instruction.
+use Rattle.std.proofs.Common.{ℕ, ◌≡◌, ◌<◌, ◌≤◌, ◌+◌, ◌-◌, ◌%◌, ◌==◌, Bool, true, false, ◌&&◌, ◌||◌, ◌⊎◌, inl, inr, Option, Some, None, List, [], ◌∷◌, refl, sym, ap, ◌∙◌, subst, arith}
+use Rattle.std.specs.Prelude.{if◌then◌else◌, not, nat_lt}
+use Rattle.std.proofs.lemmas.Bool.{and_parts, true≢false, false≢true, ltb-true, lt-ltb}
+use Rattle.std.proofs.lemmas.Bool.Decides.{eqb_tells}
+use Rattle.instruct.specs.Operates.{is_halt}
+use Rattle.instruct.specs.Instructions.{Meaning, And, Tad, Isz, Dca, Jms, Jmp, Group1, Group2, Group3, Device, Undefined}
+use Rattle.wordset.specs.Words.{Words, minus}
+use Rattle.processor.specs.Cells.{Cells, AreWords}
+use Rattle.processor.specs.Machine.{State, after, place, steps_pointer, instruction}
+use Rattle.processor.specs.Runs.{Image}
+use Rattle.policy.specs.declared.actions.Operation.{Operation}
+use Rattle.policy.specs.declared.actions.Operation.TheVariants as operation
+use Rattle.policy.specs.declared.actions.Reference.{Reference}
+use Rattle.policy.specs.declared.actions.Action.TheVariants as action
+use Rattle.policy.specs.declared.rules.Rule.{Rule}
+use Rattle.policy.specs.declared.rules.Rule.TheVariants as rule
+use Rattle.policy.specs.Declaration.{Routine, Declaration}
+use Rattle.policy.specs.Calls.{Call, Calls, current}
+use Rattle.policy.specs.Rules.{IsSupported, pointer_of, stored_at, written_by, read_by, StaysInBody, CountsOwnEntry, WritesDeclared, CallsEntries, FindsItsCall, ReturnsToItsCall, HaltsDeclared, IsListed, ReadsListed, KeepsCode, IsLegal}
+use Rattle.policy.specs.Actions.{action_of, refers}
+use Rattle.policy.specs.Decided.{is_own, is_isz, is_jms, is_jmp, stores, loads, implies, may_write, writes, calls_entry, finds_call, is_return, returns, is_listed, may_load, reads, broken_by, broken_by_reference, least_broken}
+use Rattle.policy.specs.Watching.{number_of, Keeps, IsLeastBroken}
+
+-- a test that is true exactly where a fact holds
+abbrev pub Decides : Bool → Type 0 → Type 0
+Decides b P = (b ≡ true → P) × (P → b ≡ true)
+
+or_cases : (a b : Bool) → (a || b) ≡ true → (a ≡ true) ⊎ (b ≡ true)
+or_cases true b h = inl refl
+or_cases false b h = inr h
+
+or_first : (a b : Bool) → a ≡ true → (a || b) ≡ true
+or_first true b h = refl
+or_first false b h = cc
+
+or_second : (a b : Bool) → b ≡ true → (a || b) ≡ true
+or_second true b h = refl
+or_second false b h = h
+
+and_both : (a b : Bool) → a ≡ true → b ≡ true → (a && b) ≡ true
+and_both true b p q = q
+and_both false b p q = p
+
+implies_on : (a b : Bool) → implies a b ≡ true → a ≡ true → b ≡ true
+implies_on true b h on = h
+implies_on false b h on = cc
+
+implies_made : (a b : Bool) → (a ≡ true → b ≡ true) → implies a b ≡ true
+implies_made true b f = f refl
+implies_made false b f = refl
+
+same_number : (a b : ℕ) → (a == b) ≡ true → a ≡ b
+same_number a b h = elim (eqb_tells a b) [
+  | inl same ↦ same.1
+  | inr apart ↦ absurd (true≢false (sym h ∙ apart.0))
+]
+
+equal_number : (a : ℕ) → (a == a) ≡ true
+equal_number a = elim (eqb_tells a a) [
+  | inl same ↦ same.0
+  | inr apart ↦ absurd (apart.1 refl)
+]
+
+-- the own entry
+own : (r : Routine) (a : ℕ) → Decides (is_own r a) (r ≡ Some a)
+own None a = (λ h. cc, λ h. cc)
+own (Some e) a = (λ h. ap (λ (x : ℕ). Some x) (same_number e a h), λ h. let same : e ≡ a = cc in rw same (equal_number a))
+
+or_decides : (a b : Bool) (P Q : Type 0) → Decides a P → Decides b Q → Decides (a || b) (P ⊎ Q)
+or_decides true b P Q da db = (λ h. inl (da.0 refl), λ h. refl)
+or_decides false b P Q da db = (λ h. inr (db.0 h), λ (h : P ⊎ Q). elim h [ | inl p ↦ absurd (false≢true (da.1 p)) | inr q ↦ db.1 q ])
+
+-- what is asked of up to two cells
+one_cell : (ok : ℕ → Bool) (Ok : ℕ → Type 0) → ((a : ℕ) → Decides (ok a) (Ok a)) → (p : Bool) (c : ℕ) →
+    Decides (implies p (ok c)) ((a : ℕ) → (p && (a == c)) ≡ true → Ok a)
+one_cell ok Ok decide true c = (λ h a at. subst Ok (sym (same_number a c at)) ((decide c).0 h), λ f. (decide c).1 (f c (equal_number c)))
+one_cell ok Ok decide false c = (λ h a at. absurd (false≢true at), λ f. refl)
+
+both : (a b : Bool) (P Q R : Type 0) → Decides a P → Decides b Q → (P → Q → R) → (R → P) → (R → Q) → Decides (a && b) R
+both true true P Q R da db pq p q = (λ h. pq (da.0 refl) (db.0 refl), λ r. refl)
+both true false P Q R da db pq p q = (λ h. cc, λ r. db.1 (q r))
+both false b P Q R da db pq p q = (λ h. cc, λ r. da.1 (p r))
+
+two_cells : (ok : ℕ → Bool) (Ok : ℕ → Type 0) → ((a : ℕ) → Decides (ok a) (Ok a)) → (p : Bool) (c : ℕ) (q : Bool) (y : ℕ) →
+    Decides (implies p (ok c) && implies q (ok y)) ((a : ℕ) → ((p && (a == c)) || (q && (a == y))) ≡ true → Ok a)
+two_cells ok Ok decide p c q y =
+    both (implies p (ok c)) (implies q (ok y))
+    ((a : ℕ) → (p && (a == c)) ≡ true → Ok a)
+    ((a : ℕ) → (q && (a == y)) ≡ true → Ok a)
+    ((a : ℕ) → ((p && (a == c)) || (q && (a == y))) ≡ true → Ok a)
+    (one_cell ok Ok decide p c) (one_cell ok Ok decide q y)
+    (λ f g a at. elim (or_cases (p && (a == c)) (q && (a == y)) at) [ | inl x ↦ f a x | inr x ↦ g a x ])
+    (λ f a at. f a (or_first (p && (a == c)) (q && (a == y)) at))
+    (λ f a at. f a (or_second (p && (a == c)) (q && (a == y)) at))
+
+-- one_cell beside nothing
+alone : (ok : ℕ → Bool) (Ok : ℕ → Type 0) → ((a : ℕ) → Decides (ok a) (Ok a)) → (p : Bool) (c : ℕ) →
+    Decides (implies p (ok c) && true) ((a : ℕ) → (p && (a == c)) ≡ true → Ok a)
+alone ok Ok decide true c = (λ h. (one_cell ok Ok decide true c).0 (and_parts (ok c) true h).0, λ f. and_both (ok c) true ((one_cell ok Ok decide true c).1 f) refl)
+alone ok Ok decide false c = (λ h a at. absurd (false≢true at), λ f. refl)
+
+-- the own entry under ISZ alone
+plain_write : (d : Declaration) (o : Operation) (ks : Calls) → is_isz o ≡ false → (a : ℕ) → Decides (may_write d o (current ks) a) ((d.variable a ≡ true) ⊎ ⊥)
+plain_write d o ks not_isz a = rw not_isz (or_decides (d.variable a) false (d.variable a ≡ true) ⊥ (λ h. h, λ h. h) (λ h. cc, λ h. absurd h))
+
+isz_write : (d : Declaration) (ks : Calls) (a : ℕ) → Decides (may_write d operation.Isz (current ks) a) ((d.variable a ≡ true) ⊎ (current ks ≡ Some a))
+isz_write d ks a = or_decides (d.variable a) (is_own (current ks) a) (d.variable a ≡ true) (current ks ≡ Some a) (λ h. h, λ h. h) (own (current ks) a)
+
+listed : (r : Option Words) (a : ℕ) → Decides (is_listed r a) (IsListed r a)
+listed None a = (λ h. tt, λ h. refl)
+listed (Some cells) a = (λ h. h, λ h. h)
+
+load : (d : Declaration) (ks : Calls) (a : ℕ) → Decides (may_load d (current ks) a) (IsListed d.reads a ⊎ (current ks ≡ Some a))
+load d ks a = or_decides (is_listed d.reads a) (is_own (current ks) a) (IsListed d.reads a) (current ks ≡ Some a) (listed d.reads a) (own (current ks) a)
+
+-- a return address and its distance from the call
+back : (word from : ℕ) → word < 4096 → word ≡ (from + minus word from) % 4096
+back word from small = omega arith
+
+away : (from o : ℕ) → o < 8 → minus ((from + o) % 4096) from ≡ o
+away from o low = omega arith
+
+found : (d : Declaration) (e : ℕ) (s : State) (ks : Calls) → AreWords s.memory → Decides (finds_call d e (s.memory e) ks) (FindsItsCall d e s ks)
+found d e s [] words = (λ h. cc, λ h. absurd h)
+found d e s (k ∷ ks) words = (
+  λ h.
+      let parts = and_parts (k.entry == e) _ h in
+      let more = and_parts (nat_lt (minus (s.memory e) k.after) 8) _ parts.1 in
+      (same_number k.entry e parts.0, minus (s.memory e) k.after, ltb-true (minus (s.memory e) k.after) 8 more.0, more.1, back (s.memory e) k.after (words e)),
+  λ f.
+      let at : minus (s.memory e) k.after ≡ f.1 = rw f.4 (away k.after f.1 f.2) in
+      let same : (k.entry == e) ≡ true = rw f.0 (equal_number e) in
+      let low : nat_lt f.1 8 ≡ true = lt-ltb f.1 8 f.2 in
+      rw at (and_both (k.entry == e) _ same (and_both (nat_lt f.1 8) _ low f.3))
+)
+
+return_decides : (d : Declaration) (i : Bool) (c : ℕ) (s : State) (ks : Calls) → AreWords s.memory →
+    Decides (implies (i && d.entry c) (finds_call d c (s.memory c) ks)) (i ≡ true → d.entry c ≡ true → FindsItsCall d c s ks)
+return_decides d i c s ks words = (
+  λ h on entry. (found d c s ks words).0 (implies_on (i && d.entry c) (finds_call d c (s.memory c) ks) h (and_both i (d.entry c) on entry)),
+  λ f. implies_made (i && d.entry c) (finds_call d c (s.memory c) ks) (λ on. (found d c s ks words).1 (f (and_parts i (d.entry c) on).0 (and_parts i (d.entry c) on).1))
+)
+
+-- the least rule by six tests
+abbrev pub chain : Bool → Bool → Bool → Bool → Bool → Bool → Option Rule
+chain b w c r h l =
+    if not b then Some rule.StaysInBody
+    else (if not w then Some rule.WritesDeclared
+    else (if not c then Some rule.CallsEntries
+    else (if not r then Some rule.ReturnsToItsCall
+    else (if not h then Some rule.HaltsDeclared
+    else (if not l then Some rule.ReadsListed
+    else None)))))
+
+-- the six tests of an instruction
+pub record Tests (d : Declaration) (m : Meaning) (s : State) (ks : Calls) : Type 0 where
+  pub b : Bool
+  pub w : Bool
+  pub c : Bool
+  pub r : Bool
+  pub h : Bool
+  pub l : Bool
+  pub stays : Decides b ((d.body (current ks) s.pc ≡ true) × IsSupported m)
+  pub writes : Decides w (WritesDeclared d m s ks)
+  pub calls : Decides c (CallsEntries d m s)
+  pub returns : Decides r (ReturnsToItsCall d m s ks)
+  pub halts : Decides h (HaltsDeclared d m s.pc)
+  pub reads : Decides l (ReadsListed d m s ks)
+  pub is : least_broken d (action_of m s.memory) s.pc (current ks) s.memory ks ≡ chain b w c r h l
+
+-- the test of the body comes first
+in_body : (b : Bool) (x : Option Rule) → (if b then x else Some rule.StaysInBody) ≡ (if not b then Some rule.StaysInBody else x)
+in_body true x = refl
+in_body false x = refl
+
+abbrev reference : Operation → Bool → ℕ → Cells → Reference
+reference o i c memory = record { operation = o; indirect = i; named = c; place = place i c memory }
+
+nothing_decides : (P : Type 0) → P → Decides true P
+nothing_decides P p = (λ h. p, λ q. refl)
+
+stays_decides : (d : Declaration) (m : Meaning) (s : State) (ks : Calls) → IsSupported m → Decides (d.body (current ks) s.pc) ((d.body (current ks) s.pc ≡ true) × IsSupported m)
+stays_decides d m s ks supported = (λ h. (h, supported), λ p. p.0)
+
+-- a memory reference that isn't a JMS or a JMP I is asked only of what it writes and reads
+plain_tests : (d : Declaration) (m : Meaning) (s : State) (ks : Calls) (r : Reference) → action_of m s.memory ≡ action.Refers r →
+    IsSupported m → is_jms r.operation ≡ false → is_jmp r.operation ≡ false →
+    CallsEntries d m s → ReturnsToItsCall d m s ks → HaltsDeclared d m s.pc →
+    Decides (writes d r (current ks)) (WritesDeclared d m s ks) → Decides (reads d r (current ks)) (ReadsListed d m s ks) → Tests d m s ks
+plain_tests d m s ks r does supported not_jms not_jmp calls returns halts dw dr = record {
+  b = d.body (current ks) s.pc;
+  w = writes d r (current ks);
+  c = true;
+  r = true;
+  h = true;
+  l = reads d r (current ks);
+  stays = stays_decides d m s ks supported;
+  writes = dw;
+  calls = nothing_decides (CallsEntries d m s) calls;
+  returns = nothing_decides (ReturnsToItsCall d m s ks) returns;
+  halts = nothing_decides (HaltsDeclared d m s.pc) halts;
+  reads = dr;
+  is = rw (does, not_jms, not_jmp) (in_body (d.body (current ks) s.pc) _);
+}
+
+-- an instruction that doesn't refer to memory
+quiet_tests : (d : Declaration) (m : Meaning) (s : State) (ks : Calls) → action_of m s.memory ≡ action.GoesOn →
+    IsSupported m → WritesDeclared d m s ks → CallsEntries d m s → ReturnsToItsCall d m s ks → HaltsDeclared d m s.pc → ReadsListed d m s ks → Tests d m s ks
+quiet_tests d m s ks does supported writes calls returns halts reads = record {
+  b = d.body (current ks) s.pc;
+  w = true;
+  c = true;
+  r = true;
+  h = true;
+  l = true;
+  stays = stays_decides d m s ks supported;
+  writes = nothing_decides (WritesDeclared d m s ks) writes;
+  calls = nothing_decides (CallsEntries d m s) calls;
+  returns = nothing_decides (ReturnsToItsCall d m s ks) returns;
+  halts = nothing_decides (HaltsDeclared d m s.pc) halts;
+  reads = nothing_decides (ReadsListed d m s ks) reads;
+  is = rw does (in_body (d.body (current ks) s.pc) _);
+}
+
+no_write : (d : Declaration) (m : Meaning) (s : State) (ks : Calls) → ((a : ℕ) → written_by m s.memory a ≡ false) → WritesDeclared d m s ks
+no_write d m s ks none = λ a at. absurd (false≢true (sym (none a) ∙ at))
+
+no_read : (d : Declaration) (m : Meaning) (s : State) (ks : Calls) → ((a : ℕ) → read_by m s.memory a ≡ false) → ReadsListed d m s ks
+no_read d m s ks none = λ a at. absurd (false≢true (sym (none a) ∙ at))
+
+jms_tests : (d : Declaration) (i : Bool) (c : ℕ) (s : State) (ks : Calls) → Tests d (Jms i c) s ks
+jms_tests d i c s ks = record {
+  b = d.body (current ks) s.pc;
+  w = writes d (reference operation.Jms i c s.memory) (current ks);
+  c = d.entry (place i c s.memory);
+  r = true;
+  h = true;
+  l = reads d (reference operation.Jms i c s.memory) (current ks);
+  stays = stays_decides d (Jms i c) s ks tt;
+  writes = two_cells (may_write d operation.Jms (current ks)) (λ a. (d.variable a ≡ true) ⊎ ⊥) (plain_write d operation.Jms ks refl) (steps_pointer i c) c false 0;
+  calls = (λ h. h, λ h. h);
+  returns = nothing_decides (Unit {0}) tt;
+  halts = nothing_decides (Unit {0}) tt;
+  reads = alone (may_load d (current ks)) (λ a. IsListed d.reads a ⊎ (current ks ≡ Some a)) (load d ks) i c;
+  is = in_body (d.body (current ks) s.pc) _;
+}
+
+jmp_tests : (d : Declaration) (i : Bool) (c : ℕ) (s : State) (ks : Calls) → AreWords s.memory → Tests d (Jmp i c) s ks
+jmp_tests d i c s ks words = record {
+  b = d.body (current ks) s.pc;
+  w = writes d (reference operation.Jmp i c s.memory) (current ks);
+  c = true;
+  r = implies (i && d.entry c) (finds_call d c (s.memory c) ks);
+  h = true;
+  l = reads d (reference operation.Jmp i c s.memory) (current ks);
+  stays = stays_decides d (Jmp i c) s ks tt;
+  writes = two_cells (may_write d operation.Jmp (current ks)) (λ a. (d.variable a ≡ true) ⊎ ⊥) (plain_write d operation.Jmp ks refl) (steps_pointer i c) c false 0;
+  calls = nothing_decides (Unit {0}) tt;
+  returns = return_decides d i c s ks words;
+  halts = nothing_decides (Unit {0}) tt;
+  reads = alone (may_load d (current ks)) (λ a. IsListed d.reads a ⊎ (current ks ≡ Some a)) (load d ks) i c;
+  is = in_body (d.body (current ks) s.pc) _;
+}
+
+halt_is : (b h : Bool) → (if b then (if h then None else Some rule.HaltsDeclared) else Some rule.StaysInBody) ≡ chain b true true true h true
+halt_is true true = refl
+halt_is true false = refl
+halt_is false h = refl
+
+halt_tests : (d : Declaration) (word : ℕ) (s : State) (ks : Calls) → is_halt word ≡ true → Tests d (Group2 word) s ks
+halt_tests d word s ks halt = record {
+  b = d.body (current ks) s.pc;
+  w = true;
+  c = true;
+  r = true;
+  h = d.stop s.pc || d.pause s.pc;
+  l = true;
+  stays = stays_decides d (Group2 word) s ks tt;
+  writes = nothing_decides (WritesDeclared d (Group2 word) s ks) (no_write d (Group2 word) s ks (λ a. refl));
+  calls = nothing_decides (Unit {0}) tt;
+  returns = nothing_decides (Unit {0}) tt;
+  halts = (λ h on. h, λ f. f halt);
+  reads = nothing_decides (ReadsListed d (Group2 word) s ks) (no_read d (Group2 word) s ks (λ a. refl));
+  is = rw halt (halt_is (d.body (current ks) s.pc) (d.stop s.pc || d.pause s.pc));
+}
+
+go_tests : (d : Declaration) (word : ℕ) (s : State) (ks : Calls) → is_halt word ≡ false → Tests d (Group2 word) s ks
+go_tests d word s ks none =
+    quiet_tests d (Group2 word) s ks (rw none refl) tt (no_write d (Group2 word) s ks (λ a. refl)) tt tt (λ on. absurd (false≢true (sym none ∙ on))) (no_read d (Group2 word) s ks (λ a. refl))
+
+group2_tests : (d : Declaration) (word : ℕ) (s : State) (ks : Calls) (halt : Bool) → is_halt word ≡ halt → Tests d (Group2 word) s ks
+group2_tests d word s ks true is = halt_tests d word s ks is
+group2_tests d word s ks false is = go_tests d word s ks is
+
+undefined_is : (b : Bool) → (if b then Some rule.StaysInBody else Some rule.StaysInBody) ≡ chain false true true true true true
+undefined_is true = refl
+undefined_is false = refl
+
+undefined_tests : (d : Declaration) (s : State) (ks : Calls) → Tests d Undefined s ks
+undefined_tests d s ks = record {
+  b = false;
+  w = true;
+  c = true;
+  r = true;
+  h = true;
+  l = true;
+  stays = (λ h. cc, λ p. absurd p.1);
+  writes = nothing_decides (WritesDeclared d Undefined s ks) (no_write d Undefined s ks (λ a. refl));
+  calls = nothing_decides (Unit {0}) tt;
+  returns = nothing_decides (Unit {0}) tt;
+  halts = nothing_decides (Unit {0}) tt;
+  reads = nothing_decides (ReadsListed d Undefined s ks) (no_read d Undefined s ks (λ a. refl));
+  is = undefined_is (d.body (current ks) s.pc);
+}
+
+-- the tests of each instruction
+pub tests : (d : Declaration) (m : Meaning) (s : State) (ks : Calls) → AreWords s.memory → Tests d m s ks
+tests d (And i c) s ks words =
+    plain_tests d (And i c) s ks (reference operation.And i c s.memory) refl tt refl refl tt tt tt
+    (two_cells (may_write d operation.And (current ks)) (λ a. (d.variable a ≡ true) ⊎ ⊥) (plain_write d operation.And ks refl) (steps_pointer i c) c false 0)
+    (two_cells (may_load d (current ks)) (λ a. IsListed d.reads a ⊎ (current ks ≡ Some a)) (load d ks) i c true (place i c s.memory))
+tests d (Tad i c) s ks words =
+    plain_tests d (Tad i c) s ks (reference operation.Tad i c s.memory) refl tt refl refl tt tt tt
+    (two_cells (may_write d operation.Tad (current ks)) (λ a. (d.variable a ≡ true) ⊎ ⊥) (plain_write d operation.Tad ks refl) (steps_pointer i c) c false 0)
+    (two_cells (may_load d (current ks)) (λ a. IsListed d.reads a ⊎ (current ks ≡ Some a)) (load d ks) i c true (place i c s.memory))
+tests d (Isz i c) s ks words =
+    plain_tests d (Isz i c) s ks (reference operation.Isz i c s.memory) refl tt refl refl tt tt tt
+    (two_cells (may_write d operation.Isz (current ks)) (λ a. (d.variable a ≡ true) ⊎ (current ks ≡ Some a)) (isz_write d ks) (steps_pointer i c) c true (place i c s.memory))
+    (two_cells (may_load d (current ks)) (λ a. IsListed d.reads a ⊎ (current ks ≡ Some a)) (load d ks) i c true (place i c s.memory))
+tests d (Dca i c) s ks words =
+    plain_tests d (Dca i c) s ks (reference operation.Dca i c s.memory) refl tt refl refl tt tt tt
+    (two_cells (may_write d operation.Dca (current ks)) (λ a. (d.variable a ≡ true) ⊎ ⊥) (plain_write d operation.Dca ks refl) (steps_pointer i c) c true (place i c s.memory))
+    (alone (may_load d (current ks)) (λ a. IsListed d.reads a ⊎ (current ks ≡ Some a)) (load d ks) i c)
+tests d (Jms i c) s ks words = jms_tests d i c s ks
+tests d (Jmp i c) s ks words = jmp_tests d i c s ks words
+tests d (Group1 w) s ks words = quiet_tests d (Group1 w) s ks refl tt (no_write d (Group1 w) s ks (λ a. refl)) tt tt tt (no_read d (Group1 w) s ks (λ a. refl))
+tests d (Group2 w) s ks words = group2_tests d w s ks (is_halt w) refl
+tests d (Group3 o) s ks words = quiet_tests d (Group3 o) s ks refl tt (no_write d (Group3 o) s ks (λ a. refl)) tt tt tt (no_read d (Group3 o) s ks (λ a. refl))
+tests d (Device x) s ks words = quiet_tests d (Device x) s ks refl tt (no_write d (Device x) s ks (λ a. refl)) tt tt tt (no_read d (Device x) s ks (λ a. refl))
+tests d Undefined s ks words = undefined_tests d s ks
+
+-- where no test fails, all of them hold
+all_hold : (b w c r h l : Bool) → chain b w c r h l ≡ None → (b ≡ true) × (w ≡ true) × (c ≡ true) × (r ≡ true) × (h ≡ true) × (l ≡ true)
+all_hold false w c r h l is = cc
+all_hold true false c r h l is = cc
+all_hold true true false r h l is = cc
+all_hold true true true false h l is = cc
+all_hold true true true true false l is = cc
+all_hold true true true true true false is = cc
+all_hold true true true true true true is = (refl, refl, refl, refl, refl, refl)
+
+legal_by : (image : Image) (d : Declaration) (s : State) (ks : Calls) → KeepsCode image d s.memory → (t : Tests d (instruction d.profile s) s ks) → chain t.b t.w t.c t.r t.h t.l ≡ None → IsLegal image d s ks
+legal_by image d s ks code t is =
+    let all = all_hold t.b t.w t.c t.r t.h t.l is in
+    let stays = t.stays.0 all.0 in
+    record {
+      stays = record { in_body = stays.0; supported = stays.1 };
+      writes = t.writes.0 all.1;
+      calls = t.calls.0 all.2;
+      returns = t.returns.0 all.3;
+      halts = t.halts.0 all.4;
+      code = code;
+      reads = t.reads.0 all.5;
+    }
+
+-- a rule fails, and those of lesser numbers hold
+pub record Least (K : Rule → Type 0) (failing : Rule) : Type 0 where
+  pub broken : K failing → ⊥
+  pub least : (other : Rule) → number_of other < number_of failing → K other
+
+by_number : (K : Rule → Type 0) (n : ℕ) → (1 < n → K rule.StaysInBody) → (2 < n → K rule.WritesDeclared) → (3 < n → K rule.CallsEntries) → (4 < n → K rule.ReturnsToItsCall) →
+    (5 < n → K rule.HaltsDeclared) → (6 < n → K rule.KeepsCode) → (7 < n → K rule.ReadsListed) → (other : Rule) → number_of other < n → K other
+by_number K n k1 k2 k3 k4 k5 k6 k7 rule.StaysInBody less = k1 less
+by_number K n k1 k2 k3 k4 k5 k6 k7 rule.WritesDeclared less = k2 less
+by_number K n k1 k2 k3 k4 k5 k6 k7 rule.CallsEntries less = k3 less
+by_number K n k1 k2 k3 k4 k5 k6 k7 rule.ReturnsToItsCall less = k4 less
+by_number K n k1 k2 k3 k4 k5 k6 k7 rule.HaltsDeclared less = k5 less
+by_number K n k1 k2 k3 k4 k5 k6 k7 rule.KeepsCode less = k6 less
+by_number K n k1 k2 k3 k4 k5 k6 k7 rule.ReadsListed less = k7 less
+
+below : (P : Type 0) (m n : ℕ) → n ≤ m → m < n → P
+below P m n high less = absurd (omega arith)
+
+failed : (b : Bool) (P : Type 0) → b ≡ false → Decides b P → P → ⊥
+failed b P is d p = false≢true (sym is ∙ d.1 p)
+
+at_rule : (K : Rule → Type 0) (first failing : Rule) → Some first ≡ Some failing → Least K first → Least K failing
+at_rule K first failing is least = let same : first ≡ failing = cc in subst (λ (x : Rule). Least K x) same least
+
+least_by : (K : Rule → Type 0) (b w c r h l : Bool) → Decides b (K rule.StaysInBody) → Decides w (K rule.WritesDeclared) → Decides c (K rule.CallsEntries) → Decides r (K rule.ReturnsToItsCall) →
+    Decides h (K rule.HaltsDeclared) → K rule.KeepsCode → Decides l (K rule.ReadsListed) → (failing : Rule) → chain b w c r h l ≡ Some failing → Least K failing
+least_by K false w c r h l k1 k2 k3 k4 k5 k6 k7 failing is = at_rule K rule.StaysInBody failing is (record {
+  broken = failed false (K rule.StaysInBody) refl k1;
+  least = by_number K 1 (λ x. below _ 1 1 (omega arith) x) (λ x. below _ 2 1 (omega arith) x) (λ x. below _ 3 1 (omega arith) x) (λ x. below _ 4 1 (omega arith) x) (λ x. below _ 5 1 (omega arith) x) (λ x. below _ 6 1 (omega arith) x) (λ x. below _ 7 1 (omega arith) x);
+})
+least_by K true false c r h l k1 k2 k3 k4 k5 k6 k7 failing is = at_rule K rule.WritesDeclared failing is (record {
+  broken = failed false (K rule.WritesDeclared) refl k2;
+  least = by_number K 2 (λ x. k1.0 refl) (λ x. below _ 2 2 (omega arith) x) (λ x. below _ 3 2 (omega arith) x) (λ x. below _ 4 2 (omega arith) x) (λ x. below _ 5 2 (omega arith) x) (λ x. below _ 6 2 (omega arith) x) (λ x. below _ 7 2 (omega arith) x);
+})
+least_by K true true false r h l k1 k2 k3 k4 k5 k6 k7 failing is = at_rule K rule.CallsEntries failing is (record {
+  broken = failed false (K rule.CallsEntries) refl k3;
+  least = by_number K 3 (λ x. k1.0 refl) (λ x. k2.0 refl) (λ x. below _ 3 3 (omega arith) x) (λ x. below _ 4 3 (omega arith) x) (λ x. below _ 5 3 (omega arith) x) (λ x. below _ 6 3 (omega arith) x) (λ x. below _ 7 3 (omega arith) x);
+})
+least_by K true true true false h l k1 k2 k3 k4 k5 k6 k7 failing is = at_rule K rule.ReturnsToItsCall failing is (record {
+  broken = failed false (K rule.ReturnsToItsCall) refl k4;
+  least = by_number K 4 (λ x. k1.0 refl) (λ x. k2.0 refl) (λ x. k3.0 refl) (λ x. below _ 4 4 (omega arith) x) (λ x. below _ 5 4 (omega arith) x) (λ x. below _ 6 4 (omega arith) x) (λ x. below _ 7 4 (omega arith) x);
+})
+least_by K true true true true false l k1 k2 k3 k4 k5 k6 k7 failing is = at_rule K rule.HaltsDeclared failing is (record {
+  broken = failed false (K rule.HaltsDeclared) refl k5;
+  least = by_number K 5 (λ x. k1.0 refl) (λ x. k2.0 refl) (λ x. k3.0 refl) (λ x. k4.0 refl) (λ x. below _ 5 5 (omega arith) x) (λ x. below _ 6 5 (omega arith) x) (λ x. below _ 7 5 (omega arith) x);
+})
+least_by K true true true true true false k1 k2 k3 k4 k5 k6 k7 failing is = at_rule K rule.ReadsListed failing is (record {
+  broken = failed false (K rule.ReadsListed) refl k7;
+  least = by_number K 7 (λ x. k1.0 refl) (λ x. k2.0 refl) (λ x. k3.0 refl) (λ x. k4.0 refl) (λ x. k5.0 refl) (λ x. k6) (λ x. below _ 7 7 (omega arith) x);
+})
+least_by K true true true true true true k1 k2 k3 k4 k5 k6 k7 failing is = cc
+
+body_decides : (b : Bool) (d : Declaration) (s : State) (ks : Calls) → Decides b ((d.body (current ks) s.pc ≡ true) × IsSupported (instruction d.profile s)) → Decides b (StaysInBody d s ks)
+body_decides b d s ks t = (λ h. record { in_body = (t.0 h).0; supported = (t.0 h).1 }, λ p. t.1 (p.in_body, p.supported))
+
+least_broken_by : (image : Image) (d : Declaration) (s : State) (ks : Calls) → KeepsCode image d s.memory → (t : Tests d (instruction d.profile s) s ks) →
+    (failing : Rule) → chain t.b t.w t.c t.r t.h t.l ≡ Some failing → IsLeastBroken image d s ks failing
+least_broken_by image d s ks code t failing is =
+    let least : Least (λ r. Keeps r image d s ks) failing = least_by (λ r. Keeps r image d s ks) t.b t.w t.c t.r t.h t.l (body_decides t.b d s ks t.stays) t.writes t.calls t.returns t.halts code t.reads failing is in
+    record { broken = least.broken; least = least.least }
+
+-- what the tests of the next step say
+pub kept_legal : (image : Image) (d : Declaration) (s : State) (ks : Calls) → AreWords s.memory → KeepsCode image d s.memory →
+    least_broken d (action_of (instruction d.profile s) s.memory) s.pc (current ks) s.memory ks ≡ None → IsLegal image d s ks
+kept_legal image d s ks words code is =
+    let t : Tests d (instruction d.profile s) s ks = tests d (instruction d.profile s) s ks words in
+    legal_by image d s ks code t (sym t.is ∙ is)
+
+pub first_broken : (image : Image) (d : Declaration) (s : State) (ks : Calls) (failing : Rule) → AreWords s.memory → KeepsCode image d s.memory →
+    least_broken d (action_of (instruction d.profile s) s.memory) s.pc (current ks) s.memory ks ≡ Some failing → IsLeastBroken image d s ks failing
+first_broken image d s ks failing words code is =
+    let t : Tests d (instruction d.profile s) s ks = tests d (instruction d.profile s) s ks words in
+    least_broken_by image d s ks code t failing (sym t.is ∙ is)

@@ -1,0 +1,20 @@
+use Rattle.std.proofs.Common.{◌≡◌, None, Some, refl}
+use Rattle.processor.specs.Steps.{state_of}
+use Rattle.peripherals.specs.World.{view}
+use Rattle.policy.specs.Kept.{meaning}
+use Rattle.policy.specs.OpenCalls.{open_calls}
+use Rattle.policy.proofs.WatchLemmas.{legal_step, stopped_step, legal_here, broken_here}
+use Rattle.policy.proofs.watcher.Watcher.step.Goals as goal
+
+pub returns-in-Some-clause-watches : goal.returns-in-Some-clause-watches
+returns-in-Some-clause-watches g c =
+    stopped_step (meaning c.args.declaration.now) (view c.args.self.now.world) (open_calls c.args.self.now.calls.items) c.in-Some.rule c.requires.runs
+    (broken_here (meaning c.args.declaration.now) (state_of c.cpu.result.now) (view c.args.self.now.world).state c.deref.result.now c.args.self.now.calls.items c.in-Some.rule c.cpu.ensures.state c.deref.ensures.value
+    (λ image keeps. c.broken_rule.ensures.broken image c.in-Some.rule keeps c.in-Some.is))
+
+pub returns-in-Ok-clause-watches : goal.returns-in-Ok-clause-watches
+returns-in-Ok-clause-watches g c =
+    legal_step (meaning c.args.declaration.now) (view c.args.self.now.world) (open_calls c.args.self.now.calls.items) (view c.carry_out.new.self.world) (open_calls c.carry_out.new.self.calls.items) c.requires.runs
+    c.in-Ok.ensures.happens c.in-Ok.ensures.calls
+    (legal_here (meaning c.args.declaration.now) (state_of c.cpu.result.now) (view c.args.self.now.world).state c.deref.result.now c.args.self.now.calls.items c.cpu.ensures.state c.deref.ensures.value
+    (λ image keeps. c.broken_rule.ensures.legal image keeps c.in-None.is))

@@ -1,0 +1,62 @@
+use Rattle.std.proofs.Common.{◌≡◌, ℕ, ◌<◌, IfOk, subst, ap, sym}
+use Rattle.processor.specs.Cells.{AreWords}
+use Rattle.peripherals.specs.Devices.{WorldState}
+use Rattle.peripherals.specs.Loading.{image_of, loaded}
+use Rattle.peripherals.specs.World.{view}
+use Rattle.std.proofs.lemmas.Result.{IfOk-weaker}
+use Rattle.policy.specs.Runs.{IsSafe}
+use Rattle.policy.specs.Kept.{meaning}
+use Rattle.policy.specs.Watching.{IsClean, BreaksAt, Tells}
+use Rattle.policy.specs.declared.rules.Rule.{Rule}
+use Rattle.policy.specs.declared.watcher.Watched.{Watched}
+use Rattle.policy.specs.declared.watcher.Watched.TheVariants.{Clean, Broken}
+use Rattle.policy.proofs.TellLemmas.{told_of, tells_clean, tells_broken, clean_tells, broken_tells, safe_clean}
+use Rattle.policy.proofs.watcher.watch.Goals as goal
+
+pub returns-clause-clean : goal.returns-clause-clean
+returns-clause-clean g c =
+    let image = image_of c.args.image.now in
+    let d = meaning c.args.declaration.now in
+    let first = loaded image d.start c.args.start.now in
+    let is : view c.load-world.result ≡ first = rw c.start.ensures at c.load-world.ensures.view in
+    IfOk-weaker c.watch_events.result _ _ (λ told tells. tells_clean image d c.args.events.now first told tells)
+    (told_of c.watch_events.result image d c.args.start.now c.args.events.now (view c.load-world.result) is c.watch_events.ensures.tells)
+
+pub returns-clause-broken : goal.returns-clause-broken
+returns-clause-broken g c =
+    let image = image_of c.args.image.now in
+    let d = meaning c.args.declaration.now in
+    let first = loaded image d.start c.args.start.now in
+    let is : view c.load-world.result ≡ first = rw c.start.ensures at c.load-world.ensures.view in
+    IfOk-weaker c.watch_events.result _ _ (λ told tells n r. tells_broken image d c.args.events.now first told n r tells)
+    (told_of c.watch_events.result image d c.args.start.now c.args.events.now (view c.load-world.result) is c.watch_events.ensures.tells)
+
+pub returns-clause-only_clean : goal.returns-clause-only_clean
+returns-clause-only_clean g c =
+    let image = image_of c.args.image.now in
+    let d = meaning c.args.declaration.now in
+    let first = loaded image d.start c.args.start.now in
+    let is : view c.load-world.result ≡ first = rw c.start.ensures at c.load-world.ensures.view in
+    IfOk-weaker c.watch_events.result _ _ (λ told tells. clean_tells image d c.args.events.now first told tells)
+    (told_of c.watch_events.result image d c.args.start.now c.args.events.now (view c.load-world.result) is c.watch_events.ensures.tells)
+
+pub returns-clause-only_broken : goal.returns-clause-only_broken
+returns-clause-only_broken g c =
+    let image = image_of c.args.image.now in
+    let d = meaning c.args.declaration.now in
+    let first = loaded image d.start c.args.start.now in
+    let is : view c.load-world.result ≡ first = rw c.start.ensures at c.load-world.ensures.view in
+    IfOk-weaker c.watch_events.result _ _ (λ told tells n r. broken_tells image d c.args.events.now first told n r tells)
+    (told_of c.watch_events.result image d c.args.start.now c.args.events.now (view c.load-world.result) is c.watch_events.ensures.tells)
+
+pub returns-clause-safe : goal.returns-clause-safe
+returns-clause-safe g c =
+    let image = image_of c.args.image.now in
+    let d = meaning c.args.declaration.now in
+    let first = loaded image d.start c.args.start.now in
+    let is : view c.load-world.result ≡ first = rw c.start.ensures at c.load-world.ensures.view in
+    let clean : IsSafe image d → IsClean image d c.args.events.now first = λ safe.
+    subst (λ (w : WorldState). IsClean image d c.args.events.now w) is
+    (safe_clean image d c.args.start.now c.args.events.now (view c.load-world.result) is c.holds_words.ensures.ac c.holds_words.ensures.link c.holds_words.ensures.mq c.holds_words.ensures.memory safe) in
+    IfOk-weaker c.watch_events.result _ _ (λ told tells safe. clean_tells image d c.args.events.now first told tells (clean safe))
+    (told_of c.watch_events.result image d c.args.start.now c.args.events.now (view c.load-world.result) is c.watch_events.ensures.tells)

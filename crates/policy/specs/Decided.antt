@@ -1,0 +1,131 @@
+-- Each rule as a test, on what the instruction is about to do, the running routine and the cells.
+use Rattle.std.specs.Prelude.{◌≡◌, ℕ, ◌==◌, Bool, true, false, not, ◌&&◌, ◌||◌, nat_lt, if◌then◌else◌, Option, Some, None, List, [], ◌∷◌}
+use Rattle.wordset.specs.Words.{Words, minus}
+use Rattle.processor.specs.Cells.{Cells}
+use Rattle.processor.specs.Machine.{steps_pointer}
+use Rattle.policy.specs.declared.actions.Operation.{Operation}
+use Rattle.policy.specs.declared.actions.Operation.TheVariants.{And, Tad, Isz, Dca, Jms, Jmp}
+use Rattle.policy.specs.declared.actions.Reference.{Reference}
+use Rattle.policy.specs.declared.actions.Action.{Action}
+use Rattle.policy.specs.declared.actions.Action.TheVariants.{Refers, Halts, GoesOn, Unsupported}
+use Rattle.policy.specs.declared.rules.Rule.{Rule}
+use Rattle.policy.specs.declared.rules.Rule.TheVariants as rule
+use Rattle.policy.specs.Declaration.{Routine, Declaration}
+use Rattle.policy.specs.Calls.{Call, Calls, returned}
+
+-- The cell is the running routine's own entry.
+abbrev pub is_own : Routine → ℕ → Bool
+is_own None a = false
+is_own (Some e) a = e == a
+
+abbrev pub is_isz : Operation → Bool
+is_isz Isz = true
+is_isz _ = false
+
+-- ISZ and DCA store at the effective address.
+abbrev pub stores : Operation → Bool
+stores Isz = true
+stores Dca = true
+stores _ = false
+
+-- AND, TAD and ISZ read there.
+abbrev pub loads : Operation → Bool
+loads And = true
+loads Tad = true
+loads Isz = true
+loads _ = false
+
+abbrev pub is_jms : Operation → Bool
+is_jms Jms = true
+is_jms _ = false
+
+abbrev pub is_jmp : Operation → Bool
+is_jmp Jmp = true
+is_jmp _ = false
+
+-- Where the first holds, so does the second.
+abbrev pub implies : Bool → Bool → Bool
+implies a b = if a then b else true
+
+-- A reference by this operation may write the cell.
+abbrev pub may_write : Declaration → Operation → Routine → ℕ → Bool
+may_write d o running a = d.variable a || (is_isz o && is_own running a)
+
+-- The pointer that is stepped and the cell that is stored in may be written.
+abbrev pub writes : Declaration → Reference → Routine → Bool
+writes d r running =
+    implies (steps_pointer r.indirect r.named) (may_write d r.operation running r.named) &&
+    implies (stores r.operation) (may_write d r.operation running r.place)
+
+-- A JMS goes to an entry.
+abbrev pub calls_entry : Declaration → Reference → Bool
+calls_entry d r = implies (is_jms r.operation) (d.entry r.place)
+
+-- The last call is one of e, and the word in e is a declared distance after that call.
+abbrev pub finds_call : Declaration → ℕ → ℕ → Calls → Bool
+finds_call d e word [] = false
+finds_call d e word (k ∷ ks) =
+    (k.entry == e) && (nat_lt (minus word k.after) 8 && d.offset e (minus word k.after))
+
+-- A JMP I through an entry.
+abbrev pub is_return : Declaration → Reference → Bool
+is_return d r = is_jmp r.operation && (r.indirect && d.entry r.named)
+
+-- It returns from its own routine's last call.
+abbrev pub returns : Declaration → Reference → Cells → Calls → Bool
+returns d r memory ks = implies (is_return d r) (finds_call d r.named (memory r.named) ks)
+
+-- The cell is on the list of reads, if there is one.
+abbrev pub is_listed : Option Words → ℕ → Bool
+is_listed None a = true
+is_listed (Some cells) a = cells a
+
+-- The cell is on the list of reads, or is the running routine's own entry.
+abbrev pub may_load : Declaration → Routine → ℕ → Bool
+may_load d running a = is_listed d.reads a || is_own running a
+
+-- The pointer and the operand may be read.
+abbrev pub reads : Declaration → Reference → Routine → Bool
+reads d r running =
+    implies r.indirect (may_load d running r.named) && implies (loads r.operation) (may_load d running r.place)
+
+-- The least rule on memory references that one breaks.
+abbrev pub broken_by_reference : Declaration → Reference → Routine → Cells → Calls → Option Rule
+broken_by_reference d r running memory ks =
+    if not (writes d r running) then Some rule.WritesDeclared
+    else (if not (calls_entry d r) then Some rule.CallsEntries
+    else (if not (returns d r memory ks) then Some rule.ReturnsToItsCall
+    else (if not (reads d r running) then Some rule.ReadsListed
+    else None)))
+
+-- The least rule that an instruction in the running routine's body breaks, where fixed code is as it was.
+abbrev pub broken_by : Declaration → Action → ℕ → Routine → Cells → Calls → Option Rule
+broken_by d (Refers r) pc running memory ks = broken_by_reference d r running memory ks
+broken_by d Halts pc running memory ks = if d.stop pc || d.pause pc then None else Some rule.HaltsDeclared
+broken_by d GoesOn pc running memory ks = None
+broken_by d Unsupported pc running memory ks = Some rule.StaysInBody
+
+-- The least rule that the next step breaks, where fixed code is as it was.
+abbrev pub least_broken : Declaration → Action → ℕ → Routine → Cells → Calls → Option Rule
+least_broken d action pc running memory ks =
+    if d.body running pc then broken_by d action pc running memory ks else Some rule.StaysInBody
+
+-- A JMS into an entry.
+abbrev pub is_call : Declaration → Reference → Bool
+is_call d r = is_jms r.operation && d.entry r.place
+
+-- The call list after an action, where the address after it is this one.
+abbrev pub followed : Declaration → Action → ℕ → Calls → Calls
+followed d (Refers r) after ks =
+    if is_call d r then record { entry = r.place; after = after } ∷ ks
+    else (if is_return d r then returned ks else ks)
+followed d Halts after ks = ks
+followed d GoesOn after ks = ks
+followed d Unsupported after ks = ks
+
+-- The action is a JMS into an entry.
+abbrev pub IsCall : Declaration → Action → Type 0
+IsCall d (Refers r) = is_call d r ≡ true
+IsCall d Halts = ⊥
+IsCall d GoesOn = ⊥
+IsCall d Unsupported = ⊥

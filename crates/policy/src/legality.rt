@@ -1,0 +1,250 @@
+//! Whether the next step keeps the rules.
+
+ghost use Rattle.std.specs.Prelude.{◌≡◌, ◌||◌, None, Some};
+ghost use Rattle.wordset.specs.Words.{minus};
+ghost use Rattle.processor.specs.Cells.{cell_of};
+ghost use Rattle.processor.specs.Machine.{instruction};
+ghost use Rattle.processor.specs.Runs.{Image};
+ghost use Rattle.processor.specs.Steps.{state_of};
+ghost use Rattle.policy.specs.Calls.{current};
+ghost use Rattle.policy.specs.Rules.{KeepsCode, IsLegal};
+ghost use Rattle.policy.specs.Kept.{meaning};
+ghost use Rattle.policy.specs.declared.rules.Rule.{Rule};
+ghost use Rattle.policy.specs.Watching.{IsLeastBroken};
+ghost use Rattle.policy.specs.OpenCalls.{open_calls};
+ghost use Rattle.policy.specs.Decided.{is_own, may_write, writes, calls_entry, finds_call, is_return, returns, may_load, reads, broken_by_reference, least_broken};
+
+use crate::actions::{Action, Operation, Reference, is_auto, next_action};
+use crate::declaration::Declaration;
+use crate::rules::Rule;
+use processor::{Cpu, Memory};
+use std::alloc::Allocator;
+use word12::Word;
+
+/// A call that hasn't returned: the entry, and the address after the JMS.
+#[derive(Clone, Copy, PartialEq, Eq, Debug)]
+pub struct Call {
+    pub entry: Word,
+    pub after: Word,
+}
+
+/// Whether a cell is the running routine's own entry.
+fn is_own(calls: &[Call], cell: Word) -> bool
+    ensures { result ≡ is_own (current (open_calls calls.now)) cell }
+{
+    match calls.last() {
+        None => false,
+        Some(call) => call.entry == cell,
+    }
+}
+
+/// Whether the program counter is in the running routine's body.
+fn in_body<A: Allocator>(
+    declaration: &Declaration<A>,
+    calls: &[Call],
+    pc: Word,
+) -> bool
+    ensures { result ≡ (meaning declaration.now).body (current (open_calls calls.now)) pc }
+{
+    match calls.last() {
+        None => declaration.in_main(pc),
+        Some(call) => declaration.in_body(call.entry, pc),
+    }
+}
+
+/// Whether a memory reference may write a cell: a variable, or under ISZ the own entry.
+fn may_write<A: Allocator>(
+    declaration: &Declaration<A>,
+    operation: Operation,
+    calls: &[Call],
+    cell: Word,
+) -> bool
+    ensures { result ≡ may_write (meaning declaration.now) operation (current (open_calls calls.now)) cell }
+{
+    declaration.is_variable(cell) || (matches!(operation, Operation::Isz) && is_own(calls, cell))
+}
+
+/// Whether the pointer that is stepped and the cell that is stored in may be written.
+fn writes<A: Allocator>(
+    declaration: &Declaration<A>,
+    reference: &Reference,
+    calls: &[Call],
+) -> bool
+    ensures { result ≡ writes (meaning declaration.now) reference.now (current (open_calls calls.now)) }
+{
+    let steps = reference.indirect && is_auto(reference.named);
+    if steps && !may_write(declaration, reference.operation, calls, reference.named) {
+        return false;
+    }
+    match reference.operation {
+        Operation::Isz | Operation::Dca => {
+            may_write(declaration, reference.operation, calls, reference.place)
+        }
+        _ => true,
+    }
+}
+
+/// Whether a JMS goes to an entry.
+fn calls_entry<A: Allocator>(declaration: &Declaration<A>, reference: &Reference) -> bool
+    ensures { result ≡ calls_entry (meaning declaration.now) reference.now }
+{
+    match reference.operation {
+        Operation::Jms => declaration.is_entry(reference.place),
+        _ => true,
+    }
+}
+
+/// How far an address is after another, modulo 4096.
+fn distance(to: Word, from: Word) -> Word
+    ensures { result ≡ minus to from }
+{
+    to.add(from.complement()).increment()
+}
+
+/// Whether the last call is one of an entry, in which there is the address of a declared place after
+/// that call.
+fn finds_call<A: Allocator>(
+    declaration: &Declaration<A>,
+    entry: Word,
+    word: Word,
+    calls: &[Call],
+) -> bool
+    ensures { result ≡ finds_call (meaning declaration.now) entry word (open_calls calls.now) }
+{
+    match calls.last() {
+        None => false,
+        Some(call) => {
+            let offset = distance(word, call.after);
+            call.entry == entry && (offset.value() < 8 && declaration.has_offset(entry, offset))
+        }
+    }
+}
+
+/// Whether a memory reference is a JMP I through an entry.
+pub fn is_return<A: Allocator>(declaration: &Declaration<A>, reference: &Reference) -> bool
+    ensures { result ≡ is_return (meaning declaration.now) reference.now }
+{
+    matches!(reference.operation, Operation::Jmp)
+        && (reference.indirect && declaration.is_entry(reference.named))
+}
+
+/// Whether a JMP I through an entry returns from its own routine's last call.
+fn returns<A: Allocator>(
+    declaration: &Declaration<A>,
+    reference: &Reference,
+    memory: &Memory,
+    calls: &[Call],
+) -> bool
+    ensures { result ≡ returns (meaning declaration.now) reference.now (cell_of memory.now) (open_calls calls.now) }
+{
+    if is_return(declaration, reference) {
+        finds_call(declaration, reference.named, memory.get(reference.named), calls)
+    } else {
+        true
+    }
+}
+
+/// Whether a cell may be read: it's on the list of reads, if there is one, or is the own entry.
+fn may_load<A: Allocator>(
+    declaration: &Declaration<A>,
+    calls: &[Call],
+    cell: Word,
+) -> bool
+    ensures { result ≡ may_load (meaning declaration.now) (current (open_calls calls.now)) cell }
+{
+    declaration.may_read(cell) || is_own(calls, cell)
+}
+
+/// Whether the pointer and the operand may be read.
+fn reads<A: Allocator>(
+    declaration: &Declaration<A>,
+    reference: &Reference,
+    calls: &[Call],
+) -> bool
+    ensures { result ≡ reads (meaning declaration.now) reference.now (current (open_calls calls.now)) }
+{
+    if reference.indirect && !may_load(declaration, calls, reference.named) {
+        return false;
+    }
+    match reference.operation {
+        Operation::And | Operation::Tad | Operation::Isz => {
+            may_load(declaration, calls, reference.place)
+        }
+        _ => true,
+    }
+}
+
+/// The least rule on memory references that one breaks.
+fn broken_by_reference<A: Allocator>(
+    declaration: &Declaration<A>,
+    reference: &Reference,
+    memory: &Memory,
+    calls: &[Call],
+) -> Option<Rule>
+    ensures { result ≡ broken_by_reference (meaning declaration.now) reference.now (current (open_calls calls.now)) (cell_of memory.now) (open_calls calls.now) }
+{
+    if !writes(declaration, reference, calls) {
+        return Some(Rule::WritesDeclared);
+    }
+    if !calls_entry(declaration, reference) {
+        return Some(Rule::CallsEntries);
+    }
+    if !returns(declaration, reference, memory, calls) {
+        return Some(Rule::ReturnsToItsCall);
+    }
+    if !reads(declaration, reference, calls) {
+        return Some(Rule::ReadsListed);
+    }
+    None
+}
+
+/// Whether a HLT stands at a declared halt.
+fn is_halt<A: Allocator>(declaration: &Declaration<A>, pc: Word) -> bool
+    ensures { result ≡ ((meaning declaration.now).stop pc || (meaning declaration.now).pause pc) }
+{
+    declaration.is_stop(pc) || declaration.is_pause(pc)
+}
+
+/// The least rule that an action breaks, where fixed code is as it was.
+fn broken_by<A: Allocator>(
+    declaration: &Declaration<A>,
+    action: &Action,
+    cpu: &Cpu,
+    calls: &[Call],
+) -> Option<Rule>
+    ensures { result ≡ least_broken (meaning declaration.now) action.now cpu.now.pc (current (open_calls calls.now)) (cell_of cpu.now.memory) (open_calls calls.now) }
+{
+    if !in_body(declaration, calls, cpu.pc) {
+        return Some(Rule::StaysInBody);
+    }
+    match action {
+        Action::Refers(reference) => {
+            broken_by_reference(declaration, reference, &cpu.memory, calls)
+        }
+        Action::Halts => {
+            if is_halt(declaration, cpu.pc) {
+                None
+            } else {
+                Some(Rule::HaltsDeclared)
+            }
+        }
+        Action::GoesOn => None,
+        Action::Unsupported => Some(Rule::StaysInBody),
+    }
+}
+
+/// The least rule that the next step breaks; none where it keeps all of them.
+///
+/// It doesn't look whether fixed code is as the tape had it: its caller knows that it is.
+pub fn broken_rule<A: Allocator>(
+    declaration: &Declaration<A>,
+    cpu: &Cpu,
+    calls: &[Call],
+) -> Option<Rule>
+    ensures legal { (image : Image) → KeepsCode image (meaning declaration.now) (cell_of cpu.now.memory) → result ≡ None → IsLegal image (meaning declaration.now) (state_of cpu.now) (open_calls calls.now) }
+    ensures broken { (image : Image) (rule : Rule) → KeepsCode image (meaning declaration.now) (cell_of cpu.now.memory) → result ≡ Some rule → IsLeastBroken image (meaning declaration.now) (state_of cpu.now) (open_calls calls.now) rule }
+{
+    cpu.memory.are_words();
+    let action = next_action(cpu, declaration.profile());
+    broken_by(declaration, &action, cpu, calls)
+}

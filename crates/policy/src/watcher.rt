@@ -1,0 +1,270 @@
+//! Watching a run: whether each of its steps keeps the rules.
+
+ghost use Rattle.std.specs.Prelude.{◌≡◌, ℕ, ◌<◌, None, [], IfOk, OnOk, OnErr};
+ghost use Rattle.processor.specs.Cells.{AreWords};
+ghost use Rattle.processor.specs.Runs.{Image as Words};
+ghost use Rattle.peripherals.specs.declared.Event.{Event};
+ghost use Rattle.peripherals.specs.Events.{Happens};
+ghost use Rattle.peripherals.specs.Loading.{image_of, loaded};
+ghost use Rattle.peripherals.specs.World.{view, profile_of};
+ghost use Rattle.policy.specs.declared.rules.Rule.{Rule};
+ghost use Rattle.policy.specs.Declaration.{IsDeclared};
+ghost use Rattle.policy.specs.Calls.{calls_after};
+ghost use Rattle.policy.specs.Rules.{KeepsCode};
+ghost use Rattle.policy.specs.Runs.{IsSafe};
+ghost use Rattle.policy.specs.Kept.{meaning};
+ghost use Rattle.policy.specs.OpenCalls.{open_calls};
+ghost use Rattle.policy.specs.Decided.{is_call, followed, IsCall};
+ghost use Rattle.policy.specs.Watching.{IsClean, BreaksAt, Tells};
+ghost use Rattle.policy.specs.WatchedSteps.{Watches, TakesMemory, Grows, Passes, waits, SomeStepTakesMemory};
+
+use crate::actions::{Action, Operation, Reference, next_action};
+use crate::declaration::Declaration;
+use crate::legality::{Call, broken_rule, is_return};
+use crate::rules::Rule;
+use bin_tape::Image;
+use peripherals::{Event, NoMemory, Start, World};
+use std::alloc::Allocator;
+use word12::{Link, Word};
+
+/// What a watched run shows.
+#[derive(Clone, Copy, PartialEq, Eq, Debug)]
+pub enum Watched {
+    /// Each step that was enabled kept the rules.
+    Clean,
+    /// A step broke a rule.
+    Broken {
+        /// The place of the first such step in the list of events, from 0.
+        event: usize,
+        /// The least rule that it broke.
+        rule: Rule,
+    },
+}
+
+/// A world, and beside it the calls that haven't returned, the last call last.
+#[derive(Drop)]
+struct Watcher<A: Allocator> {
+    world: World<A>,
+    calls: Vec<Call, A>,
+}
+
+/// Whether a memory reference is a JMS into an entry.
+fn is_call<D: Allocator>(declaration: &Declaration<D>, reference: &Reference) -> bool
+    ensures { result ≡ is_call (meaning declaration.now) reference.now }
+{
+    matches!(reference.operation, Operation::Jms) && declaration.is_entry(reference.place)
+}
+
+/// Puts a call on the call list, or takes the last one away, by what is about to be done.
+fn follow_calls<A: Allocator, D: Allocator>(
+    calls: &mut Vec<Call, A>,
+    declaration: &Declaration<D>,
+    action: &Action,
+    after: Word,
+) -> Result<(), NoMemory>
+    ensures calls { OnOk result (open_calls calls.new.items ≡ followed (meaning declaration.now) action.now after (open_calls calls.old.items)) }
+    ensures only_calls { OnErr result (IsCall (meaning declaration.now) action.now) }
+{
+    match action {
+        Action::Refers(reference) => {
+            if is_call(declaration, reference) {
+                let entry = reference.place;
+                return match calls.push(Call { entry, after }) {
+                    Ok(()) => Ok(()),
+                    Err(_) => Err(NoMemory),
+                };
+            }
+            if is_return(declaration, reference) {
+                calls.pop();
+            }
+            Ok(())
+        }
+        Action::Halts | Action::GoesOn | Action::Unsupported => Ok(()),
+    }
+}
+
+impl<A: Allocator> Watcher<A> {
+    /// Carries out the next instruction, and follows it with the call list.
+    fn carry_out<D: Allocator>(&mut self, declaration: &Declaration<D>) -> Result<(), NoMemory>
+        requires profile { profile_of self.old.world ≡ (meaning declaration.now).profile }
+        ensures happens { OnOk result (Happens (meaning declaration.now).profile (view self.old.world) Event.Step (view self.new.world)) }
+        ensures calls { OnOk result (open_calls self.new.calls.items ≡ calls_after (meaning declaration.now) (view self.old.world).state (open_calls self.old.calls.items)) }
+        ensures profile { profile_of self.new.world ≡ (meaning declaration.now).profile }
+        ensures only_growth { OnErr result (TakesMemory (meaning declaration.now) (view self.old.world)) }
+    {
+        let cpu = self.world.cpu();
+        let action = next_action(cpu, declaration.profile());
+        let after = cpu.pc.increment();
+        match follow_calls(&mut self.calls, declaration, &action, after) {
+            Err(NoMemory) => Err(NoMemory),
+            Ok(()) => {
+                match self.world.apply(Event::Step) {
+                    Ok(_) => Ok(()),
+                    Err(NoMemory) => Err(NoMemory),
+                }
+            }
+        }
+    }
+
+    /// Tries the next instruction of a machine that runs. It's carried out where it breaks no rule.
+    fn step<D: Allocator>(
+        &mut self,
+        declaration: &Declaration<D>,
+    ) -> Result<Option<Rule>, NoMemory>
+        requires runs { (view self.old.world).halted_at ≡ None }
+        requires profile { profile_of self.old.world ≡ (meaning declaration.now).profile }
+        ensures watches { IfOk result (λ told. Watches (meaning declaration.now) (view self.old.world) (open_calls self.old.calls.items) Event.Step (view self.new.world) (open_calls self.new.calls.items) told) }
+        ensures profile { profile_of self.new.world ≡ (meaning declaration.now).profile }
+        ensures only_growth { OnErr result (TakesMemory (meaning declaration.now) (view self.old.world)) }
+    {
+        match broken_rule(declaration, self.world.cpu(), &self.calls) {
+            Some(rule) => Ok(Some(rule)),
+            None => {
+                match self.carry_out(declaration) {
+                    Ok(()) => Ok(None),
+                    Err(NoMemory) => Err(NoMemory),
+                }
+            }
+        }
+    }
+
+    /// Applies an event that is no step and no CONTINUE at a stop.
+    fn pass<D: Allocator>(
+        &mut self,
+        declaration: &Declaration<D>,
+        event: Event,
+    ) -> Result<Option<Rule>, NoMemory>
+        requires passes { Passes (meaning declaration.now) (view self.old.world) event }
+        requires profile { profile_of self.old.world ≡ (meaning declaration.now).profile }
+        ensures watches { IfOk result (λ told. Watches (meaning declaration.now) (view self.old.world) (open_calls self.old.calls.items) event (view self.new.world) (open_calls self.new.calls.items) told) }
+        ensures profile { profile_of self.new.world ≡ (meaning declaration.now).profile }
+        ensures only_growth { OnErr result (Grows (meaning declaration.now) (view self.old.world) event) }
+    {
+        match self.world.apply(event) {
+            Ok(_) => Ok(None),
+            Err(NoMemory) => Err(NoMemory),
+        }
+    }
+
+    /// Whether the machine is halted, and not at a pause.
+    fn waits<D: Allocator>(&self, declaration: &Declaration<D>) -> bool
+        ensures { result ≡ waits (meaning declaration.now) (view self.now.world).halted_at }
+    {
+        match self.world.halted_at() {
+            None => false,
+            Some(at) => !declaration.is_pause(at),
+        }
+    }
+
+    /// Takes one event: it happens as in a declared run, or it's a step that breaks a rule.
+    fn follow<D: Allocator>(
+        &mut self,
+        declaration: &Declaration<D>,
+        event: Event,
+    ) -> Result<Option<Rule>, NoMemory>
+        requires { profile_of self.old.world ≡ (meaning declaration.now).profile }
+        ensures watches { IfOk result (λ told. Watches (meaning declaration.now) (view self.old.world) (open_calls self.old.calls.items) event (view self.new.world) (open_calls self.new.calls.items) told) }
+        ensures profile { profile_of self.new.world ≡ (meaning declaration.now).profile }
+        ensures only_growth { OnErr result (Grows (meaning declaration.now) (view self.old.world) event) }
+    {
+        match event {
+            Event::Step => {
+                match self.world.halted_at() {
+                    None => self.step(declaration),
+                    Some(_) => Ok(None),
+                }
+            }
+            Event::Continue => {
+                if self.waits(declaration) {
+                    Ok(None)
+                } else {
+                    self.pass(declaration, event)
+                }
+            }
+            Event::Key(_)
+            | Event::PrinterDone
+            | Event::ReaderDone(_)
+            | Event::PunchDone
+            | Event::Switches(_) => self.pass(declaration, event),
+        }
+    }
+}
+
+/// Takes the events one after the other, up to the first step that breaks a rule.
+fn watch_events<A: Allocator, D: Allocator>(
+    watcher: &mut Watcher<A>,
+    declaration: &Declaration<D>,
+    events: &[Event],
+) -> Result<Watched, NoMemory>
+    requires declared { IsDeclared (meaning declaration.now) }
+    requires profile { profile_of watcher.old.world ≡ (meaning declaration.now).profile }
+    requires no_calls { open_calls watcher.old.calls.items ≡ [] }
+    ensures tells { IfOk result (λ told. (image : Words) → KeepsCode image (meaning declaration.now) (view watcher.old.world).state.memory → Tells image (meaning declaration.now) events.now (view watcher.old.world) told) }
+    ensures only_growth { OnErr result (SomeStepTakesMemory (meaning declaration.now) events.now (view watcher.old.world)) }
+{
+    for index in 0..events.len() {
+        match watcher.follow(declaration, events[index]) {
+            Ok(None) => {}
+            Ok(Some(rule)) => return Ok(Watched::Broken { event: index, rule }),
+            Err(NoMemory) => return Err(NoMemory),
+        }
+    }
+    Ok(Watched::Clean)
+}
+
+/// Shows that registers hold words.
+fn are_registers(ac: Word, link: Link, mq: Word)
+    ensures ac { ac < 4096 }
+    ensures link { link < 2 }
+    ensures mq { mq < 4096 }
+{}
+
+/// Shows that a world's machine holds words, which proofs about a borrowed world need.
+fn holds_words<A: Allocator>(world: &World<A>)
+    ensures ac { (view world.now).state.ac < 4096 }
+    ensures link { (view world.now).state.link < 2 }
+    ensures mq { (view world.now).state.mq < 4096 }
+    ensures memory { AreWords (view world.now).state.memory }
+{
+    let cpu = world.cpu();
+    cpu.memory.are_words();
+    are_registers(cpu.ac, cpu.link, cpu.mq);
+}
+
+/// Watches the declared run of a tape's program by a list of events: whether each step that is
+/// enabled keeps the rules of the declaration.
+///
+/// The run begins at the declared start, on the declared machine, with the tape's words over the
+/// given start. A CONTINUE is enabled at a pause alone. A step at a word that isn't supported breaks
+/// the first rule. After the step that is told no event is looked at.
+///
+/// # Errors
+///
+/// `NoMemory` where room for a call on the call list, or for a byte that is printed or punched, was
+/// refused.
+pub fn watch<A: Allocator + Copy, D: Allocator>(
+    alloc: A,
+    image: &Image,
+    declaration: &Declaration<D>,
+    start: &Start,
+    events: &[Event],
+) -> Result<Watched, NoMemory>
+    requires { IsDeclared (meaning declaration.now) }
+    // It tells the truth, and all of it.
+    ensures clean { IfOk result (λ told. told ≡ Watched.Clean → IsClean (image_of image.now) (meaning declaration.now) events.now (loaded (image_of image.now) (meaning declaration.now).start start.now)) }
+    ensures broken { IfOk result (λ told. (event : ℕ) (rule : Rule) → told ≡ Watched.Broken event rule → BreaksAt (image_of image.now) (meaning declaration.now) events.now (loaded (image_of image.now) (meaning declaration.now).start start.now) event rule) }
+    ensures only_clean { IfOk result (λ told. IsClean (image_of image.now) (meaning declaration.now) events.now (loaded (image_of image.now) (meaning declaration.now).start start.now) → told ≡ Watched.Clean) }
+    ensures only_broken { IfOk result (λ told. (event : ℕ) (rule : Rule) → BreaksAt (image_of image.now) (meaning declaration.now) events.now (loaded (image_of image.now) (meaning declaration.now).start start.now) event rule → told ≡ Watched.Broken event rule) }
+    // Of a safe program it tells nothing else.
+    ensures safe { IfOk result (λ told. IsSafe (image_of image.now) (meaning declaration.now) → told ≡ Watched.Clean) }
+    // Only a step that prints, punches or calls a routine can be refused.
+    ensures only_growth { OnErr result (SomeStepTakesMemory (meaning declaration.now) events.now (loaded (image_of image.now) (meaning declaration.now).start start.now)) }
+{
+    let world = World::load(alloc, image, declaration.start(), start, declaration.profile());
+    holds_words(&world);
+    let mut watcher = Watcher {
+        world,
+        calls: Vec::new(alloc),
+    };
+    watch_events(&mut watcher, declaration, events)
+}

@@ -4,3 +4,4 @@ pub mod RuleLemmas
 pub mod IsDeclaredLemmas
 pub mod EntryLemmas
 pub mod FaultLemmas
+pub mod VerdictLemmas

@@ -314,3 +314,6 @@ fn read_lines<A: Allocator>(alloc: A, text: &[u8]) -> Result<Draft<A>, Declarati
     }
     Ok(draft)
 }
+
+#[cfg(test)]
+mod tests;

@@ -4,9 +4,13 @@ pub mod RuleLemmas
 pub mod IsDeclaredLemmas
 pub mod EntryLemmas
 pub mod FaultLemmas
+<<<<<<< HEAD
 pub mod ActionLemmas
 pub mod CallLemmas
 pub mod LegalLemmas
 pub mod CodeLemmas
 pub mod WatchLemmas
 pub mod TellLemmas
+=======
+pub mod VerdictLemmas
+>>>>>>> declaration

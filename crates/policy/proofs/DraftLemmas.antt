@@ -1,22 +1,16 @@
 -- What is gathered from lines, and the sets by which the rules are checked.
-use Rattle.std.proofs.Common.{ℕ, zero, suc, ◌≡◌, ◌<◌, ◌≤◌, ◌+◌, ◌==◌, Bool, true, false, not, ◌&&◌, ◌||◌, cond, leb, ltb, List, [], ◌∷◌, ◌++◌, length, map, take, get_or, arith, length-append, refl, subst, sym, ◌∙◌, ap, append-nil, Option, Some, None, inl, inr}
-use Rattle.std.specs.Prelude.{nat_le, nat_lt, if◌then◌else◌, unwrap_or, MatchOption}
-use Rattle.std.specs.List.{list_any, count_by, sum_by, flat_map}
-use Rattle.std.specs.Option.{option_map, option_to_list}
+use Rattle.std.proofs.Common.{ℕ, ◌≡◌, ◌≤◌, Bool, true, false, ◌||◌, List, [], ◌∷◌, ◌++◌, length, map, arith, length-append, refl, subst, sym, ◌∙◌, ap, append-nil, Option, Some, None}
+use Rattle.std.specs.Prelude.{if◌then◌else◌, unwrap_or}
+use Rattle.std.specs.List.{list_any, flat_map}
 use Rattle.std.proofs.Math.Path.{fun_ext}
-use Rattle.std.proofs.lemmas.Bool.{cases_Bool, cases_lt, lt-ltb, le-ltb, le-leb, lt-leb}
 use Rattle.std.proofs.lemmas.Grind.{flat_map-append}
 use Rattle.std.proofs.lemmas.List.{map-append}
 use Rattle.std.proofs.lemmas.List.Folds.{list_any-append}
-use Rattle.std.proofs.lemmas.List.Sums.{sum_by_more}
 use Rattle.instruct.specs.declared.Profile.{Profile}
-use Rattle.wordset.specs.Words.{Words, SameWords, nothing, union, IsFirstFrom, HasNoneFrom}
-use Rattle.wordset.specs.Lanes.{words}
-use Rattle.policy.specs.Kept.{cells}
+use Rattle.wordset.specs.Words.{Words, nothing, union}
 use Rattle.policy.specs.DeclarationLines.{Subroutine, Line, Nothing, Start, Main, Sub, Variables, Stops, Pauses, Machine, Reads, line_of}
-use Rattle.policy.specs.DeclarationText.{Contents, contents, in_some, start_in, profile_in, main_in, routine_in, variable_in, stop_in, pause_in, reads_in, lists_reads, AreGood, most_routines, is_entry, in_bodies, bodies_at, entries_at, overlaps}
-use Rattle.policy.specs.Drafts.{Counts, with_line, MayFollow}
-use Rattle.policy.specs.declared.declaration.sets.Coverage.{Coverage}
+use Rattle.policy.specs.DeclarationText.{Contents, contents, in_some, start_in, profile_in, main_in, routine_in, variable_in, stop_in, pause_in, reads_in, lists_reads, AreGood, most_routines}
+use Rattle.policy.specs.Drafts.{with_line, MayFollow}
 
 or_nothing : (b : Bool) → (b || false) ≡ b
 or_nothing true = refl

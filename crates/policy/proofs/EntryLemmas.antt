@@ -1,5 +1,5 @@
 -- The entries of good lines are words.
-use Rattle.std.proofs.Common.{ℕ, ◌≡◌, ◌<◌, ◌+◌, ◌==◌, Bool, true, false, ◌||◌, ◌⊎◌, List, [], ◌∷◌, ◌++◌, length, map, arith, refl, sym, ◌∙◌, ap, Option, Some, None, Result, Ok, Err, inl, inr}
+use Rattle.std.proofs.Common.{ℕ, ◌≡◌, ◌<◌, ◌==◌, Bool, true, false, ◌||◌, ◌⊎◌, List, [], ◌∷◌, ◌++◌, length, map, arith, refl, sym, ◌∙◌, ap, Option, Some, None, inl, inr}
 use Rattle.std.specs.Prelude.{nat_le, nat_lt, if◌then◌else◌}
 use Rattle.std.specs.List.{list_any, list_all, flat_map, after_first}
 use Rattle.std.specs.Option.{option_map}
@@ -11,7 +11,7 @@ use Rattle.instruct.specs.declared.Profile.{Profile}
 use Rattle.instruct.specs.declared.Profile.TheVariants.{Pdp8I, Pdp8E}
 use Rattle.wordset.specs.Words.{Words}
 use Rattle.peripherals.specs.Text.{octal_word, words_of}
-use Rattle.policy.specs.DeclarationLines.{Subroutine, Line, Nothing, Start, Main, Sub, Variables, Stops, Pauses, Machine, Reads, routine, start_line, sub_line, profile_line, named_line, line_by, line_of, body_read, offsets_read, ranges_of, addresses_of, is_returns, all_read, range_of, any_of}
+use Rattle.policy.specs.DeclarationLines.{Subroutine, Line, Nothing, Start, Main, Sub, Variables, Stops, Pauses, Machine, Reads, routine, start_line, sub_line, profile_line, line_by, line_of, body_read, offsets_read, ranges_of, addresses_of, is_returns, all_read, range_of, any_of}
 use Rattle.policy.specs.DeclarationText.{contents, is_entry, routine_in}
 
 reading_below : (digits : List ℕ) (v : ℕ) → result_ok (octal_reading digits) ≡ Some v → v < 4096

@@ -1,10 +1,9 @@
 -- The fault at a line, from what was gathered before it.
-use Rattle.std.proofs.Common.{ℕ, ◌≡◌, ◌<◌, ◌≤◌, ◌+◌, List, [], ◌∷◌, ◌++◌, length, map, true, arith, refl, subst, sym, ◌∙◌, ap, Option, Some, None, inl, inr}
-use Rattle.instruct.specs.declared.Profile.{Profile}
+use Rattle.std.proofs.Common.{ℕ, ◌≡◌, ◌<◌, ◌≤◌, ◌+◌, List, ◌∷◌, ◌++◌, length, true, arith, subst, sym, ◌∙◌, ap, Some, None, inr}
 use Rattle.peripherals.specs.Text.{text_lines}
-use Rattle.policy.specs.DeclarationLines.{Subroutine, Line, Start, Sub, Machine, line_of}
-use Rattle.policy.specs.DeclarationText.{Contents, contents, AreGood, HasGoodLines, HasLines, StandsAfter, HasBadLine, HasSecondStart, HasSecondProfile, HasManyRoutines, AsksForMemory, Fails, is_entry, most_bytes, most_routines}
-use Rattle.policy.specs.Drafts.{Refuses}
+use Rattle.policy.specs.DeclarationLines.{Line, line_of}
+use Rattle.policy.specs.DeclarationText.{Contents, contents, AreGood, StandsAfter, HasBadLine, Fails, is_entry, most_bytes, most_routines}
+use Rattle.policy.specs.Drafts.{Refuses, HasLines}
 use Rattle.policy.specs.declared.declaration.DeclarationFault.{DeclarationFault}
 use Rattle.policy.specs.declared.declaration.DeclarationFault.TheVariants.{BadLine, TwoStarts, TwoProfiles, NoStart, Overlap, EntryInAutoIndex, StartNotInMain, TooMany, HaltNotInBody, NoMemory}
 use Rattle.policy.proofs.DraftLemmas.{Gathers}

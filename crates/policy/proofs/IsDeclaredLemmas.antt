@@ -1,13 +1,13 @@
 -- What is said and keeps the rules is a declaration.
-use Rattle.std.proofs.Common.{ℕ, suc, ◌≡◌, ◌<◌, ◌≤◌, ◌+◌, ◌==◌, ◌⊎◌, Bool, true, false, not, ◌&&◌, ◌||◌, leb, List, [], ◌∷◌, map, zero-add, arith, refl, subst, sym, ◌∙◌, ap, Option, Some, None, inl, inr}
-use Rattle.std.specs.Prelude.{nat_le, nat_lt, if◌then◌else◌}
+use Rattle.std.proofs.Common.{ℕ, ◌≡◌, ◌<◌, ◌≤◌, ◌+◌, ◌==◌, ◌⊎◌, Bool, true, false, not, ◌&&◌, ◌||◌, List, [], ◌∷◌, zero-add, arith, refl, sym, ◌∙◌, ap, Some, None, inl, inr}
+use Rattle.std.specs.Prelude.{nat_le, if◌then◌else◌}
 use Rattle.std.specs.List.{list_any, count_by}
 use Rattle.std.proofs.lemmas.Bool.{cases_Bool, and_parts, eqb-true, leb-true, leb-false, eq-eqb}
 use Rattle.wordset.specs.Words.{Words, HasNoneFrom}
 use Rattle.processor.specs.Machine.{is_auto_index}
 use Rattle.policy.specs.Declaration.{Routine, Declaration, IsDeclared}
 use Rattle.policy.specs.DeclarationLines.{Subroutine}
-use Rattle.policy.specs.DeclarationText.{Contents, Says, KeepsRules, is_entry, in_bodies, in_two_bodies, is_entry_twice, bodies_at, overlaps, entry_in_index, halt_outside}
+use Rattle.policy.specs.DeclarationText.{Contents, Says, KeepsRules, is_entry, in_bodies, in_two_bodies, is_entry_twice, bodies_at, overlaps, halt_outside}
 use Rattle.policy.proofs.RuleLemmas.{count-cons, some_counted}
 
 -- All cells that are spoken of are words.

@@ -10,3 +10,4 @@ pub mod LegalLemmas
 pub mod CodeLemmas
 pub mod WatchLemmas
 pub mod TellLemmas
+pub mod VerdictLemmas

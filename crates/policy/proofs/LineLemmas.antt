@@ -1,6 +1,6 @@
 -- Lists of cells and of offsets, read a word at a time.
-use Rattle.std.proofs.Common.{ℕ, ◌≡◌, ◌<◌, suc, ◌≤◌, ◌+◌, ◌-◌, leb, ◌==◌, Bool, true, false, ◌&&◌, ◌||◌, List, [], ◌∷◌, length, take, drop, arith, refl, sym, ◌∙◌, ap, Option, Some, None, inl, inr}
-use Rattle.std.specs.List.{list_any, position_or_len, before_first, after_first}
+use Rattle.std.proofs.Common.{ℕ, ◌≡◌, ◌<◌, suc, ◌≤◌, ◌+◌, ◌-◌, leb, ◌==◌, Bool, true, false, ◌||◌, List, [], ◌∷◌, length, drop, arith, refl, sym, ◌∙◌, ap, Option, Some, None, inl, inr}
+use Rattle.std.specs.List.{list_any, position_or_len, after_first}
 use Rattle.std.specs.Prelude.{IfSome}
 use Rattle.std.specs.Option.{option_map}
 use Rattle.std.proofs.Math.Path.{fun_ext}
@@ -8,7 +8,7 @@ use Rattle.std.proofs.lemmas.Bool.{cases_Bool, and_parts, leb-true, lt-ltb}
 use Rattle.word12.specs.Octal.{is_octal_digit, octal_value}
 use Rattle.wordset.specs.Words.{Words, nothing, union}
 use Rattle.peripherals.specs.Text.{octal_word}
-use Rattle.policy.specs.DeclarationLines.{read_first, all_read, some_read, range_of, offset_of, any_of, these, is_returns, body_read}
+use Rattle.policy.specs.DeclarationLines.{read_first, all_read, range_of, offset_of, any_of, these, is_returns, body_read}
 use Rattle.policy.specs.Drafts.{ranges_before}
 
 or_assoc : (a b c : Bool) → (a || (b || c)) ≡ ((a || b) || c)

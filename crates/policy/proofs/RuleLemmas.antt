@@ -1,16 +1,15 @@
 -- The sets by which the rules are checked.
-use Rattle.std.proofs.Common.{ℕ, zero, suc, ◌≡◌, ◌<◌, ◌≤◌, ◌+◌, ◌==◌, Bool, true, false, not, ◌&&◌, ◌||◌, cond, leb, ltb, List, [], ◌∷◌, length, map, take, get_or, zero-add, add-zero, add_assoc, arith, refl, subst, sym, ◌∙◌, ap, Option, Some, None, inl, inr}
-use Rattle.std.specs.Prelude.{nat_le, nat_lt, if◌then◌else◌, MatchOption}
-use Rattle.std.specs.List.{list_any, count_by, sum_by}
+use Rattle.std.proofs.Common.{ℕ, ◌≡◌, ◌<◌, ◌+◌, ◌==◌, Bool, true, false, not, ◌&&◌, ◌||◌, cond, List, [], ◌∷◌, length, map, take, get_or, zero-add, add-zero, add_assoc, arith, refl, sym, ◌∙◌, ap, Option, Some, None, inl, inr}
+use Rattle.std.specs.Prelude.{nat_le, nat_lt, if◌then◌else◌}
+use Rattle.std.specs.List.{list_any, count_by}
 use Rattle.std.specs.Option.{option_to_list, unwrap_or}
 use Rattle.instruct.specs.declared.Profile.{Profile}
 use Rattle.instruct.specs.declared.Profile.TheVariants.{Pdp8I}
-use Rattle.std.proofs.lemmas.Bool.{cases_Bool, and_parts, ltb-true, cases_eq, ne_eqb, cases_lt, lt-ltb, le-ltb, le-leb, lt-leb}
+use Rattle.std.proofs.lemmas.Bool.{cases_Bool, and_parts, ltb-true, cases_eq, ne_eqb, lt-ltb, le-leb}
 use Rattle.std.proofs.lemmas.List.Sums.{sum_by_more, sum_by-cons}
-use Rattle.wordset.specs.Words.{Words, SameWords, union, meet, IsFirstFrom, HasNoneFrom}
+use Rattle.wordset.specs.Words.{Words, SameWords, IsFirstFrom, HasNoneFrom}
 use Rattle.wordset.specs.Lanes.{words}
 use Rattle.policy.specs.Kept.{cells}
-use Rattle.policy.specs.DeclarationLines.{Subroutine}
 use Rattle.policy.specs.DeclarationText.{Contents, profile_of, is_entry, in_bodies, bodies_at, entries_at, overlaps, entry_in_index, halt_outside}
 use Rattle.processor.specs.Machine.{is_auto_index}
 use Rattle.policy.specs.Drafts.{Counts, subroutine_of, kept_bodies, kept_entries}

@@ -1,11 +1,11 @@
 -- What each line of a declaration says, by its words.
-use Rattle.std.specs.Prelude.{ℕ, ◌+◌, ◌-◌, ◌==◌, nat_le, Bool, ◌&&◌, if◌then◌else◌, codes, List, [], ◌∷◌, length, take, drop, Option, Some, None}
+use Rattle.std.specs.Prelude.{ℕ, ◌+◌, ◌==◌, nat_le, Bool, if◌then◌else◌, codes, List, [], ◌∷◌, length, take, drop, Option, Some, None}
 use Rattle.std.specs.List.{list_any, position, before_first, after_first}
 use Rattle.std.specs.Option.{option_map}
 use Rattle.std.specs.Str.{bytes_eq}
 use Rattle.instruct.specs.declared.Profile.{Profile}
 use Rattle.instruct.specs.declared.Profile.TheVariants.{Pdp8I, Pdp8E}
-use Rattle.wordset.specs.Words.{Words, nothing, one, between}
+use Rattle.wordset.specs.Words.{Words, one, between}
 use Rattle.peripherals.specs.Text.{words_of, octal_word}
 
 -- A routine as a line gives it: its entry, the cells of its body, and the offsets at which it may return.

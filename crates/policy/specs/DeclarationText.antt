@@ -7,7 +7,7 @@ use Rattle.wordset.specs.Words.{Words, nothing, IsFirstFrom, HasNoneFrom}
 use Rattle.processor.specs.Machine.{is_auto_index}
 use Rattle.peripherals.specs.Text.{text_lines}
 use Rattle.policy.specs.Declaration.{Declaration}
-use Rattle.policy.specs.DeclarationLines.{Subroutine, Line, Nothing, Start, Main, Sub, Variables, Stops, Pauses, Machine, Reads, line_of}
+use Rattle.policy.specs.DeclarationLines.{Subroutine, Line, Start, Main, Sub, Variables, Stops, Pauses, Machine, Reads, line_of}
 use Rattle.policy.specs.declared.declaration.DeclarationFault.{DeclarationFault}
 use Rattle.policy.specs.declared.declaration.DeclarationFault.TheVariants.{BadLine, TwoStarts, TwoProfiles, NoStart, Overlap, EntryInAutoIndex, StartNotInMain, TooMany, HaltNotInBody, NoMemory}
 
@@ -200,12 +200,6 @@ pub record AreGood (texts : List (List ℕ)) (lines : List Line) : Type 0 where
 pub record HasGoodLines (text : List ℕ) (lines : List Line) : Type 0 where
   pub short : length text ≤ most_bytes
   pub good : AreGood (text_lines text) lines
-
--- All lines of a text that isn't too long are good, and this is what they say together.
-pub record HasLines (text : List ℕ) (c : Contents) : Type 0 where
-  pub lines : List Line
-  pub good : HasGoodLines text lines
-  pub together : contents lines ≡ c
 
 -- This text has this declaration: its lines are good, the declaration says what they say, and it keeps the rules.
 pub record Declares (text : List ℕ) (d : Declaration) : Type 0 where

@@ -1,5 +1,5 @@
 -- What is gathered while a declaration is read.
-use Rattle.std.specs.Prelude.{◌≡◌, ℕ, ◌+◌, ◌<◌, ◌≤◌, nat_le, ◌==◌, Bool, if◌then◌else◌, unwrap_or, List, [], ◌∷◌, ◌++◌, length, map, Option, Some, None}
+use Rattle.std.specs.Prelude.{◌≡◌, ℕ, ◌+◌, ◌<◌, ◌≤◌, nat_le, ◌==◌, if◌then◌else◌, unwrap_or, List, [], ◌∷◌, ◌++◌, length, map, Option, Some, None}
 use Rattle.std.specs.List.{list_any, count_by, before_first}
 use Rattle.std.specs.Option.{option_map, option_to_list}
 use Rattle.instruct.specs.declared.Profile.{Profile}
@@ -7,7 +7,7 @@ use Rattle.wordset.specs.Words.{Words, nothing, union}
 use Rattle.wordset.specs.Lanes.{words}
 use Rattle.policy.specs.Kept.{cells, offsets_of}
 use Rattle.policy.specs.DeclarationLines.{Subroutine, Line, Nothing, Start, Main, Sub, Variables, Stops, Pauses, Machine, Reads, all_read, range_of, address_of, is_returns}
-use Rattle.policy.specs.DeclarationText.{Contents, most_routines}
+use Rattle.policy.specs.DeclarationText.{Contents, contents, HasGoodLines, most_routines}
 use Rattle.policy.specs.declared.declaration.Routine.{Routine as KeptRoutine}
 use Rattle.policy.specs.declared.declaration.DeclarationFault.{DeclarationFault}
 use Rattle.policy.specs.declared.declaration.DeclarationFault.TheVariants.{BadLine, TwoStarts, TwoProfiles, NoStart, Overlap, EntryInAutoIndex, StartNotInMain, TooMany, HaltNotInBody, NoMemory}
@@ -92,6 +92,12 @@ Refuses c line number (Overlap a) = ⊥
 Refuses c line number (EntryInAutoIndex a) = ⊥
 Refuses c line number StartNotInMain = ⊥
 Refuses c line number (HaltNotInBody a) = ⊥
+
+-- All lines of a text that isn't too long are good, and this is what they say together.
+pub record HasLines (text : List ℕ) (c : Contents) : Type 0 where
+  pub lines : List Line
+  pub good : HasGoodLines text lines
+  pub together : contents lines ≡ c
 
 -- The two sets have the words that stand in so many sets or more: one, and two.
 pub record Counts (coverage : Coverage) (number : ℕ → ℕ) : Type 0 where

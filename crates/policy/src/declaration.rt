@@ -4,8 +4,8 @@ ghost use Rattle.std.specs.Prelude.{ℕ, ◌≡◌, ◌≢◌, ◌⊎◌, ◌<�
 ghost use Rattle.std.specs.Option.{option_map};
 ghost use Rattle.policy.specs.Declaration.{Declaration as Rules, IsDeclared};
 ghost use Rattle.policy.specs.Rules.{IsListed};
-ghost use Rattle.policy.specs.DeclarationText.{Declares, Fails, HasLines, is_entry, most_bytes};
-ghost use Rattle.policy.specs.Drafts.{gathered};
+ghost use Rattle.policy.specs.DeclarationText.{Declares, Fails, is_entry, most_bytes};
+ghost use Rattle.policy.specs.Drafts.{gathered, HasLines};
 ghost use Rattle.policy.specs.declared.declaration.DeclarationFault.{DeclarationFault};
 ghost use Rattle.policy.specs.declared.declaration.DeclarationFault.TheVariants.{NoMemory};
 ghost use Rattle.policy.specs.Kept.{cells, offsets_of, routines_of, meaning};
@@ -156,10 +156,7 @@ impl<A: Allocator> Declaration<A> {
         if text.len() > MOST_BYTES {
             return Err(DeclarationFault::TooMany);
         }
-        match read_lines(alloc, text) {
-            Ok(draft) => draft.finish(),
-            Err(fault) => Err(fault),
-        }
+        parse_lines(alloc, text)
     }
 
     /// Where the program starts.
@@ -286,6 +283,19 @@ impl<A: Allocator> Declaration<A> {
     }
 }
 
+/// The declaration of a text that isn't too long.
+fn parse_lines<A: Allocator>(alloc: A, text: &[u8]) -> Result<Declaration<A>, DeclarationFault>
+    requires { length text.now ≤ most_bytes }
+    ensures found { IfOk result (λ d. Declares text.now (meaning d)) }
+    ensures declared { IfOk result (λ d. IsDeclared (meaning d)) }
+    ensures refused { IfErr result (Fails text.now) }
+{
+    match read_lines(alloc, text) {
+        Ok(draft) => draft.finish(),
+        Err(fault) => Err(fault),
+    }
+}
+
 /// What the lines of a text that isn't too long say together.
 fn read_lines<A: Allocator>(alloc: A, text: &[u8]) -> Result<Draft<A>, DeclarationFault>
     requires { length text.now ≤ most_bytes }
@@ -304,3 +314,6 @@ fn read_lines<A: Allocator>(alloc: A, text: &[u8]) -> Result<Draft<A>, Declarati
     }
     Ok(draft)
 }
+
+#[cfg(test)]
+mod tests;

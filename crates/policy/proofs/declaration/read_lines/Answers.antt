@@ -1,4 +1,4 @@
-use Rattle.std.proofs.Common.{ℕ, ◌≡◌, ◌<◌, ◌≤◌, ◌+◌, ap, sym, length, map, arith, inl, [], ◌∷◌, List, subst}
+use Rattle.std.proofs.Common.{◌≡◌, ◌≤◌, ◌+◌, ap, length, map, arith, inl, [], ◌∷◌}
 use Rattle.std.specs.Iterator.Adapters.{enumerate_source, enumerate_count}
 use Rattle.std.proofs.lemmas.List.{map-append}
 use Rattle.std.proofs.lemmas.Iterator.Consumers.{YieldsList-from_first, YieldsList-from_enumerate, YieldsList-at, YieldsList-turn, YieldsList-so_far, YieldsList-end}
@@ -6,7 +6,7 @@ use Rattle.peripherals.specs.Text.{text_lines}
 use Rattle.peripherals.specs.TextLeft.{lines_left}
 use Rattle.peripherals.proofs.NumberedLines.{lines_split, lines_all, length-text_lines}
 use Rattle.policy.specs.Drafts.{gathered, said}
-use Rattle.policy.proofs.DraftLemmas.{Gathers, Gathers-none, Gathers-push}
+use Rattle.policy.proofs.DraftLemmas.{Gathers-none, Gathers-push}
 use Rattle.policy.proofs.FaultLemmas.{bad_at, refused_at, has_lines, gathered_fit}
 use Rattle.policy.proofs.declaration.read_lines.Goals as goal
 

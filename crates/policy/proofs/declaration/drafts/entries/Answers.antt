@@ -1,4 +1,4 @@
-use Rattle.std.proofs.Common.{◌≡◌, List, take, length, subst}
+use Rattle.std.proofs.Common.{◌≡◌, List, take, subst}
 use Rattle.std.proofs.lemmas.List.{take_all}
 use Rattle.policy.specs.Drafts.{Counts, kept_entries}
 use Rattle.policy.specs.declared.declaration.Routine.{Routine}

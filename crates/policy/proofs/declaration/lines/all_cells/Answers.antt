@@ -1,8 +1,6 @@
-use Rattle.std.proofs.Common.{ap}
-use Rattle.std.specs.Option.{option_map}
 use Rattle.peripherals.specs.TextLeft.{words_left}
 use Rattle.policy.specs.Kept.{cells}
-use Rattle.policy.specs.DeclarationLines.{any_of, all_read}
+use Rattle.policy.specs.DeclarationLines.{all_read}
 use Rattle.policy.specs.Drafts.{cells_read}
 use Rattle.policy.proofs.LineLemmas.{cells_start, cells_step, cells_fail, cells_end}
 use Rattle.policy.proofs.declaration.lines.all_cells.Goals as goal

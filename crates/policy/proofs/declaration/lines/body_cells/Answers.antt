@@ -1,10 +1,8 @@
 use Rattle.std.proofs.Common.{refl, ◌∙◌, sym}
-use Rattle.std.specs.Option.{option_map}
 use Rattle.peripherals.specs.TextLeft.{words_left}
 use Rattle.policy.specs.Kept.{cells}
-use Rattle.policy.specs.DeclarationLines.{any_of}
 use Rattle.policy.specs.Drafts.{ranges_before}
-use Rattle.policy.proofs.LineLemmas.{cells_start, body_step, body_fail, body_end, body_lacks, after_other, after_returns}
+use Rattle.policy.proofs.LineLemmas.{cells_start, body_step, body_end, after_other, after_returns}
 use Rattle.policy.proofs.declaration.lines.body_cells.Goals as goal
 
 pub loop-word-init : goal.loop-word-init

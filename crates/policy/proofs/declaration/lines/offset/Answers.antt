@@ -1,6 +1,4 @@
-use Rattle.std.proofs.Common.{◌≡◌, ◌<◌, ℕ, Option, Some, None, length, IfSome, refl, sym}
-use Rattle.peripherals.specs.Text.{octal_word}
-use Rattle.policy.proofs.LineLemmas.{digit_below_8, below_8}
+use Rattle.policy.proofs.LineLemmas.{below_8}
 use Rattle.policy.proofs.declaration.lines.offset.Goals as goal
 
 pub returns-then-word-eq1-clause-small : goal.returns-then-word-eq1-clause-small

@@ -1,7 +1,6 @@
 use Rattle.peripherals.specs.TextLeft.{words_left}
 use Rattle.policy.specs.Kept.{offsets_of}
-use Rattle.policy.specs.DeclarationLines.{all_read, offset_of}
-use Rattle.policy.proofs.LineLemmas.{offsets_start, offsets_step, offsets_fail, offsets_end}
+use Rattle.policy.proofs.LineLemmas.{offsets_step, offsets_fail, offsets_end}
 use Rattle.policy.proofs.declaration.lines.offsets.Goals as goal
 
 pub loop-word-preserved : goal.loop-word-preserved

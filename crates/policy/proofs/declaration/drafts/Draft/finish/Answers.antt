@@ -1,4 +1,4 @@
-use Rattle.std.proofs.Common.{◌≡◌, ◌&&◌, ◌==◌, refl, sym, ap, ◌∙◌}
+use Rattle.std.proofs.Common.{◌&&◌, ◌==◌, refl, sym, ap, ◌∙◌}
 use Rattle.std.specs.Option.{option_to_list}
 use Rattle.policy.specs.Drafts.{gathered, subroutine_of}
 use Rattle.policy.proofs.RuleLemmas.{any_map, profile_or, cell_below, in_bodies_below}

@@ -1,9 +1,8 @@
-use Rattle.std.proofs.Common.{◌≡◌, false, true, refl, sym, ◌∙◌}
-use Rattle.wordset.specs.Words.{HasNoneFrom}
+use Rattle.std.proofs.Common.{refl, sym, ◌∙◌}
 use Rattle.wordset.specs.Lanes.{words}
 use Rattle.policy.specs.DeclarationText.{overlaps, entry_in_index, halt_outside}
 use Rattle.policy.specs.Drafts.{gathered}
-use Rattle.policy.proofs.RuleLemmas.{first_same, none_same, cells_below, bodies_all, entries_all}
+use Rattle.policy.proofs.RuleLemmas.{first_same, none_same, bodies_all, entries_all}
 use Rattle.policy.proofs.declaration.drafts.Draft.keeps_rules.Goals as goal
 
 pub overlaps-requires-clause-bodies : goal.overlaps-requires-clause-bodies

@@ -1,5 +1,4 @@
-use Rattle.std.proofs.Common.{◌≡◌, ◌||◌, ap, ◌∙◌, sym}
-use Rattle.wordset.specs.Lanes.{words}
+use Rattle.std.proofs.Common.{sym}
 use Rattle.policy.specs.Drafts.{gathered}
 use Rattle.policy.proofs.RuleLemmas.{overlaps_found, cells_below}
 use Rattle.policy.proofs.declaration.drafts.Draft.overlaps.Goals as goal

@@ -1,0 +1,5 @@
+//! Tests that watch whole programs.
+#![tactic(auto)]
+
+#[cfg(test)]
+mod watching;

@@ -6,3 +6,4 @@ pub mod Unique
 pub mod First
 pub mod Told
 pub mod PermanentLemmas
+pub mod ListingLemmas

@@ -6,3 +6,5 @@ pub mod Faults
 pub mod Laws
 pub mod Steps
 pub mod Permanent
+pub mod Listing
+pub mod Sending

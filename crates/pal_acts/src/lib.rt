@@ -9,6 +9,7 @@ pub mod act;
 pub mod assembly;
 pub mod code;
 pub mod laws;
+pub mod listing;
 pub mod permanent;
 pub mod symbols;
 mod words;
@@ -16,6 +17,7 @@ mod words;
 pub use act::{Act, Join, Name, Sign, Term};
 pub use assembly::{Assembled, Refused, assemble};
 pub use code::Code;
+pub use listing::{ListedWord, Listing, ListingFault, SourceLine, write_listing};
 pub use permanent::PermanentSymbols;
 pub use symbols::Symbols;
 

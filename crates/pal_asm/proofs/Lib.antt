@@ -5,3 +5,4 @@ pub mod Turned
 pub mod Bared
 pub mod One
 pub mod Laid
+pub mod TurnedLines

@@ -1,5 +1,5 @@
 -- What a source does as it is kept in memory, for the private contracts below `assemble`.
-use Rattle.std.specs.Prelude.{◌≡◌, ℕ, ◌+◌, Bool, List, [], ◌∷◌, ◌++◌, map, Result, Ok, Err, Vec}
+use Rattle.std.specs.Prelude.{◌≡◌, ℕ, ◌+◌, Bool, List, [], ◌∷◌, ◌++◌, map, reverse, Result, Ok, Err, Vec}
 use Rattle.pal_acts.specs.declared.act.Join.{Join}
 use Rattle.pal_acts.specs.declared.act.Act.{Act}
 use Rattle.pal_acts.specs.declared.act.Act.TheVariants as act
@@ -10,11 +10,16 @@ use Rattle.pal_asm.specs.declared.deed.PlacedDeed.{PlacedDeed}
 use Rattle.pal_asm.specs.declared.number.Radix.{Radix}
 use Rattle.pal_asm.specs.declared.reading.Turn.{Turn}
 use Rattle.pal_asm.specs.declared.reading.Turn.TheVariants.{On, Ends}
+use Rattle.pal_asm.specs.declared.listing.ListedLine.{ListedLine}
 use Rattle.pal_asm.specs.Acts.{lying, PlacedAct, placed}
+use Rattle.pal_asm.specs.Listings.{TextLine, text_line, Shows, words}
+use Rattle.pal_asm.specs.declared.listing.ListedWord.{ListedWord}
+use Rattle.pal_acts.specs.Values.{Values}
+use Rattle.pal_acts.specs.Meaning.{location}
 use Rattle.pal_asm.specs.declared.fault.AssembleFault.{AssembleFault}
 use Rattle.pal_asm.specs.declared.fault.AssembleFault.TheVariants.{Source, NoMemory}
 use Rattle.pal_text.specs.declared.names.Name.{Name}
-use Rattle.pal_asm.specs.Sources.{Gives, is_empty, IsFaultOf}
+use Rattle.pal_asm.specs.Sources.{Gives, is_empty, IsFaultOf, act_in}
 
 -- An act without the place in memory of its expression.
 abbrev pub bare : Act → Act
@@ -55,7 +60,30 @@ pub record Turns (n : ℕ) (r : Radix) (last : Bool) (part : List ℕ) (old new 
   pub new_is : new ≡ old ++ more
   pub gives : (rest : List (List ℕ)) (later : List PlacedAct) → last ≡ is_empty rest → Next turn (n + 1) rest later → Gives n r (part ∷ rest) (more ++ later)
 
+abbrev pub shown_line : ListedLine → TextLine
+shown_line l = text_line l.place l.bytes.now
+
+-- The lines that are kept.
+abbrev pub lines_in : List ListedLine → List TextLine
+lines_in ls = map shown_line ls
+
+-- What lines may follow a part: those of the next parts, or none.
+abbrev pub NextLines : Turn → ℕ → List (List ℕ) → List TextLine → Type 0
+NextLines (On r) n rest later = Shows n rest later
+NextLines Ends n rest later = later ≡ []
+
+-- A part was read: it has more lines, whatever parts follow.
+pub record TurnsLines (n : ℕ) (part : List ℕ) (old new : List TextLine) (turn : Turn) : Type 0 where
+  pub more : List TextLine
+  pub new_is : new ≡ old ++ more
+  pub shows : (rest : List (List ℕ)) (later : List TextLine) → NextLines turn (n + 1) rest later → Shows n (part ∷ rest) (more ++ later)
+
 -- Kept acts are refused so: by their fault, or memory was refused.
 abbrev pub RefusesActs : List (Name × ℕ) → List PlacedAct → AssembleFault → Type 0
 RefusesActs permanent acts (Source fault) = IsFaultOf permanent acts fault
 RefusesActs permanent acts NoMemory = Unit {0}
+
+-- An act was looked at for its word: from this location and these words of the acts before it to those.
+abbrev pub Adds : Values → PlacedAct → ℕ → ℕ → List ListedWord → List ListedWord → Type 0
+Adds σ next here here' found found' = (before : List PlacedAct) → here ≡ location σ (map act_in before) → found ≡ reverse (words σ before)
+    → (here' ≡ location σ (map act_in (next ∷ before))) × (found' ≡ reverse (words σ (next ∷ before)))

@@ -2,5 +2,6 @@ pub mod Numbers
 pub mod Expressions
 pub mod Acts
 pub mod Sources
+pub mod Listings
 pub mod Kept
 pub mod Programs

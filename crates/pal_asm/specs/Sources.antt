@@ -50,7 +50,7 @@ is_empty [] = true
 is_empty (p ∷ ps) = false
 
 -- After a dollar sign nothing is looked at.
-abbrev pub Follows : Ending → List PlacedAct → Type 0 → Type 0
+abbrev pub Follows : {X : Type 0} → Ending → List X → Type 0 → Type 0
 Follows Dollar later next = later ≡ []
 Follows Pause later next = next
 Follows Bytes later next = next

@@ -7,6 +7,7 @@
 pub mod deed;
 pub mod expression;
 pub mod fault;
+pub mod listing;
 pub mod number;
 pub mod program;
 pub mod reading;

@@ -65,10 +65,10 @@ fn assemble_parts<'p, A: Allocator + Copy>(
     if let Some(fault) = fault_of_sizes(parts) {
         return Err(AssembleFault::Source(fault));
     }
-    let Ok(deeds) = read_source(alloc, parts) else {
+    let Ok(reading) = read_source(alloc, parts) else {
         return Err(AssembleFault::NoMemory);
     };
-    assemble_deeds(alloc, permanent, &deeds)
+    assemble_deeds(alloc, permanent, &reading.deeds)
 }
 
 /// What a source means: its image and its own symbols.

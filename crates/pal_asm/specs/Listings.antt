@@ -1,0 +1,114 @@
+-- The listing of a source: its lines with their words, and its symbols.
+use Rattle.std.specs.Prelude.{◌≡◌, ℕ, ◌+◌, Bool, ◌||◌, ◌&&◌, if◌then◌else◌, List, [], ◌∷◌, ◌++◌, map, reverse, slice_range, nat_eq, codes, Result, Ok, Err, ◌⊎◌}
+use Rattle.word12.specs.Words.{octal_text}
+use Rattle.pal_text.specs.declared.lines.Line.{Line}
+use Rattle.pal_text.specs.declared.names.Name.{Name}
+use Rattle.pal_text.specs.Characters.{characters}
+use Rattle.pal_text.specs.Parts.{IsIllegal}
+use Rattle.pal_acts.specs.declared.act.Act.{Act}
+use Rattle.pal_acts.specs.declared.act.Act.TheVariants as act
+use Rattle.pal_acts.specs.declared.code.Code.{Code}
+use Rattle.pal_acts.specs.Values.{Values, known}
+use Rattle.pal_acts.specs.Meaning.{location}
+use Rattle.pal_acts.specs.Words.{word_value}
+use Rattle.pal_asm.specs.declared.number.Radix.TheVariants.{Octal}
+use Rattle.pal_asm.specs.declared.deed.Place.{Place}
+use Rattle.pal_asm.specs.declared.listing.ListedWord.{ListedWord}
+use Rattle.pal_asm.specs.Acts.{PlacedAct}
+use Rattle.pal_asm.specs.Sources.{Read, Follows, Gives, act_in}
+
+abbrev pub place : ℕ → ℕ → Place
+place part line = record { part = part; line = line }
+
+-- A line of a source: where it stands, and its bytes without those that end it.
+pub record TextLine : Type 0 where
+  pub place : Place
+  pub bytes : List ℕ
+
+abbrev pub text_line : Place → List ℕ → TextLine
+text_line p bytes = record { place = p; bytes = bytes }
+
+-- The lines of a part, the first of which has this number.
+abbrev pub text_lines : ℕ → ℕ → List ℕ → List Line → List TextLine
+text_lines part n source [] = []
+text_lines part n source (l ∷ ls) = text_line (place part n) (slice_range source l.start l.end) ∷ text_lines part (n + 1) source ls
+
+-- These parts, the first of which has this number, have these lines, up to the statement by which the program ends.
+abbrev pub Shows : ℕ → List (List ℕ) → List TextLine → Type 0
+Shows n [] lines = lines ≡ []
+Shows n (p ∷ ps) lines =
+    ((line : ℕ) × IsIllegal p line × (lines ≡ []))
+    ⊎ ((part : Read p) × (later : List TextLine) × (lines ≡ text_lines n 1 p part.lines ++ later)
+    × Follows part.ending later (Shows (n + 1) ps later))
+
+abbrev pub word_at_place : Place → ℕ → Result ℕ Code → List ListedWord → List ListedWord
+word_at_place p at (Ok w) before = record { place = p; at = at; word = w } ∷ before
+word_at_place p at (Err c) before = before
+
+abbrev pub and_word : Values → List Act → Place → Act → List ListedWord → List ListedWord
+and_word σ earlier p (act.Word e) before = word_at_place p (location σ earlier) (word_value σ (location σ earlier) e.now) before
+and_word σ earlier p _ before = before
+
+-- The words of acts, each with its place in the source and its address. Both lists have the newest first.
+abbrev pub words : Values → List PlacedAct → List ListedWord
+words σ [] = []
+words σ (a ∷ before) = and_word σ (map act_in before) (place a.part a.line) a.act (words σ before)
+
+-- The words of acts that are in order, in order.
+abbrev pub all_words : Values → List PlacedAct → List ListedWord
+all_words σ acts = reverse (words σ (reverse acts))
+
+-- The words that come next and stand at this place, and those after them.
+abbrev pub is_at : Place → ListedWord → Bool
+is_at p w = nat_eq w.place.part p.part && nat_eq w.place.line p.line
+
+abbrev pub next_at : Place → List ListedWord → List ListedWord
+next_at p [] = []
+next_at p (w ∷ ws) = if is_at p w then w ∷ next_at p ws else []
+
+abbrev pub after_those : Place → List ListedWord → List ListedWord
+after_those p [] = []
+after_those p (w ∷ ws) = if is_at p w then after_those p ws else w ∷ ws
+
+-- Characters without the spaces and tabs at their front.
+abbrev pub without_front : List ℕ → List ℕ
+without_front [] = []
+without_front (c ∷ cs) = if nat_eq c 32 || nat_eq c 9 then without_front cs else c ∷ cs
+
+-- The address and the word, in octal.
+abbrev pub word_text : ListedWord → List ℕ
+word_text w = octal_text w.at ++ codes "  " ++ octal_text w.word
+
+-- Words on lines of their own.
+abbrev pub words_text : List ListedWord → List ℕ
+words_text [] = []
+words_text (w ∷ ws) = word_text w ++ codes "\n" ++ words_text ws
+
+-- A line with these words and this text: beside the text its first word or as many spaces, and then its further words. Where
+-- there is neither word nor text, an empty line.
+abbrev pub line_text : List ListedWord → List ℕ → List ℕ
+line_text [] [] = codes "\n"
+line_text [] (c ∷ cs) = codes "            " ++ (c ∷ cs) ++ codes "\n"
+line_text (w ∷ ws) cs = word_text w ++ codes "  " ++ cs ++ codes "\n" ++ words_text ws
+
+-- Lines, each with the words that come next and stand on it.
+abbrev pub lines_text : List TextLine → List ListedWord → List ℕ
+lines_text [] ws = []
+lines_text (l ∷ ls) ws = line_text (next_at l.place ws) (without_front (characters l.bytes)) ++ lines_text ls (after_those l.place ws)
+
+-- Symbols with their values, a line for each.
+abbrev pub symbols_text : List (Name × ℕ) → List ℕ
+symbols_text [] = []
+symbols_text (s ∷ ss) = s.0.letters ++ codes "  " ++ octal_text s.1 ++ codes "\n" ++ symbols_text ss
+
+-- The listing of lines, words and symbols: an empty line stands before the symbols.
+abbrev pub listing : List TextLine → List ListedWord → List (Name × ℕ) → List ℕ
+listing lines ws own = lines_text lines ws ++ codes "\n" ++ symbols_text own
+
+-- The text is the listing of the source of these parts, whose own symbols these are.
+pub record Lists (permanent : List (Name × ℕ)) (parts : List (List ℕ)) (own : List (Name × ℕ)) (text : List ℕ) : Type 0 where
+  pub acts : List PlacedAct
+  pub lines : List TextLine
+  pub gives : Gives 1 Octal parts acts
+  pub shows : Shows 1 parts lines
+  pub text_is : text ≡ listing lines (all_words (known permanent own) acts) own

@@ -1,0 +1,145 @@
+//! The listing of a source.
+
+ghost use Rattle.std.specs.Prelude.{◌≡◌, ◌++◌, ◌||◌, [], ◌∷◌, codes, nat_eq, reverse, map, OnOk, IfOk, List};
+ghost use Rattle.word12.specs.Words.{octal_text};
+ghost use Rattle.pal_text.specs.Characters.{characters};
+ghost use Rattle.pal_acts.specs.Values.{known};
+ghost use Rattle.pal_acts.specs.Meaning.{location};
+ghost use Rattle.pal_asm.specs.Acts.{PlacedAct};
+ghost use Rattle.pal_asm.specs.Sources.{act_in};
+ghost use Rattle.pal_asm.specs.Listings.{all_words, words, is_at, next_at, after_those, without_front, word_text, words_text, line_text, lines_text, symbols_text, listing};
+ghost use Rattle.pal_asm.specs.Kept.{acts_in, placed_act, lines_in, Adds};
+
+use crate::deed::{Deed, Place, PlacedDeed};
+use crate::program::SymbolTable;
+use pal_acts::Symbols;
+use pal_text::characters::is_character_code;
+use std::alloc::{AllocError, Allocator};
+use word12::Word;
+
+/// A line of a source: where it stands, and its bytes without those that end it.
+#[derive(Clone, Copy)]
+pub(crate) struct ListedLine<'s> {
+    pub(crate) place: Place,
+    pub(crate) bytes: &'s [u8],
+}
+
+/// A word: where its statement stands, its address and its value.
+#[derive(Clone, Copy, PartialEq, Eq, Debug)]
+pub(crate) struct ListedWord {
+    pub(crate) place: Place,
+    pub(crate) at: Word,
+    pub(crate) word: Word,
+}
+
+/// Adds the word of what a source does next, if it is one.
+fn add_word<A: Allocator + Copy>(
+    symbols: &Symbols<'_, A>,
+    item: &PlacedDeed<A>,
+    here: &mut Word,
+    found: &mut Vec<ListedWord, A>,
+) -> Result<(), AllocError>
+    ensures { OnOk result (Adds (known symbols.now.permanent.now symbols.now.own.entries) (placed_act item.now) here.old here.new found.old.items found.new.items) }
+{
+    match &item.deed {
+        Deed::Word(joins) => {
+            if let Ok(word) = symbols.word(*here, joins) {
+                found.push(ListedWord {
+                    place: item.place,
+                    at: *here,
+                    word,
+                })?;
+            }
+            *here = here.increment();
+        }
+        Deed::Origin(joins) => {
+            *here = match symbols.value(*here, joins) {
+                Some(origin) => origin,
+                None => Word::ZERO,
+            };
+        }
+        _ => {}
+    }
+    Ok(())
+}
+
+/// The words of what a source does.
+pub(crate) fn words_of<A: Allocator + Copy>(
+    alloc: A,
+    symbols: &Symbols<'_, A>,
+    deeds: &[PlacedDeed<A>],
+) -> Result<Vec<ListedWord, A>, AllocError>
+    ensures { IfOk result (λ found. found.items ≡ all_words (known symbols.now.permanent.now symbols.now.own.entries) (acts_in deeds.now)) }
+{
+    let mut found = Vec::new(alloc);
+    let mut here = Word::from_index(0o200);
+    for item in deeds {
+        add_word(symbols, item, &mut here, &mut found)?;
+    }
+    Ok(found)
+}
+
+/// Adds an address and its word.
+fn push_word<A: Allocator>(text: &mut Vec<u8, A>, word: ListedWord) -> Result<(), AllocError>
+    ensures { OnOk result (text.new.items ≡ text.old.items ++ word_text word) }
+{
+    text.extend_from_slice(&word.at.to_octal())?;
+    text.extend_from_slice(b"  ")?;
+    text.extend_from_slice(&word.word.to_octal())
+}
+
+/// Adds the words that come next and stand at this place, and tells those after them.
+fn push_words<'w, A: Allocator>(
+    text: &mut Vec<u8, A>,
+    place: Place,
+    words: &'w [ListedWord],
+) -> Result<&'w [ListedWord], AllocError>
+    ensures rest { IfOk result (λ rest. rest.now ≡ after_those place words.now) }
+    ensures text { OnOk result (text.new.items ≡ text.old.items ++ words_text (next_at place words.now)) }
+{
+    let mut rest = words;
+    while let [word, more @ ..] = rest {
+        if word.place != place {
+            break;
+        }
+        push_word(text, *word)?;
+        text.extend_from_slice(b"\n")?;
+        rest = more;
+    }
+    Ok(rest)
+}
+
+/// Whether a byte at the front of a line isn't listed.
+fn is_dropped(byte: u8) -> bool
+{
+    let code = byte % 128;
+    !is_character_code(code) || code == b' ' || code == b'\t'
+}
+
+/// The bytes of a line from the first one on that is listed.
+fn from_text(bytes: &[u8]) -> &[u8]
+    ensures text { characters result.now ≡ without_front (characters bytes.now) }
+    ensures none { (result.now ≡ []) → without_front (characters bytes.now) ≡ [] }
+{
+    let mut rest = bytes;
+    while let [first, more @ ..] = rest {
+        if !is_dropped(*first) {
+            break;
+        }
+        rest = more;
+    }
+    rest
+}
+
+/// Adds the characters of some bytes.
+fn push_characters<A: Allocator>(text: &mut Vec<u8, A>, bytes: &[u8]) -> Result<(), AllocError>
+    ensures { OnOk result (text.new.items ≡ text.old.items ++ characters bytes.now) }
+{
+    for byte in bytes {
+        let code = *byte % 128;
+        if is_character_code(code) {
+            text.push(code)?;
+        }
+    }
+    Ok(())
+}

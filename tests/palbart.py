@@ -41,7 +41,8 @@ class Source:
     def name(self):
         """A new symbol, sometimes longer than the six characters that count; none is palbart's own."""
         while True:
-            name = self.numbers.choice("QWY") + "".join(self.numbers.choices("QXYZ0123456789", k=self.numbers.randrange(9)))
+            rest = self.numbers.choices("QXYZ0123456789", k=self.numbers.randrange(9))
+            name = self.numbers.choice("QWY") + "".join(rest)
             if name[:6] not in self.names:
                 self.names.add(name[:6])
                 return name

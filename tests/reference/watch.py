@@ -84,10 +84,11 @@ def check(found, twice):
     if found.start is None:
         raise BadDeclaration("NoStart")
     shared = {cell for cell in everywhere if sum(cell in body for body in bodies) > 1}
-    overlap = shared | set(twice) | (set(found.routines) & (everywhere | found.variables)) | (found.stops & found.pauses)
+    entries = set(found.routines)
+    overlap = shared | set(twice) | (entries & (everywhere | found.variables)) | (found.stops & found.pauses)
     if overlap:
         raise BadDeclaration(f"Overlap {min(overlap):04o}")
-    stepped = [entry for entry in found.routines if 0o10 <= entry <= 0o17]
+    stepped = [entry for entry in entries if 0o10 <= entry <= 0o17]
     if stepped:
         raise BadDeclaration(f"EntryInAutoIndex {min(stepped):04o}")
     if found.start not in found.main:

@@ -94,7 +94,8 @@ class Chance:
             lines = [line for line in lines if not self.share(0.2)]
         for _ in range(self.one([0, 1, 1, 2])):
             extra = self.one([self.one(BROKEN_LINES), self.one(lines or ["start 0"]),
-                              f"var {self.one([*MAIN, *ENTRIES]):o}", f"main {self.one([*FIRST, *ENTRIES]):o}", f"stop {self.one([*MAIN, 0o300]):o}",
+                              f"var {self.one([*MAIN, *ENTRIES]):o}", f"main {self.one([*FIRST, *ENTRIES]):o}",
+                              f"stop {self.one([*MAIN, 0o300]):o}",
                               f"pause {self.one([*MAIN]):o}", "profile 8e", "start 0300", "sub 10 body 300 returns 0"])
             lines.insert(self.numbers.randrange(len(lines) + 1), extra)
         if self.share(0.05):
@@ -114,7 +115,8 @@ class Chance:
         lines = []
         for _ in range(self.numbers.randrange(1, 40)):
             lines.append(self.one(["step", f"step {self.numbers.randrange(1, 30)}", "step 3", "printer", "punch",
-                                   "continue", f"key {self.numbers.randrange(256):o}", f"reader {self.numbers.randrange(256):03o}",
+                                   "continue", f"key {self.numbers.randrange(256):o}",
+                                   f"reader {self.numbers.randrange(256):03o}",
                                    f"switches {self.numbers.randrange(4096):o}"]))
         if self.share(0.03):
             bad = ["step 0", "key", "key 400", "step -1", "reader 0001", "switches 10000", "Step", "step 1000001"]

@@ -40,12 +40,14 @@ class Guess:
             self.found.routines[entry].rank = self.rank(entry)
         return self.found
 
-    def rank(self, entry):
-        """How deep the calls of a routine go."""
+    def rank(self, entry, above=()):
+        """How deep the calls of a routine go; `above` are those that wait for it."""
+        if entry in above:
+            raise Stuck(f"{entry:04o}")
         body = self.declared.routines[entry][0]
         below = [callee for callee, line in self.found.routines.items()
-                 if callee != entry and any(site in body for site in sets.words(line.sites))]
-        return 1 + max((self.rank(callee) for callee in below), default=-1)
+                 if any(site in body for site in sets.words(line.sites))]
+        return 1 + max((self.rank(callee, (*above, entry)) for callee in below), default=-1)
 
     def plain(self, fact):
         """A fact with the tracked cells alone, each narrowed."""

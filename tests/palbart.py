@@ -137,14 +137,17 @@ class Source:
             self.zero = tags
 
     def text(self):
-        """The statements on lines."""
+        """The statements on lines, which stay short, since palbart cuts lines at 130 columns."""
         end = self.numbers.choice(["\n", "\n", "\r\n"])
-        out = ""
+        out, line = "", ""
         for statement in self.statements:
-            out += self.numbers.choice(["", "", " ", "\t"]) + statement + self.numbers.choice(["", "", " "])
-            out += self.numbers.choice(["", "/" + self.numbers.choice(["", " a $ sign; and more", "?\"'"])]) + end \
-                if self.chance(0.8) else ";"
-        return out + end + self.numbers.choice(["$", "$", "$ and what follows"]) + end
+            line += self.numbers.choice(["", "", " ", "\t"]) + statement + self.numbers.choice(["", "", " "])
+            if self.chance(0.2) and len(line.expandtabs()) < 40:
+                line += ";"
+            else:
+                out += line + self.numbers.choice(["", "", "", "/", "/ a $ sign; and more", "/?\"'"]) + end
+                line = ""
+        return out + line + end + self.numbers.choice(["$", "$", "$ and what follows"]) + end
 
 
 def generated(seed):

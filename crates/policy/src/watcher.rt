@@ -196,12 +196,12 @@ fn watch_events<A: Allocator, D: Allocator>(
     declaration: &Declaration<D>,
     events: &[Event],
 ) -> Result<Watched, NoMemory>
-    requires declared { IsDeclared (meaning declaration.now) }
     requires profile { profile_of watcher.old.world ≡ (meaning declaration.now).profile }
     requires no_calls { open_calls watcher.old.calls.items ≡ [] }
     ensures tells { IfOk result (λ told. (image : Words) → KeepsCode image (meaning declaration.now) (view watcher.old.world).state.memory → Tells image (meaning declaration.now) events.now (view watcher.old.world) told) }
     ensures only_growth { OnErr result (SomeStepTakesMemory (meaning declaration.now) events.now (view watcher.old.world)) }
 {
+    declaration.is_declared();
     for index in 0..events.len() {
         match watcher.follow(declaration, events[index]) {
             Ok(None) => {}
@@ -249,7 +249,6 @@ pub fn watch<A: Allocator + Copy, D: Allocator>(
     start: &Start,
     events: &[Event],
 ) -> Result<Watched, NoMemory>
-    requires { IsDeclared (meaning declaration.now) }
     // It tells the truth, and all of it.
     ensures clean { IfOk result (λ told. told ≡ Watched.Clean → IsClean (image_of image.now) (meaning declaration.now) events.now (loaded (image_of image.now) (meaning declaration.now).start start.now)) }
     ensures broken { IfOk result (λ told. (event : ℕ) (rule : Rule) → told ≡ Watched.Broken event rule → BreaksAt (image_of image.now) (meaning declaration.now) events.now (loaded (image_of image.now) (meaning declaration.now).start start.now) event rule) }

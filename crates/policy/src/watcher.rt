@@ -107,10 +107,7 @@ impl<A: Allocator> Watcher<A> {
     }
 
     /// Tries the next instruction of a machine that runs. It's carried out where it breaks no rule.
-    fn step<D: Allocator>(
-        &mut self,
-        declaration: &Declaration<D>,
-    ) -> Result<Option<Rule>, NoMemory>
+    fn step<D: Allocator>(&mut self, declaration: &Declaration<D>) -> Result<Option<Rule>, NoMemory>
         requires runs { (view self.old.world).halted_at ≡ None }
         requires profile { profile_of self.old.world ≡ (meaning declaration.now).profile }
         ensures watches { IfOk result (λ told. Watches (meaning declaration.now) (view self.old.world) (open_calls self.old.calls.items) Event.Step (view self.new.world) (open_calls self.new.calls.items) told) }
@@ -259,7 +256,13 @@ pub fn watch<A: Allocator + Copy, D: Allocator>(
     // Only a step that prints, punches or calls a routine can be refused.
     ensures only_growth { OnErr result (SomeStepTakesMemory (meaning declaration.now) events.now (loaded (image_of image.now) (meaning declaration.now).start start.now)) }
 {
-    let world = World::load(alloc, image, declaration.start(), start, declaration.profile());
+    let world = World::load(
+        alloc,
+        image,
+        declaration.start(),
+        start,
+        declaration.profile(),
+    );
     holds_words(&world);
     let mut watcher = Watcher {
         world,

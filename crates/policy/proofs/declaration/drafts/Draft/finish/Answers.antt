@@ -47,11 +47,11 @@ invariant_of-result g c =
       reads = refl;
     } in
     IsDeclared-from (gathered c.args.self) d says c.in_default-keeps_rules.ensures.kept (record {
-  bodies = λ a is. in_bodies_below c.args.self.main c.args.self.routines.items a is;
-  entries = c.requires;
-  stops = λ a is. cell_below c.args.self.stops a is;
-  pauses = λ a is. cell_below c.args.self.pauses a is;
-})
+      bodies = λ a is. in_bodies_below c.args.self.main c.args.self.routines.items a is;
+      entries = c.requires;
+      stops = λ a is. cell_below c.args.self.stops a is;
+      pauses = λ a is. cell_below c.args.self.pauses a is;
+    })
 
 pub returns-clause-declared : goal.returns-clause-declared
 returns-clause-declared g c = IsDeclared-from (gathered c.args.self) _ (returns-clause-says g c) c.in_default-keeps_rules.ensures.kept (record {

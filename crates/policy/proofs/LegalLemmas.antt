@@ -69,7 +69,7 @@ own (Some e) a = (λ h. ap (λ (x : ℕ). Some x) (same_number e a h), λ h. let
 
 or_decides : (a b : Bool) (P Q : Type 0) → Decides a P → Decides b Q → Decides (a || b) (P ⊎ Q)
 or_decides true b P Q da db = (λ h. inl (da.0 refl), λ h. refl)
-or_decides false b P Q da db = (λ h. inr (db.0 h), λ (h : P ⊎ Q). elim h [ | inl p ↦ absurd (false≢true (da.1 p)) | inr q ↦ db.1 q ])
+or_decides false b P Q da db = (λ h. inr (db.0 h), λ (h : P ⊎ Q). elim h [ inl p ↦ absurd (false≢true (da.1 p)) | inr q ↦ db.1 q ])
 
 -- what is asked of up to two cells
 one_cell : (ok : ℕ → Bool) (Ok : ℕ → Type 0) → ((a : ℕ) → Decides (ok a) (Ok a)) → (p : Bool) (c : ℕ) →
@@ -90,7 +90,7 @@ two_cells ok Ok decide p c q y =
     ((a : ℕ) → (q && (a == y)) ≡ true → Ok a)
     ((a : ℕ) → ((p && (a == c)) || (q && (a == y))) ≡ true → Ok a)
     (one_cell ok Ok decide p c) (one_cell ok Ok decide q y)
-    (λ f g a at. elim (or_cases (p && (a == c)) (q && (a == y)) at) [ | inl x ↦ f a x | inr x ↦ g a x ])
+    (λ f g a at. elim (or_cases (p && (a == c)) (q && (a == y)) at) [ inl x ↦ f a x | inr x ↦ g a x ])
     (λ f a at. f a (or_first (p && (a == c)) (q && (a == y)) at))
     (λ f a at. f a (or_second (p && (a == c)) (q && (a == y)) at))
 
@@ -132,14 +132,14 @@ found d e s (k ∷ ks) words = (
       let at : minus (s.memory e) k.after ≡ f.1 = rw f.4 (away k.after f.1 f.2) in
       let same : (k.entry == e) ≡ true = rw f.0 (equal_number e) in
       let low : nat_lt f.1 8 ≡ true = lt-ltb f.1 8 f.2 in
-      rw at (and_both (k.entry == e) _ same (and_both (nat_lt f.1 8) _ low f.3))
+      rw at (and_both (k.entry == e) _ same (and_both (nat_lt f.1 8) _ low f.3)),
 )
 
 return_decides : (d : Declaration) (i : Bool) (c : ℕ) (s : State) (ks : Calls) → AreWords s.memory →
     Decides (implies (i && d.entry c) (finds_call d c (s.memory c) ks)) (i ≡ true → d.entry c ≡ true → FindsItsCall d c s ks)
 return_decides d i c s ks words = (
   λ h on entry. (found d c s ks words).0 (implies_on (i && d.entry c) (finds_call d c (s.memory c) ks) h (and_both i (d.entry c) on entry)),
-  λ f. implies_made (i && d.entry c) (finds_call d c (s.memory c) ks) (λ on. (found d c s ks words).1 (f (and_parts i (d.entry c) on).0 (and_parts i (d.entry c) on).1))
+  λ f. implies_made (i && d.entry c) (finds_call d c (s.memory c) ks) (λ on. (found d c s ks words).1 (f (and_parts i (d.entry c) on).0 (and_parts i (d.entry c) on).1)),
 )
 
 -- the least rule by six tests

@@ -1,13 +1,24 @@
 -- A declaration as it's kept in code, and the declaration that it means.
-use Rattle.std.specs.Prelude.{ℕ, ◌==◌, nat_lt, ◌&&◌, List, slice_index_or, false, Some, None}
+use Rattle.std.specs.Prelude.{ℕ, ◌==◌, nat_lt, ◌&&◌, List, slice_index_or, false, Option, Some, None}
 use Rattle.std.specs.List.{list_any}
 use Rattle.std.specs.Option.{option_map}
+use Rattle.instruct.specs.declared.Profile.{Profile}
 use Rattle.wordset.specs.Words.{Words}
 use Rattle.wordset.specs.Lanes.{words}
 use Rattle.policy.specs.Declaration.{Routine, Declaration}
 use Rattle.policy.specs.declared.declaration.Offsets.{Offsets}
 use Rattle.policy.specs.declared.declaration.Routine.{Routine as KeptRoutine}
-use Rattle.policy.specs.declared.declaration.Declaration.{Declaration as KeptDeclaration}
+
+-- A declaration as it's kept: its sets are kept by lanes.
+pub record Kept : Type 0 where
+  pub start : ℕ
+  pub profile : Profile
+  pub main : List ℕ
+  pub routines : List KeptRoutine
+  pub variables : List ℕ
+  pub stops : List ℕ
+  pub pauses : List ℕ
+  pub reads : Option (List ℕ)
 
 -- The cells of a set that is kept by lanes: all of them are below 4096.
 abbrev pub cells : List ℕ → Words
@@ -16,10 +27,6 @@ cells lanes a = nat_lt a 4096 && words lanes a
 -- The offsets of a routine, each of them below 8.
 abbrev pub offsets_of : Offsets → Words
 offsets_of offsets o = slice_index_or offsets.declared o false
-
--- The routines of a declaration.
-abbrev pub routines_of : {A : Type 0} → KeptDeclaration A → List KeptRoutine
-routines_of d = d.routines.items
 
 -- Some routine has this entry.
 abbrev pub entries : List KeptRoutine → Words
@@ -34,17 +41,17 @@ abbrev pub offsets : List KeptRoutine → ℕ → Words
 offsets routines e o = list_any (λ r. r.entry == e && offsets_of r.offsets o) routines
 
 -- The body of main or of a routine.
-abbrev pub body_of : {A : Type 0} → KeptDeclaration A → Routine → Words
+abbrev pub body_of : Kept → Routine → Words
 body_of d None = cells d.main
-body_of d (Some e) = bodies d.routines.items e
+body_of d (Some e) = bodies d.routines e
 
 -- The declaration that is meant.
-abbrev pub meaning : {A : Type 0} → KeptDeclaration A → Declaration
+abbrev pub meaning : Kept → Declaration
 meaning d = record {
   start = d.start;
   body = body_of d;
-  entry = entries d.routines.items;
-  offset = offsets d.routines.items;
+  entry = entries d.routines;
+  offset = offsets d.routines;
   variable = cells d.variables;
   stop = cells d.stops;
   pause = cells d.pauses;

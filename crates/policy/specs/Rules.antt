@@ -105,3 +105,7 @@ pub record IsLegal (image : Image) (d : Declaration) (s : State) (ks : Calls) : 
   pub halts : HaltsDeclared d (instruction d.profile s) s.pc
   pub code : KeepsCode image d s.memory
   pub reads : ReadsListed d (instruction d.profile s) s ks
+
+-- Without a list of reads, the rule on reads asks nothing.
+abbrev pub UnlistedReadsAreKept : Type 0
+UnlistedReadsAreKept = (d : Declaration) (m : Meaning) (s : State) (ks : Calls) → d.reads ≡ None → ReadsListed d m s ks

@@ -8,13 +8,14 @@ ghost use Rattle.policy.specs.DeclarationText.{Declares, Fails, is_entry, most_b
 ghost use Rattle.policy.specs.Drafts.{gathered, HasLines};
 ghost use Rattle.policy.specs.declared.declaration.DeclarationFault.{DeclarationFault};
 ghost use Rattle.policy.specs.declared.declaration.DeclarationFault.TheVariants.{NoMemory};
-ghost use Rattle.policy.specs.Kept.{cells, offsets_of, routines_of, meaning};
+ghost use Rattle.policy.specs.Kept.{cells, offsets_of, meaning};
 
 use crate::declaration::drafts::Draft;
 use crate::declaration::lines::read_line;
 use instruct::Profile;
 use peripherals::text::Lines;
 use std::alloc::Allocator;
+use std::marker::Model;
 use thiserror::Error;
 use word12::Word;
 use wordset::WordSet;
@@ -95,6 +96,18 @@ pub struct Declaration<A: Allocator> {
     reads: Option<WordSet>,
 }
 
+impl<A: Allocator> Model for Declaration<A> {
+    ghost use Rattle.policy.specs.Declaration.{IsDeclared};
+    ghost use Rattle.policy.specs.Kept.{Kept, meaning};
+
+    ghost Value = { Kept };
+
+    ghost view = { λ d. record { start = d.start; profile = d.profile; main = d.main; routines = d.routines.items; variables = d.variables; stops = d.stops; pauses = d.pauses; reads = d.reads } };
+
+    // Each declaration keeps the overlap rules.
+    ghost invariant = { λ d. IsDeclared (meaning (record { start = d.start; profile = d.profile; main = d.main; routines = d.routines.items; variables = d.variables; stops = d.stops; pauses = d.pauses; reads = d.reads })) };
+}
+
 impl Offsets {
     /// Whether the offset is one of these.
     pub fn contains(&self, offset: Word) -> bool
@@ -159,6 +172,13 @@ impl<A: Allocator> Declaration<A> {
         parse_lines(alloc, text)
     }
 
+    /// Shows that a declaration keeps the overlap rules, which proofs about a borrowed one need.
+    pub fn is_declared(&self)
+        ensures { IsDeclared (meaning self.now) }
+    {
+        let _start = &self.start;
+    }
+
     /// Where the program starts.
     pub fn start(&self) -> Word
         ensures { result ≡ (meaning self.now).start }
@@ -182,7 +202,7 @@ impl<A: Allocator> Declaration<A> {
 
     /// The routines, at most 64, in the order of their lines.
     pub fn routines(&self) -> &[Routine]
-        ensures { result.now ≡ routines_of self.now }
+        ensures { result.now ≡ self.now.routines }
     {
         &self.routines
     }

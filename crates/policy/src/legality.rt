@@ -39,11 +39,7 @@ fn is_own(calls: &[Call], cell: Word) -> bool
 }
 
 /// Whether the program counter is in the running routine's body.
-fn in_body<A: Allocator>(
-    declaration: &Declaration<A>,
-    calls: &[Call],
-    pc: Word,
-) -> bool
+fn in_body<A: Allocator>(declaration: &Declaration<A>, calls: &[Call], pc: Word) -> bool
     ensures { result ≡ (meaning declaration.now).body (current (open_calls calls.now)) pc }
 {
     match calls.last() {
@@ -65,11 +61,7 @@ fn may_write<A: Allocator>(
 }
 
 /// Whether the pointer that is stepped and the cell that is stored in may be written.
-fn writes<A: Allocator>(
-    declaration: &Declaration<A>,
-    reference: &Reference,
-    calls: &[Call],
-) -> bool
+fn writes<A: Allocator>(declaration: &Declaration<A>, reference: &Reference, calls: &[Call]) -> bool
     ensures { result ≡ writes (meaning declaration.now) reference.now (current (open_calls calls.now)) }
 {
     let steps = reference.indirect && is_auto(reference.named);
@@ -138,29 +130,26 @@ fn returns<A: Allocator>(
     ensures { result ≡ returns (meaning declaration.now) reference.now (cell_of memory.now) (open_calls calls.now) }
 {
     if is_return(declaration, reference) {
-        finds_call(declaration, reference.named, memory.get(reference.named), calls)
+        finds_call(
+            declaration,
+            reference.named,
+            memory.get(reference.named),
+            calls,
+        )
     } else {
         true
     }
 }
 
 /// Whether a cell may be read: it's on the list of reads, if there is one, or is the own entry.
-fn may_load<A: Allocator>(
-    declaration: &Declaration<A>,
-    calls: &[Call],
-    cell: Word,
-) -> bool
+fn may_load<A: Allocator>(declaration: &Declaration<A>, calls: &[Call], cell: Word) -> bool
     ensures { result ≡ may_load (meaning declaration.now) (current (open_calls calls.now)) cell }
 {
     declaration.may_read(cell) || is_own(calls, cell)
 }
 
 /// Whether the pointer and the operand may be read.
-fn reads<A: Allocator>(
-    declaration: &Declaration<A>,
-    reference: &Reference,
-    calls: &[Call],
-) -> bool
+fn reads<A: Allocator>(declaration: &Declaration<A>, reference: &Reference, calls: &[Call]) -> bool
     ensures { result ≡ reads (meaning declaration.now) reference.now (current (open_calls calls.now)) }
 {
     if reference.indirect && !may_load(declaration, calls, reference.named) {

@@ -8,5 +8,5 @@ mod rules;
 mod watcher;
 
 pub use declaration::{Declaration, DeclarationFault, Offsets, Routine};
-pub use rules::Rule;
+pub use rules::{Rule, unlisted_reads_are_kept};
 pub use watcher::{Watched, watch};

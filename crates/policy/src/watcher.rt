@@ -107,10 +107,7 @@ impl<A: Allocator> Watcher<A> {
     }
 
     /// Tries the next instruction of a machine that runs. It's carried out where it breaks no rule.
-    fn step<D: Allocator>(
-        &mut self,
-        declaration: &Declaration<D>,
-    ) -> Result<Option<Rule>, NoMemory>
+    fn step<D: Allocator>(&mut self, declaration: &Declaration<D>) -> Result<Option<Rule>, NoMemory>
         requires runs { (view self.old.world).halted_at ≡ None }
         requires profile { profile_of self.old.world ≡ (meaning declaration.now).profile }
         ensures watches { IfOk result (λ told. Watches (meaning declaration.now) (view self.old.world) (open_calls self.old.calls.items) Event.Step (view self.new.world) (open_calls self.new.calls.items) told) }
@@ -196,12 +193,12 @@ fn watch_events<A: Allocator, D: Allocator>(
     declaration: &Declaration<D>,
     events: &[Event],
 ) -> Result<Watched, NoMemory>
-    requires declared { IsDeclared (meaning declaration.now) }
     requires profile { profile_of watcher.old.world ≡ (meaning declaration.now).profile }
     requires no_calls { open_calls watcher.old.calls.items ≡ [] }
     ensures tells { IfOk result (λ told. (image : Words) → KeepsCode image (meaning declaration.now) (view watcher.old.world).state.memory → Tells image (meaning declaration.now) events.now (view watcher.old.world) told) }
     ensures only_growth { OnErr result (SomeStepTakesMemory (meaning declaration.now) events.now (view watcher.old.world)) }
 {
+    declaration.is_declared();
     for index in 0..events.len() {
         match watcher.follow(declaration, events[index]) {
             Ok(None) => {}
@@ -249,7 +246,6 @@ pub fn watch<A: Allocator + Copy, D: Allocator>(
     start: &Start,
     events: &[Event],
 ) -> Result<Watched, NoMemory>
-    requires { IsDeclared (meaning declaration.now) }
     // It tells the truth, and all of it.
     ensures clean { IfOk result (λ told. told ≡ Watched.Clean → IsClean (image_of image.now) (meaning declaration.now) events.now (loaded (image_of image.now) (meaning declaration.now).start start.now)) }
     ensures broken { IfOk result (λ told. (event : ℕ) (rule : Rule) → told ≡ Watched.Broken event rule → BreaksAt (image_of image.now) (meaning declaration.now) events.now (loaded (image_of image.now) (meaning declaration.now).start start.now) event rule) }
@@ -260,7 +256,13 @@ pub fn watch<A: Allocator + Copy, D: Allocator>(
     // Only a step that prints, punches or calls a routine can be refused.
     ensures only_growth { OnErr result (SomeStepTakesMemory (meaning declaration.now) events.now (loaded (image_of image.now) (meaning declaration.now).start start.now)) }
 {
-    let world = World::load(alloc, image, declaration.start(), start, declaration.profile());
+    let world = World::load(
+        alloc,
+        image,
+        declaration.start(),
+        start,
+        declaration.profile(),
+    );
     holds_words(&world);
     let mut watcher = Watcher {
         world,

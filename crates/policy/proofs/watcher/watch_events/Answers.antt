@@ -28,9 +28,11 @@ loop-index-preserved g c =
     let is : slice_get c.args.events.now c.loop-index.index ≡ Some c.index-events-index.result = slice_get_read c.args.events.now (length c.args.events.now) c.loop-index.index c.index-events-index.result refl c.loop-index-test.true c.index-events-index.is in
     let more : take (c.loop-index.index + 1) c.args.events.now ≡ take c.loop-index.index c.args.events.now ++ c.index-events-index.result ∷ [] =
     take_more c.args.events.now c.loop-index.index c.index-events-index.result c.loop-index-test.true ∙ ap (λ (e : Event). take c.loop-index.index c.args.events.now ++ e ∷ []) (sym c.index-events-index.is) in
-    let goes = rw c.in-Ok-None.field-0-is at c.in-Ok-None.ensures.watches in
-    (c.in-Ok-None.ensures.profile, taken_more (meaning c.args.declaration.now) c.requires.declared c.args.events.now (view c.args.watcher.now.world) c.loop-index.index c.index-events-index.result (view c.loop-index.watcher.world) (view c.follow.new.self.world) (open_calls c.loop-index.watcher.calls.items) (open_calls c.follow.new.self.calls.items)
-    is more c.loop-index.invariant.1 goes)
+    let goes = rw c.in-Ok-None.field-0-is at c.in-Ok-None.ensures.watches in (
+      c.in-Ok-None.ensures.profile,
+      taken_more (meaning c.args.declaration.now) c.is_declared.ensures c.args.events.now (view c.args.watcher.now.world) c.loop-index.index c.index-events-index.result (view c.loop-index.watcher.world) (view c.follow.new.self.world) (open_calls c.loop-index.watcher.calls.items) (open_calls c.follow.new.self.calls.items)
+          is more c.loop-index.invariant.1 goes,
+    )
 
 pub returns-clause-tells : goal.returns-clause-tells
 returns-clause-tells g c =

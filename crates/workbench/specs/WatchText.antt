@@ -12,8 +12,8 @@ use Rattle.policy.specs.DeclarationText.{Declares, Fails}
 use Rattle.policy.specs.declared.declaration.DeclarationFault.{DeclarationFault}
 use Rattle.policy.specs.declared.declaration.DeclarationFault.TheVariants.{NoMemory}
 use Rattle.policy.specs.declared.rules.Rule.{Rule}
-use Rattle.policy.specs.declared.watch.Watched.{Watched}
-use Rattle.policy.specs.declared.watch.Watched.TheVariants.{Clean, Broken}
+use Rattle.policy.specs.declared.watcher.Watched.{Watched}
+use Rattle.policy.specs.declared.watcher.Watched.TheVariants.{Clean, Broken}
 use Rattle.policy.specs.Watching.{IsClean, BreaksAt, number_of}
 use Rattle.workbench.specs.declared.status.Fault.{Fault}
 use Rattle.workbench.specs.declared.status.Fault.TheVariants.{Tape, EmptyImage, Source, Declared, Events, Device}

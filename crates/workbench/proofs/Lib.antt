@@ -3,3 +3,4 @@ pub mod TextLemmas
 pub mod InputLemmas
 pub mod RunLemmas
 pub mod SourceLemmas
+pub mod WatchLemmas

@@ -6,3 +6,4 @@ pub mod Bared
 pub mod One
 pub mod Laid
 pub mod TurnedLines
+pub mod Fronts

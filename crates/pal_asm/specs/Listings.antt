@@ -1,9 +1,9 @@
 -- The listing of a source: its lines with their words, and its symbols.
-use Rattle.std.specs.Prelude.{◌≡◌, ℕ, ◌+◌, Bool, ◌||◌, ◌&&◌, if◌then◌else◌, List, [], ◌∷◌, ◌++◌, map, reverse, slice_range, nat_eq, codes, Result, Ok, Err, ◌⊎◌}
+use Rattle.std.specs.Prelude.{◌≡◌, ℕ, ◌+◌, Bool, ◌||◌, ◌&&◌, not, if◌then◌else◌, List, [], ◌∷◌, ◌++◌, map, reverse, slice_range, nat_eq, codes, Result, Ok, Err, ◌⊎◌}
 use Rattle.word12.specs.Words.{octal_text}
 use Rattle.pal_text.specs.declared.lines.Line.{Line}
 use Rattle.pal_text.specs.declared.names.Name.{Name}
-use Rattle.pal_text.specs.Characters.{characters}
+use Rattle.pal_text.specs.Characters.{characters, code, is_character}
 use Rattle.pal_text.specs.Parts.{IsIllegal}
 use Rattle.pal_acts.specs.declared.act.Act.{Act}
 use Rattle.pal_acts.specs.declared.act.Act.TheVariants as act
@@ -70,10 +70,17 @@ abbrev pub after_those : Place → List ListedWord → List ListedWord
 after_those p [] = []
 after_those p (w ∷ ws) = if is_at p w then after_those p ws else w ∷ ws
 
--- Characters without the spaces and tabs at their front.
+-- Spaces and tabs at the front of a line aren't listed.
+abbrev pub is_blank : ℕ → Bool
+is_blank c = nat_eq c 32 || nat_eq c 9
+
 abbrev pub without_front : List ℕ → List ℕ
 without_front [] = []
-without_front (c ∷ cs) = if nat_eq c 32 || nat_eq c 9 then without_front cs else c ∷ cs
+without_front (c ∷ cs) = if is_blank c then without_front cs else c ∷ cs
+
+-- A byte at the front of a line is no text: an ignored one, a space or a tab.
+abbrev pub is_no_text : ℕ → Bool
+is_no_text b = not (is_character (code b)) || is_blank (code b)
 
 -- The address and the word, in octal.
 abbrev pub word_text : ListedWord → List ℕ
@@ -96,10 +103,13 @@ abbrev pub lines_text : List TextLine → List ListedWord → List ℕ
 lines_text [] ws = []
 lines_text (l ∷ ls) ws = line_text (next_at l.place ws) (without_front (characters l.bytes)) ++ lines_text ls (after_those l.place ws)
 
--- Symbols with their values, a line for each.
+-- A symbol, with spaces after fewer than six characters, and its value.
+abbrev pub symbol_text : Name → ℕ → List ℕ
+symbol_text n v = n.letters ++ codes "  " ++ octal_text v ++ codes "\n"
+
 abbrev pub symbols_text : List (Name × ℕ) → List ℕ
 symbols_text [] = []
-symbols_text (s ∷ ss) = s.0.letters ++ codes "  " ++ octal_text s.1 ++ codes "\n" ++ symbols_text ss
+symbols_text (s ∷ ss) = symbol_text s.0 s.1 ++ symbols_text ss
 
 -- The listing of lines, words and symbols: an empty line stands before the symbols.
 abbrev pub listing : List TextLine → List ListedWord → List (Name × ℕ) → List ℕ

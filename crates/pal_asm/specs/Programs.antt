@@ -10,3 +10,7 @@ symbols_of p = p.own.entries
 -- The image of a program: for each address a word or none.
 abbrev pub image_of : {A : Type 0} → Program A → List (Option ℕ)
 image_of p = p.image
+
+-- The text of its listing.
+abbrev pub listing_of : {A : Type 0} → Program A → List ℕ
+listing_of p = p.listing.items

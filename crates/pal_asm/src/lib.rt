@@ -14,7 +14,7 @@ pub mod reading;
 pub mod sizes;
 pub mod statement;
 
-pub use fault::{AssembleFault, PalFault};
+pub use fault::{AssembleFault, PalFault, WriteFault};
 pub use program::{Program, SymbolTable, assemble};
 
 #[cfg(test)]

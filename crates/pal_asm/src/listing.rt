@@ -1,18 +1,14 @@
 //! The listing of a source.
 
-ghost use Rattle.std.specs.Prelude.{◌≡◌, ◌++◌, ◌||◌, [], ◌∷◌, codes, nat_eq, reverse, map, OnOk, IfOk, List};
-ghost use Rattle.word12.specs.Words.{octal_text};
+ghost use Rattle.std.specs.Prelude.{◌≡◌, ◌<◌, ◌++◌, [], length, OnOk, IfOk};
 ghost use Rattle.pal_text.specs.Characters.{characters};
 ghost use Rattle.pal_acts.specs.Values.{known};
-ghost use Rattle.pal_acts.specs.Meaning.{location};
-ghost use Rattle.pal_asm.specs.Acts.{PlacedAct};
-ghost use Rattle.pal_asm.specs.Sources.{act_in};
-ghost use Rattle.pal_asm.specs.Listings.{all_words, words, is_at, next_at, after_those, without_front, word_text, words_text, line_text, lines_text, symbols_text, listing};
+ghost use Rattle.pal_asm.specs.Listings.{all_words, is_no_text, is_at, next_at, after_those, without_front, word_text, words_text, line_text, lines_text, symbol_text, symbols_text, listing};
 ghost use Rattle.pal_asm.specs.Kept.{acts_in, placed_act, lines_in, Adds};
 
 use crate::deed::{Deed, Place, PlacedDeed};
 use crate::program::SymbolTable;
-use pal_acts::Symbols;
+use pal_acts::{Name, Symbols};
 use pal_text::characters::is_character_code;
 use std::alloc::{AllocError, Allocator};
 use word12::Word;
@@ -88,6 +84,12 @@ fn push_word<A: Allocator>(text: &mut Vec<u8, A>, word: ListedWord) -> Result<()
     text.extend_from_slice(&word.word.to_octal())
 }
 
+fn stands_at(place: Place, word: ListedWord) -> bool
+    ensures { result ≡ is_at place word }
+{
+    word.place == place
+}
+
 /// Adds the words that come next and stand at this place, and tells those after them.
 fn push_words<'w, A: Allocator>(
     text: &mut Vec<u8, A>,
@@ -99,7 +101,7 @@ fn push_words<'w, A: Allocator>(
 {
     let mut rest = words;
     while let [word, more @ ..] = rest {
-        if word.place != place {
+        if !stands_at(place, *word) {
             break;
         }
         push_word(text, *word)?;
@@ -111,6 +113,7 @@ fn push_words<'w, A: Allocator>(
 
 /// Whether a byte at the front of a line isn't listed.
 fn is_dropped(byte: u8) -> bool
+    ensures { result ≡ is_no_text byte }
 {
     let code = byte % 128;
     !is_character_code(code) || code == b' ' || code == b'\t'
@@ -119,7 +122,7 @@ fn is_dropped(byte: u8) -> bool
 /// The bytes of a line from the first one on that is listed.
 fn from_text(bytes: &[u8]) -> &[u8]
     ensures text { characters result.now ≡ without_front (characters bytes.now) }
-    ensures none { (result.now ≡ []) → without_front (characters bytes.now) ≡ [] }
+    ensures begins { 0 < length result.now → 0 < length (characters result.now) }
 {
     let mut rest = bytes;
     while let [first, more @ ..] = rest {
@@ -142,4 +145,102 @@ fn push_characters<A: Allocator>(text: &mut Vec<u8, A>, bytes: &[u8]) -> Result<
         }
     }
     Ok(())
+}
+
+/// Adds a line without a word: nothing where it has no text.
+fn push_text<A: Allocator>(text: &mut Vec<u8, A>, shown: &[u8]) -> Result<(), AllocError>
+    requires { 0 < length shown.now → 0 < length (characters shown.now) }
+    ensures { OnOk result (text.new.items ≡ text.old.items ++ line_text [] (characters shown.now)) }
+{
+    if shown.is_empty() {
+        return text.extend_from_slice(b"\n");
+    }
+    text.extend_from_slice(b"            ")?;
+    push_characters(text, shown)?;
+    text.extend_from_slice(b"\n")
+}
+
+/// Adds a line with its words, and tells the words after those.
+fn push_line<'w, A: Allocator>(
+    text: &mut Vec<u8, A>,
+    line: ListedLine<'_>,
+    words: &'w [ListedWord],
+) -> Result<&'w [ListedWord], AllocError>
+    ensures rest { IfOk result (λ rest. rest.now ≡ after_those line.entry.place words.now) }
+    ensures text { OnOk result (text.new.items ≡ text.old.items ++ line_text (next_at line.entry.place words.now) (without_front (characters line.entry.bytes.now))) }
+{
+    let shown = from_text(line.bytes);
+    match words {
+        [word, more @ ..] if stands_at(line.place, *word) => {
+            push_word(text, *word)?;
+            text.extend_from_slice(b"  ")?;
+            push_characters(text, shown)?;
+            text.extend_from_slice(b"\n")?;
+            push_words(text, line.place, more)
+        }
+        _ => {
+            push_text(text, shown)?;
+            Ok(words)
+        }
+    }
+}
+
+/// Adds lines, each with the words that come next and stand on it.
+fn push_lines<A: Allocator>(
+    text: &mut Vec<u8, A>,
+    lines: &[ListedLine<'_>],
+    words: &[ListedWord],
+) -> Result<(), AllocError>
+    ensures { OnOk result (text.new.items ≡ text.old.items ++ lines_text (lines_in lines.now) words.now) }
+{
+    let mut rest = words;
+    for line in lines {
+        rest = push_line(text, *line, rest)?;
+    }
+    Ok(())
+}
+
+/// Adds a symbol with its value.
+fn push_symbol<A: Allocator>(
+    text: &mut Vec<u8, A>,
+    name: Name,
+    value: Word,
+) -> Result<(), AllocError>
+    ensures { OnOk result (text.new.items ≡ text.old.items ++ symbol_text name value) }
+{
+    text.extend_from_slice(&name.letters)?;
+    text.extend_from_slice(b"  ")?;
+    text.extend_from_slice(&value.to_octal())?;
+    text.extend_from_slice(b"\n")
+}
+
+/// Adds symbols with their values.
+fn push_symbols<A: Allocator + Copy>(
+    text: &mut Vec<u8, A>,
+    own: &SymbolTable<A>,
+) -> Result<(), AllocError>
+    ensures { OnOk result (text.new.items ≡ text.old.items ++ symbols_text own.now.entries) }
+{
+    for at in 0..own.len() {
+        if let Some((name, value)) = own.get_index(at) {
+            push_symbol(text, *name, *value)?;
+        }
+    }
+    Ok(())
+}
+
+/// The listing of these lines with these words, and of these symbols.
+pub(crate) fn make_listing<A: Allocator + Copy>(
+    alloc: A,
+    lines: &[ListedLine<'_>],
+    words: &[ListedWord],
+    own: &SymbolTable<A>,
+) -> Result<Vec<u8, A>, AllocError>
+    ensures { IfOk result (λ text. text.items ≡ listing (lines_in lines.now) words.now own.now.entries) }
+{
+    let mut text = Vec::new(alloc);
+    push_lines(&mut text, lines, words)?;
+    text.extend_from_slice(b"\n")?;
+    push_symbols(&mut text, own)?;
+    Ok(text)
 }

@@ -1,23 +1,28 @@
-//! The image and the symbols of a source.
+//! The image, the symbols and the listing of a source.
 
-ghost use Rattle.std.specs.Prelude.{◌≡◌, IfOk, IfErr, MatchResult, map, ℕ, List, Option, Some, Err};
+ghost use Rattle.std.specs.Prelude.{◌≡◌, false, is_err, IfOk, IfErr, OnOk, OnErr, MatchResult, map, ℕ, List, Option, Some, Err};
 ghost use Rattle.pal_text.specs.declared.names.Name.{Name as Named};
+ghost use Rattle.std.specs.Io.KnownBytes.{Appends};
+ghost use Rattle.bin_tape.specs.Bytes.{AppendsFront};
+ghost use Rattle.pal_acts.specs.Values.{known};
 ghost use Rattle.pal_acts.specs.Sources.{IsSource};
 ghost use Rattle.pal_asm.specs.declared.fault.PalFault.{PalFault as Faulty};
 ghost use Rattle.pal_acts.specs.Permanent.{permanent_symbols};
 ghost use Rattle.pal_asm.specs.Sources.{act_in, texts, size_fault, Means, IsFault, Refuses, IsSilent, TellsOnly};
-ghost use Rattle.pal_asm.specs.Programs.{symbols_of, image_of};
-ghost use Rattle.pal_asm.specs.Kept.{acts_in, RefusesActs};
+ghost use Rattle.pal_asm.specs.Listings.{all_words, listing, Lists};
+ghost use Rattle.pal_asm.specs.Programs.{symbols_of, image_of, listing_of};
+ghost use Rattle.pal_asm.specs.Kept.{acts_in, lines_in, RefusesActs};
 
 use crate::deed::{PlacedDeed, acts_of};
-use crate::fault::{AssembleFault, PalFault};
-use crate::reading::read_source;
+use crate::fault::{AssembleFault, PalFault, WriteFault};
+use crate::listing::{make_listing, words_of};
+use crate::reading::{Reading, read_source};
 use crate::sizes::fault_of_sizes;
-use bin_tape::Image;
+use bin_tape::{ByteSink, Image, put};
 use indexmap::IndexMap;
 use instruct::Profile;
 use pal_acts::{Assembled, Name, PermanentSymbols, Refused, Symbols};
-use std::alloc::Allocator;
+use std::alloc::{AllocError, Allocator};
 use std::hash::{BuildHasherDefault, FoldHasher};
 use word12::Word;
 
@@ -51,31 +56,12 @@ fn assemble_deeds<'p, A: Allocator + Copy>(
     }
 }
 
-/// What a source means, or its fault.
-fn assemble_parts<'p, A: Allocator + Copy>(
-    alloc: A,
-    permanent: &'p [(Name, Word)],
-    parts: &[&[u8]],
-) -> Result<Assembled<'p, A>, AssembleFault>
-    ensures permanent { IfOk result (λ found. found.symbols.permanent.now ≡ permanent.now) }
-    ensures found { IfOk result (λ found. Means permanent.now (texts parts.now) found.symbols.own.entries found.image) }
-    ensures refused { IfErr result (Refuses permanent.now (texts parts.now)) }
-    ensures sized { (fault : Faulty) → size_fault (texts parts.now) ≡ Some fault → result ≡ Err (AssembleFault.Source fault) }
-{
-    if let Some(fault) = fault_of_sizes(parts) {
-        return Err(AssembleFault::Source(fault));
-    }
-    let Ok(reading) = read_source(alloc, parts) else {
-        return Err(AssembleFault::NoMemory);
-    };
-    assemble_deeds(alloc, permanent, &reading.deeds)
-}
-
-/// What a source means: its image and its own symbols.
+/// What a source means: its image, its own symbols and its listing.
 #[derive(Drop)]
 pub struct Program<A: Allocator + Copy> {
     image: Image,
     own: SymbolTable<A>,
+    listing: Vec<u8, A>,
 }
 
 impl<A: Allocator + Copy> Program<A> {
@@ -92,6 +78,72 @@ impl<A: Allocator + Copy> Program<A> {
     {
         &self.own
     }
+
+    /// Writes the listing: each line of the source beside its first word in octal, the further
+    /// words of a line on lines of their own, an empty line, and the symbols with their values.
+    ///
+    /// # Errors
+    ///
+    /// `WriteFault` where a write failed or took nothing, which the mark shows; a front of the
+    /// listing went out before it.
+    pub fn write_listing<W: ByteSink>(&self, sink: &mut W) -> Result<(), WriteFault>
+        requires unmarked { W.mark sink.old ≡ false }
+        ensures whole { OnOk result (Appends (W.taken sink.old) (W.taken sink.new) (listing_of self.now)) }
+        ensures front { OnErr result (AppendsFront (W.taken sink.old) (W.taken sink.new) (listing_of self.now)) }
+        ensures marks { W.mark sink.new ≡ is_err result }
+    {
+        match put(sink, &self.listing) {
+            Ok(()) => Ok(()),
+            Err(_) => Err(WriteFault),
+        }
+    }
+}
+
+/// A program with its listing, by what was assembled and read.
+fn program_of<A: Allocator + Copy>(
+    alloc: A,
+    found: Assembled<'_, A>,
+    reading: &Reading<'_, A>,
+) -> Result<Program<A>, AllocError>
+    ensures image { IfOk result (λ program. image_of program ≡ found.entry.image) }
+    ensures symbols { IfOk result (λ program. symbols_of program ≡ found.entry.symbols.own.entries) }
+    ensures listing { IfOk result (λ program. listing_of program ≡ listing (lines_in reading.now.lines.items) (all_words (known found.entry.symbols.permanent.now found.entry.symbols.own.entries) (acts_in reading.now.deeds.items)) found.entry.symbols.own.entries) }
+{
+    let Assembled { symbols, image } = found;
+    let words = words_of(alloc, &symbols, &reading.deeds)?;
+    let listing = make_listing(alloc, &reading.lines, &words, &symbols.own)?;
+    let Symbols { own, .. } = symbols;
+    Ok(Program {
+        image,
+        own,
+        listing,
+    })
+}
+
+/// What a source means, or its fault.
+fn assemble_parts<A: Allocator + Copy>(
+    alloc: A,
+    permanent: &[(Name, Word)],
+    parts: &[&[u8]],
+) -> Result<Program<A>, AssembleFault>
+    ensures meaning { IfOk result (λ program. Means permanent.now (texts parts.now) (symbols_of program) (image_of program)) }
+    ensures listed { IfOk result (λ program. Lists permanent.now (texts parts.now) (symbols_of program) (listing_of program)) }
+    ensures refused { IfErr result (Refuses permanent.now (texts parts.now)) }
+    ensures sized { (fault : Faulty) → size_fault (texts parts.now) ≡ Some fault → result ≡ Err (AssembleFault.Source fault) }
+{
+    if let Some(fault) = fault_of_sizes(parts) {
+        return Err(AssembleFault::Source(fault));
+    }
+    let Ok(reading) = read_source(alloc, parts) else {
+        return Err(AssembleFault::NoMemory);
+    };
+    match assemble_deeds(alloc, permanent, &reading.deeds) {
+        Ok(found) => match program_of(alloc, found, &reading) {
+            Ok(program) => Ok(program),
+            Err(_) => Err(AssembleFault::NoMemory),
+        },
+        Err(fault) => Err(fault),
+    }
 }
 
 /// What a source means under the permanent symbols of a profile.
@@ -101,18 +153,12 @@ fn assemble_for<A: Allocator + Copy>(
     profile: Profile,
 ) -> Result<Program<A>, AssembleFault>
     ensures meaning { IfOk result (λ program. Means (permanent_symbols profile) (texts parts.now) (symbols_of program) (image_of program)) }
+    ensures listed { IfOk result (λ program. Lists (permanent_symbols profile) (texts parts.now) (symbols_of program) (listing_of program)) }
     ensures refused { IfErr result (Refuses (permanent_symbols profile) (texts parts.now)) }
     ensures sized { (fault : Faulty) → size_fault (texts parts.now) ≡ Some fault → result ≡ Err (AssembleFault.Source fault) }
 {
     let permanent = PermanentSymbols::new(profile);
-    match assemble_parts(alloc, permanent.as_slice(), parts) {
-        Ok(found) => {
-            let Assembled { symbols, image } = found;
-            let Symbols { own, .. } = symbols;
-            Ok(Program { image, own })
-        }
-        Err(fault) => Err(fault),
-    }
+    assemble_parts(alloc, permanent.as_slice(), parts)
 }
 
 /// Assembles a source: its parts one after another, up to `$` or the end of the last one.
@@ -128,6 +174,7 @@ pub fn assemble<A: Allocator + Copy>(
     profile: Profile,
 ) -> Result<Program<A>, AssembleFault>
     ensures meaning { IfOk result (λ program. Means (permanent_symbols profile) (texts parts.now) (symbols_of program) (image_of program)) }
+    ensures listed { IfOk result (λ program. Lists (permanent_symbols profile) (texts parts.now) (symbols_of program) (listing_of program)) }
     ensures refused { IfErr result (Refuses (permanent_symbols profile) (texts parts.now)) }
     // A source that has a meaning is answered by no fault.
     ensures meant { (own : List (Named × ℕ)) (image : List (Option ℕ)) → Means (permanent_symbols profile) (texts parts.now) own image →

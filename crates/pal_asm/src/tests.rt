@@ -1,6 +1,7 @@
 //! Sources worked by hand from the rules of the language.
 
-use crate::{AssembleFault, PalFault, assemble};
+use crate::{AssembleFault, PalFault, WriteFault, assemble};
+use bin_tape::memory::MemorySink;
 use instruct::Profile;
 use pal_acts::Code;
 use std::alloc::Allocator;
@@ -223,5 +224,57 @@ fn faults_are_written(rt: HostRuntime) -> Result<(), Fail> {
     assert_eq!(rt; format!(in rt.alloc(); "{fault}")?.as_str(), "IR 1 12");
     let refused = AssembleFault::Source(fault);
     assert_eq!(rt; format!(in rt.alloc(); "{refused}")?.as_str(), "IR 1 12");
+    Ok(())
+}
+
+/// What the listing of HELLO is.
+const HELLO_LISTING: &[u8] =
+    b"            /HELLO\n            *200\n0200  7300  START, CLA CLL\n0201  6046  TLS\n0202  1222  TAD TABLE\n0203  3010  DCA 10\n0204  1223  TAD COUNT\n0205  3224  DCA LEFT\n0206  1410  LOOP, TAD I 10\n0207  4214  JMS TYPE\n0210  2224  ISZ LEFT\n0211  5206  JMP LOOP\n0212  7402  HLT\n0213  5200  JMP START\n0214  0000  TYPE, 0\n0215  6041  TSF\n0216  5215  JMP .-1\n0217  6046  TLS\n0220  7200  CLA\n0221  5614  JMP I TYPE\n0222  0224  TABLE, LEFT\n0223  7773  COUNT, -5\n0224  0000  LEFT, 0\n0225  0310  310;305;314;314;317\n0226  0305\n0227  0314\n0230  0314\n0231  0317\n            $\n\nSTART   0200\nLOOP    0206\nTYPE    0214\nTABLE   0222\nCOUNT   0223\nLEFT    0224\n";
+
+#[test]
+fn sources_are_listed(rt: HostRuntime) -> Result<(), Fail> {
+    let halt = b"            *200\n0200  7402  HLT\n            $\n\n".as_slice();
+    let rows: [(&[&[u8]], &[u8]); 11] = [
+        (&[b"*200\nHLT\n$\n"], halt),
+        (&[b"*200\x8dHLT\x8d$\x8d"], halt),
+        (&[b"*200\r\nHLT\r\n$\r\n"], halt),
+        (&[b"*200\r\xff\nHLT\r\xff\n$\r\xff\n"], halt),
+        (&[b"$"], b"            $\n\n"),
+        (&[b""], b"\n"),
+        (
+            &[b"A=5\nPAUSE / more\n?", b"TAD\tA\n \t $ A"],
+            b"            A=5\n            PAUSE\n0200  1005  TAD\tA\n            $\n\nA       0005\n",
+        ),
+        (
+            &[b"\t\xff 1;2;\n  \n;3 / three\n"],
+            b"0200  0001  1;2;\n0201  0002\n\n0202  0003  ;3 / three\n\n",
+        ),
+        (
+            &[b"*200;1;*200;2"],
+            b"0200  0001  *200;1;*200;2\n0200  0002\n\n",
+        ),
+        (
+            &[b"1\n", b"2\n", b"3$"],
+            b"0200  0001  1\n0201  0002  2\n0202  0003  3$\n\n",
+        ),
+        (&[HELLO], HELLO_LISTING),
+    ];
+    for (parts, expected) in rows {
+        let program = assemble(rt.alloc(), parts, Profile::Pdp8I)?;
+        let mut sink = MemorySink::new(rt.alloc(), 65_536);
+        program.write_listing(&mut sink)?;
+        assert_eq!(rt; sink.bytes(), expected);
+    }
+    Ok(())
+}
+
+#[test]
+fn a_front_of_the_listing_goes_out_where_a_write_fails(rt: HostRuntime) -> Result<(), Fail> {
+    let program = assemble(rt.alloc(), &[HELLO], Profile::Pdp8I)?;
+    for room in 0..HELLO_LISTING.len() {
+        let mut sink = MemorySink::new(rt.alloc(), room);
+        assert_eq!(rt; program.write_listing(&mut sink), Err(WriteFault));
+        assert_eq!(rt; sink.bytes(), &HELLO_LISTING[..room]);
+    }
     Ok(())
 }

@@ -28,6 +28,10 @@ cells lanes a = nat_lt a 4096 && words lanes a
 abbrev pub offsets_of : Offsets → Words
 offsets_of offsets o = slice_index_or offsets.declared o false
 
+-- The routines of a declaration.
+abbrev pub routines_of : Kept → List KeptRoutine
+routines_of d = d.routines
+
 -- Some routine has this entry.
 abbrev pub entries : List KeptRoutine → Words
 entries routines e = list_any (λ r. r.entry == e) routines

@@ -4,7 +4,9 @@ use Rattle.processor.specs.Machine.{State, instruction}
 use Rattle.processor.specs.Runs.{Image}
 use Rattle.peripherals.specs.declared.Event.{Event}
 use Rattle.peripherals.specs.declared.Event.TheVariants.{Step as Instruct}
+use Rattle.peripherals.specs.declared.Start.{Start}
 use Rattle.peripherals.specs.Devices.{WorldState}
+use Rattle.peripherals.specs.Loading.{loaded}
 use Rattle.policy.specs.declared.rules.Rule.{Rule}
 use Rattle.policy.specs.declared.watcher.Watched.{Watched}
 use Rattle.policy.specs.declared.watcher.Watched.TheVariants.{Clean, Broken}
@@ -68,3 +70,7 @@ pub record BreaksAt (image : Image) (d : Declaration) (events : List Event) (w :
 abbrev pub Tells : Image → Declaration → List Event → WorldState → Watched → Type 0
 Tells image d events w Clean = IsClean image d events w
 Tells image d events w (Broken n r) = BreaksAt image d events w n r
+
+-- The world in which a declared run begins: the tape's words lie over what the machine holds.
+abbrev pub begun : Image → Declaration → Start → WorldState
+begun image d start = loaded image d.start start

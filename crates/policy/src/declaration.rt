@@ -8,7 +8,7 @@ ghost use Rattle.policy.specs.DeclarationText.{Declares, Fails, is_entry, most_b
 ghost use Rattle.policy.specs.Drafts.{gathered, HasLines};
 ghost use Rattle.policy.specs.declared.declaration.DeclarationFault.{DeclarationFault};
 ghost use Rattle.policy.specs.declared.declaration.DeclarationFault.TheVariants.{NoMemory};
-ghost use Rattle.policy.specs.Kept.{cells, offsets_of, meaning};
+ghost use Rattle.policy.specs.Kept.{cells, offsets_of, routines_of, meaning};
 
 use crate::declaration::drafts::Draft;
 use crate::declaration::lines::read_line;
@@ -202,7 +202,7 @@ impl<A: Allocator> Declaration<A> {
 
     /// The routines, at most 64, in the order of their lines.
     pub fn routines(&self) -> &[Routine]
-        ensures { result.now ≡ self.now.routines }
+        ensures { result.now ≡ routines_of self.now }
     {
         &self.routines
     }

@@ -5,7 +5,7 @@ ghost use Rattle.processor.specs.Cells.{AreWords};
 ghost use Rattle.processor.specs.Runs.{Image as Words};
 ghost use Rattle.peripherals.specs.declared.Event.{Event};
 ghost use Rattle.peripherals.specs.Events.{Happens};
-ghost use Rattle.peripherals.specs.Loading.{image_of, loaded};
+ghost use Rattle.peripherals.specs.Loading.{image_of};
 ghost use Rattle.peripherals.specs.World.{view, profile_of};
 ghost use Rattle.policy.specs.declared.rules.Rule.{Rule};
 ghost use Rattle.policy.specs.Declaration.{IsDeclared};
@@ -15,7 +15,7 @@ ghost use Rattle.policy.specs.Runs.{IsSafe};
 ghost use Rattle.policy.specs.Kept.{meaning};
 ghost use Rattle.policy.specs.OpenCalls.{open_calls};
 ghost use Rattle.policy.specs.Decided.{is_call, followed, IsCall};
-ghost use Rattle.policy.specs.Watching.{IsClean, BreaksAt, Tells};
+ghost use Rattle.policy.specs.Watching.{IsClean, BreaksAt, Tells, begun};
 ghost use Rattle.policy.specs.WatchedSteps.{Watches, TakesMemory, Grows, Passes, waits, SomeStepTakesMemory};
 
 use crate::actions::{Action, Operation, Reference, next_action};
@@ -247,14 +247,14 @@ pub fn watch<A: Allocator + Copy, D: Allocator>(
     events: &[Event],
 ) -> Result<Watched, NoMemory>
     // It tells the truth, and all of it.
-    ensures clean { IfOk result (λ told. told ≡ Watched.Clean → IsClean (image_of image.now) (meaning declaration.now) events.now (loaded (image_of image.now) (meaning declaration.now).start start.now)) }
-    ensures broken { IfOk result (λ told. (event : ℕ) (rule : Rule) → told ≡ Watched.Broken event rule → BreaksAt (image_of image.now) (meaning declaration.now) events.now (loaded (image_of image.now) (meaning declaration.now).start start.now) event rule) }
-    ensures only_clean { IfOk result (λ told. IsClean (image_of image.now) (meaning declaration.now) events.now (loaded (image_of image.now) (meaning declaration.now).start start.now) → told ≡ Watched.Clean) }
-    ensures only_broken { IfOk result (λ told. (event : ℕ) (rule : Rule) → BreaksAt (image_of image.now) (meaning declaration.now) events.now (loaded (image_of image.now) (meaning declaration.now).start start.now) event rule → told ≡ Watched.Broken event rule) }
+    ensures clean { IfOk result (λ told. told ≡ Watched.Clean → IsClean (image_of image.now) (meaning declaration.now) events.now (begun (image_of image.now) (meaning declaration.now) start.now)) }
+    ensures broken { IfOk result (λ told. (event : ℕ) (rule : Rule) → told ≡ Watched.Broken event rule → BreaksAt (image_of image.now) (meaning declaration.now) events.now (begun (image_of image.now) (meaning declaration.now) start.now) event rule) }
+    ensures only_clean { IfOk result (λ told. IsClean (image_of image.now) (meaning declaration.now) events.now (begun (image_of image.now) (meaning declaration.now) start.now) → told ≡ Watched.Clean) }
+    ensures only_broken { IfOk result (λ told. (event : ℕ) (rule : Rule) → BreaksAt (image_of image.now) (meaning declaration.now) events.now (begun (image_of image.now) (meaning declaration.now) start.now) event rule → told ≡ Watched.Broken event rule) }
     // Of a safe program it tells nothing else.
     ensures safe { IfOk result (λ told. IsSafe (image_of image.now) (meaning declaration.now) → told ≡ Watched.Clean) }
     // Only a step that prints, punches or calls a routine can be refused.
-    ensures only_growth { OnErr result (SomeStepTakesMemory (meaning declaration.now) events.now (loaded (image_of image.now) (meaning declaration.now).start start.now)) }
+    ensures only_growth { OnErr result (SomeStepTakesMemory (meaning declaration.now) events.now (begun (image_of image.now) (meaning declaration.now) start.now)) }
 {
     let world = World::load(
         alloc,

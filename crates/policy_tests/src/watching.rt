@@ -72,13 +72,7 @@ fn shown(
     events: &[Event],
 ) -> Result<Watched, Fail> {
     let declaration = Declaration::parse(rt.alloc(), declared)?;
-    Ok(watch(
-        rt.alloc(),
-        image,
-        &declaration,
-        &Start::zero(),
-        events,
-    )?)
+    Ok(watch(rt.alloc(), image, &declaration, &Start::zero(), events)?)
 }
 
 #[test]
@@ -89,7 +83,10 @@ fn a_pointer_runs_past_the_variables(rt: HostRuntime) -> Result<(), Fail> {
     let declared = b"start 0200\nmain 0200-0206\nvar 0010 0210 0300-0303\nstop 0206\n";
     assert_eq!(rt;
         shown(&rt, &tape, declared, &[Event::Step; 30])?,
-        Watched::Broken { event: 15, rule: Rule::WritesDeclared }
+        Watched::Broken {
+            event: 15,
+            rule: Rule::WritesDeclared
+        }
     );
     Ok(())
 }
@@ -100,7 +97,10 @@ fn a_routine_that_calls_its_caller_returns_wrongly(rt: HostRuntime) -> Result<()
     events[0] = Event::Key(0o301);
     assert_eq!(rt;
         shown(&rt, &nested(), NESTED_DECLARED, &events)?,
-        Watched::Broken { event: 11, rule: Rule::ReturnsToItsCall }
+        Watched::Broken {
+            event: 11,
+            rule: Rule::ReturnsToItsCall
+        }
     );
     Ok(())
 }
@@ -109,7 +109,10 @@ fn a_routine_that_calls_its_caller_returns_wrongly(rt: HostRuntime) -> Result<()
 fn a_wait_for_a_flag_may_last(rt: HostRuntime) -> Result<(), Fail> {
     let tape = image(&[0o6041, 0o5200, 0o7402]);
     let declared = b"start 0200\nmain 0200-0202\nstop 0202\n";
-    assert_eq!(rt; shown(&rt, &tape, declared, &[Event::Step; 1000])?, Watched::Clean);
+    assert_eq!(rt;
+        shown(&rt, &tape, declared, &[Event::Step; 1000])?,
+        Watched::Clean
+    );
     Ok(())
 }
 
@@ -122,16 +125,28 @@ fn a_routine_counts_its_own_entry_alone(rt: HostRuntime) -> Result<(), Fail> {
         sub 0220 body 0221-0222 returns 0\nstop 0201\n";
     assert_eq!(rt;
         shown(&rt, &tape, declared, &[Event::Step; 3])?,
-        Watched::Broken { event: 2, rule: Rule::WritesDeclared }
+        Watched::Broken {
+            event: 2,
+            rule: Rule::WritesDeclared
+        }
     );
     for (offsets, wanted) in [
         ("1", Watched::Clean),
-        ("0", Watched::Broken { event: 4, rule: Rule::ReturnsToItsCall }),
+        (
+            "0",
+            Watched::Broken {
+                event: 4,
+                rule: Rule::ReturnsToItsCall,
+            },
+        ),
     ] {
         let text = format!(in rt.alloc();
             "start 0200\nmain 0200-0201 0203\nsub 0210 body 0211-0213 returns {offsets}\nstop 0203\n"
         )?;
-        assert_eq!(rt; shown(&rt, &argument(), text.as_bytes(), &[Event::Step; 20])?, wanted);
+        assert_eq!(rt;
+            shown(&rt, &argument(), text.as_bytes(), &[Event::Step; 20])?,
+            wanted
+        );
     }
     Ok(())
 }
@@ -141,22 +156,46 @@ fn listed_reads_are_kept(rt: HostRuntime) -> Result<(), Fail> {
     for (reads, wanted) in [
         ("", Watched::Clean),
         ("read 0010 0222-0231\n", Watched::Clean),
-        ("read 0010 0222-0230\n", Watched::Broken { event: 114, rule: Rule::ReadsListed }),
-        ("read\n", Watched::Broken { event: 6, rule: Rule::ReadsListed }),
+        (
+            "read 0010 0222-0230\n",
+            Watched::Broken {
+                event: 114,
+                rule: Rule::ReadsListed,
+            },
+        ),
+        (
+            "read\n",
+            Watched::Broken {
+                event: 6,
+                rule: Rule::ReadsListed,
+            },
+        ),
     ] {
         let text = format!(in rt.alloc();
             "start 0200\nmain 0200-0213\nsub 0214 body 0215-0221 returns 0\nvar 0010 0224\npause 0212\n{reads}"
         )?;
-        assert_eq!(rt; shown(&rt, &image(&HELLO), text.as_bytes(), &rounds())?, wanted);
+        assert_eq!(rt;
+            shown(&rt, &image(&HELLO), text.as_bytes(), &rounds())?,
+            wanted
+        );
     }
     for (reads, wanted) in [
         ("read 0202\n", Watched::Clean),
-        ("read 0203\n", Watched::Broken { event: 2, rule: Rule::ReadsListed }),
+        (
+            "read 0203\n",
+            Watched::Broken {
+                event: 2,
+                rule: Rule::ReadsListed,
+            },
+        ),
     ] {
         let text = format!(in rt.alloc();
             "start 0200\nmain 0200-0201 0203\nsub 0210 body 0211-0213 returns 1\nstop 0203\n{reads}"
         )?;
-        assert_eq!(rt; shown(&rt, &argument(), text.as_bytes(), &[Event::Step; 20])?, wanted);
+        assert_eq!(rt;
+            shown(&rt, &argument(), text.as_bytes(), &[Event::Step; 20])?,
+            wanted
+        );
     }
     Ok(())
 }
@@ -171,12 +210,41 @@ fn a_stop_is_no_pause(rt: HostRuntime) -> Result<(), Fail> {
     );
     assert_eq!(rt;
         shown(&rt, &tape, b"start 200\nmain 200\npause 200", &events)?,
-        Watched::Broken { event: 2, rule: Rule::StaysInBody }
+        Watched::Broken {
+            event: 2,
+            rule: Rule::StaysInBody
+        }
     );
     assert_eq!(rt;
         shown(&rt, &tape, b"start 200\nmain 200", &events)?,
-        Watched::Broken { event: 0, rule: Rule::HaltsDeclared }
+        Watched::Broken {
+            event: 0,
+            rule: Rule::HaltsDeclared
+        }
     );
+    Ok(())
+}
+
+#[test]
+fn code_may_change_where_it_is_variable(rt: HostRuntime) -> Result<(), Fail> {
+    let mut tape = image(&[
+        0o7604, 0o7640, 0o1211, 0o1212, 0o3205, 0o0000, 0o7402, 0o7402,
+    ]);
+    put(&mut tape, 0o0211, &[0o0001, 0o5206]);
+    let mut events = [Event::Step; 21];
+    for (switches, event) in [(0o0000, 4), (0o0001, 5)] {
+        events[0] = Event::Switches(word(switches));
+        let variable = b"start 0200\nmain 0200-0207\nvar 0205\nstop 0206 0207\n";
+        assert_eq!(rt; shown(&rt, &tape, variable, &events)?, Watched::Clean);
+        let fixed = b"start 0200\nmain 0200-0207\nstop 0206 0207\n";
+        assert_eq!(rt;
+            shown(&rt, &tape, fixed, &events)?,
+            Watched::Broken {
+                event,
+                rule: Rule::WritesDeclared
+            }
+        );
+    }
     Ok(())
 }
 
@@ -207,10 +275,18 @@ fn each_growth_may_be_refused(rt: HostRuntime) -> Result<(), Fail> {
     )?;
     let mut key = [Event::Step; 21];
     key[0] = Event::Key(0o301);
-    let broken = Watched::Broken { event: 11, rule: Rule::ReturnsToItsCall };
+    let broken = Watched::Broken {
+        event: 11,
+        rule: Rule::ReturnsToItsCall,
+    };
     for (image, declaration, events, wanted) in [
         (nested(), &nested_declared, key.as_slice(), broken),
-        (image(&HELLO), &hello_declared, rounds().as_slice(), Watched::Clean),
+        (
+            image(&HELLO),
+            &hello_declared,
+            rounds().as_slice(),
+            Watched::Clean,
+        ),
     ] {
         let mut refused = 0;
         for count in 0..10 {

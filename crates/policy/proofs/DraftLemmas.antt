@@ -9,12 +9,9 @@ use Rattle.std.proofs.lemmas.List.Folds.{list_any-append}
 use Rattle.instruct.specs.declared.Profile.{Profile}
 use Rattle.wordset.specs.Words.{Words, nothing, union}
 use Rattle.policy.specs.DeclarationLines.{Subroutine, Line, Nothing, Start, Main, Sub, Variables, Stops, Pauses, Machine, Reads, line_of}
+use Rattle.policy.proofs.LineLemmas.{or_nothing}
 use Rattle.policy.specs.DeclarationText.{Contents, contents, in_some, start_in, profile_in, main_in, routine_in, variable_in, stop_in, pause_in, reads_in, lists_reads, AreGood, most_routines}
 use Rattle.policy.specs.Drafts.{with_line, MayFollow}
-
-or_nothing : (b : Bool) → (b || false) ≡ b
-or_nothing true = refl
-or_nothing false = refl
 
 or_right : (b : Bool) → (b || true) ≡ true
 or_right true = refl

@@ -90,8 +90,8 @@ one_body a e f (r ∷ rs) one at also = elim (cases_Bool (r.body a)) [
 
 -- ---- the rules, cell by cell
 
-not_two : (c : Contents) → AreWords c → HasNoneFrom 0 (overlaps c) → (a : ℕ) → a < 4096 → in_two_bodies c a ≡ false
-not_two c w apart a h = or_no_first (in_two_bodies c a) _ (or_no_first _ _ (or_no_first _ _ (or_no_first _ _ (apart a (omega arith) h))))
+not_two : (c : Contents) → HasNoneFrom 0 (overlaps c) → (a : ℕ) → a < 4096 → in_two_bodies c a ≡ false
+not_two c apart a h = or_no_first (in_two_bodies c a) _ (or_no_first _ _ (or_no_first _ _ (or_no_first _ _ (apart a (omega arith) h))))
 
 entry_outside : (c : Contents) → HasNoneFrom 0 (overlaps c) → (a : ℕ) → a < 4096 → is_entry c a ≡ true → in_bodies c a ≡ false
 entry_outside c apart a h is = and_no (is_entry c a) (in_bodies c a) (or_no_second (in_two_bodies c a) _ (or_no_first _ _ (or_no_first _ _ (or_no_first _ _ (apart a (omega arith) h))))) is
@@ -129,16 +129,16 @@ same_routine c d s w apart a None None at also = refl
 same_routine c d s w apart a None (Some f) at also =
     let main : c.main a ≡ true = sym (ap (λ (m : Words). m a) s.main) ∙ at in
     let small : a < 4096 = w.bodies a (or_yes_first (c.main a) _ main) in
-    absurd (main_apart c a f (not_two c w apart a small) main (sym (s.body f a) ∙ also))
+    absurd (main_apart c a f (not_two c apart a small) main (sym (s.body f a) ∙ also))
 same_routine c d s w apart a (Some e) None at also =
     let main : c.main a ≡ true = sym (ap (λ (m : Words). m a) s.main) ∙ also in
     let small : a < 4096 = w.bodies a (or_yes_first (c.main a) _ main) in
-    absurd (main_apart c a e (not_two c w apart a small) main (sym (s.body e a) ∙ at))
+    absurd (main_apart c a e (not_two c apart a small) main (sym (s.body e a) ∙ at))
 same_routine c d s w apart a (Some e) (Some f) at also =
     let in_e : list_any (λ r. r.entry == e && r.body a) c.routines ≡ true = sym (s.body e a) ∙ at in
     let in_f : list_any (λ r. r.entry == f && r.body a) c.routines ≡ true = sym (s.body f a) ∙ also in
     let small : a < 4096 = w.bodies a (or_yes (c.main a) _ (any_both (λ r. r.entry == e) (λ r. r.body a) c.routines in_e).1) in
-    ap (λ x. Some x) (one_body a e f c.routines (bodies_of_routines c a (not_two c w apart a small)) in_e in_f)
+    ap (λ x. Some x) (one_body a e f c.routines (bodies_of_routines c a (not_two c apart a small)) in_e in_f)
 
 outside_of : (c : Contents) (d : Declaration) → Says c d → (a : ℕ) (r : Routine) → in_bodies c a ≡ false → d.body r a ≡ false
 outside_of c d s a None out = ap (λ (m : Words). m a) s.main ∙ or_no_first (c.main a) _ out

@@ -9,10 +9,10 @@ use Rattle.std.proofs.lemmas.Bool.{cases_Bool, and_parts, ltb-true, cases_eq, ne
 use Rattle.std.proofs.lemmas.List.Sums.{sum_by_more, sum_by-cons}
 use Rattle.wordset.specs.Words.{Words, SameWords, IsFirstFrom, HasNoneFrom}
 use Rattle.wordset.specs.Lanes.{words}
-use Rattle.policy.specs.Kept.{cells}
+use Rattle.policy.specs.Kept.{cells, subroutine_of}
 use Rattle.policy.specs.DeclarationText.{Contents, profile_of, is_entry, in_bodies, bodies_at, entries_at, overlaps, entry_in_index, halt_outside}
 use Rattle.processor.specs.Machine.{is_auto_index}
-use Rattle.policy.specs.Drafts.{Counts, subroutine_of, kept_bodies, kept_entries}
+use Rattle.policy.specs.Drafts.{Counts, kept_bodies, kept_entries}
 use Rattle.policy.specs.declared.declaration.sets.Coverage.{Coverage}
 use Rattle.policy.specs.declared.declaration.Routine.{Routine as KeptRoutine}
 

@@ -185,7 +185,6 @@ verdict-fails text (HaltNotInBody a) short f known = verdict-rule text (HaltNotI
 -- a declaration has none
 verdict-declares : (text : List ℕ) (d : Declaration) → Declares text d → verdict text ≡ None
 verdict-declares text d s =
-    let c : Contents = contents s.lines in
     verdict-all text s.lines s.good
     ∙ (ap (rule_fault (contents s.lines)) s.says.start
     ∙ (rw (found_none (overlaps (contents s.lines)) s.rules.apart, found_none (entry_in_index (contents s.lines)) s.rules.outside_index, s.rules.start_in_main, found_none (halt_outside (contents s.lines)) s.rules.halts_inside) refl))

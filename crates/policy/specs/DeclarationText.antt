@@ -8,6 +8,8 @@ use Rattle.processor.specs.Machine.{is_auto_index}
 use Rattle.peripherals.specs.Text.{text_lines}
 use Rattle.policy.specs.Declaration.{Declaration}
 use Rattle.policy.specs.DeclarationLines.{Subroutine, Line, Start, Main, Sub, Variables, Stops, Pauses, Machine, Reads, line_of}
+use Rattle.policy.specs.Kept.{subroutine_of}
+use Rattle.policy.specs.declared.declaration.Routine.{Routine as KeptRoutine}
 use Rattle.policy.specs.declared.declaration.DeclarationFault.{DeclarationFault}
 use Rattle.policy.specs.declared.declaration.DeclarationFault.TheVariants.{BadLine, TwoStarts, TwoProfiles, NoStart, Overlap, EntryInAutoIndex, StartNotInMain, TooMany, HaltNotInBody, NoMemory}
 
@@ -207,6 +209,12 @@ pub record Declares (text : List ℕ) (d : Declaration) : Type 0 where
   pub good : HasGoodLines text lines
   pub says : Says (contents lines) d
   pub rules : KeepsRules (contents lines) d.start
+
+-- These routines are those of the text's good lines, in the order of their lines.
+pub record ListsRoutines (text : List ℕ) (routines : List KeptRoutine) : Type 0 where
+  pub lines : List Line
+  pub good : HasGoodLines text lines
+  pub listed : map subroutine_of routines ≡ (contents lines).routines
 
 -- In a text that isn't too long, this line with this number stands after lines that are good and say these.
 pub record StandsAfter (text : List ℕ) (lines : List Line) (number : ℕ) (line : List ℕ) : Type 0 where

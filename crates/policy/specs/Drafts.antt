@@ -5,7 +5,7 @@ use Rattle.std.specs.Option.{option_map, option_to_list}
 use Rattle.instruct.specs.declared.Profile.{Profile}
 use Rattle.wordset.specs.Words.{Words, nothing, union}
 use Rattle.wordset.specs.Lanes.{words}
-use Rattle.policy.specs.Kept.{cells, offsets_of}
+use Rattle.policy.specs.Kept.{cells, subroutine_of}
 use Rattle.policy.specs.DeclarationLines.{Subroutine, Line, Nothing, Start, Main, Sub, Variables, Stops, Pauses, Machine, Reads, all_read, range_of, address_of, is_returns}
 use Rattle.policy.specs.DeclarationText.{Contents, contents, HasGoodLines, most_routines}
 use Rattle.policy.specs.declared.declaration.Routine.{Routine as KeptRoutine}
@@ -17,10 +17,6 @@ use Rattle.policy.specs.declared.declaration.lines.Line.{Line as KeptLine}
 use Rattle.policy.specs.declared.declaration.lines.Line.TheVariants.{Nothing as KeptNothing, Start as KeptStart, Main as KeptMain, Sub as KeptSub, Variables as KeptVariables, Stops as KeptStops, Pauses as KeptPauses, Machine as KeptMachine, Reads as KeptReads}
 use Rattle.policy.specs.declared.declaration.drafts.Draft.{Draft}
 use Rattle.policy.specs.declared.declaration.sets.Coverage.{Coverage}
-
--- The routine that is meant.
-abbrev pub subroutine_of : KeptRoutine → Subroutine
-subroutine_of r = record { entry = r.entry; body = cells r.body; offsets = offsets_of r.offsets }
 
 -- What a word of a list of cells may be.
 abbrev pub cells_read : Form → List ℕ → Option Words

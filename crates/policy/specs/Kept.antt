@@ -6,6 +6,7 @@ use Rattle.instruct.specs.declared.Profile.{Profile}
 use Rattle.wordset.specs.Words.{Words}
 use Rattle.wordset.specs.Lanes.{words}
 use Rattle.policy.specs.Declaration.{Routine, Declaration}
+use Rattle.policy.specs.DeclarationLines.{Subroutine}
 use Rattle.policy.specs.declared.declaration.Offsets.{Offsets}
 use Rattle.policy.specs.declared.declaration.Routine.{Routine as KeptRoutine}
 
@@ -27,6 +28,10 @@ cells lanes a = nat_lt a 4096 && words lanes a
 -- The offsets of a routine, each of them below 8.
 abbrev pub offsets_of : Offsets → Words
 offsets_of offsets o = slice_index_or offsets.declared o false
+
+-- The routine that is meant.
+abbrev pub subroutine_of : KeptRoutine → Subroutine
+subroutine_of r = record { entry = r.entry; body = cells r.body; offsets = offsets_of r.offsets }
 
 -- The routines of a declaration.
 abbrev pub routines_of : Kept → List KeptRoutine

@@ -1,10 +1,10 @@
-//! Declarations as they are kept, and their readers.
+//! Declarations: as a text gives them, as they are kept, and their readers.
 
 ghost use Rattle.std.specs.Prelude.{ℕ, ◌≡◌, ◌≢◌, ◌⊎◌, ◌<◌, ◌≤◌, ◌↔◌, ◌==◌, length, IsTrue, IfOk, IfErr, IsErrOf, None, Some, is_some};
 ghost use Rattle.std.specs.Option.{option_map};
-ghost use Rattle.policy.specs.Declaration.{Declaration as Rules, IsDeclared};
+ghost use Rattle.policy.specs.Declaration.{Declaration as Declared, IsDeclared};
 ghost use Rattle.policy.specs.Rules.{IsListed};
-ghost use Rattle.policy.specs.DeclarationText.{Declares, Fails, is_entry, most_bytes};
+ghost use Rattle.policy.specs.DeclarationText.{Declares, Fails, ListsRoutines, is_entry, most_bytes};
 ghost use Rattle.policy.specs.Drafts.{gathered, HasLines};
 ghost use Rattle.policy.specs.declared.declaration.DeclarationFault.{DeclarationFault};
 ghost use Rattle.policy.specs.declared.declaration.DeclarationFault.TheVariants.{NoMemory};
@@ -161,7 +161,8 @@ impl<A: Allocator> Declaration<A> {
     pub fn parse(alloc: A, text: &[u8]) -> Result<Declaration<A>, DeclarationFault>
         ensures found { IfOk result (λ d. Declares text.now (meaning d)) }
         ensures declared { IfOk result (λ d. IsDeclared (meaning d)) }
-        ensures only { (d : Rules) → Declares text.now d → IfErr result (λ fault. fault ≡ NoMemory) }
+        ensures routines { IfOk result (λ d. ListsRoutines text.now (routines_of d)) }
+        ensures only { (d : Declared) → Declares text.now d → IfErr result (λ fault. fault ≡ NoMemory) }
         ensures refused { IfErr result (Fails text.now) }
         ensures exact { (fault : DeclarationFault) → Fails text.now fault → fault ≢ NoMemory
             → IsErrOf result fault ⊎ IsErrOf result NoMemory }
@@ -200,7 +201,7 @@ impl<A: Allocator> Declaration<A> {
         &self.main
     }
 
-    /// The routines, at most 64, in the order of their lines.
+    /// The routines; after `parse` at most 64, in the order of their lines.
     pub fn routines(&self) -> &[Routine]
         ensures { result.now ≡ routines_of self.now }
     {
@@ -308,6 +309,7 @@ fn parse_lines<A: Allocator>(alloc: A, text: &[u8]) -> Result<Declaration<A>, De
     requires { length text.now ≤ most_bytes }
     ensures found { IfOk result (λ d. Declares text.now (meaning d)) }
     ensures declared { IfOk result (λ d. IsDeclared (meaning d)) }
+    ensures routines { IfOk result (λ d. ListsRoutines text.now (routines_of d)) }
     ensures refused { IfErr result (Fails text.now) }
 {
     match read_lines(alloc, text) {

@@ -1,11 +1,11 @@
 //! What the lines of a declaration say together, and the rules that it keeps.
 
-ghost use Rattle.std.specs.Prelude.{ℕ, ◌≡◌, ◌<◌, ◌+◌, [], ◌∷◌, if◌then◌else◌, IsTrue, OnOk, IfOk, IfErr};
+ghost use Rattle.std.specs.Prelude.{ℕ, ◌≡◌, ◌<◌, ◌+◌, [], ◌∷◌, if◌then◌else◌, map, IsTrue, OnOk, IfOk, IfErr};
 ghost use Rattle.wordset.specs.Words.{SameWords};
 ghost use Rattle.wordset.specs.Lanes.{words};
 ghost use Rattle.processor.specs.Machine.{is_auto_index};
 ghost use Rattle.policy.specs.Declaration.{IsDeclared};
-ghost use Rattle.policy.specs.Kept.{meaning};
+ghost use Rattle.policy.specs.Kept.{meaning, routines_of, subroutine_of};
 ghost use Rattle.policy.specs.DeclarationText.{contents, is_entry, Says, KeepsRules, Breaks, overlaps, entry_in_index, halt_outside, bodies_at, entries_at};
 ghost use Rattle.policy.specs.Drafts.{gathered, said, with_line, MayFollow, Refuses, Counts, kept_bodies, kept_entries};
 
@@ -125,6 +125,7 @@ impl<A: Allocator> Draft<A> {
         ensures says { IfOk result (λ d. Says (gathered self) (meaning d)) }
         ensures rules { IfOk result (λ d. KeepsRules (gathered self) (meaning d).start) }
         ensures declared { IfOk result (λ d. IsDeclared (meaning d)) }
+        ensures routines { IfOk result (λ d. map subroutine_of (routines_of d) ≡ (gathered self).routines) }
         ensures broken { IfErr result (Breaks (gathered self)) }
     {
         let Some(start) = self.start else {

@@ -1,9 +1,9 @@
 use Rattle.std.proofs.Common.{◌&&◌, ◌==◌, refl, sym, ap, ◌∙◌}
 use Rattle.std.specs.Option.{option_to_list}
-use Rattle.policy.specs.Drafts.{gathered, subroutine_of}
+use Rattle.policy.specs.Kept.{meaning, subroutine_of}
+use Rattle.policy.specs.Drafts.{gathered}
 use Rattle.policy.specs.Declaration.{Declaration}
 use Rattle.policy.specs.DeclarationText.{Says}
-use Rattle.policy.specs.Kept.{meaning}
 use Rattle.policy.proofs.RuleLemmas.{any_map, profile_or, cell_below, in_bodies_below}
 use Rattle.policy.proofs.IsDeclaredLemmas.{IsDeclared-from}
 use Rattle.policy.proofs.declaration.drafts.Draft.finish.Goals as goal

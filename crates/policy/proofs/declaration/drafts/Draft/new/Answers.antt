@@ -1,5 +1,5 @@
 use Rattle.std.proofs.Common.{ap, map}
-use Rattle.policy.specs.Drafts.{subroutine_of}
+use Rattle.policy.specs.Kept.{subroutine_of}
 use Rattle.policy.proofs.DraftLemmas.{contents-none}
 use Rattle.policy.proofs.declaration.drafts.Draft.new.Goals as goal
 

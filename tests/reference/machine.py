@@ -99,29 +99,28 @@ def group3(word, ac, mq):
 
 
 class World:
-    """The machine, its devices, the switches, both outputs, and the HLT at which it stands (None while it runs)."""
+    """The machine, its devices, the switches, both outputs, the HLT at which it stands (None while it runs), and
+    whether its last step met an unsupported word."""
 
     def __init__(self, image, start=0o200, profile="8i", memory=None, ac=0, link=0, mq=0):
         self.memory = list(memory) if memory else [0] * 4096
         for at, word in image.items():
             self.memory[at] = word
         self.profile, self.pc, self.ac, self.link, self.mq = profile, start, ac, link, mq
-        self.switches, self.halted_at, self.steps = 0, None, 0
+        self.switches, self.halted_at, self.stuck, self.steps = 0, None, False, 0
         self.flags = {"keyboard": False, "printer": False, "reader": False, "punch": False}
         self.pending = {"printer": False, "reader": False, "punch": False}
         self.buffers = {"keyboard": 0, "reader": 0}
         self.printed, self.punched = [], []
 
-    def is_stuck(self):
-        """The word at the program counter isn't supported."""
-        return not is_supported(self.memory[self.pc], self.profile)
-
     def apply(self, event):
         """Makes an event happen; an event that isn't enabled changes nothing."""
         kind = event[0]
         if kind == "step":
-            if self.halted_at is None and not self.is_stuck():
-                self.step()
+            if self.halted_at is None:
+                self.stuck = not is_supported(self.memory[self.pc], self.profile)
+                if not self.stuck:
+                    self.step()
         elif kind == "key":
             self.buffers["keyboard"], self.flags["keyboard"] = event[1], True
         elif kind == "switches":
@@ -214,7 +213,7 @@ class World:
         if self.halted_at is not None:
             state, place = "HALT", self.halted_at
         else:
-            state, place = "UNSUPPORTED" if self.is_stuck() else "BOUND", self.pc
+            state, place = "UNSUPPORTED" if self.stuck else "BOUND", self.pc
         text = f"{state} {place:04o} AC={self.ac:04o} L={self.link} PC={self.pc:04o} STEPS={self.steps}\n"
         for name, output in (("PRINTED", self.printed), ("PUNCHED", self.punched)):
             if output:
@@ -273,9 +272,9 @@ def events(text):
 
 
 def run(world, happening):
-    """Lets these events happen, up to an unsupported word."""
+    """Lets these events happen, up to a step at an unsupported word."""
     for event in happening:
         world.apply(event)
-        if world.halted_at is None and world.is_stuck():
+        if world.stuck:
             break
     return world

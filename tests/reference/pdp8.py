@@ -46,14 +46,15 @@ def listing(words):
 
 def run(words):
     world = machine.World(second_reader.words(read(words.tape)), int(words.start, 8), words.profile)
-    rounds = [("step",), ("printer",), ("punch",)]
-    happening = machine.events(read(words.events)) if words.events else rounds * 100000
-    for event in happening:
-        world.apply(event)
-        if world.halted_at is None and world.is_stuck() or world.halted_at is not None and not words.events:
-            break
+    if words.events:
+        machine.run(world, machine.events(read(words.events)))
+    else:
+        for _ in range(100000):
+            machine.run(world, [("step",), ("printer",), ("punch",)])
+            if world.stuck or world.halted_at is not None:
+                break
     sys.stdout.write(world.summary())
-    return int(world.halted_at is None and world.is_stuck())
+    return int(world.stuck)
 
 
 def watched(words):

@@ -6,4 +6,3 @@ pub mod Unique
 pub mod First
 pub mod Told
 pub mod PermanentLemmas
-pub mod ListingLemmas

@@ -6,5 +6,3 @@ pub mod Faults
 pub mod Laws
 pub mod Steps
 pub mod Permanent
-pub mod Listing
-pub mod Sending

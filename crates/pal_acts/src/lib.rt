@@ -9,7 +9,6 @@ pub mod act;
 pub mod assembly;
 pub mod code;
 pub mod laws;
-pub mod listing;
 pub mod permanent;
 pub mod symbols;
 mod words;
@@ -17,7 +16,6 @@ mod words;
 pub use act::{Act, Join, Name, Sign, Term};
 pub use assembly::{Assembled, Refused, assemble};
 pub use code::Code;
-pub use listing::{ListedWord, Listing, ListingFault, SourceLine, write_listing};
 pub use permanent::PermanentSymbols;
 pub use symbols::Symbols;
 

@@ -1,7 +1,6 @@
 //! Sources worked by hand from the rules of the language.
 
 use super::*;
-use bin_tape::memory::MemorySink;
 use instruct::Profile;
 use std::alloc::Allocator;
 use std::test::Fail;
@@ -177,83 +176,6 @@ fn symbols_are_defined_in_order(rt: HostRuntime) -> Result<(), Fail> {
         }
         Err(_) => panic!(rt; "refused"),
     }
-    Ok(())
-}
-
-/// Lines of HELLO, some of them with channel 8 set or an ignored byte inside.
-fn hello_lines() -> [SourceLine<'static>; 7] {
-    let lines: [&'static [u8]; 7] = [
-        b"*200",
-        b"START, CLA CLL",
-        b" T\xcc\x00S\x0a",
-        b"\t ",
-        b" 310;\t305;314",
-        b"",
-        b"$",
-    ];
-    let mut out = [SourceLine {
-        part: 1,
-        line: 0,
-        bytes: b"",
-    }; 7];
-    for (at, bytes) in lines.into_iter().enumerate() {
-        out[at] = SourceLine {
-            part: 1,
-            line: at + 1,
-            bytes,
-        };
-    }
-    out
-}
-
-fn listed(line: usize, location: usize, word: usize) -> ListedWord {
-    ListedWord {
-        part: 1,
-        line,
-        location: Word::from_index(location % 4096),
-        word: Word::from_index(word % 4096),
-    }
-}
-
-#[test]
-fn listings_are_written(rt: HostRuntime) -> Result<(), Fail> {
-    let expected = b"            *200
-0200  7300  START, CLA CLL
-0201  6046  TLS
-
-0202  0310  310;\t305;314
-0203  0305
-0204  0314
-
-            $
-
-START   0200
-";
-    let here = [Act::Tag(name(b"START"))];
-    let Ok(found) = assemble(rt.alloc(), &[], &here) else {
-        panic!(rt; "refused");
-    };
-    let mut listing = Listing {
-        lines: Vec::new(rt.alloc()),
-        words: Vec::new(rt.alloc()),
-    };
-    listing.lines.extend_from_slice(&hello_lines())?;
-    listing.words.extend_from_slice(&[
-        listed(2, 0o200, 0o7300),
-        listed(3, 0o201, 0o6046),
-        listed(5, 0o202, 0o310),
-        listed(5, 0o203, 0o305),
-        listed(5, 0o204, 0o314),
-    ])?;
-    for room in 0..expected.len() {
-        let mut sink = MemorySink::new(rt.alloc(), room);
-        let written = write_listing(&listing, &found.symbols, &mut sink);
-        assert_eq!(rt; written, Err(ListingFault::WriteFault));
-        assert!(rt; sink.bytes() == &expected[..room]);
-    }
-    let mut sink = MemorySink::new(rt.alloc(), expected.len());
-    assert_eq!(rt; write_listing(&listing, &found.symbols, &mut sink), Ok(()));
-    assert!(rt; sink.bytes() == expected.as_slice());
     Ok(())
 }
 

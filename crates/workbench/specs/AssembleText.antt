@@ -8,6 +8,7 @@ use Rattle.bin_tape.specs.Tape.{IsTape}
 use Rattle.bin_tape.specs.Written.{written_tape}
 use Rattle.pal_text.specs.declared.names.Name.{Name}
 use Rattle.pal_acts.specs.Permanent.{permanent_symbols}
+use Rattle.pal_asm.specs.Listings.{Lists}
 use Rattle.pal_asm.specs.Sources.{Means, IsFault}
 use Rattle.pal_asm.specs.declared.fault.PalFault.{PalFault}
 use Rattle.workbench.specs.declared.status.Fault.{Fault}
@@ -36,6 +37,27 @@ pub record FrontOfTape (profile : Profile) (sources : List (Option (List ℕ))) 
   pub image : List (Option ℕ)
   pub assembles : Assembles profile sources symbols image
   pub front : AppendsFront old new (written_tape image)
+
+-- The sources mean an image and have this listing.
+pub record ListsSources (profile : Profile) (sources : List (Option (List ℕ))) (text : List ℕ) : Type 0 where
+  pub symbols : List (Name × ℕ)
+  pub image : List (Option ℕ)
+  pub parts : List (List ℕ)
+  pub read : AreRead sources parts
+  pub means : Means (permanent_symbols profile) parts symbols image
+  pub lists : Lists (permanent_symbols profile) parts symbols text
+
+-- That listing was written.
+pub record WritesListing (profile : Profile) (sources : List (Option (List ℕ))) (old new : Option (List ℕ)) : Type 0 where
+  pub text : List ℕ
+  pub lists : ListsSources profile sources text
+  pub written : Appends old new text
+
+-- A front of that listing was written.
+pub record FrontOfListing (profile : Profile) (sources : List (Option (List ℕ))) (old new : Option (List ℕ)) : Type 0 where
+  pub text : List ℕ
+  pub lists : ListsSources profile sources text
+  pub front : AppendsFront old new text
 
 -- The source means an image without a word.
 pub record MeansNothing (profile : Profile) (sources : List (Option (List ℕ))) : Type 0 where
@@ -66,3 +88,8 @@ IsSourceFault profile marked sources (Events fault) = ⊥
 IsSourceFault profile marked sources (Device Read) = marked ≡ true
 IsSourceFault profile marked sources (Device Write) = Unit {0}
 IsSourceFault profile marked sources fault.NoMemory = Unit {0}
+
+-- Why `list` has no result: for the same reasons, but a source without a word has a listing too.
+abbrev pub IsListFault : Profile → Bool → List (Option (List ℕ)) → Fault → Type 0
+IsListFault profile marked sources EmptyImage = ⊥
+IsListFault profile marked sources fault = IsSourceFault profile marked sources fault

@@ -1,11 +1,12 @@
 //! The commands that assemble a source.
 
-ghost use Rattle.std.specs.Prelude.{◌≡◌, false, true, map, IfOk, IfErr, OnErr};
+ghost use Rattle.std.specs.Prelude.{◌≡◌, false, true, map, IfOk, IfErr, OnOk, OnErr};
 ghost use Rattle.std.specs.List.{AllByRecursion, list_any};
 ghost use Rattle.pal_acts.specs.Permanent.{permanent_symbols};
-ghost use Rattle.pal_asm.specs.Programs.{symbols_of, image_of};
+ghost use Rattle.pal_asm.specs.Listings.{Lists};
+ghost use Rattle.pal_asm.specs.Programs.{symbols_of, image_of, listing_of};
 ghost use Rattle.pal_asm.specs.Sources.{texts, Means};
-ghost use Rattle.workbench.specs.AssembleText.{IsAssemblyFault, IsSourceFault, WritesTape, FrontOfTape};
+ghost use Rattle.workbench.specs.AssembleText.{IsAssemblyFault, IsSourceFault, WritesTape, FrontOfTape, IsListFault, WritesListing, FrontOfListing};
 ghost use Rattle.workbench.specs.Faults.{fails_to_write};
 
 use crate::sources::{lend, read_parts};
@@ -22,6 +23,7 @@ fn program_of<A: Allocator + Copy>(
     profile: Profile,
 ) -> Result<Program<A>, Fault>
     ensures found { IfOk result (λ program. Means (permanent_symbols profile) (texts parts.now) (symbols_of program) (image_of program)) }
+    ensures listed { IfOk result (λ program. Lists (permanent_symbols profile) (texts parts.now) (symbols_of program) (listing_of program)) }
     ensures faults { IfErr result (IsAssemblyFault profile (texts parts.now)) }
 {
     match pal_asm::assemble(alloc, parts, profile) {
@@ -47,7 +49,7 @@ pub fn assemble<A: Allocator + Copy, R: ByteSource, W: ByteSink>(
     requires readable { AllByRecursion (λ source. R.mark source ≡ false) sources.old }
     requires writable { W.mark out.old ≡ false }
     // What is written is the tape of the image that the source means.
-    ensures tape { IfOk result (λ status. WritesTape profile (map R.remaining sources.old) (W.taken out.old) (W.taken out.new)) }
+    ensures tape { OnOk result (WritesTape profile (map R.remaining sources.old) (W.taken out.old) (W.taken out.new)) }
     // A fault of the source is its one fault.
     ensures faults { IfErr result (IsSourceFault profile (list_any R.mark sources.new) (map R.remaining sources.old)) }
     // Where a write failed, a front of that tape went out,
@@ -64,5 +66,33 @@ pub fn assemble<A: Allocator + Copy, R: ByteSource, W: ByteSink>(
         Ok(()) => Ok(Status::Done),
         Err(WriteTapeFault::EmptyImage) => Err(Fault::EmptyImage),
         Err(WriteTapeFault::WriteFault) => Err(Fault::Device(DeviceFault::Write)),
+    }
+}
+
+/// Assembles a source of one part or more, in order, and writes its listing.
+///
+/// # Errors
+///
+/// As for [`assemble`], but that a source without a word has a listing too.
+pub fn list<A: Allocator + Copy, R: ByteSource, W: ByteSink>(
+    alloc: A,
+    sources: &mut [R],
+    profile: Profile,
+    out: &mut W,
+) -> Result<Status, Fault>
+    requires readable { AllByRecursion (λ source. R.mark source ≡ false) sources.old }
+    requires writable { W.mark out.old ≡ false }
+    ensures listing { OnOk result (WritesListing profile (map R.remaining sources.old) (W.taken out.old) (W.taken out.new)) }
+    ensures faults { IfErr result (IsListFault profile (list_any R.mark sources.new) (map R.remaining sources.old)) }
+    ensures front { W.mark out.new ≡ true → FrontOfListing profile (map R.remaining sources.old) (W.taken out.old) (W.taken out.new) }
+    ensures nothing { OnErr result (W.mark out.new ≡ false → W.taken out.new ≡ W.taken out.old) }
+    ensures marks { W.mark out.new ≡ fails_to_write result }
+{
+    let parts = read_parts(alloc, sources)?;
+    let slices = lend(alloc, &parts)?;
+    let program = program_of(alloc, &slices, profile)?;
+    match program.write_listing(out) {
+        Ok(()) => Ok(Status::Done),
+        Err(_) => Err(Fault::Device(DeviceFault::Write)),
     }
 }

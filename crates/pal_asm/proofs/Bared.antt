@@ -1,6 +1,6 @@
 -- Acts mean the same wherever their expressions lie in memory.
 use Rattle.std.proofs.Common.{◌≡◌, ◌∙◌, sym, ap, refl, subst, ℕ, ◌+◌, ◌%◌, List, [], ◌∷◌, ◌++◌, length, Option, inl, inr, if◌then◌else◌}
-use Rattle.std.specs.Prelude.{map, reverse, nat_eq, Result, Ok, Err, IsOk}
+use Rattle.std.specs.Prelude.{map, reverse, nat_eq, IsOk}
 use Rattle.std.specs.List.{AllByRecursion}
 use Rattle.std.specs.Map.{keys_of}
 use Rattle.std.proofs.lemmas.List.{map-append, reverse-append, length-map}
@@ -12,9 +12,8 @@ use Rattle.pal_acts.specs.declared.code.Code.TheVariants.{DuplicateTag}
 use Rattle.pal_acts.specs.Values.{Values, known, value, or_zero}
 use Rattle.pal_acts.specs.Meaning.{location, givings, with_name, names, Names, IsLawful, IsGiven, Defines}
 use Rattle.pal_acts.specs.Words.{word_value}
-use Rattle.pal_acts.specs.Sources.{Encodes, if_ok, image_at, IsImage, IsSource}
-use Rattle.pal_acts.specs.Faults.{giving_fault, origin_fault, assign_fault, fault, Stops, WordBreaks, Finds, IsRefused}
-use Rattle.pal_asm.specs.Acts.{lying}
+use Rattle.pal_acts.specs.Sources.{Encodes, if_ok, image_at, IsSource}
+use Rattle.pal_acts.specs.Faults.{giving_fault, origin_fault, assign_fault, fault, WordBreaks, IsRefused}
 use Rattle.pal_asm.specs.Kept.{bare}
 
 abbrev all_bare : List Act → List Act

@@ -1,15 +1,13 @@
 -- The fault of acts that are kept.
-use Rattle.std.proofs.Common.{◌≡◌, ◌∙◌, sym, ap, refl, subst, ℕ, zero, suc, ◌+◌, ◌<◌, List, [], ◌∷◌, ◌++◌, length, get_or, Option, Some, inl, inr, arith}
+use Rattle.std.proofs.Common.{◌≡◌, ◌∙◌, sym, ap, refl, subst, ℕ, zero, suc, ◌<◌, List, [], ◌∷◌, ◌++◌, length, get_or, Option, Some, inl, inr, arith}
 use Rattle.std.specs.Prelude.{map, reverse, slice_get}
 use Rattle.std.proofs.lemmas.List.{length-map, length-append, length-reverse}
-use Rattle.std.proofs.lemmas.Option.{slice_get-get_or}
 use Rattle.pal_text.specs.declared.names.Name.{Name}
 use Rattle.pal_acts.specs.declared.act.Act.{Act}
 use Rattle.pal_acts.specs.declared.code.Code.{Code}
 use Rattle.pal_acts.specs.Sources.{IsSource}
 use Rattle.pal_acts.specs.Faults.{IsRefused}
 use Rattle.pal_asm.specs.declared.deed.PlacedDeed.{PlacedDeed}
-use Rattle.pal_asm.specs.Acts.{PlacedAct}
 use Rattle.pal_asm.specs.Sources.{act_in, fault_at, IsFaultOf}
 use Rattle.pal_asm.specs.Kept.{bare, placed_act, acts_in}
 use Rattle.pal_asm.proofs.Bared.{bare_source, bare_refused}

@@ -1,21 +1,15 @@
 -- A source has one meaning or one fault, and not both.
-use Rattle.std.proofs.Common.{◌≡◌, ◌∙◌, sym, ap, refl, subst, ℕ, ◌+◌, ◌<◌, List, [], ◌∷◌, ◌++◌, length, get_or, Option, Some, None, Result, Ok, Err, inl, inr, arith}
-use Rattle.std.specs.Prelude.{map, reverse, slice_get, IfOk, IfErr, MatchResult}
-use Rattle.std.proofs.lemmas.List.{length-map, length-append, length-reverse}
-use Rattle.std.proofs.lemmas.Option.{slice_get-get_or}
-use Rattle.pal_text.specs.declared.tokens.Token.{Token}
+use Rattle.std.proofs.Common.{◌≡◌, ◌∙◌, sym, ap, subst, ℕ, ◌+◌, List, [], ◌∷◌, ◌++◌, Option, Some, None, Result, Ok, Err, inl, inr}
+use Rattle.std.specs.Prelude.{map, slice_get, IfOk, IfErr, MatchResult}
 use Rattle.pal_text.specs.declared.cut.Statement.{Statement}
 use Rattle.pal_text.specs.declared.cut.Ending.{Ending}
 use Rattle.pal_text.specs.declared.cut.Ending.TheVariants.{Dollar, Pause, Bytes}
 use Rattle.pal_text.specs.declared.names.Name.{Name}
-use Rattle.pal_text.specs.Parts.{IsIllegal, Agrees}
+use Rattle.pal_text.specs.Parts.{Agrees}
 use Rattle.pal_text.proofs.Unique.{agrees, no_fault, one_line}
-use Rattle.pal_acts.specs.declared.act.Act.{Act}
 use Rattle.pal_acts.specs.declared.act.Act.TheVariants as act
-use Rattle.pal_acts.specs.declared.code.Code.{Code}
 use Rattle.pal_acts.specs.declared.code.Code.TheVariants.{IllegalCharacter}
 use Rattle.pal_acts.specs.Sources.{IsSource}
-use Rattle.pal_acts.specs.Faults.{IsRefused}
 use Rattle.pal_acts.proofs.First.{one_source, not_both, one_fault}
 use Rattle.pal_asm.specs.declared.number.Radix.{Radix}
 use Rattle.pal_asm.specs.declared.number.Radix.TheVariants.{Octal}
@@ -23,7 +17,7 @@ use Rattle.pal_asm.specs.declared.fault.PalFault.{PalFault}
 use Rattle.pal_asm.specs.declared.fault.AssembleFault.{AssembleFault}
 use Rattle.pal_asm.specs.declared.fault.AssembleFault.TheVariants.{Source, NoMemory}
 use Rattle.pal_asm.specs.Acts.{PlacedAct, placed, part_acts, last_radix}
-use Rattle.pal_asm.specs.Sources.{size_fault, Read, is_empty, Follows, Gives, act_in, Means, IsFaultOf, Breaks, IsFault, Refuses, IsSilent, TellsOnly}
+use Rattle.pal_asm.specs.Sources.{size_fault, is_empty, Follows, Gives, act_in, Means, IsFaultOf, IsFault, Refuses, IsSilent, TellsOnly}
 
 follows_one : (ending : Ending) (later other : List PlacedAct) (A B : Type 0) → (A → B → later ≡ other) → Follows ending later A → Follows ending other B → later ≡ other
 follows_one Dollar later other A B k h j = h ∙ sym j

@@ -3,13 +3,12 @@ use Rattle.std.proofs.Common.{◌≡◌, ◌∙◌, sym, ap, refl, ℕ, zero, su
 use Rattle.std.specs.Prelude.{slice_range, nat_lt, if◌then◌else◌}
 use Rattle.std.specs.Borrow.{Bor}
 use Rattle.std.specs.List.{AllByRecursion}
-use Rattle.std.proofs.lemmas.Bool.{cond_both, cases_lt, lt-ltb, le-ltb}
+use Rattle.std.proofs.lemmas.Bool.{cond_both, cases_lt, lt-ltb}
 use Rattle.pal_text.specs.declared.tokens.Token.{Token}
 use Rattle.pal_text.specs.declared.grammar.Form.{Form}
 use Rattle.pal_text.specs.declared.grammar.Form.TheVariants as form
 use Rattle.pal_text.specs.Reading.{is_comma}
 use Rattle.pal_text.proofs.Rises.{all_take, all_drop}
-use Rattle.pal_asm.specs.declared.fault.PalFault.{PalFault}
 use Rattle.pal_asm.specs.Acts.{after_tags, operand}
 use Rattle.pal_asm.specs.Sources.{first_long, long_fault, size_fault, texts}
 

@@ -4,15 +4,15 @@
 //! source means, or its one fault with the part and the line where it stands.
 #![tactic(auto)]
 
-pub mod deed;
-pub mod expression;
+mod deed;
+mod expression;
 pub mod fault;
-pub mod listing;
+mod listing;
 pub mod number;
 pub mod program;
-pub mod reading;
-pub mod sizes;
-pub mod statement;
+mod reading;
+mod sizes;
+mod statement;
 
 pub use fault::{AssembleFault, PalFault, WriteFault};
 pub use program::{Program, SymbolTable, assemble};

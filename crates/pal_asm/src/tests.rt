@@ -4,6 +4,7 @@ use crate::{AssembleFault, PalFault, WriteFault, assemble};
 use bin_tape::memory::MemorySink;
 use instruct::Profile;
 use pal_acts::Code;
+use refusing::Refusing;
 use std::alloc::Allocator;
 use std::format;
 use std::test::Fail;
@@ -276,5 +277,39 @@ fn a_front_of_the_listing_goes_out_where_a_write_fails(rt: HostRuntime) -> Resul
         assert_eq!(rt; program.write_listing(&mut sink), Err(WriteFault));
         assert_eq!(rt; sink.bytes(), &HELLO_LISTING[..room]);
     }
+    Ok(())
+}
+
+#[test]
+fn each_growth_is_refused_in_turn(rt: HostRuntime) -> Result<(), Fail> {
+    let parts: [&[u8]; 2] = [b"A=5\nPAUSE\n", b"B,TAD A;1\n$\n"];
+    for count in 0..200u64 {
+        let heap = Refusing::new(rt.alloc(), count);
+        match assemble(&heap, &parts, Profile::Pdp8I) {
+            Ok(program) => {
+                assert!(rt; !heap.has_refused());
+                assert_eq!(rt; program.symbols().len(), 2);
+                assert!(rt; count > 5, "{count}");
+                return Ok(());
+            }
+            Err(fault) => {
+                assert_eq!(rt; fault, AssembleFault::NoMemory);
+                assert!(rt; heap.has_refused());
+            }
+        }
+    }
+    panic!(rt; "it never ended")
+}
+
+#[test]
+fn sizes_ask_for_no_memory(rt: HostRuntime) -> Result<(), Fail> {
+    let heap = Refusing::new(rt.alloc(), 0);
+    let fault = AssembleFault::Source(PalFault {
+        code: Code::TooLong,
+        part: 0,
+        line: 0,
+    });
+    assert_eq!(rt; assemble(&heap, &[], Profile::Pdp8I).err(), Some(fault));
+    assert!(rt; !heap.has_refused());
     Ok(())
 }

@@ -1,4 +1,4 @@
-use Rattle.std.proofs.Common.{◌∙◌, sym, rules}
+use Rattle.std.proofs.Common.{◌∙◌, sym}
 use Rattle.pal_asm.proofs.Fronts.{words_on}
 use Rattle.pal_asm.proofs.listing.push_words.Goals as goal
 

@@ -1,4 +1,4 @@
-use Rattle.std.proofs.Common.{◌≤◌, arith}
+use Rattle.std.proofs.Common.{arith}
 use Rattle.pal_text.specs.Characters.{characters}
 use Rattle.pal_asm.proofs.Digits.{from_nothing}
 use Rattle.pal_asm.proofs.number.number_of.Goals as goal

@@ -1,6 +1,6 @@
 use Rattle.std.proofs.Common.{◌≡◌, ◌≤◌, drop}
 use Rattle.pal_text.specs.Characters.{characters}
-use Rattle.pal_asm.specs.Numbers.{base, number}
+use Rattle.pal_asm.specs.Numbers.{number}
 use Rattle.pal_asm.proofs.Digits.{number_from}
 use Rattle.pal_asm.proofs.number.number_of.Given as goal
 

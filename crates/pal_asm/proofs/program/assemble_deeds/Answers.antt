@@ -1,8 +1,6 @@
-use Rattle.std.proofs.Common.{◌≡◌, ◌∙◌, ◌<◌, ap, arith, length}
+use Rattle.std.proofs.Common.{◌∙◌, ◌<◌, ap, arith, length}
 use Rattle.std.specs.Prelude.{map}
-use Rattle.pal_acts.specs.Faults.{IsRefused}
-use Rattle.pal_asm.specs.Sources.{act_in}
-use Rattle.pal_asm.specs.Kept.{bare, acts_in}
+use Rattle.pal_asm.specs.Kept.{bare}
 use Rattle.pal_asm.proofs.Laid.{bound, source_of, fault_of}
 use Rattle.pal_asm.proofs.program.assemble_deeds.Goals as goal
 

@@ -1,6 +1,5 @@
-use Rattle.std.proofs.Common.{refl}
 use Rattle.pal_asm.proofs.Turned.{turned, leads_by, leads_on}
-use Rattle.pal_asm.proofs.TurnedLines.{turned_lines, no_lines}
+use Rattle.pal_asm.proofs.TurnedLines.{turned_lines}
 use Rattle.pal_asm.proofs.reading.read_part.Goals as goal
 
 pub returns-in-Dollar-clause-acts : goal.returns-in-Dollar-clause-acts

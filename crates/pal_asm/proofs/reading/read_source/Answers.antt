@@ -1,4 +1,4 @@
-use Rattle.std.proofs.Common.{◌≡◌, ◌+◌, ◌<◌, arith, length, refl}
+use Rattle.std.proofs.Common.{refl}
 use Rattle.pal_asm.proofs.Within.{short_at}
 use Rattle.pal_asm.proofs.Turned.{ends_here, goes_on, all_read}
 use Rattle.pal_asm.proofs.TurnedLines.{lines_end, lines_go_on, all_shown}

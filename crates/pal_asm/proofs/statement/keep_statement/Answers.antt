@@ -1,8 +1,7 @@
-use Rattle.std.proofs.Common.{◌∙◌, sym, ap, subst, List, length}
+use Rattle.std.proofs.Common.{sym, subst, List, length}
 use Rattle.std.specs.List.{AllByRecursion}
 use Rattle.pal_text.specs.declared.tokens.Token.{Token}
 use Rattle.pal_text.specs.Names.{IsWithin}
-use Rattle.pal_asm.specs.Acts.{after_tags, operand}
 use Rattle.pal_asm.proofs.Within.{own_within, body_within, operand_within}
 use Rattle.pal_asm.proofs.statement.keep_statement.Goals as goal
 

@@ -6,4 +6,6 @@ mod commands;
 #[cfg(test)]
 mod instructions;
 #[cfg(test)]
+mod sources;
+#[cfg(test)]
 mod worlds;

@@ -1,0 +1,230 @@
+//! Commands on sources, declarations and events.
+
+use bin_tape::memory::{MemorySink, MemorySource};
+use bin_tape::{Image, write_tape};
+use instruct::Profile;
+use pal_acts::Code;
+use pal_asm::PalFault;
+use policy::DeclarationFault;
+use std::alloc::Global;
+use std::test::Fail;
+use word12::Word;
+use workbench::assembling::{assemble, list};
+use workbench::status::{DeviceFault, Fault, Status};
+use workbench::watching::watch;
+
+static HALT: &[u8] = b"*200\nHLT\n$\n";
+
+/// The tape of that source: the leader, 102 000 074 002 002 000, and the trailer.
+fn halt_tape() -> [u8; 38] {
+    let mut frames = [0o200; 38];
+    frames[16..22].copy_from_slice(&[0o102, 0o000, 0o074, 0o002, 0o002, 0o000]);
+    frames
+}
+
+fn fault(code: Code, part: usize, line: usize) -> Fault {
+    Fault::Source(PalFault { code, part, line })
+}
+
+fn word(value: u16) -> Word {
+    Word::new(value).unwrap_or(Word::ZERO)
+}
+
+/// The tape of words that stand in runs from these addresses on.
+fn tape(alloc: Global, runs: &[(u16, &[u16])]) -> Result<MemorySink<Global>, Fail> {
+    let mut image = Image::empty();
+    for (start, words) in runs {
+        let mut at = word(*start);
+        for value in *words {
+            image.set(at, word(*value));
+            at = at.increment();
+        }
+    }
+    let mut sink = MemorySink::new(alloc, 65_536);
+    write_tape(&image, &mut sink)?;
+    Ok(sink)
+}
+
+#[test]
+fn sources_are_assembled_and_listed(rt: HostRuntime) -> Result<(), Fail> {
+    let mut out = MemorySink::new(rt.alloc(), 1000);
+    let ended = assemble(
+        rt.alloc(),
+        &mut [MemorySource::new(HALT).in_pieces(3)],
+        Profile::Pdp8I,
+        &mut out,
+    );
+    assert_eq!(rt; ended, Ok(Status::Done));
+    assert_eq!(rt; out.bytes(), halt_tape().as_slice());
+    let mut listing = MemorySink::new(rt.alloc(), 1000);
+    let ended = list(
+        rt.alloc(),
+        &mut [MemorySource::new(HALT)],
+        Profile::Pdp8I,
+        &mut listing,
+    );
+    assert_eq!(rt; ended, Ok(Status::Done));
+    let text = b"            *200\n0200  7402  HLT\n            $\n\n";
+    assert_eq!(rt; listing.bytes(), text.as_slice());
+    Ok(())
+}
+
+#[test]
+fn parts_are_one_source(rt: HostRuntime) -> Result<(), Fail> {
+    let mut out = MemorySink::new(rt.alloc(), 1000);
+    let mut parts = [
+        MemorySource::new(b"A=5\nPAUSE\n"),
+        MemorySource::new(b"TAD A\n$\n"),
+    ];
+    let ended = list(rt.alloc(), &mut parts, Profile::Pdp8I, &mut out);
+    assert_eq!(rt; ended, Ok(Status::Done));
+    let text = b"            A=5\n            PAUSE\n0200  1005  TAD A\n            $\n\nA       0005\n";
+    assert_eq!(rt; out.bytes(), text.as_slice());
+    Ok(())
+}
+
+#[test]
+fn sources_are_refused_by_their_first_fault(rt: HostRuntime) -> Result<(), Fail> {
+    let rows: [(&[u8], Profile, Fault); 5] = [
+        (b"$\n", Profile::Pdp8I, Fault::EmptyImage),
+        (
+            b"TAD 600",
+            Profile::Pdp8I,
+            fault(Code::IllegalReference, 1, 1),
+        ),
+        (
+            b"X,1\nX,2\n",
+            Profile::Pdp8I,
+            fault(Code::DuplicateTag, 1, 2),
+        ),
+        (b"MQL\n", Profile::Pdp8I, fault(Code::Undefined, 1, 1)),
+        (b"BSW,\n", Profile::Pdp8E, fault(Code::DuplicateTag, 1, 1)),
+    ];
+    for (source, profile, expected) in rows {
+        let mut out = MemorySink::new(rt.alloc(), 1000);
+        let mut parts = [MemorySource::new(source)];
+        let ended = assemble(rt.alloc(), &mut parts, profile, &mut out);
+        assert_eq!(rt; ended, Err(expected));
+        assert!(rt; out.bytes().is_empty());
+    }
+    let mut out = MemorySink::new(rt.alloc(), 1000);
+    let mut many = [MemorySource::new(b"$"); 17];
+    let ended = assemble(rt.alloc(), &mut many, Profile::Pdp8I, &mut out);
+    assert_eq!(rt; ended, Err(fault(Code::TooLong, 0, 0)));
+    let mut failing = [MemorySource::new(HALT).failing_after(0)];
+    let ended = list(rt.alloc(), &mut failing, Profile::Pdp8I, &mut out);
+    assert_eq!(rt; ended, Err(Fault::Device(DeviceFault::Read)));
+    Ok(())
+}
+
+#[test]
+fn a_tape_that_is_cut_is_a_prefix(rt: HostRuntime) -> Result<(), Fail> {
+    for room in [0usize, 1, 17, 37] {
+        let mut out = MemorySink::new(rt.alloc(), room);
+        let mut parts = [MemorySource::new(HALT)];
+        let ended = assemble(rt.alloc(), &mut parts, Profile::Pdp8I, &mut out);
+        assert_eq!(rt; ended, Err(Fault::Device(DeviceFault::Write)));
+        assert_eq!(rt; out.bytes(), &halt_tape()[..room]);
+    }
+    Ok(())
+}
+
+/// The words of a program that clears cells by auto-index, and runs into its own pointer.
+static POINTER: [u16; 9] = [
+    0o7200, 0o1207, 0o3010, 0o3410, 0o2210, 0o5203, 0o7402, 0o0277, 0o7773,
+];
+
+#[test]
+fn runs_are_watched(rt: HostRuntime) -> Result<(), Fail> {
+    let pointer = tape(rt.alloc(), &[(0o200, &POINTER)])?;
+    let waiting = tape(rt.alloc(), &[(0o200, &[0o6041, 0o5200, 0o7402])])?;
+    let pointers = b"start 0200\nmain 0200-0206\nvar 0010 0210 0300-0303\nstop 0206\n";
+    let waits = b"start 0200\nmain 0200-0202\nstop 0202\n";
+    let rows: [(&[u8], &[u8], &[u8], Status, &[u8]); 2] = [
+        (
+            pointer.bytes(),
+            pointers,
+            b"step 30",
+            Status::Refused,
+            b"broken: event 15 rule 2\n",
+        ),
+        (
+            waiting.bytes(),
+            waits,
+            b"step 1000",
+            Status::Done,
+            b"clean\n",
+        ),
+    ];
+    for (frames, text, events, status, line) in rows {
+        let mut out = MemorySink::new(rt.alloc(), 1000);
+        let ended = watch(
+            rt.alloc(),
+            &mut MemorySource::new(frames),
+            &mut MemorySource::new(text),
+            &mut MemorySource::new(events),
+            &mut out,
+        );
+        assert_eq!(rt; ended, Ok(status));
+        assert_eq!(rt; out.bytes(), line);
+    }
+    Ok(())
+}
+
+#[test]
+fn each_input_is_refused_before_the_next(rt: HostRuntime) -> Result<(), Fail> {
+    let frames = halt_tape();
+    let rows: [(&[u8], &[u8], Fault); 3] = [
+        (
+            b"main 9",
+            b"steps",
+            Fault::Declared(DeclarationFault::BadLine(1)),
+        ),
+        (
+            b"start 200\nmain 201",
+            b"steps",
+            Fault::Declared(DeclarationFault::StartNotInMain),
+        ),
+        (
+            b"start 200\nmain 200",
+            b"steps",
+            Fault::Events(peripherals::EventsFault::BadLine(1)),
+        ),
+    ];
+    for (text, events, expected) in rows {
+        let mut out = MemorySink::new(rt.alloc(), 1000);
+        let ended = watch(
+            rt.alloc(),
+            &mut MemorySource::new(&frames),
+            &mut MemorySource::new(text),
+            &mut MemorySource::new(events),
+            &mut out,
+        );
+        assert_eq!(rt; ended, Err(expected));
+    }
+    Ok(())
+}
+
+#[test]
+fn these_faults_have_their_lines(rt: HostRuntime) -> Result<(), Fail> {
+    for (fault, line) in [
+        (
+            fault(Code::IllegalReference, 1, 1),
+            "pdp8: source: IR 1 1",
+        ),
+        (Fault::EmptyImage, "pdp8: tape: EmptyImage"),
+        (
+            Fault::Declared(DeclarationFault::Overlap(word(0o200))),
+            "pdp8: declaration: Overlap 0200",
+        ),
+        (
+            Fault::Declared(DeclarationFault::TwoProfiles(3)),
+            "pdp8: declaration: TwoProfiles 3",
+        ),
+    ] {
+        assert_eq!(rt; fault.status(), Status::Refused);
+        let text = format!(in rt.alloc(); "{fault}")?;
+        assert_eq!(rt; text.as_str(), line);
+    }
+    Ok(())
+}

@@ -20,6 +20,7 @@ use Rattle.policy.specs.Calls.{Calls}
 use Rattle.policy.specs.Rules.{IsLegal, KeepsCode}
 use Rattle.policy.specs.Runs.{IsSafe}
 use Rattle.policy.specs.Watching.{number_of, Keeps, IsLeastBroken, TriesAt, IsClean, BreaksAt, Tells}
+use Rattle.policy.specs.WatchedSteps.{LegalStepTakesMemory}
 use Rattle.policy.proofs.CodeLemmas.{loaded_word, loaded_keeps}
 use Rattle.policy.proofs.WatchLemmas.{run_one}
 
@@ -134,3 +135,10 @@ told_of r image d start events w is tells =
     let here : KeepsCode image d w.state.memory = subst (λ (v : WorldState). KeepsCode image d v.state.memory) (sym is) (loaded_keeps image d (cell_of start.memory)) in
     IfOk-weaker r (λ told. (i : Image) → KeepsCode i d w.state.memory → Tells i d events w told) (λ told. Tells image d events (loaded image d.start start) told)
     (λ told f. subst (λ (v : WorldState). Tells image d events v told) is (f image here)) tells
+
+-- a refused growth in the loaded world
+pub growth_of : (image : Image) (d : Declaration) (start : Start) (events : List Event) (w : WorldState) → w ≡ loaded image d.start start →
+    ((i : Image) → KeepsCode i d w.state.memory → LegalStepTakesMemory i d events w) → LegalStepTakesMemory image d events (loaded image d.start start)
+growth_of image d start events w is grown =
+    let here : KeepsCode image d w.state.memory = subst (λ (v : WorldState). KeepsCode image d v.state.memory) (sym is) (loaded_keeps image d (cell_of start.memory)) in
+    subst (λ (v : WorldState). LegalStepTakesMemory image d events v) is (grown image here)

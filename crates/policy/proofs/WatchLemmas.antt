@@ -27,7 +27,7 @@ use Rattle.policy.specs.OpenCalls.{open_calls}
 use Rattle.policy.specs.declared.rules.Rule.{Rule}
 use Rattle.policy.specs.Watching.{IsLeastBroken, TriesAt, IsCleanBefore, IsClean, BreaksAt}
 use Rattle.policy.specs.Decided.{followed, IsCall}
-use Rattle.policy.specs.WatchedSteps.{Goes, Stops, Watches, CallsRoutine, TakesMemory, Passes, waits, Grows, SomeStepTakesMemory}
+use Rattle.policy.specs.WatchedSteps.{Goes, Stops, Watches, CallsRoutine, TakesMemory, Passes, waits, Grows, GrowsAt, LegalStepTakesMemory}
 use Rattle.policy.proofs.CodeLemmas.{step_keeps}
 
 -- one answer, one accumulator and one skip
@@ -326,23 +326,29 @@ stopped image d events w n e x ks r is taken stops keeps = record {
 }
 
 -- an event that takes memory
-grows_step : (d : Declaration) (w : WorldState) (e : Event) → Grows d w e → (e ≡ Instruct) × (w.halted_at ≡ None) × TakesMemory d w
-grows_step d w Instruct grows = (refl, grows.0, grows.1)
-grows_step d w (Key byte) grows = absurd grows
-grows_step d w PrinterDone grows = absurd grows
-grows_step d w (ReaderDone byte) grows = absurd grows
-grows_step d w PunchDone grows = absurd grows
-grows_step d w (Switches word) grows = absurd grows
-grows_step d w Continue grows = absurd grows
+grows_step : (d : Declaration) (w : WorldState) (ks : Calls) (e : Event) → Grows d w ks e → (e ≡ Instruct) × GrowsAt d w ks
+grows_step d w ks Instruct grows = (refl, grows)
+grows_step d w ks (Key byte) grows = absurd grows
+grows_step d w ks PrinterDone grows = absurd grows
+grows_step d w ks (ReaderDone byte) grows = absurd grows
+grows_step d w ks PunchDone grows = absurd grows
+grows_step d w ks (Switches word) grows = absurd grows
+grows_step d w ks Continue grows = absurd grows
 
-pub grown : (d : Declaration) (events : List Event) (w : WorldState) (n : ℕ) (e : Event) (x : WorldState) (ks : Calls) →
-    slice_get events n ≡ Some e → Taken d events w n x ks → Grows d x e → SomeStepTakesMemory d events w
-grown d events w n e x ks is taken grows =
-    let step = grows_step d x e grows in
+pub grown : (image : Image) (d : Declaration) (events : List Event) (w : WorldState) (n : ℕ) (e : Event) (x : WorldState) (ks : Calls) →
+    slice_get events n ≡ Some e → Taken d events w n x ks → Grows d x ks e → KeepsCode image d w.state.memory → LegalStepTakesMemory image d events w
+grown image d events w n e x ks is taken grows keeps =
+    let step = grows_step d x ks e grows in
     record {
       place = n;
       world = x;
       calls = ks;
-      tries = record { step = is ∙ ap (λ (f : Event). Some f) step.0; before = taken.run; runs = step.1 };
-      takes = step.2;
+      tries = record { step = is ∙ ap (λ (f : Event). Some f) step.0; before = taken.run; runs = step.1.runs };
+      takes = step.1.takes;
+      legal = step.1.legal image (taken.code image keeps);
+      first = taken.clean image keeps;
     }
+
+pub legal_growth : (d : Declaration) (w : WorldState) (ks : Calls) → w.halted_at ≡ None → TakesMemory d w →
+    ((image : Image) → KeepsCode image d w.state.memory → IsLegal image d w.state ks) → GrowsAt d w ks
+legal_growth d w ks runs takes legal = record { runs = runs; takes = takes; legal = legal }

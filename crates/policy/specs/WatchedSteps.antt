@@ -12,7 +12,7 @@ use Rattle.policy.specs.Declaration.{Declaration, IsDeclared}
 use Rattle.policy.specs.Calls.{Calls}
 use Rattle.policy.specs.Rules.{KeepsCode, IsLegal}
 use Rattle.policy.specs.Runs.{HappensDeclared, calls_by, resumed}
-use Rattle.policy.specs.Watching.{IsLeastBroken, TriesAt}
+use Rattle.policy.specs.Watching.{IsLeastBroken, TriesAt, IsCleanBefore}
 
 -- The event happened and the call list followed. An enabled step was legal, and fixed code stayed, if it was as the tape
 -- has it.
@@ -42,10 +42,16 @@ CallsRoutine d _ s = ⊥
 abbrev pub TakesMemory : Declaration → WorldState → Type 0
 TakesMemory d w = IsTrue (puts_out w Instruct) ⊎ CallsRoutine d (instruction d.profile w.state) w.state
 
--- The event is an enabled step that takes memory.
-abbrev pub Grows : Declaration → WorldState → Event → Type 0
-Grows d w Instruct = (w.halted_at ≡ None) × TakesMemory d w
-Grows d w _ = ⊥
+-- An enabled step is legal, if fixed code is as the tape has it, and takes memory.
+pub record GrowsAt (d : Declaration) (w : WorldState) (ks : Calls) : Type 0 where
+  pub runs : w.halted_at ≡ None
+  pub takes : TakesMemory d w
+  pub legal : (image : Image) → KeepsCode image d w.state.memory → IsLegal image d w.state ks
+
+-- The event is such a step.
+abbrev pub Grows : Declaration → WorldState → Calls → Event → Type 0
+Grows d w ks Instruct = GrowsAt d w ks
+Grows d w ks _ = ⊥
 
 -- The event is no step, and no CONTINUE at a stop: it is as in any run.
 abbrev pub Passes : Declaration → WorldState → Event → Type 0
@@ -58,10 +64,12 @@ abbrev pub waits : Declaration → Option ℕ → Bool
 waits d None = false
 waits d (Some at) = not (d.pause at)
 
--- An enabled step of the declared run from w takes memory.
-pub record SomeStepTakesMemory (d : Declaration) (events : List Event) (w : WorldState) : Type 0 where
+-- A legal step of the declared run from w, before which each step is legal too, takes memory.
+pub record LegalStepTakesMemory (image : Image) (d : Declaration) (events : List Event) (w : WorldState) : Type 0 where
   pub place : ℕ
   pub world : WorldState
   pub calls : Calls
   pub tries : TriesAt d events w place world calls
   pub takes : TakesMemory d world
+  pub legal : IsLegal image d world.state calls
+  pub first : IsCleanBefore image d events w place

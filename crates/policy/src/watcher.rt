@@ -16,7 +16,7 @@ ghost use Rattle.policy.specs.Kept.{meaning};
 ghost use Rattle.policy.specs.OpenCalls.{open_calls};
 ghost use Rattle.policy.specs.Decided.{is_call, followed, IsCall};
 ghost use Rattle.policy.specs.Watching.{IsClean, BreaksAt, Tells, begun};
-ghost use Rattle.policy.specs.WatchedSteps.{Watches, TakesMemory, Grows, Passes, waits, SomeStepTakesMemory};
+ghost use Rattle.policy.specs.WatchedSteps.{Watches, TakesMemory, GrowsAt, Grows, Passes, waits, LegalStepTakesMemory};
 
 use crate::actions::{Action, Operation, Reference, next_action};
 use crate::declaration::Declaration;
@@ -112,7 +112,7 @@ impl<A: Allocator> Watcher<A> {
         requires profile { profile_of self.old.world ≡ (meaning declaration.now).profile }
         ensures watches { IfOk result (λ told. Watches (meaning declaration.now) (view self.old.world) (open_calls self.old.calls.items) Event.Step (view self.new.world) (open_calls self.new.calls.items) told) }
         ensures profile { profile_of self.new.world ≡ (meaning declaration.now).profile }
-        ensures only_growth { OnErr result (TakesMemory (meaning declaration.now) (view self.old.world)) }
+        ensures only_growth { OnErr result (GrowsAt (meaning declaration.now) (view self.old.world) (open_calls self.old.calls.items)) }
     {
         match broken_rule(declaration, self.world.cpu(), &self.calls) {
             Some(rule) => Ok(Some(rule)),
@@ -135,7 +135,7 @@ impl<A: Allocator> Watcher<A> {
         requires profile { profile_of self.old.world ≡ (meaning declaration.now).profile }
         ensures watches { IfOk result (λ told. Watches (meaning declaration.now) (view self.old.world) (open_calls self.old.calls.items) event (view self.new.world) (open_calls self.new.calls.items) told) }
         ensures profile { profile_of self.new.world ≡ (meaning declaration.now).profile }
-        ensures only_growth { OnErr result (Grows (meaning declaration.now) (view self.old.world) event) }
+        ensures only_growth { OnErr result (Grows (meaning declaration.now) (view self.old.world) (open_calls self.old.calls.items) event) }
     {
         match self.world.apply(event) {
             Ok(_) => Ok(None),
@@ -162,7 +162,7 @@ impl<A: Allocator> Watcher<A> {
         requires { profile_of self.old.world ≡ (meaning declaration.now).profile }
         ensures watches { IfOk result (λ told. Watches (meaning declaration.now) (view self.old.world) (open_calls self.old.calls.items) event (view self.new.world) (open_calls self.new.calls.items) told) }
         ensures profile { profile_of self.new.world ≡ (meaning declaration.now).profile }
-        ensures only_growth { OnErr result (Grows (meaning declaration.now) (view self.old.world) event) }
+        ensures only_growth { OnErr result (Grows (meaning declaration.now) (view self.old.world) (open_calls self.old.calls.items) event) }
     {
         match event {
             Event::Step => {
@@ -196,7 +196,7 @@ fn watch_events<A: Allocator, D: Allocator>(
     requires profile { profile_of watcher.old.world ≡ (meaning declaration.now).profile }
     requires no_calls { open_calls watcher.old.calls.items ≡ [] }
     ensures tells { IfOk result (λ told. (image : Words) → KeepsCode image (meaning declaration.now) (view watcher.old.world).state.memory → Tells image (meaning declaration.now) events.now (view watcher.old.world) told) }
-    ensures only_growth { OnErr result (SomeStepTakesMemory (meaning declaration.now) events.now (view watcher.old.world)) }
+    ensures only_growth { OnErr result ((image : Words) → KeepsCode image (meaning declaration.now) (view watcher.old.world).state.memory → LegalStepTakesMemory image (meaning declaration.now) events.now (view watcher.old.world)) }
 {
     declaration.is_declared();
     for index in 0..events.len() {
@@ -253,8 +253,8 @@ pub fn watch<A: Allocator + Copy, D: Allocator>(
     ensures only_broken { IfOk result (λ told. (event : ℕ) (rule : Rule) → BreaksAt (image_of image.now) (meaning declaration.now) events.now (begun (image_of image.now) (meaning declaration.now) start.now) event rule → told ≡ Watched.Broken event rule) }
     // Of a safe program it tells nothing else.
     ensures safe { IfOk result (λ told. IsSafe (image_of image.now) (meaning declaration.now) → told ≡ Watched.Clean) }
-    // Only a step that prints, punches or calls a routine can be refused.
-    ensures only_growth { OnErr result (SomeStepTakesMemory (meaning declaration.now) events.now (begun (image_of image.now) (meaning declaration.now) start.now)) }
+    // Only a legal step that prints, punches or calls a routine can be refused, and none was illegal.
+    ensures only_growth { OnErr result (LegalStepTakesMemory (image_of image.now) (meaning declaration.now) events.now (begun (image_of image.now) (meaning declaration.now) start.now)) }
 {
     let world = World::load(
         alloc,

@@ -266,43 +266,42 @@ fn first_steps_that_break_a_rule(rt: HostRuntime) -> Result<(), Fail> {
     Ok(())
 }
 
+/// Watches a program with each request for memory refused in turn, until none is, and tells how many
+/// there were; none where an answer wasn't as it should be.
+fn requests(
+    rt: &HostRuntime,
+    image: &Image,
+    declared: &[u8],
+    events: &[Event],
+    wanted: Watched,
+) -> Result<Option<u64>, Fail> {
+    let declaration = Declaration::parse(rt.alloc(), declared)?;
+    for count in 0..10 {
+        let heap = Refusing::new(rt.alloc(), count);
+        let told = watch(&heap, image, &declaration, &Start::zero(), events);
+        if !heap.has_refused() {
+            return Ok((told == Ok(wanted)).then_some(count));
+        }
+        if told != Err(NoMemory) {
+            return Ok(None);
+        }
+    }
+    Ok(None)
+}
+
 #[test]
 fn each_growth_may_be_refused(rt: HostRuntime) -> Result<(), Fail> {
-    let nested_declared = Declaration::parse(rt.alloc(), NESTED_DECLARED)?;
-    let hello_declared = Declaration::parse(
-        rt.alloc(),
-        b"start 0200\nmain 0200-0213\nsub 0214 body 0215-0221 returns 0\nvar 0010 0224\npause 0212\n",
-    )?;
-    let mut key = [Event::Step; 21];
-    key[0] = Event::Key(0o301);
+    let mut events = [Event::Step; 21];
+    events[0] = Event::Key(0o301);
     let broken = Watched::Broken {
         event: 11,
         rule: Rule::ReturnsToItsCall,
     };
-    for (image, declaration, events, wanted) in [
-        (nested(), &nested_declared, key.as_slice(), broken),
-        (
-            image(&HELLO),
-            &hello_declared,
-            rounds().as_slice(),
-            Watched::Clean,
-        ),
-    ] {
-        let mut refused = 0;
-        for count in 0..10 {
-            let heap = Refusing::new(rt.alloc(), count);
-            match watch(&heap, &image, declaration, &Start::zero(), events) {
-                Ok(told) => {
-                    assert!(rt; !heap.has_refused());
-                    assert_eq!(rt; told, wanted);
-                }
-                Err(NoMemory) => {
-                    assert!(rt; heap.has_refused());
-                    refused += 1;
-                }
-            }
-        }
-        assert!(rt; refused > 0 && refused < 10, "{refused}");
-    }
+    let calls = requests(&rt, &nested(), NESTED_DECLARED, &events, broken)?;
+    assert!(rt; calls > Some(0), "{calls:?}");
+    let declared = b"start 0200\nmain 0200-0213\nsub 0214 body 0215-0221 returns 0\n\
+        var 0010 0224\npause 0212\n";
+    let growths = requests(&rt, &image(&HELLO), declared, &rounds(), Watched::Clean)?;
+    assert!(rt; growths > Some(1), "{growths:?}");
     Ok(())
 }

@@ -3,14 +3,14 @@ use Rattle.processor.specs.Cells.{AreWords}
 use Rattle.peripherals.specs.Devices.{WorldState}
 use Rattle.peripherals.specs.Loading.{image_of, loaded}
 use Rattle.peripherals.specs.World.{view}
-use Rattle.std.proofs.lemmas.Result.{IfOk-weaker}
+use Rattle.std.proofs.lemmas.Result.{IfOk-weaker, on_err_weaker}
 use Rattle.policy.specs.Runs.{IsSafe}
 use Rattle.policy.specs.Kept.{meaning}
 use Rattle.policy.specs.Watching.{IsClean, BreaksAt, Tells}
 use Rattle.policy.specs.declared.rules.Rule.{Rule}
 use Rattle.policy.specs.declared.watcher.Watched.{Watched}
 use Rattle.policy.specs.declared.watcher.Watched.TheVariants.{Clean, Broken}
-use Rattle.policy.proofs.TellLemmas.{told_of, tells_clean, tells_broken, clean_tells, broken_tells, safe_clean}
+use Rattle.policy.proofs.TellLemmas.{told_of, tells_clean, tells_broken, clean_tells, broken_tells, safe_clean, growth_of}
 use Rattle.policy.proofs.watcher.watch.Goals as goal
 
 pub returns-clause-clean : goal.returns-clause-clean
@@ -60,3 +60,10 @@ returns-clause-safe g c =
     (safe_clean image d c.args.start.now c.args.events.now (view c.load-world.result) is c.holds_words.ensures.ac c.holds_words.ensures.link c.holds_words.ensures.mq c.holds_words.ensures.memory safe) in
     IfOk-weaker c.watch_events.result _ _ (λ told tells safe. clean_tells image d c.args.events.now first told tells (clean safe))
     (told_of c.watch_events.result image d c.args.start.now c.args.events.now (view c.load-world.result) is c.watch_events.ensures.tells)
+
+pub returns-clause-only_growth : goal.returns-clause-only_growth
+returns-clause-only_growth g c =
+    let image = image_of c.args.image.now in
+    let d = meaning c.args.declaration.now in
+    let is : view c.load-world.result ≡ loaded image d.start c.args.start.now = rw c.start.ensures at c.load-world.ensures.view in
+    on_err_weaker c.watch_events.result (λ grown. growth_of image d c.args.start.now c.args.events.now (view c.load-world.result) is grown) c.watch_events.ensures.only_growth

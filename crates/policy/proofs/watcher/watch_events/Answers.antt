@@ -20,8 +20,8 @@ returns-in-Ok-Some-clause-tells g c =
 pub returns-in-Err-clause-only_growth : goal.returns-in-Err-clause-only_growth
 returns-in-Err-clause-only_growth g c =
     let is : slice_get c.args.events.now c.loop-index.index ≡ Some c.index-events-index.result = slice_get_read c.args.events.now (length c.args.events.now) c.loop-index.index c.index-events-index.result refl c.loop-index-test.true c.index-events-index.is in
-    grown (meaning c.args.declaration.now) c.args.events.now (view c.args.watcher.now.world) c.loop-index.index c.index-events-index.result (view c.loop-index.watcher.world) (open_calls c.loop-index.watcher.calls.items)
-    is c.loop-index.invariant.1 c.in-Err.ensures.only_growth
+    λ image keeps. grown image (meaning c.args.declaration.now) c.args.events.now (view c.args.watcher.now.world) c.loop-index.index c.index-events-index.result (view c.loop-index.watcher.world) (open_calls c.loop-index.watcher.calls.items)
+    is c.loop-index.invariant.1 c.in-Err.ensures.only_growth keeps
 
 pub loop-index-preserved : goal.loop-index-preserved
 loop-index-preserved g c =

@@ -3,7 +3,7 @@ use Rattle.processor.specs.Steps.{state_of}
 use Rattle.peripherals.specs.World.{view}
 use Rattle.policy.specs.Kept.{meaning}
 use Rattle.policy.specs.OpenCalls.{open_calls}
-use Rattle.policy.proofs.WatchLemmas.{legal_step, stopped_step, legal_here, broken_here}
+use Rattle.policy.proofs.WatchLemmas.{legal_step, stopped_step, legal_here, broken_here, legal_growth}
 use Rattle.policy.proofs.watcher.Watcher.step.Goals as goal
 
 pub returns-in-Some-clause-watches : goal.returns-in-Some-clause-watches
@@ -16,5 +16,11 @@ pub returns-in-Ok-clause-watches : goal.returns-in-Ok-clause-watches
 returns-in-Ok-clause-watches g c =
     legal_step (meaning c.args.declaration.now) (view c.args.self.now.world) (open_calls c.args.self.now.calls.items) (view c.carry_out.new.self.world) (open_calls c.carry_out.new.self.calls.items) c.requires.runs
     c.in-Ok.ensures.happens c.in-Ok.ensures.calls
+    (legal_here (meaning c.args.declaration.now) (state_of c.cpu.result.now) (view c.args.self.now.world).state c.deref.result.now c.args.self.now.calls.items c.cpu.ensures.state c.deref.ensures.value
+    (λ image keeps. c.broken_rule.ensures.legal image keeps c.in-None.is))
+
+pub returns-in-Err-clause-only_growth : goal.returns-in-Err-clause-only_growth
+returns-in-Err-clause-only_growth g c =
+    legal_growth (meaning c.args.declaration.now) (view c.args.self.now.world) (open_calls c.args.self.now.calls.items) c.requires.runs c.in-Err.ensures.only_growth
     (legal_here (meaning c.args.declaration.now) (state_of c.cpu.result.now) (view c.args.self.now.world).state c.deref.result.now c.args.self.now.calls.items c.cpu.ensures.state c.deref.ensures.value
     (λ image keeps. c.broken_rule.ensures.legal image keeps c.in-None.is))

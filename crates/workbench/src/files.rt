@@ -7,8 +7,8 @@ use crate::status::{DeviceFault, Fault};
 use bin_tape::standard::{Reads, Writes};
 use either::Either;
 use std::alloc::Global;
-use std::io::{self, Printer};
 use std::fs;
+use std::io::{self, Printer};
 use std::rt::Files;
 
 /// Opens what a name of the command line stands for: `-` for standard input, else a file.

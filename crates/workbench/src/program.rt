@@ -90,7 +90,12 @@ fn answer<R: Files + Input + Print>(
         } => run_from(rt, alloc, tape, *events, *options),
         Request::Dump { tape, profile } => {
             let mut frames = open_input(rt, tape)?;
-            dump(alloc, &mut frames, *profile, &mut Writes::new(io::writer(rt)))
+            dump(
+                alloc,
+                &mut frames,
+                *profile,
+                &mut Writes::new(io::writer(rt)),
+            )
         }
         Request::Assemble {
             out,
@@ -103,7 +108,12 @@ fn answer<R: Files + Input + Print>(
         }
         Request::List { sources, profile } => {
             let mut parts = open_inputs(rt, alloc, sources)?;
-            list(alloc, &mut parts, *profile, &mut Writes::new(io::writer(rt)))
+            list(
+                alloc,
+                &mut parts,
+                *profile,
+                &mut Writes::new(io::writer(rt)),
+            )
         }
         Request::Watch {
             tape,
@@ -129,7 +139,12 @@ fn run_from<R: Files + Input + Print>(
 ) -> Result<Status, Fault> {
     let mut frames = open_input(rt, tape)?;
     let Some(events) = events else {
-        return run(alloc, &mut frames, options, &mut Writes::new(io::writer(rt)));
+        return run(
+            alloc,
+            &mut frames,
+            options,
+            &mut Writes::new(io::writer(rt)),
+        );
     };
     let mut list = open_input(rt, events)?;
     let mut out = Writes::new(io::writer(rt));

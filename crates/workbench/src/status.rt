@@ -6,8 +6,8 @@ ghost use Rattle.workbench.specs.declared.status.DeviceFault.TheVariants.{Write}
 ghost use Rattle.workbench.specs.Faults.{fault_of_tape, fault_of_events};
 
 use bin_tape::{Failed, TapeFault};
-use peripherals::{EventsFault, NoMemory};
 use pal_asm::PalFault;
+use peripherals::{EventsFault, NoMemory};
 use policy::DeclarationFault;
 use std::alloc::AllocError;
 use thiserror::Error;

@@ -148,10 +148,9 @@ fn dump_command<'a>(alloc: Global) -> Result<Command<'a>, AllocError> {
 }
 
 fn source_words<'a>(alloc: Global) -> Arg<'a> {
-    Arg::new(alloc, "SOURCE")
-        .required(true)
-        .num_args(1..)
-        .help("the parts of the source, in order; - for standard input in one place")
+    Arg::new(alloc, "SOURCE").required(true).num_args(1..).help(
+        "the parts of the source, in order; - for standard input in one place",
+    )
 }
 
 fn assemble_command<'a>(alloc: Global) -> Result<Command<'a>, AllocError> {

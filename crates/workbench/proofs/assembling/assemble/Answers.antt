@@ -12,8 +12,8 @@ returns-clause-front g c = λ marked.
     let means : Means (permanent_symbols c.args.profile) (map (λ part. part.items) c.in_ok-parts.parts.items) (symbols_of c.in_ok-program.program) (image_of c.in_ok-program.program) = search rules in
     let front : AppendsFront (g.W.ByteSink.taken c.args.out.now) (g.W.ByteSink.taken c.write_tape.new.sink) (written_tape (image_of c.in_ok-program.program)) = rw c.image.ensures at (c.write_tape.ensures.front (search rules)) in
     record {
-        symbols = symbols_of c.in_ok-program.program;
-        image = image_of c.in_ok-program.program;
-        assembles = record { parts = map (λ part. part.items) c.in_ok-parts.parts.items; read = c.in_ok-parts.ensures.read; means = means };
-        front = front;
+      symbols = symbols_of c.in_ok-program.program;
+      image = image_of c.in_ok-program.program;
+      assembles = record { parts = map (λ part. part.items) c.in_ok-parts.parts.items; read = c.in_ok-parts.ensures.read; means = means };
+      front = front;
     }

@@ -10,5 +10,5 @@ pub loop-source-preserved : goal.loop-source-preserved
 loop-source-preserved g c =
     let pushed : c.push.new.self.items ≡ c.loop-source.parts.items ++ c.in-Ok.part ∷ [] = search rules in
     let reads = reads_next g.R.ByteSource.remaining (λ part. part.items) c.loop-source.sources c.args.sources.now c.loop-source.source-index _ c.loop-source.parts.items c.in-Ok.part
-        (search rules) (search rules) (search rules) (search rules) c.in-Ok.ensures.text in
+    (search rules) (search rules) (search rules) (search rules) c.in-Ok.ensures.text in
     (rw pushed reads, search (rules, unmarked_next), search (rules, same_next))

@@ -14,11 +14,11 @@ returns-in_err-put-clause-front g c = λ marked.
     let begins : loaded (image_of c.in_ok-image.image) d.start c.zero.result ≡ fresh c.in_ok-image.image d.start = search rules in
     let front : AppendsFront (g.W.ByteSink.taken c.args.out.now) (g.W.ByteSink.taken c.put.new.sink) (watched_text c.in_ok-watched.watched) = search rules in
     record {
-        watched = c.in_ok-watched.watched;
-        sees = sees c.in_ok-image.image d c.in_ok-happened.happened.items c.in_ok-watched.watched (loaded (image_of c.in_ok-image.image) d.start c.zero.result) _ _ _
-            c.in_ok-image.ensures.tape c.in_ok-promised.ensures.declares c.in_ok-happened.ensures.spells begins
-            (rw c.deref.ensures.value at c.in_ok-watched.ensures.clean) (rw c.deref.ensures.value at c.in_ok-watched.ensures.broken);
-        front = front;
+      watched = c.in_ok-watched.watched;
+      sees = sees c.in_ok-image.image d c.in_ok-happened.happened.items c.in_ok-watched.watched (loaded (image_of c.in_ok-image.image) d.start c.zero.result) _ _ _
+          c.in_ok-image.ensures.tape c.in_ok-promised.ensures.declares c.in_ok-happened.ensures.spells begins
+          (rw c.deref.ensures.value at c.in_ok-watched.ensures.clean) (rw c.deref.ensures.value at c.in_ok-watched.ensures.broken);
+      front = front;
     }
 
 pub returns-clause-watched : goal.returns-clause-watched
@@ -27,10 +27,10 @@ returns-clause-watched g c =
     let begins : loaded (image_of c.in_ok-image.image) d.start c.zero.result ≡ fresh c.in_ok-image.image d.start = search rules in
     let written : Appends (g.W.ByteSink.taken c.args.out.now) (g.W.ByteSink.taken c.put.new.sink) (watched_text c.in_ok-watched.watched) = search rules in
     record {
-        watched = c.in_ok-watched.watched;
-        sees = sees c.in_ok-image.image d c.in_ok-happened.happened.items c.in_ok-watched.watched (loaded (image_of c.in_ok-image.image) d.start c.zero.result) _ _ _
-            c.in_ok-image.ensures.tape c.in_ok-promised.ensures.declares c.in_ok-happened.ensures.spells begins
-            (rw c.deref.ensures.value at c.in_ok-watched.ensures.clean) (rw c.deref.ensures.value at c.in_ok-watched.ensures.broken);
-        written = written;
-        status_is = c.watched_status.ensures;
+      watched = c.in_ok-watched.watched;
+      sees = sees c.in_ok-image.image d c.in_ok-happened.happened.items c.in_ok-watched.watched (loaded (image_of c.in_ok-image.image) d.start c.zero.result) _ _ _
+          c.in_ok-image.ensures.tape c.in_ok-promised.ensures.declares c.in_ok-happened.ensures.spells begins
+          (rw c.deref.ensures.value at c.in_ok-watched.ensures.clean) (rw c.deref.ensures.value at c.in_ok-watched.ensures.broken);
+      written = written;
+      status_is = c.watched_status.ensures;
     }

@@ -17,9 +17,9 @@ use Rattle.pal_asm.specs.declared.number.Radix.{Radix}
 use Rattle.pal_asm.specs.Numbers.{base, radix_after}
 use Rattle.pal_asm.specs.Expressions.{name_of, expression}
 
--- An expression of an act. Where it lies in memory says nothing, so it lies at no place here.
-abbrev pub lying : List Join → Bor (List Join)
-lying js = record { ref_ptr = (0, 0); now = js }
+-- An expression of an act, wherever it lies in memory: that says nothing, so it has no place here.
+abbrev pub anywhere : List Join → Bor (List Join)
+anywhere js = record { ref_ptr = (0, 0); now = js }
 
 -- The tags of a statement: the tokens right before its commas.
 abbrev pub tags : List Token → List Token
@@ -49,8 +49,8 @@ operand form.Word ts = ts
 operand _ ts = []
 
 abbrev pub assign_by : List ℕ → Token → List Join → Kind → List Act
-assign_by source t js kind.Symbol = act.Assign (name_of source t) (lying js) ∷ []
-assign_by source t js _ = act.Origin (lying js) ∷ act.Wrong Redefined ∷ []
+assign_by source t js kind.Symbol = act.Assign (name_of source t) (anywhere js) ∷ []
+assign_by source t js _ = act.Origin (anywhere js) ∷ act.Wrong Redefined ∷ []
 
 -- An assignment to this first token. DECIMAL, OCTAL and PAUSE can't be given a value; the symbols of the expression are
 -- looked at before that is told, as those of an origin are.
@@ -60,9 +60,9 @@ assign_acts source (t ∷ ts) js = assign_by source t js t.kind
 
 -- What stands after the tags and does this, with this expression. PAUSE is a fault in the last part.
 abbrev pub body_acts : Bool → List ℕ → List Token → Form → List Join → List Act
-body_acts last source ts form.Origin js = act.Origin (lying js) ∷ []
+body_acts last source ts form.Origin js = act.Origin (anywhere js) ∷ []
 body_acts last source ts form.Assign js = assign_acts source ts js
-body_acts last source ts form.Word js = act.Word (lying js) ∷ []
+body_acts last source ts form.Word js = act.Word (anywhere js) ∷ []
 body_acts last source ts form.Pause js = if last then act.LastPause ∷ [] else []
 body_acts last source ts _ js = []
 

@@ -11,7 +11,7 @@ use Rattle.pal_asm.specs.declared.number.Radix.{Radix}
 use Rattle.pal_asm.specs.declared.reading.Turn.{Turn}
 use Rattle.pal_asm.specs.declared.reading.Turn.TheVariants.{On, Ends}
 use Rattle.pal_asm.specs.declared.listing.ListedLine.{ListedLine}
-use Rattle.pal_asm.specs.Acts.{lying, PlacedAct, placed}
+use Rattle.pal_asm.specs.Acts.{anywhere, PlacedAct, placed}
 use Rattle.pal_asm.specs.Listings.{TextLine, text_line, Shows, words}
 use Rattle.pal_asm.specs.declared.listing.ListedWord.{ListedWord}
 use Rattle.pal_acts.specs.Values.{Values}
@@ -25,17 +25,17 @@ use Rattle.pal_asm.specs.Sources.{Gives, is_empty, IsFaultOf, act_in}
 abbrev pub bare : Act → Act
 bare (act.Wrong c) = act.Wrong c
 bare (act.Tag n) = act.Tag n
-bare (act.Origin e) = act.Origin (lying e.now)
-bare (act.Assign n e) = act.Assign n (lying e.now)
-bare (act.Word e) = act.Word (lying e.now)
+bare (act.Origin e) = act.Origin (anywhere e.now)
+bare (act.Assign n e) = act.Assign n (anywhere e.now)
+bare (act.Word e) = act.Word (anywhere e.now)
 bare act.LastPause = act.LastPause
 
 abbrev pub act_of : {A : Type 0} → Deed A → Act
 act_of (deed.Wrong c) = act.Wrong c
 act_of (deed.Tag n) = act.Tag n
-act_of (deed.Origin js) = act.Origin (lying js.items)
-act_of (deed.Assign n js) = act.Assign n (lying js.items)
-act_of (deed.Word js) = act.Word (lying js.items)
+act_of (deed.Origin js) = act.Origin (anywhere js.items)
+act_of (deed.Assign n js) = act.Assign n (anywhere js.items)
+act_of (deed.Word js) = act.Word (anywhere js.items)
 act_of deed.LastPause = act.LastPause
 
 abbrev pub placed_act : {A : Type 0} → PlacedDeed A → PlacedAct

@@ -1,4 +1,4 @@
-//! The assembler: from the parts of a PAL III source to its image and its symbols.
+//! The assembler: from the parts of a PAL III source to its image, its symbols and its listing.
 //!
 //! A source is a list of parts, and each part is a list of bytes. [`assemble`] gives what the
 //! source means, or its one fault with the part and the line where it stands.

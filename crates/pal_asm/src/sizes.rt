@@ -8,7 +8,7 @@ use pal_acts::Code;
 use pal_text::LONGEST;
 
 /// How many parts a source may have.
-pub const MOST_PARTS: usize = 16;
+const MOST_PARTS: usize = 16;
 
 /// The number of the first part that is too long.
 fn long_part(parts: &[&[u8]]) -> Option<usize>

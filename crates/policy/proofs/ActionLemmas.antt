@@ -1,17 +1,14 @@
 -- What an instruction is about to do, from its word.
-use Rattle.std.proofs.Common.{ℕ, ◌≡◌, ◌<◌, ◌/◌, ◌≤◌, ◌==◌, Bool, true, false, refl, sym, ◌∙◌, ap, arith, inl, inr, if◌then◌else◌}
+use Rattle.std.proofs.Common.{ℕ, ◌≡◌, ◌<◌, ◌/◌, refl, arith, inl, inr, if◌then◌else◌}
 use Rattle.std.proofs.lemmas.Bool.{cases_eq}
 use Rattle.instruct.specs.declared.Profile.{Profile}
 use Rattle.instruct.specs.declared.Instruction.TheVariants.{Memory, Operate1, Operate2, Operate3, Iot, Unsupported as Undecoded}
 use Rattle.instruct.specs.Bits.{is_indirect, named_cell}
 use Rattle.instruct.specs.Operates.{is_halt}
-use Rattle.instruct.specs.Instructions.{meaning_of, kind_of, Undefined, Group2}
+use Rattle.instruct.specs.Instructions.{meaning_of, kind_of}
 use Rattle.instruct.proofs.KindLemmas.{memory_operation, group1_meaning, group2_meaning, group3_meaning_of, device_meaning_of, undefined_meaning, and_meaning, tad_meaning, isz_meaning, dca_meaning, jms_meaning, jmp_meaning}
 use Rattle.processor.specs.Cells.{Cells}
-use Rattle.processor.specs.Machine.{place}
-use Rattle.policy.specs.declared.actions.Action.{Action}
-use Rattle.policy.specs.declared.actions.Action.TheVariants.{Refers, Halts, GoesOn, Unsupported}
-use Rattle.policy.specs.declared.actions.Operation.TheVariants as operation
+use Rattle.policy.specs.declared.actions.Action.TheVariants.{Halts, GoesOn, Unsupported}
 use Rattle.policy.specs.Actions.{action_of, refers, operation_of}
 
 -- the six operations, one after the other

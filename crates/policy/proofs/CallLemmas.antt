@@ -1,12 +1,12 @@
 -- The call list, of which the code keeps the last call last.
-use Rattle.std.proofs.Common.{ℕ, ◌≡◌, ◌==◌, ◌&&◌, nat_lt, ◌-◌, List, [], ◌∷◌, ◌++◌, Option, Some, None, length, arith, refl, ap, ◌∙◌}
+use Rattle.std.proofs.Common.{ℕ, ◌≡◌, ◌==◌, ◌&&◌, nat_lt, ◌-◌, List, [], ◌∷◌, ◌++◌, Option, Some, None, length, arith, refl, ap}
 use Rattle.std.specs.Prelude.{slice_get}
 use Rattle.std.specs.Option.{option_to_list}
 use Rattle.std.proofs.lemmas.Grind.{common_steps}
 use Rattle.wordset.specs.Words.{minus}
 use Rattle.policy.specs.Declaration.{Declaration}
 use Rattle.policy.specs.Decided.{finds_call}
-use Rattle.policy.specs.Calls.{Call, Calls, current, returned}
+use Rattle.policy.specs.Calls.{Calls, returned}
 use Rattle.policy.specs.OpenCalls.{call_of, put_on, open_calls}
 use Rattle.policy.specs.declared.legality.Call.{Call as KeptCall}
 

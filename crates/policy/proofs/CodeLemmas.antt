@@ -1,7 +1,7 @@
 -- Fixed code stays as the tape has it.
-use Rattle.std.proofs.Common.{ℕ, ◌≡◌, ◌≢◌, ◌==◌, Bool, true, false, ◌&&◌, ◌||◌, ◌⊎◌, inl, inr, Option, Some, None, refl, sym, ap, ◌∙◌, subst}
-use Rattle.std.specs.Prelude.{if◌then◌else◌, unwrap_or}
-use Rattle.std.proofs.lemmas.Bool.{true≢false, false≢true}
+use Rattle.std.proofs.Common.{ℕ, ◌≡◌, ◌≢◌, ◌==◌, Bool, true, false, ◌&&◌, ◌||◌, ◌⊎◌, inl, inr, Some, refl, sym, ap, ◌∙◌, subst}
+use Rattle.std.specs.Prelude.{if◌then◌else◌}
+use Rattle.std.proofs.lemmas.Bool.{true≢false}
 use Rattle.std.proofs.lemmas.Bool.Decides.{eqb_tells}
 use Rattle.instruct.specs.Instructions.{Meaning, And, Tad, Isz, Dca, Jms, Jmp, Group1, Group2, Group3, Device, Undefined}
 use Rattle.processor.specs.Cells.{Cells, updated}
@@ -11,7 +11,7 @@ use Rattle.processor.proofs.CellLemmas.{updated_other}
 use Rattle.peripherals.specs.Loading.{laid}
 use Rattle.policy.specs.Declaration.{Routine, Declaration, IsDeclared}
 use Rattle.policy.specs.Calls.{Calls, current}
-use Rattle.policy.specs.Rules.{written_by, WritesDeclared, CountsOwnEntry, CallsEntries, KeepsCode, IsLegal}
+use Rattle.policy.specs.Rules.{WritesDeclared, CallsEntries, KeepsCode, IsLegal}
 
 module _ (image : Image) (d : Declaration) (dd : IsDeclared d) where
   -- a cell that is no fixed code

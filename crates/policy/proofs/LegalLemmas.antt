@@ -1,5 +1,5 @@
 -- The tests on an action decide the rules on its instruction.
-use Rattle.std.proofs.Common.{ℕ, ◌≡◌, ◌<◌, ◌≤◌, ◌+◌, ◌-◌, ◌%◌, ◌==◌, Bool, true, false, ◌&&◌, ◌||◌, ◌⊎◌, inl, inr, Option, Some, None, List, [], ◌∷◌, refl, sym, ap, ◌∙◌, subst, arith}
+use Rattle.std.proofs.Common.{ℕ, ◌≡◌, ◌<◌, ◌≤◌, ◌+◌, ◌%◌, ◌==◌, Bool, true, false, ◌&&◌, ◌||◌, ◌⊎◌, inl, inr, Option, Some, None, [], ◌∷◌, refl, sym, ap, ◌∙◌, subst, arith}
 use Rattle.std.specs.Prelude.{if◌then◌else◌, not, nat_lt}
 use Rattle.std.proofs.lemmas.Bool.{and_parts, true≢false, false≢true, ltb-true, lt-ltb}
 use Rattle.std.proofs.lemmas.Bool.Decides.{eqb_tells}
@@ -7,7 +7,7 @@ use Rattle.instruct.specs.Operates.{is_halt}
 use Rattle.instruct.specs.Instructions.{Meaning, And, Tad, Isz, Dca, Jms, Jmp, Group1, Group2, Group3, Device, Undefined}
 use Rattle.wordset.specs.Words.{Words, minus}
 use Rattle.processor.specs.Cells.{Cells, AreWords}
-use Rattle.processor.specs.Machine.{State, after, place, steps_pointer, instruction}
+use Rattle.processor.specs.Machine.{State, place, steps_pointer, instruction}
 use Rattle.processor.specs.Runs.{Image}
 use Rattle.policy.specs.declared.actions.Operation.{Operation}
 use Rattle.policy.specs.declared.actions.Operation.TheVariants as operation
@@ -16,10 +16,10 @@ use Rattle.policy.specs.declared.actions.Action.TheVariants as action
 use Rattle.policy.specs.declared.rules.Rule.{Rule}
 use Rattle.policy.specs.declared.rules.Rule.TheVariants as rule
 use Rattle.policy.specs.Declaration.{Routine, Declaration}
-use Rattle.policy.specs.Calls.{Call, Calls, current}
-use Rattle.policy.specs.Rules.{IsSupported, pointer_of, stored_at, written_by, read_by, StaysInBody, CountsOwnEntry, WritesDeclared, CallsEntries, FindsItsCall, ReturnsToItsCall, HaltsDeclared, IsListed, ReadsListed, KeepsCode, IsLegal}
-use Rattle.policy.specs.Actions.{action_of, refers}
-use Rattle.policy.specs.Decided.{is_own, is_isz, is_jms, is_jmp, stores, loads, implies, may_write, writes, calls_entry, finds_call, is_return, returns, is_listed, may_load, reads, broken_by, broken_by_reference, least_broken}
+use Rattle.policy.specs.Calls.{Calls, current}
+use Rattle.policy.specs.Rules.{IsSupported, written_by, read_by, StaysInBody, WritesDeclared, CallsEntries, FindsItsCall, ReturnsToItsCall, HaltsDeclared, IsListed, ReadsListed, KeepsCode, IsLegal}
+use Rattle.policy.specs.Actions.{action_of}
+use Rattle.policy.specs.Decided.{is_own, is_isz, is_jms, is_jmp, implies, may_write, writes, finds_call, returns, is_listed, may_load, reads, least_broken}
 use Rattle.policy.specs.Watching.{number_of, Keeps, IsLeastBroken}
 
 -- a test that is true exactly where a fact holds

@@ -1,16 +1,16 @@
 -- What a watched run tells is the only true thing to tell.
-use Rattle.std.proofs.Common.{ℕ, ◌≡◌, ◌<◌, ◌≤◌, ◌==◌, Bool, true, false, ◌⊎◌, inl, inr, Option, Some, None, Result, IfOk, List, [], refl, sym, ap, ◌∙◌, subst, arith}
+use Rattle.std.proofs.Common.{ℕ, ◌≡◌, ◌<◌, ◌==◌, inl, inr, Result, IfOk, List, [], refl, sym, ap, ◌∙◌, subst, arith}
 use Rattle.std.specs.Prelude.{if◌then◌else◌, take}
 use Rattle.std.proofs.lemmas.Bool.{cases_eq, cases_lt}
 use Rattle.std.proofs.lemmas.Result.{IfOk-weaker}
 use Rattle.processor.specs.Cells.{AreWords, cell_of}
 use Rattle.processor.specs.Machine.{State}
-use Rattle.processor.specs.Runs.{Image, IsStart}
+use Rattle.processor.specs.Runs.{Image}
 use Rattle.peripherals.specs.declared.Event.{Event}
 use Rattle.peripherals.specs.declared.Start.{Start}
 use Rattle.peripherals.specs.Devices.{WorldState}
 use Rattle.peripherals.specs.Events.{IsLoaded}
-use Rattle.peripherals.specs.Loading.{laid, loaded}
+use Rattle.peripherals.specs.Loading.{loaded}
 use Rattle.policy.specs.declared.rules.Rule.{Rule}
 use Rattle.policy.specs.declared.rules.Rule.TheVariants as rule
 use Rattle.policy.specs.declared.watcher.Watched.{Watched}
@@ -19,7 +19,7 @@ use Rattle.policy.specs.Declaration.{Declaration}
 use Rattle.policy.specs.Calls.{Calls}
 use Rattle.policy.specs.Rules.{IsLegal, KeepsCode}
 use Rattle.policy.specs.Runs.{IsSafe}
-use Rattle.policy.specs.Watching.{number_of, Keeps, IsLeastBroken, TriesAt, IsClean, BreaksAt, Tells}
+use Rattle.policy.specs.Watching.{number_of, Keeps, IsLeastBroken, IsClean, BreaksAt, Tells}
 use Rattle.policy.specs.WatchedSteps.{LegalStepTakesMemory}
 use Rattle.policy.proofs.CodeLemmas.{loaded_word, loaded_keeps}
 use Rattle.policy.proofs.WatchLemmas.{run_one}

@@ -1,25 +1,22 @@
 -- Watched runs: each event leads to one world, and the code stays.
-use Rattle.std.proofs.Common.{ℕ, ◌≡◌, ◌≢◌, ◌<◌, ◌≤◌, ◌+◌, ◌==◌, Bool, true, false, ◌&&◌, ◌||◌, ◌⊎◌, inl, inr, Option, Some, None, List, [], ◌∷◌, ◌++◌, refl, sym, ap, ◌∙◌, subst, arith}
+use Rattle.std.proofs.Common.{ℕ, ◌≡◌, ◌<◌, ◌≤◌, ◌+◌, Bool, true, false, inl, inr, Option, Some, None, List, [], ◌∷◌, ◌++◌, refl, sym, ap, ◌∙◌, subst, arith}
 use Rattle.std.specs.Prelude.{if◌then◌else◌, not, IsTrue, take, length, slice_get}
 use Rattle.std.proofs.lemmas.Option.{slice_get_within}
-use Rattle.std.proofs.lemmas.Bool.{true≢false, false≢true, cases_eq}
-use Rattle.std.proofs.lemmas.Bool.Decides.{eqb_tells}
+use Rattle.std.proofs.lemmas.Bool.{cases_eq}
 use Rattle.instruct.specs.declared.Profile.{Profile}
 use Rattle.instruct.specs.Operates.{is_halt, operate2_of, reads_switches_of, skips_of}
 use Rattle.instruct.specs.Instructions.{Meaning, And, Tad, Isz, Dca, Jms, Jmp, Group1, Group2, Group3, Device, Undefined, DeviceAction, Skips, Ors, Clears, Takes, Leaves}
-use Rattle.processor.specs.Cells.{Cells, updated}
-use Rattle.processor.specs.Machine.{State, Answer, Silent, Truth, Byte, Switches as Told, Answers, Does, Step, instruction, after, place, seen, steps_pointer, next_pc}
+use Rattle.processor.specs.Machine.{State, Answer, Silent, Truth, Byte, Switches as Told, Answers, Does, instruction, after, next_pc}
 use Rattle.processor.specs.Runs.{Image}
-use Rattle.processor.proofs.CellLemmas.{updated_other}
 use Rattle.peripherals.specs.declared.Event.{Event}
 use Rattle.peripherals.specs.declared.Event.TheVariants.{Step as Instruct, Key, PrinterDone, ReaderDone, PunchDone, Switches, Continue}
 use Rattle.peripherals.specs.Devices.{Devices, WorldState, answer_of, CarriesOut, Instructs}
 use Rattle.peripherals.specs.Events.{Happens, Steps}
 use Rattle.peripherals.specs.Seen.{puts_out}
 use Rattle.policy.specs.declared.actions.Action.{Action}
-use Rattle.policy.specs.Declaration.{Routine, Declaration, IsDeclared}
-use Rattle.policy.specs.Calls.{Call, Calls, current, returned, calls_of, calls_after}
-use Rattle.policy.specs.Rules.{written_by, WritesDeclared, CountsOwnEntry, CallsEntries, KeepsCode, IsLegal}
+use Rattle.policy.specs.Declaration.{Declaration, IsDeclared}
+use Rattle.policy.specs.Calls.{Calls, calls_of, calls_after}
+use Rattle.policy.specs.Rules.{KeepsCode, IsLegal}
 use Rattle.policy.specs.Runs.{HappensDeclared, DeclaredEvents, calls_by, calls_running, resumed}
 use Rattle.policy.specs.Actions.{action_of}
 use Rattle.policy.specs.declared.legality.Call.{Call as KeptCall}
@@ -27,7 +24,7 @@ use Rattle.policy.specs.OpenCalls.{open_calls}
 use Rattle.policy.specs.declared.rules.Rule.{Rule}
 use Rattle.policy.specs.Watching.{IsLeastBroken, TriesAt, IsCleanBefore, IsClean, BreaksAt}
 use Rattle.policy.specs.Decided.{followed, IsCall}
-use Rattle.policy.specs.WatchedSteps.{Goes, Stops, Watches, CallsRoutine, TakesMemory, Passes, waits, Grows, GrowsAt, LegalStepTakesMemory}
+use Rattle.policy.specs.WatchedSteps.{Goes, Stops, CallsRoutine, TakesMemory, Passes, waits, Grows, GrowsAt, LegalStepTakesMemory}
 use Rattle.policy.proofs.CodeLemmas.{step_keeps}
 
 -- one answer, one accumulator and one skip

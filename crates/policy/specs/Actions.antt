@@ -6,7 +6,6 @@ use Rattle.processor.specs.Cells.{Cells}
 use Rattle.processor.specs.Machine.{place}
 use Rattle.policy.specs.declared.actions.Operation.{Operation}
 use Rattle.policy.specs.declared.actions.Operation.TheVariants as operation
-use Rattle.policy.specs.declared.actions.Reference.{Reference}
 use Rattle.policy.specs.declared.actions.Action.{Action}
 use Rattle.policy.specs.declared.actions.Action.TheVariants.{Refers, Halts, GoesOn, Unsupported}
 

@@ -1,5 +1,5 @@
 -- Each rule as a test, on what the instruction is about to do, the running routine and the cells.
-use Rattle.std.specs.Prelude.{◌≡◌, ℕ, ◌==◌, Bool, true, false, not, ◌&&◌, ◌||◌, nat_lt, if◌then◌else◌, Option, Some, None, List, [], ◌∷◌}
+use Rattle.std.specs.Prelude.{◌≡◌, ℕ, ◌==◌, Bool, true, false, not, ◌&&◌, ◌||◌, nat_lt, if◌then◌else◌, Option, Some, None, [], ◌∷◌}
 use Rattle.wordset.specs.Words.{Words, minus}
 use Rattle.processor.specs.Cells.{Cells}
 use Rattle.processor.specs.Machine.{steps_pointer}
@@ -11,7 +11,7 @@ use Rattle.policy.specs.declared.actions.Action.TheVariants.{Refers, Halts, Goes
 use Rattle.policy.specs.declared.rules.Rule.{Rule}
 use Rattle.policy.specs.declared.rules.Rule.TheVariants as rule
 use Rattle.policy.specs.Declaration.{Routine, Declaration}
-use Rattle.policy.specs.Calls.{Call, Calls, returned}
+use Rattle.policy.specs.Calls.{Calls, returned}
 
 -- The cell is the running routine's own entry.
 abbrev pub is_own : Routine → ℕ → Bool

@@ -1,4 +1,4 @@
-use Rattle.std.proofs.Common.{◌≡◌, true, sym, ◌∙◌, ap, refl}
+use Rattle.std.proofs.Common.{◌≡◌, true, sym, ◌∙◌, refl}
 use Rattle.processor.specs.Cells.{cell_of}
 use Rattle.processor.specs.Machine.{is_auto_index}
 use Rattle.processor.proofs.StepLemmas.{stepped_place}

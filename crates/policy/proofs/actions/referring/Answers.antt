@@ -1,4 +1,4 @@
-use Rattle.std.proofs.Common.{sym, refl, ◌∙◌}
+use Rattle.std.proofs.Common.{refl}
 use Rattle.processor.specs.Cells.{cell_of}
 use Rattle.policy.proofs.ActionLemmas.{reference_action}
 use Rattle.policy.proofs.actions.referring.Goals as goal

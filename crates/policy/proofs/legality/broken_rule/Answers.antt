@@ -1,4 +1,4 @@
-use Rattle.std.proofs.Common.{sym, ◌∙◌, ◌≡◌}
+use Rattle.std.proofs.Common.{sym, ◌∙◌}
 use Rattle.processor.specs.Steps.{state_of}
 use Rattle.policy.specs.Kept.{meaning}
 use Rattle.policy.specs.OpenCalls.{open_calls}

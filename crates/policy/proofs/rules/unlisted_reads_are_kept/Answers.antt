@@ -1,4 +1,4 @@
-use Rattle.std.proofs.Common.{◌≡◌, None, inl, sym, subst, Option}
+use Rattle.std.proofs.Common.{inl, sym, subst, Option}
 use Rattle.wordset.specs.Words.{Words}
 use Rattle.policy.specs.Rules.{IsListed}
 use Rattle.policy.proofs.rules.unlisted_reads_are_kept.Goals as goal

@@ -1,8 +1,6 @@
-use Rattle.std.proofs.Common.{◌≡◌, ◌-◌, true, false, None, List, [], take, sym, ◌∙◌, ap, refl, arith, vec_len}
-use Rattle.std.proofs.lemmas.Grind.{common_steps}
+use Rattle.std.proofs.Common.{◌≡◌, true, false, sym, ◌∙◌, refl}
 use Rattle.policy.specs.Kept.{meaning}
 use Rattle.policy.specs.Decided.{is_call, is_return}
-use Rattle.policy.specs.declared.legality.Call.{Call}
 use Rattle.policy.proofs.CallLemmas.{more_calls, popped_calls}
 use Rattle.policy.proofs.watcher.follow_calls.Goals as goal
 

@@ -1,4 +1,3 @@
-use Rattle.std.proofs.Common.{ap}
 use Rattle.processor.specs.Machine.{State}
 use Rattle.processor.specs.Cells.{AreWords}
 use Rattle.policy.proofs.watcher.holds_words.Goals as goal

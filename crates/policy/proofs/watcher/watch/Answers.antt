@@ -1,15 +1,11 @@
-use Rattle.std.proofs.Common.{◌≡◌, ℕ, ◌<◌, IfOk, subst, ap, sym}
-use Rattle.processor.specs.Cells.{AreWords}
+use Rattle.std.proofs.Common.{◌≡◌, subst}
 use Rattle.peripherals.specs.Devices.{WorldState}
 use Rattle.peripherals.specs.Loading.{image_of, loaded}
 use Rattle.peripherals.specs.World.{view}
 use Rattle.std.proofs.lemmas.Result.{IfOk-weaker, on_err_weaker}
 use Rattle.policy.specs.Runs.{IsSafe}
 use Rattle.policy.specs.Kept.{meaning}
-use Rattle.policy.specs.Watching.{IsClean, BreaksAt, Tells}
-use Rattle.policy.specs.declared.rules.Rule.{Rule}
-use Rattle.policy.specs.declared.watcher.Watched.{Watched}
-use Rattle.policy.specs.declared.watcher.Watched.TheVariants.{Clean, Broken}
+use Rattle.policy.specs.Watching.{IsClean}
 use Rattle.policy.proofs.TellLemmas.{told_of, tells_clean, tells_broken, clean_tells, broken_tells, safe_clean, growth_of}
 use Rattle.policy.proofs.watcher.watch.Goals as goal
 

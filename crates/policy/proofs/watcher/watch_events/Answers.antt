@@ -1,4 +1,4 @@
-use Rattle.std.proofs.Common.{◌≡◌, ◌+◌, ◌<◌, ◌++◌, ◌∷◌, [], Some, None, take, length, refl, sym, ap, ◌∙◌}
+use Rattle.std.proofs.Common.{◌≡◌, ◌+◌, ◌++◌, ◌∷◌, [], Some, take, length, refl, sym, ap, ◌∙◌}
 use Rattle.std.specs.Prelude.{slice_get}
 use Rattle.std.proofs.lemmas.List.{take_more}
 use Rattle.std.proofs.lemmas.Option.{slice_get_read}
@@ -6,8 +6,7 @@ use Rattle.peripherals.specs.declared.Event.{Event}
 use Rattle.peripherals.specs.World.{view}
 use Rattle.policy.specs.Kept.{meaning}
 use Rattle.policy.specs.OpenCalls.{open_calls}
-use Rattle.policy.specs.WatchedSteps.{Goes, Stops}
-use Rattle.policy.proofs.WatchLemmas.{none_taken, taken_more, all_taken, stopped, grown}
+use Rattle.policy.proofs.WatchLemmas.{taken_more, all_taken, stopped, grown}
 use Rattle.policy.proofs.watcher.watch_events.Goals as goal
 
 pub returns-in-Ok-Some-clause-tells : goal.returns-in-Ok-Some-clause-tells

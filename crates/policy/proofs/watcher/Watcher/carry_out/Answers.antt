@@ -1,4 +1,3 @@
-use Rattle.std.proofs.Common.{◌≡◌}
 use Rattle.processor.specs.Steps.{state_of}
 use Rattle.peripherals.specs.World.{view}
 use Rattle.policy.specs.Kept.{meaning}

@@ -40,12 +40,12 @@ fails_as (Some bytes) text TooMany other read fails = rw read at fails
 fails_as (Some bytes) text (BadLine n) other read fails = rw read at fails
 
 -- the fault of a text of events, after a tape that was read
-pub text_fault : (fault : EventsFault) (image : List (Option ℕ)) (text : List ℕ) (marked text_marked : Bool) (tape known : Option (List ℕ)) →
+pub text_fault : (fault : EventsFault) (image : List (Option ℕ)) (text : List ℕ) (marked text_marked : Bool) (tape left known : Option (List ℕ)) →
     IfSome tape (λ frames. IsTape (take 65536 frames) image) → IfSome known (λ bytes. text ≡ take 65537 bytes) → Fails text fault →
-    IsEventsFault marked tape text_marked known (fault_of_events fault)
-text_fault NoMemory image text marked text_marked tape known is read fails = tt
-text_fault TooMany image text marked text_marked tape known is read fails = (is_tape tape image is, fails_as known text TooMany (λ e. cc) read fails)
-text_fault (BadLine n) image text marked text_marked tape known is read fails = (is_tape tape image is, fails_as known text (BadLine n) (λ e. cc) read fails)
+    IsEventsFault marked tape left text_marked known (fault_of_events fault)
+text_fault NoMemory image text marked text_marked tape left known is read fails = tt
+text_fault TooMany image text marked text_marked tape left known is read fails = (is_tape tape image is, fails_as known text TooMany (λ e. cc) read fails)
+text_fault (BadLine n) image text marked text_marked tape left known is read fails = (is_tape tape image is, fails_as known text (BadLine n) (λ e. cc) read fails)
 
 -- an answer that is this fault
 pub error_is : (r : Result Status Fault) (f : Fault) (P : Fault → Type 0) → IsErrAnd r (λ g. g ≡ f) → P f → IfErr r P

@@ -1,5 +1,5 @@
 -- Which faults a command's own work may have.
-use Rattle.std.specs.Prelude.{ℕ, ◌≡◌, Bool, true, false, Result, Ok, Err, Option, List, IfSome, ◌||◌, take}
+use Rattle.std.specs.Prelude.{ℕ, ◌≡◌, Bool, true, false, Result, Ok, Err, Option, List, IfSome, ◌⊎◌, take}
 use Rattle.bin_tape.specs.Refuses.{Refuses, IsUnfinished}
 use Rattle.bin_tape.specs.Serving.{Gave}
 use Rattle.bin_tape.specs.Tape.{IsTape}
@@ -57,6 +57,10 @@ IsInputFault marked (Device Read) = marked ≡ true
 IsInputFault marked (Device Write) = ⊥
 IsInputFault marked fault.NoMemory = Unit {0}
 
+-- A read of a tape failed, and the frames given before it bring no answer.
+abbrev pub FailsToRead : Bool → Option (List ℕ) → Option (List ℕ) → Type 0
+FailsToRead marked old new = (marked ≡ true) × Gave old new IsUnfinished
+
 -- A fault of the tape is the first fault of its bytes, if no read failed; a read fault comes where one did, and the bytes
 -- given before it bring no answer.
 abbrev pub IsTapeFault : Bool → Option (List ℕ) → Option (List ℕ) → Fault → Type 0
@@ -65,7 +69,7 @@ IsTapeFault marked old new EmptyImage = ⊥
 IsTapeFault marked old new (Source _) = ⊥
 IsTapeFault marked old new (Declared _) = ⊥
 IsTapeFault marked old new (Events _) = ⊥
-IsTapeFault marked old new (Device Read) = (marked ≡ true) × Gave old new IsUnfinished
+IsTapeFault marked old new (Device Read) = FailsToRead marked old new
 IsTapeFault marked old new (Device Write) = Unit {0}
 IsTapeFault marked old new fault.NoMemory = Unit {0}
 
@@ -80,13 +84,13 @@ IsTextFault text NoMemory = ⊥
 IsTextFault text fault = Fails text fault
 
 -- The same with a text of events, which is looked at where the tape is good; a read of either may fail.
-abbrev pub IsEventsFault : Bool → Option (List ℕ) → Bool → Option (List ℕ) → Fault → Type 0
-IsEventsFault marked frames text_marked text (Tape fault) = IfSome frames (λ bytes. Refuses 65536 bytes fault)
-IsEventsFault marked frames text_marked text EmptyImage = ⊥
-IsEventsFault marked frames text_marked text (Source fault) = ⊥
-IsEventsFault marked frames text_marked text (Declared fault) = ⊥
-IsEventsFault marked frames text_marked text (Events fault) =
+abbrev pub IsEventsFault : Bool → Option (List ℕ) → Option (List ℕ) → Bool → Option (List ℕ) → Fault → Type 0
+IsEventsFault marked frames left text_marked text (Tape fault) = IfSome frames (λ bytes. Refuses 65536 bytes fault)
+IsEventsFault marked frames left text_marked text EmptyImage = ⊥
+IsEventsFault marked frames left text_marked text (Source fault) = ⊥
+IsEventsFault marked frames left text_marked text (Declared fault) = ⊥
+IsEventsFault marked frames left text_marked text (Events fault) =
     IfSome frames AreTape × IfSome text (λ bytes. IsTextFault (take 65537 bytes) fault)
-IsEventsFault marked frames text_marked text (Device Read) = (marked || text_marked) ≡ true
-IsEventsFault marked frames text_marked text (Device Write) = Unit {0}
-IsEventsFault marked frames text_marked text fault.NoMemory = Unit {0}
+IsEventsFault marked frames left text_marked text (Device Read) = FailsToRead marked frames left ⊎ (text_marked ≡ true)
+IsEventsFault marked frames left text_marked text (Device Write) = Unit {0}
+IsEventsFault marked frames left text_marked text fault.NoMemory = Unit {0}

@@ -1,5 +1,5 @@
 -- What `watch` writes, and why it may have no answer.
-use Rattle.std.specs.Prelude.{ℕ, ◌≡◌, Bool, true, ◌||◌, ◌++◌, codes, decimal, IfSome, List, Option, take}
+use Rattle.std.specs.Prelude.{ℕ, ◌≡◌, Bool, true, ◌⊎◌, ◌++◌, codes, decimal, IfSome, List, Option, take}
 use Rattle.std.specs.Io.KnownBytes.{Appends}
 use Rattle.bin_tape.specs.Bytes.{AppendsFront}
 use Rattle.bin_tape.specs.Refuses.{Refuses}
@@ -21,7 +21,7 @@ use Rattle.workbench.specs.declared.status.Fault.TheVariants as fault
 use Rattle.workbench.specs.declared.status.DeviceFault.TheVariants.{Read, Write}
 use Rattle.workbench.specs.declared.status.Status.{Status}
 use Rattle.workbench.specs.declared.status.Status.TheVariants.{Done, Refused}
-use Rattle.workbench.specs.Faults.{AreTape, IsTextFault}
+use Rattle.workbench.specs.Faults.{AreTape, IsTextFault, FailsToRead}
 use Rattle.workbench.specs.Running.{fresh}
 
 -- The line for event n, which breaks rule r.
@@ -101,14 +101,14 @@ IsEventsInputFault marked list (Device Write) = ⊥
 IsEventsInputFault marked list fault.NoMemory = Unit {0}
 
 -- Each input is looked at where those before it are good: the tape, the declaration, the events. A read of each may fail.
-abbrev pub IsWatchFault : Bool → Option (List ℕ) → Option (List ℕ) → Option (List ℕ) → Fault → Type 0
-IsWatchFault marked frames text list (Tape fault) = IfSome frames (λ bytes. Refuses 65536 bytes fault)
-IsWatchFault marked frames text list EmptyImage = ⊥
-IsWatchFault marked frames text list (Source fault) = ⊥
-IsWatchFault marked frames text list (Declared fault) =
+abbrev pub IsWatchFault : Bool → Option (List ℕ) → Option (List ℕ) → Bool → Option (List ℕ) → Option (List ℕ) → Fault → Type 0
+IsWatchFault marked frames left texts_marked text list (Tape fault) = IfSome frames (λ bytes. Refuses 65536 bytes fault)
+IsWatchFault marked frames left texts_marked text list EmptyImage = ⊥
+IsWatchFault marked frames left texts_marked text list (Source fault) = ⊥
+IsWatchFault marked frames left texts_marked text list (Declared fault) =
     IfSome frames AreTape × IfSome text (λ bytes. IsDeclarationFault (take 16385 bytes) fault)
-IsWatchFault marked frames text list (Events fault) =
+IsWatchFault marked frames left texts_marked text list (Events fault) =
     IfSome frames AreTape × IfSome text AreDeclaration × IfSome list (λ bytes. IsTextFault (take 65537 bytes) fault)
-IsWatchFault marked frames text list (Device Read) = marked ≡ true
-IsWatchFault marked frames text list (Device Write) = Unit {0}
-IsWatchFault marked frames text list fault.NoMemory = Unit {0}
+IsWatchFault marked frames left texts_marked text list (Device Read) = FailsToRead marked frames left ⊎ (texts_marked ≡ true)
+IsWatchFault marked frames left texts_marked text list (Device Write) = Unit {0}
+IsWatchFault marked frames left texts_marked text list fault.NoMemory = Unit {0}

@@ -96,7 +96,7 @@ pub fn run_events<A: Allocator + Copy, R: ByteSource, E: ByteSource, W: ByteSink
     requires writable { W.mark out.old ≡ false }
     ensures run { IfOk result (λ status. options.trace ≡ false → IfSome (R.remaining tape.old) (λ frames. IfSome (E.remaining text.old)
         (λ bytes. WritesEventRun options.profile options.start bytes frames (W.taken out.old) (W.taken out.new) status))) }
-    ensures faults { IfErr result (IsEventsFault (R.mark tape.new) (R.remaining tape.old) (E.mark text.new) (E.remaining text.old)) }
+    ensures faults { IfErr result (IsEventsFault (R.mark tape.new) (R.remaining tape.old) (R.remaining tape.new) (E.mark text.new) (E.remaining text.old)) }
     ensures front { W.mark out.new ≡ true → options.trace ≡ false → IfSome (R.remaining tape.old) (λ frames. IfSome (E.remaining text.old)
         (λ bytes. FrontOfEventRun options.profile options.start bytes frames (W.taken out.old) (W.taken out.new))) }
     ensures nothing { OnErr result (W.mark out.new ≡ false → options.trace ≡ false → W.taken out.new ≡ W.taken out.old) }

@@ -19,7 +19,7 @@ returns-clause-run g c = λ quiet.
 pub returns-in_err-list-clause-faults : goal.returns-in_err-list-clause-faults
 returns-in_err-list-clause-faults g c =
     error_is c.from_residual-in_err-list.result (fault_of_events c.in_err-list.field-0.0) _ c.from_residual-in_err-list.ensures.1
-    (text_fault c.in_err-list.field-0.0 c.in_ok-image.image c.in_ok-bytes.bytes.items (g.R.ByteSource.mark c.read_from.new.source) (g.E.ByteSource.mark c.read_text.new.source) _ _ c.in_ok-image.ensures.tape c.in_ok-bytes.ensures.text (rw c.deref.ensures.value at c.in_err-list.ensures.refused))
+    (text_fault c.in_err-list.field-0.0 c.in_ok-image.image c.in_ok-bytes.bytes.items (g.R.ByteSource.mark c.read_from.new.source) (g.E.ByteSource.mark c.read_text.new.source) _ _ _ c.in_ok-image.ensures.tape c.in_ok-bytes.ensures.text (rw c.deref.ensures.value at c.in_err-list.ensures.refused))
 
 pub returns-in_err-put-clause-front : goal.returns-in_err-put-clause-front
 returns-in_err-put-clause-front g c = λ marked quiet.

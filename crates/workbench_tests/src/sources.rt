@@ -5,8 +5,10 @@ use bin_tape::{Image, write_tape};
 use instruct::Profile;
 use pal_acts::Code;
 use pal_asm::PalFault;
+use pal_text::{TextFault, statements};
 use policy::DeclarationFault;
-use std::alloc::Global;
+use refusing::Refusing;
+use std::alloc::{AllocError, Allocator, Global};
 use std::test::Fail;
 use word12::Word;
 use workbench::assembling::{assemble, list};
@@ -21,6 +23,10 @@ fn halt_tape() -> [u8; 38] {
     frames[16..22].copy_from_slice(&[0o102, 0o000, 0o074, 0o002, 0o002, 0o000]);
     frames
 }
+
+/// A program that prints HELLO: 26 words from 0200 on.
+static HELLO: &[u8] =
+    b"/HELLO\n*200\nSTART, CLA CLL\n TLS\n TAD TABLE\n DCA 10\n TAD COUNT\n DCA LEFT\nLOOP, TAD I 10\n JMS TYPE\n ISZ LEFT\n JMP LOOP\n HLT\n JMP START\nTYPE, 0\n TSF\n JMP .-1\n TLS\n CLA\n JMP I TYPE\nTABLE, LEFT\nCOUNT, -5\nLEFT, 0\n 310;305;314;314;317\n$\n";
 
 fn fault(code: Code, part: usize, line: usize) -> Fault {
     Fault::Source(PalFault { code, part, line })
@@ -70,6 +76,17 @@ fn sources_are_assembled_and_listed(rt: HostRuntime) -> Result<(), Fail> {
 }
 
 #[test]
+fn a_tape_has_its_frames_and_its_checksum(rt: HostRuntime) -> Result<(), Fail> {
+    let mut out = MemorySink::new(rt.alloc(), 1000);
+    let mut parts = [MemorySource::new(HELLO)];
+    let ended = assemble(rt.alloc(), &mut parts, Profile::Pdp8I, &mut out);
+    assert_eq!(rt; ended, Ok(Status::Done));
+    assert_eq!(rt; out.bytes().len(), 88);
+    assert_eq!(rt; &out.bytes()[70..72], [0o021u8, 0o077].as_slice());
+    Ok(())
+}
+
+#[test]
 fn parts_are_one_source(rt: HostRuntime) -> Result<(), Fail> {
     let mut out = MemorySink::new(rt.alloc(), 1000);
     let mut parts = [
@@ -78,7 +95,8 @@ fn parts_are_one_source(rt: HostRuntime) -> Result<(), Fail> {
     ];
     let ended = list(rt.alloc(), &mut parts, Profile::Pdp8I, &mut out);
     assert_eq!(rt; ended, Ok(Status::Done));
-    let text = b"            A=5\n            PAUSE\n0200  1005  TAD A\n            $\n\nA       0005\n";
+    let text =
+        b"            A=5\n            PAUSE\n0200  1005  TAD A\n            $\n\nA       0005\n";
     assert_eq!(rt; out.bytes(), text.as_slice());
     Ok(())
 }
@@ -115,6 +133,74 @@ fn sources_are_refused_by_their_first_fault(rt: HostRuntime) -> Result<(), Fail>
     let ended = list(rt.alloc(), &mut failing, Profile::Pdp8I, &mut out);
     assert_eq!(rt; ended, Err(Fault::Device(DeviceFault::Read)));
     Ok(())
+}
+
+/// 1,024 assignments, and then a line.
+fn too_many_symbols<A: Allocator>(alloc: A, last: &[u8]) -> Result<Vec<u8, A>, AllocError> {
+    let mut source = Vec::new(alloc);
+    for number in 0..1024u16 {
+        let digits = Word::new(number).unwrap_or(Word::ZERO).to_octal();
+        source.extend_from_slice(b"A")?;
+        source.extend_from_slice(&digits)?;
+        source.extend_from_slice(b"=1\n")?;
+    }
+    source.extend_from_slice(last)?;
+    Ok(source)
+}
+
+#[test]
+fn of_two_faults_the_first_is_told(rt: HostRuntime) -> Result<(), Fail> {
+    let rows: [(&[u8], Code, usize); 9] = [
+        (b"8\n?\n", Code::IllegalCharacter, 2),
+        (b"X,1\nX,8\n", Code::IllegalCharacter, 2),
+        (b"X,1\nX,10000\n", Code::NumberTooLarge, 2),
+        (b"X,1\nX,Y=Q\n", Code::DuplicateTag, 2),
+        (b"A=1\nA=Q\n", Code::Undefined, 2),
+        (b"A=1\nA=2;PAUSE\n", Code::Redefined, 2),
+        (b"TAD Q\nPAUSE\n", Code::PauseInLastPart, 2),
+        (b"TAD 600\nTAD Q\n", Code::IllegalReference, 1),
+        (b"TAD Q\nTAD 600\n", Code::Undefined, 1),
+    ];
+    for (source, code, line) in rows {
+        let mut out = MemorySink::new(rt.alloc(), 1000);
+        let mut parts = [MemorySource::new(source)];
+        let ended = assemble(rt.alloc(), &mut parts, Profile::Pdp8I, &mut out);
+        assert_eq!(rt; ended, Err(fault(code, 1, line)));
+    }
+    let full: [(&[u8], Code); 4] = [
+        (b"B=1\nPAUSE\n", Code::TableFull),
+        (b"B=Q\n", Code::Undefined),
+        (b"B,A0001=2\n", Code::TableFull),
+        (b"A0001=2;B=1\n", Code::Redefined),
+    ];
+    for (last, code) in full {
+        let source = too_many_symbols(rt.alloc(), last)?;
+        let mut out = MemorySink::new(rt.alloc(), 1000);
+        let mut parts = [MemorySource::new(&source)];
+        let ended = assemble(rt.alloc(), &mut parts, Profile::Pdp8I, &mut out);
+        assert_eq!(rt; ended, Err(fault(code, 1, 1025)));
+    }
+    Ok(())
+}
+
+#[test]
+fn each_growth_of_a_part_is_refused_in_turn(rt: HostRuntime) -> Result<(), Fail> {
+    for count in 0..200u64 {
+        let heap = Refusing::new(rt.alloc(), count);
+        match statements(&heap, HELLO) {
+            Ok(part) => {
+                assert!(rt; !heap.has_refused());
+                assert_eq!(rt; part.statements.len(), 28);
+                assert!(rt; count > 2, "{count}");
+                return Ok(());
+            }
+            Err(fault) => {
+                assert_eq!(rt; fault, TextFault::NoMemory);
+                assert!(rt; heap.has_refused());
+            }
+        }
+    }
+    panic!(rt; "it never ended")
 }
 
 #[test]
@@ -208,10 +294,7 @@ fn each_input_is_refused_before_the_next(rt: HostRuntime) -> Result<(), Fail> {
 #[test]
 fn these_faults_have_their_lines(rt: HostRuntime) -> Result<(), Fail> {
     for (fault, line) in [
-        (
-            fault(Code::IllegalReference, 1, 1),
-            "pdp8: source: IR 1 1",
-        ),
+        (fault(Code::IllegalReference, 1, 1), "pdp8: source: IR 1 1"),
         (Fault::EmptyImage, "pdp8: tape: EmptyImage"),
         (
             Fault::Declared(DeclarationFault::Overlap(word(0o200))),

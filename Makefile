@@ -16,12 +16,14 @@ install:
 	cd crates/pdp8 && rt run < stdin
 	install -D -m 755 crates/pdp8/out/pdp8 $(PREFIX)/bin/pdp8
 
-# Times the machine, the tapes and the sets; needs Debian's simh.
+# Times the machine, the tapes, the sets, the assembler and the watcher; needs Debian's simh and palbart.
 bench:
 	bench/run.sh
 	bench/tapes.sh
 	bench/start.sh
 	bench/wordset.sh
+	bench/assembler.sh
+	bench/watch.sh
 
 # Lays out the sources.
 fmt:

@@ -190,7 +190,7 @@ fn each_growth_of_a_part_is_refused_in_turn(rt: HostRuntime) -> Result<(), Fail>
         match statements(&heap, HELLO) {
             Ok(part) => {
                 assert!(rt; !heap.has_refused());
-                assert_eq!(rt; part.statements.len(), 28);
+                assert_eq!(rt; part.statements.len(), 29);
                 assert!(rt; count > 2, "{count}");
                 return Ok(());
             }

@@ -1,0 +1,51 @@
+#!/bin/bash
+# Times `pdp8 watch` beside `pdp8 run` on the same tape and the same events: a million steps of a loop that counts a cell up
+# through a routine, so that each fourth step is a call or a return. By turns in one run, so many times each; prints the
+# least processor time of each.
+# usage: bench/watch.sh [RUNS]
+set -euo pipefail
+top=$(cd "$(dirname "$0")/.." && pwd)
+runs=${1:-7}
+work=$(mktemp -d)
+trap 'rm -r "$work"' EXIT
+# Building runs the program once, whose lines are left out.
+(cd "$top/crates/pdp8" && rt run <stdin >"$work/built" 2>&1) || { cat "$work/built"; exit 1; }
+program=$top/crates/pdp8/out/pdp8
+
+cat >"$work/loop.pal" <<'SOURCE'
+*200
+LOOP,   JMS COUNT
+        NOP
+        NOP
+        JMP LOOP
+COUNT,  0
+        ISZ TOTAL
+        NOP
+        JMP I COUNT
+TOTAL,  0
+$
+SOURCE
+cat >"$work/loop.declaration" <<'DECLARATION'
+start 0200
+main 0200-0203
+sub 0204 body 0205-0207 returns 0
+var 0210
+DECLARATION
+echo 'step 1000000' >"$work/loop.events"
+"$program" assemble "$work/loop.bin" "$work/loop.pal"
+
+# Seconds of processor time that a command takes; what it writes goes to a file.
+TIMEFORMAT=%U
+seconds() { { time "${@:2}" >"$1" 2>&1 </dev/null; } 2>&1; }
+
+for ((run = 0; run < runs; run++)); do
+    echo "run $(seconds "$work/ran" "$program" run "$work/loop.bin" --events "$work/loop.events")"
+    echo "watch $(seconds "$work/watched" "$program" watch "$work/loop.bin" "$work/loop.declaration" "$work/loop.events")"
+done >"$work/times"
+cat "$work/ran" "$work/watched"
+awk '
+    !($1 in least) || $2 < least[$1] { least[$1] = $2 }
+    END {
+        for (name in least) printf "%-6s %.3f s for a million events\n", name, least[name]
+        printf "watching takes %.1f times as long\n", least["watch"] / least["run"]
+    }' "$work/times"

@@ -1,5 +1,5 @@
 -- The statements of a part stand on lines that never fall.
-use Rattle.std.proofs.Common.{◌≡◌, ◌∙◌, sym, ap, subst, ℕ, ◌+◌, ◌≤◌, List, [], ◌∷◌, ◌++◌, append_assoc, Bool, Option, Some, None, arith, ◌||◌, ◌&&◌, length}
+use Rattle.std.proofs.Common.{◌∙◌, sym, ap, subst, ℕ, ◌+◌, ◌≤◌, List, [], ◌∷◌, ◌++◌, append_assoc, Bool, Option, Some, None, arith, ◌||◌, ◌&&◌, length}
 use Rattle.std.specs.Prelude.{reverse, map, nat_eq, if◌then◌else◌}
 use Rattle.std.proofs.lemmas.Bool.{cond_both}
 use Rattle.std.proofs.lemmas.List.{reverse-append, append-nil}

@@ -1,6 +1,6 @@
 -- Words that are in order, given to lines in one pass, are given to the lines on which they stand.
-use Rattle.std.proofs.Common.{◌≡◌, ◌∙◌, sym, ap, refl, ℕ, ◌+◌, ◌<◌, ◌≤◌, List, [], ◌∷◌, ◌++◌, Bool, true, false, ◌||◌, ◌&&◌, arith, inl, inr, ◌⊎◌}
-use Rattle.std.specs.Prelude.{filter, nat_eq, nat_lt, if◌then◌else◌}
+use Rattle.std.proofs.Common.{◌≡◌, ◌∙◌, sym, ap, refl, ◌<◌, ◌≤◌, List, [], ◌∷◌, ◌++◌, true, false, ◌||◌, ◌&&◌, arith, inl, inr, ◌⊎◌}
+use Rattle.std.specs.Prelude.{filter, nat_eq, nat_lt}
 use Rattle.std.proofs.lemmas.Bool.{cond-true, cond-false, cases_order, cond_both, lt-ltb, le-ltb, eq-eqb, ne_eqb}
 use Rattle.pal_text.specs.Characters.{characters}
 use Rattle.pal_asm.specs.declared.deed.Place.{Place}
@@ -47,20 +47,20 @@ data Stands (p : Place) (w : ListedWord) : Type 0 where
 stands : (p : Place) (w : ListedWord) → Stands p w
 stands p w = elim (cases_order w.place.part p.part) [
   | inl e ↦ elim (cases_order w.place.line p.line) [
-      | inl f ↦ there
-          (ap (λ t. t || (nat_eq w.place.part p.part && nat_lt w.place.line p.line)) (le-ltb w.place.part p.part (omega arith)) ∙ ap (λ t. nat_eq w.place.part p.part && t) (le-ltb w.place.line p.line (omega arith)) ∙ ap (λ t. t && false) (eq-eqb w.place.part p.part e))
-          (ap (λ t. t && nat_eq w.place.line p.line) (eq-eqb w.place.part p.part e) ∙ eq-eqb w.place.line p.line f)
-          (inr (sym e, omega arith))
-          (inr (e, omega arith))
-      | inr (inl lt) ↦ before
-          (ap (λ t. t || (nat_eq w.place.part p.part && nat_lt w.place.line p.line)) (le-ltb w.place.part p.part (omega arith)) ∙ ap (λ t. t && nat_lt w.place.line p.line) (eq-eqb w.place.part p.part e) ∙ lt-ltb w.place.line p.line lt)
-          (ap (λ t. t && nat_eq w.place.line p.line) (eq-eqb w.place.part p.part e) ∙ ne_eqb w.place.line p.line (λ f. omega arith))
-          (inr (e, lt))
-      | inr (inr gt) ↦ after
-          (ap (λ t. t || (nat_eq w.place.part p.part && nat_lt w.place.line p.line)) (le-ltb w.place.part p.part (omega arith)) ∙ ap (λ t. t && nat_lt w.place.line p.line) (eq-eqb w.place.part p.part e) ∙ le-ltb w.place.line p.line (omega arith))
-          (ap (λ t. t && nat_eq w.place.line p.line) (eq-eqb w.place.part p.part e) ∙ ne_eqb w.place.line p.line (λ f. omega arith))
-          (inr (sym e, gt))
-    ]
+    | inl f ↦ there
+        (ap (λ t. t || (nat_eq w.place.part p.part && nat_lt w.place.line p.line)) (le-ltb w.place.part p.part (omega arith)) ∙ ap (λ t. nat_eq w.place.part p.part && t) (le-ltb w.place.line p.line (omega arith)) ∙ ap (λ t. t && false) (eq-eqb w.place.part p.part e))
+        (ap (λ t. t && nat_eq w.place.line p.line) (eq-eqb w.place.part p.part e) ∙ eq-eqb w.place.line p.line f)
+        (inr (sym e, omega arith))
+        (inr (e, omega arith))
+    | inr (inl lt) ↦ before
+        (ap (λ t. t || (nat_eq w.place.part p.part && nat_lt w.place.line p.line)) (le-ltb w.place.part p.part (omega arith)) ∙ ap (λ t. t && nat_lt w.place.line p.line) (eq-eqb w.place.part p.part e) ∙ lt-ltb w.place.line p.line lt)
+        (ap (λ t. t && nat_eq w.place.line p.line) (eq-eqb w.place.part p.part e) ∙ ne_eqb w.place.line p.line (λ f. omega arith))
+        (inr (e, lt))
+    | inr (inr gt) ↦ after
+        (ap (λ t. t || (nat_eq w.place.part p.part && nat_lt w.place.line p.line)) (le-ltb w.place.part p.part (omega arith)) ∙ ap (λ t. t && nat_lt w.place.line p.line) (eq-eqb w.place.part p.part e) ∙ le-ltb w.place.line p.line (omega arith))
+        (ap (λ t. t && nat_eq w.place.line p.line) (eq-eqb w.place.part p.part e) ∙ ne_eqb w.place.line p.line (λ f. omega arith))
+        (inr (sym e, gt))
+  ]
   | inr (inl lt) ↦ before
       (ap (λ t. t || (nat_eq w.place.part p.part && nat_lt w.place.line p.line)) (lt-ltb w.place.part p.part lt))
       (ap (λ t. t && nat_eq w.place.line p.line) (ne_eqb w.place.part p.part (λ f. omega arith)))

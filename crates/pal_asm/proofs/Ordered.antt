@@ -1,5 +1,5 @@
 -- The words and the lines of parts are in order, so one pass gives each line its words.
-use Rattle.std.proofs.Common.{◌≡◌, ◌∙◌, sym, ap, refl, subst, ℕ, ◌+◌, ◌<◌, ◌≤◌, List, [], ◌∷◌, ◌++◌, append_assoc, Bool, arith, inl, inr, ◌⊎◌, Result, Ok, Err}
+use Rattle.std.proofs.Common.{◌≡◌, ◌∙◌, sym, ap, refl, subst, ℕ, ◌+◌, ◌<◌, List, [], ◌∷◌, ◌++◌, append_assoc, Bool, arith, inl, inr, Result, Ok, Err}
 use Rattle.std.specs.Prelude.{reverse, map, codes, slice_range}
 use Rattle.std.proofs.lemmas.List.{reverse-append, append-nil}
 use Rattle.pal_text.specs.declared.tokens.Token.{Token}
@@ -21,10 +21,10 @@ use Rattle.pal_asm.specs.declared.listing.ListedWord.{ListedWord}
 use Rattle.pal_asm.specs.Numbers.{base, radix_after}
 use Rattle.pal_asm.specs.Acts.{PlacedAct, placed, part_acts, statement_acts, last_radix}
 use Rattle.pal_asm.specs.Sources.{Follows, Gives, is_empty, act_in}
-use Rattle.pal_asm.specs.Listings.{place, TextLine, text_line, text_lines, Shows, word_at_place, and_word, words, all_words, lines_text, symbols_text, listing, Lists}
+use Rattle.pal_asm.specs.Listings.{place, TextLine, text_lines, Shows, word_at_place, and_word, words, all_words, symbols_text, listing, Lists}
 use Rattle.pal_asm.specs.Kept.{turns_text}
 use Rattle.pal_asm.proofs.Climbs.{Steps, statements_climb}
-use Rattle.pal_asm.proofs.Merged.{Upto, Strict, upto_trans, strict_trans, After, LinesAfter, lines_weaker, turns_are}
+use Rattle.pal_asm.proofs.Merged.{Upto, upto_trans, After, LinesAfter, lines_weaker, turns_are}
 
 abbrev place_of : PlacedAct → Place
 place_of a = place a.part a.line
@@ -155,6 +155,6 @@ lists_by perm other own found parts acts lines text a b g s e = record {
   gives = g;
   shows = s;
   text_is = listed_by (known perm own) parts acts lines own text g s (e
-  ∙ ap (λ x. turns_text lines (all_words (known x found) acts) ++ codes "\n" ++ symbols_text found) a
-  ∙ ap (λ x. turns_text lines (all_words (known perm x) acts) ++ codes "\n" ++ symbols_text x) (sym b));
+      ∙ ap (λ x. turns_text lines (all_words (known x found) acts) ++ codes "\n" ++ symbols_text found) a
+      ∙ ap (λ x. turns_text lines (all_words (known perm x) acts) ++ codes "\n" ++ symbols_text x) (sym b));
 }

@@ -93,8 +93,7 @@ fn stands_at(place: Place, word: ListedWord) -> bool
 fn stands_before(place: Place, word: ListedWord) -> bool
     ensures { result ≡ is_before place word }
 {
-    word.place.part < place.part
-        || (word.place.part == place.part && word.place.line < place.line)
+    word.place.part < place.part || (word.place.part == place.part && word.place.line < place.line)
 }
 
 /// The words from the first one on that isn't before this place.

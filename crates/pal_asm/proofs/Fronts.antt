@@ -7,7 +7,8 @@ use Rattle.std.proofs.lemmas.Option.{slice_get_within, slice_get-get_or}
 use Rattle.pal_text.specs.declared.names.Name.{Name}
 use Rattle.pal_asm.specs.declared.deed.Place.{Place}
 use Rattle.pal_asm.specs.declared.listing.ListedWord.{ListedWord}
-use Rattle.pal_asm.specs.Listings.{is_at, next_at, after_those, line_text, words_text, word_text, symbols_text, symbol_text}
+use Rattle.pal_asm.specs.Listings.{is_at, line_text, words_text, word_text, symbols_text, symbol_text}
+use Rattle.pal_asm.specs.Kept.{next_at, after_those}
 
 -- a line with text and without a word
 pub bare_line : (cs : List ℕ) → 0 < length cs → line_text [] cs ≡ codes "            " ++ cs ++ codes "\n"

@@ -7,3 +7,6 @@ pub mod One
 pub mod Laid
 pub mod TurnedLines
 pub mod Fronts
+pub mod Climbs
+pub mod Merged
+pub mod Ordered

@@ -1,5 +1,5 @@
 -- What a source does as it is kept in memory, for the private contracts below `assemble`.
-use Rattle.std.specs.Prelude.{◌≡◌, ℕ, ◌+◌, Bool, List, [], ◌∷◌, ◌++◌, map, reverse, Result, Ok, Err, Vec}
+use Rattle.std.specs.Prelude.{◌≡◌, ℕ, ◌+◌, Bool, ◌||◌, ◌&&◌, nat_eq, nat_lt, if◌then◌else◌, List, [], ◌∷◌, ◌++◌, map, reverse, Result, Ok, Err, Vec}
 use Rattle.pal_acts.specs.declared.act.Join.{Join}
 use Rattle.pal_acts.specs.declared.act.Act.{Act}
 use Rattle.pal_acts.specs.declared.act.Act.TheVariants as act
@@ -12,7 +12,9 @@ use Rattle.pal_asm.specs.declared.reading.Turn.{Turn}
 use Rattle.pal_asm.specs.declared.reading.Turn.TheVariants.{On, Ends}
 use Rattle.pal_asm.specs.declared.listing.ListedLine.{ListedLine}
 use Rattle.pal_asm.specs.Acts.{anywhere, PlacedAct, placed}
-use Rattle.pal_asm.specs.Listings.{TextLine, text_line, Shows, words}
+use Rattle.pal_asm.specs.declared.deed.Place.{Place}
+use Rattle.pal_text.specs.Characters.{characters}
+use Rattle.pal_asm.specs.Listings.{TextLine, text_line, Shows, words, is_at, line_text, without_front}
 use Rattle.pal_asm.specs.declared.listing.ListedWord.{ListedWord}
 use Rattle.pal_acts.specs.Values.{Values}
 use Rattle.pal_acts.specs.Meaning.{location}
@@ -87,3 +89,26 @@ RefusesActs permanent acts NoMemory = Unit {0}
 abbrev pub Adds : Values → PlacedAct → ℕ → ℕ → List ListedWord → List ListedWord → Type 0
 Adds σ next here here' found found' = (before : List PlacedAct) → here ≡ location σ (map act_in before) → found ≡ reverse (words σ before)
     → (here' ≡ location σ (map act_in (next ∷ before))) × (found' ≡ reverse (words σ (next ∷ before)))
+
+-- A word stands before this place.
+abbrev pub is_before : Place → ListedWord → Bool
+is_before p w = nat_lt w.place.part p.part || (nat_eq w.place.part p.part && nat_lt w.place.line p.line)
+
+-- Words from the first one on that isn't before this place.
+abbrev pub skip : Place → List ListedWord → List ListedWord
+skip p [] = []
+skip p (w ∷ ws) = if is_before p w then skip p ws else w ∷ ws
+
+-- The words at the front that stand at this place, and those after them.
+abbrev pub next_at : Place → List ListedWord → List ListedWord
+next_at p [] = []
+next_at p (w ∷ ws) = if is_at p w then w ∷ next_at p ws else []
+
+abbrev pub after_those : Place → List ListedWord → List ListedWord
+after_those p [] = []
+after_those p (w ∷ ws) = if is_at p w then after_those p ws else w ∷ ws
+
+-- Lines that are given their words in one pass over words that are in order.
+abbrev pub turns_text : List TextLine → List ListedWord → List ℕ
+turns_text [] ws = []
+turns_text (l ∷ ls) ws = line_text (next_at l.place (skip l.place ws)) (without_front (characters l.bytes)) ++ turns_text ls (after_those l.place (skip l.place ws))

@@ -1,5 +1,5 @@
 -- The listing of a source: its lines with their words, and its symbols.
-use Rattle.std.specs.Prelude.{◌≡◌, ℕ, ◌+◌, Bool, ◌||◌, ◌&&◌, not, if◌then◌else◌, List, [], ◌∷◌, ◌++◌, map, reverse, slice_range, nat_eq, codes, Result, Ok, Err, ◌⊎◌}
+use Rattle.std.specs.Prelude.{◌≡◌, ℕ, ◌+◌, Bool, ◌||◌, ◌&&◌, not, if◌then◌else◌, List, [], ◌∷◌, ◌++◌, filter, map, reverse, slice_range, nat_eq, codes, Result, Ok, Err, ◌⊎◌}
 use Rattle.word12.specs.Words.{octal_text}
 use Rattle.pal_text.specs.declared.lines.Line.{Line}
 use Rattle.pal_text.specs.declared.names.Name.{Name}
@@ -58,17 +58,9 @@ words σ (a ∷ before) = and_word σ (map act_in before) (place a.part a.line) 
 abbrev pub all_words : Values → List PlacedAct → List ListedWord
 all_words σ acts = reverse (words σ (reverse acts))
 
--- The words that come next and stand at this place, and those after them.
+-- A word stands at this place.
 abbrev pub is_at : Place → ListedWord → Bool
 is_at p w = nat_eq w.place.part p.part && nat_eq w.place.line p.line
-
-abbrev pub next_at : Place → List ListedWord → List ListedWord
-next_at p [] = []
-next_at p (w ∷ ws) = if is_at p w then w ∷ next_at p ws else []
-
-abbrev pub after_those : Place → List ListedWord → List ListedWord
-after_those p [] = []
-after_those p (w ∷ ws) = if is_at p w then after_those p ws else w ∷ ws
 
 -- Spaces and tabs at the front of a line aren't listed.
 abbrev pub is_blank : ℕ → Bool
@@ -98,10 +90,10 @@ line_text [] [] = codes "\n"
 line_text [] (c ∷ cs) = codes "            " ++ (c ∷ cs) ++ codes "\n"
 line_text (w ∷ ws) cs = word_text w ++ codes "  " ++ cs ++ codes "\n" ++ words_text ws
 
--- Lines, each with the words that come next and stand on it.
+-- Lines, each with those of the words that stand on it.
 abbrev pub lines_text : List TextLine → List ListedWord → List ℕ
 lines_text [] ws = []
-lines_text (l ∷ ls) ws = line_text (next_at l.place ws) (without_front (characters l.bytes)) ++ lines_text ls (after_those l.place ws)
+lines_text (l ∷ ls) ws = line_text (filter (is_at l.place) ws) (without_front (characters l.bytes)) ++ lines_text ls ws
 
 -- A symbol, with spaces after fewer than six characters, and its value.
 abbrev pub symbol_text : Name → ℕ → List ℕ

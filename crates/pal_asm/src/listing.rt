@@ -1,10 +1,10 @@
 //! The listing of a source.
 
-ghost use Rattle.std.specs.Prelude.{◌≡◌, ◌<◌, ◌++◌, [], length, OnOk, IfOk};
+ghost use Rattle.std.specs.Prelude.{◌≡◌, ◌<◌, ◌++◌, [], codes, length, OnOk, IfOk};
 ghost use Rattle.pal_text.specs.Characters.{characters};
 ghost use Rattle.pal_acts.specs.Values.{known};
-ghost use Rattle.pal_asm.specs.Listings.{all_words, is_no_text, is_at, next_at, after_those, without_front, word_text, words_text, line_text, lines_text, symbol_text, symbols_text, listing};
-ghost use Rattle.pal_asm.specs.Kept.{acts_in, placed_act, lines_in, Adds};
+ghost use Rattle.pal_asm.specs.Listings.{all_words, is_no_text, is_at, without_front, word_text, words_text, line_text, symbol_text, symbols_text};
+ghost use Rattle.pal_asm.specs.Kept.{acts_in, placed_act, lines_in, Adds, is_before, skip, next_at, after_those, turns_text};
 
 use crate::deed::{Deed, Place, PlacedDeed};
 use crate::program::SymbolTable;
@@ -88,6 +88,26 @@ fn stands_at(place: Place, word: ListedWord) -> bool
     ensures { result ≡ is_at place word }
 {
     word.place == place
+}
+
+fn stands_before(place: Place, word: ListedWord) -> bool
+    ensures { result ≡ is_before place word }
+{
+    word.place.part < place.part || (word.place.part == place.part && word.place.line < place.line)
+}
+
+/// The words from the first one on that isn't before this place.
+fn from_place(place: Place, words: &[ListedWord]) -> &[ListedWord]
+    ensures { result.now ≡ skip place words.now }
+{
+    let mut rest = words;
+    while let [word, more @ ..] = rest {
+        if !stands_before(place, *word) {
+            break;
+        }
+        rest = more;
+    }
+    rest
 }
 
 /// Adds the words that come next and stand at this place, and tells those after them.
@@ -185,17 +205,17 @@ fn push_line<'w, A: Allocator>(
     }
 }
 
-/// Adds lines, each with the words that come next and stand on it.
+/// Adds lines, each with the words that stand on it. The words are in order.
 fn push_lines<A: Allocator>(
     text: &mut Vec<u8, A>,
     lines: &[ListedLine<'_>],
     words: &[ListedWord],
 ) -> Result<(), AllocError>
-    ensures { OnOk result (text.new.items ≡ text.old.items ++ lines_text (lines_in lines.now) words.now) }
+    ensures { OnOk result (text.new.items ≡ text.old.items ++ turns_text (lines_in lines.now) words.now) }
 {
     let mut rest = words;
     for line in lines {
-        rest = push_line(text, *line, rest)?;
+        rest = push_line(text, *line, from_place(line.place, rest))?;
     }
     Ok(())
 }
@@ -236,7 +256,7 @@ pub(crate) fn make_listing<A: Allocator + Copy>(
     words: &[ListedWord],
     own: &SymbolTable<A>,
 ) -> Result<Vec<u8, A>, AllocError>
-    ensures { IfOk result (λ text. text.items ≡ listing (lines_in lines.now) words.now own.now.entries) }
+    ensures { IfOk result (λ text. text.items ≡ turns_text (lines_in lines.now) words.now ++ codes "\n" ++ symbols_text own.now.entries) }
 {
     let mut text = Vec::new(alloc);
     push_lines(&mut text, lines, words)?;

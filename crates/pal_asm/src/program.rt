@@ -1,6 +1,6 @@
 //! The image, the symbols and the listing of a source.
 
-ghost use Rattle.std.specs.Prelude.{◌≡◌, false, is_err, IfOk, IfErr, OnOk, OnErr, MatchResult, map, ℕ, List, Option, Some, Err};
+ghost use Rattle.std.specs.Prelude.{◌≡◌, ◌++◌, codes, false, is_err, IfOk, IfErr, OnOk, OnErr, MatchResult, map, ℕ, List, Option, Some, Err};
 ghost use Rattle.pal_text.specs.declared.names.Name.{Name as Named};
 ghost use Rattle.std.specs.Io.KnownBytes.{Appends};
 ghost use Rattle.bin_tape.specs.Bytes.{AppendsFront};
@@ -9,9 +9,9 @@ ghost use Rattle.pal_acts.specs.Sources.{IsSource};
 ghost use Rattle.pal_asm.specs.declared.fault.PalFault.{PalFault as Faulty};
 ghost use Rattle.pal_acts.specs.Permanent.{permanent_symbols};
 ghost use Rattle.pal_asm.specs.Sources.{act_in, texts, size_fault, Means, IsFault, Refuses, IsSilent, TellsOnly};
-ghost use Rattle.pal_asm.specs.Listings.{all_words, listing, Lists};
+ghost use Rattle.pal_asm.specs.Listings.{all_words, symbols_text, Lists};
 ghost use Rattle.pal_asm.specs.Programs.{symbols_of, image_of, listing_of};
-ghost use Rattle.pal_asm.specs.Kept.{acts_in, lines_in, RefusesActs};
+ghost use Rattle.pal_asm.specs.Kept.{acts_in, lines_in, turns_text, RefusesActs};
 
 use crate::deed::{PlacedDeed, acts_of};
 use crate::fault::{AssembleFault, PalFault, WriteFault};
@@ -107,7 +107,7 @@ fn program_of<A: Allocator + Copy>(
 ) -> Result<Program<A>, AllocError>
     ensures image { IfOk result (λ program. image_of program ≡ found.entry.image) }
     ensures symbols { IfOk result (λ program. symbols_of program ≡ found.entry.symbols.own.entries) }
-    ensures listing { IfOk result (λ program. listing_of program ≡ listing (lines_in reading.now.lines.items) (all_words (known found.entry.symbols.permanent.now found.entry.symbols.own.entries) (acts_in reading.now.deeds.items)) found.entry.symbols.own.entries) }
+    ensures listing { IfOk result (λ program. listing_of program ≡ turns_text (lines_in reading.now.lines.items) (all_words (known found.entry.symbols.permanent.now found.entry.symbols.own.entries) (acts_in reading.now.deeds.items)) ++ codes "\n" ++ symbols_text found.entry.symbols.own.entries) }
 {
     let Assembled { symbols, image } = found;
     let words = words_of(alloc, &symbols, &reading.deeds)?;

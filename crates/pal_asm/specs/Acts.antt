@@ -33,6 +33,7 @@ after_tags [] = []
 after_tags (t ∷ []) = t ∷ []
 after_tags (t ∷ m ∷ ts) = if is_comma m.kind then after_tags ts else t ∷ m ∷ ts
 
+-- What a tag does, by what its token is.
 abbrev pub tag_by : List ℕ → Token → Kind → Act
 tag_by source t kind.Symbol = act.Tag (name_of source t)
 tag_by source t _ = act.Wrong DuplicateTag
@@ -48,6 +49,7 @@ operand form.Assign ts = drop 2 ts
 operand form.Word ts = ts
 operand _ ts = []
 
+-- What an assignment does, by what its first token is.
 abbrev pub assign_by : List ℕ → Token → List Join → Kind → List Act
 assign_by source t js kind.Symbol = act.Assign (name_of source t) (anywhere js) ∷ []
 assign_by source t js _ = act.Origin (anywhere js) ∷ act.Wrong Redefined ∷ []
@@ -82,6 +84,7 @@ pub record PlacedAct : Type 0 where
   pub line : ℕ
   pub act : Act
 
+-- The act that stands there.
 abbrev pub placed : ℕ → ℕ → Act → PlacedAct
 placed part line a = record { part = part; line = line; act = a }
 

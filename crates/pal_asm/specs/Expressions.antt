@@ -21,13 +21,16 @@ sign_of kind.Plus = Plus
 sign_of kind.Minus = Minus
 sign_of _ = Or
 
+-- The name of a symbol's token.
 abbrev pub name_of : List ℕ → Token → Name
 name_of source t = record { letters = name (bytes_of source t) }
 
+-- A number as a term, or what is wrong with it.
 abbrev pub number_term : Result ℕ Code → Result Term Code
 number_term (Ok w) = Ok (Number w)
 number_term (Err c) = Err c
 
+-- A term by what its token is.
 abbrev pub term_by : ℕ → List ℕ → Token → Kind → Result Term Code
 term_by b source t kind.Number = number_term (number b (characters (bytes_of source t)))
 term_by b source t kind.Here = Ok Here
@@ -37,6 +40,7 @@ term_by b source t _ = Ok (Symbol (name_of source t))
 abbrev pub term : ℕ → List ℕ → Token → Result Term Code
 term b source t = term_by b source t t.kind
 
+-- A term that joins what stands before it so.
 abbrev pub join : Sign → Term → Join
 join s t = record { sign = s; term = t }
 

@@ -32,6 +32,7 @@ bare (act.Assign n e) = act.Assign n (anywhere e.now)
 bare (act.Word e) = act.Word (anywhere e.now)
 bare act.LastPause = act.LastPause
 
+-- The act that is kept so.
 abbrev pub act_of : {A : Type 0} → Deed A → Act
 act_of (deed.Wrong c) = act.Wrong c
 act_of (deed.Tag n) = act.Tag n
@@ -40,6 +41,7 @@ act_of (deed.Assign n js) = act.Assign n (anywhere js.items)
 act_of (deed.Word js) = act.Word (anywhere js.items)
 act_of deed.LastPause = act.LastPause
 
+-- The same with its place.
 abbrev pub placed_act : {A : Type 0} → PlacedDeed A → PlacedAct
 placed_act d = placed d.place.part d.place.line (act_of d.deed)
 
@@ -47,6 +49,7 @@ placed_act d = placed d.place.part d.place.line (act_of d.deed)
 abbrev pub acts_in : {A : Type 0} → List (PlacedDeed A) → List PlacedAct
 acts_in ds = map placed_act ds
 
+-- An expression that was read, wherever it lies, or what is wrong with it.
 abbrev pub read_of : {A : Type 0} → Result (Vec Join A) Code → Result (List Join) Code
 read_of (Ok js) = Ok js.items
 read_of (Err c) = Err c
@@ -62,6 +65,7 @@ pub record Turns (n : ℕ) (r : Radix) (last : Bool) (part : List ℕ) (old new 
   pub new_is : new ≡ old ++ more
   pub gives : (rest : List (List ℕ)) (later : List PlacedAct) → last ≡ is_empty rest → Next turn (n + 1) rest later → Gives n r (part ∷ rest) (more ++ later)
 
+-- The line that is kept so.
 abbrev pub shown_line : ListedLine → TextLine
 shown_line l = text_line l.place l.bytes.now
 
@@ -99,11 +103,12 @@ abbrev pub skip : Place → List ListedWord → List ListedWord
 skip p [] = []
 skip p (w ∷ ws) = if is_before p w then skip p ws else w ∷ ws
 
--- The words at the front that stand at this place, and those after them.
+-- The words at the front that stand at this place.
 abbrev pub next_at : Place → List ListedWord → List ListedWord
 next_at p [] = []
 next_at p (w ∷ ws) = if is_at p w then w ∷ next_at p ws else []
 
+-- Words after those at the front that stand at this place.
 abbrev pub after_those : Place → List ListedWord → List ListedWord
 after_those p [] = []
 after_those p (w ∷ ws) = if is_at p w then after_those p ws else w ∷ ws

@@ -17,6 +17,7 @@ use Rattle.pal_asm.specs.declared.listing.ListedWord.{ListedWord}
 use Rattle.pal_asm.specs.Acts.{PlacedAct}
 use Rattle.pal_asm.specs.Sources.{Read, Follows, Gives, act_in}
 
+-- The place of a part's line, both counted from 1.
 abbrev pub place : ℕ → ℕ → Place
 place part line = record { part = part; line = line }
 
@@ -25,6 +26,7 @@ pub record TextLine : Type 0 where
   pub place : Place
   pub bytes : List ℕ
 
+-- The line that stands there with these bytes.
 abbrev pub text_line : Place → List ℕ → TextLine
 text_line p bytes = record { place = p; bytes = bytes }
 
@@ -41,10 +43,12 @@ Shows n (p ∷ ps) lines =
     ⊎ ((part : Read p) × (later : List TextLine) × (lines ≡ text_lines n 1 p part.lines ++ later)
     × Follows part.ending later (Shows (n + 1) ps later))
 
+-- A word with its place and its address, before others; an expression that is no word brings none.
 abbrev pub word_at_place : Place → ℕ → Result ℕ Code → List ListedWord → List ListedWord
 word_at_place p at (Ok w) before = record { place = p; at = at; word = w } ∷ before
 word_at_place p at (Err c) before = before
 
+-- The word of an act that stands at this place after earlier acts, before others; an act that isn't a word brings none.
 abbrev pub and_word : Values → List Act → Place → Act → List ListedWord → List ListedWord
 and_word σ earlier p (act.Word e) before = word_at_place p (location σ earlier) (word_value σ (location σ earlier) e.now) before
 and_word σ earlier p _ before = before
@@ -66,6 +70,7 @@ is_at p w = nat_eq w.place.part p.part && nat_eq w.place.line p.line
 abbrev pub is_blank : ℕ → Bool
 is_blank c = nat_eq c 32 || nat_eq c 9
 
+-- Characters from the first one on that is neither.
 abbrev pub without_front : List ℕ → List ℕ
 without_front [] = []
 without_front (c ∷ cs) = if is_blank c then without_front cs else c ∷ cs
@@ -99,6 +104,7 @@ lines_text (l ∷ ls) ws = line_text (filter (is_at l.place) ws) (without_front 
 abbrev pub symbol_text : Name → ℕ → List ℕ
 symbol_text n v = n.letters ++ codes "  " ++ octal_text v ++ codes "\n"
 
+-- Symbols with their values, a line for each.
 abbrev pub symbols_text : List (Name × ℕ) → List ℕ
 symbols_text [] = []
 symbols_text (s ∷ ss) = symbol_text s.0 s.1 ++ symbols_text ss

@@ -8,6 +8,7 @@ use Rattle.pal_text.specs.declared.grammar.Form.TheVariants as form
 use Rattle.pal_asm.specs.declared.number.Radix.{Radix}
 use Rattle.pal_asm.specs.declared.number.Radix.TheVariants.{Octal, Decimal}
 
+-- In how many digits numbers are written.
 abbrev pub base : Radix → ℕ
 base Octal = 8
 base Decimal = 10
@@ -23,6 +24,7 @@ abbrev pub worth : ℕ → List ℕ → ℕ
 worth b [] = 0
 worth b (c ∷ cs) = (c - 48) * b ^ length cs + worth b cs
 
+-- A character is a digit of this base.
 abbrev pub is_digit_of : ℕ → ℕ → Bool
 is_digit_of b c = nat_lt (c - 48) b
 

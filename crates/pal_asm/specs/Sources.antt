@@ -21,6 +21,7 @@ use Rattle.pal_asm.specs.declared.fault.AssembleFault.{AssembleFault}
 use Rattle.pal_asm.specs.declared.fault.AssembleFault.TheVariants.{Source, NoMemory}
 use Rattle.pal_asm.specs.Acts.{PlacedAct, placed, part_acts, last_radix}
 
+-- The fault with this code at this part and line.
 abbrev pub fault_at : Code → ℕ → ℕ → PalFault
 fault_at code part line = record { code = code; part = part; line = line }
 
@@ -29,6 +30,7 @@ abbrev pub first_long : ℕ → List (List ℕ) → Option ℕ
 first_long n [] = None
 first_long n (p ∷ ps) = if nat_lt 65536 (length p) then Some n else first_long (n + 1) ps
 
+-- The fault of a part that is too long stands at its line 0.
 abbrev pub long_fault : Option ℕ → Option PalFault
 long_fault None = None
 long_fault (Some n) = Some (fault_at TooLong n 0)
@@ -45,6 +47,7 @@ pub record Read (source : List ℕ) : Type 0 where
   pub ending : Ending
   pub is_part : IsPart source tokens statements lines ending
 
+-- No part is left.
 abbrev pub is_empty : List (List ℕ) → Bool
 is_empty [] = true
 is_empty (p ∷ ps) = false
@@ -64,6 +67,7 @@ Gives n r (p ∷ ps) acts =
     ⊎ ((part : Read p) × (later : List PlacedAct) × (acts ≡ part_acts n (is_empty ps) p part.tokens r part.statements ++ later)
     × Follows part.ending later (Gives (n + 1) (last_radix r part.statements) ps later))
 
+-- The act without its place.
 abbrev pub act_in : PlacedAct → Act
 act_in a = a.act
 
@@ -109,6 +113,7 @@ abbrev pub TellsOnly : PalFault → AssembleFault → Type 0
 TellsOnly fault (Source told) = told ≡ fault
 TellsOnly fault NoMemory = Unit {0}
 
+-- The bytes behind a reference.
 abbrev pub now_of : Bor (List ℕ) → List ℕ
 now_of p = p.now
 

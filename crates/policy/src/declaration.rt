@@ -8,7 +8,7 @@ ghost use Rattle.policy.specs.DeclarationText.{Declares, Fails, ListsRoutines, i
 ghost use Rattle.policy.specs.Drafts.{gathered, HasLines};
 ghost use Rattle.policy.specs.declared.declaration.DeclarationFault.{DeclarationFault};
 ghost use Rattle.policy.specs.declared.declaration.DeclarationFault.TheVariants.{NoMemory};
-ghost use Rattle.policy.specs.Kept.{cells, offsets_of, routines_of, meaning};
+ghost use Rattle.policy.specs.Kept.{cells, offsets_of, subroutine_of, routines_of, meaning};
 
 use crate::declaration::drafts::Draft;
 use crate::declaration::lines::read_line;
@@ -71,7 +71,7 @@ pub struct Offsets {
 
 /// A routine: its entry, the cells of its body, and the offsets at which it may return.
 ///
-/// Contracts see the cells of a set as `cells` gives them.
+/// Contracts see it as `subroutine_of` gives it.
 #[derive(Clone, Copy, PartialEq, Eq, Debug)]
 pub struct Routine {
     entry: Word,
@@ -121,21 +121,21 @@ impl Offsets {
 impl Routine {
     /// The cell in which a call keeps its return address, just before the routine.
     pub fn entry(&self) -> Word
-        ensures { result ≡ self.now.entry }
+        ensures { result ≡ (subroutine_of self.now).entry }
     {
         self.entry
     }
 
     /// The cells of the body.
     pub fn body(&self) -> &WordSet
-        ensures { result.now ≡ self.now.body }
+        ensures { cells result.now ≡ (subroutine_of self.now).body }
     {
         &self.body
     }
 
     /// The offsets from the address after a call at which the routine may return.
     pub fn offsets(&self) -> Offsets
-        ensures { result ≡ self.now.offsets }
+        ensures { offsets_of result ≡ (subroutine_of self.now).offsets }
     {
         self.offsets
     }

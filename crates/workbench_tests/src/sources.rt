@@ -126,12 +126,6 @@ fn sources_are_refused_by_their_first_fault(rt: HostRuntime) -> Result<(), Fail>
         assert!(rt; out.bytes().is_empty());
     }
     let mut out = MemorySink::new(rt.alloc(), 1000);
-    let mut many = Vec::new(rt.alloc());
-    for _ in 0..17 {
-        many.push(MemorySource::new(b"$"))?;
-    }
-    let ended = assemble(rt.alloc(), &mut many, Profile::Pdp8I, &mut out);
-    assert_eq!(rt; ended, Err(fault(Code::TooLong, 0, 0)));
     let mut failing = [MemorySource::new(HALT).failing_after(0)];
     let ended = list(rt.alloc(), &mut failing, Profile::Pdp8I, &mut out);
     assert_eq!(rt; ended, Err(Fault::Device(DeviceFault::Read)));

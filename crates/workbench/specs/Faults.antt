@@ -91,6 +91,7 @@ IsEventsFault marked frames left text_marked text (Source fault) = ⊥
 IsEventsFault marked frames left text_marked text (Declared fault) = ⊥
 IsEventsFault marked frames left text_marked text (Events fault) =
     IfSome frames AreTape × IfSome text (λ bytes. IsTextFault (take 65537 bytes) fault)
-IsEventsFault marked frames left text_marked text (Device Read) = FailsToRead marked frames left ⊎ (text_marked ≡ true)
+IsEventsFault marked frames left text_marked text (Device Read) =
+    FailsToRead marked frames left ⊎ ((text_marked ≡ true) × IfSome frames AreTape)
 IsEventsFault marked frames left text_marked text (Device Write) = Unit {0}
 IsEventsFault marked frames left text_marked text fault.NoMemory = Unit {0}

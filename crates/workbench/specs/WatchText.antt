@@ -101,14 +101,16 @@ IsEventsInputFault marked list (Device Write) = ⊥
 IsEventsInputFault marked list fault.NoMemory = Unit {0}
 
 -- Each input is looked at where those before it are good: the tape, the declaration, the events. A read of each may fail.
-abbrev pub IsWatchFault : Bool → Option (List ℕ) → Option (List ℕ) → Bool → Option (List ℕ) → Option (List ℕ) → Fault → Type 0
-IsWatchFault marked frames left texts_marked text list (Tape fault) = IfSome frames (λ bytes. Refuses 65536 bytes fault)
-IsWatchFault marked frames left texts_marked text list EmptyImage = ⊥
-IsWatchFault marked frames left texts_marked text list (Source fault) = ⊥
-IsWatchFault marked frames left texts_marked text list (Declared fault) =
+abbrev pub IsWatchFault : Bool → Option (List ℕ) → Option (List ℕ) → Bool → Option (List ℕ) → Bool → Option (List ℕ) → Fault → Type 0
+IsWatchFault marked frames left text_marked text list_marked list (Tape fault) = IfSome frames (λ bytes. Refuses 65536 bytes fault)
+IsWatchFault marked frames left text_marked text list_marked list EmptyImage = ⊥
+IsWatchFault marked frames left text_marked text list_marked list (Source fault) = ⊥
+IsWatchFault marked frames left text_marked text list_marked list (Declared fault) =
     IfSome frames AreTape × IfSome text (λ bytes. IsDeclarationFault (take 16385 bytes) fault)
-IsWatchFault marked frames left texts_marked text list (Events fault) =
+IsWatchFault marked frames left text_marked text list_marked list (Events fault) =
     IfSome frames AreTape × IfSome text AreDeclaration × IfSome list (λ bytes. IsTextFault (take 65537 bytes) fault)
-IsWatchFault marked frames left texts_marked text list (Device Read) = FailsToRead marked frames left ⊎ (texts_marked ≡ true)
-IsWatchFault marked frames left texts_marked text list (Device Write) = Unit {0}
-IsWatchFault marked frames left texts_marked text list fault.NoMemory = Unit {0}
+IsWatchFault marked frames left text_marked text list_marked list (Device Read) =
+    FailsToRead marked frames left ⊎ ((text_marked ≡ true) × IfSome frames AreTape)
+    ⊎ ((list_marked ≡ true) × IfSome frames AreTape × IfSome text AreDeclaration)
+IsWatchFault marked frames left text_marked text list_marked list (Device Write) = Unit {0}
+IsWatchFault marked frames left text_marked text list_marked list fault.NoMemory = Unit {0}

@@ -8,6 +8,7 @@ ghost use Rattle.pal_asm.specs.Programs.{symbols_of, image_of, listing_of};
 ghost use Rattle.pal_asm.specs.Sources.{texts, Means};
 ghost use Rattle.workbench.specs.AssembleText.{IsAssemblyFault, IsSourceFault, WritesTape, FrontOfTape, IsListFault, WritesListing, FrontOfListing};
 ghost use Rattle.workbench.specs.Faults.{fails_to_write};
+ghost use Rattle.workbench.specs.declared.status.Status.TheVariants.{Done};
 
 use crate::sources::{lend, read_parts};
 use crate::status::{DeviceFault, Fault, Status};
@@ -49,6 +50,7 @@ pub fn assemble<A: Allocator + Copy, R: ByteSource, W: ByteSink>(
     requires readable { AllByRecursion (λ source. R.mark source ≡ false) sources.old }
     requires writable { W.mark out.old ≡ false }
     // What is written is the tape of the image that the source means.
+    ensures done { IfOk result (λ status. status ≡ Done) }
     ensures tape { OnOk result (WritesTape profile (map R.remaining sources.old) (W.taken out.old) (W.taken out.new)) }
     // A fault of the source is its one fault.
     ensures faults { IfErr result (IsSourceFault profile (list_any R.mark sources.new) (map R.remaining sources.old)) }
@@ -82,6 +84,7 @@ pub fn list<A: Allocator + Copy, R: ByteSource, W: ByteSink>(
 ) -> Result<Status, Fault>
     requires readable { AllByRecursion (λ source. R.mark source ≡ false) sources.old }
     requires writable { W.mark out.old ≡ false }
+    ensures done { IfOk result (λ status. status ≡ Done) }
     ensures listing { OnOk result (WritesListing profile (map R.remaining sources.old) (W.taken out.old) (W.taken out.new)) }
     ensures faults { IfErr result (IsListFault profile (list_any R.mark sources.new) (map R.remaining sources.old)) }
     ensures front { W.mark out.new ≡ true → FrontOfListing profile (map R.remaining sources.old) (W.taken out.old) (W.taken out.new) }

@@ -7,6 +7,7 @@ ghost use Rattle.bin_tape.specs.Refuses.{Refuses};
 ghost use Rattle.workbench.specs.Dumping.{dump_text, WritesDump, FrontOfDump};
 ghost use Rattle.workbench.specs.Faults.{fails_to_write, IsTapeFault, IsEventsFault};
 ghost use Rattle.workbench.specs.Follows.{rounds};
+ghost use Rattle.workbench.specs.declared.status.Status.TheVariants.{Done};
 ghost use Rattle.workbench.specs.Running.{WritesRun, WritesEventRun, FrontOfRun, FrontOfEventRun, status_of};
 
 use crate::follow::{follow_events, follow_rounds};
@@ -139,6 +140,7 @@ pub fn dump<A: Allocator + Copy, R: ByteSource, W: ByteSink>(
 ) -> Result<Status, Fault>
     requires readable { R.mark tape.old ≡ false }
     requires writable { W.mark out.old ≡ false }
+    ensures done { IfOk result (λ status. status ≡ Done) }
     ensures dump { OnOk result (IfSome (R.remaining tape.old)
         (λ frames. WritesDump profile frames (W.taken out.old) (W.taken out.new))) }
     ensures tape { IfErr result (IsTapeFault (R.mark tape.new) (R.remaining tape.old) (R.remaining tape.new)) }

@@ -7,6 +7,7 @@ use crate::status::{DeviceFault, Fault, Status};
 use crate::watching::watch;
 use crate::words::{Refused, Request, parse_words};
 use bin_tape::standard::Writes;
+use instruct::Profile;
 use std::alloc::Global;
 use std::rt::{Env, Files};
 use std::{env, io};
@@ -101,11 +102,7 @@ fn answer<R: Files + Input + Print>(
             out,
             sources,
             profile,
-        } => {
-            let mut tape = open_output(rt, out)?;
-            let mut parts = open_inputs(rt, alloc, sources)?;
-            assemble(alloc, &mut parts, *profile, &mut tape)
-        }
+        } => assemble_to(rt, alloc, out, sources, *profile),
         Request::List { sources, profile } => {
             let mut parts = open_inputs(rt, alloc, sources)?;
             list(
@@ -119,14 +116,36 @@ fn answer<R: Files + Input + Print>(
             tape,
             declaration,
             events,
-        } => {
-            let mut frames = open_input(rt, tape)?;
-            let mut text = open_input(rt, declaration)?;
-            let mut list = open_input(rt, events)?;
-            let mut out = Writes::new(io::writer(rt));
-            watch(alloc, &mut frames, &mut text, &mut list, &mut out)
-        }
+        } => watch_from(rt, alloc, tape, declaration, events),
     }
+}
+
+/// Assembles the parts of these files into a tape.
+fn assemble_to<R: Files + Input + Print>(
+    rt: &R,
+    alloc: Global,
+    out: &str,
+    sources: &[&str],
+    profile: Profile,
+) -> Result<Status, Fault> {
+    let mut tape = open_output(rt, out)?;
+    let mut parts = open_inputs(rt, alloc, sources)?;
+    assemble(alloc, &mut parts, profile, &mut tape)
+}
+
+/// Watches a run of the tape of a file.
+fn watch_from<R: Files + Input + Print>(
+    rt: &R,
+    alloc: Global,
+    tape: &str,
+    declaration: &str,
+    events: &str,
+) -> Result<Status, Fault> {
+    let mut frames = open_input(rt, tape)?;
+    let mut text = open_input(rt, declaration)?;
+    let mut list = open_input(rt, events)?;
+    let mut out = Writes::new(io::writer(rt));
+    watch(alloc, &mut frames, &mut text, &mut list, &mut out)
 }
 
 /// Runs a tape, in rounds or by the events of a file.

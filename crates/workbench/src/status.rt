@@ -17,7 +17,7 @@ use thiserror::Error;
 pub enum Status {
     /// Done.
     Done = 0,
-    /// An input was refused, or a run ended at an unsupported word.
+    /// An input was refused, a run ended at an unsupported word, or a watched run broke a rule.
     Refused = 1,
     /// The program's words were bad.
     Words = 2,

@@ -1,6 +1,6 @@
 //! The command that watches a run.
 
-ghost use Rattle.std.specs.Prelude.{◌≡◌, ◌++◌, ◌||◌, false, true, take, codes, decimal, IfOk, IfErr, IfSome, OnOk, OnErr};
+ghost use Rattle.std.specs.Prelude.{◌≡◌, ◌++◌, false, true, take, codes, decimal, IfOk, IfErr, IfSome, OnOk, OnErr};
 ghost use Rattle.peripherals.specs.EventText.{Spells};
 ghost use Rattle.policy.specs.DeclarationText.{Declares};
 ghost use Rattle.policy.specs.Kept.{meaning};
@@ -117,7 +117,7 @@ pub fn watch<A: Allocator + Copy, R: ByteSource, D: ByteSource, E: ByteSource, W
     // What is written is what is seen of the run.
     ensures watched { IfOk result (WritesWatched (R.remaining tape.old) (D.remaining declaration.old) (E.remaining list.old) (W.taken out.old) (W.taken out.new)) }
     // A fault is that of the first input that has one.
-    ensures faults { IfErr result (IsWatchFault (R.mark tape.new) (R.remaining tape.old) (R.remaining tape.new) (D.mark declaration.new || E.mark list.new) (D.remaining declaration.old) (E.remaining list.old)) }
+    ensures faults { IfErr result (IsWatchFault (R.mark tape.new) (R.remaining tape.old) (R.remaining tape.new) (D.mark declaration.new) (D.remaining declaration.old) (E.mark list.new) (E.remaining list.old)) }
     // Where a write failed, a front of the line went out,
     ensures front { W.mark out.new ≡ true → FrontOfWatched (R.remaining tape.old) (D.remaining declaration.old) (E.remaining list.old) (W.taken out.old) (W.taken out.new) }
     // and any other fault leaves the output as it was.

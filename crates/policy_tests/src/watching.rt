@@ -179,6 +179,11 @@ fn listed_reads_are_kept(rt: HostRuntime) -> Result<(), Fail> {
             wanted
         );
     }
+    Ok(())
+}
+
+#[test]
+fn reads_of_a_routine_are_kept(rt: HostRuntime) -> Result<(), Fail> {
     for (reads, wanted) in [
         ("read 0202\n", Watched::Clean),
         (

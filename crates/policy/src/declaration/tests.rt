@@ -136,43 +136,45 @@ fn overlaps(rt: HostRuntime) -> Result<(), Fail> {
     Ok(())
 }
 
+/// Texts of one line that no declaration has.
+const BAD_LINES: [&[u8]; 32] = [
+    b"main",
+    b"main 9",
+    b"main 10000",
+    b"main 00200",
+    b"main 3-2",
+    b"main -2",
+    b"main 2-",
+    b"main 1-2-3",
+    b"start",
+    b"start 1 2",
+    b"start 1-2",
+    b"stop 1-2",
+    b"stop",
+    b"pause",
+    b"var",
+    b"sub",
+    b"sub 1",
+    b"sub 1 body",
+    b"sub 1 body 2",
+    b"sub 1 body returns 0",
+    b"sub 1 body 2 returns 8",
+    b"sub 1 body 2 returns 00",
+    b"sub 1 body 2 returns 0 returns",
+    b"sub 1 bodies 2 returns",
+    b"sub 1 body 2 x returns",
+    b"profile",
+    b"profile 9",
+    b"profile 8i 8e",
+    b"read 8",
+    b"halt 1",
+    b"Start 1",
+    b"start 200\r",
+];
+
 #[test]
 fn bad_lines(rt: HostRuntime) {
-    let texts: [&[u8]; 32] = [
-        b"main",
-        b"main 9",
-        b"main 10000",
-        b"main 00200",
-        b"main 3-2",
-        b"main -2",
-        b"main 2-",
-        b"main 1-2-3",
-        b"start",
-        b"start 1 2",
-        b"start 1-2",
-        b"stop 1-2",
-        b"stop",
-        b"pause",
-        b"var",
-        b"sub",
-        b"sub 1",
-        b"sub 1 body",
-        b"sub 1 body 2",
-        b"sub 1 body returns 0",
-        b"sub 1 body 2 returns 8",
-        b"sub 1 body 2 returns 00",
-        b"sub 1 body 2 returns 0 returns",
-        b"sub 1 bodies 2 returns",
-        b"sub 1 body 2 x returns",
-        b"profile",
-        b"profile 9",
-        b"profile 8i 8e",
-        b"read 8",
-        b"halt 1",
-        b"Start 1",
-        b"start 200\r",
-    ];
-    for text in texts {
+    for text in BAD_LINES {
         assert_eq!(rt; fault(&rt, text), Some(DeclarationFault::BadLine(1)));
     }
     assert_eq!(rt;

@@ -46,7 +46,7 @@ pub enum Action {
 }
 
 /// Whether a cell is one of 0010 to 0017.
-pub fn is_auto(cell: Word) -> bool
+pub fn is_auto_index(cell: Word) -> bool
     ensures { result ≡ is_auto_index cell }
 {
     (0o10..=0o17).contains(&cell.value())
@@ -60,7 +60,7 @@ fn effective_address(memory: &Memory, indirect: bool, named: Word) -> Word
         return named;
     }
     let pointer = memory.get(named);
-    if is_auto(named) {
+    if is_auto_index(named) {
         return pointer.increment();
     }
     pointer

@@ -14,7 +14,7 @@ ghost use Rattle.policy.specs.Watching.{IsLeastBroken};
 ghost use Rattle.policy.specs.OpenCalls.{open_calls};
 ghost use Rattle.policy.specs.Decided.{is_own, may_write, writes, calls_entry, finds_call, is_return, returns, may_load, reads, broken_by_reference, least_broken};
 
-use crate::actions::{Action, Operation, Reference, is_auto, next_action};
+use crate::actions::{Action, Operation, Reference, is_auto_index, next_action};
 use crate::declaration::Declaration;
 use crate::rules::Rule;
 use processor::{Cpu, Memory};
@@ -64,7 +64,7 @@ fn may_write<A: Allocator>(
 fn writes<A: Allocator>(declaration: &Declaration<A>, reference: &Reference, calls: &[Call]) -> bool
     ensures { result ≡ writes (meaning declaration.now) reference.now (current (open_calls calls.now)) }
 {
-    let steps = reference.indirect && is_auto(reference.named);
+    let steps = reference.indirect && is_auto_index(reference.named);
     if steps && !may_write(declaration, reference.operation, calls, reference.named) {
         return false;
     }

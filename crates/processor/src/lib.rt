@@ -84,7 +84,7 @@ pub trait Bus {
 }
 
 /// Whether a cell is one of 0010 to 0017.
-fn is_auto(address: Word) -> bool
+fn is_auto_index(address: Word) -> bool
     ensures { result ≡ is_auto_index address }
 {
     (0o10..=0o17).contains(&address.value())
@@ -100,7 +100,7 @@ fn resolve(memory: &mut Memory, word: Word, at: Word) -> Word
         return named;
     }
     let pointer = memory.get(named);
-    if !is_auto(named) {
+    if !is_auto_index(named) {
         return pointer;
     }
     let stepped = pointer.increment();

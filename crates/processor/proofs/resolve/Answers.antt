@@ -9,5 +9,5 @@ pub returns-clause-place : goal.returns-clause-place
 returns-clause-place c =
     let indirect : is_indirect c.args.word ≡ true = sym c.refers_indirectly.ensures ∙ c.if-not-refers_indirectly.false in
     let auto : is_auto_index (named_cell c.args.word c.args.at) ≡ true =
-    ap is_auto_index (sym c.target-named.ensures) ∙ sym c.is_auto.ensures ∙ c.if-not-is_auto.false in
+    ap is_auto_index (sym c.target-named.ensures) ∙ sym c.is_auto_index.ensures ∙ c.if-not-is_auto_index.false in
     rw (stepped_place (is_indirect c.args.word) (named_cell c.args.word c.args.at) (cell_of c.args.memory.now) indirect auto, c.increment-stepped.ensures, c.get-pointer.ensures, c.target-named.ensures) refl

@@ -21,7 +21,7 @@ const ZERO_PAGE: Name = Name {
     letters: *b"Z     ",
 };
 
-/// The operations that take an address.
+/// These six operations take an address.
 const AND: Name = Name {
     letters: *b"AND   ",
 };

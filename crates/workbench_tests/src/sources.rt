@@ -1,5 +1,8 @@
 //! Commands on sources, declarations and events.
 
+ghost use Rattle.std.specs.Prelude.{◌≡◌, false, IfOk};
+ghost use Rattle.std.specs.List.{AllByRecursion};
+
 use bin_tape::memory::{MemorySink, MemorySource};
 use bin_tape::{Image, write_tape};
 use instruct::Profile;
@@ -129,6 +132,66 @@ fn sources_are_refused_by_their_first_fault(rt: HostRuntime) -> Result<(), Fail>
     let mut failing = [MemorySource::new(HALT).failing_after(0)];
     let ended = list(rt.alloc(), &mut failing, Profile::Pdp8I, &mut out);
     assert_eq!(rt; ended, Err(Fault::Device(DeviceFault::Read)));
+    Ok(())
+}
+
+/// The bytes of a part, and how many of its reads succeed.
+type Given<'a> = (&'a [u8], usize);
+
+/// No read fails.
+const NEVER: usize = usize::MAX;
+
+/// The sources of these parts.
+fn sources_of<'a, A: Allocator>(
+    alloc: A,
+    parts: &[Given<'a>],
+) -> Result<Vec<MemorySource<'a>, A>, AllocError>
+    ensures { IfOk result (λ sources. AllByRecursion (λ source. source.failed ≡ false) sources.items) }
+{
+    let mut sources = Vec::new(alloc);
+    for (bytes, reads) in parts {
+        sources.push(MemorySource::new(bytes).failing_after(*reads))?;
+    }
+    Ok(sources)
+}
+
+/// What `assemble` and `list` answer to these parts, if it is the same.
+fn refused(alloc: Global, parts: &[Given<'_>]) -> Result<Option<Fault>, Fail> {
+    let mut out = MemorySink::new(alloc, 1000);
+    let mut sources = sources_of(alloc, parts)?;
+    let assembled = assemble(alloc, &mut sources, Profile::Pdp8I, &mut out);
+    let mut again = sources_of(alloc, parts)?;
+    let listed = list(alloc, &mut again, Profile::Pdp8I, &mut out);
+    match (assembled, listed) {
+        (Err(fault), Err(other)) if fault == other && out.bytes().is_empty() => Ok(Some(fault)),
+        _ => Ok(None),
+    }
+}
+
+#[test]
+fn the_first_of_sizes_and_reads_is_told(rt: HostRuntime) -> Result<(), Fail> {
+    let bytes = vec![in rt.alloc(); b'/'; 65_537]?;
+    let long = bytes.as_slice();
+    let full = &long[..65_536];
+    let fails = Fault::Device(DeviceFault::Read);
+    let rows: [(&[Given], Fault); 9] = [
+        (&[], fault(Code::TooLong, 0, 0)),
+        (&[(HALT, 0); 17], fault(Code::TooLong, 0, 0)),
+        (&[(HALT, NEVER); 17], fault(Code::TooLong, 0, 0)),
+        (&[(long, NEVER); 17], fault(Code::TooLong, 0, 0)),
+        (&[(HALT, 0); 16], fails),
+        (&[(long, NEVER), (HALT, 0)], fault(Code::TooLong, 1, 0)),
+        (&[(HALT, 0), (long, NEVER)], fails),
+        (
+            &[(full, NEVER), (long, NEVER), (HALT, 0)],
+            fault(Code::TooLong, 2, 0),
+        ),
+        // The read that would show that the part is too long fails.
+        (&[(long, 128), (long, NEVER)], fails),
+    ];
+    for (parts, expected) in rows {
+        assert_eq!(rt; refused(rt.alloc(), parts)?, Some(expected));
+    }
     Ok(())
 }
 

@@ -135,62 +135,64 @@ fn sources_are_refused_by_their_first_fault(rt: HostRuntime) -> Result<(), Fail>
     Ok(())
 }
 
-/// The bytes of a part, and how many of its reads succeed.
-type Given<'a> = (&'a [u8], usize);
+/// How many bytes a part has, and how many of its reads succeed.
+type Given = (usize, usize);
 
 /// No read fails.
 const NEVER: usize = usize::MAX;
 
-/// The sources of these parts.
+/// The sources of these parts, which are fronts of some bytes.
 fn sources_of<'a, A: Allocator>(
     alloc: A,
-    parts: &[Given<'a>],
+    bytes: &'a [u8],
+    parts: &[Given],
 ) -> Result<Vec<MemorySource<'a>, A>, AllocError>
     ensures { IfOk result (λ sources. AllByRecursion (λ source. source.failed ≡ false) sources.items) }
 {
     let mut sources = Vec::new(alloc);
-    for (bytes, reads) in parts {
-        sources.push(MemorySource::new(bytes).failing_after(*reads))?;
+    for (length, reads) in parts {
+        let front = &bytes[..bytes.len().min(*length)];
+        sources.push(MemorySource::new(front).failing_after(*reads))?;
     }
     Ok(sources)
 }
 
-/// What `assemble` and `list` answer to these parts, if it is the same.
-fn refused(alloc: Global, parts: &[Given<'_>]) -> Result<Option<Fault>, Fail> {
-    let mut out = MemorySink::new(alloc, 1000);
-    let mut sources = sources_of(alloc, parts)?;
-    let assembled = assemble(alloc, &mut sources, Profile::Pdp8I, &mut out);
-    let mut again = sources_of(alloc, parts)?;
-    let listed = list(alloc, &mut again, Profile::Pdp8I, &mut out);
-    match (assembled, listed) {
-        (Err(fault), Err(other)) if fault == other && out.bytes().is_empty() => Ok(Some(fault)),
-        _ => Ok(None),
+/// What `assemble` and `list` answer to these parts, if it is the same and nothing is written.
+fn refused(alloc: Global, bytes: &[u8], parts: &[Given]) -> Result<Option<Fault>, AllocError> {
+    let mut tape = MemorySink::new(alloc, 1000);
+    let mut sources = sources_of(alloc, bytes, parts)?;
+    let assembled = assemble(alloc, &mut sources, Profile::Pdp8I, &mut tape);
+    let mut listing = MemorySink::new(alloc, 1000);
+    let mut again = sources_of(alloc, bytes, parts)?;
+    let listed = list(alloc, &mut again, Profile::Pdp8I, &mut listing);
+    if assembled == listed && tape.bytes().is_empty() && listing.bytes().is_empty() {
+        Ok(assembled.err())
+    } else {
+        Ok(None)
     }
 }
 
 #[test]
 fn the_first_of_sizes_and_reads_is_told(rt: HostRuntime) -> Result<(), Fail> {
     let bytes = vec![in rt.alloc(); b'/'; 65_537]?;
-    let long = bytes.as_slice();
-    let full = &long[..65_536];
     let fails = Fault::Device(DeviceFault::Read);
     let rows: [(&[Given], Fault); 9] = [
         (&[], fault(Code::TooLong, 0, 0)),
-        (&[(HALT, 0); 17], fault(Code::TooLong, 0, 0)),
-        (&[(HALT, NEVER); 17], fault(Code::TooLong, 0, 0)),
-        (&[(long, NEVER); 17], fault(Code::TooLong, 0, 0)),
-        (&[(HALT, 0); 16], fails),
-        (&[(long, NEVER), (HALT, 0)], fault(Code::TooLong, 1, 0)),
-        (&[(HALT, 0), (long, NEVER)], fails),
+        (&[(9, 0); 17], fault(Code::TooLong, 0, 0)),
+        (&[(9, NEVER); 17], fault(Code::TooLong, 0, 0)),
+        (&[(65_537, NEVER); 17], fault(Code::TooLong, 0, 0)),
+        (&[(9, 0); 16], fails),
+        (&[(65_537, NEVER), (9, 0)], fault(Code::TooLong, 1, 0)),
+        (&[(9, 0), (65_537, NEVER)], fails),
         (
-            &[(full, NEVER), (long, NEVER), (HALT, 0)],
+            &[(65_536, NEVER), (65_537, NEVER), (9, 0)],
             fault(Code::TooLong, 2, 0),
         ),
-        // The read that would show that the part is too long fails.
-        (&[(long, 128), (long, NEVER)], fails),
+        // The read of the byte that is too many fails.
+        (&[(65_537, 128), (65_537, NEVER)], fails),
     ];
     for (parts, expected) in rows {
-        assert_eq!(rt; refused(rt.alloc(), parts)?, Some(expected));
+        assert_eq!(rt; refused(rt.alloc(), &bytes, parts)?, Some(expected));
     }
     Ok(())
 }

@@ -4,3 +4,4 @@ pub mod InputLemmas
 pub mod RunLemmas
 pub mod SourceLemmas
 pub mod WatchLemmas
+pub mod PartLemmas

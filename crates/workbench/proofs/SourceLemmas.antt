@@ -1,14 +1,8 @@
 -- Sources that are read one after the other.
-use Rattle.std.proofs.Common.{ℕ, ◌≡◌, ◌+◌, ◌<◌, Bool, true, false, List, [], ◌∷◌, ◌++◌, map, take, drop, get_or, length, slice_set, slice_index_or, arith, refl, sym, ◌∙◌, ap, subst, ℕ.suc}
-use Rattle.std.specs.Prelude.{Option, Some, None, IfSome}
-use Rattle.std.specs.List.{AllByRecursion, list_any}
-use Rattle.std.proofs.lemmas.List.{take_more, map-append, drop-set-lt, get_or-set_same, length-set, drop_more}
-use Rattle.std.proofs.lemmas.List.Folds.{list_any_at}
-use Rattle.workbench.specs.declared.status.Fault.{Fault}
-use Rattle.workbench.specs.declared.status.Fault.TheVariants.{Tape, EmptyImage, Source, Declared, Events, Device}
-use Rattle.workbench.specs.declared.status.Fault.TheVariants as fault
-use Rattle.workbench.specs.declared.status.DeviceFault.TheVariants.{Read, Write}
-use Rattle.workbench.specs.Faults.{IsInputFault}
+use Rattle.std.proofs.Common.{ℕ, ◌≡◌, ◌+◌, ◌<◌, List, [], ◌∷◌, ◌++◌, map, take, drop, get_or, length, slice_set, arith, sym, ◌∙◌, ap, subst}
+use Rattle.std.specs.Prelude.{Option, IfSome}
+use Rattle.std.specs.List.{AllByRecursion}
+use Rattle.std.proofs.lemmas.List.{take_more, map-append, drop-set-lt, drop_more}
 use Rattle.workbench.specs.SourceTexts.{AreRead}
 
 are_read_push : (xs : List (Option (List ℕ))) (ys : List (List ℕ)) (x : Option (List ℕ)) (y : List ℕ) →
@@ -28,11 +22,6 @@ reads_next remaining items ss os i d vs v short within same reads is =
     rw (take_more os i d within, map-append remaining (take i os) (get_or os i d ∷ []), map-append items vs (v ∷ []))
     (are_read_push (map remaining (take i os)) (map items vs) (remaining (get_or os i d)) (items v) reads (subst (λ s. IfSome (remaining s) (λ bytes. items v ≡ take 65537 bytes)) at is))
 
--- a source that was read tells whether it failed
-pub failed_one : {S : Type 0} (mark : S → Bool) (ss : List S) (i : ℕ) (new : S) → i < length ss → mark new ≡ true → list_any mark (slice_set ss i new) ≡ true
-failed_one mark ss i new within failed =
-    list_any_at mark (slice_set ss i new) i new (omega (arith, length-set ss i new)) (ap mark (get_or-set_same ss i new new within) ∙ failed)
-
 -- the sources after it are as they were
 pub unmarked_next : {S : Type 0} (P : S → Type 0) (ss : List S) (i : ℕ) (new : S) → i < length ss → AllByRecursion P (drop i ss) → AllByRecursion P (drop (i + 1) (slice_set ss i new))
 unmarked_next P ss i new within all =
@@ -41,14 +30,3 @@ unmarked_next P ss i new within all =
 pub same_next : {S : Type 0} (ss os : List S) (i : ℕ) (new : S) → i < length ss → i < length os → drop i ss ≡ drop i os → drop (i + 1) (slice_set ss i new) ≡ drop (i + 1) os
 same_next ss os i new within short same =
     drop-set-lt (i + 1) ss i new (omega arith) ∙ ap (drop 1) (sym (drop_more ss i new within) ∙ same ∙ drop_more os i new short)
-
--- what a text's fault says where more sources are looked at
-pub input_fault_kept : (marked more : Bool) (f : Fault) → (marked ≡ true → more ≡ true) → IsInputFault marked f → IsInputFault more f
-input_fault_kept marked more (Tape x) kept is = is
-input_fault_kept marked more EmptyImage kept is = is
-input_fault_kept marked more (Source x) kept is = is
-input_fault_kept marked more (Declared x) kept is = is
-input_fault_kept marked more (Events x) kept is = is
-input_fault_kept marked more (Device Read) kept is = kept is
-input_fault_kept marked more (Device Write) kept is = is
-input_fault_kept marked more fault.NoMemory kept is = tt

@@ -1,5 +1,5 @@
 -- What `assemble` and `list` write, and why they may have no answer.
-use Rattle.std.specs.Prelude.{ℕ, ◌≡◌, Bool, true, List, Option, ◌++◌}
+use Rattle.std.specs.Prelude.{ℕ, ◌≡◌, Bool, false, List, Option, length}
 use Rattle.std.specs.Io.KnownBytes.{Appends}
 use Rattle.instruct.specs.declared.Profile.{Profile}
 use Rattle.bin_tape.specs.Bytes.{AppendsFront}
@@ -15,7 +15,7 @@ use Rattle.workbench.specs.declared.status.Fault.{Fault}
 use Rattle.workbench.specs.declared.status.Fault.TheVariants.{Tape, EmptyImage, Source, Declared, Events, Device}
 use Rattle.workbench.specs.declared.status.Fault.TheVariants as fault
 use Rattle.workbench.specs.declared.status.DeviceFault.TheVariants.{Read, Write}
-use Rattle.workbench.specs.SourceTexts.{AreRead}
+use Rattle.workbench.specs.SourceTexts.{AreRead, is_bad_number, FailsToReadPart}
 
 -- Sources with these bytes, as far as they are known, are read as these parts, which mean these symbols and this image.
 pub record Assembles (profile : Profile) (sources : List (Option (List ℕ))) (symbols : List (Name × ℕ)) (image : List (Option ℕ)) : Type 0 where
@@ -66,7 +66,7 @@ pub record MeansNothing (profile : Profile) (sources : List (Option (List ℕ)))
   pub assembles : Assembles profile sources symbols image
   pub empty : IsEmptyImage image
 
--- The parts that were read have this fault.
+-- The parts that the sources hold have this fault.
 pub record HasFault (profile : Profile) (sources : List (Option (List ℕ))) (fault : PalFault) : Type 0 where
   pub parts : List (List ℕ)
   pub read : AreRead sources parts
@@ -78,18 +78,19 @@ IsAssemblyFault profile parts (Source fault) = IsFault (permanent_symbols profil
 IsAssemblyFault profile parts fault.NoMemory = Unit {0}
 IsAssemblyFault profile parts fault = ⊥
 
--- Why a command of a source has no result. A read of some source may fail.
-abbrev pub IsSourceFault : Profile → Bool → List (Option (List ℕ)) → Fault → Type 0
-IsSourceFault profile marked sources (Tape fault) = ⊥
-IsSourceFault profile marked sources EmptyImage = MeansNothing profile sources
-IsSourceFault profile marked sources (Source fault) = HasFault profile sources fault
-IsSourceFault profile marked sources (Declared fault) = ⊥
-IsSourceFault profile marked sources (Events fault) = ⊥
-IsSourceFault profile marked sources (Device Read) = marked ≡ true
-IsSourceFault profile marked sources (Device Write) = Unit {0}
-IsSourceFault profile marked sources fault.NoMemory = Unit {0}
+-- Why a command of sources has no result. The sources have these marks, had these bytes, and have those left. The fault of
+-- a read, and that memory was refused, are told only where there is a good number of sources.
+abbrev pub IsSourceFault : Profile → List Bool → List (Option (List ℕ)) → List (Option (List ℕ)) → Fault → Type 0
+IsSourceFault profile marks sources left (Tape fault) = ⊥
+IsSourceFault profile marks sources left EmptyImage = MeansNothing profile sources
+IsSourceFault profile marks sources left (Source fault) = HasFault profile sources fault
+IsSourceFault profile marks sources left (Declared fault) = ⊥
+IsSourceFault profile marks sources left (Events fault) = ⊥
+IsSourceFault profile marks sources left (Device Read) = FailsToReadPart marks sources left
+IsSourceFault profile marks sources left (Device Write) = Unit {0}
+IsSourceFault profile marks sources left fault.NoMemory = is_bad_number (length sources) ≡ false
 
 -- Why `list` has no result: for the same reasons, but a source without a word has a listing too.
-abbrev pub IsListFault : Profile → Bool → List (Option (List ℕ)) → Fault → Type 0
-IsListFault profile marked sources EmptyImage = ⊥
-IsListFault profile marked sources fault = IsSourceFault profile marked sources fault
+abbrev pub IsListFault : Profile → List Bool → List (Option (List ℕ)) → List (Option (List ℕ)) → Fault → Type 0
+IsListFault profile marks sources left EmptyImage = ⊥
+IsListFault profile marks sources left fault = IsSourceFault profile marks sources left fault

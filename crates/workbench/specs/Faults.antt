@@ -36,6 +36,18 @@ fails_to_write (Err (Device Read)) = false
 fails_to_write (Err (Device Write)) = true
 fails_to_write (Err fault.NoMemory) = false
 
+-- The answer is that a read failed.
+abbrev pub fails_to_read : {T : Type 0} → Result T Fault → Bool
+fails_to_read (Ok _) = false
+fails_to_read (Err (Tape _)) = false
+fails_to_read (Err EmptyImage) = false
+fails_to_read (Err (Source _)) = false
+fails_to_read (Err (Declared _)) = false
+fails_to_read (Err (Events _)) = false
+fails_to_read (Err (Device Read)) = true
+fails_to_read (Err (Device Write)) = false
+fails_to_read (Err fault.NoMemory) = false
+
 -- A read that failed is the device's fault; any other fault of a tape is the tape's.
 abbrev pub fault_of_tape : TapeFault → Fault
 fault_of_tape ReadFault = Device Read

@@ -1,13 +1,16 @@
 //! The commands that assemble a source.
 
-ghost use Rattle.std.specs.Prelude.{◌≡◌, false, true, map, IfOk, IfErr, OnOk, OnErr};
+ghost use Rattle.std.specs.Prelude.{◌≡◌, Err, false, true, length, map, IfOk, IfErr, OnOk, OnErr};
 ghost use Rattle.std.specs.List.{AllByRecursion, list_any};
 ghost use Rattle.pal_acts.specs.Permanent.{permanent_symbols};
 ghost use Rattle.pal_asm.specs.Listings.{Lists};
 ghost use Rattle.pal_asm.specs.Programs.{symbols_of, image_of, listing_of};
-ghost use Rattle.pal_asm.specs.Sources.{texts, Means};
+ghost use Rattle.pal_acts.specs.declared.code.Code.TheVariants.{TooLong};
+ghost use Rattle.pal_asm.specs.Sources.{fault_at, texts, Means};
 ghost use Rattle.workbench.specs.AssembleText.{IsAssemblyFault, IsSourceFault, WritesTape, FrontOfTape, IsListFault, WritesListing, FrontOfListing};
-ghost use Rattle.workbench.specs.Faults.{fails_to_write};
+ghost use Rattle.workbench.specs.Faults.{fails_to_read, fails_to_write};
+ghost use Rattle.workbench.specs.SourceTexts.{is_bad_number};
+ghost use Rattle.workbench.specs.declared.status.Fault.TheVariants.{Source};
 ghost use Rattle.workbench.specs.declared.status.Status.TheVariants.{Done};
 
 use crate::sources::{lend, read_parts};
@@ -38,9 +41,10 @@ fn program_of<A: Allocator + Copy>(
 ///
 /// # Errors
 ///
-/// `Source` with the first fault of the source; `EmptyImage` where it has no word, and then nothing
-/// is written; `Device` where a read or a write failed, after which a prefix of the tape went out;
-/// `NoMemory`.
+/// `Source` with the first fault of the source: that of the number of parts before any is read, that
+/// of a part that is too long before the next is read, and any other once all are read;
+/// `EmptyImage` where it has no word, and then nothing is written; `Device` where a read failed, or
+/// where a write failed, after which a prefix of the tape went out; `NoMemory`.
 pub fn assemble<A: Allocator + Copy, R: ByteSource, W: ByteSink>(
     alloc: A,
     sources: &mut [R],
@@ -52,14 +56,18 @@ pub fn assemble<A: Allocator + Copy, R: ByteSource, W: ByteSink>(
     // What is written is the tape of the image that the source means.
     ensures done { IfOk result (λ status. status ≡ Done) }
     ensures tape { OnOk result (WritesTape profile (map R.remaining sources.old) (W.taken out.old) (W.taken out.new)) }
-    // A fault of the source is its one fault.
-    ensures faults { IfErr result (IsSourceFault profile (list_any R.mark sources.new) (map R.remaining sources.old)) }
+    // A fault of the source is its one fault; that of a read comes only where the number of sources is good and those
+    // before it aren't too long.
+    ensures faults { IfErr result (IsSourceFault profile (map R.mark sources.new) (map R.remaining sources.old) (map R.remaining sources.new)) }
     // Where a write failed, a front of that tape went out,
     ensures front { W.mark out.new ≡ true → FrontOfTape profile (map R.remaining sources.old) (W.taken out.old) (W.taken out.new) }
     // and any other fault leaves the output as it was.
     ensures nothing { OnErr result (W.mark out.new ≡ false → W.taken out.new ≡ W.taken out.old) }
-    // A write failed exactly where the answer says so.
+    // A write failed exactly where the answer says so, and so did a read.
     ensures marks { W.mark out.new ≡ fails_to_write result }
+    ensures reads { list_any R.mark sources.new ≡ fails_to_read result }
+    // A bad number of sources is told, and nothing is read.
+    ensures number { is_bad_number (length sources.old) ≡ true → (result ≡ Err (Source (fault_at TooLong 0 0))) × (sources.new ≡ sources.old) }
 {
     let parts = read_parts(alloc, sources)?;
     let slices = lend(alloc, &parts)?;
@@ -86,10 +94,12 @@ pub fn list<A: Allocator + Copy, R: ByteSource, W: ByteSink>(
     requires writable { W.mark out.old ≡ false }
     ensures done { IfOk result (λ status. status ≡ Done) }
     ensures listing { OnOk result (WritesListing profile (map R.remaining sources.old) (W.taken out.old) (W.taken out.new)) }
-    ensures faults { IfErr result (IsListFault profile (list_any R.mark sources.new) (map R.remaining sources.old)) }
+    ensures faults { IfErr result (IsListFault profile (map R.mark sources.new) (map R.remaining sources.old) (map R.remaining sources.new)) }
     ensures front { W.mark out.new ≡ true → FrontOfListing profile (map R.remaining sources.old) (W.taken out.old) (W.taken out.new) }
     ensures nothing { OnErr result (W.mark out.new ≡ false → W.taken out.new ≡ W.taken out.old) }
     ensures marks { W.mark out.new ≡ fails_to_write result }
+    ensures reads { list_any R.mark sources.new ≡ fails_to_read result }
+    ensures number { is_bad_number (length sources.old) ≡ true → (result ≡ Err (Source (fault_at TooLong 0 0))) × (sources.new ≡ sources.old) }
 {
     let parts = read_parts(alloc, sources)?;
     let slices = lend(alloc, &parts)?;

@@ -1,7 +1,9 @@
 //! Reading whole texts.
 
-ghost use Rattle.std.specs.Prelude.{◌≡◌, true, false, take, IfOk, IfSome, IfErr};
-ghost use Rattle.workbench.specs.Faults.{IsInputFault};
+ghost use Rattle.std.specs.Prelude.{◌≡◌, ◌<◌, true, false, length, take, IfOk, IfSome, IfErr};
+ghost use Rattle.std.specs.Io.KnownBytes.{Consumes};
+ghost use Rattle.bin_tape.specs.Serving.{Gave};
+ghost use Rattle.workbench.specs.Faults.{IsInputFault, fails_to_read};
 
 use crate::status::{DeviceFault, Fault};
 use bin_tape::ByteSource;
@@ -18,7 +20,12 @@ pub(crate) fn read_text<A: Allocator, R: ByteSource>(
 ) -> Result<Vec<u8, A>, Fault>
     requires { R.mark source.old ≡ false }
     ensures text { IfOk result (λ text. IfSome (R.remaining source.old) (λ bytes. text.items ≡ take limit bytes)) }
+    // The source gave those bytes and no more.
+    ensures taken { IfOk result (λ text. Consumes (R.remaining source.old) (R.remaining source.new) text.items) }
     ensures faults { IfErr result (IsInputFault (R.mark source.new)) }
+    // A read failed exactly where the answer says so, and then fewer bytes had come than the limit.
+    ensures marks { R.mark source.new ≡ fails_to_read result }
+    ensures short { R.mark source.new ≡ true → Gave (R.remaining source.old) (R.remaining source.new) (λ given. length given < limit) }
 {
     let mut text = Vec::new(alloc);
     let mut piece = [0u8; PIECE];

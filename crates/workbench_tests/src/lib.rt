@@ -4,7 +4,11 @@
 #[cfg(test)]
 mod commands;
 #[cfg(test)]
+mod desk;
+#[cfg(test)]
 mod instructions;
+#[cfg(test)]
+mod program;
 #[cfg(test)]
 mod sources;
 #[cfg(test)]

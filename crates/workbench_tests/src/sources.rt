@@ -1,5 +1,8 @@
 //! Commands on sources, declarations and events.
 
+ghost use Rattle.std.specs.Prelude.{◌≡◌, false, IfOk};
+ghost use Rattle.std.specs.List.{AllByRecursion};
+
 use bin_tape::memory::{MemorySink, MemorySource};
 use bin_tape::{Image, write_tape};
 use instruct::Profile;
@@ -129,6 +132,68 @@ fn sources_are_refused_by_their_first_fault(rt: HostRuntime) -> Result<(), Fail>
     let mut failing = [MemorySource::new(HALT).failing_after(0)];
     let ended = list(rt.alloc(), &mut failing, Profile::Pdp8I, &mut out);
     assert_eq!(rt; ended, Err(Fault::Device(DeviceFault::Read)));
+    Ok(())
+}
+
+/// How many bytes a part has, and how many of its reads succeed.
+type Given = (usize, usize);
+
+/// No read fails.
+const NEVER: usize = usize::MAX;
+
+/// The sources of these parts, which are fronts of some bytes.
+fn sources_of<'a, A: Allocator>(
+    alloc: A,
+    bytes: &'a [u8],
+    parts: &[Given],
+) -> Result<Vec<MemorySource<'a>, A>, AllocError>
+    ensures { IfOk result (λ sources. AllByRecursion (λ source. source.failed ≡ false) sources.items) }
+{
+    let mut sources = Vec::new(alloc);
+    for (length, reads) in parts {
+        let front = &bytes[..bytes.len().min(*length)];
+        sources.push(MemorySource::new(front).failing_after(*reads))?;
+    }
+    Ok(sources)
+}
+
+/// What `assemble` and `list` answer to these parts, if it is the same and nothing is written.
+fn refused(alloc: Global, bytes: &[u8], parts: &[Given]) -> Result<Option<Fault>, AllocError> {
+    let mut tape = MemorySink::new(alloc, 1000);
+    let mut sources = sources_of(alloc, bytes, parts)?;
+    let assembled = assemble(alloc, &mut sources, Profile::Pdp8I, &mut tape);
+    let mut listing = MemorySink::new(alloc, 1000);
+    let mut again = sources_of(alloc, bytes, parts)?;
+    let listed = list(alloc, &mut again, Profile::Pdp8I, &mut listing);
+    if assembled == listed && tape.bytes().is_empty() && listing.bytes().is_empty() {
+        Ok(assembled.err())
+    } else {
+        Ok(None)
+    }
+}
+
+#[test]
+fn the_first_of_sizes_and_reads_is_told(rt: HostRuntime) -> Result<(), Fail> {
+    let bytes = vec![in rt.alloc(); b'/'; 65_537]?;
+    let fails = Fault::Device(DeviceFault::Read);
+    let rows: [(&[Given], Fault); 9] = [
+        (&[], fault(Code::TooLong, 0, 0)),
+        (&[(9, 0); 17], fault(Code::TooLong, 0, 0)),
+        (&[(9, NEVER); 17], fault(Code::TooLong, 0, 0)),
+        (&[(65_537, NEVER); 17], fault(Code::TooLong, 0, 0)),
+        (&[(9, 0); 16], fails),
+        (&[(65_537, NEVER), (9, 0)], fault(Code::TooLong, 1, 0)),
+        (&[(9, 0), (65_537, NEVER)], fails),
+        (
+            &[(65_536, NEVER), (65_537, NEVER), (9, 0)],
+            fault(Code::TooLong, 2, 0),
+        ),
+        // The read of the byte that is too many fails.
+        (&[(65_537, 128), (65_537, NEVER)], fails),
+    ];
+    for (parts, expected) in rows {
+        assert_eq!(rt; refused(rt.alloc(), &bytes, parts)?, Some(expected));
+    }
     Ok(())
 }
 

@@ -4,7 +4,6 @@ use Rattle.bin_tape.specs.Written.{written_tape}
 use Rattle.pal_acts.specs.Permanent.{permanent_symbols}
 use Rattle.pal_asm.specs.Programs.{symbols_of, image_of}
 use Rattle.pal_asm.specs.Sources.{Means}
-use Rattle.workbench.specs.AssembleText.{Assembles}
 use Rattle.workbench.proofs.assembling.assemble.Goals as goal
 
 pub returns-clause-front : goal.returns-clause-front

@@ -1,12 +1,14 @@
 -- What a source does as it is kept in memory, for the private contracts below `assemble`.
-use Rattle.std.specs.Prelude.{◌≡◌, ℕ, ◌+◌, Bool, ◌||◌, ◌&&◌, nat_eq, nat_lt, if◌then◌else◌, List, [], ◌∷◌, ◌++◌, map, reverse, Result, Ok, Err, Vec}
+use Rattle.std.specs.Prelude.{◌≡◌, ℕ, ◌+◌, ◌≤◌, Bool, ◌||◌, ◌&&◌, nat_eq, nat_lt, if◌then◌else◌, List, [], ◌∷◌, ◌++◌, map, reverse, slice_range, Result, Ok, Err}
+use Rattle.std.specs.Borrow.{Bor}
 use Rattle.pal_acts.specs.declared.act.Join.{Join}
 use Rattle.pal_acts.specs.declared.act.Act.{Act}
 use Rattle.pal_acts.specs.declared.act.Act.TheVariants as act
 use Rattle.pal_acts.specs.declared.code.Code.{Code}
 use Rattle.pal_asm.specs.declared.deed.Deed.{Deed}
-use Rattle.pal_asm.specs.declared.deed.Deed.TheVariants as deed
-use Rattle.pal_asm.specs.declared.deed.PlacedDeed.{PlacedDeed}
+use Rattle.pal_asm.specs.declared.deed.Doing.{Doing}
+use Rattle.pal_asm.specs.declared.deed.Doing.TheVariants as doing
+use Rattle.pal_asm.specs.declared.deed.Placed.{Placed}
 use Rattle.pal_asm.specs.declared.number.Radix.{Radix}
 use Rattle.pal_asm.specs.declared.reading.Turn.{Turn}
 use Rattle.pal_asm.specs.declared.reading.Turn.TheVariants.{On, Ends}
@@ -32,27 +34,36 @@ bare (act.Assign n e) = act.Assign n (anywhere e.now)
 bare (act.Word e) = act.Word (anywhere e.now)
 bare act.LastPause = act.LastPause
 
--- The act that is kept so.
-abbrev pub act_of : {A : Type 0} → Deed A → Act
-act_of (deed.Wrong c) = act.Wrong c
-act_of (deed.Tag n) = act.Tag n
-act_of (deed.Origin js) = act.Origin (anywhere js.items)
-act_of (deed.Assign n js) = act.Assign n (anywhere js.items)
-act_of (deed.Word js) = act.Word (anywhere js.items)
-act_of deed.LastPause = act.LastPause
+-- The act that does this with this expression; what has none doesn't look at it.
+abbrev pub act_by : Doing → Bor (List Join) → Act
+act_by (doing.Wrong c) e = act.Wrong c
+act_by (doing.Tag n) e = act.Tag n
+act_by doing.Origin e = act.Origin e
+act_by (doing.Assign n) e = act.Assign n e
+act_by doing.Word e = act.Word e
+act_by doing.LastPause e = act.LastPause
 
--- The same with its place.
-abbrev pub placed_act : {A : Type 0} → PlacedDeed A → PlacedAct
-placed_act d = placed d.place.part d.place.line (act_of d.deed)
+-- The act that is kept so with its place, where these are the terms of all expressions.
+abbrev pub placed_act : List Join → Deed → PlacedAct
+placed_act js d = placed d.place.part d.place.line (act_by d.doing (anywhere (slice_range js d.span.first d.span.last)))
 
 -- The acts that are kept.
-abbrev pub acts_in : {A : Type 0} → List (PlacedDeed A) → List PlacedAct
-acts_in ds = map placed_act ds
+abbrev pub acts_in : List Join → List Deed → List PlacedAct
+acts_in js ds = map (placed_act js) ds
 
--- An expression that was read, wherever it lies, or what is wrong with it.
-abbrev pub read_of : {A : Type 0} → Result (Vec Join A) Code → Result (List Join) Code
-read_of (Ok js) = Ok js.items
-read_of (Err c) = Err c
+-- An expression lies among so many terms.
+pub record LiesWithin (n : ℕ) (d : Deed) : Type 0 where
+  pub forward : d.span.first ≤ d.span.last
+  pub inside : d.span.last ≤ n
+
+-- An act at its place, without the place in memory of its expression.
+abbrev pub bare_placed : Placed → PlacedAct
+bare_placed p = placed p.place.part p.place.line (bare p.act)
+
+-- An expression that was read into these terms, or what is wrong with it.
+abbrev pub read_of : List Join → Result (Unit {0}) Code → Result (List Join) Code
+read_of js (Ok _) = Ok js
+read_of js (Err c) = Err c
 
 -- What may follow a part: by the next parts, or nothing.
 abbrev pub Next : Turn → ℕ → List (List ℕ) → List PlacedAct → Type 0

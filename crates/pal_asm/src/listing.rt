@@ -4,11 +4,11 @@ ghost use Rattle.std.specs.Prelude.{◌≡◌, ◌<◌, ◌++◌, [], codes, len
 ghost use Rattle.pal_text.specs.Characters.{characters};
 ghost use Rattle.pal_acts.specs.Values.{known};
 ghost use Rattle.pal_asm.specs.Listings.{all_words, is_no_text, is_at, without_front, word_text, words_text, line_text, symbol_text, symbols_text};
-ghost use Rattle.pal_asm.specs.Kept.{acts_in, placed_act, lines_in, Adds, is_before, skip, next_at, after_those, turns_text};
+ghost use Rattle.pal_asm.specs.Kept.{bare_placed, lines_in, Adds, is_before, skip, next_at, after_those, turns_text};
 
-use crate::deed::{Deed, Place, PlacedDeed};
+use crate::deed::{Deeds, Place, Placed};
 use crate::program::SymbolTable;
-use pal_acts::{Name, Symbols};
+use pal_acts::{Act, Name, Symbols};
 use pal_text::characters::is_character_code;
 use std::alloc::{AllocError, Allocator};
 use word12::Word;
@@ -31,14 +31,14 @@ pub(crate) struct ListedWord {
 /// Adds the word of what a source does next, if it is one.
 fn add_word<A: Allocator + Copy>(
     symbols: &Symbols<'_, A>,
-    item: &PlacedDeed<A>,
+    item: Placed<'_>,
     here: &mut Word,
     found: &mut Vec<ListedWord, A>,
 ) -> Result<(), AllocError>
-    ensures { OnOk result (Adds (known symbols.now.permanent.now symbols.now.own.entries) (placed_act item.now) here.old here.new found.old.items found.new.items) }
+    ensures { OnOk result (Adds (known symbols.now.permanent.now symbols.now.own.entries) (bare_placed item.entry) here.old here.new found.old.items found.new.items) }
 {
-    match &item.deed {
-        Deed::Word(joins) => {
+    match item.act {
+        Act::Word(joins) => {
             if let Ok(word) = symbols.word(*here, joins) {
                 found.push(ListedWord {
                     place: item.place,
@@ -48,7 +48,7 @@ fn add_word<A: Allocator + Copy>(
             }
             *here = here.increment();
         }
-        Deed::Origin(joins) => {
+        Act::Origin(joins) => {
             *here = match symbols.value(*here, joins) {
                 Some(origin) => origin,
                 None => Word::ZERO,
@@ -63,14 +63,14 @@ fn add_word<A: Allocator + Copy>(
 pub(crate) fn words_of<A: Allocator + Copy>(
     alloc: A,
     symbols: &Symbols<'_, A>,
-    deeds: &[PlacedDeed<A>],
+    deeds: &Deeds<A>,
 ) -> Result<Vec<ListedWord, A>, AllocError>
-    ensures { IfOk result (λ found. found.items ≡ all_words (known symbols.now.permanent.now symbols.now.own.entries) (acts_in deeds.now)) }
+    ensures { IfOk result (λ found. found.items ≡ all_words (known symbols.now.permanent.now symbols.now.own.entries) deeds.now) }
 {
     let mut found = Vec::new(alloc);
     let mut here = Word::from_index(0o200);
-    for item in deeds {
-        add_word(symbols, item, &mut here, &mut found)?;
+    for at in 0..deeds.len() {
+        add_word(symbols, deeds.get(at), &mut here, &mut found)?;
     }
     Ok(found)
 }

@@ -11,9 +11,9 @@ ghost use Rattle.pal_acts.specs.Permanent.{permanent_symbols};
 ghost use Rattle.pal_asm.specs.Sources.{act_in, texts, size_fault, Means, IsFault, Refuses, IsSilent, TellsOnly};
 ghost use Rattle.pal_asm.specs.Listings.{all_words, symbols_text, Lists};
 ghost use Rattle.pal_asm.specs.Programs.{symbols_of, image_of, listing_of};
-ghost use Rattle.pal_asm.specs.Kept.{acts_in, lines_in, turns_text, RefusesActs};
+ghost use Rattle.pal_asm.specs.Kept.{lines_in, turns_text, RefusesActs};
 
-use crate::deed::{PlacedDeed, acts_of};
+use crate::deed::{Deeds, acts_of};
 use crate::fault::{AssembleFault, PalFault, WriteFault};
 use crate::listing::{make_listing, words_of};
 use crate::reading::{Reading, read_source};
@@ -33,11 +33,11 @@ pub type SymbolTable<A> = IndexMap<Name, Word, BuildHasherDefault<FoldHasher>, A
 fn assemble_deeds<'p, A: Allocator + Copy>(
     alloc: A,
     permanent: &'p [(Name, Word)],
-    deeds: &[PlacedDeed<A>],
+    deeds: &Deeds<A>,
 ) -> Result<Assembled<'p, A>, AssembleFault>
     ensures permanent { IfOk result (λ found. found.symbols.permanent.now ≡ permanent.now) }
-    ensures found { IfOk result (λ found. IsSource permanent.now 1024 (map act_in (acts_in deeds.now)) found.symbols.own.entries found.image) }
-    ensures refused { IfErr result (RefusesActs permanent.now (acts_in deeds.now)) }
+    ensures found { IfOk result (λ found. IsSource permanent.now 1024 (map act_in deeds.now) found.symbols.own.entries found.image) }
+    ensures refused { IfErr result (RefusesActs permanent.now deeds.now) }
 {
     let Ok(acts) = acts_of(alloc, deeds) else {
         return Err(AssembleFault::NoMemory);
@@ -45,7 +45,7 @@ fn assemble_deeds<'p, A: Allocator + Copy>(
     match pal_acts::assemble(alloc, permanent, &acts) {
         Ok(found) => Ok(found),
         Err(Refused::Fault(at, code)) => {
-            let place = deeds[at].place;
+            let place = deeds.get(at).place;
             Err(AssembleFault::Source(PalFault {
                 code,
                 part: place.part,
@@ -107,7 +107,7 @@ fn program_of<A: Allocator + Copy>(
 ) -> Result<Program<A>, AllocError>
     ensures image { IfOk result (λ program. image_of program ≡ found.entry.image) }
     ensures symbols { IfOk result (λ program. symbols_of program ≡ found.entry.symbols.own.entries) }
-    ensures listing { IfOk result (λ program. listing_of program ≡ turns_text (lines_in reading.now.lines.items) (all_words (known found.entry.symbols.permanent.now found.entry.symbols.own.entries) (acts_in reading.now.deeds.items)) ++ codes "\n" ++ symbols_text found.entry.symbols.own.entries) }
+    ensures listing { IfOk result (λ program. listing_of program ≡ turns_text (lines_in reading.now.lines.items) (all_words (known found.entry.symbols.permanent.now found.entry.symbols.own.entries) reading.now.deeds) ++ codes "\n" ++ symbols_text found.entry.symbols.own.entries) }
 {
     let Assembled { symbols, image } = found;
     let words = words_of(alloc, &symbols, &reading.deeds)?;

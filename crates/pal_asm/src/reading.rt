@@ -8,13 +8,13 @@ ghost use Rattle.pal_asm.specs.declared.number.Radix.TheVariants.{Octal};
 ghost use Rattle.pal_asm.specs.Acts.{part_acts, last_radix};
 ghost use Rattle.pal_asm.specs.Sources.{Gives, size_fault, texts};
 ghost use Rattle.pal_asm.specs.Listings.{text_lines, Shows};
-ghost use Rattle.pal_asm.specs.Kept.{acts_in, lines_in, Turns, TurnsLines};
+ghost use Rattle.pal_asm.specs.Kept.{lines_in, Turns, TurnsLines};
 
-use crate::deed::{Deed, Place, PlacedDeed, keep};
+use crate::deed::{Deeds, Place};
 use crate::listing::ListedLine;
 use crate::number::Radix;
-use crate::statement::keep_statement;
-use pal_acts::Code;
+use crate::statement::{NumberedPart, keep_statement};
+use pal_acts::{Act, Code};
 use pal_text::{Ending, Part, TextFault, statements};
 use std::alloc::{AllocError, Allocator};
 
@@ -25,24 +25,24 @@ pub(crate) enum Turn {
     Ends,
 }
 
-/// Keeps what the statements of the part of this number do, and tells how numbers are written after
-/// them.
+/// Keeps what the statements of a part do, and tells how numbers are written after them.
 fn keep_statements<A: Allocator + Copy>(
     alloc: A,
     before: Radix,
-    number: usize,
-    last: bool,
+    numbered: &NumberedPart<'_>,
     part: &Part<'_, A>,
-    deeds: &mut Vec<PlacedDeed<A>, A>,
+    deeds: &mut Deeds<A>,
 ) -> Result<Radix, AllocError>
-    requires within { AllByRecursion (IsWithin (length part.now.source.now)) part.now.tokens.items }
+    requires within { AllByRecursion (IsWithin (length numbered.now.source.now)) part.now.tokens.items }
     requires placed { AllByRecursion (IsPlaced part.now.tokens.items) part.now.statements.items }
     ensures radix { IfOk result (λ r. r ≡ last_radix before part.now.statements.items) }
-    ensures acts { IfOk result (λ r. acts_in deeds.new.items ≡ acts_in deeds.old.items ++ part_acts number last part.now.source.now part.now.tokens.items before part.now.statements.items) }
+    ensures acts { IfOk result (λ r. deeds.new ≡ deeds.old ++ part_acts numbered.now.number numbered.now.last numbered.now.source.now part.now.tokens.items before part.now.statements.items) }
 {
+    let mut joins = Vec::new(alloc);
     let mut radix = before;
     for statement in &part.statements {
-        keep_statement(alloc, radix, number, last, part, *statement, deeds)?;
+        let tokens = part.tokens_of(*statement);
+        keep_statement(numbered, radix, tokens, *statement, &mut joins, deeds)?;
         radix = radix.after(statement.form);
     }
     Ok(radix)
@@ -76,17 +76,22 @@ fn read_part<'s, A: Allocator + Copy>(
     number: usize,
     last: bool,
     bytes: &'s [u8],
-    deeds: &mut Vec<PlacedDeed<A>, A>,
+    deeds: &mut Deeds<A>,
     lines: &mut Vec<ListedLine<'s>, A>,
 ) -> Result<Turn, AllocError>
     requires { length bytes.now ≤ 65536 }
-    ensures acts { IfOk result (Turns number radix last bytes.now (acts_in deeds.old.items) (acts_in deeds.new.items)) }
+    ensures acts { IfOk result (Turns number radix last bytes.now deeds.old deeds.new) }
     ensures lines { IfOk result (TurnsLines number bytes.now (lines_in lines.old.items) (lines_in lines.new.items)) }
 {
     match statements(alloc, bytes) {
         Ok(part) => {
             keep_lines(number, &part, lines)?;
-            let radix = keep_statements(alloc, radix, number, last, &part, deeds)?;
+            let numbered = NumberedPart {
+                number,
+                last,
+                source: bytes,
+            };
+            let radix = keep_statements(alloc, radix, &numbered, &part, deeds)?;
             match part.ending {
                 Ending::Dollar => Ok(Turn::Ends),
                 Ending::Pause | Ending::Bytes => Ok(Turn::On(radix)),
@@ -94,7 +99,7 @@ fn read_part<'s, A: Allocator + Copy>(
         }
         Err(TextFault::Illegal(line)) => {
             let place = Place { part: number, line };
-            keep(deeds, place, Deed::Wrong(Code::IllegalCharacter))?;
+            deeds.keep(place, Act::Wrong(Code::IllegalCharacter))?;
             Ok(Turn::Ends)
         }
         Err(TextFault::NoMemory) => Err(AllocError),
@@ -105,7 +110,7 @@ fn read_part<'s, A: Allocator + Copy>(
 /// What a source does, and its lines.
 #[derive(Drop)]
 pub(crate) struct Reading<'s, A: Allocator> {
-    pub(crate) deeds: Vec<PlacedDeed<A>, A>,
+    pub(crate) deeds: Deeds<A>,
     pub(crate) lines: Vec<ListedLine<'s>, A>,
 }
 
@@ -115,10 +120,10 @@ pub(crate) fn read_source<'s, A: Allocator + Copy>(
     parts: &[&'s [u8]],
 ) -> Result<Reading<'s, A>, AllocError>
     requires { size_fault (texts parts.now) ≡ None }
-    ensures acts { IfOk result (λ reading. Gives 1 Octal (texts parts.now) (acts_in reading.deeds.items)) }
+    ensures acts { IfOk result (λ reading. Gives 1 Octal (texts parts.now) reading.deeds) }
     ensures lines { IfOk result (λ reading. Shows 1 (texts parts.now) (lines_in reading.lines.items)) }
 {
-    let mut deeds = Vec::new(alloc);
+    let mut deeds = Deeds::new(alloc);
     let mut lines = Vec::new(alloc);
     let mut radix = Radix::Octal;
     for (at, part) in parts.iter().enumerate() {

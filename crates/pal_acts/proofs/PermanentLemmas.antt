@@ -1,17 +1,18 @@
 -- The lists of permanent symbols, computed.
-use Rattle.std.proofs.Common.{◌≡◌, refl, take, arith}
+use Rattle.std.proofs.Common.{◌≡◌, refl, []}
+use Rattle.indexmap.specs.IndexMap.{insert_all}
 use Rattle.instruct.specs.declared.Profile.TheVariants.{Pdp8I, Pdp8E}
+use Rattle.pal_acts.specs.Values.{same}
 use Rattle.pal_acts.specs.Permanent.{permanent_symbols, common_symbols, further_symbols, PermanentOnce, ReferencesPermanent}
 
-pub front_common : take 49 (permanent_symbols Pdp8E) ≡ permanent_symbols Pdp8I
+-- put into a table one after another, they stand there as in the list
+pub put_common : insert_all same [] (permanent_symbols Pdp8I) ≡ permanent_symbols Pdp8I
 unfolding permanent_symbols common_symbols
-front_common = refl
+put_common = refl
 
-pub front_all : take 56 (permanent_symbols Pdp8E) ≡ permanent_symbols Pdp8E
+pub put_all : insert_all same [] (permanent_symbols Pdp8E) ≡ permanent_symbols Pdp8E
 unfolding permanent_symbols common_symbols further_symbols
-front_all = refl
-
-pub ruleset fronts = (arith, front_common, front_all)
+put_all = refl
 
 pub once : PermanentOnce
 unfolding permanent_symbols common_symbols further_symbols

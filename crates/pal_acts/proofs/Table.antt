@@ -1,17 +1,11 @@
 -- Looking names up in tables.
-use Rattle.std.proofs.Common.{◌≡◌, ◌∙◌, sym, ap, refl, ℕ, ◌+◌, ◌<◌, List, [], ◌∷◌, ◌++◌, length, drop, get_or, add-one, drop-cons, Bool, true, false, Some, None, Option, is_some, inl, inr}
+use Rattle.std.proofs.Common.{◌≡◌, ◌∙◌, sym, ap, refl, ℕ, List, [], ◌∷◌, ◌++◌, Bool, Some, None, Option, is_some, inl, inr}
 use Rattle.std.specs.List.{list_any}
 use Rattle.std.specs.Map.{lookup, keys_of}
 use Rattle.std.proofs.lemmas.Bool.{cases_Bool}
 use Rattle.pal_text.specs.declared.names.Name.{Name}
 use Rattle.pal_acts.specs.Values.{same, in_table}
 use Rattle.pal_acts.specs.Meaning.{has}
-
-pub found : (t : List (Name × ℕ)) (i : ℕ) (n : Name) (e : Name × ℕ) → i < length t → e ≡ get_or t i e → same n e.0 ≡ true → in_table (drop i t) n ≡ Some e.1
-found t i n e h is eq = rw (drop-cons t i e h, ← is, eq) refl
-
-pub skipped : (t : List (Name × ℕ)) (i : ℕ) (n : Name) (e : Name × ℕ) → i < length t → e ≡ get_or t i e → same n e.0 ≡ false → in_table (drop i t) n ≡ in_table (drop (i + 1) t) n
-skipped t i n e h is eq = rw (drop-cons t i e h, ← is, eq, add-one) refl
 
 -- a name in the first of two tables
 pub lookup-left : {K : Type 0} (test : K → Bool) (xs ys : List (K × ℕ)) (v : ℕ) → lookup test xs ≡ Some v → lookup test (xs ++ ys) ≡ Some v

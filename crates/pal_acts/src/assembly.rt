@@ -9,9 +9,9 @@ ghost use Rattle.pal_acts.specs.Sources.{IsSource, IsImage, Encodes};
 ghost use Rattle.pal_acts.specs.Faults.{Refuses, IsRefused, IsSilent, TellsOnly};
 ghost use Rattle.pal_acts.specs.Steps.{StopsBy, FindsBy, Puts, PutBreaks};
 
-use crate::act::{Act, Name};
+use crate::act::Act;
 use crate::code::Code;
-use crate::symbols::{Refusal, Symbols};
+use crate::symbols::{Refusal, SymbolTable, Symbols};
 use bin_tape::Image;
 use std::alloc::Allocator;
 use word12::Word;
@@ -35,12 +35,12 @@ pub struct Assembled<'p, A: Allocator + Copy> {
 /// The symbols of a source.
 fn define<'p, A: Allocator + Copy>(
     alloc: A,
-    permanent: &'p [(Name, Word)],
+    permanent: &'p SymbolTable<A>,
     acts: &[Act<'_>],
 ) -> Result<Symbols<'p, A>, Refused>
-    ensures symbols { IfOk result (λ s. Defines permanent.now 1024 (reverse acts.now) s.own.entries) }
-    ensures permanent { IfOk result (λ s. s.permanent.now ≡ permanent.now) }
-    ensures refused { IfErr result (StopsBy permanent.now 1024 acts.now) }
+    ensures symbols { IfOk result (λ s. Defines permanent.now.entries 1024 (reverse acts.now) s.own.entries) }
+    ensures permanent { IfOk result (λ s. s.permanent.now.entries ≡ permanent.now.entries) }
+    ensures refused { IfErr result (StopsBy permanent.now.entries 1024 acts.now) }
 {
     let mut symbols = Symbols::new(alloc, permanent);
     let mut here = Word::from_index(0o200);
@@ -61,8 +61,8 @@ fn put<'p, A: Allocator + Copy>(
     image: &mut Image,
     here: &mut Word,
 ) -> Result<(), Code>
-    ensures puts { OnOk result (Puts (known symbols.now.permanent.now symbols.now.own.entries) act.entry image.old here.old image.new here.new) }
-    ensures refused { IfErr result (PutBreaks (known symbols.now.permanent.now symbols.now.own.entries) act.entry here.old) }
+    ensures puts { OnOk result (Puts (known symbols.now.permanent.now.entries symbols.now.own.entries) act.entry image.old here.old image.new here.new) }
+    ensures refused { IfErr result (PutBreaks (known symbols.now.permanent.now.entries symbols.now.own.entries) act.entry here.old) }
 {
     match act {
         Act::Word(joins) => {
@@ -87,9 +87,9 @@ fn encode<'p, A: Allocator + Copy>(
     symbols: &Symbols<'p, A>,
     acts: &[Act<'_>],
 ) -> Result<Image, Refused>
-    ensures encodes { OnOk result (Encodes (known symbols.now.permanent.now symbols.now.own.entries) (reverse acts.now)) }
-    ensures image { IfOk result (IsImage (known symbols.now.permanent.now symbols.now.own.entries) (reverse acts.now)) }
-    ensures refused { IfErr result (FindsBy (known symbols.now.permanent.now symbols.now.own.entries) acts.now) }
+    ensures encodes { OnOk result (Encodes (known symbols.now.permanent.now.entries symbols.now.own.entries) (reverse acts.now)) }
+    ensures image { IfOk result (IsImage (known symbols.now.permanent.now.entries symbols.now.own.entries) (reverse acts.now)) }
+    ensures refused { IfErr result (FindsBy (known symbols.now.permanent.now.entries symbols.now.own.entries) acts.now) }
 {
     let mut image = Image::empty();
     let mut here = Word::from_index(0o200);
@@ -104,12 +104,12 @@ fn encode<'p, A: Allocator + Copy>(
 /// The meaning of a source, or its first fault.
 fn assemble_acts<'p, A: Allocator + Copy>(
     alloc: A,
-    permanent: &'p [(Name, Word)],
+    permanent: &'p SymbolTable<A>,
     acts: &[Act<'_>],
 ) -> Result<Assembled<'p, A>, Refused>
-    ensures permanent { IfOk result (λ found. found.symbols.permanent.now ≡ permanent.now) }
-    ensures found { IfOk result (λ found. IsSource permanent.now 1024 acts.now found.symbols.own.entries found.image) }
-    ensures refused { IfErr result (Refuses permanent.now 1024 acts.now) }
+    ensures permanent { IfOk result (λ found. found.symbols.permanent.now.entries ≡ permanent.now.entries) }
+    ensures found { IfOk result (λ found. IsSource permanent.now.entries 1024 acts.now found.symbols.own.entries found.image) }
+    ensures refused { IfErr result (Refuses permanent.now.entries 1024 acts.now) }
 {
     let symbols = define(alloc, permanent, acts)?;
     let image = encode(&symbols, acts)?;
@@ -125,17 +125,17 @@ fn assemble_acts<'p, A: Allocator + Copy>(
 /// that an act defines; neither that act nor one before it has a fault, but as a word.
 pub fn assemble<'p, A: Allocator + Copy>(
     alloc: A,
-    permanent: &'p [(Name, Word)],
+    permanent: &'p SymbolTable<A>,
     acts: &[Act<'_>],
 ) -> Result<Assembled<'p, A>, Refused>
-    ensures permanent { IfOk result (λ found. found.symbols.permanent.now ≡ permanent.now) }
-    ensures found { IfOk result (λ found. IsSource permanent.now 1024 acts.now found.symbols.own.entries found.image) }
-    ensures refused { IfErr result (Refuses permanent.now 1024 acts.now) }
+    ensures permanent { IfOk result (λ found. found.symbols.permanent.now.entries ≡ permanent.now.entries) }
+    ensures found { IfOk result (λ found. IsSource permanent.now.entries 1024 acts.now found.symbols.own.entries found.image) }
+    ensures refused { IfErr result (Refuses permanent.now.entries 1024 acts.now) }
     // A source that has a meaning is answered by no fault.
-    ensures meant { (own : List (Named × ℕ)) (image : List (Option ℕ)) → IsSource permanent.now 1024 acts.now own image →
+    ensures meant { (own : List (Named × ℕ)) (image : List (Option ℕ)) → IsSource permanent.now.entries 1024 acts.now own image →
         MatchResult result (λ found. (found.symbols.own.entries ≡ own) × (found.image ≡ image)) IsSilent }
     // A source that has a fault is answered by no other, and by no meaning.
-    ensures faulty { (at : ℕ) (code : Coded) → IsRefused permanent.now 1024 acts.now at code →
+    ensures faulty { (at : ℕ) (code : Coded) → IsRefused permanent.now.entries 1024 acts.now at code →
         MatchResult result (λ found. ⊥) (TellsOnly at code) }
 {
     assemble_acts(alloc, permanent, acts)

@@ -16,8 +16,8 @@ mod words;
 pub use act::{Act, Join, Name, Sign, Term};
 pub use assembly::{Assembled, Refused, assemble};
 pub use code::Code;
-pub use permanent::PermanentSymbols;
-pub use symbols::Symbols;
+pub use permanent::permanent_table;
+pub use symbols::{SymbolTable, Symbols};
 
 #[cfg(test)]
 mod tests;

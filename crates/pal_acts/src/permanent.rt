@@ -1,12 +1,15 @@
 //! The permanent symbols of both profiles.
 
-ghost use Rattle.std.specs.Prelude.{◌≡◌, map};
-ghost use Rattle.instruct.specs.declared.Profile.TheVariants.{Pdp8E};
+ghost use Rattle.std.specs.Prelude.{◌≡◌, IfOk, [], map};
+ghost use Rattle.indexmap.specs.IndexMap.{insert_all};
+ghost use Rattle.pal_acts.specs.Values.{same};
 ghost use Rattle.pal_acts.specs.Permanent.{permanent_symbols, listed};
 
 use crate::act::Name;
+use crate::symbols::SymbolTable;
+use indexmap::IndexMap;
 use instruct::Profile;
-use std::marker::Model;
+use std::alloc::{AllocError, Allocator};
 use word12::Word;
 
 /// How many permanent symbols the PDP-8/I has.
@@ -75,63 +78,33 @@ const SYMBOLS: [([u8; 6], usize); ALL] = [
     (*b"TFL   ", 0o6040),
 ];
 
+/// Symbols with their values as words, put into a table one after another.
+fn table_of<A: Allocator + Copy>(
+    alloc: A,
+    symbols: &[([u8; 6], usize)],
+) -> Result<SymbolTable<A>, AllocError>
+    ensures { IfOk result (λ table. table.entries ≡ insert_all same [] (map listed symbols.now)) }
+{
+    let mut table = IndexMap::with_capacity(alloc, symbols.len())?;
+    for (letters, value) in symbols {
+        table.insert(Name { letters: *letters }, Word::from_index(*value % 4096))?;
+    }
+    Ok(table)
+}
+
 /// The permanent symbols of a profile, each with its value.
-#[derive(Drop)]
-pub struct PermanentSymbols {
-    table: [(Name, Word); ALL],
-    count: usize,
-}
-
-impl Model for PermanentSymbols {
-    ghost use Rattle.std.specs.Prelude.{List, ℕ, take, ◌≤◌};
-    ghost use Rattle.pal_text.specs.declared.names.Name.{Name as Named};
-
-    ghost Value = { List (Named × ℕ) };
-
-    ghost view = { λ symbols. take symbols.count symbols.table };
-
-    ghost invariant = { λ symbols. symbols.count ≤ 56 };
-}
-
-/// Symbols with their values as words.
-fn table_of(symbols: &[([u8; 6], usize); ALL]) -> [(Name, Word); ALL]
-    ensures { result ≡ map listed symbols.now }
+///
+/// # Errors
+///
+/// Memory was refused.
+pub fn permanent_table<A: Allocator + Copy>(
+    alloc: A,
+    profile: Profile,
+) -> Result<SymbolTable<A>, AllocError>
+    ensures { IfOk result (λ table. table.entries ≡ permanent_symbols profile) }
 {
-    let mut table = [(Name { letters: [0; 6] }, Word::ZERO); ALL];
-    for (at, (letters, value)) in symbols.iter().enumerate() {
-        table[at] = (Name { letters: *letters }, Word::from_index(*value % 4096));
-    }
-    table
-}
-
-/// The symbols of the PDP-8/E, those of the PDP-8/I first.
-#[tactic(auto, unfolding(crate::specs::Permanent::permanent_symbols, crate::specs::Permanent::common_symbols, crate::specs::Permanent::further_symbols))]
-fn all_symbols() -> [(Name, Word); ALL]
-    ensures { result ≡ permanent_symbols Pdp8E }
-{
-    table_of(&SYMBOLS)
-}
-
-impl PermanentSymbols {
-    /// The permanent symbols of a profile.
-    #[tactic(auto, using(crate::proofs::PermanentLemmas::fronts))]
-    pub fn new(profile: Profile) -> PermanentSymbols
-        ensures { result ≡ permanent_symbols profile }
-    {
-        let table = all_symbols();
-        match profile {
-            Profile::Pdp8I => PermanentSymbols {
-                table,
-                count: COMMON,
-            },
-            Profile::Pdp8E => PermanentSymbols { table, count: ALL },
-        }
-    }
-
-    /// The symbols with their values, as `assemble` takes them.
-    pub fn as_slice(&self) -> &[(Name, Word)]
-        ensures { result.now ≡ self.now }
-    {
-        &self.table[..self.count]
+    match profile {
+        Profile::Pdp8I => table_of(alloc, &SYMBOLS[..COMMON]),
+        Profile::Pdp8E => table_of(alloc, &SYMBOLS),
     }
 }

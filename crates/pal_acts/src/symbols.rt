@@ -1,7 +1,7 @@
 //! The symbols of a source and their values.
 
 ghost use Rattle.std.specs.Prelude.{◌≡◌, None, [], ◌++◌, length, OnOk, IfErr};
-ghost use Rattle.pal_acts.specs.Values.{in_table, known, term_value, value, joined};
+ghost use Rattle.pal_acts.specs.Values.{known, term_value, value, joined};
 ghost use Rattle.pal_acts.specs.Faults.{giving_fault, giving_table};
 ghost use Rattle.pal_acts.specs.Steps.{IsFault, Goes, Breaks};
 
@@ -22,17 +22,8 @@ pub(crate) enum Refusal {
     NoMemory,
 }
 
-/// The value of a name's first entry in a table.
-fn find(table: &[(Name, Word)], name: Name) -> Option<Word>
-    ensures { result ≡ in_table table.now name }
-{
-    for (known, value) in table {
-        if name == *known {
-            return Some(*value);
-        }
-    }
-    None
-}
+/// Symbols with their values, in the order in which they were put in.
+pub type SymbolTable<A> = IndexMap<Name, Word, BuildHasherDefault<FoldHasher>, A>;
 
 fn join(sign: Sign, left: Word, right: Word) -> Word
     ensures { result ≡ joined sign left right }
@@ -47,13 +38,13 @@ fn join(sign: Sign, left: Word, right: Word) -> Word
 /// The permanent symbols, and a source's own in the order of their definition.
 #[derive(Drop)]
 pub struct Symbols<'p, A: Allocator + Copy> {
-    pub permanent: &'p [(Name, Word)],
-    pub own: IndexMap<Name, Word, BuildHasherDefault<FoldHasher>, A>,
+    pub permanent: &'p SymbolTable<A>,
+    pub own: SymbolTable<A>,
 }
 
 impl<'p, A: Allocator + Copy> Symbols<'p, A> {
-    pub(crate) fn new(alloc: A, permanent: &'p [(Name, Word)]) -> Self
-        ensures permanent { result.permanent.now ≡ permanent.now }
+    pub(crate) fn new(alloc: A, permanent: &'p SymbolTable<A>) -> Self
+        ensures permanent { result.permanent.now.entries ≡ permanent.now.entries }
         ensures none { result.own.entries ≡ [] }
     {
         Symbols {
@@ -64,17 +55,17 @@ impl<'p, A: Allocator + Copy> Symbols<'p, A> {
 
     /// The value of a symbol, if it has one; a permanent one keeps its own.
     pub fn get(&self, name: Name) -> Option<Word>
-        ensures { result ≡ known self.now.permanent.now self.now.own.entries name }
+        ensures { result ≡ known self.now.permanent.now.entries self.now.own.entries name }
     {
-        match find(self.permanent, name) {
-            Some(value) => Some(value),
+        match self.permanent.get(&name) {
+            Some(value) => Some(*value),
             None => self.own.get(&name).copied(),
         }
     }
 
     /// The value of a term at a location, if it has one.
     pub(crate) fn term(&self, here: Word, term: Term) -> Option<Word>
-        ensures { result ≡ term_value (known self.now.permanent.now self.now.own.entries) here term }
+        ensures { result ≡ term_value (known self.now.permanent.now.entries self.now.own.entries) here term }
     {
         match term {
             Term::Number(word) => Some(word),
@@ -85,7 +76,7 @@ impl<'p, A: Allocator + Copy> Symbols<'p, A> {
 
     /// The value of an expression at a location; none where a symbol has none.
     pub fn value(&self, here: Word, joins: &[Join]) -> Option<Word>
-        ensures { result ≡ value (known self.now.permanent.now self.now.own.entries) here joins.now }
+        ensures { result ≡ value (known self.now.permanent.now.entries self.now.own.entries) here joins.now }
     {
         let mut sum = Word::ZERO;
         for item in joins {
@@ -96,9 +87,9 @@ impl<'p, A: Allocator + Copy> Symbols<'p, A> {
 
     /// Gives a name a value. Where it has another, that is the fault `other`.
     fn give(&mut self, name: Name, value: Word, other: Code) -> Result<(), Refusal>
-        ensures sound { OnOk result (giving_fault other 1024 (length self.old.own.entries) (known self.old.permanent.now self.old.own.entries name) value ≡ None) }
-        ensures given { OnOk result (self.new.own.entries ≡ giving_table self.old.own.entries name (known self.old.permanent.now self.old.own.entries name) value) }
-        ensures refused { IfErr result (IsFault (length self.old.own.entries) (giving_fault other 1024 (length self.old.own.entries) (known self.old.permanent.now self.old.own.entries name) value) (giving_table self.old.own.entries name (known self.old.permanent.now self.old.own.entries name) value)) }
+        ensures sound { OnOk result (giving_fault other 1024 (length self.old.own.entries) (known self.old.permanent.now.entries self.old.own.entries name) value ≡ None) }
+        ensures given { OnOk result (self.new.own.entries ≡ giving_table self.old.own.entries name (known self.old.permanent.now.entries self.old.own.entries name) value) }
+        ensures refused { IfErr result (IsFault (length self.old.own.entries) (giving_fault other 1024 (length self.old.own.entries) (known self.old.permanent.now.entries self.old.own.entries name) value) (giving_table self.old.own.entries name (known self.old.permanent.now.entries self.old.own.entries name) value)) }
         ensures permanent { self.new.permanent ≡ self.old.permanent }
     {
         match self.get(name) {
@@ -123,8 +114,8 @@ impl<'p, A: Allocator + Copy> Symbols<'p, A> {
 
     /// Takes the next act, at the current location; its word is not looked at.
     pub(crate) fn act(&mut self, here: &mut Word, act: Act<'_>) -> Result<(), Refusal>
-        ensures goes { OnOk result (Goes self.old.permanent.now 1024 act.entry self.old.own.entries here.old self.new.own.entries here.new) }
-        ensures refused { IfErr result (Breaks self.old.permanent.now 1024 act.entry self.old.own.entries here.old) }
+        ensures goes { OnOk result (Goes self.old.permanent.now.entries 1024 act.entry self.old.own.entries here.old self.new.own.entries here.new) }
+        ensures refused { IfErr result (Breaks self.old.permanent.now.entries 1024 act.entry self.old.own.entries here.old) }
         ensures permanent { self.new.permanent ≡ self.old.permanent }
     {
         match act {

@@ -28,20 +28,25 @@ fn number(sign: Sign, value: usize) -> Join {
     }
 }
 
-fn permanent() -> [(Name, Word); 4] {
-    [
-        (name(b"TAD"), Word::from_index(0o1000)),
-        (name(b"I"), Word::from_index(0o400)),
-        (name(b"Z"), Word::ZERO),
-        (name(b"CLA"), Word::from_index(0o7200)),
-    ]
+/// A table of a few permanent symbols.
+fn permanent<A: Allocator + Copy>(alloc: A) -> Option<SymbolTable<A>> {
+    let mut table = SymbolTable::new(alloc);
+    for (letters, value) in [
+        (b"TAD   ", 0o1000),
+        (b"I     ", 0o400),
+        (b"Z     ", 0),
+        (b"CLA   ", 0o7200),
+    ] {
+        table.insert(name(letters), Word::from_index(value)).ok()?;
+    }
+    Some(table)
 }
 
 /// The word that an expression is at 0200.
 fn word_of<A: Allocator + Copy>(alloc: A, joins: &[Join]) -> Option<u16> {
-    let permanent = permanent();
+    let permanent = permanent(alloc)?;
     let acts = [Act::Word(joins)];
-    match assemble(alloc, permanent.as_slice(), acts.as_slice()) {
+    match assemble(alloc, &permanent, acts.as_slice()) {
         Ok(found) => found
             .image
             .get(Word::from_index(0o200))
@@ -52,8 +57,8 @@ fn word_of<A: Allocator + Copy>(alloc: A, joins: &[Join]) -> Option<u16> {
 
 /// Why acts are refused, if they are.
 fn refusal<A: Allocator + Copy>(alloc: A, acts: &[Act<'_>]) -> Option<Refused> {
-    let permanent = permanent();
-    match assemble(alloc, permanent.as_slice(), acts) {
+    let permanent = permanent(alloc)?;
+    match assemble(alloc, &permanent, acts) {
         Ok(_) => None,
         Err(refused) => Some(refused),
     }
@@ -161,8 +166,10 @@ fn symbols_are_defined_in_order(rt: HostRuntime) -> Result<(), Fail> {
         Act::Tag(start),
         Act::Word(five.as_slice()),
     ];
-    let permanent = permanent();
-    match assemble(rt.alloc(), permanent.as_slice(), acts.as_slice()) {
+    let Some(permanent) = permanent(rt.alloc()) else {
+        panic!(rt; "no memory");
+    };
+    match assemble(rt.alloc(), &permanent, acts.as_slice()) {
         Ok(found) => {
             assert_eq!(rt; found.symbols.own.len(), 2);
             assert_eq!(rt; found.symbols.get(start), Some(Word::from_index(0o200)));
@@ -191,8 +198,8 @@ fn permanent_symbols_are_those_of_the_profile(rt: HostRuntime) -> Result<(), Fai
     ];
     for (letters, under_8i, under_8e) in rows {
         for (profile, expected) in [(Profile::Pdp8I, under_8i), (Profile::Pdp8E, under_8e)] {
-            let permanent = PermanentSymbols::new(profile);
-            let Ok(found) = assemble(rt.alloc(), permanent.as_slice(), &[]) else {
+            let permanent = permanent_table(rt.alloc(), profile)?;
+            let Ok(found) = assemble(rt.alloc(), &permanent, &[]) else {
                 panic!(rt; "refused");
             };
             let value = found.symbols.get(name(letters));

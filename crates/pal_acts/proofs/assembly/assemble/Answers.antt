@@ -8,17 +8,17 @@ use Rattle.pal_acts.proofs.assembly.assemble.Goals as goal
 pub returns-clause-meant : goal.returns-clause-meant
 returns-clause-meant g c own image k =
     let r = c.assemble_acts.result in
-    let told = MatchResult-from_both r (λ found. IsSource c.args.permanent.now 1024 c.args.acts.now found.symbols.own.entries found.image) (Refuses c.args.permanent.now 1024 c.args.acts.now)
+    let told = MatchResult-from_both r (λ found. IsSource c.args.permanent.now.entries 1024 c.args.acts.now found.symbols.own.entries found.image) (Refuses c.args.permanent.now.entries 1024 c.args.acts.now)
     c.assemble_acts.ensures.found c.assemble_acts.ensures.refused in
     MatchResult-weaker r told
-    (λ found h. one_source c.args.permanent.now 1024 c.args.acts.now found.symbols.own.entries own found.image image h k)
-    (silent c.args.permanent.now 1024 c.args.acts.now own image k)
+    (λ found h. one_source c.args.permanent.now.entries 1024 c.args.acts.now found.symbols.own.entries own found.image image h k)
+    (silent c.args.permanent.now.entries 1024 c.args.acts.now own image k)
 
 pub returns-clause-faulty : goal.returns-clause-faulty
 returns-clause-faulty g c at code k =
     let r = c.assemble_acts.result in
-    let told = MatchResult-from_both r (λ found. IsSource c.args.permanent.now 1024 c.args.acts.now found.symbols.own.entries found.image) (Refuses c.args.permanent.now 1024 c.args.acts.now)
+    let told = MatchResult-from_both r (λ found. IsSource c.args.permanent.now.entries 1024 c.args.acts.now found.symbols.own.entries found.image) (Refuses c.args.permanent.now.entries 1024 c.args.acts.now)
     c.assemble_acts.ensures.found c.assemble_acts.ensures.refused in
     MatchResult-weaker r told
-    (λ found h. not_both c.args.permanent.now 1024 c.args.acts.now found.symbols.own.entries found.image at code h k)
-    (tells_only c.args.permanent.now 1024 c.args.acts.now at code k)
+    (λ found h. not_both c.args.permanent.now.entries 1024 c.args.acts.now found.symbols.own.entries found.image at code h k)
+    (tells_only c.args.permanent.now.entries 1024 c.args.acts.now at code k)

@@ -15,24 +15,24 @@ loop-at-preserved g c =
     let acts : List Act = c.args.acts.now in
     let within : c.loop-at.at < length acts = omega arith in
     let m = reverse_more acts c.loop-at.at c.index-acts-at.result within c.index-acts-at.is in
-    let kept : c.act.new.self.permanent.now ≡ c.loop-at.symbols.permanent.now = ap (λ b. b.now) c.act.ensures.permanent in
-    let on = goes_on c.loop-at.symbols.permanent.now 1024 (reverse (take c.loop-at.at acts)) c.index-acts-at.result c.loop-at.symbols.own.entries c.act.new.self.own.entries c.loop-at.here c.act.new.here
+    let kept : c.act.new.self.permanent.now.entries ≡ c.loop-at.symbols.permanent.now.entries = ap (λ b. b.now.entries) c.act.ensures.permanent in
+    let on = goes_on c.loop-at.symbols.permanent.now.entries 1024 (reverse (take c.loop-at.at acts)) c.index-acts-at.result c.loop-at.symbols.own.entries c.act.new.self.own.entries c.loop-at.here c.act.new.here
     (record { defines = c.loop-at.invariant.0; here_is = c.loop-at.invariant.1 }) c.in-Ok.ensures.goes in
     let P : List (Name × ℕ) → Type 0 = λ p. Comes p 1024 (c.index-acts-at.result ∷ reverse (take c.loop-at.at acts)) c.act.new.self.own.entries c.act.new.here in
-    let on' : P c.act.new.self.permanent.now = subst P (sym kept) on in
+    let on' : P c.act.new.self.permanent.now.entries = subst P (sym kept) on in
     rw m (on'.defines, on'.here_is, kept ∙ c.loop-at.invariant.2)
 
 pub returns-clause-symbols : goal.returns-clause-symbols
 returns-clause-symbols g c =
     let all : take c.loop-at.at c.args.acts.now ≡ c.args.acts.now = take_all c.loop-at.at c.args.acts.now (omega arith) in
-    rw (← c.loop-at.invariant.2) (subst (λ l. Defines c.loop-at.symbols.permanent.now 1024 (reverse l) c.loop-at.symbols.own.entries) all c.loop-at.invariant.0)
+    rw (← c.loop-at.invariant.2) (subst (λ l. Defines c.loop-at.symbols.permanent.now.entries 1024 (reverse l) c.loop-at.symbols.own.entries) all c.loop-at.invariant.0)
 
 pub returns-in-Err-Fault-clause-refused : goal.returns-in-Err-Fault-clause-refused
 returns-in-Err-Fault-clause-refused g c =
     let acts : List Act = c.args.acts.now in
     let within : c.loop-at.at < length acts = omega arith in
     let e = rw c.in-Err-Fault.field-0-is at c.in-Err-Fault.ensures.refused in
-    let kept : c.loop-at.symbols.permanent.now ≡ c.args.permanent.now = c.loop-at.invariant.2 in
+    let kept : c.loop-at.symbols.permanent.now.entries ≡ c.args.permanent.now.entries = c.loop-at.invariant.2 in
     rw c.in-Err-Fault.field-0-is (rw (← kept) (record {
       earlier = reverse (take c.loop-at.at acts);
       next = c.index-acts-at.result;
@@ -48,7 +48,7 @@ pub returns-in-Err-NoMemory-clause-refused : goal.returns-in-Err-NoMemory-clause
 returns-in-Err-NoMemory-clause-refused g c =
     let acts : List Act = c.args.acts.now in
     let within : c.loop-at.at < length acts = omega arith in
-    let kept : c.loop-at.symbols.permanent.now ≡ c.args.permanent.now = c.loop-at.invariant.2 in
+    let kept : c.loop-at.symbols.permanent.now.entries ≡ c.args.permanent.now.entries = c.loop-at.invariant.2 in
     let asks = rw c.in-Err-NoMemory.field-0-is at c.in-Err-NoMemory.ensures.refused in
     let e = asks (reverse (take c.loop-at.at acts)) c.loop-at.invariant.1 in
     rw (← kept) (record {

@@ -6,6 +6,6 @@ use Rattle.pal_acts.proofs.assembly.define.Given as goal
 
 abbrev pub invariant-loop-at : goal.invariant-loop-at
 invariant-loop-at g l =
-    Defines l.symbols.permanent.now 1024 (reverse (take l.at l.acts)) l.symbols.own.entries
-    × (l.here ≡ location (in_table (l.symbols.permanent.now ++ l.symbols.own.entries)) (reverse (take l.at l.acts)))
-    × (l.symbols.permanent.now ≡ l.permanent)
+    Defines l.symbols.permanent.now.entries 1024 (reverse (take l.at l.acts)) l.symbols.own.entries
+    × (l.here ≡ location (in_table (l.symbols.permanent.now.entries ++ l.symbols.own.entries)) (reverse (take l.at l.acts)))
+    × (l.symbols.permanent.now.entries ≡ l.permanent.entries)

@@ -7,6 +7,6 @@ use Rattle.pal_acts.proofs.assembly.encode.Given as goal
 
 abbrev pub invariant-loop-at : goal.invariant-loop-at
 invariant-loop-at g l =
-    IsImage (in_table (l.symbols.permanent.now ++ l.symbols.own.entries)) (reverse (take l.at l.acts)) l.image
-    × Encodes (in_table (l.symbols.permanent.now ++ l.symbols.own.entries)) (reverse (take l.at l.acts))
-    × (l.here ≡ location (in_table (l.symbols.permanent.now ++ l.symbols.own.entries)) (reverse (take l.at l.acts)))
+    IsImage (in_table (l.symbols.permanent.now.entries ++ l.symbols.own.entries)) (reverse (take l.at l.acts)) l.image
+    × Encodes (in_table (l.symbols.permanent.now.entries ++ l.symbols.own.entries)) (reverse (take l.at l.acts))
+    × (l.here ≡ location (in_table (l.symbols.permanent.now.entries ++ l.symbols.own.entries)) (reverse (take l.at l.acts)))

@@ -6,6 +6,6 @@ use Rattle.pal_acts.proofs.symbols.Symbols.give.Goals as goal
 
 pub returns-in-Ok-clause-given : goal.returns-in-Ok-clause-given
 returns-in-Ok-clause-given g c =
-    let none : in_table (c.args.self.now.permanent.now ++ c.args.self.now.own.entries) c.args.name ≡ None = sym c.get.ensures ∙ c.in-None.is in
-    let absent = lookup-none (same c.args.name) c.args.self.now.permanent.now c.args.self.now.own.entries none in
+    let none : in_table (c.args.self.now.permanent.now.entries ++ c.args.self.now.own.entries) c.args.name ≡ None = sym c.get.ensures ∙ c.in-None.is in
+    let absent = lookup-none (same c.args.name) c.args.self.now.permanent.now.entries c.args.self.now.own.entries none in
     rw none (c.in-Ok.ensures.entries ∙ insert_entry-new same c.args.self.now.own c.args.name c.args.value absent)

@@ -4,4 +4,4 @@ use Rattle.pal_acts.proofs.symbols.Symbols.value.Given as goal
 
 abbrev pub invariant-loop-item : goal.invariant-loop-item
 invariant-loop-item g l =
-    value_after (in_table (l.self.permanent.now ++ l.self.own.entries)) l.here 0 l.joins ≡ value_after (in_table (l.self.permanent.now ++ l.self.own.entries)) l.here l.sum (drop l.item-index l.joins)
+    value_after (in_table (l.self.permanent.now.entries ++ l.self.own.entries)) l.here 0 l.joins ≡ value_after (in_table (l.self.permanent.now.entries ++ l.self.own.entries)) l.here l.sum (drop l.item-index l.joins)

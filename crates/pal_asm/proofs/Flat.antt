@@ -1,16 +1,16 @@
 -- Acts whose expressions lie in one list.
-use Rattle.std.proofs.Common.{◌≡◌, ◌∙◌, sym, ap, refl, subst, ℕ, ◌+◌, ◌-◌, ◌<◌, ◌≤◌, List, [], ◌∷◌, ◌++◌, arith, length, get_or, take, drop, map, Some}
+use Rattle.std.proofs.Common.{◌≡◌, ◌∙◌, sym, ap, refl, ℕ, ◌+◌, ◌-◌, ◌<◌, ◌≤◌, List, [], ◌∷◌, ◌++◌, arith, length, get_or, take, drop, map, Some}
 use Rattle.std.specs.Prelude.{slice_get, slice_range, reverse}
 use Rattle.std.specs.List.{AllByRecursion}
-use Rattle.std.proofs.lemmas.List.{take_more, take_all, take_at, drop_at, drop-append-le, take-append-le, length-append, length-drop, map-append, reverse-append}
+use Rattle.std.proofs.lemmas.List.{take_more, take_all, drop_at, drop-append-le, take-append-le, length-append, length-drop, map-append, reverse-append}
 use Rattle.std.proofs.lemmas.Option.{slice_get-get_or}
 use Rattle.pal_acts.specs.declared.act.Act.{Act}
 use Rattle.pal_acts.specs.declared.act.Join.{Join}
 use Rattle.pal_asm.specs.declared.deed.Deed.{Deed}
-use Rattle.pal_asm.specs.Acts.{anywhere, PlacedAct, placed}
+use Rattle.pal_asm.specs.Acts.{anywhere, placed}
 use Rattle.pal_asm.specs.Kept.{act_by, placed_act, acts_in, LiesWithin}
 
-range_kept : (js more : List Join) (first last : ℕ) → first ≤ last → last ≤ length js → slice_range (js ++ more) first last ≡ slice_range js first last
+pub range_kept : {X : Type 0} (js more : List X) (first last : ℕ) → first ≤ last → last ≤ length js → slice_range (js ++ more) first last ≡ slice_range js first last
 range_kept js more first last h k =
     let room : last - first ≤ length (drop first js) = omega (arith, length-drop first js) in
     ap (take (last - first)) (drop-append-le first js more (omega arith)) ∙ take-append-le (last - first) (drop first js) more room

@@ -8,6 +8,7 @@ pub mod Flat
 pub mod Laid
 pub mod Stepped
 pub mod TurnedLines
+pub mod Fronted
 pub mod Fronts
 pub mod Climbs
 pub mod Merged

@@ -1,5 +1,5 @@
 -- What a source does as it is kept in memory, for the private contracts below `assemble`.
-use Rattle.std.specs.Prelude.{◌≡◌, ℕ, ◌+◌, ◌≤◌, Bool, ◌||◌, ◌&&◌, nat_eq, nat_lt, if◌then◌else◌, List, [], ◌∷◌, ◌++◌, map, reverse, slice_range, Result, Ok, Err}
+use Rattle.std.specs.Prelude.{◌≡◌, ℕ, ◌+◌, ◌≤◌, Bool, ◌||◌, ◌&&◌, nat_eq, nat_lt, if◌then◌else◌, List, [], ◌∷◌, ◌++◌, length, map, reverse, slice_range, Result, Ok, Err}
 use Rattle.std.specs.Borrow.{Bor}
 use Rattle.pal_acts.specs.declared.act.Join.{Join}
 use Rattle.pal_acts.specs.declared.act.Act.{Act}
@@ -12,11 +12,21 @@ use Rattle.pal_asm.specs.declared.deed.Placed.{Placed}
 use Rattle.pal_asm.specs.declared.number.Radix.{Radix}
 use Rattle.pal_asm.specs.declared.reading.Turn.{Turn}
 use Rattle.pal_asm.specs.declared.reading.Turn.TheVariants.{On, Ends}
+use Rattle.pal_asm.specs.declared.reading.Reached.{Reached}
+use Rattle.pal_asm.specs.declared.statement.NumberedPart.{NumberedPart}
+use Rattle.pal_asm.specs.declared.front.Front.{Front}
 use Rattle.pal_asm.specs.declared.listing.ListedLine.{ListedLine}
-use Rattle.pal_asm.specs.Acts.{anywhere, PlacedAct, placed}
+use Rattle.pal_text.specs.declared.cut.Statement.{Statement}
+use Rattle.pal_text.specs.declared.fault.TextFault.{TextFault}
+use Rattle.pal_text.specs.declared.fault.TextFault.TheVariants as text
+use Rattle.pal_text.specs.Lines.{all_lines}
+use Rattle.pal_text.specs.Names.{part_tokens}
+use Rattle.pal_text.specs.Statements.{pieces, Stand}
+use Rattle.pal_text.specs.Parts.{IsIllegal}
+use Rattle.pal_asm.specs.Acts.{anywhere, PlacedAct, placed, part_acts, last_radix}
 use Rattle.pal_asm.specs.declared.deed.Place.{Place}
 use Rattle.pal_text.specs.Characters.{characters}
-use Rattle.pal_asm.specs.Listings.{TextLine, text_line, Shows, words, is_at, line_text, without_front}
+use Rattle.pal_asm.specs.Listings.{TextLine, text_line, text_lines, Shows, words, is_at, line_text, without_front}
 use Rattle.pal_asm.specs.declared.listing.ListedWord.{ListedWord}
 use Rattle.pal_acts.specs.Values.{Values}
 use Rattle.pal_acts.specs.Meaning.{location}
@@ -65,6 +75,19 @@ abbrev pub read_of : List Join → Result (Unit {0}) Code → Result (List Join)
 read_of js (Ok _) = Ok js
 read_of js (Err c) = Err c
 
+-- A part was read up to this close: its statements are kept.
+pub record IsRead (part : NumberedPart) (before : Radix) (old new : List PlacedAct) (reached : Reached) : Type 0 where
+  pub statements : List Statement
+  pub stands : Stand (part_tokens part.source.now) (length part.source.now) (pieces 0 0 (part_tokens part.source.now)) statements reached.close
+  pub radix_is : reached.radix ≡ last_radix before statements
+  pub acts_are : new ≡ old ++ part_acts part.number part.last part.source.now (part_tokens part.source.now) before statements
+
+-- A part isn't read to its end: a statement has no form, and what was kept so far is in front of what is kept now.
+abbrev pub StopsPart : List ℕ → List PlacedAct → List PlacedAct → TextFault → Type 0
+StopsPart source old new (text.Illegal line) = IsIllegal source line × ((more : List PlacedAct) × (new ≡ old ++ more))
+StopsPart source old new text.TooLong = ⊥
+StopsPart source old new text.NoMemory = Unit {0}
+
 -- What may follow a part: by the next parts, or nothing.
 abbrev pub Next : Turn → ℕ → List (List ℕ) → List PlacedAct → Type 0
 Next (On r) n rest later = Gives n r rest later
@@ -83,6 +106,11 @@ shown_line l = text_line l.place l.bytes.now
 -- The lines that are kept.
 abbrev pub lines_in : List ListedLine → List TextLine
 lines_in ls = map shown_line ls
+
+-- The lines of parts by their bytes.
+abbrev pub lines_of_fronts : List Front → List TextLine
+lines_of_fronts [] = []
+lines_of_fronts (f ∷ fs) = text_lines f.number 1 f.bytes.now (all_lines f.bytes.now) ++ lines_of_fronts fs
 
 -- What lines may follow a part: those of the next parts, or none.
 abbrev pub NextLines : Turn → ℕ → List (List ℕ) → List TextLine → Type 0

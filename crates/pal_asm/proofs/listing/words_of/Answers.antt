@@ -11,7 +11,7 @@ use Rattle.pal_asm.proofs.listing.words_of.Goals as goal
 
 pub loop-at-preserved : goal.loop-at-preserved
 loop-at-preserved g c =
-    let σ : Values = known c.args.symbols.now.permanent.now c.args.symbols.now.own.entries in
+    let σ : Values = known c.args.symbols.now.permanent.now.entries c.args.symbols.now.own.entries in
     let before : List PlacedAct = reverse (take c.loop-at.at c.args.deeds.now) in
     let below : c.loop-at.at < length c.args.deeds.now = omega arith in
     let more : bare_placed c.get.result ∷ before ≡ reverse (take (c.loop-at.at + 1) c.args.deeds.now) = sym (turned_more c.args.deeds.now c.loop-at.at (bare_placed c.get.result) below c.get.ensures) in

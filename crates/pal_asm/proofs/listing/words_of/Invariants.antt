@@ -8,5 +8,5 @@ use Rattle.pal_asm.proofs.listing.words_of.Given as goal
 
 abbrev pub invariant-loop-at : goal.invariant-loop-at
 invariant-loop-at g l =
-    (l.here ≡ location (known l.symbols.permanent.now l.symbols.own.entries) (map act_in (reverse (take l.at l.deeds))))
-    × (l.found.items ≡ reverse (words (known l.symbols.permanent.now l.symbols.own.entries) (reverse (take l.at l.deeds))))
+    (l.here ≡ location (known l.symbols.permanent.now.entries l.symbols.own.entries) (map act_in (reverse (take l.at l.deeds))))
+    × (l.found.items ≡ reverse (words (known l.symbols.permanent.now.entries l.symbols.own.entries) (reverse (take l.at l.deeds))))

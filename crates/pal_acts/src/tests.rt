@@ -83,6 +83,12 @@ fn words_have_values(rt: HostRuntime) -> Result<(), Fail> {
         word_of(alloc, &[number(Sign::Minus, 0o1000), number(Sign::Or, 5)]),
         Some(0o7005)
     );
+    Ok(())
+}
+
+#[test]
+fn longer_expressions_have_values(rt: HostRuntime) -> Result<(), Fail> {
+    let alloc = rt.alloc();
     assert_eq!(rt;
         word_of(
             alloc,

@@ -1,9 +1,9 @@
 //! The word that an expression is.
 
-ghost use Rattle.std.specs.Prelude.{◌≡◌};
+ghost use Rattle.std.specs.Prelude.{◌≡◌, [], ◌∷◌};
 ghost use Rattle.std.specs.List.{list_any};
 ghost use Rattle.pal_acts.specs.Values.{same, known};
-ghost use Rattle.pal_acts.specs.Words.{joins_one_of, is_indirect, is_zero, is_reference, marks, addressed, word_value};
+ghost use Rattle.pal_acts.specs.Words.{joins_one_of, is_indirect, is_zero, is_reference, references, marks, addressed, word_value};
 
 use crate::act::{Join, Name, Sign, Term};
 use crate::code::Code;
@@ -12,36 +12,39 @@ use std::alloc::Allocator;
 use word12::Word;
 
 /// The mark of an indirect reference.
-const INDIRECT: [Name; 1] = [Name {
+const INDIRECT: Name = Name {
     letters: *b"I     ",
-}];
+};
 
 /// The mark of a reference to page zero.
-const ZERO_PAGE: [Name; 1] = [Name {
+const ZERO_PAGE: Name = Name {
     letters: *b"Z     ",
-}];
+};
 
-/// The operations that take an address.
-const REFERENCES: [Name; 6] = [
-    Name {
-        letters: *b"AND   ",
-    },
-    Name {
-        letters: *b"TAD   ",
-    },
-    Name {
-        letters: *b"ISZ   ",
-    },
-    Name {
-        letters: *b"DCA   ",
-    },
-    Name {
-        letters: *b"JMS   ",
-    },
-    Name {
-        letters: *b"JMP   ",
-    },
-];
+/// These six operations take an address.
+const AND: Name = Name {
+    letters: *b"AND   ",
+};
+
+const TAD: Name = Name {
+    letters: *b"TAD   ",
+};
+
+const ISZ: Name = Name {
+    letters: *b"ISZ   ",
+};
+
+const DCA: Name = Name {
+    letters: *b"DCA   ",
+};
+
+const JMS: Name = Name {
+    letters: *b"JMS   ",
+};
+
+const JMP: Name = Name {
+    letters: *b"JMP   ",
+};
 
 /// What follows an operation that takes an address: I and Z, and then the address.
 #[derive(Clone, Copy)]
@@ -51,18 +54,41 @@ struct Marks<'t> {
     address: &'t [Join],
 }
 
-fn is_listed(names: &[Name], name: Name) -> bool
-    ensures { result ≡ list_any (same name) names.now }
-{
-    names.iter().any(|n| name == *n)
+impl<'t> Marks<'t> {
+    fn new(indirect: bool, zero: bool, address: &'t [Join]) -> Marks<'t>
+        ensures indirect { result.indirect ≡ indirect }
+        ensures zero { result.zero ≡ zero }
+        ensures address { result.address.now ≡ address.now }
+    {
+        Marks {
+            indirect,
+            zero,
+            address,
+        }
+    }
 }
 
-/// Whether a term that begins an expression or follows a space is one of these symbols.
-fn is_one_of(names: &[Name], join: &Join) -> bool
-    ensures { result ≡ joins_one_of names.now join.now }
+/// Whether a name is that of an operation that takes an address. Its first letter leaves one that it
+/// can be, or two.
+fn takes_address(name: Name) -> bool
+    ensures { result ≡ list_any (same name) references }
+{
+    match name.letters[0] {
+        b'A' => name == AND,
+        b'T' => name == TAD,
+        b'I' => name == ISZ,
+        b'D' => name == DCA,
+        b'J' => name == JMS || name == JMP,
+        _ => false,
+    }
+}
+
+/// Whether a term begins an expression or follows a space, and is this symbol.
+fn is_mark(mark: Name, join: &Join) -> bool
+    ensures { result ≡ joins_one_of (mark ∷ []) join.now }
 {
     match (join.sign, join.term) {
-        (Sign::Or, Term::Symbol(name)) => is_listed(names, name),
+        (Sign::Or, Term::Symbol(name)) => name == mark,
         _ => false,
     }
 }
@@ -70,53 +96,40 @@ fn is_one_of(names: &[Name], join: &Join) -> bool
 fn indirect(join: &Join) -> bool
     ensures { result ≡ is_indirect join.now }
 {
-    is_one_of(&INDIRECT, join)
+    is_mark(INDIRECT, join)
 }
 
 fn zero_page(join: &Join) -> bool
     ensures { result ≡ is_zero join.now }
 {
-    is_one_of(&ZERO_PAGE, join)
+    is_mark(ZERO_PAGE, join)
 }
 
 fn refers(join: &Join) -> bool
     ensures { result ≡ is_reference join.now }
 {
-    is_one_of(&REFERENCES, join)
+    match (join.sign, join.term) {
+        (Sign::Or, Term::Symbol(name)) => takes_address(name),
+        _ => false,
+    }
 }
 
+/// What follows an operation: after I, Z may stand, and after Z, I.
 fn marks_of<'t>(joins: &'t [Join]) -> Marks<'t>
     ensures indirect { result.indirect ≡ (marks joins.now).indirect }
     ensures zero { result.zero ≡ (marks joins.now).zero }
     ensures address { result.address.now ≡ (marks joins.now).address }
 {
     match joins {
-        [first, second, address @ ..] if indirect(first) && zero_page(second) => Marks {
-            indirect: true,
-            zero: true,
-            address,
+        [first, rest @ ..] if indirect(first) => match rest {
+            [second, address @ ..] if zero_page(second) => Marks::new(true, true, address),
+            address => Marks::new(true, false, address),
         },
-        [first, second, address @ ..] if !indirect(first) && zero_page(first) && indirect(second) =>
-            Marks {
-                indirect: true,
-                zero: true,
-                address,
-            },
-        [first, address @ ..] if indirect(first) => Marks {
-            indirect: true,
-            zero: false,
-            address,
+        [first, rest @ ..] if zero_page(first) => match rest {
+            [second, address @ ..] if indirect(second) => Marks::new(true, true, address),
+            address => Marks::new(false, true, address),
         },
-        [first, address @ ..] if zero_page(first) => Marks {
-            indirect: false,
-            zero: true,
-            address,
-        },
-        address => Marks {
-            indirect: false,
-            zero: false,
-            address,
-        },
+        address => Marks::new(false, false, address),
     }
 }
 

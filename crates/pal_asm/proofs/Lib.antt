@@ -4,8 +4,11 @@ pub mod Within
 pub mod Turned
 pub mod Bared
 pub mod One
+pub mod Flat
 pub mod Laid
+pub mod Stepped
 pub mod TurnedLines
+pub mod Fronted
 pub mod Fronts
 pub mod Climbs
 pub mod Merged

@@ -147,14 +147,6 @@ listed_by σ parts acts lines own text g s e =
     let w : (q : Place) × After q (all_words σ acts) = words_after σ parts acts g in
     e ∙ ap (λ l. l ++ codes "\n" ++ symbols_text own) (turns_are (place 0 0) w.0 lines (all_words σ acts) (shows_after (place 0 0) 1 parts lines (omega arith) s) w.1)
 
-pub lists_by : (perm other own found : List (Name × ℕ)) (parts : List (List ℕ)) (acts : List PlacedAct) (lines : List TextLine) (text : List ℕ) → other ≡ perm → own ≡ found
-    → Gives 1 Octal parts acts → Shows 1 parts lines → text ≡ turns_text lines (all_words (known other found) acts) ++ codes "\n" ++ symbols_text found → Lists perm parts own text
-lists_by perm other own found parts acts lines text a b g s e = record {
-  acts = acts;
-  lines = lines;
-  gives = g;
-  shows = s;
-  text_is = listed_by (known perm own) parts acts lines own text g s (e
-      ∙ ap (λ x. turns_text lines (all_words (known x found) acts) ++ codes "\n" ++ symbols_text found) a
-      ∙ ap (λ x. turns_text lines (all_words (known perm x) acts) ++ codes "\n" ++ symbols_text x) (sym b));
-}
+pub lists_by : (perm own : List (Name × ℕ)) (parts : List (List ℕ)) (acts : List PlacedAct) (lines : List TextLine) (text : List ℕ) → Gives 1 Octal parts acts → Shows 1 parts lines
+    → text ≡ turns_text lines (all_words (known perm own) acts) ++ codes "\n" ++ symbols_text own → Lists perm parts own text
+lists_by perm own parts acts lines text g s e = record { acts = acts; lines = lines; gives = g; shows = s; text_is = listed_by (known perm own) parts acts lines own text g s e }

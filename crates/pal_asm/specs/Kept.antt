@@ -1,20 +1,32 @@
 -- What a source does as it is kept in memory, for the private contracts below `assemble`.
-use Rattle.std.specs.Prelude.{◌≡◌, ℕ, ◌+◌, Bool, ◌||◌, ◌&&◌, nat_eq, nat_lt, if◌then◌else◌, List, [], ◌∷◌, ◌++◌, map, reverse, Result, Ok, Err, Vec}
+use Rattle.std.specs.Prelude.{◌≡◌, ℕ, ◌+◌, ◌≤◌, Bool, ◌||◌, ◌&&◌, nat_eq, nat_lt, if◌then◌else◌, List, [], ◌∷◌, ◌++◌, length, map, reverse, slice_range, Result, Ok, Err}
+use Rattle.std.specs.Borrow.{Bor}
 use Rattle.pal_acts.specs.declared.act.Join.{Join}
 use Rattle.pal_acts.specs.declared.act.Act.{Act}
 use Rattle.pal_acts.specs.declared.act.Act.TheVariants as act
 use Rattle.pal_acts.specs.declared.code.Code.{Code}
 use Rattle.pal_asm.specs.declared.deed.Deed.{Deed}
-use Rattle.pal_asm.specs.declared.deed.Deed.TheVariants as deed
-use Rattle.pal_asm.specs.declared.deed.PlacedDeed.{PlacedDeed}
+use Rattle.pal_asm.specs.declared.deed.Doing.{Doing}
+use Rattle.pal_asm.specs.declared.deed.Doing.TheVariants as doing
+use Rattle.pal_asm.specs.declared.deed.Placed.{Placed}
 use Rattle.pal_asm.specs.declared.number.Radix.{Radix}
 use Rattle.pal_asm.specs.declared.reading.Turn.{Turn}
 use Rattle.pal_asm.specs.declared.reading.Turn.TheVariants.{On, Ends}
+use Rattle.pal_asm.specs.declared.reading.Reached.{Reached}
+use Rattle.pal_asm.specs.declared.statement.NumberedPart.{NumberedPart}
+use Rattle.pal_asm.specs.declared.front.Front.{Front}
 use Rattle.pal_asm.specs.declared.listing.ListedLine.{ListedLine}
-use Rattle.pal_asm.specs.Acts.{anywhere, PlacedAct, placed}
+use Rattle.pal_text.specs.declared.cut.Statement.{Statement}
+use Rattle.pal_text.specs.declared.fault.TextFault.{TextFault}
+use Rattle.pal_text.specs.declared.fault.TextFault.TheVariants as text
+use Rattle.pal_text.specs.Lines.{all_lines}
+use Rattle.pal_text.specs.Names.{part_tokens}
+use Rattle.pal_text.specs.Statements.{pieces, Stand}
+use Rattle.pal_text.specs.Parts.{IsIllegal}
+use Rattle.pal_asm.specs.Acts.{anywhere, PlacedAct, placed, part_acts, last_radix}
 use Rattle.pal_asm.specs.declared.deed.Place.{Place}
 use Rattle.pal_text.specs.Characters.{characters}
-use Rattle.pal_asm.specs.Listings.{TextLine, text_line, Shows, words, is_at, line_text, without_front}
+use Rattle.pal_asm.specs.Listings.{TextLine, text_line, text_lines, Shows, words, is_at, line_text, without_front}
 use Rattle.pal_asm.specs.declared.listing.ListedWord.{ListedWord}
 use Rattle.pal_acts.specs.Values.{Values}
 use Rattle.pal_acts.specs.Meaning.{location}
@@ -32,27 +44,49 @@ bare (act.Assign n e) = act.Assign n (anywhere e.now)
 bare (act.Word e) = act.Word (anywhere e.now)
 bare act.LastPause = act.LastPause
 
--- The act that is kept so.
-abbrev pub act_of : {A : Type 0} → Deed A → Act
-act_of (deed.Wrong c) = act.Wrong c
-act_of (deed.Tag n) = act.Tag n
-act_of (deed.Origin js) = act.Origin (anywhere js.items)
-act_of (deed.Assign n js) = act.Assign n (anywhere js.items)
-act_of (deed.Word js) = act.Word (anywhere js.items)
-act_of deed.LastPause = act.LastPause
+-- The act that does this with this expression; what has none doesn't look at it.
+abbrev pub act_by : Doing → Bor (List Join) → Act
+act_by (doing.Wrong c) e = act.Wrong c
+act_by (doing.Tag n) e = act.Tag n
+act_by doing.Origin e = act.Origin e
+act_by (doing.Assign n) e = act.Assign n e
+act_by doing.Word e = act.Word e
+act_by doing.LastPause e = act.LastPause
 
--- The same with its place.
-abbrev pub placed_act : {A : Type 0} → PlacedDeed A → PlacedAct
-placed_act d = placed d.place.part d.place.line (act_of d.deed)
+-- The act that is kept so with its place, where these are the terms of all expressions.
+abbrev pub placed_act : List Join → Deed → PlacedAct
+placed_act js d = placed d.place.part d.place.line (act_by d.doing (anywhere (slice_range js d.span.first d.span.last)))
 
 -- The acts that are kept.
-abbrev pub acts_in : {A : Type 0} → List (PlacedDeed A) → List PlacedAct
-acts_in ds = map placed_act ds
+abbrev pub acts_in : List Join → List Deed → List PlacedAct
+acts_in js ds = map (placed_act js) ds
 
--- An expression that was read, wherever it lies, or what is wrong with it.
-abbrev pub read_of : {A : Type 0} → Result (Vec Join A) Code → Result (List Join) Code
-read_of (Ok js) = Ok js.items
-read_of (Err c) = Err c
+-- An expression lies among so many terms.
+pub record LiesWithin (n : ℕ) (d : Deed) : Type 0 where
+  pub forward : d.span.first ≤ d.span.last
+  pub inside : d.span.last ≤ n
+
+-- An act at its place, without the place in memory of its expression.
+abbrev pub bare_placed : Placed → PlacedAct
+bare_placed p = placed p.place.part p.place.line (bare p.act)
+
+-- An expression that was read into these terms, or what is wrong with it.
+abbrev pub read_of : List Join → Result (Unit {0}) Code → Result (List Join) Code
+read_of js (Ok _) = Ok js
+read_of js (Err c) = Err c
+
+-- A part was read up to this close: its statements are kept.
+pub record IsRead (part : NumberedPart) (before : Radix) (old new : List PlacedAct) (reached : Reached) : Type 0 where
+  pub statements : List Statement
+  pub stands : Stand (part_tokens part.source.now) (length part.source.now) (pieces 0 0 (part_tokens part.source.now)) statements reached.close
+  pub radix_is : reached.radix ≡ last_radix before statements
+  pub acts_are : new ≡ old ++ part_acts part.number part.last part.source.now (part_tokens part.source.now) before statements
+
+-- A part isn't read to its end: a statement has no form, and what was kept so far is in front of what is kept now.
+abbrev pub StopsPart : List ℕ → List PlacedAct → List PlacedAct → TextFault → Type 0
+StopsPart source old new (text.Illegal line) = IsIllegal source line × ((more : List PlacedAct) × (new ≡ old ++ more))
+StopsPart source old new text.TooLong = ⊥
+StopsPart source old new text.NoMemory = Unit {0}
 
 -- What may follow a part: by the next parts, or nothing.
 abbrev pub Next : Turn → ℕ → List (List ℕ) → List PlacedAct → Type 0
@@ -72,6 +106,11 @@ shown_line l = text_line l.place l.bytes.now
 -- The lines that are kept.
 abbrev pub lines_in : List ListedLine → List TextLine
 lines_in ls = map shown_line ls
+
+-- The lines of parts by their bytes.
+abbrev pub lines_of_fronts : List Front → List TextLine
+lines_of_fronts [] = []
+lines_of_fronts (f ∷ fs) = text_lines f.number 1 f.bytes.now (all_lines f.bytes.now) ++ lines_of_fronts fs
 
 -- What lines may follow a part: those of the next parts, or none.
 abbrev pub NextLines : Turn → ℕ → List (List ℕ) → List TextLine → Type 0

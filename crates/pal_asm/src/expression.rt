@@ -52,17 +52,18 @@ fn term_of(radix: Radix, source: &[u8], token: Token) -> Result<Term, Code>
     }
 }
 
-/// An expression with the terms of these tokens, or what is wrong with the first bad number.
-pub(crate) fn expression_of<A: Allocator>(
-    alloc: A,
+/// Reads an expression with the terms of these tokens into `joins`, or tells what is wrong with
+/// the first bad number.
+pub(crate) fn read_expression<A: Allocator>(
     radix: Radix,
     source: &[u8],
     tokens: &[Token],
-) -> Result<Result<Vec<Join, A>, Code>, AllocError>
+    joins: &mut Vec<Join, A>,
+) -> Result<Result<(), Code>, AllocError>
     requires { AllByRecursion (IsWithin (length source.now)) tokens.now }
-    ensures { IfOk result (λ read. read_of read ≡ expression (base radix) source.now tokens.now) }
+    ensures { IfOk result (λ read. read_of joins.new.items read ≡ expression (base radix) source.now tokens.now) }
 {
-    let mut joins = Vec::new(alloc);
+    joins.clear();
     let mut joined_by = Sign::Or;
     for token in tokens {
         if joins_terms(token.kind) {
@@ -78,5 +79,5 @@ pub(crate) fn expression_of<A: Allocator>(
             joined_by = Sign::Or;
         }
     }
-    Ok(Ok(joins))
+    Ok(Ok(()))
 }

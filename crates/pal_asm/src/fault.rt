@@ -24,7 +24,13 @@ pub enum AssembleFault {
     NoMemory,
 }
 
-/// A write failed or took nothing.
+/// Why a listing isn't written.
 #[derive(Clone, Copy, PartialEq, Eq, Debug, Error)]
-#[error("WriteFault")]
-pub struct WriteFault;
+pub enum ListFault {
+    /// Memory was refused; nothing was written.
+    #[error("NoMemory")]
+    NoMemory,
+    /// A write failed or took nothing.
+    #[error("WriteFault")]
+    WriteFault,
+}

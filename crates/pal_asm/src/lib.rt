@@ -7,6 +7,7 @@
 mod deed;
 mod expression;
 pub mod fault;
+mod front;
 mod listing;
 pub mod number;
 pub mod program;
@@ -14,8 +15,9 @@ mod reading;
 mod sizes;
 mod statement;
 
-pub use fault::{AssembleFault, PalFault, WriteFault};
-pub use program::{Program, SymbolTable, assemble};
+pub use fault::{AssembleFault, ListFault, PalFault};
+pub use pal_acts::SymbolTable;
+pub use program::{Program, assemble};
 
 #[cfg(test)]
 mod tests;

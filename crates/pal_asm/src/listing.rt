@@ -1,15 +1,18 @@
 //! The listing of a source.
 
 ghost use Rattle.std.specs.Prelude.{◌≡◌, ◌<◌, ◌++◌, [], codes, length, OnOk, IfOk};
+ghost use Rattle.std.specs.List.{AllByRecursion};
 ghost use Rattle.pal_text.specs.Characters.{characters};
+ghost use Rattle.pal_text.specs.Order.{IsLineWithin};
 ghost use Rattle.pal_acts.specs.Values.{known};
-ghost use Rattle.pal_asm.specs.Listings.{all_words, is_no_text, is_at, without_front, word_text, words_text, line_text, symbol_text, symbols_text};
-ghost use Rattle.pal_asm.specs.Kept.{acts_in, placed_act, lines_in, Adds, is_before, skip, next_at, after_those, turns_text};
+ghost use Rattle.pal_asm.specs.Listings.{all_words, is_no_text, is_at, without_front, word_text, words_text, line_text, text_lines, symbol_text, symbols_text};
+ghost use Rattle.pal_asm.specs.Kept.{bare_placed, lines_in, lines_of_fronts, Adds, is_before, skip, next_at, after_those, turns_text};
 
-use crate::deed::{Deed, Place, PlacedDeed};
-use crate::program::SymbolTable;
-use pal_acts::{Name, Symbols};
+use crate::deed::{Deeds, Place, Placed};
+use crate::front::Front;
+use pal_acts::{Act, Name, SymbolTable, Symbols};
 use pal_text::characters::is_character_code;
+use pal_text::{Line, lines_of};
 use std::alloc::{AllocError, Allocator};
 use word12::Word;
 
@@ -28,17 +31,53 @@ pub(crate) struct ListedWord {
     pub(crate) word: Word,
 }
 
+/// Keeps the lines of a part.
+fn keep_lines<'s, A: Allocator + Copy>(
+    front: &Front<'s>,
+    lines: &[Line],
+    kept: &mut Vec<ListedLine<'s>, A>,
+) -> Result<(), AllocError>
+    requires { AllByRecursion (IsLineWithin (length front.now.bytes.now)) lines.now }
+    ensures { OnOk result (lines_in kept.new.items ≡ lines_in kept.old.items ++ text_lines front.now.number 1 front.now.bytes.now lines.now) }
+{
+    for (at, line) in lines.iter().enumerate() {
+        kept.push(ListedLine {
+            place: Place {
+                part: front.number,
+                line: at + 1,
+            },
+            bytes: &front.bytes[line.start..line.end],
+        })?;
+    }
+    Ok(())
+}
+
+/// The lines of parts.
+fn listed_lines<'s, A: Allocator + Copy>(
+    alloc: A,
+    fronts: &[Front<'s>],
+) -> Result<Vec<ListedLine<'s>, A>, AllocError>
+    ensures { IfOk result (λ lines. lines_in lines.items ≡ lines_of_fronts fronts.now) }
+{
+    let mut kept = Vec::new(alloc);
+    for front in fronts {
+        let lines = lines_of(alloc, front.bytes)?;
+        keep_lines(front, &lines, &mut kept)?;
+    }
+    Ok(kept)
+}
+
 /// Adds the word of what a source does next, if it is one.
 fn add_word<A: Allocator + Copy>(
     symbols: &Symbols<'_, A>,
-    item: &PlacedDeed<A>,
+    item: Placed<'_>,
     here: &mut Word,
     found: &mut Vec<ListedWord, A>,
 ) -> Result<(), AllocError>
-    ensures { OnOk result (Adds (known symbols.now.permanent.now symbols.now.own.entries) (placed_act item.now) here.old here.new found.old.items found.new.items) }
+    ensures { OnOk result (Adds (known symbols.now.permanent.now.entries symbols.now.own.entries) (bare_placed item.entry) here.old here.new found.old.items found.new.items) }
 {
-    match &item.deed {
-        Deed::Word(joins) => {
+    match item.act {
+        Act::Word(joins) => {
             if let Ok(word) = symbols.word(*here, joins) {
                 found.push(ListedWord {
                     place: item.place,
@@ -48,7 +87,7 @@ fn add_word<A: Allocator + Copy>(
             }
             *here = here.increment();
         }
-        Deed::Origin(joins) => {
+        Act::Origin(joins) => {
             *here = match symbols.value(*here, joins) {
                 Some(origin) => origin,
                 None => Word::ZERO,
@@ -63,14 +102,14 @@ fn add_word<A: Allocator + Copy>(
 pub(crate) fn words_of<A: Allocator + Copy>(
     alloc: A,
     symbols: &Symbols<'_, A>,
-    deeds: &[PlacedDeed<A>],
+    deeds: &Deeds<A>,
 ) -> Result<Vec<ListedWord, A>, AllocError>
-    ensures { IfOk result (λ found. found.items ≡ all_words (known symbols.now.permanent.now symbols.now.own.entries) (acts_in deeds.now)) }
+    ensures { IfOk result (λ found. found.items ≡ all_words (known symbols.now.permanent.now.entries symbols.now.own.entries) deeds.now) }
 {
     let mut found = Vec::new(alloc);
     let mut here = Word::from_index(0o200);
-    for item in deeds {
-        add_word(symbols, item, &mut here, &mut found)?;
+    for at in 0..deeds.len() {
+        add_word(symbols, deeds.get(at), &mut here, &mut found)?;
     }
     Ok(found)
 }
@@ -249,18 +288,20 @@ fn push_symbols<A: Allocator + Copy>(
     Ok(())
 }
 
-/// The listing of these lines with these words, and of these symbols.
+/// The listing of these parts and acts, whose symbols these are.
 pub(crate) fn make_listing<A: Allocator + Copy>(
     alloc: A,
-    lines: &[ListedLine<'_>],
-    words: &[ListedWord],
-    own: &SymbolTable<A>,
+    fronts: &[Front<'_>],
+    deeds: &Deeds<A>,
+    symbols: &Symbols<'_, A>,
 ) -> Result<Vec<u8, A>, AllocError>
-    ensures { IfOk result (λ text. text.items ≡ turns_text (lines_in lines.now) words.now ++ codes "\n" ++ symbols_text own.now.entries) }
+    ensures { IfOk result (λ text. text.items ≡ turns_text (lines_of_fronts fronts.now) (all_words (known symbols.now.permanent.now.entries symbols.now.own.entries) deeds.now) ++ codes "\n" ++ symbols_text symbols.now.own.entries) }
 {
+    let lines = listed_lines(alloc, fronts)?;
+    let words = words_of(alloc, symbols, deeds)?;
     let mut text = Vec::new(alloc);
-    push_lines(&mut text, lines, words)?;
+    push_lines(&mut text, &lines, &words)?;
     text.extend_from_slice(b"\n")?;
-    push_symbols(&mut text, own)?;
+    push_symbols(&mut text, &symbols.own)?;
     Ok(text)
 }

@@ -1,6 +1,6 @@
 //! The image, the symbols and the listing of a source.
 
-ghost use Rattle.std.specs.Prelude.{◌≡◌, ◌++◌, codes, false, is_err, IfOk, IfErr, OnOk, OnErr, MatchResult, map, ℕ, List, Option, Some, Err};
+ghost use Rattle.std.specs.Prelude.{◌≡◌, ◌++◌, codes, false, IfOk, IfErr, OnOk, OnErr, MatchResult, map, ℕ, List, Option, Some, None, Err};
 ghost use Rattle.pal_text.specs.declared.names.Name.{Name as Named};
 ghost use Rattle.std.specs.Io.KnownBytes.{Appends};
 ghost use Rattle.bin_tape.specs.Bytes.{AppendsFront};
@@ -10,34 +10,28 @@ ghost use Rattle.pal_asm.specs.declared.fault.PalFault.{PalFault as Faulty};
 ghost use Rattle.pal_acts.specs.Permanent.{permanent_symbols};
 ghost use Rattle.pal_asm.specs.Sources.{act_in, texts, size_fault, Means, IsFault, Refuses, IsSilent, TellsOnly};
 ghost use Rattle.pal_asm.specs.Listings.{all_words, symbols_text, Lists};
-ghost use Rattle.pal_asm.specs.Programs.{symbols_of, image_of, listing_of};
-ghost use Rattle.pal_asm.specs.Kept.{acts_in, lines_in, turns_text, RefusesActs};
+ghost use Rattle.pal_asm.specs.Programs.{symbols_of, image_of, listing_of, is_write_fault};
+ghost use Rattle.pal_asm.specs.Kept.{RefusesActs, lines_of_fronts, turns_text};
 
-use crate::deed::{PlacedDeed, acts_of};
-use crate::fault::{AssembleFault, PalFault, WriteFault};
-use crate::listing::{make_listing, words_of};
+use crate::deed::{Deeds, acts_of};
+use crate::fault::{AssembleFault, ListFault, PalFault};
+use crate::front::Front;
+use crate::listing::make_listing;
 use crate::reading::{Reading, read_source};
 use crate::sizes::fault_of_sizes;
 use bin_tape::{ByteSink, Image, put};
-use indexmap::IndexMap;
 use instruct::Profile;
-use pal_acts::{Assembled, Name, PermanentSymbols, Refused, Symbols};
+use pal_acts::{Assembled, Refused, SymbolTable, Symbols, permanent_table};
 use std::alloc::{AllocError, Allocator};
-use std::hash::{BuildHasherDefault, FoldHasher};
-use word12::Word;
-
-/// Symbols with their values.
-pub type SymbolTable<A> = IndexMap<Name, Word, BuildHasherDefault<FoldHasher>, A>;
 
 /// What the acts that are kept mean, or their fault at its place.
 fn assemble_deeds<'p, A: Allocator + Copy>(
     alloc: A,
-    permanent: &'p [(Name, Word)],
-    deeds: &[PlacedDeed<A>],
+    permanent: &'p SymbolTable<A>,
+    deeds: &Deeds<A>,
 ) -> Result<Assembled<'p, A>, AssembleFault>
-    ensures permanent { IfOk result (λ found. found.symbols.permanent.now ≡ permanent.now) }
-    ensures found { IfOk result (λ found. IsSource permanent.now 1024 (map act_in (acts_in deeds.now)) found.symbols.own.entries found.image) }
-    ensures refused { IfErr result (RefusesActs permanent.now (acts_in deeds.now)) }
+    ensures found { IfOk result (λ found. IsSource permanent.now.entries 1024 (map act_in deeds.now) found.symbols.own.entries found.image) }
+    ensures refused { IfErr result (RefusesActs permanent.now.entries deeds.now) }
 {
     let Ok(acts) = acts_of(alloc, deeds) else {
         return Err(AssembleFault::NoMemory);
@@ -45,7 +39,7 @@ fn assemble_deeds<'p, A: Allocator + Copy>(
     match pal_acts::assemble(alloc, permanent, &acts) {
         Ok(found) => Ok(found),
         Err(Refused::Fault(at, code)) => {
-            let place = deeds[at].place;
+            let place = deeds.get(at).place;
             Err(AssembleFault::Source(PalFault {
                 code,
                 part: place.part,
@@ -56,15 +50,17 @@ fn assemble_deeds<'p, A: Allocator + Copy>(
     }
 }
 
-/// What a source means: its image, its own symbols and its listing.
+/// What a source means: its image and its own symbols, and what its listing is made of.
 #[derive(Drop)]
-pub struct Program<A: Allocator + Copy> {
+pub struct Program<'s, A: Allocator + Copy> {
+    profile: Profile,
     image: Image,
     own: SymbolTable<A>,
-    listing: Vec<u8, A>,
+    deeds: Deeds<A>,
+    fronts: Vec<Front<'s>, A>,
 }
 
-impl<A: Allocator + Copy> Program<A> {
+impl<'s, A: Allocator + Copy> Program<'s, A> {
     /// The words of the program, each at its address.
     pub fn image(&self) -> &Image
         ensures { result.now ≡ image_of self.now }
@@ -79,86 +75,102 @@ impl<A: Allocator + Copy> Program<A> {
         &self.own
     }
 
+    /// The text of the listing.
+    fn listing(&self, alloc: A) -> Result<Vec<u8, A>, AllocError>
+        ensures { IfOk result (λ text. text.items ≡ listing_of self.now) }
+    {
+        let permanent = permanent_table(alloc, self.profile)?;
+        let symbols = Symbols {
+            permanent: &permanent,
+            own: self.own.clone()?,
+        };
+        make_listing(alloc, &self.fronts, &self.deeds, &symbols)
+    }
+
     /// Writes the listing: each line of the source beside its first word in octal, the further
     /// words of a line on lines of their own, an empty line, and the symbols with their values.
     ///
     /// # Errors
     ///
+    /// `NoMemory` where memory was refused, before anything is written; the sink is as it was.
     /// `WriteFault` where a write failed or took nothing, which the mark shows; a front of the
     /// listing went out before it.
-    pub fn write_listing<W: ByteSink>(&self, sink: &mut W) -> Result<(), WriteFault>
+    pub fn write_listing<W: ByteSink>(&self, alloc: A, sink: &mut W) -> Result<(), ListFault>
         requires unmarked { W.mark sink.old ≡ false }
         ensures whole { OnOk result (Appends (W.taken sink.old) (W.taken sink.new) (listing_of self.now)) }
         ensures front { OnErr result (AppendsFront (W.taken sink.old) (W.taken sink.new) (listing_of self.now)) }
-        ensures marks { W.mark sink.new ≡ is_err result }
+        ensures marks { W.mark sink.new ≡ is_write_fault result }
+        ensures nothing { result ≡ Err ListFault.NoMemory → W.taken sink.new ≡ W.taken sink.old }
     {
-        match put(sink, &self.listing) {
+        let Ok(text) = self.listing(alloc) else {
+            return Err(ListFault::NoMemory);
+        };
+        match put(sink, &text) {
             Ok(()) => Ok(()),
-            Err(_) => Err(WriteFault),
+            Err(_) => Err(ListFault::WriteFault),
         }
     }
 }
 
-/// A program with its listing, by what was assembled and read.
-fn program_of<A: Allocator + Copy>(
-    alloc: A,
+/// A program, by what was assembled and read.
+fn program_of<'s, A: Allocator + Copy>(
+    profile: Profile,
     found: Assembled<'_, A>,
-    reading: &Reading<'_, A>,
-) -> Result<Program<A>, AllocError>
-    ensures image { IfOk result (λ program. image_of program ≡ found.entry.image) }
-    ensures symbols { IfOk result (λ program. symbols_of program ≡ found.entry.symbols.own.entries) }
-    ensures listing { IfOk result (λ program. listing_of program ≡ turns_text (lines_in reading.now.lines.items) (all_words (known found.entry.symbols.permanent.now found.entry.symbols.own.entries) (acts_in reading.now.deeds.items)) ++ codes "\n" ++ symbols_text found.entry.symbols.own.entries) }
+    reading: Reading<'s, A>,
+) -> Program<'s, A>
+    ensures image { image_of result ≡ found.entry.image }
+    ensures symbols { symbols_of result ≡ found.entry.symbols.own.entries }
+    ensures listing { listing_of result ≡ turns_text (lines_of_fronts reading.entry.fronts.items) (all_words (known (permanent_symbols profile) (symbols_of result)) reading.entry.deeds) ++ codes "\n" ++ symbols_text (symbols_of result) }
 {
     let Assembled { symbols, image } = found;
-    let words = words_of(alloc, &symbols, &reading.deeds)?;
-    let listing = make_listing(alloc, &reading.lines, &words, &symbols.own)?;
     let Symbols { own, .. } = symbols;
-    Ok(Program {
+    Program {
+        profile,
         image,
         own,
-        listing,
-    })
+        deeds: reading.deeds,
+        fronts: reading.fronts,
+    }
 }
 
-/// What a source means, or its fault.
-fn assemble_parts<A: Allocator + Copy>(
+/// What a source means whose parts aren't too many or too long, or its fault.
+fn assemble_parts<'s, A: Allocator + Copy>(
     alloc: A,
-    permanent: &[(Name, Word)],
-    parts: &[&[u8]],
-) -> Result<Program<A>, AssembleFault>
-    ensures meaning { IfOk result (λ program. Means permanent.now (texts parts.now) (symbols_of program) (image_of program)) }
-    ensures listed { IfOk result (λ program. Lists permanent.now (texts parts.now) (symbols_of program) (listing_of program)) }
-    ensures refused { IfErr result (Refuses permanent.now (texts parts.now)) }
-    ensures sized { (fault : Faulty) → size_fault (texts parts.now) ≡ Some fault → result ≡ Err (AssembleFault.Source fault) }
+    parts: &[&'s [u8]],
+    profile: Profile,
+) -> Result<Program<'s, A>, AssembleFault>
+    requires { size_fault (texts parts.now) ≡ None }
+    ensures meaning { IfOk result (λ program. Means (permanent_symbols profile) (texts parts.now) (symbols_of program) (image_of program)) }
+    ensures listed { IfOk result (λ program. Lists (permanent_symbols profile) (texts parts.now) (symbols_of program) (listing_of program)) }
+    ensures refused { IfErr result (Refuses (permanent_symbols profile) (texts parts.now)) }
 {
-    if let Some(fault) = fault_of_sizes(parts) {
-        return Err(AssembleFault::Source(fault));
-    }
     let Ok(reading) = read_source(alloc, parts) else {
         return Err(AssembleFault::NoMemory);
     };
-    match assemble_deeds(alloc, permanent, &reading.deeds) {
-        Ok(found) => match program_of(alloc, found, &reading) {
-            Ok(program) => Ok(program),
-            Err(_) => Err(AssembleFault::NoMemory),
-        },
+    let Ok(permanent) = permanent_table(alloc, profile) else {
+        return Err(AssembleFault::NoMemory);
+    };
+    match assemble_deeds(alloc, &permanent, &reading.deeds) {
+        Ok(found) => Ok(program_of(profile, found, reading)),
         Err(fault) => Err(fault),
     }
 }
 
 /// What a source means under the permanent symbols of a profile.
-fn assemble_for<A: Allocator + Copy>(
+fn assemble_for<'s, A: Allocator + Copy>(
     alloc: A,
-    parts: &[&[u8]],
+    parts: &[&'s [u8]],
     profile: Profile,
-) -> Result<Program<A>, AssembleFault>
+) -> Result<Program<'s, A>, AssembleFault>
     ensures meaning { IfOk result (λ program. Means (permanent_symbols profile) (texts parts.now) (symbols_of program) (image_of program)) }
     ensures listed { IfOk result (λ program. Lists (permanent_symbols profile) (texts parts.now) (symbols_of program) (listing_of program)) }
     ensures refused { IfErr result (Refuses (permanent_symbols profile) (texts parts.now)) }
     ensures sized { (fault : Faulty) → size_fault (texts parts.now) ≡ Some fault → result ≡ Err (AssembleFault.Source fault) }
 {
-    let permanent = PermanentSymbols::new(profile);
-    assemble_parts(alloc, permanent.as_slice(), parts)
+    match fault_of_sizes(parts) {
+        Some(fault) => Err(AssembleFault::Source(fault)),
+        None => assemble_parts(alloc, parts, profile),
+    }
 }
 
 /// Assembles a source: its parts one after another, up to `$` or the end of the last one.
@@ -168,11 +180,11 @@ fn assemble_for<A: Allocator + Copy>(
 /// `Source` with the one fault of the source, at its part and its line. That there are no parts or
 /// more than 16, or that a part has more than 65,536 bytes, is told before anything else.
 /// `NoMemory` where memory was refused.
-pub fn assemble<A: Allocator + Copy>(
+pub fn assemble<'s, A: Allocator + Copy>(
     alloc: A,
-    parts: &[&[u8]],
+    parts: &[&'s [u8]],
     profile: Profile,
-) -> Result<Program<A>, AssembleFault>
+) -> Result<Program<'s, A>, AssembleFault>
     ensures meaning { IfOk result (λ program. Means (permanent_symbols profile) (texts parts.now) (symbols_of program) (image_of program)) }
     ensures listed { IfOk result (λ program. Lists (permanent_symbols profile) (texts parts.now) (symbols_of program) (listing_of program)) }
     ensures refused { IfErr result (Refuses (permanent_symbols profile) (texts parts.now)) }

@@ -1,21 +1,17 @@
 //! What the parts of a source do.
 
-ghost use Rattle.std.specs.Prelude.{◌≡◌, ◌≤◌, ◌++◌, IfOk, OnOk, length, None};
-ghost use Rattle.std.specs.List.{AllByRecursion};
-ghost use Rattle.pal_text.specs.Names.{IsWithin};
-ghost use Rattle.pal_text.specs.Order.{IsPlaced, IsLineWithin};
+ghost use Rattle.std.specs.Prelude.{◌≡◌, ◌≤◌, IfOk, IfErr, length, None};
 ghost use Rattle.pal_asm.specs.declared.number.Radix.TheVariants.{Octal};
-ghost use Rattle.pal_asm.specs.Acts.{part_acts, last_radix};
 ghost use Rattle.pal_asm.specs.Sources.{Gives, size_fault, texts};
-ghost use Rattle.pal_asm.specs.Listings.{text_lines, Shows};
-ghost use Rattle.pal_asm.specs.Kept.{acts_in, lines_in, Turns, TurnsLines};
+ghost use Rattle.pal_asm.specs.Listings.{Shows};
+ghost use Rattle.pal_asm.specs.Kept.{lines_of_fronts, IsRead, StopsPart, Turns, TurnsLines};
 
-use crate::deed::{Deed, Place, PlacedDeed, keep};
-use crate::listing::ListedLine;
+use crate::deed::{Deeds, Place};
+use crate::front::Front;
 use crate::number::Radix;
-use crate::statement::keep_statement;
-use pal_acts::Code;
-use pal_text::{Ending, Part, TextFault, statements};
+use crate::statement::{NumberedPart, keep_statement};
+use pal_acts::{Act, Code};
+use pal_text::{Close, Ending, Reader, TextFault};
 use std::alloc::{AllocError, Allocator};
 
 /// What comes after a part: the next one, with numbers written so, or nothing.
@@ -25,76 +21,79 @@ pub(crate) enum Turn {
     Ends,
 }
 
-/// Keeps what the statements of the part of this number do, and tells how numbers are written after
-/// them.
+/// How a part was read: how numbers are written after it, and where it ended.
+#[derive(Clone, Copy, PartialEq, Eq, Debug)]
+pub(crate) struct Reached {
+    pub(crate) radix: Radix,
+    pub(crate) close: Close,
+}
+
+/// Keeps what the statements of a part do, one after another.
 fn keep_statements<A: Allocator + Copy>(
     alloc: A,
     before: Radix,
-    number: usize,
-    last: bool,
-    part: &Part<'_, A>,
-    deeds: &mut Vec<PlacedDeed<A>, A>,
-) -> Result<Radix, AllocError>
-    requires within { AllByRecursion (IsWithin (length part.now.source.now)) part.now.tokens.items }
-    requires placed { AllByRecursion (IsPlaced part.now.tokens.items) part.now.statements.items }
-    ensures radix { IfOk result (λ r. r ≡ last_radix before part.now.statements.items) }
-    ensures acts { IfOk result (λ r. acts_in deeds.new.items ≡ acts_in deeds.old.items ++ part_acts number last part.now.source.now part.now.tokens.items before part.now.statements.items) }
+    part: &NumberedPart<'_>,
+    deeds: &mut Deeds<A>,
+) -> Result<Reached, TextFault>
+    requires { length part.now.source.now ≤ 65536 }
+    ensures read { IfOk result (IsRead part.now before deeds.old deeds.new) }
+    ensures stops { IfErr result (StopsPart part.now.source.now deeds.old deeds.new) }
 {
+    let mut reader = Reader::new(alloc, part.source);
+    let mut joins = Vec::new(alloc);
     let mut radix = before;
-    for statement in &part.statements {
-        keep_statement(alloc, radix, number, last, part, *statement, deeds)?;
+    while let Some(found) = reader.read_next()? {
+        let statement = found.statement;
+        let kept = keep_statement(part, radix, reader.tokens(), statement, &mut joins, deeds);
+        let Ok(()) = kept else {
+            return Err(TextFault::NoMemory);
+        };
         radix = radix.after(statement.form);
+        if let Some(close) = found.close {
+            return Ok(Reached { radix, close });
+        }
     }
-    Ok(radix)
+    Ok(Reached {
+        radix,
+        close: Close {
+            ending: Ending::Bytes,
+            stop: part.source.len(),
+        },
+    })
 }
 
-/// Keeps the lines of the part of this number.
-fn keep_lines<'s, A: Allocator + Copy>(
-    number: usize,
-    part: &Part<'s, A>,
-    kept: &mut Vec<ListedLine<'s>, A>,
-) -> Result<(), AllocError>
-    requires { AllByRecursion (IsLineWithin (length part.now.source.now)) part.now.lines.items }
-    ensures { OnOk result (lines_in kept.new.items ≡ lines_in kept.old.items ++ text_lines number 1 part.now.source.now part.now.lines.items) }
-{
-    for (at, line) in part.lines.iter().enumerate() {
-        kept.push(ListedLine {
-            place: Place {
-                part: number,
-                line: at + 1,
-            },
-            bytes: part.line_bytes(*line),
-        })?;
-    }
-    Ok(())
-}
-
-/// Keeps what the part of this number does, and its lines.
+/// Keeps what a part does, and its bytes up to where it ended. Of a part with a statement that has
+/// no form nothing is kept but that fault.
 fn read_part<'s, A: Allocator + Copy>(
     alloc: A,
     radix: Radix,
-    number: usize,
-    last: bool,
-    bytes: &'s [u8],
-    deeds: &mut Vec<PlacedDeed<A>, A>,
-    lines: &mut Vec<ListedLine<'s>, A>,
+    part: &NumberedPart<'s>,
+    deeds: &mut Deeds<A>,
+    fronts: &mut Vec<Front<'s>, A>,
 ) -> Result<Turn, AllocError>
-    requires { length bytes.now ≤ 65536 }
-    ensures acts { IfOk result (Turns number radix last bytes.now (acts_in deeds.old.items) (acts_in deeds.new.items)) }
-    ensures lines { IfOk result (TurnsLines number bytes.now (lines_in lines.old.items) (lines_in lines.new.items)) }
+    requires { length part.now.source.now ≤ 65536 }
+    ensures acts { IfOk result (Turns part.now.number radix part.now.last part.now.source.now deeds.old deeds.new) }
+    ensures lines { IfOk result (TurnsLines part.now.number part.now.source.now (lines_of_fronts fronts.old.items) (lines_of_fronts fronts.new.items)) }
 {
-    match statements(alloc, bytes) {
-        Ok(part) => {
-            keep_lines(number, &part, lines)?;
-            let radix = keep_statements(alloc, radix, number, last, &part, deeds)?;
-            match part.ending {
+    let count = deeds.len();
+    match keep_statements(alloc, radix, part, deeds) {
+        Ok(reached) => {
+            fronts.push(Front {
+                number: part.number,
+                bytes: &part.source[..reached.close.stop],
+            })?;
+            match reached.close.ending {
                 Ending::Dollar => Ok(Turn::Ends),
-                Ending::Pause | Ending::Bytes => Ok(Turn::On(radix)),
+                Ending::Pause | Ending::Bytes => Ok(Turn::On(reached.radix)),
             }
         }
         Err(TextFault::Illegal(line)) => {
-            let place = Place { part: number, line };
-            keep(deeds, place, Deed::Wrong(Code::IllegalCharacter))?;
+            deeds.truncate(count);
+            let place = Place {
+                part: part.number,
+                line,
+            };
+            deeds.keep(place, Act::Wrong(Code::IllegalCharacter))?;
             Ok(Turn::Ends)
         }
         Err(TextFault::NoMemory) => Err(AllocError),
@@ -102,11 +101,11 @@ fn read_part<'s, A: Allocator + Copy>(
     }
 }
 
-/// What a source does, and its lines.
+/// What a source does, and the bytes of each part that was read.
 #[derive(Drop)]
 pub(crate) struct Reading<'s, A: Allocator> {
-    pub(crate) deeds: Vec<PlacedDeed<A>, A>,
-    pub(crate) lines: Vec<ListedLine<'s>, A>,
+    pub(crate) deeds: Deeds<A>,
+    pub(crate) fronts: Vec<Front<'s>, A>,
 }
 
 /// Reads the parts of a source that aren't too many or too long.
@@ -115,18 +114,22 @@ pub(crate) fn read_source<'s, A: Allocator + Copy>(
     parts: &[&'s [u8]],
 ) -> Result<Reading<'s, A>, AllocError>
     requires { size_fault (texts parts.now) ≡ None }
-    ensures acts { IfOk result (λ reading. Gives 1 Octal (texts parts.now) (acts_in reading.deeds.items)) }
-    ensures lines { IfOk result (λ reading. Shows 1 (texts parts.now) (lines_in reading.lines.items)) }
+    ensures acts { IfOk result (λ reading. Gives 1 Octal (texts parts.now) reading.deeds) }
+    ensures lines { IfOk result (λ reading. Shows 1 (texts parts.now) (lines_of_fronts reading.fronts.items)) }
 {
-    let mut deeds = Vec::new(alloc);
-    let mut lines = Vec::new(alloc);
+    let mut deeds = Deeds::new(alloc);
+    let mut fronts = Vec::new(alloc);
     let mut radix = Radix::Octal;
-    for (at, part) in parts.iter().enumerate() {
-        let last = at + 1 == parts.len();
-        match read_part(alloc, radix, at + 1, last, part, &mut deeds, &mut lines)? {
+    for (at, source) in parts.iter().enumerate() {
+        let part = NumberedPart {
+            number: at + 1,
+            last: at + 1 == parts.len(),
+            source,
+        };
+        match read_part(alloc, radix, &part, &mut deeds, &mut fronts)? {
             Turn::On(next) => radix = next,
-            Turn::Ends => return Ok(Reading { deeds, lines }),
+            Turn::Ends => return Ok(Reading { deeds, fronts }),
         }
     }
-    Ok(Reading { deeds, lines })
+    Ok(Reading { deeds, fronts })
 }

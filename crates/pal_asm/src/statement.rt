@@ -1,20 +1,27 @@
 //! What a statement does.
 
-ghost use Rattle.std.specs.Prelude.{◌≡◌, ◌++◌, OnOk, length, map, slice_range};
+ghost use Rattle.std.specs.Prelude.{◌≡◌, ◌++◌, OnOk, length, map};
 ghost use Rattle.std.specs.List.{AllByRecursion};
 ghost use Rattle.pal_text.specs.Names.{IsWithin};
-ghost use Rattle.pal_text.specs.Order.{IsPlaced};
 ghost use Rattle.pal_text.specs.Reading.{is_comma};
 ghost use Rattle.pal_asm.specs.Numbers.{base};
 ghost use Rattle.pal_asm.specs.Acts.{tags, after_tags, tag_act, operand, assign_acts, body_acts, statement_acts, placed};
-ghost use Rattle.pal_asm.specs.Kept.{act_of, acts_in};
+ghost use Rattle.pal_asm.specs.Kept.{bare};
 
-use crate::deed::{Deed, Place, PlacedDeed, keep};
-use crate::expression::{expression_of, name};
+use crate::deed::{Deeds, Place};
+use crate::expression::{name, read_expression};
 use crate::number::Radix;
-use pal_acts::{Code, Join};
-use pal_text::{Form, Kind, Part, Statement, Token};
+use pal_acts::{Act, Code, Join};
+use pal_text::{Form, Kind, Statement, Token};
 use std::alloc::{AllocError, Allocator};
+
+/// A part of a source: its number, whether it is the last one, and its bytes.
+#[derive(Clone, Copy)]
+pub(crate) struct NumberedPart<'s> {
+    pub(crate) number: usize,
+    pub(crate) last: bool,
+    pub(crate) source: &'s [u8],
+}
 
 fn comma(kind: Kind) -> bool
     ensures { result ≡ is_comma kind }
@@ -37,13 +44,13 @@ fn without_tags(tokens: &[Token]) -> &[Token]
 }
 
 /// What a tag does: DECIMAL, OCTAL and PAUSE can't be given a value.
-fn tag_deed<A: Allocator>(source: &[u8], token: Token) -> Deed<A>
+fn tag_of(source: &[u8], token: Token) -> Act<'_>
     requires { IsWithin (length source.now) token }
-    ensures { act_of result ≡ tag_act source.now token }
+    ensures { bare result ≡ tag_act source.now token }
 {
     match token.kind {
-        Kind::Symbol => Deed::Tag(name(source, token)),
-        _ => Deed::Wrong(Code::DuplicateTag),
+        Kind::Symbol => Act::Tag(name(source, token)),
+        _ => Act::Wrong(Code::DuplicateTag),
     }
 }
 
@@ -52,17 +59,17 @@ fn keep_tags<A: Allocator>(
     source: &[u8],
     place: Place,
     tokens: &[Token],
-    deeds: &mut Vec<PlacedDeed<A>, A>,
+    deeds: &mut Deeds<A>,
 ) -> Result<(), AllocError>
     requires { AllByRecursion (IsWithin (length source.now)) tokens.now }
-    ensures { OnOk result (acts_in deeds.new.items ≡ acts_in deeds.old.items ++ map (placed place.part place.line) (map (tag_act source.now) (tags tokens.now))) }
+    ensures { OnOk result (deeds.new ≡ deeds.old ++ map (placed place.part place.line) (map (tag_act source.now) (tags tokens.now))) }
 {
     let mut rest = tokens;
     while let [first, second, more @ ..] = rest {
         if !comma(second.kind) {
             break;
         }
-        keep(deeds, place, tag_deed(source, *first))?;
+        deeds.keep(place, tag_of(source, *first))?;
         rest = more;
     }
     Ok(())
@@ -85,71 +92,68 @@ fn keep_assignment<A: Allocator>(
     source: &[u8],
     place: Place,
     tokens: &[Token],
-    joins: Vec<Join, A>,
-    deeds: &mut Vec<PlacedDeed<A>, A>,
+    joins: &[Join],
+    deeds: &mut Deeds<A>,
 ) -> Result<(), AllocError>
     requires { AllByRecursion (IsWithin (length source.now)) tokens.now }
-    ensures { OnOk result (acts_in deeds.new.items ≡ acts_in deeds.old.items ++ map (placed place.part place.line) (assign_acts source.now tokens.now joins.items)) }
+    ensures { OnOk result (deeds.new ≡ deeds.old ++ map (placed place.part place.line) (assign_acts source.now tokens.now joins.now)) }
 {
     match tokens {
         [] => Ok(()),
         [first, ..] if first.kind == Kind::Symbol => {
-            keep(deeds, place, Deed::Assign(name(source, *first), joins))
+            deeds.keep(place, Act::Assign(name(source, *first), joins))
         }
         [_, ..] => {
-            keep(deeds, place, Deed::Origin(joins))?;
-            keep(deeds, place, Deed::Wrong(Code::Redefined))
+            deeds.keep(place, Act::Origin(joins))?;
+            deeds.keep(place, Act::Wrong(Code::Redefined))
         }
     }
 }
 
 /// Keeps what a statement does after its tags.
 fn keep_body<A: Allocator>(
-    source: &[u8],
+    part: &NumberedPart<'_>,
     place: Place,
-    last: bool,
     tokens: &[Token],
     form: Form,
-    joins: Vec<Join, A>,
-    deeds: &mut Vec<PlacedDeed<A>, A>,
+    joins: &[Join],
+    deeds: &mut Deeds<A>,
 ) -> Result<(), AllocError>
-    requires { AllByRecursion (IsWithin (length source.now)) tokens.now }
-    ensures { OnOk result (acts_in deeds.new.items ≡ acts_in deeds.old.items ++ map (placed place.part place.line) (body_acts last source.now tokens.now form joins.items)) }
+    requires { AllByRecursion (IsWithin (length part.now.source.now)) tokens.now }
+    ensures { OnOk result (deeds.new ≡ deeds.old ++ map (placed place.part place.line) (body_acts part.now.last part.now.source.now tokens.now form joins.now)) }
 {
     match form {
-        Form::Origin => keep(deeds, place, Deed::Origin(joins)),
-        Form::Assign => keep_assignment(source, place, tokens, joins, deeds),
-        Form::Word => keep(deeds, place, Deed::Word(joins)),
-        Form::Pause if last => keep(deeds, place, Deed::LastPause),
+        Form::Origin => deeds.keep(place, Act::Origin(joins)),
+        Form::Assign => keep_assignment(part.source, place, tokens, joins, deeds),
+        Form::Word => deeds.keep(place, Act::Word(joins)),
+        Form::Pause if part.last => deeds.keep(place, Act::LastPause),
         _ => Ok(()),
     }
 }
 
-/// Keeps what a statement of the part of this number does.
-pub(crate) fn keep_statement<A: Allocator + Copy>(
-    alloc: A,
+/// Keeps what a statement of a part with these tokens does. The terms of its expression are laid
+/// in `joins` first.
+pub(crate) fn keep_statement<A: Allocator>(
+    part: &NumberedPart<'_>,
     radix: Radix,
-    number: usize,
-    last: bool,
-    part: &Part<'_, A>,
+    tokens: &[Token],
     statement: Statement,
-    deeds: &mut Vec<PlacedDeed<A>, A>,
+    joins: &mut Vec<Join, A>,
+    deeds: &mut Deeds<A>,
 ) -> Result<(), AllocError>
-    requires within { AllByRecursion (IsWithin (length part.now.source.now)) part.now.tokens.items }
-    requires placed { IsPlaced part.now.tokens.items statement }
-    ensures { OnOk result (acts_in deeds.new.items ≡ acts_in deeds.old.items ++ map (placed number statement.line) (statement_acts (base radix) last part.now.source.now (slice_range part.now.tokens.items statement.first statement.last) statement.form)) }
+    requires { AllByRecursion (IsWithin (length part.now.source.now)) tokens.now }
+    ensures { OnOk result (deeds.new ≡ deeds.old ++ map (placed part.now.number statement.line) (statement_acts (base radix) part.now.last part.now.source.now tokens.now statement.form)) }
 {
     let place = Place {
-        part: number,
+        part: part.number,
         line: statement.line,
     };
-    let own = part.tokens_of(statement);
-    let body = without_tags(own);
-    match expression_of(alloc, radix, part.source, operand_of(statement.form, body))? {
-        Ok(joins) => {
-            keep_tags(part.source, place, own, deeds)?;
-            keep_body(part.source, place, last, body, statement.form, joins, deeds)
+    let body = without_tags(tokens);
+    match read_expression(radix, part.source, operand_of(statement.form, body), joins)? {
+        Ok(()) => {
+            keep_tags(part.source, place, tokens, deeds)?;
+            keep_body(part, place, body, statement.form, joins, deeds)
         }
-        Err(code) => keep(deeds, place, Deed::Wrong(code)),
+        Err(code) => deeds.keep(place, Act::Wrong(code)),
     }
 }

@@ -1,6 +1,6 @@
 //! Sources worked by hand from the rules of the language.
 
-use crate::{AssembleFault, PalFault, WriteFault, assemble};
+use crate::{AssembleFault, ListFault, PalFault, assemble};
 use bin_tape::memory::MemorySink;
 use instruct::Profile;
 use pal_acts::Code;
@@ -175,6 +175,7 @@ fn a_user_has_at_most_1024_symbols(rt: HostRuntime) -> Result<(), Fail> {
     }
     let program = assemble(rt.alloc(), &[&source], Profile::Pdp8I)?;
     assert_eq!(rt; program.symbols().len(), 1024);
+    drop(program);
     source.extend_from_slice(b"A3=1\nB=1\n")?;
     assert!(rt;
         is_refused(
@@ -263,7 +264,7 @@ fn sources_are_listed(rt: HostRuntime) -> Result<(), Fail> {
     for (parts, expected) in rows {
         let program = assemble(rt.alloc(), parts, Profile::Pdp8I)?;
         let mut sink = MemorySink::new(rt.alloc(), 65_536);
-        program.write_listing(&mut sink)?;
+        program.write_listing(rt.alloc(), &mut sink)?;
         assert_eq!(rt; sink.bytes(), expected);
     }
     Ok(())
@@ -274,7 +275,10 @@ fn a_front_of_the_listing_goes_out_where_a_write_fails(rt: HostRuntime) -> Resul
     let program = assemble(rt.alloc(), &[HELLO], Profile::Pdp8I)?;
     for room in 0..HELLO_LISTING.len() {
         let mut sink = MemorySink::new(rt.alloc(), room);
-        assert_eq!(rt; program.write_listing(&mut sink), Err(WriteFault));
+        assert_eq!(rt;
+            program.write_listing(rt.alloc(), &mut sink),
+            Err(ListFault::WriteFault)
+        );
         assert_eq!(rt; sink.bytes(), &HELLO_LISTING[..room]);
     }
     Ok(())

@@ -7,3 +7,5 @@ pub mod Statements
 pub mod Lines
 pub mod Parts
 pub mod Order
+pub mod Progress
+pub mod Readers

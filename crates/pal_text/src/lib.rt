@@ -12,14 +12,16 @@ pub mod grammar;
 pub mod lines;
 pub mod names;
 pub mod part;
+pub mod reader;
 pub mod tokens;
 
-pub use cut::{Ending, Statement};
+pub use cut::{Close, Ending, Statement};
 pub use fault::TextFault;
 pub use grammar::Form;
-pub use lines::Line;
+pub use lines::{Line, lines_of};
 pub use names::Name;
 pub use part::{LONGEST, Part, statements};
+pub use reader::{Found, Reader};
 pub use tokens::{Kind, Token};
 
 #[cfg(test)]

@@ -27,7 +27,11 @@ fn begun_after(begun: bool, meaning: Meaning) -> bool
 
 /// The lines of these bytes in order. What stands after the last line's end is one only where a
 /// byte of it isn't ignored.
-pub(crate) fn lines_of<A: Allocator>(alloc: A, bytes: &[u8]) -> Result<Vec<Line, A>, AllocError>
+///
+/// # Errors
+///
+/// Where memory was refused.
+pub fn lines_of<A: Allocator>(alloc: A, bytes: &[u8]) -> Result<Vec<Line, A>, AllocError>
     requires { length bytes.now ≤ 65536 }
     ensures { IfOk result (λ out. out.items ≡ all_lines bytes.now) }
 {

@@ -4,10 +4,9 @@ use Rattle.pal_acts.specs.Values.{known}
 use Rattle.pal_acts.specs.Meaning.{location}
 use Rattle.pal_asm.specs.Sources.{act_in}
 use Rattle.pal_asm.specs.Listings.{words}
-use Rattle.pal_asm.specs.Kept.{acts_in}
 use Rattle.pal_asm.proofs.listing.words_of.Given as goal
 
-abbrev pub invariant-loop-item : goal.invariant-loop-item
-invariant-loop-item g l =
-    (l.here ≡ location (known l.symbols.permanent.now l.symbols.own.entries) (map act_in (reverse (acts_in (take l.item-index l.deeds)))))
-    × (l.found.items ≡ reverse (words (known l.symbols.permanent.now l.symbols.own.entries) (reverse (acts_in (take l.item-index l.deeds)))))
+abbrev pub invariant-loop-at : goal.invariant-loop-at
+invariant-loop-at g l =
+    (l.here ≡ location (known l.symbols.permanent.now.entries l.symbols.own.entries) (map act_in (reverse (take l.at l.deeds))))
+    × (l.found.items ≡ reverse (words (known l.symbols.permanent.now.entries l.symbols.own.entries) (reverse (take l.at l.deeds))))

@@ -1,4 +1,4 @@
-use Rattle.std.proofs.Common.{◌∙◌, ◌<◌, ap, arith, length}
+use Rattle.std.proofs.Common.{◌∙◌, ap}
 use Rattle.std.specs.Prelude.{map}
 use Rattle.pal_asm.specs.Kept.{bare}
 use Rattle.pal_asm.proofs.Laid.{bound, source_of, fault_of}
@@ -6,26 +6,15 @@ use Rattle.pal_asm.proofs.program.assemble_deeds.Goals as goal
 
 pub returns-in-Ok-assemble-clause-found : goal.returns-in-Ok-assemble-clause-found
 returns-in-Ok-assemble-clause-found g c =
-    source_of c.args.deeds.now c.deref.result.now (ap (map bare) c.deref.ensures.value ∙ c.in-Ok.ensures) c.args.permanent.now
+    source_of c.args.deeds.now c.deref.result.now (ap (map bare) c.deref.ensures.value ∙ c.in-Ok.ensures) c.args.permanent.now.entries
     c.in-Ok-assemble.found.symbols.own.entries c.in-Ok-assemble.found.image c.in-Ok-assemble.ensures.found
 
-pub offset_bounds-deeds-at : goal.offset_bounds-deeds-at
-offset_bounds-deeds-at g c =
+pub get-requires : goal.get-requires
+get-requires g c =
     let h = rw c.in-Err-Fault.field-0-is at c.in-Err-Fault.ensures.refused in
-    let b : c.in-Err-Fault.at < length c.args.deeds.now = bound c.args.deeds.now c.deref.result.now (ap (map bare) c.deref.ensures.value ∙ c.in-Ok.ensures) c.args.permanent.now c.in-Err-Fault.at c.in-Err-Fault.code h in
-    omega arith
-
-pub bounds-deeds-at : goal.bounds-deeds-at
-bounds-deeds-at g c =
-    let h = rw c.in-Err-Fault.field-0-is at c.in-Err-Fault.ensures.refused in
-    bound c.args.deeds.now c.deref.result.now (ap (map bare) c.deref.ensures.value ∙ c.in-Ok.ensures) c.args.permanent.now c.in-Err-Fault.at c.in-Err-Fault.code h
-
-pub bounds-deeds-at-in-Err-Fault : goal.bounds-deeds-at-in-Err-Fault
-bounds-deeds-at-in-Err-Fault g c =
-    let h = rw c.in-Err-Fault.field-0-is at c.in-Err-Fault.ensures.refused in
-    bound c.args.deeds.now c.deref.result.now (ap (map bare) c.deref.ensures.value ∙ c.in-Ok.ensures) c.args.permanent.now c.in-Err-Fault.at c.in-Err-Fault.code h
+    bound c.args.deeds.now c.deref.result.now (ap (map bare) c.deref.ensures.value ∙ c.in-Ok.ensures) c.args.permanent.now.entries c.in-Err-Fault.at c.in-Err-Fault.code h
 
 pub returns-in-Err-Fault-clause-refused : goal.returns-in-Err-Fault-clause-refused
 returns-in-Err-Fault-clause-refused g c =
     let h = rw c.in-Err-Fault.field-0-is at c.in-Err-Fault.ensures.refused in
-    fault_of c.args.deeds.now c.deref.result.now (ap (map bare) c.deref.ensures.value ∙ c.in-Ok.ensures) c.args.permanent.now c.in-Err-Fault.at c.in-Err-Fault.code c.index-deeds-at.result h
+    fault_of c.args.deeds.now c.deref.result.now (ap (map bare) c.deref.ensures.value ∙ c.in-Ok.ensures) c.args.permanent.now.entries c.in-Err-Fault.at c.in-Err-Fault.code c.get.result h c.get.ensures

@@ -1,10 +1,10 @@
-use Rattle.pal_asm.specs.Kept.{acts_in, lines_in}
+use Rattle.pal_asm.specs.Kept.{lines_of_fronts}
 use Rattle.pal_asm.proofs.Turned.{Reached}
 use Rattle.pal_asm.proofs.TurnedLines.{ReachedLines}
 use Rattle.pal_asm.proofs.reading.read_source.Given as goal
 
 abbrev pub invariant-loop-at : goal.invariant-loop-at
 invariant-loop-at g l = record {
-  acts : Reached l.parts l.at l.radix (acts_in l.deeds.items);
-  lines : ReachedLines l.parts l.at (lines_in l.lines.items);
+  acts : Reached l.parts l.at l.radix l.deeds;
+  lines : ReachedLines l.parts l.at (lines_of_fronts l.fronts.items);
 }

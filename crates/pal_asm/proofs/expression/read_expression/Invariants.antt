@@ -2,7 +2,7 @@ use Rattle.std.proofs.Common.{◌≡◌, drop}
 use Rattle.pal_asm.specs.Numbers.{base}
 use Rattle.pal_asm.specs.Expressions.{expression, joins}
 use Rattle.pal_asm.proofs.Terms.{with_front}
-use Rattle.pal_asm.proofs.expression.expression_of.Given as goal
+use Rattle.pal_asm.proofs.expression.read_expression.Given as goal
 
 abbrev pub invariant-loop-token : goal.invariant-loop-token
 invariant-loop-token g l =

@@ -17,15 +17,15 @@ use crate::sources::{lend, read_parts};
 use crate::status::{DeviceFault, Fault, Status};
 use bin_tape::{ByteSink, ByteSource, WriteTapeFault, write_tape};
 use instruct::Profile;
-use pal_asm::{AssembleFault, Program};
+use pal_asm::{AssembleFault, ListFault, Program};
 use std::alloc::Allocator;
 
 /// Assembles the parts of a source.
-fn program_of<A: Allocator + Copy>(
+fn program_of<'s, A: Allocator + Copy>(
     alloc: A,
-    parts: &[&[u8]],
+    parts: &[&'s [u8]],
     profile: Profile,
-) -> Result<Program<A>, Fault>
+) -> Result<Program<'s, A>, Fault>
     ensures found { IfOk result (λ program. Means (permanent_symbols profile) (texts parts.now) (symbols_of program) (image_of program)) }
     ensures listed { IfOk result (λ program. Lists (permanent_symbols profile) (texts parts.now) (symbols_of program) (listing_of program)) }
     ensures faults { IfErr result (IsAssemblyFault profile (texts parts.now)) }
@@ -104,8 +104,9 @@ pub fn list<A: Allocator + Copy, R: ByteSource, W: ByteSink>(
     let parts = read_parts(alloc, sources)?;
     let slices = lend(alloc, &parts)?;
     let program = program_of(alloc, &slices, profile)?;
-    match program.write_listing(out) {
+    match program.write_listing(alloc, out) {
         Ok(()) => Ok(Status::Done),
-        Err(_) => Err(Fault::Device(DeviceFault::Write)),
+        Err(ListFault::NoMemory) => Err(Fault::NoMemory),
+        Err(ListFault::WriteFault) => Err(Fault::Device(DeviceFault::Write)),
     }
 }

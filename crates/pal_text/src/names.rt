@@ -6,11 +6,26 @@ ghost use Rattle.pal_text.specs.Names.{name, named_kind, named, IsWithin};
 
 use crate::characters::is_character_code;
 use crate::tokens::{Kind, Token};
+use std::hash::{Hash, Hasher};
 
 /// A symbol as it counts: its first six characters, with spaces after a shorter one.
-#[derive(Clone, Copy, PartialEq, Eq, Hash, Debug)]
+#[derive(Clone, Copy, PartialEq, Eq, Debug)]
 pub struct Name {
     pub letters: [u8; 6],
+}
+
+impl Hash for Name {
+    ghost use Rattle.std.specs.Prelude.{[], ◌∷◌};
+    ghost use Rattle.std.specs.Cmp.Lexicographic.{same_text};
+    ghost use Rattle.std.proofs.Common.{ap, sym};
+
+    ghost hash_input = { λ name. name.letters ∷ [] };
+
+    ghost respects_eq = { λ x y same. ap (λ letters. letters ∷ []) (same_text x.letters y.letters (sym same)) };
+
+    fn hash<H: Hasher>(&self, state: &mut H) {
+        state.write(&self.letters);
+    }
 }
 
 const DECIMAL: Name = Name {

@@ -4,7 +4,7 @@ ghost use Rattle.std.specs.Prelude.{◌≡◌, false, IfOk};
 ghost use Rattle.std.specs.List.{AllByRecursion};
 
 use bin_tape::memory::{MemorySink, MemorySource};
-use bin_tape::{Image, write_tape};
+use bin_tape::{Image, TapeFault, write_tape};
 use instruct::Profile;
 use pal_acts::Code;
 use pal_asm::PalFault;
@@ -320,35 +320,120 @@ fn runs_are_watched(rt: HostRuntime) -> Result<(), Fail> {
 }
 
 #[test]
-fn each_input_is_refused_before_the_next(rt: HostRuntime) -> Result<(), Fail> {
-    let frames = halt_tape();
-    let rows: [(&[u8], &[u8], Fault); 3] = [
+fn a_read_off_the_list_is_told(rt: HostRuntime) -> Result<(), Fail> {
+    // TAD 0203, TAD 0204, HLT
+    let frames = tape(rt.alloc(), &[(0o200, &[0o1203, 0o1204, 0o7402, 1, 1])])?;
+    for (text, status, line) in [
         (
-            b"main 9",
-            b"steps",
-            Fault::Declared(DeclarationFault::BadLine(1)),
+            b"start 0200\nmain 0200-0202\nread 0203\nstop 0202\n".as_slice(),
+            Status::Refused,
+            b"broken: event 1 rule 7\n".as_slice(),
         ),
         (
-            b"start 200\nmain 201",
-            b"steps",
-            Fault::Declared(DeclarationFault::StartNotInMain),
+            b"start 0200\nmain 0200-0202\nread 0203-0204\nstop 0202\n".as_slice(),
+            Status::Done,
+            b"clean\n".as_slice(),
         ),
-        (
-            b"start 200\nmain 200",
-            b"steps",
-            Fault::Events(peripherals::EventsFault::BadLine(1)),
-        ),
-    ];
-    for (text, events, expected) in rows {
+    ] {
         let mut out = MemorySink::new(rt.alloc(), 1000);
         let ended = watch(
             rt.alloc(),
-            &mut MemorySource::new(&frames),
+            &mut MemorySource::new(frames.bytes()),
             &mut MemorySource::new(text),
-            &mut MemorySource::new(events),
+            &mut MemorySource::new(b"step 3"),
             &mut out,
         );
-        assert_eq!(rt; ended, Err(expected));
+        assert_eq!(rt; ended, Ok(status));
+        assert_eq!(rt; out.bytes(), line);
+    }
+    Ok(())
+}
+
+#[test]
+fn a_line_that_is_cut_is_a_prefix(rt: HostRuntime) -> Result<(), Fail> {
+    let frames = halt_tape();
+    let line = b"broken: event 0 rule 5\n";
+    for room in [0usize, 1, 15, 22] {
+        let mut out = MemorySink::new(rt.alloc(), room);
+        let ended = watch(
+            rt.alloc(),
+            &mut MemorySource::new(&frames),
+            &mut MemorySource::new(b"start 200\nmain 200\n"),
+            &mut MemorySource::new(b"step"),
+            &mut out,
+        );
+        assert_eq!(rt; ended, Err(Fault::Device(DeviceFault::Write)));
+        assert_eq!(rt; out.bytes(), &line[..room]);
+    }
+    Ok(())
+}
+
+/// What `watch` answers where so many reads of the tape, the declaration and the events succeed, if
+/// nothing is written. There is a bad line in the events.
+fn watch_refused(
+    alloc: Global,
+    frames: &[u8],
+    text: &[u8],
+    reads: [usize; 3],
+) -> Result<Status, Option<Fault>> {
+    let [of_tape, of_text, of_events] = reads;
+    let mut out = MemorySink::new(alloc, 1000);
+    let ended = watch(
+        alloc,
+        &mut MemorySource::new(frames).failing_after(of_tape),
+        &mut MemorySource::new(text).failing_after(of_text),
+        &mut MemorySource::new(b"steps").failing_after(of_events),
+        &mut out,
+    );
+    if out.bytes().is_empty() {
+        ended.map_err(Some)
+    } else {
+        Err(None)
+    }
+}
+
+#[test]
+fn each_input_is_refused_before_the_next(rt: HostRuntime) -> Result<(), Fail> {
+    let frames = halt_tape();
+    let cut = &frames[..16];
+    let whole = frames.as_slice();
+    let good = b"start 200\nmain 200".as_slice();
+    let bad = b"main 9".as_slice();
+    let unstarted = b"start 200\nmain 201".as_slice();
+    let word = Fault::Tape(TapeFault::NoWord);
+    let line = Fault::Declared(DeclarationFault::BadLine(1));
+    let start = Fault::Declared(DeclarationFault::StartNotInMain);
+    let step = Fault::Events(peripherals::EventsFault::BadLine(1));
+    let rows: [(&[u8], &[u8], [usize; 3], Fault); 4] = [
+        (cut, bad, [NEVER, 0, 0], word),
+        (whole, bad, [NEVER, NEVER, 0], line),
+        (whole, unstarted, [NEVER, NEVER, 0], start),
+        (whole, good, [NEVER, NEVER, NEVER], step),
+    ];
+    for (tape, text, reads, expected) in rows {
+        let ended = watch_refused(rt.alloc(), tape, text, reads);
+        assert_eq!(rt; ended, Err(Some(expected)));
+    }
+    Ok(())
+}
+
+#[test]
+fn a_read_of_each_input_may_fail(rt: HostRuntime) -> Result<(), Fail> {
+    let frames = halt_tape();
+    let cut = &frames[..16];
+    let whole = frames.as_slice();
+    let good = b"start 200\nmain 200".as_slice();
+    let bad = b"main 9".as_slice();
+    let rows: [(&[u8], &[u8], [usize; 3]); 5] = [
+        (cut, bad, [0, 0, 0]),
+        (whole, bad, [0, NEVER, NEVER]),
+        (whole, bad, [NEVER, 0, 0]),
+        (whole, good, [NEVER, 0, NEVER]),
+        (whole, good, [NEVER, NEVER, 0]),
+    ];
+    for (tape, text, reads) in rows {
+        let ended = watch_refused(rt.alloc(), tape, text, reads);
+        assert_eq!(rt; ended, Err(Some(Fault::Device(DeviceFault::Read))));
     }
     Ok(())
 }

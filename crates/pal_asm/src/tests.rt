@@ -115,7 +115,7 @@ fn is_refused<A: Allocator + Copy>(
 
 #[test]
 fn the_first_fault_is_told(rt: HostRuntime) -> Result<(), Fail> {
-    let rows: [(&[&[u8]], Code, usize, usize); 31] = [
+    let rows: [(&[&[u8]], Code, usize, usize); 32] = [
         (&[b"TAD 600"], Code::IllegalReference, 1, 1),
         (&[b"TAD Z 300"], Code::IllegalReference, 1, 1),
         (&[b"X,1\nX,2"], Code::DuplicateTag, 1, 2),
@@ -133,6 +133,7 @@ fn the_first_fault_is_told(rt: HostRuntime) -> Result<(), Fail> {
         (&[b"TAD Q;A=Q"], Code::Undefined, 1, 1),
         (&[b"TAD 600", b"TAD Q\nA=Q"], Code::Undefined, 2, 2),
         (&[b"8\n?"], Code::IllegalCharacter, 1, 2),
+        (&[b"1", b"A=Q;8\n?"], Code::IllegalCharacter, 2, 2),
         (&[b"DECIMAL,1"], Code::DuplicateTag, 1, 1),
         (&[b"\nPAUSE=1"], Code::Redefined, 1, 2),
         (&[b"OCTALS=1;OCTAL=Q"], Code::Undefined, 1, 1),
@@ -189,7 +190,7 @@ fn a_user_has_at_most_1024_symbols(rt: HostRuntime) -> Result<(), Fail> {
 }
 
 #[test]
-fn parts_are_16_of_65536_bytes(rt: HostRuntime) -> Result<(), Fail> {
+fn parts_have_at_most_65536_bytes(rt: HostRuntime) -> Result<(), Fail> {
     let longest = vec![in rt.alloc(); b' '; 65_536]?;
     let longer = vec![in rt.alloc(); b'?'; 65_537]?;
     assert!(rt; assemble(rt.alloc(), &[&longest], Profile::Pdp8I).is_ok());
@@ -209,10 +210,23 @@ fn parts_are_16_of_65536_bytes(rt: HostRuntime) -> Result<(), Fail> {
             (Code::TooLong, 4, 0)
         )
     );
-    let mut parts: [&[u8]; 17] = [b"1"; 17];
-    assert!(rt; assemble(rt.alloc(), &parts[..16], Profile::Pdp8I).is_ok());
-    parts[0] = &longer;
-    assert!(rt; is_refused(rt.alloc(), Profile::Pdp8I, &parts, (Code::TooLong, 0, 0)));
+    Ok(())
+}
+
+#[test]
+fn parts_are_at_most_16(rt: HostRuntime) -> Result<(), Fail> {
+    let sixteen: [&[u8]; 16] = [b"1"; 16];
+    assert!(rt; assemble(rt.alloc(), &sixteen, Profile::Pdp8I).is_ok());
+    let longer = vec![in rt.alloc(); b'?'; 65_537]?;
+    let seventeen: [&[u8]; 17] = [&longer; 17];
+    assert!(rt;
+        is_refused(
+            rt.alloc(),
+            Profile::Pdp8I,
+            &seventeen,
+            (Code::TooLong, 0, 0)
+        )
+    );
     Ok(())
 }
 
@@ -282,6 +296,30 @@ fn a_front_of_the_listing_goes_out_where_a_write_fails(rt: HostRuntime) -> Resul
         assert_eq!(rt; sink.bytes(), &HELLO_LISTING[..room]);
     }
     Ok(())
+}
+
+#[test]
+fn nothing_is_listed_where_memory_is_refused(rt: HostRuntime) -> Result<(), Fail> {
+    for count in 0..400u64 {
+        let roomy = Refusing::new(rt.alloc(), u64::MAX);
+        let heap = Refusing::new(rt.alloc(), count);
+        let program = assemble(&roomy, &[HELLO], Profile::Pdp8I)?;
+        let mut sink = MemorySink::new(rt.alloc(), 65_536);
+        match program.write_listing(&heap, &mut sink) {
+            Ok(()) => {
+                assert_eq!(rt; sink.bytes(), HELLO_LISTING);
+                assert!(rt; !heap.has_refused());
+                assert!(rt; count > 5, "{count}");
+                return Ok(());
+            }
+            Err(fault) => {
+                assert_eq!(rt; fault, ListFault::NoMemory);
+                assert!(rt; sink.bytes().is_empty());
+                assert!(rt; heap.has_refused());
+            }
+        }
+    }
+    panic!(rt; "it never ended")
 }
 
 #[test]

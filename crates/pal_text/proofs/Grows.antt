@@ -9,11 +9,11 @@ use Rattle.pal_text.specs.Tokens.{joined, added, one_or_both}
 pub turned : {X : Type 0} (t : X) (ts : List X) → reverse (t ∷ ts) ≡ reverse ts ++ t ∷ []
 turned t ts = reverse-append (t ∷ []) ts
 
-before_last : {X : Type 0} (items ts : List X) (t : X) (count : ℕ) → items ≡ reverse (t ∷ ts) → count ≡ length items → count - 1 ≡ length (reverse ts)
+pub before_last : {X : Type 0} (items ts : List X) (t : X) (count : ℕ) → items ≡ reverse (t ∷ ts) → count ≡ length items → count - 1 ≡ length (reverse ts)
 before_last items ts t count is n = omega (arith, ap length (is ∙ turned t ts), length-append (reverse ts) (t ∷ []))
 
 -- the last item is the newest
-last_is : {X : Type 0} (items ts : List X) (t x : X) (count : ℕ) → items ≡ reverse (t ∷ ts) → count ≡ length items → x ≡ get_or items (count - 1) x → x ≡ t
+pub last_is : {X : Type 0} (items ts : List X) (t x : X) (count : ℕ) → items ≡ reverse (t ∷ ts) → count ≡ length items → x ≡ get_or items (count - 1) x → x ≡ t
 last_is items ts t x count is n h =
     h ∙ ap (λ l. get_or l (count - 1) x) (is ∙ turned t ts) ∙ ap (λ i. get_or (reverse ts ++ t ∷ []) i x) (before_last items ts t count is n) ∙ get_or-append_seam (reverse ts) t [] x
 

@@ -8,3 +8,7 @@ pub mod Ends
 pub mod Unique
 pub mod Told
 pub mod Placed
+pub mod Apart
+pub mod Steps
+pub mod Fronts
+pub mod Nexts

@@ -9,3 +9,4 @@ pub mod Parts
 pub mod Order
 pub mod Progress
 pub mod Readers
+pub mod Scan

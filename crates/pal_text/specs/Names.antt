@@ -1,11 +1,11 @@
 -- Symbols by their first six characters.
-use Rattle.std.specs.Prelude.{ℕ, ◌≤◌, if◌then◌else◌, List, ◌++◌, map, take, replicate, slice_range, nat_eq, codes}
+use Rattle.std.specs.Prelude.{ℕ, ◌≤◌, Bool, ◌&&◌, ◌||◌, not, if◌then◌else◌, List, ◌++◌, map, take, replicate, slice_range, nat_eq, codes}
 use Rattle.std.specs.Cmp.Lexicographic.{pointwise}
 use Rattle.pal_text.specs.declared.tokens.Kind.{Kind}
 use Rattle.pal_text.specs.declared.tokens.Kind.TheVariants.{Symbol, Decimal, Octal, Pause}
 use Rattle.pal_text.specs.declared.tokens.Token.{Token}
 use Rattle.pal_text.specs.Characters.{characters}
-use Rattle.pal_text.specs.Tokens.{all_tokens}
+use Rattle.pal_text.specs.Tokens.{is_letter, all_tokens}
 
 -- The first six of some characters, with spaces after fewer.
 abbrev pub first_six : List ℕ → List ℕ
@@ -21,6 +21,10 @@ named_kind letters =
     if pointwise nat_eq letters (codes "DECIMA") then Decimal else
     if pointwise nat_eq letters (codes "OCTAL ") then Octal else
     if pointwise nat_eq letters (codes "PAUSE ") then Pause else Symbol
+
+-- A letter that begins none of these names.
+abbrev pub begins_none : ℕ → Bool
+begins_none c = is_letter c && not (nat_eq c 68 || nat_eq c 79 || nat_eq c 80)
 
 -- A token stands within so many bytes.
 pub record IsWithin (size : ℕ) (t : Token) : Type 0 where

@@ -5,7 +5,7 @@ ghost use Rattle.pal_text.specs.Statements.{is_end, is_dollar, last_end, closing
 
 use crate::fault::TextFault;
 use crate::grammar::{Form, shape_of};
-use crate::tokens::{Kind, Token};
+use crate::tokens::{Kind, Token, ends_statement};
 use std::alloc::Allocator;
 
 /// A statement: its line, its tags and what it does. Its tokens are those of the part from `first`
@@ -45,12 +45,6 @@ pub(crate) struct Cut<A: Allocator> {
     pub(crate) close: Close,
 }
 
-fn ends_statement(kind: Kind) -> bool
-    ensures { result ≡ is_end kind }
-{
-    matches!(kind, Kind::End | Kind::Dollar)
-}
-
 fn is_dollar_sign(kind: Kind) -> bool
     ensures { result ≡ is_dollar kind }
 {
@@ -69,7 +63,7 @@ fn end_of(otherwise: usize, tokens: &[Token]) -> usize
 }
 
 /// Whether and where the part ends by a statement with these tokens and the one that ends it.
-fn close_of(own: &[Token], mark: Token, form: Form) -> Option<Close>
+pub(crate) fn close_of(own: &[Token], mark: Token, form: Form) -> Option<Close>
     ensures { result ≡ closing own.now mark form }
 {
     if form == Form::Pause {

@@ -13,6 +13,7 @@ pub mod lines;
 pub mod names;
 pub mod part;
 pub mod reader;
+mod scan;
 pub mod tokens;
 
 pub use cut::{Close, Ending, Statement};

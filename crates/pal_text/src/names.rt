@@ -2,7 +2,7 @@
 
 ghost use Rattle.std.specs.Prelude.{◌≡◌, ◌≤◌, length, map};
 ghost use Rattle.std.specs.List.{AllByRecursion};
-ghost use Rattle.pal_text.specs.Names.{name, named_kind, named, IsWithin};
+ghost use Rattle.pal_text.specs.Names.{name, named_kind, with_name, begins_none, named, IsWithin};
 
 use crate::characters::is_character_code;
 use crate::tokens::{Kind, Token};
@@ -73,17 +73,31 @@ impl Name {
     }
 }
 
-/// A token, told by its name if it is a symbol.
-fn name_token(source: &[u8], token: Token) -> Token
+/// Whether this is a letter that begins the name of no direction.
+fn begins_no_direction(code: u8) -> bool
+    ensures { result ≡ begins_none code }
+{
+    matches!(code, b'A'..=b'C' | b'E'..=b'N' | b'Q'..=b'Z')
+}
+
+/// What a symbol with these bytes is. Its name is made only where it may be a direction's.
+fn symbol_kind(bytes: &[u8]) -> Kind
+    ensures { result ≡ named_kind (name bytes.now) }
+{
+    match bytes {
+        [first, ..] if begins_no_direction(*first % 128) => Kind::Symbol,
+        _ => Name::new(bytes).kind(),
+    }
+}
+
+/// What a token is, a symbol told by its name.
+fn told_kind(source: &[u8], token: Token) -> Kind
     requires { IsWithin (length source.now) token }
-    ensures { result ≡ named source.now token }
+    ensures { result ≡ with_name source.now token token.kind }
 {
     match token.kind {
-        Kind::Symbol => Token {
-            kind: Name::new(&source[token.start..token.end]).kind(),
-            ..token
-        },
-        _ => token,
+        Kind::Symbol => symbol_kind(&source[token.start..token.end]),
+        kind => kind,
     }
 }
 
@@ -93,6 +107,6 @@ pub(crate) fn name_tokens(source: &[u8], tokens: &mut [Token])
     ensures { tokens.new ≡ map (named source.now) tokens.old }
 {
     for token in tokens.iter_mut() {
-        *token = name_token(source, *token);
+        token.kind = told_kind(source, *token);
     }
 }

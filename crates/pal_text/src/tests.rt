@@ -134,3 +134,35 @@ fn a_part_has_at_most_65536_bytes(rt: HostRuntime) -> Result<(), Fail> {
     }
     Ok(())
 }
+
+#[test]
+fn the_reader_agrees(rt: HostRuntime) -> Result<(), Fail> {
+    let rows: [&[u8]; 6] = [
+        b"*200\nHLT\n$\n",
+        b"A,B, C=-5;X,;TAD I 10",
+        b" DECIMAL ; OCTALS ; OCTAL",
+        b"A=5\r\nPAUSE / the end\r\n?",
+        b"TAD 10 / $ is a comment's\n/ and so is this",
+        b"* -1;HLT$? 8A",
+    ];
+    for source in rows {
+        let part = statements(rt.alloc(), source);
+        let mut reader = Reader::new(rt.alloc(), source);
+        match part {
+            Ok(part) => {
+                for statement in &part.statements {
+                    let found = reader.read_next()?;
+                    match found {
+                        Some(found) => {
+                            assert_eq!(rt; found.statement, *statement);
+                            assert_eq!(rt; reader.tokens(), part.tokens_of(*statement));
+                        }
+                        None => assert!(rt; false),
+                    }
+                }
+            }
+            Err(_) => assert!(rt; false),
+        }
+    }
+    Ok(())
+}

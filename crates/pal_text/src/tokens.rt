@@ -2,6 +2,7 @@
 
 ghost use Rattle.std.specs.Prelude.{◌≡◌, ◌+◌, ◌<◌, ◌≤◌, ◌^◌, List, ℕ, reverse, length, OnOk, IfOk};
 ghost use Rattle.pal_text.specs.Tokens.{kind_of, is_run, is_space, absorbs, longer, joined, added, grown, all_tokens};
+ghost use Rattle.pal_text.specs.Statements.{is_end};
 ghost use Rattle.pal_text.specs.declared.tokens.Token.{Token as Tokened};
 
 use crate::characters::{Meaning, comment_after, meaning_of, returned_after};
@@ -54,7 +55,7 @@ pub struct Token {
     pub end: usize,
 }
 
-fn kind_for(code: u8) -> Kind
+pub(crate) fn kind_for(code: u8) -> Kind
     ensures { result ≡ kind_of code }
 {
     match code {
@@ -83,6 +84,12 @@ pub(crate) fn is_a_space(kind: Kind) -> bool
     ensures { result ≡ is_space kind }
 {
     matches!(kind, Kind::Space)
+}
+
+pub(crate) fn ends_statement(kind: Kind) -> bool
+    ensures { result ≡ is_end kind }
+{
+    matches!(kind, Kind::End | Kind::Dollar)
 }
 
 /// Whether a space beside a token of this kind doesn't count.
@@ -130,7 +137,7 @@ fn join(last: Token, next: Token) -> Option<Token>
 }
 
 /// Adds a character.
-fn add<A: Allocator>(out: &mut Vec<Token, A>, next: Token) -> Result<(), AllocError>
+pub(crate) fn add<A: Allocator>(out: &mut Vec<Token, A>, next: Token) -> Result<(), AllocError>
     ensures { OnOk result ((ts : List Tokened) → out.old.items ≡ reverse ts → out.new.items ≡ reverse (added next ts)) }
 {
     let count = out.len();

@@ -1,0 +1,26 @@
+use Rattle.std.proofs.Common.{◌∙◌, sym}
+use Rattle.std.specs.Prelude.{reverse}
+use Rattle.std.proofs.lemmas.List.{reverse-reverse}
+use Rattle.pal_text.proofs.Fronts.{reading_nothing, reading_feed, reading_one, stop_end, stop_feed}
+use Rattle.pal_text.proofs.scan.read_own.Goals as goal
+
+pub loop-at-preserved-in-Nothing : goal.loop-at-preserved-in-Nothing
+loop-at-preserved-in-Nothing g c =
+    reading_nothing c.args.source.now c.args.place.now c.loop-at.at c.loop-at.returned c.loop-at.out.items c.loop-at-test.true (sym c.brought.ensures ∙ c.in-Nothing.is) c.loop-at.invariant
+
+pub returns-then-not-returned-clause-stop : goal.returns-then-not-returned-clause-stop
+returns-then-not-returned-clause-stop g c =
+    stop_feed c.args.source.now c.args.place.now c.loop-at.at c.loop-at.returned c.loop-at.out.items (sym c.brought.ensures ∙ c.in-Feed.is) c.if-not-returned.true c.loop-at.invariant
+
+pub loop-at-preserved-in-Feed : goal.loop-at-preserved-in-Feed
+loop-at-preserved-in-Feed g c =
+    reading_feed c.args.source.now c.args.place.now c.loop-at.at c.loop-at.returned c.loop-at.out.items c.loop-at-test.true (sym c.brought.ensures ∙ c.in-Feed.is) c.if-not-returned.false c.loop-at.invariant
+
+pub returns-in-End-clause-stop : goal.returns-in-End-clause-stop
+returns-in-End-clause-stop g c =
+    stop_end c.args.source.now c.args.place.now c.loop-at.at c.loop-at.returned c.loop-at.out.items (sym c.brought.ensures ∙ c.in-End.is) c.loop-at.invariant
+
+pub loop-at-preserved : goal.loop-at-preserved
+loop-at-preserved g c =
+    reading_one c.args.source.now c.args.place.now c.loop-at.at c.finish_run-at.result c.loop-at.returned c.loop-at.out.items c.add.new.out.items c.finish_run-at.new.out.items c.in-One.kind c.requires.place c.loop-at-test.true (sym c.brought.ensures ∙ c.in-One.is) c.loop-at.invariant
+    (c.in_ok-add-in-One.ensures (reverse c.loop-at.out.items) (sym (reverse-reverse c.loop-at.out.items))) c.finish_run-at.ensures

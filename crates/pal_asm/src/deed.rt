@@ -177,7 +177,7 @@ pub(crate) fn acts_of<A: Allocator>(
 ) -> Result<Vec<Act<'_>, A>, AllocError>
     ensures { IfOk result (λ acts. map bare acts.items ≡ map act_in deeds.now) }
 {
-    let mut acts = Vec::new(alloc);
+    let mut acts = Vec::with_capacity(alloc, deeds.len())?;
     for at in 0..deeds.len() {
         acts.push(deeds.get(at).act)?;
     }

@@ -15,7 +15,7 @@ use Rattle.pal_text.specs.Names.{IsWithin, named, part_tokens}
 use Rattle.pal_text.specs.Order.{IsOrdered}
 use Rattle.pal_text.proofs.Grows.{turned}
 
-later : (ts : List Token) (m n : ℕ) → m ≤ n → IsOrdered m ts → IsOrdered n ts
+pub later : (ts : List Token) (m n : ℕ) → m ≤ n → IsOrdered m ts → IsOrdered n ts
 later [] m n h r = tt
 later (t ∷ ts) m n h r = (r.0, omega (arith, r.1), r.2)
 

@@ -1,5 +1,6 @@
 -- What is said of each outcome of a reading follows from what is known of it.
-use Rattle.std.proofs.Common.{◌≡◌, sym, subst, Result, Ok, Err, List, ℕ, length}
+use Rattle.std.proofs.Common.{◌≡◌, ◌∙◌, sym, ap, subst, Result, Ok, Err, List, [], ◌∷◌, ◌++◌, ℕ, length, take, drop, arith}
+use Rattle.std.proofs.lemmas.List.{take-append-drop, reverse-append}
 use Rattle.std.specs.Prelude.{IfOk, IfErr, MatchResult, reverse}
 use Rattle.std.specs.List.{AllByRecursion}
 use Rattle.pal_text.specs.declared.tokens.Token.{Token}
@@ -13,7 +14,7 @@ use Rattle.pal_text.specs.Order.{IsOrdered}
 use Rattle.pal_text.specs.Statements.{IsFault}
 use Rattle.pal_text.specs.Parts.{IsPart, IsIllegal, IsSilent, TellsOnly}
 use Rattle.pal_text.proofs.Unique.{no_fault, one_line}
-use Rattle.pal_text.proofs.Rises.{part_tokens_within, part_tokens_ordered}
+use Rattle.pal_text.proofs.Rises.{later, all_take, part_tokens_within, part_tokens_ordered}
 
 pub matched : {X : Type 0} (r : Result X TextFault) (P Q : X → Type 0) (F G : TextFault → Type 0) → IfOk r P → IfErr r F → ((x : X) → P x → Q x) → ((e : TextFault) → F e → G e) → MatchResult r Q G
 matched (Ok x) P Q F G ok err p f = p x ok
@@ -31,13 +32,22 @@ tells_only source line h (Illegal n) f = one_line source n line f h
 tells_only source line h TooLong f = tt
 tells_only source line h NoMemory f = tt
 
-pub ok_also : {X : Type 0} (r : Result X TextFault) (P Q : X → Type 0) → IfOk r P → ((x : X) → P x → Q x) → IfOk r Q
+pub ok_also : {X E : Type 0} (r : Result X E) (P Q : X → Type 0) → IfOk r P → ((x : X) → P x → Q x) → IfOk r Q
 ok_also (Ok x) P Q h f = f x h
 ok_also (Err e) P Q h f = tt
 
 -- the tokens of a part stand within it and in order
-pub within_by : (source : List ℕ) (tokens : List Token) → tokens ≡ part_tokens source → AllByRecursion (IsWithin (length source)) tokens
-within_by source tokens e = let P : List Token → Type 0 = λ ts. AllByRecursion (IsWithin (length source)) ts in subst P (sym e) (part_tokens_within source)
+pub within_by : (source : List ℕ) (tokens : List Token) (n : ℕ) → tokens ≡ take n (part_tokens source) → AllByRecursion (IsWithin (length source)) tokens
+within_by source tokens n e = let P : List Token → Type 0 = λ ts. AllByRecursion (IsWithin (length source)) ts in subst P (sym e) (all_take (IsWithin (length source)) n (part_tokens source) (part_tokens_within source))
 
-pub ordered_by : (source : List ℕ) (tokens : List Token) → tokens ≡ part_tokens source → IsOrdered (length source) (reverse tokens)
-ordered_by source tokens e = let P : List Token → Type 0 = λ ts. IsOrdered (length source) (reverse ts) in subst P (sym e) (part_tokens_ordered source)
+ordered_after : (n : ℕ) (xs ys : List Token) → IsOrdered n (xs ++ ys) → IsOrdered n ys
+ordered_after n [] ys h = h
+ordered_after n (x ∷ xs) ys h = later ys x.start n (omega (arith, h.0, h.1)) (ordered_after x.start xs ys h.2)
+
+pub ordered_by : (source : List ℕ) (tokens : List Token) (n : ℕ) → tokens ≡ take n (part_tokens source) → IsOrdered (length source) (reverse tokens)
+ordered_by source tokens n e =
+    let ts : List Token = part_tokens source in
+    let split : reverse ts ≡ reverse (drop n ts) ++ reverse (take n ts) = ap reverse (sym (take-append-drop n ts)) ∙ reverse-append (take n ts) (drop n ts) in
+    let P : List Token → Type 0 = λ l. IsOrdered (length source) l in
+    let Q : List Token → Type 0 = λ l. IsOrdered (length source) (reverse l) in
+    subst Q (sym e) (ordered_after (length source) (reverse (drop n ts)) (reverse (take n ts)) (subst P split (part_tokens_ordered source)))

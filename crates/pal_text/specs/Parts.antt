@@ -1,5 +1,5 @@
 -- What a part of a source is.
-use Rattle.std.specs.Prelude.{◌≡◌, ℕ, List, length, take}
+use Rattle.std.specs.Prelude.{◌≡◌, ℕ, ◌+◌, List, [], ◌∷◌, length, take}
 use Rattle.pal_text.specs.declared.tokens.Token.{Token}
 use Rattle.pal_text.specs.declared.cut.Statement.{Statement}
 use Rattle.pal_text.specs.declared.cut.Ending.{Ending}
@@ -20,6 +20,11 @@ pub record IsPart (source : List ℕ) (tokens : List Token) (statements : List S
 -- The first statement of these bytes that has no form is on this line.
 abbrev pub IsIllegal : List ℕ → ℕ → Type 0
 IsIllegal source line = Breaks (part_tokens source) (pieces 0 0 (part_tokens source)) line
+
+-- How many tokens the last of some statements and those before it take, each with the one that ends it; with none, so many.
+abbrev pub past : ℕ → List Statement → ℕ
+past n [] = n
+past n (s ∷ ss) = past (s.last + 1) ss
 
 -- Two readings are the same.
 pub record Agrees (tokens : List Token) (statements : List Statement) (lines : List Line) (ending : Ending) (tokens' : List Token) (statements' : List Statement) (lines' : List Line) (ending' : Ending) : Type 0 where

@@ -1,7 +1,7 @@
 //! What each byte of a part is: nothing, the end of a line, or a character.
 
 ghost use Rattle.std.specs.Prelude.{◌≡◌};
-ghost use Rattle.pal_text.specs.Characters.{meaning, returned_by, comment_by, is_character};
+ghost use Rattle.pal_text.specs.Characters.{meaning, returned_by, is_character};
 
 /// What a byte is, after those before it.
 #[derive(Clone, Copy, PartialEq, Eq, Debug)]
@@ -41,17 +41,6 @@ pub(crate) fn returned_after(returned: bool, byte: u8) -> bool
         13 => true,
         0 | 10 | 12 | 127 => returned,
         _ => false,
-    }
-}
-
-/// Whether the place after a byte is in a comment.
-pub(crate) fn comment_after(comment: bool, meaning: Meaning) -> bool
-    ensures { result ≡ comment_by comment meaning }
-{
-    match meaning {
-        Meaning::Ignored => comment,
-        Meaning::LineEnd => false,
-        Meaning::Character(code) => comment || code == b'/',
     }
 }
 

@@ -1,12 +1,10 @@
 //! The statements of a part.
 
-ghost use Rattle.std.specs.Prelude.{◌≡◌, IfOk, IfErr, length};
-ghost use Rattle.pal_text.specs.Statements.{is_end, is_dollar, last_end, closing, pieces, Stand, IsFault};
+ghost use Rattle.std.specs.Prelude.{◌≡◌};
+ghost use Rattle.pal_text.specs.Statements.{is_dollar, last_end, closing};
 
-use crate::fault::TextFault;
-use crate::grammar::{Form, shape_of};
-use crate::tokens::{Kind, Token, ends_statement};
-use std::alloc::Allocator;
+use crate::grammar::Form;
+use crate::tokens::{Kind, Token};
 
 /// A statement: its line, its tags and what it does. Its tokens are those of the part from `first`
 /// up to the one before `last`, where the token that ends it stands: each of its tags and a comma,
@@ -36,13 +34,6 @@ pub enum Ending {
 pub struct Close {
     pub ending: Ending,
     pub stop: usize,
-}
-
-/// The statements of a part and where it ends.
-#[derive(Drop)]
-pub(crate) struct Cut<A: Allocator> {
-    pub(crate) statements: Vec<Statement, A>,
-    pub(crate) close: Close,
 }
 
 fn is_dollar_sign(kind: Kind) -> bool
@@ -79,47 +70,4 @@ pub(crate) fn close_of(own: &[Token], mark: Token, form: Form) -> Option<Close>
     } else {
         None
     }
-}
-
-/// The statements of a part of so many bytes by its tokens, or the line of the first that has no
-/// form.
-pub(crate) fn cut_statements<A: Allocator>(
-    alloc: A,
-    tokens: &[Token],
-    size: usize,
-) -> Result<Cut<A>, TextFault>
-    ensures statements { IfOk result (λ cut. Stand tokens.now size (pieces 0 0 tokens.now) cut.statements.items cut.close) }
-    ensures fault { IfErr result (IsFault tokens.now) }
-{
-    let mut statements = Vec::new(alloc);
-    let mut first = 0;
-    for (at, mark) in tokens.iter().enumerate() {
-        if ends_statement(mark.kind) {
-            let own = &tokens[first..at];
-            let Some(shape) = shape_of(own) else {
-                return Err(TextFault::Illegal(mark.line));
-            };
-            let statement = Statement {
-                line: mark.line,
-                first,
-                last: at,
-                tags: shape.tags,
-                form: shape.form,
-            };
-            if statements.push(statement).is_err() {
-                return Err(TextFault::NoMemory);
-            }
-            if let Some(close) = close_of(own, *mark, shape.form) {
-                return Ok(Cut { statements, close });
-            }
-            first = at + 1;
-        }
-    }
-    Ok(Cut {
-        statements,
-        close: Close {
-            ending: Ending::Bytes,
-            stop: size,
-        },
-    })
 }

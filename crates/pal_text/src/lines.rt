@@ -32,7 +32,6 @@ fn begun_after(begun: bool, meaning: Meaning) -> bool
 ///
 /// Where memory was refused.
 pub fn lines_of<A: Allocator>(alloc: A, bytes: &[u8]) -> Result<Vec<Line, A>, AllocError>
-    requires { length bytes.now ≤ 65536 }
     ensures { IfOk result (λ out. out.items ≡ all_lines bytes.now) }
 {
     let mut out = Vec::new(alloc);

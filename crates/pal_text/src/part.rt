@@ -1,35 +1,36 @@
 //! A part of a source, read.
 
-ghost use Rattle.std.specs.Prelude.{◌≡◌, ◌↔◌, ◌≤◌, ◌<◌, length, reverse, slice_range, IfOk, IfErr, MatchResult, Err, ℕ, List};
+ghost use Rattle.std.specs.Prelude.{◌≡◌, ◌↔◌, ◌≤◌, ◌<◌, ◌+◌, ◌++◌, ◌∷◌, [], length, reverse, take, slice_range, IfOk, OnOk, IfErr, MatchResult, Err, ℕ, List};
 ghost use Rattle.std.specs.List.{AllByRecursion};
 ghost use Rattle.pal_text.specs.Order.{IsOrdered, IsPlaced, IsLineWithin};
 ghost use Rattle.pal_text.specs.Names.{IsWithin, bytes_of, part_tokens};
+ghost use Rattle.pal_text.specs.Lines.{all_lines};
 ghost use Rattle.pal_text.specs.Statements.{IsFault};
-ghost use Rattle.pal_text.specs.Parts.{IsPart, IsIllegal, Agrees, IsSilent, TellsOnly};
+ghost use Rattle.pal_text.specs.Parts.{IsPart, IsIllegal, Agrees, IsSilent, TellsOnly, past};
 ghost use Rattle.pal_text.specs.declared.tokens.Token.{Token as Tokened};
 ghost use Rattle.pal_text.specs.declared.cut.Statement.{Statement as Stated};
 ghost use Rattle.pal_text.specs.declared.cut.Ending.{Ending as Ended};
 ghost use Rattle.pal_text.specs.declared.lines.Line.{Line as Lined};
 
-use crate::cut::{Ending, Statement, cut_statements};
+use crate::cut::{Ending, Statement};
 use crate::fault::TextFault;
 use crate::lines::{Line, lines_of};
-use crate::names::name_tokens;
-use crate::tokens::{Token, tokens_of};
+use crate::reader::{Found, Reader};
+use crate::tokens::Token;
 use std::alloc::{AllocError, Allocator};
 
 /// How many bytes a part may have.
 pub const LONGEST: usize = 65_536;
 
-/// A part of a source: its bytes, its tokens in order, the statements up to the one by which it
-/// ends, the lines up to that place, and what ends it.
+/// A part of a source: its bytes, the statements up to the one by which it ends, the tokens up to
+/// the one that ends that statement, what ends the part, and after how many of its bytes.
 #[derive(Drop)]
 pub struct Part<'s, A: Allocator + Copy> {
     pub source: &'s [u8],
     pub tokens: Vec<Token, A>,
     pub statements: Vec<Statement, A>,
-    pub lines: Vec<Line, A>,
     pub ending: Ending,
+    pub stop: usize,
 }
 
 impl<'s, A: Allocator + Copy> Part<'s, A> {
@@ -49,6 +50,19 @@ impl<'s, A: Allocator + Copy> Part<'s, A> {
         &self.tokens[statement.first..statement.last]
     }
 
+    /// The lines of the part up to where it ends.
+    ///
+    /// # Errors
+    ///
+    /// Where memory was refused.
+    pub fn lines(&self, alloc: A) -> Result<Vec<Line, A>, AllocError>
+        requires { self.now.stop ≤ length self.now.source.now }
+        ensures lines { IfOk result (λ lines. lines.items ≡ all_lines (take self.now.stop self.now.source.now)) }
+        ensures within { IfOk result (λ lines. AllByRecursion (IsLineWithin (length self.now.source.now)) lines.items) }
+    {
+        lines_of(alloc, &self.source[..self.stop])
+    }
+
     /// The bytes of a line, as a slice of the source.
     pub fn line_bytes(&self, line: Line) -> &'s [u8]
         requires { IsLineWithin (length self.now.source.now) line }
@@ -58,36 +72,55 @@ impl<'s, A: Allocator + Copy> Part<'s, A> {
     }
 }
 
-/// The tokens of a part in order, the symbols told by their names.
-fn part_tokens_of<A: Allocator>(alloc: A, source: &[u8]) -> Result<Vec<Token, A>, AllocError>
-    requires { length source.now ≤ 65536 }
-    ensures { IfOk result (λ tokens. tokens.items ≡ part_tokens source.now) }
+/// Keeps a statement, its tokens and the one that ends it.
+fn keep<A: Allocator>(
+    tokens: &mut Vec<Token, A>,
+    statements: &mut Vec<Statement, A>,
+    own: &[Token],
+    found: &Found,
+) -> Result<(), AllocError>
+    ensures tokens { OnOk result (tokens.new.items ≡ tokens.old.items ++ own.now ++ found.now.mark ∷ []) }
+    ensures statements { OnOk result (statements.new.items ≡ statements.old.items ++ found.now.statement ∷ []) }
 {
-    let mut tokens = tokens_of(alloc, source)?;
-    name_tokens(source, &mut tokens);
-    Ok(tokens)
+    tokens.extend_from_slice(own)?;
+    tokens.push(found.mark)?;
+    statements.push(found.statement)?;
+    Ok(())
 }
 
 /// Reads a part that isn't too long.
 fn read_part<'s, A: Allocator + Copy>(alloc: A, source: &'s [u8]) -> Result<Part<'s, A>, TextFault>
     requires { length source.now ≤ 65536 }
     ensures source { IfOk result (λ part. part.source.now ≡ source.now) }
-    ensures part { IfOk result (λ part. IsPart source.now part.tokens.items part.statements.items part.lines.items part.ending) }
+    ensures part { IfOk result (λ part. IsPart source.now (part_tokens source.now) part.statements.items (all_lines (take part.stop source.now)) part.ending) }
+    ensures tokens { IfOk result (λ part. part.tokens.items ≡ take (past 0 part.statements.items) (part_tokens source.now)) }
+    ensures placed { IfOk result (λ part. AllByRecursion (IsPlaced part.tokens.items) part.statements.items) }
+    ensures stop { IfOk result (λ part. part.stop ≤ length source.now) }
     ensures fault { IfErr result (IsFault (part_tokens source.now)) }
 {
-    let Ok(tokens) = part_tokens_of(alloc, source) else {
-        return Err(TextFault::NoMemory);
-    };
-    let cut = cut_statements(alloc, &tokens, source.len())?;
-    let Ok(lines) = lines_of(alloc, &source[..cut.close.stop]) else {
-        return Err(TextFault::NoMemory);
-    };
+    let mut reader = Reader::new(alloc, source);
+    let mut tokens = Vec::new(alloc);
+    let mut statements = Vec::new(alloc);
+    while let Some(found) = reader.read_next()? {
+        if keep(&mut tokens, &mut statements, reader.tokens(), &found).is_err() {
+            return Err(TextFault::NoMemory);
+        }
+        if let Some(close) = found.close {
+            return Ok(Part {
+                source,
+                tokens,
+                statements,
+                ending: close.ending,
+                stop: close.stop,
+            });
+        }
+    }
     Ok(Part {
         source,
         tokens,
-        statements: cut.statements,
-        lines,
-        ending: cut.close.ending,
+        statements,
+        ending: Ending::Bytes,
+        stop: source.len(),
     })
 }
 
@@ -102,13 +135,15 @@ pub fn statements<'s, A: Allocator + Copy>(
     source: &'s [u8],
 ) -> Result<Part<'s, A>, TextFault>
     ensures source { IfOk result (λ part. part.source.now ≡ source.now) }
-    ensures part { IfOk result (λ part. IsPart source.now part.tokens.items part.statements.items part.lines.items part.ending) }
+    ensures part { IfOk result (λ part. IsPart source.now (part_tokens source.now) part.statements.items (all_lines (take part.stop source.now)) part.ending) }
+    ensures tokens { IfOk result (λ part. part.tokens.items ≡ take (past 0 part.statements.items) (part_tokens source.now)) }
+    ensures stop { IfOk result (λ part. part.stop ≤ length source.now) }
     ensures in_order { IfOk result (λ part. IsOrdered (length source.now) (reverse part.tokens.items)) }
     ensures within { IfOk result (λ part. AllByRecursion (IsWithin (length source.now)) part.tokens.items) }
     ensures placed { IfOk result (λ part. AllByRecursion (IsPlaced part.tokens.items) part.statements.items) }
-    ensures lines_within { IfOk result (λ part. AllByRecursion (IsLineWithin (length source.now)) part.lines.items) }
+    ensures lines_within { IfOk result (λ part. AllByRecursion (IsLineWithin (length source.now)) (all_lines (take part.stop source.now))) }
     ensures too_long { (result ≡ Err TextFault.TooLong) ↔ (65536 < length source.now) }
-    ensures part_told { (tokens : List Tokened) (told : List Stated) (lines : List Lined) (ending : Ended) → IsPart source.now tokens told lines ending → MatchResult result (λ part. Agrees part.tokens.items part.statements.items part.lines.items part.ending tokens told lines ending) IsSilent }
+    ensures part_told { (tokens : List Tokened) (told : List Stated) (lines : List Lined) (ending : Ended) → IsPart source.now tokens told lines ending → MatchResult result (λ part. Agrees (part_tokens source.now) part.statements.items (all_lines (take part.stop source.now)) part.ending tokens told lines ending) IsSilent }
     ensures illegal_told { (line : ℕ) → IsIllegal source.now line → MatchResult result (λ _. ⊥) (TellsOnly line) }
     ensures illegal { (line : ℕ) → result ≡ Err (TextFault.Illegal line) → IsIllegal source.now line }
 {

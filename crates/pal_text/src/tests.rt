@@ -115,8 +115,9 @@ fn lines_end_by_returns_and_feeds(rt: HostRuntime) -> Result<(), Fail> {
     ];
     for (source, count, end) in rows {
         let part = statements(rt.alloc(), source)?;
-        assert_eq!(rt; part.lines.len(), count);
-        if let [.., last] = part.lines.as_slice() {
+        let lines = part.lines(rt.alloc())?;
+        assert_eq!(rt; lines.len(), count);
+        if let [.., last] = lines.as_slice() {
             assert_eq!(rt; last.end, end);
         }
     }

@@ -1,11 +1,9 @@
 //! The tokens of a part.
 
-ghost use Rattle.std.specs.Prelude.{◌≡◌, ◌+◌, ◌<◌, ◌≤◌, ◌^◌, List, ℕ, reverse, length, OnOk, IfOk};
-ghost use Rattle.pal_text.specs.Tokens.{kind_of, is_run, is_space, absorbs, longer, joined, added, grown, all_tokens};
-ghost use Rattle.pal_text.specs.Statements.{is_end};
+ghost use Rattle.std.specs.Prelude.{◌≡◌, List, reverse, OnOk};
+ghost use Rattle.pal_text.specs.Tokens.{kind_of, is_run, is_space, absorbs, longer, joined, added};
 ghost use Rattle.pal_text.specs.declared.tokens.Token.{Token as Tokened};
 
-use crate::characters::{Meaning, comment_after, meaning_of, returned_after};
 use std::alloc::{AllocError, Allocator};
 
 /// What a token is.
@@ -86,12 +84,6 @@ pub(crate) fn is_a_space(kind: Kind) -> bool
     matches!(kind, Kind::Space)
 }
 
-pub(crate) fn ends_statement(kind: Kind) -> bool
-    ensures { result ≡ is_end kind }
-{
-    matches!(kind, Kind::End | Kind::Dollar)
-}
-
 /// Whether a space beside a token of this kind doesn't count.
 fn absorbs_spaces(kind: Kind) -> bool
     ensures { result ≡ absorbs kind }
@@ -152,67 +144,4 @@ pub(crate) fn add<A: Allocator>(out: &mut Vec<Token, A>, next: Token) -> Result<
         None => out.push(next)?,
     }
     Ok(())
-}
-
-/// Adds what the byte at a place brings.
-fn grow<A: Allocator>(
-    out: &mut Vec<Token, A>,
-    at: usize,
-    line: usize,
-    comment: bool,
-    meaning: Meaning,
-) -> Result<(), AllocError>
-    requires { at + 1 < 2 ^ 64 }
-    ensures { OnOk result ((ts : List Tokened) → out.old.items ≡ reverse ts → out.new.items ≡ reverse (grown at line comment meaning ts)) }
-{
-    let kind = match meaning {
-        Meaning::Ignored => return Ok(()),
-        Meaning::LineEnd => Kind::End,
-        Meaning::Character(code) => {
-            if comment || code == b'/' {
-                return Ok(());
-            }
-            kind_for(code)
-        }
-    };
-    add(
-        out,
-        Token {
-            kind,
-            line,
-            start: at,
-            end: at + 1,
-        },
-    )
-}
-
-/// The tokens of a part in order, its end as the last of them.
-pub(crate) fn tokens_of<A: Allocator>(alloc: A, source: &[u8]) -> Result<Vec<Token, A>, AllocError>
-    requires { length source.now ≤ 65536 }
-    ensures { IfOk result (λ out. out.items ≡ all_tokens source.now) }
-{
-    let mut out = Vec::new(alloc);
-    let mut line = 1;
-    let mut returned = false;
-    let mut comment = false;
-    for (at, byte) in source.iter().enumerate() {
-        let meaning = meaning_of(returned, *byte);
-        grow(&mut out, at, line, comment, meaning)?;
-        returned = returned_after(returned, *byte);
-        comment = comment_after(comment, meaning);
-        if meaning == Meaning::LineEnd {
-            line += 1;
-        }
-    }
-    let end = source.len();
-    add(
-        &mut out,
-        Token {
-            kind: Kind::End,
-            line,
-            start: end,
-            end,
-        },
-    )?;
-    Ok(out)
 }

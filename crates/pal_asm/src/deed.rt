@@ -110,9 +110,7 @@ fn lay<A: Allocator>(joins: &mut Vec<Join, A>, expression: &[Join]) -> Result<Sp
     ensures last { IfOk result (λ span. span.last ≡ length joins.new.items) }
 {
     let first = joins.len();
-    for join in expression {
-        joins.push(*join)?;
-    }
+    joins.extend_from_slice(expression)?;
     Ok(Span {
         first,
         last: joins.len(),
@@ -177,7 +175,7 @@ pub(crate) fn acts_of<A: Allocator>(
 ) -> Result<Vec<Act<'_>, A>, AllocError>
     ensures { IfOk result (λ acts. map bare acts.items ≡ map act_in deeds.now) }
 {
-    let mut acts = Vec::new(alloc);
+    let mut acts = Vec::with_capacity(alloc, deeds.len())?;
     for at in 0..deeds.len() {
         acts.push(deeds.get(at).act)?;
     }

@@ -43,6 +43,8 @@ pub(crate) struct Run {
     pub(crate) at: usize,
 }
 
+/// Inlined, so that a byte of a name costs no call.
+#[inline(always)]
 fn brought(code: u8) -> Brings
     ensures { result ≡ brings code }
 {

@@ -54,6 +54,7 @@ impl<'p, A: Allocator + Copy> Symbols<'p, A> {
     }
 
     /// The value of a symbol, if it has one; a permanent one keeps its own.
+    #[inline(always)]
     pub fn get(&self, name: Name) -> Option<Word>
         ensures { result ≡ known self.now.permanent.now.entries self.now.own.entries name }
     {

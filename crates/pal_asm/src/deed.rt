@@ -151,6 +151,7 @@ impl<A: Allocator> Deeds<A> {
     }
 
     /// Keeps one thing more.
+    #[inline(always)]
     pub(crate) fn keep(&mut self, place: Place, act: Act<'_>) -> Result<(), AllocError>
         ensures { OnOk result (self.new ≡ self.old ++ placed place.part place.line (bare act.entry) ∷ []) }
     {

@@ -43,7 +43,7 @@ pub(crate) struct Run {
     pub(crate) at: usize,
 }
 
-/// Inlined, so that a byte of a name costs no call.
+/// What this code brings.
 #[inline(always)]
 fn brought(code: u8) -> Brings
     ensures { result ≡ brings code }

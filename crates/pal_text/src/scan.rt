@@ -43,6 +43,8 @@ pub(crate) struct Run {
     pub(crate) at: usize,
 }
 
+/// What this code brings.
+#[inline(always)]
 fn brought(code: u8) -> Brings
     ensures { result ≡ brings code }
 {

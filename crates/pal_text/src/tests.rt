@@ -137,32 +137,40 @@ fn a_part_has_at_most_65536_bytes(rt: HostRuntime) -> Result<(), Fail> {
 }
 
 #[test]
-fn the_reader_agrees(rt: HostRuntime) -> Result<(), Fail> {
-    let rows: [&[u8]; 6] = [
-        b"*200\nHLT\n$\n",
-        b"A,B, C=-5;X,;TAD I 10",
-        b" DECIMAL ; OCTALS ; OCTAL",
-        b"A=5\r\nPAUSE / the end\r\n?",
-        b"TAD 10 / $ is a comment's\n/ and so is this",
-        b"* -1;HLT$? 8A",
+fn a_reader_gives_one_statement_at_a_time(rt: HostRuntime) -> Result<(), Fail> {
+    let mut reader = Reader::new(rt.alloc(), b"A, 5 \r\n $B\n;PAUSE");
+    let rows: [(Form, usize, usize, usize, Option<usize>); 6] = [
+        (Form::Word, 1, 3, 3, None),
+        (Form::Empty, 2, 4, 0, Some(9)),
+        (Form::Word, 2, 6, 1, None),
+        (Form::Empty, 3, 7, 0, None),
+        (Form::Pause, 3, 9, 1, Some(17)),
+        (Form::Empty, 0, 0, 0, None),
     ];
-    for source in rows {
-        let part = statements(rt.alloc(), source);
-        let mut reader = Reader::new(rt.alloc(), source);
-        match part {
-            Ok(part) => {
-                for statement in &part.statements {
-                    let found = reader.read_next()?;
-                    match found {
-                        Some(found) => {
-                            assert_eq!(rt; found.statement, *statement);
-                            assert_eq!(rt; reader.tokens(), part.tokens_of(*statement));
-                        }
-                        None => assert!(rt; false),
-                    }
-                }
+    for (form, line, last, count, stop) in rows {
+        match reader.read_next()? {
+            Some(found) => {
+                assert_eq!(rt; found.statement.form, form);
+                assert_eq!(rt; (found.statement.line, found.statement.last), (line, last));
+                assert_eq!(rt; found.close.map(|close| close.stop), stop);
             }
-            Err(_) => assert!(rt; false),
+            None => assert_eq!(rt; line, 0),
+        }
+        assert_eq!(rt; reader.tokens().len(), count);
+    }
+    Ok(())
+}
+
+#[test]
+fn a_reader_tells_the_line_without_a_form(rt: HostRuntime) -> Result<(), Fail> {
+    let mut reader = Reader::new(rt.alloc(), b"HLT\n\r5A;$");
+    for _ in 0..2 {
+        assert!(rt; reader.read_next()?.is_some());
+    }
+    for _ in 0..2 {
+        match reader.read_next() {
+            Ok(_) => assert!(rt; false),
+            Err(fault) => assert_eq!(rt; fault, TextFault::Illegal(3)),
         }
     }
     Ok(())

@@ -211,3 +211,6 @@ on_ok (Err e) P h is = cc
 
 pub reached_at : (source : List ℕ) (n : ℕ) (ss ts : List Statement) → ts ≡ ss → Reached (part_tokens source) (length source) n n ss → Reached (part_tokens source) (length source) n n ts
 reached_at source n ss ts e h = let P : List Statement → Type 0 = λ l. Reached (part_tokens source) (length source) n n l in subst P (sym e) h
+
+pub stands_at : (tokens : List Token) (size : ℕ) (ss ts : List Statement) (c : Close) → ts ≡ ss → Stand tokens size (pieces 0 0 tokens) ss c → Stand tokens size (pieces 0 0 tokens) ts c
+stands_at tokens size ss ts c e h = let Q : List Statement → Type 0 = λ all. Stand tokens size (pieces 0 0 tokens) all c in subst Q (sym e) h

@@ -5,7 +5,7 @@ ghost use Rattle.std.specs.List.{AllByRecursion};
 ghost use Rattle.pal_text.specs.Order.{IsOrdered, IsPlaced, IsLineWithin};
 ghost use Rattle.pal_text.specs.Names.{IsWithin, bytes_of, part_tokens};
 ghost use Rattle.pal_text.specs.Lines.{all_lines};
-ghost use Rattle.pal_text.specs.Statements.{IsFault};
+ghost use Rattle.pal_text.specs.Statements.{closed, pieces, IsFault, Stand};
 ghost use Rattle.pal_text.specs.Parts.{IsPart, IsIllegal, Agrees, IsSilent, TellsOnly, past};
 ghost use Rattle.pal_text.specs.declared.tokens.Token.{Token as Tokened};
 ghost use Rattle.pal_text.specs.declared.cut.Statement.{Statement as Stated};
@@ -96,6 +96,7 @@ fn read_part<'s, A: Allocator + Copy>(alloc: A, source: &'s [u8]) -> Result<Part
     ensures tokens { IfOk result (λ part. part.tokens.items ≡ take (past 0 part.statements.items) (part_tokens source.now)) }
     ensures placed { IfOk result (λ part. AllByRecursion (IsPlaced part.tokens.items) part.statements.items) }
     ensures stop { IfOk result (λ part. part.stop ≤ length source.now) }
+    ensures closes { IfOk result (λ part. Stand (part_tokens source.now) (length source.now) (pieces 0 0 (part_tokens source.now)) part.statements.items (closed part.ending part.stop)) }
     ensures fault { IfErr result (IsFault (part_tokens source.now)) }
 {
     let mut reader = Reader::new(alloc, source);
@@ -138,6 +139,7 @@ pub fn statements<'s, A: Allocator + Copy>(
     ensures part { IfOk result (λ part. IsPart source.now (part_tokens source.now) part.statements.items (all_lines (take part.stop source.now)) part.ending) }
     ensures tokens { IfOk result (λ part. part.tokens.items ≡ take (past 0 part.statements.items) (part_tokens source.now)) }
     ensures stop { IfOk result (λ part. part.stop ≤ length source.now) }
+    ensures closes { IfOk result (λ part. Stand (part_tokens source.now) (length source.now) (pieces 0 0 (part_tokens source.now)) part.statements.items (closed part.ending part.stop)) }
     ensures in_order { IfOk result (λ part. IsOrdered (length source.now) (reverse part.tokens.items)) }
     ensures within { IfOk result (λ part. AllByRecursion (IsWithin (length source.now)) part.tokens.items) }
     ensures placed { IfOk result (λ part. AllByRecursion (IsPlaced part.tokens.items) part.statements.items) }

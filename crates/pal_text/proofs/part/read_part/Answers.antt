@@ -5,7 +5,7 @@ use Rattle.pal_text.specs.Names.{part_tokens}
 use Rattle.pal_text.specs.Statements.{closed, pieces, Stand, IsFault}
 use Rattle.pal_text.proofs.Rises.{part_tokens_within}
 use Rattle.pal_text.proofs.Ends.{stop_within}
-use Rattle.pal_text.proofs.Cuts.{Held, reached_next, stands_next, stands_rest, held_next, next_at, none_at, fault_at, on_ok, reached_at}
+use Rattle.pal_text.proofs.Cuts.{Held, reached_next, stands_at, stands_next, stands_rest, held_next, next_at, none_at, fault_at, on_ok, reached_at}
 use Rattle.pal_text.proofs.part.read_part.Goals as goal
 
 pub returns-in_err-found-clause-fault : goal.returns-in_err-found-clause-fault
@@ -39,6 +39,13 @@ returns-in-Some-close-clause-stop g c =
     (next_at c.loop-statements.reader.source c.args.source.now c.loop-statements.reader.count c.read_next.new.self.count c.in_ok-found.field-0 c.in-Some.found c.read_next.new.self.own c.loop-statements.invariant.0 c.in_ok-found.ensures.found c.in-Some.is) c.in-Some-close.is c.loop-statements.invariant.1) in
     stop_within (part_tokens c.args.source.now) (length c.args.source.now) (c.loop-statements.statements.items ++ c.in-Some.found.statement ∷ []) c.in-Some-close.close (part_tokens_within c.args.source.now) stands
 
+pub returns-in-Some-close-clause-closes : goal.returns-in-Some-close-clause-closes
+returns-in-Some-close-clause-closes g c =
+    stands_at (part_tokens c.args.source.now) (length c.args.source.now) (c.loop-statements.statements.items ++ c.in-Some.found.statement ∷ []) c.keep.new.statements.items c.in-Some-close.close
+    (on_ok c.keep.result _ c.keep.ensures.statements (c.is_err.ensures.negation ∙ ap not c.if-is_err.false))
+    (stands_next c.args.source.now c.loop-statements.reader.count c.read_next.new.self.count c.in-Some.found c.read_next.new.self.own c.loop-statements.statements.items c.in-Some-close.close
+    (next_at c.loop-statements.reader.source c.args.source.now c.loop-statements.reader.count c.read_next.new.self.count c.in_ok-found.field-0 c.in-Some.found c.read_next.new.self.own c.loop-statements.invariant.0 c.in_ok-found.ensures.found c.in-Some.is) c.in-Some-close.is c.loop-statements.invariant.1)
+
 pub loop-statements-preserved : goal.loop-statements-preserved
 loop-statements-preserved g c =
     let h : Held c.args.source.now c.read_next.new.self.count c.keep.new.tokens.items c.keep.new.statements.items =
@@ -60,3 +67,9 @@ returns-clause-part g c =
     (none_at c.loop-statements.reader.source c.args.source.now c.loop-statements.reader.count c.read_next.new.self.count c.in_ok-found.field-0 c.read_next.new.self.own c.loop-statements.invariant.0 c.in_ok-found.ensures.found c.in_default.is)
     c.loop-statements.invariant.1 in
     record { stop = length c.args.source.now; tokens_are = refl; statements_are = stands; lines_are = refl }
+
+pub returns-clause-closes : goal.returns-clause-closes
+returns-clause-closes g c =
+    stands_rest c.args.source.now c.loop-statements.reader.count c.loop-statements.statements.items
+    (none_at c.loop-statements.reader.source c.args.source.now c.loop-statements.reader.count c.read_next.new.self.count c.in_ok-found.field-0 c.read_next.new.self.own c.loop-statements.invariant.0 c.in_ok-found.ensures.found c.in_default.is)
+    c.loop-statements.invariant.1

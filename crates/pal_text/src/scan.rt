@@ -49,12 +49,12 @@ fn brought(code: u8) -> Brings
     ensures { result ≡ brings code }
 {
     match code {
+        b'A'..=b'Z' => Brings::One(Kind::Symbol),
+        b'0'..=b'9' => Brings::One(Kind::Number),
         0 | 12 | 127 => Brings::Nothing,
         13 | b';' | b'$' => Brings::End,
         10 => Brings::Feed,
         b'/' => Brings::Comment,
-        b'A'..=b'Z' => Brings::One(Kind::Symbol),
-        b'0'..=b'9' => Brings::One(Kind::Number),
         9 | b' ' => Brings::One(Kind::Space),
         b'.' => Brings::One(Kind::Here),
         b',' => Brings::One(Kind::Comma),

@@ -1,7 +1,8 @@
 #!/bin/bash
 # Times the assembler against Debian's palbart on one source of the largest size: 65,536 bytes with 1,024 symbols of its
-# own, each used over and over. By turns in one run, so many times each, and prints for each the processor time of one
-# run, with the start of the program in it, and for our program the most memory that it held.
+# own, each used over and over. By turns in one run, so many times each. Prints for each the processor time of one run,
+# then that of a run on a source of one word, which is the start of the program, and the difference, which is what the
+# source costs; and for our program the most memory that it held on both.
 # usage: bench/assembler.sh [RUNS]; PALBART names another palbart than /usr/bin/palbart.
 set -euo pipefail
 top=$(cd "$(dirname "$0")/.." && pwd)
@@ -34,18 +35,33 @@ PYTHON
 TIMEFORMAT='%U %S'
 seconds() { { time for ((run = 0; run < runs; run++)); do "$@" >"$work/said" 2>&1 </dev/null; done; } 2>&1; }
 
+printf '*200\nHLT\n$\n' >"$work/small.pal"
 "$program" assemble "$work/ours.bin" "$work/large.pal"
-for _ in 1 2 3 4 5; do
-    echo "pdp8 $(seconds "$program" assemble "$work/ours.bin" "$work/large.pal")"
-    [ ! -x "$palbart" ] || echo "palbart $(cd "$work" && seconds "$palbart" large.pal)"
+for _ in 1 2 3 4 5 6 7; do
+    for size in large small; do
+        echo "pdp8 $size $(seconds "$program" assemble "$work/ours.bin" "$work/$size.pal")"
+        [ ! -x "$palbart" ] || echo "palbart $size $(cd "$work" && seconds "$palbart" "$size.pal")"
+    done
 done >"$work/times"
 awk -v runs="$runs" '
-    { total = $2 + $3 }
-    !($1 in least) || total < least[$1] { least[$1] = total }
+    { key = $1 " " $2; total = 1000 * ($3 + $4) / runs; names[$1] }
+    !(key in least) || total < least[key] { least[key] = total }
     END {
-        for (name in least) printf "%-8s %.3f ms a run\n", name, 1000 * least[name] / runs
-        if ("palbart" in least) printf "palbart takes %.1f times as long\n", least["palbart"] / least["pdp8"]
+        for (name in names) {
+            cost[name] = least[name " large"] - least[name " small"]
+            printf "%-8s %.3f ms a run, %.3f ms of it its start, %.3f ms for the source\n", name, least[name " large"], least[name " small"], cost[name]
+        }
+        if ("palbart" in names)
+            printf "palbart takes %.1f times as long for the source, %.1f times with the start\n", cost["palbart"] / cost["pdp8"], least["palbart large"] / least["pdp8 large"]
     }' "$work/times"
+if command -v valgrind >/dev/null; then
+    # Host instructions repeat exactly.
+    instructions() { (cd "$work" && valgrind --tool=callgrind --callgrind-out-file=/dev/null "$@" 2>&1 >/dev/null | awk '/Collected/ { print $NF }'); }
+    echo "pdp8 $(instructions "$program" assemble "$work/ours.bin" large.pal) host instructions"
+    [ ! -x "$palbart" ] || echo "palbart $(instructions "$palbart" large.pal) host instructions"
+fi
 if command -v /usr/bin/time >/dev/null; then
-    /usr/bin/time -f '%M KiB at most' "$program" assemble "$work/ours.bin" "$work/large.pal"
+    for size in large small; do
+        /usr/bin/time -f "$size: %M KiB at most" "$program" assemble "$work/ours.bin" "$work/$size.pal"
+    done
 fi

@@ -3,7 +3,7 @@
 ghost use Rattle.std.specs.Prelude.{◌≡◌, ◌≤◌, ◌<◌, ◌+◌, ◌^◌, false, true, List, [], length, reverse, OnOk, IfOk, get_or, Some};
 ghost use Rattle.pal_text.specs.declared.tokens.Token.{Token as Tokened};
 ghost use Rattle.pal_text.specs.declared.tokens.Kind.TheVariants.{Symbol};
-ghost use Rattle.pal_text.specs.Tokens.{longer};
+ghost use Rattle.pal_text.specs.Tokens.{is_letter, longer};
 ghost use Rattle.pal_text.specs.Characters.{code, line, returned, in_comment};
 ghost use Rattle.pal_text.specs.Scan.{trimmed, mark, next_place, brings, is_line_code, mark_kind, line_past, front, IsStop, IsQuiet, IsOutside, IsPlaceIn, IsOwn, is_word, IsRun, IsOnward};
 
@@ -43,18 +43,27 @@ pub(crate) struct Run {
     pub(crate) at: usize,
 }
 
-/// What this code brings.
+/// Whether a code is a letter.
+fn is_letter(code: u8) -> bool
+    ensures { result ≡ is_letter code }
+{
+    matches!(code, b'A'..=b'Z')
+}
+
+/// What this code brings. Most codes are letters, so they are asked for first.
 #[inline(always)]
 fn brought(code: u8) -> Brings
     ensures { result ≡ brings code }
 {
+    if is_letter(code) {
+        return Brings::One(Kind::Symbol);
+    }
     match code {
-        b'A'..=b'Z' => Brings::One(Kind::Symbol),
-        b'0'..=b'9' => Brings::One(Kind::Number),
         0 | 12 | 127 => Brings::Nothing,
         13 | b';' | b'$' => Brings::End,
         10 => Brings::Feed,
         b'/' => Brings::Comment,
+        b'0'..=b'9' => Brings::One(Kind::Number),
         9 | b' ' => Brings::One(Kind::Space),
         b'.' => Brings::One(Kind::Here),
         b',' => Brings::One(Kind::Comma),

@@ -65,6 +65,7 @@ impl<'p, A: Allocator + Copy> Symbols<'p, A> {
     }
 
     /// The value of a term at a location, if it has one.
+    #[inline(always)]
     pub(crate) fn term(&self, here: Word, term: Term) -> Option<Word>
         ensures { result ≡ term_value (known self.now.permanent.now.entries self.now.own.entries) here term }
     {
@@ -76,6 +77,7 @@ impl<'p, A: Allocator + Copy> Symbols<'p, A> {
     }
 
     /// The value of an expression at a location; none where a symbol has none.
+    #[inline(always)]
     pub fn value(&self, here: Word, joins: &[Join]) -> Option<Word>
         ensures { result ≡ value (known self.now.permanent.now.entries self.now.own.entries) here joins.now }
     {
@@ -87,6 +89,7 @@ impl<'p, A: Allocator + Copy> Symbols<'p, A> {
     }
 
     /// Gives a name a value. Where it has another, that is the fault `other`.
+    #[inline(always)]
     fn give(&mut self, name: Name, value: Word, other: Code) -> Result<(), Refusal>
         ensures sound { OnOk result (giving_fault other 1024 (length self.old.own.entries) (known self.old.permanent.now.entries self.old.own.entries name) value ≡ None) }
         ensures given { OnOk result (self.new.own.entries ≡ giving_table self.old.own.entries name (known self.old.permanent.now.entries self.old.own.entries name) value) }

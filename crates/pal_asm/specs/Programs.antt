@@ -1,11 +1,10 @@
--- What a program is, as its calls show it.
-use Rattle.std.specs.Prelude.{ℕ, Bool, true, false, List, ◌++◌, Option, codes, Result, Ok, Err}
+-- What a program and a translation are, as their calls show it.
+use Rattle.std.specs.Prelude.{ℕ, List, ◌++◌, Option, codes}
 use Rattle.pal_text.specs.declared.names.Name.{Name}
 use Rattle.pal_acts.specs.Permanent.{permanent_symbols}
 use Rattle.pal_acts.specs.Values.{known}
 use Rattle.pal_asm.specs.declared.program.Program.{Program}
-use Rattle.pal_asm.specs.declared.fault.ListFault.{ListFault}
-use Rattle.pal_asm.specs.declared.fault.ListFault.TheVariants.{NoMemory, WriteFault}
+use Rattle.pal_asm.specs.declared.translation.Translation.{Translation}
 use Rattle.pal_asm.specs.Listings.{all_words, symbols_text}
 use Rattle.pal_asm.specs.Kept.{lines_of_fronts, turns_text}
 
@@ -19,12 +18,18 @@ image_of p = p.image
 
 -- The text of its listing.
 abbrev pub listing_of : {A : Type 0} → Program A → List ℕ
-listing_of p =
-    turns_text (lines_of_fronts p.fronts.items) (all_words (known (permanent_symbols p.profile) p.own.entries) p.deeds)
-    ++ codes "\n" ++ symbols_text p.own.entries
+listing_of p = p.listing.items
 
--- A write failed.
-abbrev pub is_write_fault : Result (Unit {0}) ListFault → Bool
-is_write_fault (Ok _) = false
-is_write_fault (Err NoMemory) = false
-is_write_fault (Err WriteFault) = true
+-- The own symbols of a translation.
+abbrev pub symbols_in : {A : Type 0} → Translation A → List (Name × ℕ)
+symbols_in t = t.own.entries
+
+-- The image of a translation.
+abbrev pub image_in : {A : Type 0} → Translation A → List (Option ℕ)
+image_in t = t.image
+
+-- The text of the listing that is made of a translation, for private contracts.
+abbrev pub text_of : {A : Type 0} → Translation A → List ℕ
+text_of t =
+    turns_text (lines_of_fronts t.fronts.items) (all_words (known (permanent_symbols t.profile) t.own.entries) t.deeds)
+    ++ codes "\n" ++ symbols_text t.own.entries

@@ -24,13 +24,7 @@ pub enum AssembleFault {
     NoMemory,
 }
 
-/// Why a listing isn't written.
+/// A write failed or took nothing.
 #[derive(Clone, Copy, PartialEq, Eq, Debug, Error)]
-pub enum ListFault {
-    /// Memory was refused; nothing was written.
-    #[error("NoMemory")]
-    NoMemory,
-    /// A write failed or took nothing.
-    #[error("WriteFault")]
-    WriteFault,
-}
+#[error("WriteFault")]
+pub struct WriteFault;

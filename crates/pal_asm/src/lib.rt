@@ -1,7 +1,8 @@
 //! The assembler: from the parts of a PAL III source to its image, its symbols and its listing.
 //!
 //! A source is a list of parts, and each part is a list of bytes. [`assemble`] gives what the
-//! source means, or its one fault with the part and the line where it stands.
+//! source means, or its one fault with the part and the line where it stands; [`translate`] does so
+//! without the listing.
 #![tactic(auto)]
 
 mod deed;
@@ -14,10 +15,12 @@ pub mod program;
 mod reading;
 mod sizes;
 mod statement;
+pub mod translation;
 
-pub use fault::{AssembleFault, ListFault, PalFault};
+pub use fault::{AssembleFault, PalFault, WriteFault};
 pub use pal_acts::SymbolTable;
 pub use program::{Program, assemble};
+pub use translation::{Translation, translate};
 
 #[cfg(test)]
 mod tests;

@@ -1,6 +1,6 @@
 //! Sources worked by hand from the rules of the language.
 
-use crate::{AssembleFault, ListFault, PalFault, assemble};
+use crate::{AssembleFault, PalFault, WriteFault, assemble, translate};
 use bin_tape::memory::MemorySink;
 use instruct::Profile;
 use pal_acts::Code;
@@ -278,7 +278,7 @@ fn sources_are_listed(rt: HostRuntime) -> Result<(), Fail> {
     for (parts, expected) in rows {
         let program = assemble(rt.alloc(), parts, Profile::Pdp8I)?;
         let mut sink = MemorySink::new(rt.alloc(), 65_536);
-        program.write_listing(rt.alloc(), &mut sink)?;
+        program.write_listing(&mut sink)?;
         assert_eq!(rt; sink.bytes(), expected);
     }
     Ok(())
@@ -289,58 +289,106 @@ fn a_front_of_the_listing_goes_out_where_a_write_fails(rt: HostRuntime) -> Resul
     let program = assemble(rt.alloc(), &[HELLO], Profile::Pdp8I)?;
     for room in 0..HELLO_LISTING.len() {
         let mut sink = MemorySink::new(rt.alloc(), room);
-        assert_eq!(rt;
-            program.write_listing(rt.alloc(), &mut sink),
-            Err(ListFault::WriteFault)
-        );
+        assert_eq!(rt; program.write_listing(&mut sink), Err(WriteFault));
         assert_eq!(rt; sink.bytes(), &HELLO_LISTING[..room]);
     }
     Ok(())
 }
 
-#[test]
-fn nothing_is_listed_where_memory_is_refused(rt: HostRuntime) -> Result<(), Fail> {
+/// The answer to a source where the allocation of this number is refused, and whether one was.
+fn refused_at<A: Allocator + Copy>(
+    alloc: A,
+    count: u64,
+    parts: &[&[u8]],
+) -> (Option<AssembleFault>, bool) {
+    let heap = Refusing::new(alloc, count);
+    let answer = assemble(&heap, parts, Profile::Pdp8I).err();
+    let refused = heap.has_refused();
+    (answer, refused)
+}
+
+/// Whether a source is answered so where nothing is refused, and by NoMemory at each growth that is
+/// refused in turn.
+fn answers_in_turn<A: Allocator + Copy>(
+    alloc: A,
+    parts: &[&[u8]],
+    expected: Option<AssembleFault>,
+) -> bool {
     for count in 0..400u64 {
-        let roomy = Refusing::new(rt.alloc(), u64::MAX);
-        let heap = Refusing::new(rt.alloc(), count);
-        let program = assemble(&roomy, &[HELLO], Profile::Pdp8I)?;
-        let mut sink = MemorySink::new(rt.alloc(), 65_536);
-        match program.write_listing(&heap, &mut sink) {
-            Ok(()) => {
-                assert_eq!(rt; sink.bytes(), HELLO_LISTING);
-                assert!(rt; !heap.has_refused());
-                assert!(rt; count > 5, "{count}");
-                return Ok(());
-            }
-            Err(fault) => {
-                assert_eq!(rt; fault, ListFault::NoMemory);
-                assert!(rt; sink.bytes().is_empty());
-                assert!(rt; heap.has_refused());
-            }
+        let (answer, refused) = refused_at(alloc, count, parts);
+        if !refused {
+            return answer == expected && count > 1;
+        }
+        if answer != Some(AssembleFault::NoMemory) {
+            return false;
         }
     }
-    panic!(rt; "it never ended")
+    false
 }
 
 #[test]
-fn each_growth_is_refused_in_turn(rt: HostRuntime) -> Result<(), Fail> {
-    let parts: [&[u8]; 2] = [b"A=5\nPAUSE\n", b"B,TAD A;1\n$\n"];
-    for count in 0..200u64 {
-        let heap = Refusing::new(rt.alloc(), count);
-        match assemble(&heap, &parts, Profile::Pdp8I) {
-            Ok(program) => {
-                assert!(rt; !heap.has_refused());
-                assert_eq!(rt; program.symbols().len(), 2);
-                assert!(rt; count > 5, "{count}");
-                return Ok(());
-            }
-            Err(fault) => {
-                assert_eq!(rt; fault, AssembleFault::NoMemory);
-                assert!(rt; heap.has_refused());
-            }
-        }
+fn each_growth_of_a_good_source_is_refused_in_turn(rt: HostRuntime) {
+    let rows: [&[&[u8]]; 4] = [
+        &[b"*10;TAD 20;$"],
+        &[b"DECIMAL;-10;OCTAL;10;300 5;1 2+1;$"],
+        &[b"A=5\nPAUSE\n", b"TAD A\n$\n"],
+        &[HELLO],
+    ];
+    for parts in rows {
+        assert!(rt; answers_in_turn(rt.alloc(), parts, None));
     }
-    panic!(rt; "it never ended")
+}
+
+#[test]
+fn each_growth_before_a_fault_is_refused_in_turn(rt: HostRuntime) {
+    let rows: [(&[u8], Code, usize); 9] = [
+        (b"TAD 600", Code::IllegalReference, 1),
+        (b"TAD Z 300", Code::IllegalReference, 1),
+        (b"X,1\nX,2", Code::DuplicateTag, 2),
+        (b"A=1;A=2", Code::Redefined, 1),
+        (b"TAD Q", Code::Undefined, 1),
+        (b"8", Code::IllegalCharacter, 1),
+        (b"?", Code::IllegalCharacter, 1),
+        (b"10000", Code::NumberTooLarge, 1),
+        (b"PAUSE", Code::PauseInLastPart, 1),
+    ];
+    for (source, code, line) in rows {
+        let fault = AssembleFault::Source(PalFault {
+            code,
+            part: 1,
+            line,
+        });
+        assert!(rt;
+            answers_in_turn(rt.alloc(), &[source], Some(fault)),
+            "{code}"
+        );
+    }
+}
+
+#[test]
+fn a_translation_is_a_program_without_its_listing(rt: HostRuntime) -> Result<(), Fail> {
+    let parts: [&[u8]; 2] = [b"A=5\nPAUSE\n", b"*300\nB,TAD A;1\n$\n"];
+    let translation = translate(rt.alloc(), &parts, Profile::Pdp8I)?;
+    let names = [b"A     ", b"B     "];
+    let values = [5, 0o300];
+    assert_eq!(rt; translation.symbols().len(), 2);
+    for at in 0..2 {
+        let Some((name, value)) = translation.symbols().get_index(at) else {
+            panic!(rt; "no symbol {at}");
+        };
+        assert_eq!(rt; &name.letters, names[at]);
+        assert_eq!(rt; value.value(), values[at]);
+    }
+    for (at, word) in [
+        (0o277, None),
+        (0o300, Some(0o1005)),
+        (0o301, Some(1)),
+        (0o302, None),
+    ] {
+        let found = translation.image().get(Word::from_index(at));
+        assert_eq!(rt; found.map(|word| word.value()), word);
+    }
+    Ok(())
 }
 
 #[test]

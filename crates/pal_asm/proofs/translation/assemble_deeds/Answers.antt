@@ -2,7 +2,7 @@ use Rattle.std.proofs.Common.{◌∙◌, ap}
 use Rattle.std.specs.Prelude.{map}
 use Rattle.pal_asm.specs.Kept.{bare}
 use Rattle.pal_asm.proofs.Laid.{bound, source_of, fault_of}
-use Rattle.pal_asm.proofs.program.assemble_deeds.Goals as goal
+use Rattle.pal_asm.proofs.translation.assemble_deeds.Goals as goal
 
 pub returns-in-Ok-assemble-clause-found : goal.returns-in-Ok-assemble-clause-found
 returns-in-Ok-assemble-clause-found g c =

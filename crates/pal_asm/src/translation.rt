@@ -1,0 +1,161 @@
+//! What a source means, without its listing.
+
+ghost use Rattle.std.specs.Prelude.{◌≡◌, ◌++◌, codes, IfOk, IfErr, MatchResult, map, ℕ, List, Option, Some, None, Err};
+ghost use Rattle.pal_text.specs.declared.names.Name.{Name as Named};
+ghost use Rattle.pal_acts.specs.Values.{known};
+ghost use Rattle.pal_acts.specs.Sources.{IsSource};
+ghost use Rattle.pal_asm.specs.declared.fault.PalFault.{PalFault as Faulty};
+ghost use Rattle.pal_acts.specs.Permanent.{permanent_symbols};
+ghost use Rattle.pal_asm.specs.Sources.{act_in, texts, size_fault, Means, IsFault, Refuses, IsSilent, TellsOnly};
+ghost use Rattle.pal_asm.specs.Listings.{all_words, symbols_text, Lists};
+ghost use Rattle.pal_asm.specs.Programs.{symbols_in, image_in, text_of};
+ghost use Rattle.pal_asm.specs.Kept.{RefusesActs, lines_of_fronts, turns_text};
+
+use crate::deed::{Deeds, acts_of};
+use crate::fault::{AssembleFault, PalFault};
+use crate::front::Front;
+use crate::reading::{Reading, read_source};
+use crate::sizes::fault_of_sizes;
+use bin_tape::Image;
+use instruct::Profile;
+use pal_acts::{Assembled, Refused, SymbolTable, Symbols, permanent_table};
+use std::alloc::Allocator;
+
+/// What the acts that are kept mean, or their fault at its place.
+fn assemble_deeds<'p, A: Allocator + Copy>(
+    alloc: A,
+    permanent: &'p SymbolTable<A>,
+    deeds: &Deeds<A>,
+) -> Result<Assembled<'p, A>, AssembleFault>
+    ensures found { IfOk result (λ found. IsSource permanent.now.entries 1024 (map act_in deeds.now) found.symbols.own.entries found.image) }
+    ensures refused { IfErr result (RefusesActs permanent.now.entries deeds.now) }
+{
+    let Ok(acts) = acts_of(alloc, deeds) else {
+        return Err(AssembleFault::NoMemory);
+    };
+    match pal_acts::assemble(alloc, permanent, &acts) {
+        Ok(found) => Ok(found),
+        Err(Refused::Fault(at, code)) => {
+            let place = deeds.get(at).place;
+            Err(AssembleFault::Source(PalFault {
+                code,
+                part: place.part,
+                line: place.line,
+            }))
+        }
+        Err(Refused::NoMemory) => Err(AssembleFault::NoMemory),
+    }
+}
+
+/// What a source means: its image and its own symbols, and what its listing is made of.
+#[derive(Drop)]
+pub struct Translation<'s, A: Allocator + Copy> {
+    pub(crate) profile: Profile,
+    pub(crate) image: Image,
+    pub(crate) own: SymbolTable<A>,
+    pub(crate) deeds: Deeds<A>,
+    pub(crate) fronts: Vec<Front<'s>, A>,
+}
+
+impl<'s, A: Allocator + Copy> Translation<'s, A> {
+    /// The words of the program, each at its address.
+    pub fn image(&self) -> &Image
+        ensures { result.now ≡ image_in self.now }
+    {
+        &self.image
+    }
+
+    /// The symbols that the source defines with their values, in the order of their definition.
+    pub fn symbols(&self) -> &SymbolTable<A>
+        ensures { result.now.entries ≡ symbols_in self.now }
+    {
+        &self.own
+    }
+}
+
+/// A translation, by what was assembled and read.
+fn translation_of<'s, A: Allocator + Copy>(
+    profile: Profile,
+    found: Assembled<'_, A>,
+    reading: Reading<'s, A>,
+) -> Translation<'s, A>
+    ensures image { image_in result ≡ found.entry.image }
+    ensures symbols { symbols_in result ≡ found.entry.symbols.own.entries }
+    ensures listing { text_of result ≡ turns_text (lines_of_fronts reading.entry.fronts.items) (all_words (known (permanent_symbols profile) (symbols_in result)) reading.entry.deeds) ++ codes "\n" ++ symbols_text (symbols_in result) }
+{
+    let Assembled { symbols, image } = found;
+    let Symbols { own, .. } = symbols;
+    Translation {
+        profile,
+        image,
+        own,
+        deeds: reading.deeds,
+        fronts: reading.fronts,
+    }
+}
+
+/// What a source means whose parts aren't too many or too long, or its fault.
+fn translate_parts<'s, A: Allocator + Copy>(
+    alloc: A,
+    parts: &[&'s [u8]],
+    profile: Profile,
+) -> Result<Translation<'s, A>, AssembleFault>
+    requires { size_fault (texts parts.now) ≡ None }
+    ensures meaning { IfOk result (λ translation. Means (permanent_symbols profile) (texts parts.now) (symbols_in translation) (image_in translation)) }
+    ensures listed { IfOk result (λ translation. Lists (permanent_symbols profile) (texts parts.now) (symbols_in translation) (text_of translation)) }
+    ensures refused { IfErr result (Refuses (permanent_symbols profile) (texts parts.now)) }
+{
+    let Ok(reading) = read_source(alloc, parts) else {
+        return Err(AssembleFault::NoMemory);
+    };
+    let Ok(permanent) = permanent_table(alloc, profile) else {
+        return Err(AssembleFault::NoMemory);
+    };
+    match assemble_deeds(alloc, &permanent, &reading.deeds) {
+        Ok(found) => Ok(translation_of(profile, found, reading)),
+        Err(fault) => Err(fault),
+    }
+}
+
+/// What a source means under the permanent symbols of a profile.
+pub(crate) fn translate_for<'s, A: Allocator + Copy>(
+    alloc: A,
+    parts: &[&'s [u8]],
+    profile: Profile,
+) -> Result<Translation<'s, A>, AssembleFault>
+    ensures meaning { IfOk result (λ translation. Means (permanent_symbols profile) (texts parts.now) (symbols_in translation) (image_in translation)) }
+    ensures listed { IfOk result (λ translation. Lists (permanent_symbols profile) (texts parts.now) (symbols_in translation) (text_of translation)) }
+    ensures refused { IfErr result (Refuses (permanent_symbols profile) (texts parts.now)) }
+    ensures sized { (fault : Faulty) → size_fault (texts parts.now) ≡ Some fault → result ≡ Err (AssembleFault.Source fault) }
+{
+    match fault_of_sizes(parts) {
+        Some(fault) => Err(AssembleFault::Source(fault)),
+        None => translate_parts(alloc, parts, profile),
+    }
+}
+
+/// Tells what a source means: its parts one after another, up to `$` or the end of the last one. The
+/// listing is not made, so this costs less than [`assemble`](crate::assemble).
+///
+/// # Errors
+///
+/// `Source` with the one fault of the source, at its part and its line. That there are no parts or
+/// more than 16, or that a part has more than 65,536 bytes, is told before anything else.
+/// `NoMemory` where memory was refused.
+pub fn translate<'s, A: Allocator + Copy>(
+    alloc: A,
+    parts: &[&'s [u8]],
+    profile: Profile,
+) -> Result<Translation<'s, A>, AssembleFault>
+    ensures meaning { IfOk result (λ translation. Means (permanent_symbols profile) (texts parts.now) (symbols_in translation) (image_in translation)) }
+    ensures refused { IfErr result (Refuses (permanent_symbols profile) (texts parts.now)) }
+    // A source that has a meaning is answered by no fault.
+    ensures meant { (own : List (Named × ℕ)) (image : List (Option ℕ)) → Means (permanent_symbols profile) (texts parts.now) own image →
+        MatchResult result (λ translation. (symbols_in translation ≡ own) × (image_in translation ≡ image)) IsSilent }
+    // A source that has a fault is answered by no other, and by no meaning.
+    ensures faulty { (fault : Faulty) → IsFault (permanent_symbols profile) (texts parts.now) fault → MatchResult result (λ translation. ⊥) (TellsOnly fault) }
+    // What is wrong with the sizes is told without memory.
+    ensures sized { (fault : Faulty) → size_fault (texts parts.now) ≡ Some fault → result ≡ Err (AssembleFault.Source fault) }
+{
+    translate_for(alloc, parts, profile)
+}

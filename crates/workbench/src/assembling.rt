@@ -4,7 +4,7 @@ ghost use Rattle.std.specs.Prelude.{◌≡◌, Err, false, true, length, map, If
 ghost use Rattle.std.specs.List.{AllByRecursion, list_any};
 ghost use Rattle.pal_acts.specs.Permanent.{permanent_symbols};
 ghost use Rattle.pal_asm.specs.Listings.{Lists};
-ghost use Rattle.pal_asm.specs.Programs.{symbols_of, image_of, listing_of};
+ghost use Rattle.pal_asm.specs.Programs.{symbols_of, image_of, listing_of, symbols_in, image_in};
 ghost use Rattle.pal_acts.specs.declared.code.Code.TheVariants.{TooLong};
 ghost use Rattle.pal_asm.specs.Sources.{fault_at, texts, Means};
 ghost use Rattle.workbench.specs.AssembleText.{IsAssemblyFault, IsSourceFault, WritesTape, FrontOfTape, IsListFault, WritesListing, FrontOfListing};
@@ -17,15 +17,31 @@ use crate::sources::{lend, read_parts};
 use crate::status::{DeviceFault, Fault, Status};
 use bin_tape::{ByteSink, ByteSource, WriteTapeFault, write_tape};
 use instruct::Profile;
-use pal_asm::{AssembleFault, ListFault, Program};
+use pal_asm::{AssembleFault, Program, Translation, WriteFault};
 use std::alloc::Allocator;
 
-/// Assembles the parts of a source.
-fn program_of<'s, A: Allocator + Copy>(
+/// What the parts of a source mean.
+fn translation_of<'s, A: Allocator + Copy>(
     alloc: A,
     parts: &[&'s [u8]],
     profile: Profile,
-) -> Result<Program<'s, A>, Fault>
+) -> Result<Translation<'s, A>, Fault>
+    ensures found { IfOk result (λ translation. Means (permanent_symbols profile) (texts parts.now) (symbols_in translation) (image_in translation)) }
+    ensures faults { IfErr result (IsAssemblyFault profile (texts parts.now)) }
+{
+    match pal_asm::translate(alloc, parts, profile) {
+        Ok(translation) => Ok(translation),
+        Err(AssembleFault::Source(fault)) => Err(Fault::Source(fault)),
+        Err(AssembleFault::NoMemory) => Err(Fault::NoMemory),
+    }
+}
+
+/// Assembles the parts of a source, with its listing.
+fn program_of<A: Allocator + Copy>(
+    alloc: A,
+    parts: &[&[u8]],
+    profile: Profile,
+) -> Result<Program<A>, Fault>
     ensures found { IfOk result (λ program. Means (permanent_symbols profile) (texts parts.now) (symbols_of program) (image_of program)) }
     ensures listed { IfOk result (λ program. Lists (permanent_symbols profile) (texts parts.now) (symbols_of program) (listing_of program)) }
     ensures faults { IfErr result (IsAssemblyFault profile (texts parts.now)) }
@@ -71,8 +87,8 @@ pub fn assemble<A: Allocator + Copy, R: ByteSource, W: ByteSink>(
 {
     let parts = read_parts(alloc, sources)?;
     let slices = lend(alloc, &parts)?;
-    let program = program_of(alloc, &slices, profile)?;
-    match write_tape(program.image(), out) {
+    let translation = translation_of(alloc, &slices, profile)?;
+    match write_tape(translation.image(), out) {
         Ok(()) => Ok(Status::Done),
         Err(WriteTapeFault::EmptyImage) => Err(Fault::EmptyImage),
         Err(WriteTapeFault::WriteFault) => Err(Fault::Device(DeviceFault::Write)),
@@ -104,9 +120,8 @@ pub fn list<A: Allocator + Copy, R: ByteSource, W: ByteSink>(
     let parts = read_parts(alloc, sources)?;
     let slices = lend(alloc, &parts)?;
     let program = program_of(alloc, &slices, profile)?;
-    match program.write_listing(alloc, out) {
+    match program.write_listing(out) {
         Ok(()) => Ok(Status::Done),
-        Err(ListFault::NoMemory) => Err(Fault::NoMemory),
-        Err(ListFault::WriteFault) => Err(Fault::Device(DeviceFault::Write)),
+        Err(WriteFault) => Err(Fault::Device(DeviceFault::Write)),
     }
 }

@@ -34,7 +34,8 @@ pub struct Part<'s, A: Allocator + Copy> {
 }
 
 impl<'s, A: Allocator + Copy> Part<'s, A> {
-    /// The bytes of a token, as a slice of the source.
+    /// The bytes of a token, as a slice of the source. The token must stand within the part's
+    /// bytes, as each of the part's own does.
     pub fn bytes(&self, token: Token) -> &'s [u8]
         requires { IsWithin (length self.now.source.now) token }
         ensures { result.now ≡ bytes_of self.now.source.now token }
@@ -42,7 +43,8 @@ impl<'s, A: Allocator + Copy> Part<'s, A> {
         &self.source[token.start..token.end]
     }
 
-    /// The tokens of a statement: each of its tags and a comma, and then what it does.
+    /// The tokens of a statement: each of its tags and a comma, and then what it does. The
+    /// statement must stand within the part's tokens, as each of the part's own does.
     pub fn tokens_of(&self, statement: Statement) -> &[Token]
         requires { IsPlaced self.now.tokens.items statement }
         ensures { result.now ≡ slice_range self.now.tokens.items statement.first statement.last }
@@ -50,7 +52,8 @@ impl<'s, A: Allocator + Copy> Part<'s, A> {
         &self.tokens[statement.first..statement.last]
     }
 
-    /// The lines of the part up to where it ends.
+    /// The lines of the part up to where it ends. That must be within its bytes, as it is in a part
+    /// that was read.
     ///
     /// # Errors
     ///
@@ -63,7 +66,8 @@ impl<'s, A: Allocator + Copy> Part<'s, A> {
         lines_of(alloc, &self.source[..self.stop])
     }
 
-    /// The bytes of a line, as a slice of the source.
+    /// The bytes of a line, as a slice of the source. The line must stand within the part's bytes,
+    /// as each of the part's own does.
     pub fn line_bytes(&self, line: Line) -> &'s [u8]
         requires { IsLineWithin (length self.now.source.now) line }
         ensures { result.now ≡ slice_range self.now.source.now line.start line.end }
@@ -125,7 +129,8 @@ fn read_part<'s, A: Allocator + Copy>(alloc: A, source: &'s [u8]) -> Result<Part
     })
 }
 
-/// Reads a part of a source: its statements up to `$`, PAUSE or its last byte.
+/// Reads a part of a source: its statements up to `$`, PAUSE or its last byte. Where each of them
+/// ends and what it may be, a `Reader` says.
 ///
 /// # Errors
 ///

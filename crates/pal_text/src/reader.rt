@@ -1,6 +1,6 @@
 //! The statements of a part, read one after another.
 
-ghost use Rattle.std.specs.Prelude.{◌≡◌, ◌≤◌, ◌+◌, length, IfOk, OnOk, IfErr, []};
+ghost use Rattle.std.specs.Prelude.{◌≡◌, ◌≤◌, ◌+◌, length, Ok, None, IfOk, OnOk, IfErr, []};
 ghost use Rattle.std.specs.List.{AllByRecursion};
 ghost use Rattle.pal_text.specs.Names.{IsWithin};
 ghost use Rattle.pal_text.specs.Tokens.{tokens};
@@ -76,8 +76,10 @@ fn read_statement<A: Allocator>(
     Ok(Step { found, next })
 }
 
-/// A reader of the statements of a part, one after another. It holds the tokens of one statement
-/// at a time, and goes over the bytes once.
+/// A reader of the statements of a part, one after another. A statement goes up to `;`, `$`, the
+/// end of a line or of the part; from `/` up to the end of the line stands a comment. It is tags,
+/// each a name and a comma, and then what a `Form` names. The reader holds the tokens of one
+/// statement at a time, and goes over the bytes once.
 #[derive(Drop)]
 pub struct Reader<'s, A: Allocator + Copy> {
     source: &'s [u8],
@@ -101,7 +103,7 @@ impl<'s, A: Allocator + Copy> Model for Reader<'s, A> {
 }
 
 impl<'s, A: Allocator + Copy> Reader<'s, A> {
-    /// A reader at the front of a part.
+    /// A reader at the front of a part, which must have at most 65,536 bytes.
     pub fn new(alloc: A, source: &'s [u8]) -> Self
         requires { length source.now ≤ 65536 }
         ensures source { result.source ≡ source.now }
@@ -120,15 +122,16 @@ impl<'s, A: Allocator + Copy> Reader<'s, A> {
         }
     }
 
-    /// The tokens of the statement that was read last, without the one that ends it.
+    /// The tokens of the statement that was read last, without the one that ends it. There are
+    /// none before the first read, after a fault, and where there was no statement left.
     pub fn tokens(&self) -> &[Token]
         ensures { result.now ≡ self.now.own }
     {
         &self.tokens
     }
 
-    /// Reads the next statement, and none after the last one. It goes on where a part ends by a
-    /// statement: that is the caller's to see.
+    /// Reads the next statement, and none after the last one, however often it is asked. It goes
+    /// on where a part ends by a statement: that is the caller's to see.
     ///
     /// # Errors
     ///
@@ -137,17 +140,26 @@ impl<'s, A: Allocator + Copy> Reader<'s, A> {
     pub fn read_next(&mut self) -> Result<Option<Found>, TextFault>
         ensures source { self.new.source ≡ self.old.source }
         ensures found { IfOk result (λ found. Finds self.old.source self.old.count found self.new.own self.new.count) }
+        ensures ended { result ≡ Ok None → (self.new.count ≡ self.old.count) × (self.new.own ≡ []) }
         ensures within { OnOk result (AllByRecursion (IsWithin (length self.old.source)) self.new.own) }
         ensures fault { IfErr result (BreaksNext self.old.source self.old.count) }
         ensures stays { IfErr result (λ _. self.new.count ≡ self.old.count) }
+        ensures cleared { IfErr result (λ _. self.new.own ≡ []) }
     {
         self.tokens.clear();
         let Some(place) = self.place else {
             return Ok(None);
         };
-        let step = read_statement(self.source, &place, self.count, &mut self.tokens)?;
-        self.place = step.next;
-        self.count = step.found.statement.last + 1;
-        Ok(Some(step.found))
+        match read_statement(self.source, &place, self.count, &mut self.tokens) {
+            Ok(step) => {
+                self.place = step.next;
+                self.count = step.found.statement.last + 1;
+                Ok(Some(step.found))
+            }
+            Err(fault) => {
+                self.tokens.clear();
+                Err(fault)
+            }
+        }
     }
 }

@@ -12,7 +12,7 @@ use workbench::exit_status;
 /// What standard input gives: a source with HLT at 0200.
 static INPUT: &[u8] = b"*200\nHLT\n$\n";
 
-/// The tape of that source.
+/// A tape with the word of that source, with a shorter leader and trailer.
 static HALT: &[u8] = b"\x80\x80\x80\x80\x42\x00\x3c\x02\x02\x00\x80\x80\x80\x80";
 
 /// What the file of this name has, if there is one. A read of `failing` fails.

@@ -1,6 +1,7 @@
 //! The whole program: its words, the files that it opens, and its statuses.
 
 use crate::desk::run_program;
+use crate::sources::halt_tape;
 use std::alloc::Global;
 use std::test::Fail;
 use workbench::status::Status;
@@ -201,7 +202,7 @@ fn the_first_input_with_a_fault_is_told(rt: HostRuntime) -> Result<(), Fail> {
 fn the_tape_goes_where_it_is_asked_for(rt: HostRuntime) -> Result<(), Fail> {
     let to_file = run_program(rt.alloc(), "pdp8 assemble o.bin halt.pal");
     assert_eq!(rt; to_file.status, Status::Done.code());
-    assert_eq!(rt; to_file.written.len(), 38);
+    assert_eq!(rt; to_file.written.as_slice(), halt_tape().as_slice());
     assert!(rt; to_file.printed.is_empty());
     let to_output = run_program(rt.alloc(), "pdp8 assemble - -");
     assert_eq!(rt; to_output.status, Status::Done.code());

@@ -21,7 +21,7 @@ use workbench::watching::watch;
 static HALT: &[u8] = b"*200\nHLT\n$\n";
 
 /// The tape of that source: the leader, 102 000 074 002 002 000, and the trailer.
-fn halt_tape() -> [u8; 38] {
+pub(crate) fn halt_tape() -> [u8; 38] {
     let mut frames = [0o200; 38];
     frames[16..22].copy_from_slice(&[0o102, 0o000, 0o074, 0o002, 0o002, 0o000]);
     frames
@@ -245,24 +245,51 @@ fn of_two_faults_the_first_is_told(rt: HostRuntime) -> Result<(), Fail> {
     Ok(())
 }
 
-#[test]
-fn each_growth_of_a_part_is_refused_in_turn(rt: HostRuntime) -> Result<(), Fail> {
+/// The answer to a part where the allocation of this number is refused, and whether one was.
+fn part_refused_at<A: Allocator + Copy>(
+    alloc: A,
+    count: u64,
+    source: &[u8],
+) -> (Option<TextFault>, bool) {
+    let heap = Refusing::new(alloc, count);
+    let answer = statements(&heap, source).err();
+    let refused = heap.has_refused();
+    (answer, refused)
+}
+
+/// Whether a part is answered so where nothing is refused, and by NoMemory at each growth that is
+/// refused in turn.
+fn part_answers_in_turn<A: Allocator + Copy>(
+    alloc: A,
+    source: &[u8],
+    expected: Option<TextFault>,
+) -> bool {
     for count in 0..200u64 {
-        let heap = Refusing::new(rt.alloc(), count);
-        match statements(&heap, HELLO) {
-            Ok(part) => {
-                assert!(rt; !heap.has_refused());
-                assert_eq!(rt; part.statements.len(), 29);
-                assert!(rt; count > 2, "{count}");
-                return Ok(());
-            }
-            Err(fault) => {
-                assert_eq!(rt; fault, TextFault::NoMemory);
-                assert!(rt; heap.has_refused());
-            }
+        let (answer, refused) = part_refused_at(alloc, count, source);
+        if !refused {
+            return answer == expected && count > 0;
+        }
+        if answer != Some(TextFault::NoMemory) {
+            return false;
         }
     }
-    panic!(rt; "it never ended")
+    false
+}
+
+#[test]
+fn each_growth_of_a_part_is_refused_in_turn(rt: HostRuntime) {
+    let rows: [(&[u8], Option<TextFault>); 7] = [
+        (b"*10;TAD 20;$", None),
+        (b"DECIMAL;-10;OCTAL;10;300 5;1 2+1;$", None),
+        (b"A=5\nPAUSE\n", None),
+        (b"TA\xffD", None),
+        (HELLO, None),
+        (b"?", Some(TextFault::Illegal(1))),
+        (b"X,1\nX,2\nA=1;A=2\n8 ?\n", Some(TextFault::Illegal(4))),
+    ];
+    for (source, expected) in rows {
+        assert!(rt; part_answers_in_turn(rt.alloc(), source, expected));
+    }
 }
 
 #[test]

@@ -73,7 +73,7 @@ impl Operation {
     pub fn of(word: Word) -> Operation
         ensures code { result ≡ operation_of word }
         // With the indirect bit and the named cell it is the meaning of the word.
-        ensures meaning { (profile : Profile) → (at : ℕ) → instruction_of profile word ≡ Memory
+        ensures meaning { (profile : Profile) → (at : ℕ) → kind_of (meaning_of profile at word) ≡ Memory
             → meaning_of profile at word ≡ reference result (is_indirect word) (named_cell word at) }
     {
         match operation_code(word) {

@@ -1,7 +1,7 @@
 //! The device words: those of the teletype, of the high-speed reader and punch, and IOF.
 
-ghost use Rattle.std.specs.Prelude.{◌≡◌, ◌≤◌, length};
-ghost use Rattle.instruct.specs.Devices.{device_operation};
+ghost use Rattle.std.specs.Prelude.{◌≡◌, ◌≤◌, length, IfSome};
+ghost use Rattle.instruct.specs.Devices.{device_operation, word_of};
 ghost use Rattle.instruct.specs.Names.{device_name};
 
 use crate::Profile;
@@ -54,7 +54,8 @@ impl DeviceOperation {
     /// What a word does as a device word on a machine of a profile, or none where it isn't one.
     #[tactic(auto, unfolding(crate::specs::Devices::device_operation))]
     pub fn of(word: Word, profile: Profile) -> Option<DeviceOperation>
-        ensures { result ≡ device_operation profile word }
+        ensures exact { result ≡ device_operation profile word }
+        ensures word { IfSome result (λ operation. word ≡ word_of operation) }
     {
         match word.value() {
             0o6002 => Some(DeviceOperation::DisableInterrupts),

@@ -5,6 +5,7 @@ use Rattle.instruct.specs.declared.Profile.{Profile}
 use Rattle.instruct.specs.declared.Instruction.TheVariants.{Memory, Operate1, Operate2, Operate3, Iot, Unsupported}
 use Rattle.instruct.specs.declared.Instruction.{Instruction}
 use Rattle.instruct.specs.Instructions.{Leaves, Meaning, Undefined, And, Tad, Isz, Dca, Jms, Jmp, Group1, Group2, Group3, Device, meaning_of, kind_of, DeviceAction, device_action, device_meaning}
+use Rattle.instruct.specs.Devices.{device_operation}
 use Rattle.processor.specs.Machine.{State, Answer, Step, Does, instruction}
 use Rattle.processor.specs.Steps.{answer_taken, halts_after, BusAfter}
 use Rattle.peripherals.specs.declared.devices.Panel.{Panel}
@@ -91,7 +92,7 @@ differs p at word k meaning is = elim (eqb_tells word k) [
 ]
 
 leaves : (p : Profile) (at : ℕ) → (meaning_of p at 0o6044 ≡ Device Leaves) × (meaning_of p at 0o6046 ≡ Device Leaves) × (meaning_of p at 0o6024 ≡ Device Leaves) × (meaning_of p at 0o6026 ≡ Device Leaves)
-unfolding meaning_of
+unfolding meaning_of device_operation
 leaves p at = (refl, refl, refl, refl)
 
 undefined_prints : (p : Profile) (at word : ℕ) → meaning_of p at word ≡ Undefined → prints word ≡ false

@@ -123,6 +123,10 @@ reference operation.Dca indirect named = Dca indirect named
 reference operation.Jms indirect named = Jms indirect named
 reference operation.Jmp indirect named = Jmp indirect named
 
+-- The meaning of the memory reference by this operation that a word at an address is.
+abbrev pub reference_at : Operation → ℕ → ℕ → Meaning
+reference_at operation word at = reference operation (is_indirect word) (named_cell word at)
+
 -- The kind of a meaning, as the code names it.
 abbrev pub kind_of : Meaning → Instruction
 kind_of (And _ _) = Memory

@@ -14,7 +14,7 @@ ghost use Rattle.std.specs.Prelude.{ℕ, ◌≡◌, ◌/◌};
 ghost use Rattle.instruct.specs.declared.Profile.{Profile};
 ghost use Rattle.instruct.specs.declared.Instruction.TheVariants.{Memory};
 ghost use Rattle.instruct.specs.Bits.{named_cell, is_indirect};
-ghost use Rattle.instruct.specs.Instructions.{instruction_of, kind_of, meaning_of, operation_of, reference, device_action, device_meaning, operate_meaning, group3_meaning, is_group1};
+ghost use Rattle.instruct.specs.Instructions.{instruction_of, kind_of, meaning_of, operation_of, reference_at, device_action, device_meaning, operate_meaning, group3_meaning, is_group1};
 
 use crate::bits::{Group1, Group2, Reference};
 use bitflags::Flags;
@@ -67,14 +67,16 @@ pub enum Operation {
 }
 
 impl Operation {
-    /// The operation of a memory reference. Words from 6000 on, which refer to no memory, count as JMP.
+    /// The operation of a memory reference. Words from 6000 on, which refer to no memory, count as
+    /// JMP.
     #[inline(always)]
     #[tactic(auto, using(crate::proofs::KindLemmas::reference_meaning))]
     pub fn of(word: Word) -> Operation
         ensures code { result ≡ operation_of word }
         // With the indirect bit and the named cell it is the meaning of the word.
-        ensures meaning { (profile : Profile) → (at : ℕ) → kind_of (meaning_of profile at word) ≡ Memory
-            → meaning_of profile at word ≡ reference result (is_indirect word) (named_cell word at) }
+        ensures meaning { (profile : Profile) → (at : ℕ) →
+            kind_of (meaning_of profile at word) ≡ Memory →
+            meaning_of profile at word ≡ reference_at result word at }
     {
         match operation_code(word) {
             0 => Operation::And,

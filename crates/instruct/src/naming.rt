@@ -7,7 +7,7 @@ ghost use Rattle.instruct.specs.declared.Profile.TheVariants.{Pdp8E};
 ghost use Rattle.instruct.specs.declared.Instruction.TheVariants.{Operate3, Iot};
 ghost use Rattle.instruct.specs.Devices.{device_operation};
 ghost use Rattle.instruct.specs.Instructions.{instruction_of};
-ghost use Rattle.instruct.specs.Names.{name_of, mnemonic, memory_name, named_if, spaced, rotate_names, group1_names, test_names, group2_names, group3_name, device_name_if, IsSpaced};
+ghost use Rattle.instruct.specs.Names.{name_of, mnemonic, memory_name, named_if, spaced, rotate_names, group1_names, test_names, group2_names, group3_name, device_name_if, IsSpaced, Adds};
 
 use crate::bits::{Group1, Group2, Reference};
 use crate::{DeviceOperation, Instruction, Operation, Profile, decode, refers_indirectly};
@@ -92,7 +92,7 @@ fn name_page(word: Word) -> &'static str
 fn push_name(text: &mut ArrayString<32>, name: &str)
     requires room { length text.old.bytes ≤ 28 }
     requires three { length name.now ≡ 3 }
-    ensures names { (names : List (List ℕ)) → IsSpaced names text.old.bytes → IsSpaced (names ++ name.now ∷ []) text.new.bytes }
+    ensures names { Adds (name.now ∷ []) text.old.bytes text.new.bytes }
     ensures length { length text.new.bytes ≤ length text.old.bytes + 4 }
 {
     if text.is_empty() {
@@ -107,7 +107,7 @@ fn push_name(text: &mut ArrayString<32>, name: &str)
 fn push_if(text: &mut ArrayString<32>, applies: bool, name: &str)
     requires room { length text.old.bytes ≤ 28 }
     requires three { length name.now ≡ 3 }
-    ensures names { (names : List (List ℕ)) → IsSpaced names text.old.bytes → IsSpaced (names ++ named_if applies name.now) text.new.bytes }
+    ensures names { Adds (named_if applies name.now) text.old.bytes text.new.bytes }
     ensures length { length text.new.bytes ≤ length text.old.bytes + 4 }
 {
     if applies {
@@ -144,7 +144,7 @@ fn name_rotate(bits: Group1) -> Option<&'static str>
 
 fn push_rotate(text: &mut ArrayString<32>, bits: Group1)
     requires room { length text.old.bytes ≤ 28 }
-    ensures names { (names : List (List ℕ)) → IsSpaced names text.old.bytes → IsSpaced (names ++ rotate_names bits.0) text.new.bytes }
+    ensures names { Adds (rotate_names bits.0) text.old.bytes text.new.bytes }
     ensures length { length text.new.bytes ≤ length text.old.bytes + 4 }
 {
     if let Some(rotate) = name_rotate(bits) {

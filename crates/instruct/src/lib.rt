@@ -17,6 +17,7 @@ ghost use Rattle.instruct.specs.Bits.{named_cell, is_indirect};
 ghost use Rattle.instruct.specs.Instructions.{instruction_of, kind_of, meaning_of, operation_of, reference_at, device_action, device_meaning, operate_meaning, group3_meaning, is_group1};
 
 use crate::bits::{Group1, Group2, Reference};
+use crate::operate::MqOperation;
 use bitflags::Flags;
 pub use devices::DeviceOperation;
 pub use naming::name;
@@ -99,7 +100,7 @@ pub fn decode(word: Word, profile: Profile) -> Instruction
     match operation_code(word) {
         0..=5 => Instruction::Memory,
         6 => decode_device(word, profile),
-        _ => decode_operate(word.value(), profile),
+        _ => decode_operate(word, profile),
     }
 }
 
@@ -121,12 +122,12 @@ fn decode_device(word: Word, profile: Profile) -> Instruction
 }
 
 #[tactic(auto, using(crate::proofs::Tests::bit_tests))]
-fn decode_operate(number: u16, profile: Profile) -> Instruction
-    ensures { result ≡ kind_of (operate_meaning profile number) }
+fn decode_operate(word: Word, profile: Profile) -> Instruction
+    ensures { result ≡ kind_of (operate_meaning profile word) }
 {
-    let bits = Group2(number);
+    let bits = Group2(word.value());
     if !bits.contains(Group2::NOT_GROUP1) {
-        if is_group_1(Group1(number), profile) {
+        if is_group_1(Group1(word.value()), profile) {
             Instruction::Operate1
         } else {
             Instruction::Unsupported
@@ -134,21 +135,19 @@ fn decode_operate(number: u16, profile: Profile) -> Instruction
     } else if !bits.contains(Group2::GROUP3) {
         Instruction::Operate2
     } else {
-        decode_group3(number, profile)
+        decode_group3(word, profile)
     }
 }
 
-fn decode_group3(number: u16, profile: Profile) -> Instruction
-    ensures { result ≡ kind_of (group3_meaning profile number) }
+fn decode_group3(word: Word, profile: Profile) -> Instruction
+    ensures { result ≡ kind_of (group3_meaning profile word) }
 {
     match profile {
         Profile::Pdp8I => Instruction::Unsupported,
-        Profile::Pdp8E => {
-            match number {
-                0o7421 | 0o7501 | 0o7521 | 0o7621 | 0o7701 | 0o7721 => Instruction::Operate3,
-                _ => Instruction::Unsupported,
-            }
-        }
+        Profile::Pdp8E => match MqOperation::of(word) {
+            Some(_) => Instruction::Operate3,
+            None => Instruction::Unsupported,
+        },
     }
 }
 

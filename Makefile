@@ -7,8 +7,9 @@ PREFIX ?= /usr/local
 run:
 	cd crates/pdp8 && rt run < stdin
 
-# The gate: every proof from nothing, the edits that must fail, every test and the program.
+# The gate: the list of definitions, every proof from nothing, the edits that must fail, every test and the program.
 test:
+	python3 tests/definitions.py
 	rt ci
 
 # Puts pdp8 into $(PREFIX)/bin.

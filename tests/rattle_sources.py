@@ -323,7 +323,7 @@ class Definition:
 
 
 class Module:
-    """A file of specs/: where it stands, its first comment, what it takes from others and its definitions."""
+    """A file of specs/: its name below specs/, its first comment, what it takes from others and its definitions."""
 
     def __init__(self, name, file):
         self.name = name
@@ -334,31 +334,40 @@ class Module:
         comment, now = [], None
         for line in lines:
             if line.startswith("use "):
-                said = line[len("use ") :].replace("pub use ", "").replace(".{", "::{").replace(".", "::")
-                self.imports += used_names(said)
-            begins = re.match(r"(?:(?:abbrev|unfoldable|opaque) pub|pub (?:record|data)|pub) (?!mod |use )([^\s:({]+)", line)
-            if line.startswith("--"):
-                comment.append(line[2:].strip())
-            elif begins:
-                now = Definition(name, begins[1], "", " ".join(comment), set())
-                self.definitions[now.name] = now
-            if not line.startswith("--") and line.strip():
+                self.imports += used_names(line[len("use ") :].replace(".", "::"))
+            begins = re.match(r" *(?:(?:abbrev|unfoldable|opaque) pub|pub (?:record|data)) ([^\s:({]+)", line)
+            is_comment = line.lstrip().startswith("--")
+            if is_comment:
+                comment.append(line.strip()[2:].strip())
+            elif line.strip():
+                if begins:
+                    now = Definition(name, begins[1], "", " ".join(comment), set())
+                    self.definitions[now.name] = now
                 comment = []
-            if now and not line.startswith(("--", "use ")):
+            if now and not is_comment and not line.startswith("use "):
                 now.text += re.sub(r"--.*", "", line) + "\n"
         for it in self.definitions.values():
-            if re.search(r"^pub (record|data)", it.text):
-                it.parts = set(re.findall(r"^\s+(?:pub )?([^\s:(]+)\s*:", it.text, re.M))
+            if re.match(r" *pub (record|data)", it.text):
+                it.parts = {*re.findall(r"^\s+(?:pub )?([^\s:(]+)\s*:", it.text, re.M)}
+
+    @property
+    def is_private(self):
+        """Whether it serves private contracts alone: it stands in specs/inside/, or its first comment says so."""
+        return self.name.startswith("inside.") or "private contracts" in self.first
 
 
 def modules_of(folder):
-    """The modules of a crate's specs/ by name, without those in specs/inside/ and those that serve private contracts."""
+    """The modules of a crate's specs/ by name, as Words or inside.Steps, in the order in which Lib.antt names them."""
     found = {}
-    for at, folders, files in os.walk(f"{folder}/specs"):
+    for at, _, files in os.walk(f"{folder}/specs"):
         inside = os.path.relpath(at, f"{folder}/specs")
-        for file in sorted(files):
+        for file in files:
             name = file.removesuffix(".antt")
             if file.endswith(".antt") and name != "Lib":
                 path = name if inside == "." else f"{inside}/{name}".replace("/", ".")
                 found[path] = Module(path, f"{at}/{file}")
-    return found
+    order = []
+    if os.path.isfile(f"{folder}/specs/Lib.antt"):
+        with open(f"{folder}/specs/Lib.antt", encoding="utf-8") as it:
+            order = re.findall(r"^(?:pub )?mod (\S+)", it.read(), re.M)
+    return dict(sorted(found.items(), key=lambda it: (it[0] not in order, order.index(it[0]) if it[0] in order else 0, it[0])))

@@ -1,0 +1,156 @@
+"""Compares docs/DEFINITIONS.md with the definitions of the crates' specs/.
+
+usage: tests/definitions.py [--root DIR]         names each difference; exit status 1 where there is one
+       tests/definitions.py --rows CRATE         the rows of a table for the definitions of a crate that aren't listed
+       tests/definitions.py --unreached          the names that are listed though no public contract reaches them
+
+A public definition that a public contract reaches must stand in the table of its crate, with its module. A public contract
+is the clauses of a public function, or what a public type or trait says by ghost items, but for invariants; it reaches the
+definitions that it names and those that they name. A module in specs/inside/, or one whose first comment says that it serves
+private contracts, must not be reached. Tables stand below headings `## CRATE: ..`, and their rows are `| NAMES | MODULE | ..`
+with each name between backquotes. Each name must be a definition of that module."""
+import os
+import re
+import sys
+
+from rattle_sources import crates_of, functions_of, modules_of
+
+PAGE = "docs/DEFINITIONS.md"
+# What these hold is no contract on a caller's side: how a value is kept.
+INSIDE = ("invariant", "inverse")
+
+
+class Definitions:
+    """The definitions of all crates, each by crate, module and name."""
+
+    def __init__(self, root):
+        self.folders = crates_of(root)
+        self.modules = {crate: modules_of(folder) for crate, folder in self.folders.items()}
+        self.owners = {
+            (crate, module.name, part): (crate, module.name, it.name)
+            for crate, modules in self.modules.items()
+            for module in modules.values()
+            for it in module.definitions.values()
+            for part in {it.name, *it.parts}
+        }
+        self.owners.update(
+            {
+                (crate, module.name, it.name): (crate, module.name, it.name)
+                for crate, modules in self.modules.items()
+                for module in modules.values()
+                for it in module.definitions.values()
+            }
+        )
+
+    def definition(self, key):
+        return self.modules[key[0]][key[1]].definitions[key[2]]
+
+    def named(self, text, imports, own=None):
+        """The definitions that a text names, where imports and the module itself say what names mean."""
+        here = {}
+        for name, path in imports:
+            if path[0] == "Rattle" and len(path) > 3 and path[2] == "specs":
+                here[name] = path[1], path[3:]
+        for said in re.findall(r"[\w']+(?:\.[\w']+)*", text):
+            first, *rest = said.split(".")
+            if first in here:
+                crate, path = here[first]
+                for whole in (path, (*path, *rest[:1])):
+                    key = crate, ".".join(whole[:-1]), whole[-1]
+                    if key in self.owners:
+                        yield self.owners[key]
+            elif own and (*own, first) in self.owners:
+                yield self.owners[(*own, first)]
+
+    def reached(self):
+        """Each definition that a public contract reaches, with a function whose contract does."""
+        found = {}
+        for crate, folder in self.folders.items():
+            for function in functions_of(crate, folder):
+                text = "\n".join(it[2] for it in function.clauses if it[1] not in INSIDE)
+                ahead = list(self.named(text, function.imports))
+                while ahead:
+                    key = ahead.pop()
+                    if key not in found:
+                        found[key] = f"{crate}::{function.name}"
+                        module = self.modules[key[0]][key[1]]
+                        ahead += self.named(self.definition(key).text, module.imports, key[:2])
+        return found
+
+
+def listed(page):
+    """The names of the page's tables: crate, module, name and line."""
+    crate = None
+    with open(page, encoding="utf-8") as file:
+        for number, line in enumerate(file, 1):
+            heading = re.match(r"## (?:([a-z0-9_]+): )?", line)
+            if heading:
+                crate = heading[1]
+            cells = [it.strip() for it in line.split("|")]
+            if crate and len(cells) == 5 and "`" in cells[1]:
+                for name in re.findall(r"`([^`]+)`", cells[1]):
+                    yield crate, cells[2], name, number
+
+
+def differences(definitions, names):
+    """What the page lacks, and what it names wrongly."""
+    for crate, module, name, number in names:
+        if crate not in definitions.modules:
+            yield f"{PAGE}:{number}: there is no crate {crate}"
+        elif module not in definitions.modules[crate]:
+            yield f"{PAGE}:{number}: {crate} has no module {module}, where {name} is said to stand"
+        elif name not in definitions.modules[crate][module].definitions:
+            others = [it.name for it in definitions.modules[crate].values() if name in it.definitions]
+            yield f"{PAGE}:{number}: {crate}, {module} has no definition {name}{'; it stands in ' + others[0] if others else ''}"
+    known = {it[:3] for it in names}
+    for key, by in sorted(definitions.reached().items()):
+        crate, module, name = key
+        if definitions.modules[crate][module].is_private:
+            yield f"{crate}, {module} serves private contracts, but {by} reaches {name}"
+        elif key not in known:
+            yield f"{PAGE} doesn't list {crate}, {module}: {name}, which {by} reaches"
+
+
+def as_meaning(comment):
+    """A comment as the page's tables write it: no capital at its front but of a name, and no full stop."""
+    front = comment[:1].lower() if re.match(r"[A-Z]([a-z]|\b)", comment) else comment[:1]
+    return (front + comment[1:]).removesuffix(".")
+
+
+def rows(definitions, names, crate):
+    """The rows of a crate's table for what isn't listed: definitions under one comment together."""
+    known = {it[:3] for it in names}
+    reached = definitions.reached()
+    for module in definitions.modules[crate].values():
+        row, comment = [], ""
+        for it in module.definitions.values():
+            if (crate, module.name, it.name) in reached and (crate, module.name, it.name) not in known:
+                if row and it.comment:
+                    yield f"| {', '.join(row)} | {module.name} | {comment} |"
+                    row = []
+                comment = as_meaning(it.comment) or comment
+                row.append(f"`{it.name}`")
+        if row:
+            yield f"| {', '.join(row)} | {module.name} | {comment} |"
+
+
+def main(words):
+    root = os.path.dirname(os.path.dirname(os.path.abspath(__file__)))
+    if words[:1] == ["--root"]:
+        root, words = words[1], words[2:]
+    definitions = Definitions(root)
+    names = list(listed(f"{root}/{PAGE}"))
+    if words[:1] == ["--rows"]:
+        print("\n".join(rows(definitions, names, words[1])))
+        return 0
+    if words == ["--unreached"]:
+        reached = definitions.reached()
+        print("\n".join(", ".join(it[:3]) for it in names if it[:3] not in reached))
+        return 0
+    found = [*differences(definitions, names)]
+    print("".join(f"{it}\n" for it in found) + f"definitions: {len(names)} listed, {len(found)} differences")
+    return 1 if found else 0
+
+
+if __name__ == "__main__":
+    sys.exit(main(sys.argv[1:]))

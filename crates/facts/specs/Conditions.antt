@@ -2,8 +2,9 @@
 use Rattle.std.specs.Prelude.{◌≡◌, ℕ, ◌<◌, ◌==◌, true, false, ◌&&◌, ◌||◌, ◌⊎◌, Some, None}
 use Rattle.instruct.specs.Instructions.{Meaning, And, Tad, Isz, Dca, Jms, Jmp}
 use Rattle.wordset.specs.Words.{Words, only}
-use Rattle.policy.specs.Declaration.{Routine}
-use Rattle.policy.specs.Rules.{pointer_of, IsListed}
+use Rattle.declaration.specs.Declaration.{Routine}
+use Rattle.declaration.specs.Declaration.{IsListed}
+use Rattle.policy.specs.Rules.{pointer_of}
 use Rattle.facts.specs.Facts.{Fact, Place}
 use Rattle.facts.specs.Outcomes.{targets}
 

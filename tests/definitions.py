@@ -3,6 +3,8 @@
 usage: tests/definitions.py [--root DIR]         names each difference; exit status 1 where there is one
        tests/definitions.py --rows CRATE         the rows of a table for the definitions of a crate that aren't listed
        tests/definitions.py --unreached          the names that are listed though no public contract reaches them
+       tests/definitions.py --compare BEFORE AFTER   the definitions that public contracts reach: which were lost or added
+                                                 from one folder to the other, and which read otherwise
 
 A public definition that a public contract reaches must stand in the table of its crate, with its module. A public contract
 is the clauses of a public function, or what a public type or trait says by ghost items, but for invariants; it reaches the
@@ -13,6 +15,7 @@ import os
 import re
 import sys
 
+from clauses import matched
 from rattle_sources import crates_of, functions_of, modules_of
 
 PAGE = "docs/DEFINITIONS.md"
@@ -134,7 +137,28 @@ def rows(definitions, names, crate):
             yield f"| {', '.join(row)} | {module.name} | {comment} |"
 
 
+def texts(root):
+    """The definitions that public contracts reach: crate, name, and the lines of each."""
+    definitions = Definitions(root)
+    for key in sorted(definitions.reached()):
+        lines = definitions.definition(key).text.split("\n")
+        yield key[0], key[2], [" ".join(it.split()) for it in lines if it.strip() and it.strip() != "--"]
+
+
+def compared(before, after):
+    """What changed in the definitions, one text for each."""
+    for old, new in matched(list(texts(before)), list(texts(after))):
+        if new is None or old is None:
+            yield f"{'LOST' if new is None else 'added'} {'::'.join((old or new)[:2])}"
+        elif old[2] != new[2]:
+            gone, come = [[f"    {mark} {it}" for it in one[2] if it not in other[2]] for mark, one, other in (("-", old, new), ("+", new, old))]
+            yield "\n".join([f"CHANGED {new[0]}::{new[1]}", *gone, *come])
+
+
 def main(words):
+    if words[:1] == ["--compare"] and len(words) == 3:
+        print("\n".join(sorted(compared(*words[1:]))))
+        return 0
     root = os.path.dirname(os.path.dirname(os.path.abspath(__file__)))
     if words[:1] == ["--root"]:
         root, words = words[1], words[2:]

@@ -9,7 +9,7 @@ usage: tests/definitions.py [--root DIR]         names each difference; exit sta
 A public definition that a public contract reaches must stand in the table of its crate, with its module. A public contract
 is the clauses of a public function, or what a public type or trait says by ghost items, but for invariants; it reaches the
 definitions that it names and those that they name. A module in specs/inside/, or one whose first comment says that it serves
-private contracts, must not be reached. Tables stand below headings `## CRATE: ..`, and their rows are `| NAMES | MODULE | ..`
+private contracts, must not be reached. A definition stands below those that it uses. Tables stand below headings `## CRATE: ..`, and their rows are `| NAMES | MODULE | ..`
 with each name between backquotes. Each name must be a definition of that module."""
 import os
 import re
@@ -48,14 +48,16 @@ class Definitions:
     def definition(self, key):
         return self.modules[key[0]][key[1]].definitions[key[2]]
 
-    def named(self, text, imports, own=None):
-        """The definitions that a text names, where imports and the module itself say what names mean."""
+    def named(self, text, imports, own=None, bound=()):
+        """The definitions that a text names, where imports and the module itself say what names mean, but for bound names."""
         here = {}
         for name, path in imports:
             if path[0] == "Rattle" and len(path) > 3 and path[2] == "specs":
                 here[name] = path[1], path[3:]
         for said in re.findall(r"[\w']+(?:\.[\w']+)*", text):
             first, *rest = said.split(".")
+            if first in bound:
+                continue
             if first in here:
                 crate, path = here[first]
                 for whole in (path, (*path, *rest[:1])):
@@ -65,20 +67,36 @@ class Definitions:
             elif own and (*own, first) in self.owners:
                 yield self.owners[(*own, first)]
 
+    def used(self, key):
+        """The definitions that a definition names, one equation or field after another; fields are bound in those below."""
+        module, text, above = self.modules[key[0]][key[1]], self.definition(key).text, set()
+        for part in re.split(rf"\n(?= *{re.escape(key[2])}\b|\s+pub [\w']+ :)", text):
+            yield from self.named(part, module.imports, key[:2], above | bound_in(part, key[2]))
+            if re.match(r" *pub record", text):
+                above |= bound_in(part) | {*re.findall(r"^\s+pub ([\w']+) :", part)}
+
     def reached(self):
         """Each definition that a public contract reaches, with a function whose contract does."""
         found = {}
         for crate, folder in self.folders.items():
             for function in functions_of(crate, folder):
-                text = "\n".join(it[2] for it in function.clauses if it[1] not in INSIDE)
-                ahead = list(self.named(text, function.imports))
+                parameters = set(re.findall(r"(\w+):", function.head))
+                texts = [it[2] for it in function.clauses if it[1] not in INSIDE]
+                ahead = [it for text in texts for it in self.named(text, function.imports, None, parameters | bound_in(text))]
                 while ahead:
                     key = ahead.pop()
                     if key not in found:
                         found[key] = f"{crate}::{function.name}"
-                        module = self.modules[key[0]][key[1]]
-                        ahead += self.named(self.definition(key).text, module.imports, key[:2])
+                        ahead += self.used(key)
         return found
+
+
+def bound_in(text, name=None):
+    """The names that a clause, or an equation or a field of a definition, binds itself."""
+    groups = re.findall(r"λ ([\w' ]+)\.", text) + re.findall(r"\(([\w' ]+) :", text)
+    left = re.match(rf" *{re.escape(name)} ([^=]*?)=(?!=)", text) if name else None
+    groups += re.findall(r"[\w']+", left[1]) if left else []
+    return {it for group in groups for it in group.split() if it[:1].islower() or it == "_"}
 
 
 def listed(page):
@@ -105,9 +123,12 @@ def differences(definitions, names):
         elif name not in definitions.modules[crate][module].definitions:
             others = [it.name for it in definitions.modules[crate].values() if name in it.definitions]
             yield f"{PAGE}:{number}: {crate}, {module} has no definition {name}{'; it stands in ' + others[0] if others else ''}"
-    known = {it[:3] for it in names}
+    known = {it[:3]: it[3] for it in names}
     for key, by in sorted(definitions.reached().items()):
         crate, module, name = key
+        for used in {*definitions.used(key)} if key in known else ():
+            if known.get(used, 0) > known[key]:
+                yield f"{PAGE}:{known[key]}: {name} uses {used[2]}, which stands below it"
         if definitions.modules[crate][module].is_private:
             yield f"{crate}, {module} serves private contracts, but {by} reaches {name}"
         elif key not in known:

@@ -347,7 +347,7 @@ class Module:
             if now and not is_comment and not line.startswith("use "):
                 now.text += re.sub(r"--.*", "", line) + "\n"
         for it in self.definitions.values():
-            if re.match(r" *pub (record|data)", it.text):
+            if re.match(r" *pub data", it.text):
                 it.parts = {*re.findall(r"^\s+(?:pub )?([^\s:(]+)\s*:", it.text, re.M)}
 
     @property

@@ -6,11 +6,11 @@ usage: tests/definitions.py [--root DIR]         names each difference; exit sta
        tests/definitions.py --compare BEFORE AFTER   the definitions that public contracts reach: which were lost or added
                                                  from one folder to the other, and which read otherwise
 
-A public definition that a public contract reaches must stand in the table of its crate, with its module. A public contract
-is the clauses of a public function, or what a public type or trait says by ghost items, but for invariants; it reaches the
-definitions that it names and those that they name. A module in specs/inside/, or one whose first comment says that it serves
-private contracts, must not be reached. A definition stands below those that it uses. Tables stand below headings `## CRATE: ..`, and their rows are `| NAMES | MODULE | ..`
-with each name between backquotes. Each name must be a definition of that module."""
+A public definition that a public contract reaches must stand in the table of its crate, with its module, below those that
+it uses. A public contract is the clauses of a public function, or what a public type or trait says by ghost items, but for
+invariants; it reaches the definitions that it names and those that they name. A module in specs/inside/, or one whose first
+comment says that it serves private contracts, must not be reached. Tables stand below headings `## CRATE: ..`, and their
+rows are `| NAMES | MODULE | ..` with each name between backquotes. Each name must be a definition of that module."""
 import os
 import re
 import sys
@@ -29,21 +29,13 @@ class Definitions:
     def __init__(self, root):
         self.folders = crates_of(root)
         self.modules = {crate: modules_of(folder) for crate, folder in self.folders.items()}
-        self.owners = {
-            (crate, module.name, part): (crate, module.name, it.name)
-            for crate, modules in self.modules.items()
-            for module in modules.values()
-            for it in module.definitions.values()
-            for part in {it.name, *it.parts}
-        }
-        self.owners.update(
-            {
-                (crate, module.name, it.name): (crate, module.name, it.name)
-                for crate, modules in self.modules.items()
-                for module in modules.values()
-                for it in module.definitions.values()
-            }
-        )
+        # What a name of a module belongs to: a constructor to its type, and each definition to itself.
+        self.owners = {}
+        for crate, modules in self.modules.items():
+            for module in modules.values():
+                for it in module.definitions.values():
+                    self.owners.update({(crate, module.name, part): (crate, module.name, it.name) for part in it.parts})
+                self.owners.update({(crate, module.name, it): (crate, module.name, it) for it in module.definitions})
 
     def definition(self, key):
         return self.modules[key[0]][key[1]].definitions[key[2]]
@@ -82,7 +74,9 @@ class Definitions:
             for function in functions_of(crate, folder):
                 parameters = set(re.findall(r"(\w+):", function.head))
                 texts = [it[2] for it in function.clauses if it[1] not in INSIDE]
-                ahead = [it for text in texts for it in self.named(text, function.imports, None, parameters | bound_in(text))]
+                ahead = []
+                for text in texts:
+                    ahead += self.named(text, function.imports, None, parameters | bound_in(text))
                 while ahead:
                     key = ahead.pop()
                     if key not in found:
@@ -121,8 +115,8 @@ def differences(definitions, names):
         elif module not in definitions.modules[crate]:
             yield f"{PAGE}:{number}: {crate} has no module {module}, where {name} is said to stand"
         elif name not in definitions.modules[crate][module].definitions:
-            others = [it.name for it in definitions.modules[crate].values() if name in it.definitions]
-            yield f"{PAGE}:{number}: {crate}, {module} has no definition {name}{'; it stands in ' + others[0] if others else ''}"
+            others = [f"; it stands in {it.name}" for it in definitions.modules[crate].values() if name in it.definitions]
+            yield f"{PAGE}:{number}: {crate}, {module} has no definition {name}{''.join(others[:1])}"
     known = {it[:3]: it[3] for it in names}
     for key, by in sorted(definitions.reached().items()):
         crate, module, name = key
@@ -172,7 +166,8 @@ def compared(before, after):
         if new is None or old is None:
             yield f"{'LOST' if new is None else 'added'} {'::'.join((old or new)[:2])}"
         elif old[2] != new[2]:
-            gone, come = [[f"    {mark} {it}" for it in one[2] if it not in other[2]] for mark, one, other in (("-", old, new), ("+", new, old))]
+            gone = [f"    - {it}" for it in old[2] if it not in new[2]]
+            come = [f"    + {it}" for it in new[2] if it not in old[2]]
             yield "\n".join([f"CHANGED {new[0]}::{new[1]}", *gone, *come])
 
 

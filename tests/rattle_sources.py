@@ -177,7 +177,8 @@ class Reader:
         self.at += 1
         head = re.split(r"\bwhere\b", without_parameters(head))[0].strip()
         trait, _, of = head.rpartition(" for ")
-        return Item("impl", re.sub(r"<.*", "", of).lstrip("&").strip(), True, trait=re.sub(r"\s+", " ", trait).strip(), inner=inner)
+        name = re.sub(r"<.*", "", of).lstrip("&").strip()
+        return Item("impl", name, True, trait=trait.strip(), inner=inner)
 
     def read_fn(self, is_public):
         name = self.now(1)
@@ -370,4 +371,5 @@ def modules_of(folder):
     if os.path.isfile(f"{folder}/specs/Lib.antt"):
         with open(f"{folder}/specs/Lib.antt", encoding="utf-8") as it:
             order = re.findall(r"^(?:pub )?mod (\S+)", it.read(), re.M)
-    return dict(sorted(found.items(), key=lambda it: (it[0] not in order, order.index(it[0]) if it[0] in order else 0, it[0])))
+    place = {name: at for at, name in enumerate(order)}
+    return dict(sorted(found.items(), key=lambda it: (place.get(it[0], len(order)), it[0])))

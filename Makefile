@@ -18,7 +18,8 @@ try:
 	cd crates/pdp8 && rt try < stdin
 	@echo "Nothing was proved. make run proves the program before it runs it."
 
-# The gate: the list of definitions and whether edits apply (seconds), then every proof from nothing, the edits that must fail, every test and the program.
+# The gate: the list of definitions and whether each edit applies, which takes a second; then every proof from nothing, the
+# edits that must fail, every test and the program.
 test:
 	python3 tests/definitions.py
 	python3 tests/edits.py

@@ -1,4 +1,5 @@
 pub mod BytesLemmas
+pub mod InputLemmas
 pub mod NumberLemmas
 pub mod TextLemmas
 pub mod NumberedLines

@@ -5,6 +5,7 @@
 pub mod bytes;
 pub mod input;
 pub mod standard;
+pub mod taking;
 pub mod text;
 
 pub use bytes::{ByteSink, ByteSource, Failed, put};

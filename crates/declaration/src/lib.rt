@@ -9,21 +9,21 @@ ghost use Rattle.declaration.specs.Text.{Declares, Fails, ListsRoutines, is_entr
 ghost use Rattle.declaration.specs.Drafts.{gathered, HasLines};
 ghost use Rattle.declaration.specs.declared.DeclarationFault.{DeclarationFault};
 ghost use Rattle.declaration.specs.declared.DeclarationFault.TheVariants.{NoMemory};
-ghost use Rattle.declaration.specs.Kept.{cells, offsets_of, subroutine_of, routines_of, meaning};
+ghost use Rattle.wordset.specs.Lanes.{words};
+ghost use Rattle.declaration.specs.Kept.{offsets_of, subroutine_of, routines_of, meaning};
 
 use crate::drafts::Draft;
-use crate::lines::read_line;
 use instruct::Profile;
-use streams::text::Lines;
 use std::alloc::Allocator;
 use std::marker::Model;
+use streams::taking::take_lines;
 use thiserror::Error;
 use word12::Word;
 use wordset::WordSet;
 
+mod coverage;
 mod drafts;
 mod lines;
-mod sets;
 
 /// The most bytes of a declaration.
 const MOST_BYTES: usize = 16_384;
@@ -129,7 +129,7 @@ impl Routine {
 
     /// The cells of the body.
     pub fn body(&self) -> &WordSet
-        ensures { cells result.now ≡ (subroutine_of self.now).body }
+        ensures { words result.now ≡ (subroutine_of self.now).body }
     {
         &self.body
     }
@@ -197,7 +197,7 @@ impl<A: Allocator> Declaration<A> {
 
     /// The cells of main's body.
     pub fn main(&self) -> &WordSet
-        ensures { cells result.now ≡ (meaning self.now).body None }
+        ensures { words result.now ≡ (meaning self.now).body None }
     {
         &self.main
     }
@@ -211,28 +211,28 @@ impl<A: Allocator> Declaration<A> {
 
     /// The variable cells.
     pub fn variables(&self) -> &WordSet
-        ensures { cells result.now ≡ (meaning self.now).variable }
+        ensures { words result.now ≡ (meaning self.now).variable }
     {
         &self.variables
     }
 
     /// The declared halts that are stops.
     pub fn stops(&self) -> &WordSet
-        ensures { cells result.now ≡ (meaning self.now).stop }
+        ensures { words result.now ≡ (meaning self.now).stop }
     {
         &self.stops
     }
 
     /// The declared halts that are pauses.
     pub fn pauses(&self) -> &WordSet
-        ensures { cells result.now ≡ (meaning self.now).pause }
+        ensures { words result.now ≡ (meaning self.now).pause }
     {
         &self.pauses
     }
 
     /// The cells that may be read, if they are listed.
     pub fn reads(&self) -> Option<&WordSet>
-        ensures { option_map (λ set. cells set.now) result ≡ (meaning self.now).reads }
+        ensures { option_map (λ set. words set.now) result ≡ (meaning self.now).reads }
     {
         self.reads.as_ref()
     }
@@ -323,19 +323,15 @@ fn parse_lines<A: Allocator>(alloc: A, text: &[u8]) -> Result<Declaration<A>, De
 fn read_lines<A: Allocator>(alloc: A, text: &[u8]) -> Result<Draft<A>, DeclarationFault>
     requires { length text.now ≤ most_bytes }
     ensures found { IfOk result (λ draft. HasLines text.now (gathered draft)) }
-    ensures fit { IfOk result (λ draft. (e : ℕ) → IsTrue (is_entry (gathered draft) e) → e < 4096) }
+    ensures fit { IfOk result (λ draft.
+        (e : ℕ) → IsTrue (is_entry (gathered draft) e) → e < 4096) }
     ensures refused { IfErr result (Fails text.now) }
 {
     let mut draft = Draft::new(alloc);
-    for (index, line) in Lines::of(text).enumerate() {
-        let Some(said) = read_line(line) else {
-            return Err(DeclarationFault::BadLine(index + 1));
-        };
-        if let Err(fault) = draft.add(&said, index + 1) {
-            return Err(fault);
-        }
+    match take_lines(&mut draft, text) {
+        Ok(()) => Ok(draft),
+        Err(fault) => Err(fault),
     }
-    Ok(draft)
 }
 
 #[cfg(test)]

@@ -17,8 +17,8 @@ RefusesMore had more TooMany = most_events < had + more
 RefusesMore had more NoMemory = (0 < more) × (had + more ≤ most_events)
 
 -- A line adds its events to those before it, and then there aren't too many.
-pub record Adds (events : List Event) (line : List ℕ) (then : List Event) : Type 0 where
+pub record Adds (events : List Event) (line : List ℕ) (after : List Event) : Type 0 where
   pub more : List Event
   pub brings : line_events line ≡ Some more
-  pub added : then ≡ events ++ more
-  pub few : length then ≤ most_events
+  pub added : after ≡ events ++ more
+  pub few : length after ≤ most_events

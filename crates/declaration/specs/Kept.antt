@@ -8,6 +8,8 @@ use Rattle.wordset.specs.Lanes.{words}
 use Rattle.declaration.specs.Declaration.{Routine, Declaration}
 use Rattle.declaration.specs.Lines.{Subroutine}
 use Rattle.declaration.specs.declared.Offsets.{Offsets}
+use Rattle.declaration.specs.declared.Owner.{Owner}
+use Rattle.declaration.specs.declared.Owner.TheVariants as owner
 use Rattle.declaration.specs.declared.Routine.{Routine as KeptRoutine}
 
 -- A declaration as it's kept: its sets are kept by lanes.
@@ -28,6 +30,11 @@ offsets_of offsets o = slice_index_or offsets.declared o false
 -- The routine that is meant.
 abbrev pub subroutine_of : KeptRoutine → Subroutine
 subroutine_of r = record { entry = r.entry; body = words r.body; offsets = offsets_of r.offsets }
+
+-- The routine whose body it is: main, or the routine of an entry.
+abbrev pub routine_of : Owner → Routine
+routine_of owner.Main = None
+routine_of (owner.Routine e) = Some e
 
 -- The routines of a declaration.
 abbrev pub routines_of : Kept → List KeptRoutine

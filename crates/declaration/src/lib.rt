@@ -1,16 +1,16 @@
 //! Declarations: as a text gives them, as they are kept, and their readers.
 #![tactic(auto)]
 
-ghost use Rattle.std.specs.Prelude.{ℕ, ◌≡◌, ◌≢◌, ◌⊎◌, ◌<◌, ◌≤◌, ◌↔◌, ◌==◌, length, IsTrue, IfOk, IfErr, IsErrOf, None, Some, is_some};
+ghost use Rattle.std.specs.Prelude.{ℕ, ◌≡◌, ◌≢◌, ◌⊎◌, ◌<◌, ◌≤◌, ◌↔◌, ◌==◌, length, IsTrue, true, false, IfSome, IfNone, IfOk, IfErr, IsErrOf, None, Some, is_some};
+ghost use Rattle.std.specs.List.{find};
 ghost use Rattle.std.specs.Option.{option_map};
-ghost use Rattle.declaration.specs.Declaration.{Declaration as Declared, IsDeclared};
-ghost use Rattle.declaration.specs.Declaration.{IsListed};
+ghost use Rattle.declaration.specs.Declaration.{Declaration as Declared, Routine as MainOrEntry, IsDeclared, IsListed};
 ghost use Rattle.declaration.specs.Text.{Declares, Fails, ListsRoutines, is_entry, most_bytes};
 ghost use Rattle.declaration.specs.Drafts.{gathered, HasLines};
 ghost use Rattle.declaration.specs.declared.DeclarationFault.{DeclarationFault};
 ghost use Rattle.declaration.specs.declared.DeclarationFault.TheVariants.{NoMemory};
 ghost use Rattle.wordset.specs.Lanes.{words};
-ghost use Rattle.declaration.specs.Kept.{offsets_of, subroutine_of, routines_of, meaning};
+ghost use Rattle.declaration.specs.Kept.{offsets_of, subroutine_of, routine_of, routines_of, meaning};
 
 use crate::drafts::Draft;
 use instruct::Profile;
@@ -78,6 +78,15 @@ pub struct Routine {
     entry: Word,
     body: WordSet,
     offsets: Offsets,
+}
+
+/// Whose body a cell is in.
+#[derive(Clone, Copy, PartialEq, Eq, Debug)]
+pub enum Owner {
+    /// Main's.
+    Main,
+    /// That of the routine of this entry.
+    Routine(Word),
 }
 
 /// What the author of a program promises of its runs: the start, the bodies of main and of the
@@ -258,6 +267,20 @@ impl<A: Allocator> Declaration<A> {
         self.routines.iter().any(|routine| routine.entry == entry && routine.body.contains(at))
     }
 
+    /// The routine whose body has a cell, if there is one. No cell is in two bodies.
+    pub fn owner_of(&self, at: Word) -> Option<Owner>
+        ensures found { IfSome result (λ owner.
+            (meaning self.now).body (routine_of owner) at ≡ true) }
+        ensures none { IfNone result ((r : MainOrEntry) → (meaning self.now).body r at ≡ false) }
+        ensures only { (r : MainOrEntry) → (meaning self.now).body r at ≡ true
+            → option_map routine_of result ≡ Some r }
+    {
+        if self.main.contains(at) {
+            return Some(Owner::Main);
+        }
+        routine_with(&self.routines, at)
+    }
+
     /// Whether the routine of an entry may return at an offset.
     pub fn has_offset(&self, entry: Word, offset: Word) -> bool
         ensures { result ≡ (meaning self.now).offset entry offset }
@@ -303,6 +326,17 @@ impl<A: Allocator> Declaration<A> {
             Some(cells) => cells.contains(at),
         }
     }
+}
+
+/// The first routine whose body has a cell.
+fn routine_with(routines: &[Routine], at: Word) -> Option<Owner>
+    ensures { option_map routine_of result
+        ≡ option_map (λ r. Some r.entry) (find (λ r. words r.body at) routines.now) }
+{
+    routines
+        .iter()
+        .find(|routine| routine.body.contains(at))
+        .map(|routine| Owner::Routine(routine.entry))
 }
 
 /// The declaration of a text that isn't too long.

@@ -1,4 +1,5 @@
 pub mod Facts
+pub mod Statements
 pub mod Changes
 pub mod Outcomes
 pub mod Conditions

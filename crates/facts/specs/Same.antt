@@ -1,7 +1,8 @@
 -- Facts that agree: what code knows of a fact is its words below 4096, and its equations in some order.
-use Rattle.std.specs.Prelude.{◌≡◌, ℕ, ◌<◌, List}
+use Rattle.std.specs.Prelude.{◌≡◌, ℕ, ◌<◌, List, [], ◌∷◌}
 use Rattle.wordset.specs.Words.{SameWords, SameLinks}
 use Rattle.facts.specs.Facts.{Name, Equation, Fact, Among, Entails, EntailsOffsets}
+use Rattle.facts.specs.Outcomes.{Outcome, Goes, CallsTo, Returns}
 
 -- The same equations, in whatever order and however often.
 pub record SameEquations (es gs : List Equation) : Type 0 where
@@ -26,3 +27,16 @@ pub record EntailAlike (a b c : Fact) : Type 0 where
 -- This holds of all facts that agree.
 abbrev pub SameLaw : Type 0
 SameLaw = (a b c : Fact) → SameFact a b → EntailAlike a b c
+
+-- The two outcomes are of one kind, at the same addresses, with facts that agree.
+abbrev pub SameOutcome : Outcome → Outcome → Type 0
+SameOutcome (Goes n f) (Goes m g) = SameWords n m × SameFact f g
+SameOutcome (CallsTo n f) (CallsTo m g) = SameWords n m × SameFact f g
+SameOutcome (Returns f) (Returns g) = SameFact f g
+SameOutcome _ _ = ⊥
+
+-- The outcomes agree one by one, in their order.
+abbrev pub SameOutcomes : List Outcome → List Outcome → Type 0
+SameOutcomes [] [] = Unit {0}
+SameOutcomes (o ∷ os) (p ∷ ps) = SameOutcome o p × SameOutcomes os ps
+SameOutcomes _ _ = ⊥

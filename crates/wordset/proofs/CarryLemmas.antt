@@ -18,7 +18,7 @@ past_lane lanes i n v small after bits h g = elim (cases_lt v (64 * (i + 1))) [
   | inl l ↦
       (let e : 64 * i + (v - 64 * i) ≡ v = omega arith in
       let lt : v - 64 * i < 64 = omega arith in
-      ap (λ u. words lanes u) (sym e) ∙ words_at lanes i (v - 64 * i) lt ∙ ap (λ b. b == 1) (bits (v - 64 * i) (omega arith)))
+      ap (λ u. words lanes u) (sym e) ∙ words_at lanes i (v - 64 * i) small lt ∙ ap (λ b. b == 1) (bits (v - 64 * i) (omega arith)))
 ]
 
 pub none_past : (lanes : List ℕ) (i : ℕ) → i < 64 → ((u : ℕ) → 64 * (i + 1) ≤ u → u < 4096 → words lanes u ≡ false) → get_or lanes i 0 ≡ 0 → (v : ℕ) → 64 * i ≤ v → v < 4096 → words lanes v ≡ false
@@ -48,7 +48,7 @@ IsGreatest-lane lanes i is small after some = go (leading_top 64 (get_or lanes i
         let high' : get_or lanes i 0 < 2 ^ (1 + j) = omega (arith, ap (λ k. 2 ^ k) order) in
         rw at (record {
           small = omega arith;
-          within = words_at lanes i j lt ∙ ap (λ b. b == 1) (top_bit (get_or lanes i 0) j low high');
+          within = words_at lanes i j small lt ∙ ap (λ b. b == 1) (top_bit (get_or lanes i 0) j low high');
           after = λ v h g. past_lane lanes i (suc j) v small after (λ k le. bit_at_above (get_or lanes i 0) (suc j) k high le) (omega arith) g;
         })
 

@@ -8,7 +8,7 @@ use Rattle.std.proofs.lemmas.Nat.Bits.{bit_at-suc, bit_at_lowest, bit_at-lt, bit
 use Rattle.std.proofs.Math.Nat.{pow-succ'}
 use Rattle.wordset.specs.Words.{Words, SameWords, some_below, ands, ors, mirrored, everything}
 use Rattle.wordset.specs.Lanes.{words}
-use Rattle.wordset.proofs.LaneBits.{words_bit}
+use Rattle.wordset.proofs.SetLemmas.{words_bit}
 use Rattle.wordset.proofs.Tests.{both_ways, some_from, some_to, IsSome, and_both, and_first, and_second}
 
 -- ---- one lane
@@ -46,9 +46,9 @@ pub words-mirrored : (x lanes : List ℕ) → ((i : ℕ) → i < 64 → get_or l
 words-mirrored x lanes each v h =
     let lane : 63 - v / 64 ≡ (4095 - v) / 64 = omega arith in
     let bit : 63 - v % 64 ≡ (4095 - v) % 64 = omega arith in
-    words_bit lanes v ∙ ap (λ n. bit_at n (v % 64) == 1) (each (v / 64) (omega arith))
+    words_bit lanes v h ∙ ap (λ n. bit_at n (v % 64) == 1) (each (v / 64) (omega arith))
     ∙ ap (λ b. b == 1) (reversed_bit (get_or x (63 - v / 64) 0) (v % 64) (omega arith) ∙ ap (λ i. bit_at (get_or x i 0) (63 - v % 64)) lane ∙ ap (λ j. bit_at (get_or x ((4095 - v) / 64) 0) j) bit)
-    ∙ sym (words_bit x (4095 - v))
+    ∙ sym (words_bit x (4095 - v) (omega arith))
 
 -- ---- the and of two words is the complement of the or of their complements
 

@@ -53,12 +53,12 @@ how_many-le (suc n) test = go (test n) (how_many-le n test)
     go false h = omega arith
 
 -- the lane at i counts the words from 64 * i on
-pub how_many-lane : (lanes : List ℕ) (i : ℕ) → AreLanes lanes → how_many (64 * (i + 1)) (words lanes) ≡ how_many (64 * i) (words lanes) + ones (get_or lanes i 0)
-how_many-lane lanes i is =
+pub how_many-lane : (lanes : List ℕ) (i : ℕ) → AreLanes lanes → i < 64 → how_many (64 * (i + 1)) (words lanes) ≡ how_many (64 * i) (words lanes) + ones (get_or lanes i 0)
+how_many-lane lanes i is low =
     let at : 64 * (i + 1) ≡ 64 * i + 64 = omega arith in
     let whole : get_or lanes i 0 % 2 ^ 64 ≡ get_or lanes i 0 = omega (arith, is.fit i) in
     let bits : how_many 64 (λ j. words lanes (64 * i + j)) ≡ ones (get_or lanes i 0) =
-    how_many_same 64 (λ j. words lanes (64 * i + j)) (λ j. bit_at (get_or lanes i 0) j == 1) (λ j h. words_at lanes i j h) ∙ sym (ones-bits (get_or lanes i 0) 64) ∙ ap ones whole in
+    how_many_same 64 (λ j. words lanes (64 * i + j)) (λ j. bit_at (get_or lanes i 0) j == 1) (λ j h. words_at lanes i j low h) ∙ sym (ones-bits (get_or lanes i 0) 64) ∙ ap ones whole in
     ap (λ n. how_many n (words lanes)) at ∙ how_many-add (64 * i) 64 (words lanes) ∙ omega (arith, bits)
 
 pub how_many-none : (test : ℕ → Bool) → how_many 0 test ≡ 0

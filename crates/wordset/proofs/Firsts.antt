@@ -7,6 +7,7 @@ use Rattle.std.proofs.lemmas.Nat.Bits.{bit_at-trailing_zeros, bit_at-zero, bit_a
 use Rattle.std.proofs.Math.Nat.{div-le_self}
 use Rattle.wordset.specs.Words.{Words, how_many, some_below, first_below, only, only_of, without, IsFirstFrom, HasNoneFrom}
 use Rattle.wordset.specs.Lanes.{words, AreLanes}
+use Rattle.wordset.proofs.SetLemmas.{words_past}
 use Rattle.wordset.proofs.LaneBits.{words_at}
 use Rattle.wordset.proofs.Tests.{true_false, both_ways, some_from, some_none_of, none_of_some}
 use Rattle.wordset.proofs.Counts.{how_many_same}
@@ -18,10 +19,14 @@ use Rattle.wordset.proofs.Shifts.{bit_div}
 in_lane : (lanes : List ℕ) (from i n v : ℕ) → n ≤ 64 → ((u : ℕ) → from ≤ u → u < 64 * i → words lanes u ≡ false) → ((j : ℕ) → j < n → bit_at (get_or lanes i 0) j ≡ 0) → from ≤ v → v < 64 * i + n → words lanes v ≡ false
 in_lane lanes from i n v small before bits f h = elim (cases_lt v (64 * i)) [
   | inl l ↦ before v f l
-  | inr g ↦
-      (let e : 64 * i + (v - 64 * i) ≡ v = omega arith in
-      let lt : v - 64 * i < 64 = omega arith in
-      ap (λ u. words lanes u) (sym e) ∙ words_at lanes i (v - 64 * i) lt ∙ ap (λ b. b == 1) (bits (v - 64 * i) (omega arith)))
+  | inr g ↦ elim (cases_lt v 4096) [
+    | inr past ↦ words_past lanes v past
+    | inl low ↦
+        (let e : 64 * i + (v - 64 * i) ≡ v = omega arith in
+        let lt : v - 64 * i < 64 = omega arith in
+        let inside : i < 64 = omega arith in
+        ap (λ u. words lanes u) (sym e) ∙ words_at lanes i (v - 64 * i) inside lt ∙ ap (λ b. b == 1) (bits (v - 64 * i) (omega arith)))
+  ]
 ]
 
 pub none_more : (lanes : List ℕ) (from i : ℕ) → ((v : ℕ) → from ≤ v → v < 64 * i → words lanes v ≡ false) → get_or lanes i 0 ≡ 0 → (v : ℕ) → from ≤ v → v < 64 * (i + 1) → words lanes v ≡ false
@@ -37,7 +42,7 @@ first_in_lane lanes from i is h low before some =
     record {
       small = omega arith;
       reached = omega arith;
-      within = words_at lanes i (trailing_zeros w64 (get_or lanes i 0)) small ∙ ap (λ b. b == 1) zeros.1;
+      within = words_at lanes i (trailing_zeros w64 (get_or lanes i 0)) h small ∙ ap (λ b. b == 1) zeros.1;
       before = λ v f lt. in_lane lanes from i (trailing_zeros w64 (get_or lanes i 0)) v (omega arith) before zeros.2 f lt;
     }
 
@@ -47,15 +52,18 @@ first_in_lane lanes from i is h low before some =
 abbrev pub rest_from : List ℕ → ℕ → ℕ
 rest_from lanes from = get_or lanes (from / 64) 0 / 2 ^ (from % 64)
 
-rest_bit : (lanes : List ℕ) (from d : ℕ) → from % 64 + d < 64 → words lanes (from + d) ≡ (bit_at (rest_from lanes from) d == 1)
-rest_bit lanes from d h =
+rest_bit : (lanes : List ℕ) (from d : ℕ) → from < 4096 → from % 64 + d < 64 → words lanes (from + d) ≡ (bit_at (rest_from lanes from) d == 1)
+rest_bit lanes from d low h =
     let at : 64 * (from / 64) + (from % 64 + d) ≡ from + d = omega arith in
-    ap (λ v. words lanes v) (sym at) ∙ words_at lanes (from / 64) (from % 64 + d) h ∙ ap (λ b. b == 1) (sym (bit_div (get_or lanes (from / 64) 0) (from % 64) d))
+    ap (λ v. words lanes v) (sym at) ∙ words_at lanes (from / 64) (from % 64 + d) (omega arith) h ∙ ap (λ b. b == 1) (sym (bit_div (get_or lanes (from / 64) 0) (from % 64) d))
 
 pub none_in_rest : (lanes : List ℕ) (from : ℕ) → rest_from lanes from ≡ 0 → (v : ℕ) → from ≤ v → v < 64 * (from / 64 + 1) → words lanes v ≡ false
-none_in_rest lanes from z v f h =
-    let at : from + (v - from) ≡ v = omega arith in
-    ap (λ u. words lanes u) (sym at) ∙ rest_bit lanes from (v - from) (omega arith) ∙ ap (λ n. bit_at n (v - from) == 1) z ∙ ap (λ b. b == 1) (bit_at-zero (v - from))
+none_in_rest lanes from z v f h = elim (cases_lt from 4096) [
+  | inr past ↦ words_past lanes v (omega arith)
+  | inl low ↦
+      (let at : from + (v - from) ≡ v = omega arith in
+      ap (λ u. words lanes u) (sym at) ∙ rest_bit lanes from (v - from) low (omega arith) ∙ ap (λ n. bit_at n (v - from) == 1) z ∙ ap (λ b. b == 1) (bit_at-zero (v - from)))
+]
 
 pub rest_small : (lanes : List ℕ) (from : ℕ) → AreLanes lanes → rest_from lanes from < 2 ^ 64
 rest_small lanes from is = omega (arith, is.fit (from / 64), le (get_or lanes (from / 64) 0) (2 ^ (from % 64)))
@@ -73,10 +81,10 @@ first_in_rest lanes from is h some =
     record {
       small = omega arith;
       reached = omega arith;
-      within = rest_bit lanes from (trailing_zeros w64 (rest_from lanes from)) inside ∙ ap (λ b. b == 1) zeros.1;
+      within = rest_bit lanes from (trailing_zeros w64 (rest_from lanes from)) h inside ∙ ap (λ b. b == 1) zeros.1;
       before = λ v f lt.
           (let at : from + (v - from) ≡ v = omega arith in
-          ap (λ u. words lanes u) (sym at) ∙ rest_bit lanes from (v - from) (omega arith) ∙ ap (λ b. b == 1) (zeros.2 (v - from) (omega arith)));
+          ap (λ u. words lanes u) (sym at) ∙ rest_bit lanes from (v - from) h (omega arith) ∙ ap (λ b. b == 1) (zeros.2 (v - from) (omega arith)));
     }
   where
     fits : (d : ℕ) → bit_at (rest_from lanes from) d ≡ 1 → from % 64 + d < 64

@@ -1,4 +1,5 @@
 pub mod Tests
+pub mod SetLemmas
 pub mod LaneBits
 pub mod Counts
 pub mod Shifts

@@ -13,7 +13,7 @@ use lib.Pow.{pow_mono}
 use Rattle.wordset.specs.Bits.{has_bit, doubled}
 use Rattle.wordset.specs.Words.{Words, SameWords, some_below, or_any, minus}
 use Rattle.wordset.specs.Lanes.{words}
-use Rattle.wordset.proofs.LaneBits.{words_bit}
+use Rattle.wordset.proofs.SetLemmas.{words_bit}
 use Rattle.wordset.proofs.Tests.{true_false, both_ways, some_from, some_to, IsSome, and_both, and_first, and_second, or_left, or_right, or_cases}
 
 -- ---- the words with a bit
@@ -61,7 +61,7 @@ high_clear at i j h g n = ap (λ b. b == 1) (bit_at-zero j) ∙ sym (ne_eqb (bit
 pub words-having : (lanes : List ℕ) (at v : ℕ) → ((k j : ℕ) → k < 64 → j < 64 → (bit_at (get_or lanes k 0) j == 1) ≡ has_bit at (64 * k + j)) → v < 4096 → words lanes v ≡ has_bit at v
 words-having lanes at v each h =
     let e : 64 * (v / 64) + v % 64 ≡ v = omega arith in
-    words_bit lanes v ∙ each (v / 64) (v % 64) (omega arith) (omega arith) ∙ ap (λ n. has_bit at n) e
+    words_bit lanes v h ∙ each (v / 64) (v % 64) (omega arith) (omega arith) ∙ ap (λ n. has_bit at n) e
 
 pub weight_small : (at : ℕ) → at < 12 → 2 ^ at < 4096
 weight_small at h = let m : 2 ^ at ≤ 2 ^ 11 = pow_mono {i = at} {j = 11} (omega arith) in omega arith

@@ -47,3 +47,9 @@ range_all low high n v h g k = both_ways (from_to low n v) (nat_le low v && nat_
     and_both (nat_le low v) (nat_le v high) (le_to low v a) (le_to v high (omega arith)))
     (λ e. let a : low ≤ v = to_le low v (and_first (nat_le low v) (nat_le v high) e) in let b : v ≤ high = to_le v high (and_second (nat_le low v) (nat_le v high) e) in
     and_both (nat_le low v) (nat_lt v n) (le_to low v a) (lt_to v n (omega arith)))
+
+-- no word of a range is above its end
+pub range_past : (low high v : ℕ) → high < 4096 → 4096 ≤ v → (nat_le low v && nat_le v high) ≡ false
+range_past low high v h g = both_ways (nat_le low v && nat_le v high) false
+    (λ e. let b : v ≤ high = to_le v high (and_second (nat_le low v) (nat_le v high) e) in absurd (omega arith))
+    (λ e. absurd (let z : ⊥ = cc in z))

@@ -11,6 +11,7 @@ use Rattle.std.proofs.lemmas.Simd.{get_or-zip2, zip2_splat, map-map, get_or-put_
 use lib.Lanes.{zip2, chunk, put_chunk}
 use Rattle.wordset.specs.Words.{shifted, minus}
 use Rattle.wordset.specs.Lanes.{words, AreLanes, twice}
+use Rattle.wordset.proofs.SetLemmas.{words_bit}
 use Rattle.wordset.proofs.LaneBits.{or_bit, or_false}
 
 abbrev pub up : ℕ → ℕ → ℕ
@@ -77,8 +78,7 @@ abbrev pub moved : List ℕ → ℕ → List ℕ
 moved x k = zip2 bit_or (map (up (k % 64)) (chunk (64 - k / 64) 64 (twice x))) (map (down (k % 64)) (chunk (63 - k / 64) 64 (twice x)))
 
 pub words-moved : (x : List ℕ) (k : ℕ) → AreLanes x → k < 4096 → (v : ℕ) → v < 4096 → words (moved x k) v ≡ shifted (words x) k v
-unfolding words
-words-moved x k is small v h = ap (λ y. bit_at y (v % 64) == 1) lane ∙ or_bit (up r n) (down r f) j ∙ cases (cases_lt j r)
+words-moved x k is small v h = words_bit (moved x k) v h ∙ ap (λ y. bit_at y (v % 64) == 1) lane ∙ or_bit (up r n) (down r f) j ∙ cases (cases_lt j r) ∙ sym (words_bit x (minus v k) (omega arith))
   where
     r : ℕ
     r = k % 64
@@ -107,7 +107,7 @@ words-moved x k is small v h = ap (λ y. bit_at y (v % 64) == 1) lane ∙ or_bit
         ∙ ap (λ y. bit_or (up r n) y)
         (get_or-map (down r) (chunk (63 - k / 64) 64 (twice x)) i 0 0 (omega (arith, lf)) ∙ ap (down r) (turned x (63 - k / 64) i is.long (omega arith) inside))
 
-    cases : (j < r) ⊎ (r ≤ j) → ((bit_at (up r n) j == 1) || (bit_at (down r f) j == 1)) ≡ shifted (words x) k v
+    cases : (j < r) ⊎ (r ≤ j) → ((bit_at (up r n) j == 1) || (bit_at (down r f) j == 1)) ≡ (bit_at (get_or x (minus v k / 64) 0) (minus v k % 64) == 1)
     cases (inl l) = ap (λ y. (y == 1) || (bit_at (down r f) j == 1)) (up_low n r j (omega arith) l) ∙ ap (λ y. y == 1) (down_bit f r j (omega arith) ∙ from_far k v small h l)
       where
         from_far : (k v : ℕ) → k < 4096 → v < 4096 → v % 64 < k % 64 →

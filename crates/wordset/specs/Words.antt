@@ -1,6 +1,7 @@
--- Sets of words as tests on the numbers below 4096, and the mathematical image of each call. What a test says of larger
--- numbers has no meaning; two sets are the same where they agree below 4096.
-use Rattle.std.specs.Prelude.{◌≡◌, ℕ, ◌+◌, ◌-◌, ◌/◌, ◌%◌, ◌<◌, ◌≤◌, ◌==◌, nat_le, Bool, true, false, not, ◌&&◌, ◌||◌, if◌then◌else◌, Option, Some, None, bit_and, bit_or}
+-- Sets of words as tests on numbers, and the mathematical image of each call. Words are the numbers below 4096: two sets
+-- have the same words where they agree below 4096, whatever the tests say of larger numbers. A set that is kept by lanes
+-- has no larger number, so an image that has none either is equal to it.
+use Rattle.std.specs.Prelude.{◌≡◌, ℕ, ◌+◌, ◌-◌, ◌/◌, ◌%◌, ◌<◌, ◌≤◌, ◌==◌, nat_le, nat_lt, Bool, true, false, not, ◌&&◌, ◌||◌, if◌then◌else◌, Option, Some, None, bit_and, bit_or}
 use Rattle.std.proofs.Common.{zero, suc}
 
 -- Sums and differences of words are modulo 4096.
@@ -53,12 +54,15 @@ has_some set = some_below 4096 set
 abbrev pub has_link : Words → Bool
 has_link set = some_below 2 set
 
--- No word, and every word.
+-- No word, every number, and every word alone.
 abbrev pub nothing : Words
 nothing v = false
 
 abbrev pub everything : Words
 everything v = true
+
+abbrev pub all_words : Words
+all_words v = nat_lt v 4096
 
 -- One word alone.
 abbrev pub one : ℕ → Words

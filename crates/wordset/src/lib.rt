@@ -1,14 +1,14 @@
 //! Sets of words, kept by lanes: 64 words of 64 bits, with one bit for each of the 4096 words.
 //!
-//! Contracts see a set as the test `words` on the numbers below 4096, and each call as its
-//! mathematical image. No call takes memory. The module `plain` has the same calls one word at a
+//! Contracts see a set as the test `words`, which no number from 4096 on passes, and each call as
+//! its mathematical image. No call takes memory. The module `plain` has the same calls one word at a
 //! time, under the same definitions.
 #![tactic(auto)]
 
 ghost use Rattle.std.specs.Prelude.{◌≡◌, ◌<◌, ◌≤◌, ◌+◌, ◌-◌, ◌*◌, ◌/◌, ◌%◌, ◌^◌, ◌==◌, ◌↔◌, ℕ, map, bit_and, bit_or, length, not, slice_index, IsTrue, MatchOption};
 ghost use Rattle.std.specs.Int.{bit_at};
 ghost use Rattle.std.specs.Simd.Lanes.{zip2, chunk, put_chunk};
-ghost use Rattle.wordset.specs.Words.{SameWords, IsWithin, nothing, everything, one, between, with_word, without, union, meet, difference, shifted, has_some, how_many, first_below, only, mirrored, IsFirstFrom, HasNoneFrom, IsGreatest};
+ghost use Rattle.wordset.specs.Words.{SameWords, IsWithin, nothing, everything, all_words, one, between, with_word, without, union, meet, difference, shifted, has_some, how_many, first_below, only, mirrored, IsFirstFrom, HasNoneFrom, IsGreatest};
 ghost use Rattle.wordset.specs.Lanes.{words, twice};
 
 use std::marker::Model;
@@ -45,14 +45,14 @@ impl Model for WordSet {
 impl WordSet {
     /// The set with no word.
     pub fn empty() -> WordSet
-        ensures { SameWords (words result) nothing }
+        ensures { words result ≡ nothing }
     {
         WordSet { lanes: [0; 64] }
     }
 
     /// The set of all 4096 words.
     pub fn all() -> WordSet
-        ensures { SameWords (words result) everything }
+        ensures { words result ≡ all_words }
     {
         WordSet {
             lanes: [u64::MAX; 64],
@@ -61,7 +61,7 @@ impl WordSet {
 
     /// The set of one word.
     pub fn one(word: Word) -> WordSet
-        ensures { SameWords (words result) (one word) }
+        ensures { words result ≡ one word }
     {
         let mut set = WordSet::empty();
         set.insert(word);
@@ -70,7 +70,7 @@ impl WordSet {
 
     /// The words from `low` to `high`, both of them in it; none where `high` is the lesser.
     pub fn range(low: Word, high: Word) -> WordSet
-        ensures { SameWords (words result) (between low high) }
+        ensures { words result ≡ between low high }
     {
         let mut set = WordSet::empty();
         for v in low.index()..high.index() + 1 {
@@ -98,7 +98,7 @@ impl WordSet {
 
     /// Puts a word in.
     pub fn insert(&mut self, word: Word)
-        ensures { SameWords (words self.new) (with_word word (words self.old)) }
+        ensures { words self.new ≡ with_word word (words self.old) }
     {
         let at = word.index();
         self.lanes[at / 64] |= 1 << (at % 64);
@@ -106,7 +106,7 @@ impl WordSet {
 
     /// Takes a word out.
     pub fn remove(&mut self, word: Word)
-        ensures { SameWords (words self.new) (without word (words self.old)) }
+        ensures { words self.new ≡ without word (words self.old) }
     {
         *self = self.minus(&WordSet::one(word));
     }
@@ -203,7 +203,7 @@ impl WordSet {
 
     /// The words of either set.
     pub fn union(&self, other: &WordSet) -> WordSet
-        ensures { SameWords (words result) (union (words self.now) (words other.now)) }
+        ensures { words result ≡ union (words self.now) (words other.now) }
     {
         let both = u64x64::from_array(self.lanes) | u64x64::from_array(other.lanes);
         WordSet {
@@ -213,7 +213,7 @@ impl WordSet {
 
     /// The words that both sets have.
     pub fn meet(&self, other: &WordSet) -> WordSet
-        ensures { SameWords (words result) (meet (words self.now) (words other.now)) }
+        ensures { words result ≡ meet (words self.now) (words other.now) }
     {
         let both = u64x64::from_array(self.lanes) & u64x64::from_array(other.lanes);
         WordSet {
@@ -223,7 +223,7 @@ impl WordSet {
 
     /// The words of this set that the other doesn't have.
     pub fn minus(&self, other: &WordSet) -> WordSet
-        ensures { SameWords (words result) (difference (words self.now) (words other.now)) }
+        ensures { words result ≡ difference (words self.now) (words other.now) }
     {
         let left = u64x64::from_array(self.lanes) & !u64x64::from_array(other.lanes);
         WordSet {

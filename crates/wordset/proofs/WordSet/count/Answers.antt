@@ -12,13 +12,13 @@ pub overflow_add-total : goal.overflow_add-total
 overflow_add-total c =
     let so_far : c.loop-i.total ≡ how_many (64 * c.loop-i.i) (words c.self.inside.lanes) = c.loop-i.invariant in
     let e : c.loop-i.total + ones (get_or c.self.inside.lanes c.loop-i.i 0) < 2 ^ 64 =
-    omega (arith, how_many-lane c.self.inside.lanes c.loop-i.i c.self.invariant, how_many-le (64 * (c.loop-i.i + 1)) (words c.self.inside.lanes)) in
+    omega (arith, how_many-lane c.self.inside.lanes c.loop-i.i c.self.invariant c.loop-i-test.true, how_many-le (64 * (c.loop-i.i + 1)) (words c.self.inside.lanes)) in
     record { fits = e }
 
 pub loop-i-preserved : goal.loop-i-preserved
 loop-i-preserved c =
     let so_far : c.loop-i.total ≡ how_many (64 * c.loop-i.i) (words c.self.inside.lanes) = c.loop-i.invariant in
-    omega (arith, how_many-lane c.self.inside.lanes c.loop-i.i c.self.invariant)
+    omega (arith, how_many-lane c.self.inside.lanes c.loop-i.i c.self.invariant c.loop-i-test.true)
 
 pub returns : goal.returns
 returns c =

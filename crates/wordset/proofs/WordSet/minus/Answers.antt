@@ -1,5 +1,5 @@
 use Rattle.wordset.proofs.WordSet.minus.Goals as goal
-use Rattle.wordset.proofs.LaneBits.{words-minus}
+use Rattle.wordset.proofs.LaneBits.{minus_is}
 
 pub returns : goal.returns
-returns c = λ v h. rw (← c.self.view_is, ← c.other.view_is) (words-minus c.self.inside.lanes c.other.inside.lanes c.self.invariant c.other.invariant v h)
+returns c = rw (← c.self.view_is, ← c.other.view_is) (minus_is c.self.inside.lanes c.other.inside.lanes c.self.invariant c.other.invariant)

@@ -5,11 +5,12 @@ use Rattle.wordset.specs.Lanes.{words}
 use Rattle.wordset.specs.Links.{links_of}
 use Rattle.wordset.proofs.Tests.{some_none, some_next, some_last}
 use Rattle.wordset.proofs.WordSet.operate_at.Goals as goal
+use Rattle.wordset.proofs.SetLemmas.{same_words}
 
 pub loop-ac-init : goal.loop-ac-init
 loop-ac-init c = record {
   inside = omega arith;
-  words_are = λ v h. c.empty-found.ensures v h ∙ sym (some_none (λ x. words c.args.self.now x && (v == (operate1_of c.args.word (x, c.args.link)).0)));
+  words_are = λ v h. same_words c.empty-found.ensures v h ∙ sym (some_none (λ x. words c.args.self.now x && (v == (operate1_of c.args.word (x, c.args.link)).0)));
   links_are = λ k h. c.none-links.ensures k h ∙ sym (some_none (λ x. words c.args.self.now x && (k == (operate1_of c.args.word (x, c.args.link)).1)));
 }
 
@@ -23,7 +24,7 @@ loop-ac-preserved c =
     record {
       inside = omega (arith, c.index-next.ensures.small);
       words_are = λ v h. some_next c.loop-ac.next c.in-Some.ac a (λ x. v == (image x).0) (words c.loop-ac.found v) (words c.insert.new.self v) first
-          (c.loop-ac.invariant.words_are v h) (c.insert.ensures v h ∙ ap (λ p. words c.loop-ac.found v || v == p.0) is)
+          (c.loop-ac.invariant.words_are v h) (same_words c.insert.ensures v h ∙ ap (λ p. words c.loop-ac.found v || v == p.0) is)
           ∙ ap (λ n. some_below (n + 1) (λ x. a x && (v == (image x).0))) (sym same);
       links_are = λ k h. some_next c.loop-ac.next c.in-Some.ac a (λ x. k == (image x).1) (links_of c.loop-ac.links k) (links_of c.with-links.result k) first
           (c.loop-ac.invariant.links_are k h) (c.with-links.ensures k h ∙ ap (λ p. links_of c.loop-ac.links k || k == p.1) is)

@@ -4,9 +4,10 @@ use Rattle.wordset.specs.Lanes.{words}
 use Rattle.wordset.proofs.Tests.{some_none}
 use Rattle.wordset.proofs.PlainLemmas.{some_then, some_all, eq_swap}
 use Rattle.wordset.proofs.plain.and_word.Goals as goal
+use Rattle.wordset.proofs.SetLemmas.{same_words}
 
 pub loop-v-init : goal.loop-v-init
-loop-v-init c = λ v h. c.empty-found.ensures v h ∙ sym (some_none (λ x. words c.args.b.now x && (bit_and c.args.a x == v)))
+loop-v-init c = λ v h. same_words c.empty-found.ensures v h ∙ sym (some_none (λ x. words c.args.b.now x && (bit_and c.args.a x == v)))
 
 pub loop-v-preserved : goal.loop-v-preserved
 loop-v-preserved c = λ v h. some_then c.loop-v.v (λ x. words c.args.b.now x && (bit_and c.args.a x == v)) (words c.loop-v.found v) (words c.insert_if.new.set v) (c.contains.result && (v == c.and.result)) (c.loop-v.invariant v h)

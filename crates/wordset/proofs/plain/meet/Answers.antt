@@ -3,9 +3,10 @@ use Rattle.wordset.specs.Words.{meet}
 use Rattle.wordset.specs.Lanes.{words}
 use Rattle.wordset.proofs.PlainLemmas.{those_none, those_more, those_all}
 use Rattle.wordset.proofs.plain.meet.Goals as goal
+use Rattle.wordset.proofs.SetLemmas.{same_words}
 
 pub loop-v-init : goal.loop-v-init
-loop-v-init c = λ v h. c.empty-found.ensures v h ∙ those_none (meet (words c.args.a.now) (words c.args.b.now)) v
+loop-v-init c = λ v h. same_words c.empty-found.ensures v h ∙ those_none (meet (words c.args.a.now) (words c.args.b.now)) v
 
 pub loop-v-preserved : goal.loop-v-preserved
 loop-v-preserved c =

@@ -5,9 +5,10 @@ use Rattle.wordset.proofs.Tests.{some_none, more_yes, more_no}
 use Rattle.wordset.proofs.PlainLemmas.{some_all}
 use Rattle.wordset.proofs.plain.or_any.Goals as goal
 use Rattle.wordset.proofs.plain.or_any.Goals.{then-contains, else-contains}
+use Rattle.wordset.proofs.SetLemmas.{same_words}
 
 pub loop-v-init : goal.loop-v-init
-loop-v-init c = λ v h. c.empty-found.ensures v h ∙ sym (some_none (λ x. words c.args.set.now x && ors_of_parts c.args.mask x v))
+loop-v-init c = λ v h. same_words c.empty-found.ensures v h ∙ sym (some_none (λ x. words c.args.set.now x && ors_of_parts c.args.mask x v))
 
 pub loop-v-preserved : goal.loop-v-preserved
 loop-v-preserved c =

@@ -5,9 +5,10 @@ use Rattle.wordset.proofs.Tests.{some_none, more_yes, more_no}
 use Rattle.wordset.proofs.PlainLemmas.{some_all}
 use Rattle.wordset.proofs.plain.sums_alone.Goals as goal
 use Rattle.wordset.proofs.plain.sums_alone.Goals.{then-contains, else-contains}
+use Rattle.wordset.proofs.SetLemmas.{same_words}
 
 pub loop-v-init : goal.loop-v-init
-loop-v-init c = λ v h. c.empty-found.ensures v h ∙ sym (some_none (λ x. words c.args.a.now x && words c.args.b.now (minus v x)))
+loop-v-init c = λ v h. same_words c.empty-found.ensures v h ∙ sym (some_none (λ x. words c.args.a.now x && words c.args.b.now (minus v x)))
 
 pub loop-v-preserved : goal.loop-v-preserved
 loop-v-preserved c =

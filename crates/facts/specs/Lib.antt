@@ -6,3 +6,4 @@ pub mod Conditions
 pub mod Law
 pub mod Starts
 pub mod Same
+pub mod Meaning

@@ -7,3 +7,4 @@ pub mod Law
 pub mod Starts
 pub mod Same
 pub mod Meaning
+pub mod Showing

@@ -9,7 +9,7 @@ ghost use Rattle.facts.specs.Facts.{narrowed};
 ghost use Rattle.facts.specs.Changes.{with_offsets};
 ghost use Rattle.facts.specs.Statements.{unknown, tracked};
 ghost use Rattle.facts.specs.Same.{SameFact};
-ghost use Rattle.facts.specs.Meaning.{name_of, equation_of, tracked_of, offsets_of, statement_of, meaning};
+ghost use Rattle.facts.specs.Meaning.{name_of, equation_of, tracked_of, offsets_of, statement_of, cell_words, meaning};
 
 use crate::names::{Equation, Name};
 use crate::offsets::Offsets;
@@ -120,13 +120,20 @@ impl Fact {
     }
 
     /// The words that a name may hold: all words for a cell that isn't tracked.
-    pub fn set(&self, name: Name) -> WordSet
-        ensures { SameWords (words result) ((meaning self.now).set (name_of name)) }
+    pub fn set(&self, name: &Name) -> WordSet
+        ensures { SameWords (words result) ((meaning self.now).set (name_of name.now)) }
     {
         match name {
             Name::Accumulator => self.ac,
-            Name::Cell(cell) => cell_set(&self.cells, cell),
+            Name::Cell(cell) => self.set_of_cell(*cell),
         }
+    }
+
+    /// The words that a cell may hold.
+    pub(crate) fn set_of_cell(&self, cell: Word) -> WordSet
+        ensures { SameWords (words result) (cell_words self.now cell) }
+    {
+        cell_set(&self.cells, cell)
     }
 
     /// Lets the accumulator hold these words.
@@ -201,7 +208,7 @@ impl Fact {
 }
 
 /// The words of a cell: those that all its entries allow, or all words where it has none.
-pub(crate) fn cell_set(cells: &[TrackedCell], cell: Word) -> WordSet
+fn cell_set(cells: &[TrackedCell], cell: Word) -> WordSet
     ensures { SameWords (words result) (tracked cell (map tracked_of cells.now)) }
 {
     let mut set = WordSet::all();

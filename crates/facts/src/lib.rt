@@ -5,11 +5,14 @@ ghost use Rattle.facts.specs.Law.{StepLaw};
 ghost use Rattle.facts.specs.Starts.{StartLaw};
 ghost use Rattle.facts.specs.Same.{SameLaw};
 
+mod equations;
 mod fact;
+mod known;
 mod names;
 mod offsets;
 
 pub use fact::{Fact, MOST_CELLS, MOST_EQUATIONS, TrackedCell};
+pub use known::Known;
 pub use names::{Equation, Name};
 pub use offsets::Offsets;
 

@@ -43,8 +43,8 @@ impl Default for Equation {
 }
 
 /// Whether two names are one.
-pub(crate) fn is_same_name(a: Name, b: Name) -> bool
-    ensures { result ≡ same (name_of a) (name_of b) }
+pub(crate) fn is_same_name(a: &Name, b: &Name) -> bool
+    ensures { result ≡ same (name_of a.now) (name_of b.now) }
 {
     match a {
         Name::Accumulator => match b {
@@ -53,7 +53,7 @@ pub(crate) fn is_same_name(a: Name, b: Name) -> bool
         },
         Name::Cell(x) => match b {
             Name::Accumulator => false,
-            Name::Cell(y) => x == y,
+            Name::Cell(y) => *x == *y,
         },
     }
 }
@@ -62,7 +62,7 @@ pub(crate) fn is_same_name(a: Name, b: Name) -> bool
 pub(crate) fn is_same_equation(a: &Equation, b: &Equation) -> bool
     ensures { IsTrue result ↔ (equation_of a.now ≡ equation_of b.now) }
 {
-    is_same_name(a.left, b.left) && a.right == b.right && a.more == b.more
+    is_same_name(&a.left, &b.left) && a.right == b.right && a.more == b.more
 }
 
 /// The word that takes back what another adds.

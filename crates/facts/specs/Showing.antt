@@ -1,0 +1,21 @@
+-- Parts of an entailment, as the code tests them.
+use Rattle.std.specs.Prelude.{◌≡◌, ℕ, Some, List, [], ◌∷◌}
+use Rattle.wordset.specs.Words.{plus, only, IsWithin, IsLinkWithin}
+use Rattle.facts.specs.Facts.{Ac, Cell, Equation, Fact, narrowed}
+use Rattle.facts.specs.Statements.{TrackedCell}
+
+-- One word is left on each side of an equation, and they fulfil it.
+abbrev pub Shows : Fact → Equation → Type 0
+Shows f e =
+    (x : ℕ) × (y : ℕ) × (only (narrowed f e.left) ≡ Some x) × (only (narrowed f e.right) ≡ Some y) × (x ≡ plus y e.more)
+
+-- The accumulator, MQ and the link are as b says.
+pub record EntailsRegisters (a b : Fact) : Type 0 where
+  pub ac : IsWithin (narrowed a Ac) (b.set Ac)
+  pub mq : IsWithin a.mq b.mq
+  pub link : IsLinkWithin a.link b.link
+
+-- Each tracked cell of the list has its narrowed words within.
+abbrev pub EachWithin : Fact → List TrackedCell → Type 0
+EachWithin f [] = Unit {0}
+EachWithin f (t ∷ ts) = IsWithin (narrowed f (Cell t.address)) t.set × EachWithin f ts

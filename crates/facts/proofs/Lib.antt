@@ -8,3 +8,5 @@ pub mod Starting
 pub mod Alike
 pub mod EntailLemmas
 pub mod ChangeLemmas
+pub mod StartLemmas
+pub mod AgreeLemmas

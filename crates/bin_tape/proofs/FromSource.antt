@@ -8,7 +8,8 @@ use Rattle.bin_tape.specs.Refuses.{Refuses, IsUnfinished}
 use Rattle.bin_tape.specs.Reading.{Progress, Between, Second, Skipping, Ended, Faulty, reads, Answers}
 use Rattle.bin_tape.specs.Holds.{IsOpen}
 use Rattle.bin_tape.specs.Served.{ServesAll, Serves}
-use Rattle.bin_tape.specs.Serving.{Gave, IsPrompt, failed_to_read}
+use Rattle.streams.specs.Bytes.{Gave}
+use Rattle.bin_tape.specs.Serving.{IsPrompt, failed_to_read}
 use Rattle.bin_tape.proofs.Means.{Means, reads_means}
 use Rattle.bin_tape.proofs.Decides.{is_tape, only_tape, only_fault, is_refused}
 

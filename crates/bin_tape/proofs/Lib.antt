@@ -4,7 +4,6 @@ pub mod Means
 pub mod Parsed
 pub mod Runs
 pub mod Served
-pub mod Fronts
 pub mod FromSource
 pub mod GoesOn
 pub mod WordFrames

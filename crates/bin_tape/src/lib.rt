@@ -5,21 +5,18 @@
 //! here takes memory.
 #![tactic(auto)]
 
-pub mod bytes;
 pub mod fault;
 pub mod image;
 pub mod laws;
-pub mod memory;
 pub mod read;
 mod reader;
-pub mod standard;
 pub mod word;
 pub mod write;
 
-pub use bytes::{ByteSink, ByteSource, Failed, put};
 pub use fault::{TapeFault, WriteTapeFault};
 pub use image::Image;
 pub use read::{read_from, read_tape};
+pub use streams::{ByteSink, ByteSource, Failed, put};
 pub use word::TapeWord;
 pub use write::write_tape;
 

@@ -3,13 +3,14 @@
 ghost use Rattle.std.specs.Prelude.{◌≡◌, ◌≤◌, List, Option, ℕ, length, take, nat_lt, IfOk, IfErr, IfSome, Ok, Err, false};
 ghost use Rattle.bin_tape.specs.Tape.{IsTape};
 ghost use Rattle.bin_tape.specs.Refuses.{Refuses, IsUnfinished};
-ghost use Rattle.bin_tape.specs.Serving.{Gave, IsPrompt, failed_to_read};
+ghost use Rattle.streams.specs.Bytes.{Gave};
+ghost use Rattle.bin_tape.specs.Serving.{IsPrompt, failed_to_read};
 ghost use Rattle.bin_tape.specs.Reading.{Answers, reads};
 ghost use Rattle.bin_tape.specs.Served.{Serves};
 ghost use Rattle.bin_tape.specs.declared.fault.TapeFault.{TapeFault};
 ghost use Rattle.bin_tape.specs.declared.fault.TapeFault.TheVariants.{ReadFault};
 
-use crate::bytes::ByteSource;
+use streams::ByteSource;
 use crate::fault::TapeFault;
 use crate::image::Image;
 use crate::reader::{Fed, Reader};

@@ -1,6 +1,6 @@
 //! Tapes worked by hand from the description of the format, frame by frame.
 
-use crate::memory::{MemorySink, MemorySource};
+use testing::memory::{MemorySink, MemorySource};
 use crate::standard::{Reads, Writes};
 use crate::{
     ByteSink, ByteSource, Failed, Image, TapeFault, TapeWord, WriteTapeFault, put, read_from,

@@ -2,13 +2,13 @@
 
 ghost use Rattle.std.specs.Prelude.{◌≡◌, ◌↔◌, ◌+◌, ◌%◌, ◌≤◌, ◌<◌, ◌++◌, ◌∷◌, [], false, Err, length, replicate, sum, OnOk, IfSome, IsNone};
 ghost use Rattle.std.specs.Io.KnownBytes.{Appends};
-ghost use Rattle.bin_tape.specs.Bytes.{AppendsFront};
+ghost use Rattle.streams.specs.Bytes.{AppendsFront};
 ghost use Rattle.bin_tape.specs.Image.{IsEmptyImage};
 ghost use Rattle.bin_tape.specs.Tape.{frames, IsTape};
 ghost use Rattle.bin_tape.specs.Written.{cell_words, words_below, word_frames, written_tape, failed_to_write};
 ghost use Rattle.bin_tape.specs.declared.fault.WriteTapeFault.TheVariants.{EmptyImage, WriteFault};
 
-use crate::bytes::{ByteSink, put};
+use streams::{ByteSink, put};
 use crate::fault::WriteTapeFault;
 use crate::image::Image;
 use crate::laws::written_tapes_read_back;

@@ -2,7 +2,7 @@
 use Rattle.std.specs.Prelude.{ℕ, Some, None}
 use Rattle.wordset.specs.Words.{Words, nothing}
 use Rattle.processor.specs.Runs.{Image}
-use Rattle.policy.specs.Declaration.{Routine, Declaration}
+use Rattle.declaration.specs.Declaration.{Routine, Declaration}
 use Rattle.facts.specs.Facts.{Fact, Place}
 
 -- For each routine that is listed its rank, the addresses of the JMS words that call it and the cells that it and its

@@ -5,7 +5,7 @@ use Rattle.std.proofs.lemmas.Bool.{and_parts, cases_Bool, eqb-true, true≢false
 use Rattle.instruct.specs.declared.Profile.TheVariants.{Pdp8I}
 use Rattle.instruct.specs.Instructions.{meaning_of}
 use Rattle.wordset.specs.Words.{Words, plus, nothing, everything, one, some_below, how_many}
-use Rattle.policy.specs.Declaration.{Routine, IsDeclared}
+use Rattle.declaration.specs.Declaration.{Routine, IsDeclared}
 use Rattle.facts.specs.Facts.{Name, Ac, Cell, Fact, narrowed, possible, Entails, joined}
 use Rattle.facts.specs.Changes.{moved, assigned, copied, with_equations, with_offsets}
 use Rattle.facts.specs.Outcomes.{Outcome, Goes, given, dca_case, part2, operated2}

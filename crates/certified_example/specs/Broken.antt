@@ -3,7 +3,7 @@ use Rattle.std.specs.Prelude.{ℕ, ◌==◌, false, if◌then◌else◌, Option,
 use Rattle.instruct.specs.declared.Profile.TheVariants.{Pdp8I}
 use Rattle.wordset.specs.Words.{Words, nothing, one}
 use Rattle.processor.specs.Runs.{Image}
-use Rattle.policy.specs.Declaration.{Routine, Declaration}
+use Rattle.declaration.specs.Declaration.{Routine, Declaration}
 use Rattle.policy.specs.Runs.{IsSafeInRuns}
 
 -- The word at 0200, and nothing else on the tape.

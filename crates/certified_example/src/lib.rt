@@ -4,7 +4,7 @@
 
 ghost use Rattle.std.specs.Prelude.{Some, None};
 ghost use Rattle.wordset.specs.Words.{nothing};
-ghost use Rattle.policy.specs.Declaration.{IsDeclared};
+ghost use Rattle.declaration.specs.Declaration.{IsDeclared};
 ghost use Rattle.policy.specs.Runs.{IsSafe};
 ghost use Rattle.judge.specs.Conditions.{IsValid};
 ghost use Rattle.certified_example.specs.Example.{image, declaration, example};

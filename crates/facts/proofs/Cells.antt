@@ -4,7 +4,7 @@ use Rattle.std.proofs.lemmas.Bool.{and_from, eqb-true, eqb-false, eq-eqb, ne_eqb
 use Rattle.wordset.specs.Words.{plus, minus, Words, everything}
 use Rattle.processor.specs.Cells.{Cells, updated}
 use Rattle.processor.specs.Machine.{State}
-use Rattle.policy.specs.Declaration.{Declaration, IsDeclared}
+use Rattle.declaration.specs.Declaration.{Declaration, IsDeclared}
 use Rattle.policy.specs.Calls.{Call, Calls}
 use Rattle.facts.specs.Facts.{Name, Ac, Cell, same, Equation, Fact, Values, AllTrue, Holds, narrowed, values, KeepsRest, Place, OwnWord, StandsIn, Means, own_words, is_routine, tape_word, words_in, possible}
 use Rattle.facts.specs.Law.{IsState, TopIsEntry}

@@ -10,7 +10,7 @@ use Rattle.instruct.specs.Instructions.{Meaning, And, Tad, Isz, Dca, Jms, Jmp, G
 use Rattle.wordset.specs.Words.{plus}
 use Rattle.processor.specs.Cells.{Cells, updated}
 use Rattle.processor.specs.Machine.{State, Answer, Answers, seen, place, steps_pointer, next_pc, Does, instruction}
-use Rattle.policy.specs.Declaration.{IsDeclared}
+use Rattle.declaration.specs.Declaration.{IsDeclared}
 use Rattle.policy.specs.Calls.{Calls}
 use Rattle.policy.specs.Runs.{GoesOn}
 use Rattle.facts.specs.Facts.{Cell, Fact, Place, StandsIn, Means, is_routine}

@@ -8,7 +8,7 @@ use Rattle.instruct.specs.Instructions.{Skips, Ors, Clears, Takes, Leaves}
 use Rattle.wordset.specs.Words.{plus, minus, Words, everything, one, some_below, has_some, without, shifted, sums, carries, toggled, only, ands, ors, or_any, images_at, images}
 use Rattle.processor.specs.Cells.{Cells, updated}
 use Rattle.processor.specs.Machine.{State, seen, place, steps_pointer, next_pc}
-use Rattle.policy.specs.Declaration.{IsDeclared}
+use Rattle.declaration.specs.Declaration.{IsDeclared}
 use Rattle.policy.specs.Calls.{Calls}
 use Rattle.facts.specs.Facts.{Name, Ac, Cell, same, Fact, Values, Holds, narrowed, values, Place, OwnWord, StandsIn, Means, is_routine, words_in}
 use Rattle.facts.specs.Changes.{with_set, moved, assigned, smeared, with_equations, with_mq, with_link, with_offsets, with_name}

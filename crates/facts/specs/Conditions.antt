@@ -2,8 +2,8 @@
 use Rattle.std.specs.Prelude.{◌≡◌, ℕ, ◌<◌, ◌==◌, true, false, ◌&&◌, ◌||◌, ◌⊎◌, Some, None}
 use Rattle.instruct.specs.Instructions.{Meaning, And, Tad, Isz, Dca, Jms, Jmp}
 use Rattle.wordset.specs.Words.{Words, only}
-use Rattle.policy.specs.Declaration.{Routine}
-use Rattle.policy.specs.Rules.{pointer_of, IsListed, IsSupported, HaltsDeclared}
+use Rattle.declaration.specs.Declaration.{Routine, IsListed}
+use Rattle.policy.specs.Rules.{pointer_of, IsSupported, HaltsDeclared}
 use Rattle.facts.specs.Facts.{Fact, Place}
 use Rattle.facts.specs.Outcomes.{targets}
 use Rattle.facts.specs.declared.Condition.{Condition}

@@ -4,7 +4,7 @@ use Rattle.wordset.specs.Words.{plus, minus, Words, everything, one, some_below,
 use Rattle.processor.specs.Cells.{Cells}
 use Rattle.processor.specs.Machine.{State}
 use Rattle.processor.specs.Runs.{Image}
-use Rattle.policy.specs.Declaration.{Routine, Declaration}
+use Rattle.declaration.specs.Declaration.{Routine, Declaration}
 use Rattle.policy.specs.Calls.{Calls}
 
 -- What a fact's sets and equations speak of: the accumulator or a cell.

@@ -3,7 +3,7 @@ use Rattle.std.specs.Prelude.{◌≡◌, ℕ, ◌<◌, true, false, ◌⊎◌, S
 use Rattle.instruct.specs.Instructions.{Meaning, Jms, Jmp}
 use Rattle.processor.specs.Cells.{Cells, AreWords}
 use Rattle.processor.specs.Machine.{State, Answer, instruction, Step}
-use Rattle.policy.specs.Declaration.{Declaration, IsDeclared}
+use Rattle.declaration.specs.Declaration.{Declaration, IsDeclared}
 use Rattle.policy.specs.Calls.{Calls}
 use Rattle.policy.specs.Runs.{GoesOn}
 use Rattle.facts.specs.Facts.{Fact, Place, Means}

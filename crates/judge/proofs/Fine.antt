@@ -1,7 +1,7 @@
 -- What a valid certificate says of each word that is possible at the address of a fact, all conditions together.
 use Rattle.std.proofs.Common.{◌≡◌, ℕ, ◌<◌, true}
 use Rattle.instruct.specs.Instructions.{Meaning, meaning_of}
-use Rattle.policy.specs.Declaration.{Routine}
+use Rattle.declaration.specs.Declaration.{Routine}
 use Rattle.facts.specs.Facts.{possible}
 use Rattle.facts.specs.declared.Condition.TheVariants.{V3, V4, V5, V6, V7, V8, V9, V10, V11, V12, V13, V14, V15}
 use Rattle.facts.proofs.Numbers.{or_left, or_right}

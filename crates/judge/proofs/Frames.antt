@@ -5,7 +5,7 @@ use Rattle.std.proofs.lemmas.Bool.{and_from, ne_eqb, true≢false, cases_eq, lt-
 use Rattle.wordset.specs.Words.{plus, IsWithin}
 use Rattle.processor.specs.Cells.{Cells, updated}
 use Rattle.processor.specs.Machine.{seen, steps_pointer}
-use Rattle.policy.specs.Declaration.{IsDeclared}
+use Rattle.declaration.specs.Declaration.{IsDeclared}
 use Rattle.policy.specs.Calls.{Call, Calls, current}
 use Rattle.facts.specs.Facts.{Cell, Fact, values, OwnWord, joined}
 use Rattle.facts.specs.Conditions.{MayWrite}

@@ -6,7 +6,7 @@ use Rattle.instruct.specs.Instructions.{Meaning, And, Tad, Isz, Dca, Jms, Jmp, G
 use Rattle.wordset.specs.Words.{plus, one}
 use Rattle.processor.specs.Cells.{Cells, updated}
 use Rattle.processor.specs.Machine.{State, Answer, seen, place, steps_pointer, Does, Step, instruction}
-use Rattle.policy.specs.Declaration.{Routine, IsDeclared}
+use Rattle.declaration.specs.Declaration.{Routine, IsDeclared}
 use Rattle.policy.specs.Calls.{Call, Calls, current, returned, calls_of, calls_after}
 use Rattle.policy.specs.Runs.{GoesOn}
 use Rattle.facts.specs.Facts.{Cell, Fact, Values, Holds, values, Place, StandsIn, Means, Entails, EntailsOffsets, joined}

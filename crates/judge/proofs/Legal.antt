@@ -6,9 +6,10 @@ use Rattle.wordset.specs.Words.{plus}
 use Rattle.processor.specs.Cells.{Cells}
 use Rattle.processor.specs.Machine.{State, Answer, place, steps_pointer, instruction}
 use Rattle.processor.specs.Runs.{IsStart}
-use Rattle.policy.specs.Declaration.{IsDeclared}
+use Rattle.declaration.specs.Declaration.{IsDeclared}
 use Rattle.policy.specs.Calls.{Calls, current, calls_after}
-use Rattle.policy.specs.Rules.{pointer_of, stored_at, CountsOwnEntry, WritesDeclared, CallsEntries, FindsItsCall, ReturnsToItsCall, IsListed, ReadsListed, IsLegal}
+use Rattle.declaration.specs.Declaration.{IsListed}
+use Rattle.policy.specs.Rules.{pointer_of, stored_at, CountsOwnEntry, WritesDeclared, CallsEntries, FindsItsCall, ReturnsToItsCall, ReadsListed, IsLegal}
 use Rattle.policy.specs.Runs.{DeclaredRun, IsSafeInRuns}
 use Rattle.facts.specs.Facts.{Means}
 use Rattle.facts.specs.Conditions.{may_read}

@@ -1,7 +1,7 @@
 -- Without a list of reads nothing is asked of them.
 use Rattle.std.proofs.Common.{◌≡◌, ℕ, Option, None, sym, subst, inl}
 use Rattle.wordset.specs.Words.{Words}
-use Rattle.policy.specs.Rules.{IsListed}
+use Rattle.declaration.specs.Declaration.{IsListed}
 use Rattle.judge.specs.Headline.{UnlistedReadsAreFree}
 
 unlisted : (reads : Option Words) (a : ℕ) → reads ≡ None → IsListed reads a

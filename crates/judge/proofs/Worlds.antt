@@ -10,7 +10,7 @@ use Rattle.processor.specs.Runs.{IsStart}
 use Rattle.peripherals.specs.declared.Event.{Event}
 use Rattle.peripherals.specs.declared.Event.TheVariants.{Step as Instruct, Key, PrinterDone, ReaderDone, PunchDone, Switches, Continue}
 use Rattle.peripherals.specs.Devices.{WorldState}
-use Rattle.policy.specs.Declaration.{Declaration, IsDeclared}
+use Rattle.declaration.specs.Declaration.{Declaration, IsDeclared}
 use Rattle.policy.specs.Calls.{Calls}
 use Rattle.policy.specs.Rules.{IsSupported}
 use Rattle.policy.specs.Runs.{GoesOn, resumed, HappensDeclared, calls_running, calls_by, DeclaredEvents, IsSafeInEvents}

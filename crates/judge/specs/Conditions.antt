@@ -4,7 +4,7 @@ use Rattle.instruct.specs.Instructions.{Meaning, Jms, Jmp, meaning_of}
 use Rattle.wordset.specs.Words.{plus, one, some_below, how_many, IsWithin}
 use Rattle.processor.specs.Machine.{steps_pointer}
 use Rattle.processor.specs.Runs.{Image}
-use Rattle.policy.specs.Declaration.{Routine, Declaration}
+use Rattle.declaration.specs.Declaration.{Routine, Declaration}
 use Rattle.policy.specs.Rules.{IsSupported, HaltsDeclared}
 use Rattle.facts.specs.Facts.{Fact, Place, possible, Entails, EntailsOffsets, joined}
 use Rattle.facts.specs.Changes.{with_offsets}

@@ -1,6 +1,6 @@
 -- The headline: a valid certificate makes a program safe.
 use Rattle.std.specs.Prelude.{◌≡◌, ℕ, None}
-use Rattle.policy.specs.Declaration.{IsDeclared}
+use Rattle.declaration.specs.Declaration.{IsDeclared}
 use Rattle.policy.specs.Rules.{ReadsListed}
 use Rattle.policy.specs.Runs.{IsSafe}
 use Rattle.processor.specs.Machine.{State, instruction}

@@ -3,7 +3,7 @@
 ghost use Rattle.std.specs.Prelude.{◌≡◌, false, is_err, IfOk, IfErr, OnOk, OnErr, MatchResult, ℕ, List, Option, Some, Err};
 ghost use Rattle.pal_text.specs.declared.names.Name.{Name as Named};
 ghost use Rattle.std.specs.Io.KnownBytes.{Appends};
-ghost use Rattle.bin_tape.specs.Bytes.{AppendsFront};
+ghost use Rattle.streams.specs.Bytes.{AppendsFront};
 ghost use Rattle.pal_asm.specs.declared.fault.PalFault.{PalFault as Faulty};
 ghost use Rattle.pal_acts.specs.Permanent.{permanent_symbols};
 ghost use Rattle.pal_asm.specs.Sources.{texts, size_fault, Means, IsFault, Refuses, IsSilent, TellsOnly};
@@ -13,7 +13,8 @@ ghost use Rattle.pal_asm.specs.Programs.{symbols_of, image_of, listing_of, symbo
 use crate::fault::{AssembleFault, WriteFault};
 use crate::listing::make_listing;
 use crate::translation::{Translation, translate_for};
-use bin_tape::{ByteSink, Image, put};
+use bin_tape::Image;
+use streams::{ByteSink, put};
 use instruct::Profile;
 use pal_acts::{SymbolTable, Symbols, permanent_table};
 use std::alloc::{AllocError, Allocator};

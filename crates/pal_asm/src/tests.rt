@@ -1,10 +1,10 @@
 //! Sources worked by hand from the rules of the language.
 
 use crate::{AssembleFault, PalFault, WriteFault, assemble, translate};
-use bin_tape::memory::MemorySink;
+use testing::memory::MemorySink;
 use instruct::Profile;
 use pal_acts::Code;
-use refusing::Refusing;
+use testing::Refusing;
 use std::alloc::Allocator;
 use std::format;
 use std::test::Fail;

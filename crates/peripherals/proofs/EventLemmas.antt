@@ -8,7 +8,7 @@ use Rattle.peripherals.specs.declared.event_text.EventsFault.{EventsFault}
 use Rattle.peripherals.specs.declared.event_text.EventsFault.TheVariants.{BadLine, TooMany, NoMemory}
 use Rattle.peripherals.specs.declared.event_text.Repeated.{Repeated}
 use Rattle.peripherals.specs.Repeated.{repeated, RefusesMore}
-use Rattle.peripherals.specs.Text.{text_lines}
+use Rattle.streams.specs.Text.{text_lines}
 use Rattle.peripherals.specs.EventText.{LinesSpell, Spells, GoodBefore, PassesLimit, StandsBad, Fails, line_events, most_events}
 
 -- one good line more

@@ -6,7 +6,7 @@ use Rattle.peripherals.specs.declared.Event.{Event}
 use Rattle.peripherals.specs.declared.Event.TheVariants.{Step, Key, PrinterDone, ReaderDone, PunchDone, Switches, Continue}
 use Rattle.peripherals.specs.declared.event_text.EventsFault.{EventsFault}
 use Rattle.peripherals.specs.declared.event_text.EventsFault.TheVariants.{BadLine, TooMany, NoMemory}
-use Rattle.peripherals.specs.Text.{text_lines, words_of, octal_word, octal_byte, decimal_between}
+use Rattle.streams.specs.Text.{text_lines, words_of, octal_word, octal_byte, decimal_between}
 
 -- A text has at most so many bytes, and at most so many events.
 abbrev pub most_bytes : ℕ

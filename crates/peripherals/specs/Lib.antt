@@ -4,7 +4,5 @@ pub mod Loading
 pub mod Runs
 pub mod Seen
 pub mod World
-pub mod Text
-pub mod TextLeft
 pub mod EventText
 pub mod Repeated

@@ -6,12 +6,12 @@ ghost use Rattle.peripherals.specs.declared.Event.{Event};
 ghost use Rattle.peripherals.specs.declared.event_text.EventsFault.{EventsFault};
 ghost use Rattle.peripherals.specs.declared.event_text.EventsFault.TheVariants.{NoMemory};
 ghost use Rattle.peripherals.specs.declared.Event.TheVariants.{Step};
-ghost use Rattle.peripherals.specs.Text.{decimal_between};
+ghost use Rattle.streams.specs.Text.{decimal_between};
 ghost use Rattle.peripherals.specs.EventText.{Spells, Fails, event_named, events_numbered, line_events, most_bytes, most_events};
 ghost use Rattle.peripherals.specs.Repeated.{repeated, RefusesMore};
 
-use crate::text::{Lines, Words};
-use crate::{Event, text};
+use streams::text::{self, Lines, Words};
+use crate::Event;
 use std::alloc::Allocator;
 use thiserror::Error;
 

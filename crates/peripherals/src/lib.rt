@@ -7,7 +7,6 @@
 
 mod devices;
 mod event_text;
-pub mod text;
 mod world;
 
 ghost use Rattle.std.specs.Prelude.{◌≡◌};

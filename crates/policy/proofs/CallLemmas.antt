@@ -4,7 +4,7 @@ use Rattle.std.specs.Prelude.{slice_get}
 use Rattle.std.specs.Option.{option_to_list}
 use Rattle.std.proofs.lemmas.Grind.{common_steps}
 use Rattle.wordset.specs.Words.{minus}
-use Rattle.policy.specs.Declaration.{Declaration}
+use Rattle.declaration.specs.Declaration.{Declaration}
 use Rattle.policy.specs.Decided.{finds_call}
 use Rattle.policy.specs.Calls.{Calls, returned}
 use Rattle.policy.specs.OpenCalls.{call_of, put_on, open_calls}

@@ -9,7 +9,7 @@ use Rattle.processor.specs.Machine.{State, Answer, Does, instruction, after, pla
 use Rattle.processor.specs.Runs.{Image}
 use Rattle.processor.proofs.CellLemmas.{updated_other}
 use Rattle.peripherals.specs.Loading.{laid}
-use Rattle.policy.specs.Declaration.{Routine, Declaration, IsDeclared}
+use Rattle.declaration.specs.Declaration.{Routine, Declaration, IsDeclared}
 use Rattle.policy.specs.Calls.{Calls, current}
 use Rattle.policy.specs.Rules.{WritesDeclared, CallsEntries, KeepsCode, IsLegal}
 

@@ -15,9 +15,10 @@ use Rattle.policy.specs.declared.actions.Reference.{Reference}
 use Rattle.policy.specs.declared.actions.Action.TheVariants as action
 use Rattle.policy.specs.declared.rules.Rule.{Rule}
 use Rattle.policy.specs.declared.rules.Rule.TheVariants as rule
-use Rattle.policy.specs.Declaration.{Routine, Declaration}
+use Rattle.declaration.specs.Declaration.{Routine, Declaration}
 use Rattle.policy.specs.Calls.{Calls, current}
-use Rattle.policy.specs.Rules.{IsSupported, written_by, read_by, StaysInBody, WritesDeclared, CallsEntries, FindsItsCall, ReturnsToItsCall, HaltsDeclared, IsListed, ReadsListed, KeepsCode, IsLegal}
+use Rattle.declaration.specs.Declaration.{IsListed}
+use Rattle.policy.specs.Rules.{IsSupported, written_by, read_by, StaysInBody, WritesDeclared, CallsEntries, FindsItsCall, ReturnsToItsCall, HaltsDeclared, ReadsListed, KeepsCode, IsLegal}
 use Rattle.policy.specs.Actions.{action_of}
 use Rattle.policy.specs.Decided.{is_own, is_isz, is_jms, is_jmp, implies, may_write, writes, finds_call, returns, is_listed, may_load, reads, least_broken}
 use Rattle.policy.specs.Watching.{number_of, Keeps, IsLeastBroken}

@@ -1,13 +1,6 @@
-pub mod LineLemmas
-pub mod DraftLemmas
-pub mod RuleLemmas
-pub mod IsDeclaredLemmas
-pub mod EntryLemmas
-pub mod FaultLemmas
 pub mod ActionLemmas
 pub mod CallLemmas
 pub mod LegalLemmas
 pub mod CodeLemmas
 pub mod WatchLemmas
 pub mod TellLemmas
-pub mod VerdictLemmas

@@ -14,7 +14,7 @@ use Rattle.peripherals.specs.Devices.{Devices, WorldState, answer_of, CarriesOut
 use Rattle.peripherals.specs.Events.{Happens, Steps}
 use Rattle.peripherals.specs.Seen.{puts_out}
 use Rattle.policy.specs.declared.actions.Action.{Action}
-use Rattle.policy.specs.Declaration.{Declaration, IsDeclared}
+use Rattle.declaration.specs.Declaration.{Declaration, IsDeclared}
 use Rattle.policy.specs.Calls.{Calls, calls_of, calls_after}
 use Rattle.policy.specs.Rules.{KeepsCode, IsLegal}
 use Rattle.policy.specs.Runs.{HappensDeclared, DeclaredEvents, calls_by, calls_running, resumed}

@@ -2,7 +2,7 @@
 use Rattle.std.specs.Prelude.{ℕ, ◌&&◌, if◌then◌else◌, Some, None, List, [], ◌∷◌}
 use Rattle.instruct.specs.Instructions.{Meaning, Jms, Jmp}
 use Rattle.processor.specs.Machine.{State, after, instruction, place}
-use Rattle.policy.specs.Declaration.{Routine, Declaration}
+use Rattle.declaration.specs.Declaration.{Routine, Declaration}
 
 -- A call: the entry, and the address after the JMS.
 pub record Call : Type 0 where

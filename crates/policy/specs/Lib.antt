@@ -1,11 +1,6 @@
-pub mod Declaration
 pub mod Calls
 pub mod Rules
 pub mod Runs
-pub mod Kept
-pub mod DeclarationLines
-pub mod DeclarationText
-pub mod Drafts
 pub mod Actions
 pub mod Watching
 pub mod Decided

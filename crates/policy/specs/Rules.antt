@@ -6,7 +6,7 @@ use Rattle.wordset.specs.Words.{Words}
 use Rattle.processor.specs.Cells.{Cells}
 use Rattle.processor.specs.Machine.{State, after, steps_pointer, place, instruction}
 use Rattle.processor.specs.Runs.{Image}
-use Rattle.policy.specs.Declaration.{Routine, Declaration}
+use Rattle.declaration.specs.Declaration.{Routine, Declaration, IsListed}
 use Rattle.policy.specs.Calls.{Calls, current}
 
 -- The word means something on the declared machine.
@@ -85,11 +85,6 @@ HaltsDeclared d _ pc = Unit {0}
 abbrev pub KeepsCode : Image → Declaration → Cells → Type 0
 KeepsCode image d memory =
     (r : Routine) (a w : ℕ) → d.body r a ≡ true → d.variable a ≡ false → image a ≡ Some w → memory a ≡ w
-
--- Where reads are listed, the cell is on the list.
-abbrev pub IsListed : Option Words → ℕ → Type 0
-IsListed None a = Unit {0}
-IsListed (Some cells) a = cells a ≡ true
 
 -- Rule 7: each cell that is read is on the list of reads, if there is one, or is the running routine's own entry.
 abbrev pub ReadsListed : Declaration → Meaning → State → Calls → Type 0

@@ -8,7 +8,7 @@ use Rattle.peripherals.specs.declared.Event.{Event}
 use Rattle.peripherals.specs.declared.Event.TheVariants.{Step as Instruct, Key, PrinterDone, ReaderDone, PunchDone, Switches, Continue}
 use Rattle.peripherals.specs.Devices.{WorldState}
 use Rattle.peripherals.specs.Events.{Happens, IsLoaded}
-use Rattle.policy.specs.Declaration.{Declaration}
+use Rattle.declaration.specs.Declaration.{Declaration}
 use Rattle.policy.specs.Calls.{Calls, calls_after}
 use Rattle.policy.specs.Rules.{IsLegal}
 

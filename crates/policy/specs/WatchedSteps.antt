@@ -8,7 +8,7 @@ use Rattle.peripherals.specs.declared.Event.TheVariants.{Step as Instruct, Conti
 use Rattle.peripherals.specs.Devices.{WorldState}
 use Rattle.peripherals.specs.Seen.{puts_out}
 use Rattle.policy.specs.declared.rules.Rule.{Rule}
-use Rattle.policy.specs.Declaration.{Declaration, IsDeclared}
+use Rattle.declaration.specs.Declaration.{Declaration, IsDeclared}
 use Rattle.policy.specs.Calls.{Calls}
 use Rattle.policy.specs.Rules.{KeepsCode, IsLegal}
 use Rattle.policy.specs.Runs.{HappensDeclared, calls_by, resumed}

@@ -11,7 +11,7 @@ use Rattle.policy.specs.declared.rules.Rule.{Rule}
 use Rattle.policy.specs.declared.watcher.Watched.{Watched}
 use Rattle.policy.specs.declared.watcher.Watched.TheVariants.{Clean, Broken}
 use Rattle.policy.specs.declared.rules.Rule.TheVariants as rule
-use Rattle.policy.specs.Declaration.{Declaration}
+use Rattle.declaration.specs.Declaration.{Declaration}
 use Rattle.policy.specs.Calls.{Calls}
 use Rattle.policy.specs.Rules.{StaysInBody, WritesDeclared, CallsEntries, ReturnsToItsCall, HaltsDeclared, KeepsCode, ReadsListed, IsLegal}
 use Rattle.policy.specs.Runs.{DeclaredEvents}

@@ -8,14 +8,14 @@ ghost use Rattle.processor.specs.Runs.{Image};
 ghost use Rattle.processor.specs.Steps.{state_of};
 ghost use Rattle.policy.specs.Calls.{current};
 ghost use Rattle.policy.specs.Rules.{KeepsCode, IsLegal};
-ghost use Rattle.policy.specs.Kept.{meaning};
+ghost use Rattle.declaration.specs.Kept.{meaning};
 ghost use Rattle.policy.specs.declared.rules.Rule.{Rule};
 ghost use Rattle.policy.specs.Watching.{IsLeastBroken};
 ghost use Rattle.policy.specs.OpenCalls.{open_calls};
 ghost use Rattle.policy.specs.Decided.{is_own, may_write, writes, calls_entry, finds_call, is_return, returns, may_load, reads, broken_by_reference, least_broken};
 
 use crate::actions::{Action, Operation, Reference, is_auto_index, next_action};
-use crate::declaration::Declaration;
+use declaration::Declaration;
 use crate::rules::Rule;
 use processor::{Cpu, Memory};
 use std::alloc::Allocator;

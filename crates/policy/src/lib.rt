@@ -2,7 +2,6 @@
 #![tactic(auto)]
 
 mod actions;
-mod declaration;
 mod legality;
 mod rules;
 mod watcher;

@@ -3,8 +3,8 @@
 ghost use Rattle.std.specs.Prelude.{◌≡◌, false, IfOk};
 ghost use Rattle.std.specs.List.{AllByRecursion};
 
-use crate::status::{DeviceFault, Fault};
-use bin_tape::standard::{Reads, Writes};
+use commands::status::{DeviceFault, Fault};
+use streams::standard::{Reads, Writes};
 use either::Either;
 use std::alloc::Global;
 use std::fs;

@@ -1,17 +1,9 @@
-//! The commands of the program `pdp8`, over sources and sinks, and its words.
+//! The program `pdp8`: its words, its files and its exit status.
 #![tactic(auto)]
 
-pub mod assembling;
-pub mod commands;
 mod files;
-pub mod follow;
-mod input;
 mod program;
-mod sources;
-pub mod status;
-mod text;
-mod trace;
-pub mod watching;
 mod words;
 
+pub use commands::{assembling, running, status, watching};
 pub use program::exit_status;

@@ -1,12 +1,12 @@
 //! The program: from its words to its status.
 
-use crate::assembling::{assemble, list};
-use crate::commands::{RunOptions, dump, run, run_events};
+use commands::assembling::{assemble, list};
+use commands::running::{RunOptions, dump, run, run_events};
 use crate::files::{open_input, open_inputs, open_output};
-use crate::status::{DeviceFault, Fault, Status};
-use crate::watching::watch;
+use commands::status::{DeviceFault, Fault, Status};
+use commands::watching::watch;
 use crate::words::{Refused, Request, parse_words};
-use bin_tape::standard::Writes;
+use streams::standard::Writes;
 use instruct::Profile;
 use std::alloc::Global;
 use std::rt::{Env, Files};

@@ -1,6 +1,6 @@
 //! The program's words.
 
-use crate::commands::RunOptions;
+use commands::running::RunOptions;
 use clap::error::ErrorKind;
 use clap::{Arg, ArgAction, ArgMatches, Command, Error};
 use instruct::Profile;

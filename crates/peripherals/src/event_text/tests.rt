@@ -1,7 +1,7 @@
 //! Texts of events worked by hand from the description of their lines.
 
 use crate::{Event, EventsFault, events};
-use refusing::Refusing;
+use testing::Refusing;
 use std::test::Fail;
 use word12::Word;
 

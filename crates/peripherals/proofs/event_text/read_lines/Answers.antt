@@ -2,11 +2,11 @@ use Rattle.std.proofs.Common.{◌≡◌, ◌≤◌, ◌+◌, ap, sym, length, ma
 use Rattle.std.specs.Iterator.Adapters.{enumerate_source, enumerate_count}
 use Rattle.std.proofs.lemmas.List.{map-append, length-replicate}
 use Rattle.std.proofs.lemmas.Iterator.Consumers.{YieldsList-from_first, YieldsList-from_enumerate, YieldsList-at, YieldsList-turn, YieldsList-so_far, YieldsList-end}
-use Rattle.peripherals.specs.Text.{text_lines}
-use Rattle.peripherals.specs.TextLeft.{lines_left}
+use Rattle.streams.specs.Text.{text_lines}
+use Rattle.streams.specs.TextLeft.{lines_left}
 use Rattle.peripherals.specs.EventText.{GoodBefore}
 use Rattle.peripherals.specs.Repeated.{repeated}
-use Rattle.peripherals.proofs.NumberedLines.{lines_split, lines_all, length-text_lines}
+use Rattle.streams.proofs.NumberedLines.{lines_split, lines_all, length-text_lines}
 use Rattle.peripherals.proofs.EventLemmas.{LinesSpell-push, refused_there, passed_on}
 use Rattle.peripherals.proofs.event_text.read_lines.Goals as goal
 

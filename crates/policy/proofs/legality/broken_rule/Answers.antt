@@ -1,6 +1,6 @@
 use Rattle.std.proofs.Common.{sym, ◌∙◌}
 use Rattle.processor.specs.Steps.{state_of}
-use Rattle.policy.specs.Kept.{meaning}
+use Rattle.declaration.specs.Kept.{meaning}
 use Rattle.policy.specs.OpenCalls.{open_calls}
 use Rattle.policy.proofs.LegalLemmas.{kept_legal, first_broken}
 use Rattle.policy.proofs.legality.broken_rule.Goals as goal

@@ -1,6 +1,6 @@
 use Rattle.std.proofs.Common.{inl, sym, subst, Option}
 use Rattle.wordset.specs.Words.{Words}
-use Rattle.policy.specs.Rules.{IsListed}
+use Rattle.declaration.specs.Declaration.{IsListed}
 use Rattle.policy.proofs.rules.unlisted_reads_are_kept.Goals as goal
 
 pub returns : goal.returns

@@ -1,6 +1,6 @@
 use Rattle.processor.specs.Steps.{state_of}
 use Rattle.peripherals.specs.World.{view}
-use Rattle.policy.specs.Kept.{meaning}
+use Rattle.declaration.specs.Kept.{meaning}
 use Rattle.policy.specs.OpenCalls.{open_calls}
 use Rattle.policy.proofs.WatchLemmas.{calls_by_action, call_takes}
 use Rattle.policy.proofs.watcher.Watcher.carry_out.Goals as goal

@@ -1,6 +1,6 @@
 use Rattle.processor.specs.Steps.{state_of}
 use Rattle.peripherals.specs.World.{view}
-use Rattle.policy.specs.Kept.{meaning}
+use Rattle.declaration.specs.Kept.{meaning}
 use Rattle.policy.specs.OpenCalls.{open_calls}
 use Rattle.policy.proofs.WatchLemmas.{legal_step, stopped_step, legal_here, broken_here, legal_growth}
 use Rattle.policy.proofs.watcher.Watcher.step.Goals as goal

@@ -1,0 +1,49 @@
+use Rattle.std.proofs.Common.{rules, ◌≡◌, ◌+◌, ◌<◌, [], ◌∷◌, ◌++◌, map, length, ◌∙◌, false, Vec, Err, ℕ}
+use Rattle.commands.specs.Faults.{fails_to_read}
+use Rattle.std.specs.List.{AllByRecursion}
+use Rattle.std.proofs.lemmas.List.{map-append}
+use Rattle.commands.specs.SourceTexts.{IsShort}
+use Rattle.commands.proofs.PartLemmas.{all_push, none_marked, one_tells, none_more, bad_number, parts_fault}
+use Rattle.commands.proofs.SourceLemmas.{reads_next, unmarked_next, same_next}
+use Rattle.commands.proofs.sources.read_parts.Goals as goal
+
+pub returns-then-is_bad_number-clause-faults : goal.returns-then-is_bad_number-clause-faults
+returns-then-is_bad_number-clause-faults g c =
+    rw c.too_long.ensures (bad_number g.R.ByteSource.remaining (map g.R.ByteSource.mark c.args.sources.now) (map g.R.ByteSource.remaining c.args.sources.now) c.args.sources.now (search rules))
+
+pub returns-then-is_bad_number-clause-marks : goal.returns-then-is_bad_number-clause-marks
+returns-then-is_bad_number-clause-marks g c = rw c.too_long.ensures (none_marked g.R.ByteSource.mark c.args.sources.now c.requires)
+
+pub returns-then-is_err-clause-marks : goal.returns-then-is_err-clause-marks
+returns-then-is_err-clause-marks g c =
+    let inv = c.loop-source.invariant in
+    let within : c.loop-source.source-index < length c.loop-source.sources = search rules in
+    let told : g.R.ByteSource.mark c.read_part.new.source ≡ false = search rules in
+    one_tells g.R.ByteSource.mark c.loop-source.sources c.loop-source.source-index c.read_part.new.source within inv.2 inv.3 ∙ told
+
+pub returns-in-Err-clause-faults : goal.returns-in-Err-clause-faults
+returns-in-Err-clause-faults g c =
+    let inv = c.loop-source.invariant in
+    let number : length c.loop-source.parts.items + 1 ≡ c.len.result + 1 = search rules in
+    parts_fault (Vec ℕ g.row.A.Denot) g.R.ByteSource.mark g.R.ByteSource.remaining (λ part. part.items) c.loop-source.sources c.args.sources.now c.loop-source.source-index c.source-item.result c.read_part.new.source c.loop-source.parts.items c.in-Err.fault
+    (search rules) (search rules) inv.4 inv.5 inv.0 inv.1 c.in-Err.ensures.marks (rw number c.in-Err.ensures.faults)
+
+pub returns-in-Err-clause-marks : goal.returns-in-Err-clause-marks
+returns-in-Err-clause-marks g c =
+    let inv = c.loop-source.invariant in
+    let within : c.loop-source.source-index < length c.loop-source.sources = search rules in
+    let told : g.R.ByteSource.mark c.read_part.new.source ≡ fails_to_read {T = Vec (Vec ℕ g.row.A.Denot) g.row.A.Denot} (Err c.in-Err.fault) = search rules in
+    one_tells g.R.ByteSource.mark c.loop-source.sources c.loop-source.source-index c.read_part.new.source within inv.2 inv.3 ∙ told
+
+pub loop-source-preserved : goal.loop-source-preserved
+loop-source-preserved g c =
+    let inv = c.loop-source.invariant in
+    let within : c.loop-source.source-index < length c.loop-source.sources = search rules in
+    let short : c.loop-source.source-index < length c.args.sources.now = search rules in
+    let pushed : c.push.new.self.items ≡ c.loop-source.parts.items ++ c.in-Ok.part ∷ [] = search rules in
+    let reads = reads_next g.R.ByteSource.remaining (λ part. part.items) c.loop-source.sources c.args.sources.now c.loop-source.source-index _ c.loop-source.parts.items c.in-Ok.part
+    within short inv.4 inv.0 c.in-Ok.ensures.read in
+    let fit : AllByRecursion IsShort (map (λ part. part.items) (c.loop-source.parts.items ++ c.in-Ok.part ∷ [])) =
+    rw (map-append (λ part. part.items) c.loop-source.parts.items (c.in-Ok.part ∷ [])) (all_push IsShort (map (λ part. part.items) c.loop-source.parts.items) c.in-Ok.part.items inv.1 c.in-Ok.ensures.fits) in
+    let none = none_more g.R.ByteSource.mark c.loop-source.sources c.loop-source.source-index c.read_part.new.source within inv.2 (search rules) in
+    (rw pushed reads, rw pushed fit, none, search (rules, unmarked_next), same_next c.loop-source.sources c.args.sources.now c.loop-source.source-index c.read_part.new.source within short inv.4, inv.5)

@@ -1,0 +1,63 @@
+-- The parts of a source as they are read.
+use Rattle.std.specs.Prelude.{ℕ, ◌≡◌, ◌≤◌, ◌<◌, Bool, true, false, ◌||◌, nat_lt, IfSome, List, [], ◌∷◌, Option, Some, length, take, slice_get}
+use Rattle.std.specs.List.{AllByRecursion}
+use Rattle.streams.specs.Bytes.{Gave}
+use Rattle.pal_acts.specs.declared.code.Code.TheVariants.{TooLong}
+use Rattle.pal_asm.specs.Sources.{fault_at, size_fault}
+use Rattle.commands.specs.declared.status.Fault.{Fault}
+use Rattle.commands.specs.declared.status.Fault.TheVariants.{Tape, EmptyImage, Source, Declared, Events, Device}
+use Rattle.commands.specs.declared.status.Fault.TheVariants as fault
+use Rattle.commands.specs.declared.status.DeviceFault.TheVariants.{Read, Write}
+
+-- These parts were read from sources that had these bytes: each from its own, and one byte more than a part may have at
+-- most, so that a longer one is seen to be too long.
+abbrev pub AreRead : List (Option (List ℕ)) → List (List ℕ) → Type 0
+AreRead [] [] = Unit {0}
+AreRead [] (part ∷ parts) = ⊥
+AreRead (source ∷ sources) [] = ⊥
+AreRead (source ∷ sources) (part ∷ parts) = IfSome source (λ bytes. part ≡ take 65537 bytes) × AreRead sources parts
+
+-- There are no parts, or more than 16.
+abbrev pub is_bad_number : ℕ → Bool
+is_bad_number n = nat_lt n 1 || nat_lt 16 n
+
+-- A part with these bytes isn't too long.
+abbrev pub IsShort : List ℕ → Type 0
+IsShort bytes = length bytes ≤ 65536
+
+-- Of sources with these marks, which had these bytes and have those left, the read of one failed: their number is good,
+-- none before it is too long, and the bytes that it gave until then aren't too many.
+pub record FailsToReadPart (marks : List Bool) (sources left : List (Option (List ℕ))) : Type 0 where
+  pub at : ℕ
+  pub failed : slice_get marks at ≡ Some true
+  pub number : is_bad_number (length sources) ≡ false
+  pub before : AllByRecursion (λ source. IfSome source IsShort) (take at sources)
+  pub had : Option (List ℕ)
+  pub there : slice_get sources at ≡ Some had
+  pub has : Option (List ℕ)
+  pub still : slice_get left at ≡ Some has
+  pub gave : Gave had has IsShort
+
+-- Why the code has no part of this number from a source that had these bytes and has those left: it is too long, its read
+-- failed, or memory was refused.
+abbrev pub IsPartFault : ℕ → Option (List ℕ) → Option (List ℕ) → Fault → Type 0
+IsPartFault n had has (Tape _) = ⊥
+IsPartFault n had has EmptyImage = ⊥
+IsPartFault n had has (Source fault) =
+    (fault ≡ fault_at TooLong n 0) × (part : List ℕ) × IfSome had (λ bytes. part ≡ take 65537 bytes) × (65536 < length part)
+IsPartFault n had has (Declared _) = ⊥
+IsPartFault n had has (Events _) = ⊥
+IsPartFault n had has (Device Read) = Gave had has IsShort
+IsPartFault n had has (Device Write) = ⊥
+IsPartFault n had has fault.NoMemory = Unit {0}
+
+-- Why the code has no parts: the sources have a fault of sizes, a read failed, or memory was refused.
+abbrev pub ArePartsFault : List Bool → List (Option (List ℕ)) → List (Option (List ℕ)) → Fault → Type 0
+ArePartsFault marks sources left (Tape _) = ⊥
+ArePartsFault marks sources left EmptyImage = ⊥
+ArePartsFault marks sources left (Source fault) = (parts : List (List ℕ)) × AreRead sources parts × (size_fault parts ≡ Some fault)
+ArePartsFault marks sources left (Declared _) = ⊥
+ArePartsFault marks sources left (Events _) = ⊥
+ArePartsFault marks sources left (Device Read) = FailsToReadPart marks sources left
+ArePartsFault marks sources left (Device Write) = ⊥
+ArePartsFault marks sources left fault.NoMemory = is_bad_number (length sources) ≡ false

@@ -1,0 +1,12 @@
+//! The commands of the program `pdp8`, each over sources and sinks.
+#![tactic(auto)]
+
+pub mod assembling;
+pub mod follow;
+mod input;
+pub mod running;
+mod sources;
+pub mod status;
+mod text;
+mod trace;
+pub mod watching;

@@ -1,0 +1,104 @@
+//! The parts of a source, read.
+
+ghost use Rattle.std.specs.Prelude.{◌≡◌, Err, true, false, length, map, take, IfOk, IfErr, IfSome, List, ℕ};
+ghost use Rattle.std.specs.List.{AllByRecursion, list_any};
+ghost use Rattle.pal_acts.specs.declared.code.Code.TheVariants.{TooLong};
+ghost use Rattle.pal_asm.specs.Sources.{fault_at, texts};
+ghost use Rattle.commands.specs.declared.status.Fault.TheVariants.{Source};
+ghost use Rattle.commands.specs.Faults.{fails_to_read};
+ghost use Rattle.commands.specs.SourceTexts.{AreRead, IsShort, IsPartFault, ArePartsFault, is_bad_number};
+
+use crate::input::read_text;
+use crate::status::Fault;
+use streams::ByteSource;
+use pal_acts::Code;
+use pal_asm::PalFault;
+use std::alloc::{AllocError, Allocator};
+
+/// How many parts a source may have.
+const MOST_PARTS: usize = 16;
+
+/// One byte more than a part may have, so that a longer one is seen to be too long.
+const MOST_PART: usize = 65_537;
+
+/// There are no parts, or too many.
+fn is_bad_number(count: usize) -> bool
+    ensures { result ≡ is_bad_number count }
+{
+    count == 0 || count > MOST_PARTS
+}
+
+/// The fault of a part that is too long; with the number 0, that of the number of parts.
+fn too_long(part: usize) -> Fault
+    ensures { result ≡ Source (fault_at TooLong part 0) }
+{
+    Fault::Source(PalFault {
+        code: Code::TooLong,
+        part,
+        line: 0,
+    })
+}
+
+/// Reads the part of a source that has this number.
+fn read_part<A: Allocator, R: ByteSource>(
+    alloc: A,
+    source: &mut R,
+    number: usize,
+) -> Result<Vec<u8, A>, Fault>
+    requires { R.mark source.old ≡ false }
+    ensures read { IfOk result (λ part. IfSome (R.remaining source.old) (λ bytes. part.items ≡ take 65537 bytes)) }
+    ensures fits { IfOk result (λ part. IsShort part.items) }
+    ensures faults { IfErr result (IsPartFault number (R.remaining source.old) (R.remaining source.new)) }
+    ensures marks { R.mark source.new ≡ fails_to_read result }
+{
+    let part = read_text(alloc, source, MOST_PART)?;
+    if part.len() >= MOST_PART {
+        return Err(too_long(number));
+    }
+    Ok(part)
+}
+
+/// Reads the parts of a source, in order, up to the first that is too long or whose read fails. The
+/// number of parts is looked at before the first is read.
+pub(crate) fn read_parts<A: Allocator + Copy, R: ByteSource>(
+    alloc: A,
+    sources: &mut [R],
+) -> Result<Vec<Vec<u8, A>, A>, Fault>
+    requires { AllByRecursion (λ source. R.mark source ≡ false) sources.old }
+    ensures number { IfOk result (λ _. is_bad_number (length sources.old) ≡ false) }
+    ensures read { IfOk result (λ parts. AreRead (map R.remaining sources.old) (map (λ part. part.items) parts.items)) }
+    ensures faults { IfErr result (ArePartsFault (map R.mark sources.new) (map R.remaining sources.old) (map R.remaining sources.new)) }
+    ensures marks { list_any R.mark sources.new ≡ fails_to_read result }
+    // A bad number of parts is told, and nothing is read.
+    ensures told { is_bad_number (length sources.old) ≡ true → (result ≡ Err (Source (fault_at TooLong 0 0))) × (sources.new ≡ sources.old) }
+{
+    if is_bad_number(sources.len()) {
+        return Err(too_long(0));
+    }
+    let mut parts = Vec::new(alloc);
+    for source in sources.iter_mut() {
+        match read_part(alloc, source, parts.len() + 1) {
+            Ok(part) => {
+                if parts.push(part).is_err() {
+                    return Err(Fault::NoMemory);
+                }
+            }
+            Err(fault) => return Err(fault),
+        }
+    }
+    Ok(parts)
+}
+
+/// The bytes of parts, lent.
+pub(crate) fn lend<'t, A: Allocator + Copy>(
+    alloc: A,
+    parts: &'t [Vec<u8, A>],
+) -> Result<Vec<&'t [u8], A>, AllocError>
+    ensures { IfOk result (λ slices. texts slices.items ≡ map (λ part. part.items) parts.now) }
+{
+    let mut slices = Vec::new(alloc);
+    for part in parts {
+        slices.push(part.as_slice())?;
+    }
+    Ok(slices)
+}

@@ -1,0 +1,183 @@
+-- What is said and keeps the rules is a declaration.
+use Rattle.std.proofs.Common.{ℕ, ◌≡◌, ◌<◌, ◌≤◌, ◌+◌, ◌==◌, ◌⊎◌, Bool, true, false, not, ◌&&◌, ◌||◌, List, [], ◌∷◌, zero-add, arith, refl, sym, ◌∙◌, ap, Some, None, inl, inr}
+use Rattle.std.specs.Prelude.{nat_le, if◌then◌else◌}
+use Rattle.std.specs.List.{list_any, count_by}
+use Rattle.std.proofs.lemmas.Bool.{cases_Bool, and_parts, eqb-true, leb-true, leb-false, eq-eqb}
+use Rattle.wordset.specs.Words.{Words, HasNoneFrom}
+use Rattle.processor.specs.Machine.{is_auto_index}
+use Rattle.declaration.specs.Declaration.{Routine, Declaration, IsDeclared}
+use Rattle.declaration.specs.Lines.{Subroutine}
+use Rattle.declaration.specs.Text.{Contents, Says, KeepsRules, is_entry, in_bodies, in_two_bodies, is_entry_twice, bodies_at, overlaps, halt_outside}
+use Rattle.declaration.proofs.RuleLemmas.{count-cons, some_counted}
+
+-- All cells that are spoken of are words.
+pub record AreWords (c : Contents) : Type 0 where
+  pub bodies : (a : ℕ) → in_bodies c a ≡ true → a < 4096
+  pub entries : (a : ℕ) → is_entry c a ≡ true → a < 4096
+  pub stops : (a : ℕ) → c.stop a ≡ true → a < 4096
+  pub pauses : (a : ℕ) → c.pause a ≡ true → a < 4096
+
+or_no_first : (a b : Bool) → (a || b) ≡ false → a ≡ false
+or_no_first true b e = e
+or_no_first false b e = refl
+
+or_no_second : (a b : Bool) → (a || b) ≡ false → b ≡ false
+or_no_second true b e = absurd (cc)
+or_no_second false b e = e
+
+or_yes : (a b : Bool) → b ≡ true → (a || b) ≡ true
+or_yes true b e = refl
+or_yes false b e = e
+
+or_yes_first : (a b : Bool) → a ≡ true → (a || b) ≡ true
+or_yes_first true b e = refl
+or_yes_first false b e = absurd (cc)
+
+and_no : (a b : Bool) → (a && b) ≡ false → a ≡ true → b ≡ false
+and_no true b e h = e
+and_no false b e h = absurd (cc)
+
+false_of : (b : Bool) → (b ≡ true → ⊥) → b ≡ false
+false_of true h = absurd (h refl)
+false_of false h = refl
+
+-- some routine that has an entry and more
+any_both : (p q : Subroutine → Bool) (rs : List Subroutine) → list_any (λ r. p r && q r) rs ≡ true → (list_any p rs ≡ true) × (list_any q rs ≡ true)
+any_both p q [] h = absurd (cc)
+any_both p q (r ∷ rs) h = elim (cases_Bool (p r && q r)) [
+  | inl e ↦ let parts = and_parts (p r) (q r) e in (or_yes_first (p r) (list_any p rs) parts.0, or_yes_first (q r) (list_any q rs) parts.1)
+  | inr e ↦ let rest = any_both p q rs (rw e at h) in (or_yes (p r) (list_any p rs) rest.0, or_yes (q r) (list_any q rs) rest.1)
+]
+
+-- a routine whose body has a cell
+body_found : (a : ℕ) (rs : List Subroutine) → list_any (λ r. r.body a) rs ≡ true → (e : ℕ) × (list_any (λ r. r.entry == e && r.body a) rs ≡ true)
+body_found a [] h = absurd (cc)
+body_found a (r ∷ rs) h = elim (cases_Bool (r.body a)) [
+  | inl e ↦ (r.entry, or_yes_first (r.entry == r.entry && r.body a) (list_any (λ s. s.entry == r.entry && s.body a) rs) (rw (eq-eqb r.entry r.entry refl, e) refl))
+  | inr e ↦ let rest = body_found a rs (rw e at h) in (rest.0, or_yes (r.entry == rest.0 && r.body a) (list_any (λ s. s.entry == rest.0 && s.body a) rs) rest.1)
+]
+
+-- where no later body has a cell, the routine of an entry that has it is the first
+first_of : (e : ℕ) (r : Subroutine) (rs : List Subroutine) (a : ℕ) → list_any (λ s. s.entry == e && s.body a) (r ∷ rs) ≡ true → list_any (λ s. s.body a) rs ≡ false → e ≡ r.entry
+first_of e r rs a at others = elim (cases_Bool (r.entry == e && r.body a)) [
+  | inl b ↦ sym (eqb-true r.entry e (and_parts (r.entry == e) (r.body a) b).0)
+  | inr b ↦ let rest = any_both (λ s. s.entry == e) (λ s. s.body a) rs (rw b at at) in
+      let wrong : true ≡ false = sym rest.1 ∙ others in absurd (cc)
+]
+
+-- where the first body lacks a cell, a later one has it
+later : (e : ℕ) (r : Subroutine) (rs : List Subroutine) (a : ℕ) → list_any (λ s. s.entry == e && s.body a) (r ∷ rs) ≡ true → r.body a ≡ false → list_any (λ s. s.entry == e && s.body a) rs ≡ true
+later e r rs a at lacks = elim (cases_Bool (r.entry == e && r.body a)) [
+  | inl b ↦ let wrong : true ≡ false = sym (and_parts (r.entry == e) (r.body a) b).1 ∙ lacks in absurd (cc)
+  | inr b ↦ rw b at at
+]
+
+-- a cell in one body alone
+one_body : (a e f : ℕ) (rs : List Subroutine) → nat_le 2 (count_by (λ r. r.body a) rs) ≡ false
+    → list_any (λ r. r.entry == e && r.body a) rs ≡ true → list_any (λ r. r.entry == f && r.body a) rs ≡ true → e ≡ f
+one_body a e f [] one at also = absurd (cc)
+one_body a e f (r ∷ rs) one at also = elim (cases_Bool (r.body a)) [
+  | inl b ↦
+      (let few : count_by (λ s. s.body a) (r ∷ rs) < 2 = leb-false 2 (count_by (λ s. s.body a) (r ∷ rs)) one in
+      let long : count_by (λ s. s.body a) (r ∷ rs) ≡ 1 + count_by (λ s. s.body a) rs = count-cons (λ s. s.body a) r rs ∙ ap (λ t. (if t then 1 else 0) + count_by (λ s. s.body a) rs) b in
+      let none : count_by (λ s. s.body a) rs < 1 = omega arith in
+      let others : list_any (λ s. s.body a) rs ≡ false = false_of (list_any (λ s. s.body a) rs) (λ t. absurd (omega (arith, leb-true 1 (count_by (λ s. s.body a) rs) (some_counted (λ s. s.body a) rs ∙ t)))) in
+      first_of e r rs a at others ∙ sym (first_of f r rs a also others))
+  | inr b ↦
+      (let long : count_by (λ s. s.body a) (r ∷ rs) ≡ count_by (λ s. s.body a) rs = count-cons (λ s. s.body a) r rs ∙ ap (λ t. (if t then 1 else 0) + count_by (λ s. s.body a) rs) b ∙ zero-add (count_by (λ s. s.body a) rs) in
+      one_body a e f rs (ap (λ n. nat_le 2 n) (sym long) ∙ one) (later e r rs a at b) (later f r rs a also b))
+]
+
+-- ---- the rules, cell by cell
+
+not_two : (c : Contents) → HasNoneFrom 0 (overlaps c) → (a : ℕ) → a < 4096 → in_two_bodies c a ≡ false
+not_two c apart a h = or_no_first (in_two_bodies c a) _ (or_no_first _ _ (or_no_first _ _ (or_no_first _ _ (apart a (omega arith) h))))
+
+entry_outside : (c : Contents) → HasNoneFrom 0 (overlaps c) → (a : ℕ) → a < 4096 → is_entry c a ≡ true → in_bodies c a ≡ false
+entry_outside c apart a h is = and_no (is_entry c a) (in_bodies c a) (or_no_second (in_two_bodies c a) _ (or_no_first _ _ (or_no_first _ _ (or_no_first _ _ (apart a (omega arith) h))))) is
+
+entry_fixed : (c : Contents) → HasNoneFrom 0 (overlaps c) → (a : ℕ) → a < 4096 → is_entry c a ≡ true → c.variable a ≡ false
+entry_fixed c apart a h is = and_no (is_entry c a) (c.variable a) (or_no_second (in_two_bodies c a || is_entry c a && in_bodies c a) _ (or_no_first _ _ (or_no_first _ _ (apart a (omega arith) h)))) is
+
+halts_differ : (c : Contents) → HasNoneFrom 0 (overlaps c) → (a : ℕ) → a < 4096 → (c.stop a && c.pause a) ≡ false
+halts_differ c apart a h = or_no_second (in_two_bodies c a || is_entry c a && in_bodies c a || is_entry c a && c.variable a || is_entry_twice c a) _ (apart a (omega arith) h)
+
+and_turned : (a b : Bool) → (a && b) ≡ false → b ≡ true → a ≡ false
+and_turned true b e h = absurd (cc)
+and_turned false b e h = refl
+
+not_false : (b : Bool) → not b ≡ false → b ≡ true
+not_false true e = refl
+not_false false e = absurd (cc)
+
+-- of two bodies the one is main's
+main_apart : (c : Contents) → (a e : ℕ) → in_two_bodies c a ≡ false → c.main a ≡ true → list_any (λ r. r.entry == e && r.body a) c.routines ≡ true → ⊥
+main_apart c a e one main at =
+    let other : list_any (λ r. r.body a) c.routines ≡ true = (any_both (λ r. r.entry == e) (λ r. r.body a) c.routines at).1 in
+    let some : 1 ≤ count_by (λ r. r.body a) c.routines = leb-true 1 (count_by (λ r. r.body a) c.routines) (some_counted (λ r. r.body a) c.routines ∙ other) in
+    let few : bodies_at c a < 2 = leb-false 2 (bodies_at c a) one in
+    let long : bodies_at c a ≡ 1 + count_by (λ r. r.body a) c.routines = ap (λ b. (if b then 1 else 0) + count_by (λ r. r.body a) c.routines) main in
+    absurd (omega arith)
+
+bodies_of_routines : (c : Contents) (a : ℕ) → in_two_bodies c a ≡ false → nat_le 2 (count_by (λ r. r.body a) c.routines) ≡ false
+bodies_of_routines c a one =
+    let few : bodies_at c a < 2 = leb-false 2 (bodies_at c a) one in
+    false_of (nat_le 2 (count_by (λ r. r.body a) c.routines)) (λ t. absurd (omega (arith, leb-true 2 (count_by (λ r. r.body a) c.routines) t)))
+
+same_routine : (c : Contents) (d : Declaration) → Says c d → AreWords c → HasNoneFrom 0 (overlaps c) → (a : ℕ) (r q : Routine) → d.body r a ≡ true → d.body q a ≡ true → r ≡ q
+same_routine c d s w apart a None None at also = refl
+same_routine c d s w apart a None (Some f) at also =
+    let main : c.main a ≡ true = sym (ap (λ (m : Words). m a) s.main) ∙ at in
+    let small : a < 4096 = w.bodies a (or_yes_first (c.main a) _ main) in
+    absurd (main_apart c a f (not_two c apart a small) main (sym (s.body f a) ∙ also))
+same_routine c d s w apart a (Some e) None at also =
+    let main : c.main a ≡ true = sym (ap (λ (m : Words). m a) s.main) ∙ also in
+    let small : a < 4096 = w.bodies a (or_yes_first (c.main a) _ main) in
+    absurd (main_apart c a e (not_two c apart a small) main (sym (s.body e a) ∙ at))
+same_routine c d s w apart a (Some e) (Some f) at also =
+    let in_e : list_any (λ r. r.entry == e && r.body a) c.routines ≡ true = sym (s.body e a) ∙ at in
+    let in_f : list_any (λ r. r.entry == f && r.body a) c.routines ≡ true = sym (s.body f a) ∙ also in
+    let small : a < 4096 = w.bodies a (or_yes (c.main a) _ (any_both (λ r. r.entry == e) (λ r. r.body a) c.routines in_e).1) in
+    ap (λ x. Some x) (one_body a e f c.routines (bodies_of_routines c a (not_two c apart a small)) in_e in_f)
+
+outside_of : (c : Contents) (d : Declaration) → Says c d → (a : ℕ) (r : Routine) → in_bodies c a ≡ false → d.body r a ≡ false
+outside_of c d s a None out = ap (λ (m : Words). m a) s.main ∙ or_no_first (c.main a) _ out
+outside_of c d s a (Some e) out =
+    s.body e a ∙ false_of (list_any (λ r. r.entry == e && r.body a) c.routines) (λ t.
+    let wrong : true ≡ false = sym (any_both (λ r. r.entry == e) (λ r. r.body a) c.routines t).1 ∙ or_no_second (c.main a) _ out in absurd (cc))
+
+body_of_cell : (c : Contents) (d : Declaration) → Says c d → (a : ℕ) → in_bodies c a ≡ true → (r : Routine) × (d.body r a ≡ true)
+body_of_cell c d s a inside = elim (cases_Bool (c.main a)) [
+  | inl e ↦ (None, ap (λ (m : Words). m a) s.main ∙ e)
+  | inr e ↦ let found = body_found a c.routines (rw e at inside) in (Some found.0, s.body found.0 a ∙ found.1)
+]
+
+halt_inside : (c : Contents) → HasNoneFrom 0 (halt_outside c) → (a : ℕ) → a < 4096 → (c.stop a || c.pause a) ≡ true → in_bodies c a ≡ true
+halt_inside c halts a h is = not_false (in_bodies c a) (and_no (c.stop a || c.pause a) (not (in_bodies c a)) (halts a (omega arith) h) is)
+
+halt_of : (c : Contents) (d : Declaration) → Says c d → AreWords c → HasNoneFrom 0 (halt_outside c) → (a : ℕ) → (d.stop a ≡ true) ⊎ (d.pause a ≡ true) → (r : Routine) × (d.body r a ≡ true)
+halt_of c d s w halts a (inl stop) =
+    let is : c.stop a ≡ true = sym (ap (λ (m : Words). m a) s.stop) ∙ stop in
+    body_of_cell c d s a (halt_inside c halts a (w.stops a is) (or_yes_first (c.stop a) (c.pause a) is))
+halt_of c d s w halts a (inr pause) =
+    let is : c.pause a ≡ true = sym (ap (λ (m : Words). m a) s.pause) ∙ pause in
+    body_of_cell c d s a (halt_inside c halts a (w.pauses a is) (or_yes (c.stop a) (c.pause a) is))
+
+-- What is said and keeps the rules is a declaration.
+pub IsDeclared-from : (c : Contents) (d : Declaration) → Says c d → KeepsRules c d.start → AreWords c → IsDeclared d
+IsDeclared-from c d s k w =
+    let start : d.body None d.start ≡ true = ap (λ (m : Words). m d.start) s.main ∙ k.start_in_main in
+    record {
+      start_is_word = w.bodies d.start (or_yes_first (c.main d.start) _ k.start_in_main);
+      entry_is_word = λ e is. w.entries e (sym (s.entry e) ∙ is);
+      start_in_main = start;
+      bodies_apart = same_routine c d s w k.apart;
+      body_of_routine = λ a e at. s.entry e ∙ (any_both (λ r. r.entry == e) (λ r. r.body a) c.routines (sym (s.body e a) ∙ at)).0;
+      entry_not_in_body = λ e r is. outside_of c d s e r (entry_outside c k.apart e (w.entries e (sym (s.entry e) ∙ is)) (sym (s.entry e) ∙ is));
+      entry_not_variable = λ e is. ap (λ (m : Words). m e) s.variable ∙ entry_fixed c k.apart e (w.entries e (sym (s.entry e) ∙ is)) (sym (s.entry e) ∙ is);
+      entry_not_index = λ e is. and_no (is_entry c e) (is_auto_index e) (k.outside_index e (omega arith) (w.entries e (sym (s.entry e) ∙ is))) (sym (s.entry e) ∙ is);
+      stop_not_pause = λ a pause.
+          let is : c.pause a ≡ true = sym (ap (λ (m : Words). m a) s.pause) ∙ pause in
+          ap (λ (m : Words). m a) s.stop ∙ and_turned (c.stop a) (c.pause a) (halts_differ c k.apart a (w.pauses a is)) is;
+      halt_in_body = halt_of c d s w k.halts_inside;
+    }

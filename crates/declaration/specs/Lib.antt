@@ -1,0 +1,5 @@
+pub mod Declaration
+pub mod Kept
+pub mod Lines
+pub mod Text
+pub mod Drafts

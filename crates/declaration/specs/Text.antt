@@ -1,0 +1,291 @@
+-- The declaration that a text makes, and which fault a text has.
+use Rattle.std.specs.Prelude.{◌≡◌, ℕ, ◌+◌, ◌<◌, ◌≤◌, ◌==◌, nat_le, Bool, true, false, not, ◌&&◌, ◌||◌, ◌⊎◌, if◌then◌else◌, List, [], ◌∷◌, ◌++◌, length, map, Option, Some, None}
+use Rattle.std.specs.List.{list_any, count_by, flat_map}
+use Rattle.instruct.specs.declared.Profile.{Profile}
+use Rattle.instruct.specs.declared.Profile.TheVariants.{Pdp8I}
+use Rattle.wordset.specs.Words.{Words, nothing, IsFirstFrom, HasNoneFrom}
+use Rattle.processor.specs.Machine.{is_auto_index}
+use Rattle.streams.specs.Text.{text_lines}
+use Rattle.declaration.specs.Declaration.{Declaration}
+use Rattle.declaration.specs.Lines.{Subroutine, Line, Start, Main, Sub, Variables, Stops, Pauses, Machine, Reads, line_of}
+use Rattle.declaration.specs.Kept.{subroutine_of}
+use Rattle.declaration.specs.declared.Routine.{Routine as KeptRoutine}
+use Rattle.declaration.specs.declared.DeclarationFault.{DeclarationFault}
+use Rattle.declaration.specs.declared.DeclarationFault.TheVariants.{BadLine, TwoStarts, TwoProfiles, NoStart, Overlap, EntryInAutoIndex, StartNotInMain, TooMany, HaltNotInBody, NoMemory}
+
+-- A text has at most so many bytes, and at most so many routines.
+abbrev pub most_bytes : ℕ
+most_bytes = 16384
+
+abbrev pub most_routines : ℕ
+most_routines = 64
+
+-- What lines say together: the starts, the machines and the routines in the order of their lines; the cells of main's
+-- body, the variables, the stops and the pauses; and the cells that may be read, if some line lists them.
+pub record Contents : Type 0 where
+  pub starts : List ℕ
+  pub profiles : List Profile
+  pub main : Words
+  pub routines : List Subroutine
+  pub variable : Words
+  pub stop : Words
+  pub pause : Words
+  pub reads : Option Words
+
+-- What one line says of each.
+abbrev pub start_in : Line → List ℕ
+start_in (Start a) = a ∷ []
+start_in _ = []
+
+abbrev pub profile_in : Line → List Profile
+profile_in (Machine p) = p ∷ []
+profile_in _ = []
+
+abbrev pub main_in : Line → Words
+main_in (Main cells) = cells
+main_in _ = nothing
+
+abbrev pub routine_in : Line → List Subroutine
+routine_in (Sub r) = r ∷ []
+routine_in _ = []
+
+abbrev pub variable_in : Line → Words
+variable_in (Variables cells) = cells
+variable_in _ = nothing
+
+abbrev pub stop_in : Line → Words
+stop_in (Stops cells) = cells
+stop_in _ = nothing
+
+abbrev pub pause_in : Line → Words
+pause_in (Pauses cells) = cells
+pause_in _ = nothing
+
+abbrev pub reads_in : Line → Words
+reads_in (Reads cells) = cells
+reads_in _ = nothing
+
+abbrev pub lists_reads : Line → Bool
+lists_reads (Reads cells) = true
+lists_reads _ = false
+
+-- The cells that some line gives.
+abbrev pub in_some : (Line → Words) → List Line → Words
+in_some cells_in lines a = list_any (λ line. cells_in line a) lines
+
+-- What these lines say together.
+abbrev pub contents : List Line → Contents
+contents lines = record {
+  starts = flat_map start_in lines;
+  profiles = flat_map profile_in lines;
+  main = in_some main_in lines;
+  routines = flat_map routine_in lines;
+  variable = in_some variable_in lines;
+  stop = in_some stop_in lines;
+  pause = in_some pause_in lines;
+  reads = if list_any lists_reads lines then Some (in_some reads_in lines) else None;
+}
+
+-- The machine that is meant: the 8/I where no line says.
+abbrev pub profile_of : List Profile → Profile
+profile_of [] = Pdp8I
+profile_of (p ∷ more) = p
+
+-- The declaration says what the lines say, whose one start is its start.
+pub record Says (c : Contents) (d : Declaration) : Type 0 where
+  pub start : c.starts ≡ d.start ∷ []
+  pub profile : d.profile ≡ profile_of c.profiles
+  pub main : d.body None ≡ c.main
+  pub body : (e a : ℕ) → d.body (Some e) a ≡ list_any (λ r. r.entry == e && r.body a) c.routines
+  pub entry : (e : ℕ) → d.entry e ≡ list_any (λ r. r.entry == e) c.routines
+  pub offset : (e o : ℕ) → d.offset e o ≡ list_any (λ r. r.entry == e && r.offsets o) c.routines
+  pub variable : d.variable ≡ c.variable
+  pub stop : d.stop ≡ c.stop
+  pub pause : d.pause ≡ c.pause
+  pub reads : d.reads ≡ c.reads
+
+-- Some routine has this entry, and some body has this cell.
+abbrev pub is_entry : Contents → Words
+is_entry c a = list_any (λ r. r.entry == a) c.routines
+
+abbrev pub in_bodies : Contents → Words
+in_bodies c a = c.main a || list_any (λ r. r.body a) c.routines
+
+-- In how many bodies a cell is, and how many routines have an entry.
+abbrev pub bodies_at : Contents → ℕ → ℕ
+bodies_at c a = (if c.main a then 1 else 0) + count_by (λ r. r.body a) c.routines
+
+abbrev pub entries_at : Contents → ℕ → ℕ
+entries_at c a = count_by (λ r. r.entry == a) c.routines
+
+-- A cell overlaps: it's in two bodies; an entry is in a body or among the variables; two entries are equal; a stop is a
+-- pause.
+abbrev pub in_two_bodies : Contents → Words
+in_two_bodies c a = nat_le 2 (bodies_at c a)
+
+abbrev pub is_entry_twice : Contents → Words
+is_entry_twice c a = nat_le 2 (entries_at c a)
+
+abbrev pub overlaps : Contents → Words
+overlaps c a =
+    in_two_bodies c a || (is_entry c a && in_bodies c a) || (is_entry c a && c.variable a) || is_entry_twice c a
+    || (c.stop a && c.pause a)
+
+-- An entry is an auto-index cell.
+abbrev pub entry_in_index : Contents → Words
+entry_in_index c a = is_entry c a && is_auto_index a
+
+-- A declared halt is in no body.
+abbrev pub halt_outside : Contents → Words
+halt_outside c a = (c.stop a || c.pause a) && not (in_bodies c a)
+
+-- What is said keeps the rules: nothing overlaps, no entry is an auto-index cell, the start is in main's body, and each
+-- declared halt is in some body.
+pub record KeepsRules (c : Contents) (start : ℕ) : Type 0 where
+  pub apart : HasNoneFrom 0 (overlaps c)
+  pub outside_index : HasNoneFrom 0 (entry_in_index c)
+  pub start_in_main : c.main start ≡ true
+  pub halts_inside : HasNoneFrom 0 (halt_outside c)
+
+-- There is a start, and this is the least cell that overlaps.
+pub record HasOverlap (c : Contents) (a : ℕ) : Type 0 where
+  pub start : ℕ
+  pub starts : c.starts ≡ start ∷ []
+  pub least : IsFirstFrom 0 (overlaps c) a
+
+-- There is a start, nothing overlaps, and this is the least entry that is an auto-index cell.
+pub record HasIndexEntry (c : Contents) (a : ℕ) : Type 0 where
+  pub start : ℕ
+  pub starts : c.starts ≡ start ∷ []
+  pub apart : HasNoneFrom 0 (overlaps c)
+  pub least : IsFirstFrom 0 (entry_in_index c) a
+
+-- There is a start, nothing overlaps, no entry is an auto-index cell, and the start isn't in main's body.
+pub record StartsOutside (c : Contents) : Type 0 where
+  pub start : ℕ
+  pub starts : c.starts ≡ start ∷ []
+  pub apart : HasNoneFrom 0 (overlaps c)
+  pub outside_index : HasNoneFrom 0 (entry_in_index c)
+  pub outside : c.main start ≡ false
+
+-- The start is in main's body, all before is well too, and this is the least declared halt in no body.
+pub record HasHaltOutside (c : Contents) (a : ℕ) : Type 0 where
+  pub start : ℕ
+  pub starts : c.starts ≡ start ∷ []
+  pub apart : HasNoneFrom 0 (overlaps c)
+  pub outside_index : HasNoneFrom 0 (entry_in_index c)
+  pub start_in_main : c.main start ≡ true
+  pub least : IsFirstFrom 0 (halt_outside c) a
+
+-- The first rule that is broken by what all lines say, and where.
+abbrev pub Breaks : Contents → DeclarationFault → Type 0
+Breaks c NoStart = c.starts ≡ []
+Breaks c (Overlap a) = HasOverlap c a
+Breaks c (EntryInAutoIndex a) = HasIndexEntry c a
+Breaks c StartNotInMain = StartsOutside c
+Breaks c (HaltNotInBody a) = HasHaltOutside c a
+Breaks c (BadLine number) = ⊥
+Breaks c (TwoStarts number) = ⊥
+Breaks c (TwoProfiles number) = ⊥
+Breaks c TooMany = ⊥
+Breaks c NoMemory = ⊥
+
+-- Each of these texts of lines says what it stands for here: none is bad, there is at most one start and one machine,
+-- and there aren't too many routines.
+pub record AreGood (texts : List (List ℕ)) (lines : List Line) : Type 0 where
+  pub say : map line_of texts ≡ map Some lines
+  pub starts : length (contents lines).starts ≤ 1
+  pub profiles : length (contents lines).profiles ≤ 1
+  pub few : length (contents lines).routines ≤ most_routines
+
+-- All lines of a text that isn't too long are good, and they say these.
+pub record HasGoodLines (text : List ℕ) (lines : List Line) : Type 0 where
+  pub short : length text ≤ most_bytes
+  pub good : AreGood (text_lines text) lines
+
+-- This text has this declaration: its lines are good, the declaration says what they say, and it keeps the rules.
+pub record Declares (text : List ℕ) (d : Declaration) : Type 0 where
+  pub lines : List Line
+  pub good : HasGoodLines text lines
+  pub says : Says (contents lines) d
+  pub rules : KeepsRules (contents lines) d.start
+
+-- These routines are those of the text's good lines, in the order of their lines.
+pub record ListsRoutines (text : List ℕ) (routines : List KeptRoutine) : Type 0 where
+  pub lines : List Line
+  pub good : HasGoodLines text lines
+  pub listed : map subroutine_of routines ≡ (contents lines).routines
+
+-- In a text that isn't too long, this line with this number stands after lines that are good and say these.
+pub record StandsAfter (text : List ℕ) (lines : List Line) (number : ℕ) (line : List ℕ) : Type 0 where
+  pub short : length text ≤ most_bytes
+  pub before : List (List ℕ)
+  pub after : List (List ℕ)
+  pub stands : text_lines text ≡ before ++ line ∷ after
+  pub good : AreGood before lines
+  pub counted : number ≡ length before + 1
+
+-- The first line that isn't good has this number, and is bad.
+pub record HasBadLine (text : List ℕ) (number : ℕ) : Type 0 where
+  pub lines : List Line
+  pub line : List ℕ
+  pub stands : StandsAfter text lines number line
+  pub bad : line_of line ≡ None
+
+-- The first line that isn't good has this number, and says a second start.
+pub record HasSecondStart (text : List ℕ) (number : ℕ) : Type 0 where
+  pub lines : List Line
+  pub line : List ℕ
+  pub stands : StandsAfter text lines number line
+  pub start : ℕ
+  pub is : line_of line ≡ Some (Start start)
+  pub second : length (contents lines).starts ≡ 1
+
+-- The first line that isn't good has this number, and says a second machine.
+pub record HasSecondProfile (text : List ℕ) (number : ℕ) : Type 0 where
+  pub lines : List Line
+  pub line : List ℕ
+  pub stands : StandsAfter text lines number line
+  pub profile : Profile
+  pub is : line_of line ≡ Some (Machine profile)
+  pub second : length (contents lines).profiles ≡ 1
+
+-- The first line that isn't good says one routine more than are taken.
+pub record HasManyRoutines (text : List ℕ) : Type 0 where
+  pub lines : List Line
+  pub number : ℕ
+  pub line : List ℕ
+  pub stands : StandsAfter text lines number line
+  pub routine : Subroutine
+  pub is : line_of line ≡ Some (Sub routine)
+  pub full : length (contents lines).routines ≡ most_routines
+
+-- A line asks for memory: all lines up to it are good, and it says a routine.
+pub record AsksForMemory (text : List ℕ) : Type 0 where
+  pub lines : List Line
+  pub number : ℕ
+  pub line : List ℕ
+  pub stands : StandsAfter text lines number line
+  pub routine : Subroutine
+  pub is : line_of line ≡ Some (Sub routine)
+  pub room : length (contents lines).routines < most_routines
+
+-- All lines of the text are good, and what they say breaks a rule.
+pub record BreaksRule (text : List ℕ) (fault : DeclarationFault) : Type 0 where
+  pub lines : List Line
+  pub good : HasGoodLines text lines
+  pub breaks : Breaks (contents lines) fault
+
+-- This text fails so: without looking at a line where it is too long; at its first line that isn't good; by the first
+-- rule that is broken by what all its lines say; or, where memory is refused, at a line that asks for some.
+abbrev pub Fails : List ℕ → DeclarationFault → Type 0
+Fails text (BadLine number) = HasBadLine text number
+Fails text (TwoStarts number) = HasSecondStart text number
+Fails text (TwoProfiles number) = HasSecondProfile text number
+Fails text TooMany = (most_bytes < length text) ⊎ HasManyRoutines text
+Fails text NoMemory = AsksForMemory text
+Fails text NoStart = BreaksRule text NoStart
+Fails text (Overlap a) = BreaksRule text (Overlap a)
+Fails text (EntryInAutoIndex a) = BreaksRule text (EntryInAutoIndex a)
+Fails text StartNotInMain = BreaksRule text StartNotInMain
+Fails text (HaltNotInBody a) = BreaksRule text (HaltNotInBody a)

@@ -1,0 +1,231 @@
+//! What the lines of a declaration say together, and the rules that it keeps.
+
+ghost use Rattle.std.specs.Prelude.{ℕ, ◌≡◌, ◌<◌, ◌+◌, [], ◌∷◌, if◌then◌else◌, map, IsTrue, OnOk, IfOk, IfErr};
+ghost use Rattle.wordset.specs.Words.{SameWords};
+ghost use Rattle.wordset.specs.Lanes.{words};
+ghost use Rattle.processor.specs.Machine.{is_auto_index};
+ghost use Rattle.declaration.specs.Declaration.{IsDeclared};
+ghost use Rattle.declaration.specs.Kept.{meaning, routines_of, subroutine_of};
+ghost use Rattle.declaration.specs.Text.{contents, is_entry, Says, KeepsRules, Breaks, overlaps, entry_in_index, halt_outside, bodies_at, entries_at};
+ghost use Rattle.declaration.specs.Drafts.{gathered, said, with_line, MayFollow, Refuses, Counts, kept_bodies, kept_entries};
+
+use super::lines::Line;
+use super::sets::{self, Coverage};
+use super::{Declaration, DeclarationFault, Routine};
+use instruct::Profile;
+use std::alloc::Allocator;
+use word12::Word;
+use wordset::WordSet;
+
+/// The most routines of a declaration.
+const MOST_ROUTINES: usize = 64;
+
+/// What was said so far.
+#[derive(Drop)]
+pub struct Draft<A: Allocator> {
+    start: Option<Word>,
+    profile: Option<Profile>,
+    main: WordSet,
+    routines: Vec<Routine, A>,
+    variables: WordSet,
+    stops: WordSet,
+    pauses: WordSet,
+    reads: Option<WordSet>,
+}
+
+impl<A: Allocator> Draft<A> {
+    /// Nothing was said yet.
+    pub fn new(alloc: A) -> Draft<A>
+        ensures { gathered result ≡ contents [] }
+    {
+        Draft {
+            start: None,
+            profile: None,
+            main: sets::none(),
+            routines: Vec::new(alloc),
+            variables: sets::none(),
+            stops: sets::none(),
+            pauses: sets::none(),
+            reads: None,
+        }
+    }
+
+    /// Adds what the line of a number says, where it may follow.
+    pub fn add(&mut self, line: &Line, number: usize) -> Result<(), DeclarationFault>
+        ensures added { OnOk result (gathered self.new ≡ with_line (gathered self.old) (said line.now)) }
+        ensures follows { OnOk result (MayFollow (gathered self.old) (said line.now)) }
+        ensures refused { IfErr result (Refuses (gathered self.old) (said line.now) number) }
+    {
+        match line {
+            Line::Nothing => {}
+            Line::Start(at) => return self.add_start(*at, number),
+            Line::Main(set) => sets::add(&mut self.main, set),
+            Line::Sub(routine) => return self.add_routine(routine, number),
+            Line::Variables(set) => sets::add(&mut self.variables, set),
+            Line::Stops(set) => sets::add(&mut self.stops, set),
+            Line::Pauses(set) => sets::add(&mut self.pauses, set),
+            Line::Machine(profile) => return self.add_profile(*profile, number),
+            Line::Reads(set) => self.add_reads(set),
+        }
+        Ok(())
+    }
+
+    fn add_start(&mut self, at: Word, number: usize) -> Result<(), DeclarationFault>
+        ensures added { OnOk result (gathered self.new ≡ with_line (gathered self.old) (said (Line.Start at))) }
+        ensures follows { OnOk result (MayFollow (gathered self.old) (said (Line.Start at))) }
+        ensures refused { IfErr result (Refuses (gathered self.old) (said (Line.Start at)) number) }
+    {
+        if self.start.is_some() {
+            return Err(DeclarationFault::TwoStarts(number));
+        }
+        self.start = Some(at);
+        Ok(())
+    }
+
+    fn add_profile(&mut self, profile: Profile, number: usize) -> Result<(), DeclarationFault>
+        ensures added { OnOk result (gathered self.new ≡ with_line (gathered self.old) (said (Line.Machine profile))) }
+        ensures follows { OnOk result (MayFollow (gathered self.old) (said (Line.Machine profile))) }
+        ensures refused { IfErr result (Refuses (gathered self.old) (said (Line.Machine profile)) number) }
+    {
+        if self.profile.is_some() {
+            return Err(DeclarationFault::TwoProfiles(number));
+        }
+        self.profile = Some(profile);
+        Ok(())
+    }
+
+    fn add_routine(&mut self, routine: &Routine, number: usize) -> Result<(), DeclarationFault>
+        ensures added { OnOk result (gathered self.new ≡ with_line (gathered self.old) (said (Line.Sub routine.now))) }
+        ensures follows { OnOk result (MayFollow (gathered self.old) (said (Line.Sub routine.now))) }
+        ensures refused { IfErr result (Refuses (gathered self.old) (said (Line.Sub routine.now)) number) }
+    {
+        if self.routines.len() >= MOST_ROUTINES {
+            return Err(DeclarationFault::TooMany);
+        }
+        match self.routines.push(*routine) {
+            Ok(()) => Ok(()),
+            Err(_) => Err(DeclarationFault::NoMemory),
+        }
+    }
+
+    fn add_reads(&mut self, set: &WordSet)
+        ensures { gathered self.new ≡ with_line (gathered self.old) (said (Line.Reads set.now)) }
+    {
+        let mut reads = match self.reads {
+            Some(reads) => reads,
+            None => sets::none(),
+        };
+        sets::add(&mut reads, set);
+        self.reads = Some(reads);
+    }
+
+    /// The declaration, where all that was said keeps the rules.
+    pub fn finish(self) -> Result<Declaration<A>, DeclarationFault>
+        requires { (e : ℕ) → IsTrue (is_entry (gathered self) e) → e < 4096 }
+        ensures says { IfOk result (λ d. Says (gathered self) (meaning d)) }
+        ensures rules { IfOk result (λ d. KeepsRules (gathered self) (meaning d).start) }
+        ensures declared { IfOk result (λ d. IsDeclared (meaning d)) }
+        ensures routines { IfOk result (λ d. map subroutine_of (routines_of d) ≡ (gathered self).routines) }
+        ensures broken { IfErr result (Breaks (gathered self)) }
+    {
+        let Some(start) = self.start else {
+            return Err(DeclarationFault::NoStart);
+        };
+        if let Err(fault) = self.keeps_rules(start) {
+            return Err(fault);
+        }
+        Ok(Declaration {
+            start,
+            profile: self.profile.unwrap_or(Profile::Pdp8I),
+            main: self.main,
+            routines: self.routines,
+            variables: self.variables,
+            stops: self.stops,
+            pauses: self.pauses,
+            reads: self.reads,
+        })
+    }
+
+    /// Looks for the first rule that is broken.
+    fn keeps_rules(&self, start: Word) -> Result<(), DeclarationFault>
+        requires { (gathered self.now).starts ≡ start ∷ [] }
+        ensures kept { OnOk result (KeepsRules (gathered self.now) start) }
+        ensures broken { IfErr result (Breaks (gathered self.now)) }
+    {
+        let bodies = bodies(&self.main, &self.routines);
+        let entries = entries(&self.routines);
+        if let Some(at) = self.overlaps(&bodies, &entries).first_from(0) {
+            return Err(DeclarationFault::Overlap(at));
+        }
+        if let Some(at) = self.entries_in_index(&entries).first_from(0) {
+            return Err(DeclarationFault::EntryInAutoIndex(at));
+        }
+        if !sets::has(&self.main, start) {
+            return Err(DeclarationFault::StartNotInMain);
+        }
+        if let Some(at) = self.halts_outside(&bodies).first_from(0) {
+            return Err(DeclarationFault::HaltNotInBody(at));
+        }
+        Ok(())
+    }
+
+    /// The cells that overlap.
+    fn overlaps(&self, bodies: &Coverage, entries: &Coverage) -> WordSet
+        requires bodies { Counts bodies.now (bodies_at (gathered self.now)) }
+        requires entries { Counts entries.now (entries_at (gathered self.now)) }
+        ensures { SameWords (words result) (overlaps (gathered self.now)) }
+    {
+        bodies
+            .twice
+            .union(&entries.once.meet(&bodies.once))
+            .union(&entries.once.meet(&self.variables))
+            .union(&entries.twice)
+            .union(&self.stops.meet(&self.pauses))
+    }
+
+    /// The entries that are auto-index cells.
+    fn entries_in_index(&self, entries: &Coverage) -> WordSet
+        requires { Counts entries.now (entries_at (gathered self.now)) }
+        ensures { SameWords (words result) (entry_in_index (gathered self.now)) }
+    {
+        entries.once.meet(&index_cells())
+    }
+
+    /// The declared halts that are in no body.
+    fn halts_outside(&self, bodies: &Coverage) -> WordSet
+        requires { Counts bodies.now (bodies_at (gathered self.now)) }
+        ensures { SameWords (words result) (halt_outside (gathered self.now)) }
+    {
+        self.stops.union(&self.pauses).minus(&bodies.once)
+    }
+}
+
+/// The cells of main's body and of those of some routines.
+fn bodies(main: &WordSet, routines: &[Routine]) -> Coverage
+    ensures { Counts result (kept_bodies main.now routines.now) }
+{
+    let mut bodies = Coverage::none();
+    bodies.add(main);
+    for routine in routines {
+        bodies.add(&routine.body);
+    }
+    bodies
+}
+
+/// The entries of some routines.
+fn entries(routines: &[Routine]) -> Coverage
+    ensures { Counts result (kept_entries routines.now) }
+{
+    let mut entries = Coverage::none();
+    for routine in routines {
+        entries.add(&WordSet::one(routine.entry));
+    }
+    entries
+}
+
+/// The auto-index cells.
+fn index_cells() -> WordSet
+    ensures { SameWords (words result) is_auto_index }
+{
+    WordSet::range(Word::from_index(0o10), Word::from_index(0o17))
+}

@@ -1,0 +1,342 @@
+//! Declarations: as a text gives them, as they are kept, and their readers.
+#![tactic(auto)]
+
+ghost use Rattle.std.specs.Prelude.{ℕ, ◌≡◌, ◌≢◌, ◌⊎◌, ◌<◌, ◌≤◌, ◌↔◌, ◌==◌, length, IsTrue, IfOk, IfErr, IsErrOf, None, Some, is_some};
+ghost use Rattle.std.specs.Option.{option_map};
+ghost use Rattle.declaration.specs.Declaration.{Declaration as Declared, IsDeclared};
+ghost use Rattle.declaration.specs.Declaration.{IsListed};
+ghost use Rattle.declaration.specs.Text.{Declares, Fails, ListsRoutines, is_entry, most_bytes};
+ghost use Rattle.declaration.specs.Drafts.{gathered, HasLines};
+ghost use Rattle.declaration.specs.declared.DeclarationFault.{DeclarationFault};
+ghost use Rattle.declaration.specs.declared.DeclarationFault.TheVariants.{NoMemory};
+ghost use Rattle.declaration.specs.Kept.{cells, offsets_of, subroutine_of, routines_of, meaning};
+
+use crate::drafts::Draft;
+use crate::lines::read_line;
+use instruct::Profile;
+use streams::text::Lines;
+use std::alloc::Allocator;
+use std::marker::Model;
+use thiserror::Error;
+use word12::Word;
+use wordset::WordSet;
+
+mod drafts;
+mod lines;
+mod sets;
+
+/// The most bytes of a declaration.
+const MOST_BYTES: usize = 16_384;
+
+/// Why a text is no declaration.
+#[derive(Clone, Copy, PartialEq, Eq, Debug, Error)]
+pub enum DeclarationFault {
+    /// The line of this number, counted from 1, is none of the lines that there are.
+    #[error("BadLine {0}")]
+    BadLine(usize),
+    /// The line of this number gives a second start.
+    #[error("TwoStarts {0}")]
+    TwoStarts(usize),
+    /// The line of this number gives a second machine.
+    #[error("TwoProfiles {0}")]
+    TwoProfiles(usize),
+    /// No line gives the start.
+    #[error("NoStart")]
+    NoStart,
+    /// The cell is in two bodies; or it's an entry, and in a body, a variable or another entry; or
+    /// it's both a stop and a pause.
+    #[error("Overlap {0}")]
+    Overlap(Word),
+    /// The entry is one of the cells 0010 to 0017, which an indirect reference steps.
+    #[error("EntryInAutoIndex {0}")]
+    EntryInAutoIndex(Word),
+    /// The start isn't in main's body.
+    #[error("StartNotInMain")]
+    StartNotInMain,
+    /// The text has more than 16,384 bytes or more than 64 routines.
+    #[error("TooMany")]
+    TooMany,
+    /// The declared halt is in no body.
+    #[error("HaltNotInBody {0}")]
+    HaltNotInBody(Word),
+    /// A growth of the list of routines was refused.
+    #[error("NoMemory")]
+    NoMemory,
+}
+
+/// Some of the offsets 0 to 7, at which a routine may return.
+#[derive(Clone, Copy, PartialEq, Eq, Debug)]
+pub struct Offsets {
+    declared: [bool; 8],
+}
+
+/// A routine: its entry, the cells of its body, and the offsets at which it may return.
+///
+/// Contracts see it as `subroutine_of` gives it.
+#[derive(Clone, Copy, PartialEq, Eq, Debug)]
+pub struct Routine {
+    entry: Word,
+    body: WordSet,
+    offsets: Offsets,
+}
+
+/// What the author of a program promises of its runs: the start, the bodies of main and of the
+/// routines, the variables, the declared halts, the machine, and the cells that may be read, if
+/// they are listed.
+///
+/// Contracts see it as `meaning` gives it.
+#[derive(Drop)]
+pub struct Declaration<A: Allocator> {
+    start: Word,
+    profile: Profile,
+    main: WordSet,
+    routines: Vec<Routine, A>,
+    variables: WordSet,
+    stops: WordSet,
+    pauses: WordSet,
+    reads: Option<WordSet>,
+}
+
+impl<A: Allocator> Model for Declaration<A> {
+    ghost use Rattle.declaration.specs.Declaration.{IsDeclared};
+    ghost use Rattle.declaration.specs.Kept.{Kept, meaning};
+
+    ghost Value = { Kept };
+
+    ghost view = { λ d. record { start = d.start; profile = d.profile; main = d.main; routines = d.routines.items; variables = d.variables; stops = d.stops; pauses = d.pauses; reads = d.reads } };
+
+    // Each declaration keeps the overlap rules.
+    ghost invariant = { λ d. IsDeclared (meaning (record { start = d.start; profile = d.profile; main = d.main; routines = d.routines.items; variables = d.variables; stops = d.stops; pauses = d.pauses; reads = d.reads })) };
+}
+
+impl Offsets {
+    /// Whether the offset is one of these.
+    pub fn contains(&self, offset: Word) -> bool
+        ensures { result ≡ offsets_of self.now offset }
+    {
+        let at = offset.index();
+        at < 8 && self.declared[at]
+    }
+}
+
+impl Routine {
+    /// The cell in which a call keeps its return address, just before the routine.
+    pub fn entry(&self) -> Word
+        ensures { result ≡ (subroutine_of self.now).entry }
+    {
+        self.entry
+    }
+
+    /// The cells of the body.
+    pub fn body(&self) -> &WordSet
+        ensures { cells result.now ≡ (subroutine_of self.now).body }
+    {
+        &self.body
+    }
+
+    /// The offsets from the address after a call at which the routine may return.
+    pub fn offsets(&self) -> Offsets
+        ensures { offsets_of result ≡ (subroutine_of self.now).offsets }
+    {
+        self.offsets
+    }
+}
+
+impl<A: Allocator> Declaration<A> {
+    /// The declaration of a text.
+    ///
+    /// Each line is one of `start A`, `main R..`, `sub E body R.. returns d..`, `var R..`,
+    /// `stop A..`, `pause A..`, `profile 8i` or `profile 8e`, and `read R..`, or empty. A range `R`
+    /// is an address `A` or two, `A-B`; an address is one to four octal digits, an offset `d` one
+    /// octal digit. There may be no offsets, and no ranges after `read`. Words stand between spaces
+    /// and tabs, and a `/` begins a comment. Lines of one kind add to one another, but there is one
+    /// start and at most one machine, which is the 8/I without a line.
+    ///
+    /// # Errors
+    ///
+    /// `TooMany` first for a text of more than 16,384 bytes. Then, by the first line at which one
+    /// of them is due, `BadLine`, `TwoStarts` or `TwoProfiles` with the line's number, `TooMany`
+    /// for a 65th routine, or `NoMemory` where a growth was refused, in this order. Then `NoStart`,
+    /// `Overlap`, `EntryInAutoIndex`, `StartNotInMain` and `HaltNotInBody`, in this order, with the
+    /// least address that shows the fault.
+    pub fn parse(alloc: A, text: &[u8]) -> Result<Declaration<A>, DeclarationFault>
+        ensures found { IfOk result (λ d. Declares text.now (meaning d)) }
+        ensures declared { IfOk result (λ d. IsDeclared (meaning d)) }
+        ensures routines { IfOk result (λ d. ListsRoutines text.now (routines_of d)) }
+        ensures only { (d : Declared) → Declares text.now d → IfErr result (λ fault. fault ≡ NoMemory) }
+        ensures refused { IfErr result (Fails text.now) }
+        ensures exact { (fault : DeclarationFault) → Fails text.now fault → fault ≢ NoMemory
+            → IsErrOf result fault ⊎ IsErrOf result NoMemory }
+    {
+        if text.len() > MOST_BYTES {
+            return Err(DeclarationFault::TooMany);
+        }
+        parse_lines(alloc, text)
+    }
+
+    /// Shows that a declaration keeps the overlap rules, which proofs about a borrowed one need.
+    pub fn is_declared(&self)
+        ensures { IsDeclared (meaning self.now) }
+    {
+        let _start = &self.start;
+    }
+
+    /// Where the program starts.
+    pub fn start(&self) -> Word
+        ensures { result ≡ (meaning self.now).start }
+    {
+        self.start
+    }
+
+    /// The machine that is meant.
+    pub fn profile(&self) -> Profile
+        ensures { result ≡ (meaning self.now).profile }
+    {
+        self.profile
+    }
+
+    /// The cells of main's body.
+    pub fn main(&self) -> &WordSet
+        ensures { cells result.now ≡ (meaning self.now).body None }
+    {
+        &self.main
+    }
+
+    /// The routines; after `parse` at most 64, in the order of their lines.
+    pub fn routines(&self) -> &[Routine]
+        ensures { result.now ≡ routines_of self.now }
+    {
+        &self.routines
+    }
+
+    /// The variable cells.
+    pub fn variables(&self) -> &WordSet
+        ensures { cells result.now ≡ (meaning self.now).variable }
+    {
+        &self.variables
+    }
+
+    /// The declared halts that are stops.
+    pub fn stops(&self) -> &WordSet
+        ensures { cells result.now ≡ (meaning self.now).stop }
+    {
+        &self.stops
+    }
+
+    /// The declared halts that are pauses.
+    pub fn pauses(&self) -> &WordSet
+        ensures { cells result.now ≡ (meaning self.now).pause }
+    {
+        &self.pauses
+    }
+
+    /// The cells that may be read, if they are listed.
+    pub fn reads(&self) -> Option<&WordSet>
+        ensures { option_map (λ set. cells set.now) result ≡ (meaning self.now).reads }
+    {
+        self.reads.as_ref()
+    }
+
+    /// Whether a cell is in main's body.
+    pub fn in_main(&self, at: Word) -> bool
+        ensures { result ≡ (meaning self.now).body None at }
+    {
+        self.main.contains(at)
+    }
+
+    /// Whether a cell is a routine's entry.
+    pub fn is_entry(&self, at: Word) -> bool
+        ensures { result ≡ (meaning self.now).entry at }
+    {
+        self.routines.iter().any(|routine| routine.entry == at)
+    }
+
+    /// Whether a cell is in the body of the routine of an entry.
+    pub fn in_body(&self, entry: Word, at: Word) -> bool
+        ensures { result ≡ (meaning self.now).body (Some entry) at }
+    {
+        self.routines.iter().any(|routine| routine.entry == entry && routine.body.contains(at))
+    }
+
+    /// Whether the routine of an entry may return at an offset.
+    pub fn has_offset(&self, entry: Word, offset: Word) -> bool
+        ensures { result ≡ (meaning self.now).offset entry offset }
+    {
+        self.routines.iter().any(|routine| routine.entry == entry
+            && routine.offsets.contains(offset))
+    }
+
+    /// Whether a cell is a variable.
+    pub fn is_variable(&self, at: Word) -> bool
+        ensures { result ≡ (meaning self.now).variable at }
+    {
+        self.variables.contains(at)
+    }
+
+    /// Whether a cell is a declared halt that is a stop.
+    pub fn is_stop(&self, at: Word) -> bool
+        ensures { result ≡ (meaning self.now).stop at }
+    {
+        self.stops.contains(at)
+    }
+
+    /// Whether a cell is a declared halt that is a pause.
+    pub fn is_pause(&self, at: Word) -> bool
+        ensures { result ≡ (meaning self.now).pause at }
+    {
+        self.pauses.contains(at)
+    }
+
+    /// Whether there is a list of reads.
+    pub fn reads_listed(&self) -> bool
+        ensures { result ≡ is_some (meaning self.now).reads }
+    {
+        self.reads.is_some()
+    }
+
+    /// Whether a cell may be read: it's on the list of reads, or there is none.
+    pub fn may_read(&self, at: Word) -> bool
+        ensures { IsTrue result ↔ IsListed (meaning self.now).reads at }
+    {
+        match &self.reads {
+            None => true,
+            Some(cells) => cells.contains(at),
+        }
+    }
+}
+
+/// The declaration of a text that isn't too long.
+fn parse_lines<A: Allocator>(alloc: A, text: &[u8]) -> Result<Declaration<A>, DeclarationFault>
+    requires { length text.now ≤ most_bytes }
+    ensures found { IfOk result (λ d. Declares text.now (meaning d)) }
+    ensures declared { IfOk result (λ d. IsDeclared (meaning d)) }
+    ensures routines { IfOk result (λ d. ListsRoutines text.now (routines_of d)) }
+    ensures refused { IfErr result (Fails text.now) }
+{
+    match read_lines(alloc, text) {
+        Ok(draft) => draft.finish(),
+        Err(fault) => Err(fault),
+    }
+}
+
+/// What the lines of a text that isn't too long say together.
+fn read_lines<A: Allocator>(alloc: A, text: &[u8]) -> Result<Draft<A>, DeclarationFault>
+    requires { length text.now ≤ most_bytes }
+    ensures found { IfOk result (λ draft. HasLines text.now (gathered draft)) }
+    ensures fit { IfOk result (λ draft. (e : ℕ) → IsTrue (is_entry (gathered draft) e) → e < 4096) }
+    ensures refused { IfErr result (Fails text.now) }
+{
+    let mut draft = Draft::new(alloc);
+    for (index, line) in Lines::of(text).enumerate() {
+        let Some(said) = read_line(line) else {
+            return Err(DeclarationFault::BadLine(index + 1));
+        };
+        if let Err(fault) = draft.add(&said, index + 1) {
+            return Err(fault);
+        }
+    }
+    Ok(draft)
+}
+
+#[cfg(test)]
+mod tests;

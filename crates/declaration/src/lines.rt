@@ -1,0 +1,303 @@
+//! What the lines of a declaration say.
+
+ghost use Rattle.std.specs.Prelude.{◌≡◌, ◌<◌, ◌==◌, ◌||◌, [], ◌∷◌, IfSome, OnSome};
+ghost use Rattle.streams.specs.Text.{octal_word};
+ghost use Rattle.std.specs.List.{after_first, position};
+ghost use Rattle.std.specs.Option.{option_map};
+ghost use Rattle.streams.specs.TextLeft.{words_left};
+ghost use Rattle.declaration.specs.Kept.{cells, offsets_of};
+ghost use Rattle.declaration.specs.Lines.{is_dash, range_of, address_of, offset_of, any_of, these, all_read, some_read, span, is_returns, body_read, offsets_read, routine, start_line, sub_line, profile_line, named_line, line_of};
+ghost use Rattle.declaration.specs.Drafts.{cells_read, ranges_before, said};
+
+use super::{Offsets, Routine, sets};
+use instruct::Profile;
+use streams::text::{self, Words};
+use word12::Word;
+use wordset::WordSet;
+
+/// What a line says.
+#[derive(Clone, Copy)]
+pub enum Line {
+    Nothing,
+    Start(Word),
+    Main(WordSet),
+    Sub(Routine),
+    Variables(WordSet),
+    Stops(WordSet),
+    Pauses(WordSet),
+    Machine(Profile),
+    Reads(WordSet),
+}
+
+/// What a word of a list of cells may be.
+#[derive(Clone, Copy)]
+enum Form {
+    /// An address, or two with a dash between them.
+    Range,
+    /// An address.
+    Address,
+}
+
+/// What a line says, if it isn't bad.
+pub fn read_line(line: &[u8]) -> Option<Line>
+    ensures { option_map said result ≡ line_of line.now }
+{
+    let mut words = Words::of(line);
+    match words.next() {
+        None => Some(Line::Nothing),
+        Some(name) => named_line(name, words),
+    }
+}
+
+/// What a line of this first word says.
+fn named_line(name: &[u8], rest: Words<'_>) -> Option<Line>
+    ensures { option_map said result ≡ named_line name.now (words_left rest.entry) }
+{
+    if text::is(name, "start") {
+        start_line(rest)
+    } else if text::is(name, "main") {
+        some_cells(Form::Range, rest).map(Line::Main)
+    } else if text::is(name, "sub") {
+        sub_line(rest)
+    } else if text::is(name, "var") {
+        some_cells(Form::Range, rest).map(Line::Variables)
+    } else if text::is(name, "stop") {
+        some_cells(Form::Address, rest).map(Line::Stops)
+    } else if text::is(name, "pause") {
+        some_cells(Form::Address, rest).map(Line::Pauses)
+    } else if text::is(name, "profile") {
+        profile_line(rest)
+    } else if text::is(name, "read") {
+        all_cells(Form::Range, rest).map(Line::Reads)
+    } else {
+        None
+    }
+}
+
+/// The start of a line of one word.
+fn start_line(rest: Words<'_>) -> Option<Line>
+    ensures { option_map said result ≡ start_line (words_left rest.entry) }
+{
+    let mut words = rest;
+    let Some(word) = words.next() else {
+        return None;
+    };
+    match words.next() {
+        None => text::octal_word(word).map(Line::Start),
+        Some(_) => None,
+    }
+}
+
+/// The machine of a line of one word.
+fn profile_line(rest: Words<'_>) -> Option<Line>
+    ensures { option_map said result ≡ profile_line (words_left rest.entry) }
+{
+    let mut words = rest;
+    let Some(word) = words.next() else {
+        return None;
+    };
+    match words.next() {
+        None => profile(word),
+        Some(_) => None,
+    }
+}
+
+/// The machine of this name.
+fn profile(word: &[u8]) -> Option<Line>
+    ensures { option_map said result ≡ profile_line (word.now ∷ []) }
+{
+    if text::is(word, "8i") {
+        Some(Line::Machine(Profile::Pdp8I))
+    } else if text::is(word, "8e") {
+        Some(Line::Machine(Profile::Pdp8E))
+    } else {
+        None
+    }
+}
+
+/// A routine: its entry, the word `body`, ranges, the word `returns`, and offsets.
+fn sub_line(rest: Words<'_>) -> Option<Line>
+    ensures { option_map said result ≡ sub_line (words_left rest.entry) }
+{
+    let mut words = rest;
+    let Some(entry) = words.next() else {
+        return None;
+    };
+    let Some(word) = words.next() else {
+        return None;
+    };
+    if !text::is(word, "body") {
+        return None;
+    }
+    routine(entry, words)
+}
+
+/// The routine of an entry and of what follows the word `body`.
+fn routine(entry: &[u8], rest: Words<'_>) -> Option<Line>
+    ensures { option_map said result ≡ routine (octal_word entry.now) (body_read (words_left rest.entry))
+        (offsets_read (after_first is_returns (words_left rest.entry))) }
+{
+    let mut words = rest;
+    let Some(entry) = text::octal_word(entry) else {
+        return None;
+    };
+    let Some(body) = body(&mut words) else {
+        return None;
+    };
+    let Some(offsets) = offsets(words) else {
+        return None;
+    };
+    Some(Line::Sub(Routine {
+        entry,
+        body,
+        offsets,
+    }))
+}
+
+/// The cells of ranges, one or more, up to the word `returns`, which is taken too.
+fn body(words: &mut Words<'_>) -> Option<WordSet>
+    ensures cells { option_map cells result ≡ body_read (words_left words.old) }
+    ensures rest { OnSome result (words_left words.new ≡ after_first is_returns (words_left words.old)) }
+{
+    let mut ahead = *words;
+    match ahead.next() {
+        Some(first) if !text::is(first, "returns") => body_cells(words),
+        _ => None,
+    }
+}
+
+/// The same of ranges of which there may be none.
+fn body_cells(words: &mut Words<'_>) -> Option<WordSet>
+    ensures cells { option_map cells result ≡ option_map any_of (ranges_before (words_left words.old)) }
+    ensures rest { OnSome result (words_left words.new ≡ after_first is_returns (words_left words.old)) }
+{
+    let mut set = sets::none();
+    while let Some(word) = words.next() {
+        if text::is(word, "returns") {
+            return Some(set);
+        }
+        match range(word) {
+            Some(more) => sets::add(&mut set, &more),
+            None => return None,
+        }
+    }
+    None
+}
+
+/// The offsets, each one octal digit.
+fn offsets(rest: Words<'_>) -> Option<Offsets>
+    ensures { option_map offsets_of result ≡ offsets_read (words_left rest.entry) }
+{
+    let mut words = rest;
+    let mut offsets = Offsets {
+        declared: [false; 8],
+    };
+    while let Some(word) = words.next() {
+        match offset(word) {
+            Some(at) => offsets.insert(at),
+            None => return None,
+        }
+    }
+    Some(offsets)
+}
+
+/// The offset of one octal digit.
+fn offset(word: &[u8]) -> Option<Word>
+    ensures value { result ≡ offset_of word.now }
+    ensures small { IfSome result (λ at. at < 8) }
+{
+    if word.len() == 1 {
+        text::octal_word(word)
+    } else {
+        None
+    }
+}
+
+impl Offsets {
+    /// Puts an offset in.
+    fn insert(&mut self, offset: Word)
+        requires { offset < 8 }
+        ensures { offsets_of self.new ≡ (λ o. offsets_of self.old o || offset == o) }
+    {
+        self.declared[offset.index()] = true;
+    }
+}
+
+/// The cells of words, one or more.
+fn some_cells(form: Form, words: Words<'_>) -> Option<WordSet>
+    ensures { option_map cells result ≡ option_map any_of (some_read (cells_read form) (words_left words.entry)) }
+{
+    let mut ahead = words;
+    match ahead.next() {
+        Some(_) => all_cells(form, words),
+        None => None,
+    }
+}
+
+/// The cells of words, of which there may be none.
+fn all_cells(form: Form, rest: Words<'_>) -> Option<WordSet>
+    ensures { option_map cells result ≡ option_map any_of (all_read (cells_read form) (words_left rest.entry)) }
+{
+    let mut words = rest;
+    let mut set = sets::none();
+    while let Some(word) = words.next() {
+        match form.cells(word) {
+            Some(more) => sets::add(&mut set, &more),
+            None => return None,
+        }
+    }
+    Some(set)
+}
+
+impl Form {
+    /// The cells of a word of this form.
+    fn cells(self, word: &[u8]) -> Option<WordSet>
+        ensures { option_map cells result ≡ cells_read self word.now }
+    {
+        match self {
+            Form::Range => range(word),
+            Form::Address => address(word),
+        }
+    }
+}
+
+/// The cell of an address.
+fn address(word: &[u8]) -> Option<WordSet>
+    ensures { option_map cells result ≡ address_of word.now }
+{
+    text::octal_word(word).map(sets::only)
+}
+
+/// The cells of an address, or from one address to another, which isn't below it.
+fn range(word: &[u8]) -> Option<WordSet>
+    ensures { option_map cells result ≡ range_of word.now }
+{
+    match place_of_dash(word) {
+        None => address(word),
+        Some(at) => span(&word[..at], &word[at + 1..]),
+    }
+}
+
+/// The first place of a dash.
+fn place_of_dash(word: &[u8]) -> Option<usize>
+    ensures { result ≡ position is_dash word.now }
+{
+    word.iter().position(|byte| *byte == b'-')
+}
+
+/// The cells from one address to another.
+fn span(low: &[u8], high: &[u8]) -> Option<WordSet>
+    ensures { option_map cells result ≡ span (octal_word low.now) (octal_word high.now) }
+{
+    let Some(low) = text::octal_word(low) else {
+        return None;
+    };
+    let Some(high) = text::octal_word(high) else {
+        return None;
+    };
+    if low.value() <= high.value() {
+        Some(sets::from_to(low, high))
+    } else {
+        None
+    }
+}

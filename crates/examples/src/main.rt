@@ -1,0 +1,109 @@
+//! Assembles, runs and watches the programs of `examples/`, and compares what is written with the
+//! files beside them, which other programs made.
+#![tactic(auto)]
+
+use testing::memory::{MemorySink, MemorySource};
+use instruct::Profile;
+use std::alloc::Global;
+use std::fs;
+use std::rt::Files;
+use word12::Word;
+use commands::assembling::assemble;
+use commands::running::{RunOptions, run_events};
+use commands::watching::watch;
+
+/// The programs, and the machines that they are for.
+static PROGRAMS: [(&str, Profile); 15] = [
+    ("argument", Profile::Pdp8I),
+    ("checksum", Profile::Pdp8I),
+    ("copier", Profile::Pdp8I),
+    ("counter", Profile::Pdp8I),
+    ("decimal", Profile::Pdp8I),
+    ("dispatch", Profile::Pdp8I),
+    ("divide", Profile::Pdp8I),
+    ("echo", Profile::Pdp8I),
+    ("hello", Profile::Pdp8I),
+    ("modify", Profile::Pdp8I),
+    ("move", Profile::Pdp8I),
+    ("multiply", Profile::Pdp8I),
+    ("octal", Profile::Pdp8I),
+    ("pack", Profile::Pdp8E),
+    ("sort", Profile::Pdp8I),
+];
+
+/// More bytes than any tape or text here has.
+const ROOM: usize = 65_536;
+
+/// A file of a program.
+fn file<R: Files + AllocGlobal>(rt: &R, name: &str, ending: &str) -> anyhow::Result<Vec<u8>> {
+    let path = format!(in rt.alloc(); "{name}{ending}")?;
+    let bytes = fs::read(rt, path.as_str())?;
+    Ok(bytes)
+}
+
+/// The tape of a source.
+fn tape_of<R: Files + AllocGlobal>(
+    rt: &R,
+    name: &str,
+    ending: &str,
+    profile: Profile,
+) -> anyhow::Result<MemorySink<Global>> {
+    let source = file(rt, name, ending)?;
+    let mut parts = [MemorySource::new(&source)];
+    let mut tape = MemorySink::new(rt.alloc(), ROOM);
+    assemble(rt.alloc(), &mut parts, profile, &mut tape)?;
+    Ok(tape)
+}
+
+/// Whether a run by the listed events ends as it should.
+fn runs<R: Files + AllocGlobal>(rt: &R, name: &str, profile: Profile) -> anyhow::Result<bool> {
+    let tape = tape_of(rt, name, ".pal", profile)?;
+    let events = file(rt, name, ".events")?;
+    let options = RunOptions {
+        start: Word::from_index(0o200),
+        rounds: 1,
+        trace: false,
+        profile,
+    };
+    let mut out = MemorySink::new(rt.alloc(), ROOM);
+    run_events(
+        rt.alloc(),
+        &mut MemorySource::new(tape.bytes()),
+        &mut MemorySource::new(&events),
+        options,
+        &mut out,
+    )?;
+    Ok(out.bytes() == file(rt, name, ".run")?.as_slice())
+}
+
+/// Whether what is seen of a run by the listed events is what should be.
+fn watches<R: Files + AllocGlobal>(
+    rt: &R,
+    name: &str,
+    source: &str,
+    expected: &str,
+    profile: Profile,
+) -> anyhow::Result<bool> {
+    let tape = tape_of(rt, name, source, profile)?;
+    let declaration = file(rt, name, ".declaration")?;
+    let events = file(rt, name, ".events")?;
+    let mut out = MemorySink::new(rt.alloc(), ROOM);
+    watch(
+        rt.alloc(),
+        &mut MemorySource::new(tape.bytes()),
+        &mut MemorySource::new(&declaration),
+        &mut MemorySource::new(&events),
+        &mut out,
+    )?;
+    Ok(out.bytes() == file(rt, name, expected)?.as_slice())
+}
+
+fn main(rt: HostRuntime) -> anyhow::Result<()> {
+    for (name, profile) in PROGRAMS.iter() {
+        let run = runs(&rt, name, *profile)?;
+        let clean = watches(&rt, name, ".pal", ".watch", *profile)?;
+        let broken = watches(&rt, name, "-broken.pal", "-broken.watch", *profile)?;
+        println!(&rt; "{name}: run {run}, watched {clean}, broken variant watched {broken}")?;
+    }
+    Ok(())
+}

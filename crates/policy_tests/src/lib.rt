@@ -1,5 +1,0 @@
-//! Tests that watch whole programs.
-#![tactic(auto)]
-
-#[cfg(test)]
-mod watching;

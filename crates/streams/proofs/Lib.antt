@@ -1,0 +1,4 @@
+pub mod BytesLemmas
+pub mod NumberLemmas
+pub mod TextLemmas
+pub mod NumberedLines

@@ -1,0 +1,83 @@
+//! Where bytes come from and go to: sources and sinks that remember a call that failed.
+
+ghost use Rattle.std.specs.Prelude.{◌≡◌, ◌≤◌, ◌||◌, ℕ, List, Option, Bool, false, is_err, length, IfOk, OnOk, OnErr};
+ghost use Rattle.std.specs.Io.KnownBytes.{Appends, ReadConsumes, WriteAppends};
+ghost use Rattle.streams.specs.Bytes.{write_fails, AppendsFront};
+
+use thiserror::Error;
+
+/// A read or a write failed.
+#[derive(Clone, Copy, PartialEq, Eq, Debug, Error)]
+#[error("a read or a write failed")]
+pub struct Failed;
+
+/// A reader of bytes.
+pub trait ByteSource {
+    /// The bytes still to give, where the source tells them.
+    ghost remaining: { Self → Option (List ℕ) };
+
+    /// Whether a read failed.
+    ghost mark: { Self → Bool };
+
+    /// Fills the front of a piece, and says how much of it. To fill nothing of a piece that isn't
+    /// empty is the end of input.
+    ///
+    /// # Errors
+    ///
+    /// `Failed`, and then the mark is set; no byte that was still to come is lost.
+    fn read(&mut self, piece: &mut [u8]) -> Result<usize, Failed>
+        ensures count { IfOk result (λ n. n ≤ length piece.new) }
+        ensures bytes { ReadConsumes (remaining self.old) (remaining self.new) result piece.new }
+        ensures marks { mark self.new ≡ (mark self.old || is_err result) };
+
+    /// Whether a read failed. No call clears this mark.
+    fn failed(&self) -> bool
+        ensures { result ≡ mark self.now };
+}
+
+/// A writer of bytes.
+pub trait ByteSink {
+    /// The bytes taken so far, where the sink tells them.
+    ghost taken: { Self → Option (List ℕ) };
+
+    /// Whether a write failed, or took nothing of a piece that isn't empty.
+    ghost mark: { Self → Bool };
+
+    /// Takes the front of a piece, and says how much of it. To take nothing of a piece that isn't
+    /// empty counts as a failure, and sets the mark.
+    ///
+    /// # Errors
+    ///
+    /// `Failed`, and then nothing of the piece was taken and the mark is set.
+    fn write(&mut self, piece: &[u8]) -> Result<usize, Failed>
+        ensures count { IfOk result (λ n. n ≤ length piece.now) }
+        ensures bytes { WriteAppends (taken self.old) (taken self.new) result piece.now }
+        ensures marks { mark self.new ≡ (mark self.old || write_fails result piece.now) };
+
+    /// Whether a write failed or took nothing. No call clears this mark.
+    fn failed(&self) -> bool
+        ensures { result ≡ mark self.now };
+}
+
+/// Writes a whole piece, in as many writes as it needs.
+///
+/// # Errors
+///
+/// `Failed` where a write failed or took nothing, which the mark shows; a front of the piece went
+/// out before it.
+pub fn put<W: ByteSink>(sink: &mut W, piece: &[u8]) -> Result<(), Failed>
+    requires unmarked { W.mark sink.old ≡ false }
+    ensures whole { OnOk result (Appends (W.taken sink.old) (W.taken sink.new) piece.now) }
+    ensures front { OnErr result (AppendsFront (W.taken sink.old) (W.taken sink.new) piece.now) }
+    ensures marks { W.mark sink.new ≡ is_err result }
+{
+    let mut done = 0;
+    while done < piece.len() {
+        let count = sink.write(&piece[done..])?;
+        if count == 0 {
+            return Err(Failed);
+        }
+        done += count;
+    }
+    Ok(())
+}

@@ -1,0 +1,212 @@
+//! The whole program: its words, the files that it opens, and its statuses.
+
+use crate::desk::run_program;
+use crate::sources::halt_tape;
+use std::alloc::Global;
+use std::test::Fail;
+use commands::status::Status;
+
+#[test]
+fn bad_words_are_told(rt: HostRuntime) -> Result<(), Fail> {
+    let missing = "error: the following required arguments were not provided:";
+    for (words, told) in [
+        ("pdp8 run", missing),
+        ("pdp8 dump", missing),
+        ("pdp8 assemble", missing),
+        ("pdp8 assemble out.bin", missing),
+        ("pdp8 list", missing),
+        ("pdp8 watch halt.bin halt.dcl", missing),
+        ("pdp8 run a b", "error: unexpected argument 'b' found"),
+        ("pdp8 dump a b", "error: unexpected argument 'b' found"),
+        ("pdp8 watch a b c d", "error: unexpected argument 'd' found"),
+        ("pdp8 run a --start 8", "error: bad value for '--start': "),
+        ("pdp8 fly", "error: unrecognized subcommand 'fly'"),
+        (
+            "pdp8 run a --fast",
+            "error: unexpected argument '--fast' found",
+        ),
+        (
+            "pdp8 dump a --trace",
+            "error: unexpected argument '--trace' found",
+        ),
+        (
+            "pdp8 list a --start 1",
+            "error: unexpected argument '--start' found",
+        ),
+        (
+            "pdp8 run a --steps",
+            "error: a value is required for '--steps <N>'",
+        ),
+    ] {
+        let end = run_program(rt.alloc(), words);
+        assert_eq!(rt; end.status, Status::Words.code(), "{words}");
+        assert!(rt; end.told.starts_with(told.as_bytes()), "{words}");
+        assert!(rt; end.printed.is_empty() && end.opened.is_empty(), "{words}");
+    }
+    Ok(())
+}
+
+#[test]
+fn bad_values_are_told(rt: HostRuntime) -> Result<(), Fail> {
+    let profile = "error: bad value for '--profile': it is 8i or 8e\n";
+    let steps = "error: bad value for '--steps': it is a number from 1 to 1000000\n";
+    let shared = "error: '-' stands for standard input in one place alone\n";
+    for (words, told) in [
+        ("pdp8 run a --profile 8f", profile),
+        ("pdp8 dump a --profile 8", profile),
+        ("pdp8 list a --profile pdp8", profile),
+        ("pdp8 assemble o a --profile 8E", profile),
+        ("pdp8 run a --steps 0", steps),
+        ("pdp8 run a --steps 1000001", steps),
+        ("pdp8 run a --steps +1", steps),
+        ("pdp8 run a --events b --steps x", steps),
+        ("pdp8 run - --events -", shared),
+        ("pdp8 watch - - c", shared),
+        ("pdp8 watch - b -", shared),
+        ("pdp8 watch a - -", shared),
+        ("pdp8 list - a -", shared),
+        ("pdp8 assemble - - -", shared),
+    ] {
+        let end = run_program(rt.alloc(), words);
+        assert_eq!(rt; end.status, Status::Words.code(), "{words}");
+        assert_eq!(rt; end.told.as_slice(), told.as_bytes(), "{words}");
+        assert!(rt; end.printed.is_empty() && end.opened.is_empty(), "{words}");
+    }
+    Ok(())
+}
+
+#[test]
+fn words_are_carried_out(rt: HostRuntime) -> Result<(), Fail> {
+    let halted = "HALT 0200 AC=0000 L=0 PC=0201 STEPS=1\n";
+    let listing = "            *200\n0200  7402  HLT\n            $\n\n";
+    for (words, status, printed) in [
+        ("pdp8 run halt.bin", Status::Done, halted),
+        (
+            "pdp8 run halt.bin --steps 1000000 --start 0200",
+            Status::Done,
+            halted,
+        ),
+        ("pdp8 run halt.bin --events step.ev", Status::Done, halted),
+        (
+            "pdp8 dump halt.bin --profile 8e",
+            Status::Done,
+            "0200 7402 HLT\n",
+        ),
+        ("pdp8 list -", Status::Done, listing),
+        ("pdp8 list halt.pal --profile 8i", Status::Done, listing),
+        (
+            "pdp8 watch halt.bin halt.dcl step.ev",
+            Status::Done,
+            "clean\n",
+        ),
+        (
+            "pdp8 watch halt.bin wild.dcl step.ev",
+            Status::Refused,
+            "broken: event 0 rule 5\n",
+        ),
+    ] {
+        let end = run_program(rt.alloc(), words);
+        assert_eq!(rt; end.status, status.code(), "{words}");
+        assert_eq!(rt; end.printed.as_slice(), printed.as_bytes(), "{words}");
+        assert!(rt; end.told.is_empty(), "{words}");
+    }
+    for words in [
+        "pdp8 help",
+        "pdp8 --help",
+        "pdp8 -h",
+        "pdp8 help run",
+        "pdp8 list -h",
+    ] {
+        let end = run_program(rt.alloc(), words);
+        assert_eq!(rt; end.status, Status::Done.code(), "{words}");
+        assert!(rt; end.told.is_empty() && !end.printed.is_empty(), "{words}");
+    }
+    Ok(())
+}
+
+/// The program with these words opens these files, and ends with this status and this line of a
+/// fault; nothing else is written.
+fn is_refused(alloc: Global, words: &str, status: Status, told: &str, opened: &str) -> bool {
+    let end = run_program(alloc, words);
+    end.status == status.code()
+        && end.told.as_slice() == told.as_bytes()
+        && end.opened.as_slice() == opened.as_bytes()
+        && end.printed.is_empty()
+        && end.written.is_empty()
+}
+
+#[test]
+fn files_are_opened_in_order_before_any_is_read(rt: HostRuntime) -> Result<(), Fail> {
+    let told = "pdp8: device: ReadFault\n";
+    for (words, opened) in [
+        ("pdp8 run absent", "absent "),
+        ("pdp8 run bad.bin --events absent", "bad.bin absent "),
+        ("pdp8 dump failing", "failing "),
+        ("pdp8 list bad.pal absent", "bad.pal absent "),
+        ("pdp8 list bad.pal failing", "bad.pal failing "),
+        ("pdp8 watch bad.bin absent bad.ev", "bad.bin absent "),
+        (
+            "pdp8 watch bad.bin bad.dcl absent",
+            "bad.bin bad.dcl absent ",
+        ),
+        ("pdp8 assemble o.bin absent bad.pal", "o.bin absent "),
+    ] {
+        let refused = is_refused(rt.alloc(), words, Status::Device, told, opened);
+        assert!(rt; refused, "{words}");
+    }
+    Ok(())
+}
+
+#[test]
+fn files_that_cannot_be_made_or_written_are_told(rt: HostRuntime) -> Result<(), Fail> {
+    let told = "pdp8: device: WriteFault\n";
+    for (words, opened) in [
+        ("pdp8 assemble absent/o bad.pal", "absent/o "),
+        ("pdp8 assemble failing halt.pal", "failing halt.pal "),
+    ] {
+        let refused = is_refused(rt.alloc(), words, Status::Device, told, opened);
+        assert!(rt; refused, "{words}");
+    }
+    Ok(())
+}
+
+#[test]
+fn the_first_input_with_a_fault_is_told(rt: HostRuntime) -> Result<(), Fail> {
+    let tape = "pdp8: tape: NoWord\n";
+    let declaration = "pdp8: declaration: BadLine 1\n";
+    let source = "pdp8: source: IR 1 1\n";
+    for (words, told, opened) in [
+        // Without words the tape is that of standard input, which has none here.
+        ("pdp8", "pdp8: tape: NoOrigin\n", ""),
+        ("pdp8 run bad.bin --events bad.ev", tape, "bad.bin bad.ev "),
+        (
+            "pdp8 watch bad.bin bad.dcl bad.ev",
+            tape,
+            "bad.bin bad.dcl bad.ev ",
+        ),
+        (
+            "pdp8 watch halt.bin bad.dcl failing",
+            declaration,
+            "halt.bin bad.dcl failing ",
+        ),
+        // The tape's file is made before the source is looked at.
+        ("pdp8 assemble o.bin bad.pal", source, "o.bin bad.pal "),
+    ] {
+        let refused = is_refused(rt.alloc(), words, Status::Refused, told, opened);
+        assert!(rt; refused, "{words}");
+    }
+    Ok(())
+}
+
+#[test]
+fn the_tape_goes_where_it_is_asked_for(rt: HostRuntime) -> Result<(), Fail> {
+    let to_file = run_program(rt.alloc(), "pdp8 assemble o.bin halt.pal");
+    assert_eq!(rt; to_file.status, Status::Done.code());
+    assert_eq!(rt; to_file.written.as_slice(), halt_tape().as_slice());
+    assert!(rt; to_file.printed.is_empty());
+    let to_output = run_program(rt.alloc(), "pdp8 assemble - -");
+    assert_eq!(rt; to_output.status, Status::Done.code());
+    assert_eq!(rt; to_output.printed.as_slice(), to_file.written.as_slice());
+    assert!(rt; to_output.opened.is_empty() && to_output.written.is_empty());
+    Ok(())
+}

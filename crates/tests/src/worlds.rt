@@ -1,0 +1,186 @@
+//! Worlds driven event by event.
+
+use bin_tape::Image;
+use instruct::Profile;
+use peripherals::{Event, Seen, Start, World};
+use testing::Refusing;
+use std::alloc::Allocator;
+use std::test::Fail;
+use word12::{Link, Word};
+
+fn word(value: u16) -> Word {
+    Word::new(value).unwrap_or(Word::ZERO)
+}
+
+/// The words of an image that follow each other from an address.
+fn image(at: u16, words: &[u16]) -> Image {
+    let mut image = Image::empty();
+    let mut address = word(at);
+    for value in words {
+        image.set(address, word(*value));
+        address = address.increment();
+    }
+    image
+}
+
+fn load<A: Allocator + Copy>(alloc: A, image: &Image, pc: u16) -> World<A> {
+    World::load(alloc, image, word(pc), &Start::zero(), Profile::Pdp8I)
+}
+
+#[test]
+fn a_carry_complements_the_link(rt: HostRuntime) -> Result<(), Fail> {
+    let mut start = Start::zero();
+    start.ac = word(0o4000);
+    start.link = Link::SET;
+    let image = image(0o0200, &[0o1201, 0o4000]);
+    let mut world = World::load(rt.alloc(), &image, word(0o0200), &start, Profile::Pdp8I);
+    assert_eq!(rt; world.apply(Event::Step)?, Seen::Ran);
+    assert_eq!(rt; world.cpu().ac, Word::ZERO);
+    assert_eq!(rt; world.cpu().link, Link::CLEAR);
+    Ok(())
+}
+
+#[test]
+fn an_auto_index_cell_is_stepped_first(rt: HostRuntime) -> Result<(), Fail> {
+    let mut pointer = image(0o0200, &[0o1410]);
+    pointer.set(word(0o0010), word(0o0007));
+    let mut world = load(rt.alloc(), &pointer, 0o0200);
+    world.apply(Event::Step)?;
+    assert_eq!(rt; world.cpu().memory.get(word(0o0010)), word(0o0010));
+    assert_eq!(rt; world.cpu().ac, word(0o0010));
+
+    let mut last = image(0o0200, &[0o7001, 0o3417]);
+    last.set(word(0o0017), word(0o7777));
+    let mut world = load(rt.alloc(), &last, 0o0200);
+    world.apply(Event::Step)?;
+    world.apply(Event::Step)?;
+    assert_eq!(rt; world.cpu().memory.get(word(0o0017)), Word::ZERO);
+    assert_eq!(rt; world.cpu().memory.get(Word::ZERO), word(0o0001));
+
+    let mut itself = image(0o0200, &[0o7001, 0o3417]);
+    itself.set(word(0o0017), word(0o0016));
+    let mut world = load(rt.alloc(), &itself, 0o0200);
+    world.apply(Event::Step)?;
+    world.apply(Event::Step)?;
+    assert_eq!(rt; world.cpu().memory.get(word(0o0017)), word(0o0001));
+    Ok(())
+}
+
+#[test]
+fn a_call_at_the_last_cell_wraps(rt: HostRuntime) -> Result<(), Fail> {
+    let mut tape = image(0o7777, &[0o4020, 0o7402]);
+    tape.set(word(0o0020), Word::ZERO);
+    tape.set(word(0o0021), word(0o5420));
+    let mut world = load(rt.alloc(), &tape, 0o7777);
+    world.apply(Event::Step)?;
+    assert_eq!(rt; world.cpu().memory.get(word(0o0020)), Word::ZERO);
+    assert_eq!(rt; world.cpu().pc, word(0o0021));
+    Ok(())
+}
+
+#[test]
+fn events_that_are_not_enabled_change_nothing(rt: HostRuntime) -> Result<(), Fail> {
+    let mut world = load(rt.alloc(), &image(0o0200, &[0o7401]), 0o0200);
+    for event in [
+        Event::Continue,
+        Event::PrinterDone,
+        Event::PunchDone,
+        Event::ReaderDone(1),
+    ] {
+        assert_eq!(rt; world.apply(event)?, Seen::NotEnabled);
+    }
+    assert_eq!(rt; world.apply(Event::Step)?, Seen::Unsupported(word(0o7401)));
+    assert_eq!(rt; world.cpu().pc, word(0o0200));
+    assert_eq!(rt; world.apply(Event::Key(0o301))?, Seen::Changed);
+    assert_eq!(rt; world.apply(Event::Switches(word(0o7777)))?, Seen::Changed);
+    Ok(())
+}
+
+#[test]
+fn a_halt_stands_until_continue(rt: HostRuntime) -> Result<(), Fail> {
+    let mut world = load(rt.alloc(), &image(0o0200, &[0o7402, 0o7001]), 0o0200);
+    assert_eq!(rt; world.apply(Event::Step)?, Seen::Halted);
+    assert_eq!(rt; world.halted_at(), Some(word(0o0200)));
+    assert_eq!(rt; world.apply(Event::Step)?, Seen::NotEnabled);
+    assert_eq!(rt; world.apply(Event::Continue)?, Seen::Changed);
+    assert_eq!(rt; world.halted_at(), None);
+    assert_eq!(rt; world.apply(Event::Step)?, Seen::Ran);
+    assert_eq!(rt; world.cpu().ac, word(0o0001));
+    Ok(())
+}
+
+#[test]
+fn a_fetch_clears_the_readers_buffer(rt: HostRuntime) -> Result<(), Fail> {
+    for (second, ac) in [(0o6014, 0), (0o6012, 0o101)] {
+        let mut world = load(
+            rt.alloc(),
+            &image(0o0200, &[0o6014, second, 0o6012]),
+            0o0200,
+        );
+        for event in [
+            Event::Step,
+            Event::ReaderDone(0o101),
+            Event::Step,
+            Event::Step,
+        ] {
+            world.apply(event)?;
+        }
+        assert_eq!(rt; world.cpu().ac, word(ac));
+    }
+    Ok(())
+}
+
+#[test]
+fn a_refused_print_changes_nothing(rt: HostRuntime) -> Result<(), Fail> {
+    let image = image(0o0200, &[0o7001, 0o6046, 0o6026]);
+    let heap = Refusing::new(rt.alloc(), 0);
+    let mut world = load(&heap, &image, 0o0200);
+    assert_eq!(rt; world.apply(Event::Step).is_ok(), true);
+    assert!(rt; world.apply(Event::Step).is_err());
+    assert!(rt; heap.has_refused());
+    assert_eq!(rt; world.cpu().pc, word(0o0201));
+    assert!(rt; world.printed().is_empty());
+    assert_eq!(rt; world.apply(Event::Step)?, Seen::Ran);
+    assert_eq!(rt; world.printed(), [0o001].as_slice());
+    assert_eq!(rt; world.apply(Event::PrinterDone)?, Seen::Changed);
+    assert_eq!(rt; world.apply(Event::Step)?, Seen::Ran);
+    assert_eq!(rt; world.punched(), [0o001].as_slice());
+    Ok(())
+}
+
+/// The words of a program that prints HELLO, from 0200 on.
+static HELLO: [u16; 26] = [
+    0o7300, 0o6046, 0o1222, 0o3010, 0o1223, 0o3224, 0o1410, 0o4214, 0o2224, 0o5206, 0o7402, 0o5200,
+    0o0000, 0o6041, 0o5215, 0o6046, 0o7200, 0o5614, 0o0224, 0o7773, 0o0000, 0o0310, 0o0305, 0o0314,
+    0o0314, 0o0317,
+];
+
+#[test]
+fn hello_prints_the_same_from_any_start(rt: HostRuntime) -> Result<(), Fail> {
+    let image = image(0o0200, &HELLO);
+    for (ac, link, filled) in [
+        (0, Link::CLEAR, 0),
+        (0o1234, Link::SET, 0o7402),
+        (0o7777, Link::SET, 0o5555),
+    ] {
+        let mut start = Start::zero();
+        start.ac = word(ac);
+        start.link = link;
+        start.mq = word(ac);
+        for address in 0..4096 {
+            start.memory.set(Word::from_index(address), word(filled));
+        }
+        let mut world = World::load(rt.alloc(), &image, word(0o0200), &start, Profile::Pdp8I);
+        for _round in 0..46 {
+            world.apply(Event::Step)?;
+            world.apply(Event::PrinterDone)?;
+            world.apply(Event::PunchDone)?;
+        }
+        assert_eq!(rt; world.halted_at(), Some(word(0o0212)));
+        assert_eq!(rt;
+            world.printed(),
+            [0, 0o310, 0o305, 0o314, 0o314, 0o317].as_slice()
+        );
+    }
+    Ok(())
+}

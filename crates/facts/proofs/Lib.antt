@@ -10,3 +10,4 @@ pub mod EntailLemmas
 pub mod ChangeLemmas
 pub mod StartLemmas
 pub mod AgreeLemmas
+pub mod ChangingLemmas

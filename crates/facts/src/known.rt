@@ -48,14 +48,14 @@ pub(crate) enum Source<'a> {
 /// Contracts see it as the fact that `known_of` gives.
 #[derive(Drop)]
 pub struct Known<'a> {
-    base: Source<'a>,
-    ac: WordSet,
-    mq: WordSet,
-    link: Links,
-    pointer: Change,
-    target: Change,
-    equations: Equations,
-    offsets: Offsets,
+    pub(crate) base: Source<'a>,
+    pub(crate) ac: WordSet,
+    pub(crate) mq: WordSet,
+    pub(crate) link: Links,
+    pub(crate) pointer: Change,
+    pub(crate) target: Change,
+    pub(crate) equations: Equations,
+    pub(crate) offsets: Offsets,
 }
 
 /// The words of a cell.

@@ -5,6 +5,7 @@ ghost use Rattle.facts.specs.Law.{StepLaw};
 ghost use Rattle.facts.specs.Starts.{StartLaw};
 ghost use Rattle.facts.specs.Same.{SameLaw};
 
+mod changes;
 mod entailment;
 mod equations;
 mod fact;

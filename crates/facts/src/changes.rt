@@ -1,0 +1,157 @@
+//! What happens to what is known: a word that counts up or takes a new value, one of several cells
+//! that changes.
+
+ghost use Rattle.std.specs.Prelude.{ℕ, ◌≡◌, ◌≤◌, ◌+◌, map};
+ghost use Rattle.arrayvec.specs.ArrayVec.{array_vec_len};
+ghost use Rattle.wordset.specs.Words.{one, shifted};
+ghost use Rattle.wordset.specs.Lanes.{words};
+ghost use Rattle.wordset.specs.Links.{links_of};
+ghost use Rattle.facts.specs.Facts.{Ac, Cell};
+ghost use Rattle.facts.specs.Changes.{copied, moved, assigned, smeared, with_equations, with_name, with_mq, with_link};
+ghost use Rattle.facts.specs.Same.{Agree};
+ghost use Rattle.facts.specs.Meaning.{equation_of, known_of, IsUnchanged};
+
+use crate::equations::{Equations, copies, copy, freed, freed_of_cells, joined, raised};
+use crate::known::{Change, Known};
+use crate::names::Name;
+use word12::Word;
+use wordset::{Links, WordSet};
+
+/// The word 1.
+fn one() -> Word
+    ensures { result ≡ 1 }
+{
+    Word::ZERO.increment()
+}
+
+impl<'a> Known<'a> {
+    /// After the accumulator's word went up by k.
+    pub(crate) fn raised_ac(&self, k: Word) -> Known<'a>
+        ensures same { Agree (known_of result) (moved Ac k (known_of self.now)) }
+        ensures target { result.target ≡ self.now.target }
+        ensures len { array_vec_len result.equations ≤ array_vec_len self.now.equations }
+    {
+        Known {
+            base: self.base,
+            ac: self.narrowed(&Name::Accumulator).shift(k),
+            mq: self.mq,
+            link: self.link,
+            pointer: self.pointer,
+            target: self.target,
+            equations: raised(&Name::Accumulator, k, &self.equations),
+            offsets: self.offsets,
+        }
+    }
+
+    /// After a cell's word went up by one, where a pointer is stepped.
+    pub(crate) fn stepped(&self, cell: Word) -> Known<'a>
+        requires pointer { IsUnchanged self.now.pointer }
+        requires target { IsUnchanged self.now.target }
+        ensures same { Agree (known_of result) (moved (Cell cell) 1 (known_of self.now)) }
+        ensures target { IsUnchanged result.target }
+        ensures len { array_vec_len result.equations ≤ array_vec_len self.now.equations }
+    {
+        Known {
+            base: self.base,
+            ac: self.ac,
+            mq: self.mq,
+            link: self.link,
+            pointer: Change::Replaced(cell, self.narrowed(&Name::Cell(cell)).shift(one())),
+            target: Change::Unchanged,
+            equations: raised(&Name::Cell(cell), one(), &self.equations),
+            offsets: self.offsets,
+        }
+    }
+
+    /// After the accumulator took some word of a set.
+    pub(crate) fn with_ac(&self, set: WordSet) -> Known<'a>
+        ensures same { Agree (known_of result) (assigned Ac (words set) (known_of self.now)) }
+        ensures target { result.target ≡ self.now.target }
+        ensures len { array_vec_len result.equations ≤ array_vec_len self.now.equations }
+    {
+        Known {
+            base: self.base,
+            ac: set,
+            mq: self.mq,
+            link: self.link,
+            pointer: self.pointer,
+            target: self.target,
+            equations: freed(&Name::Accumulator, &self.equations),
+            offsets: self.offsets,
+        }
+    }
+
+    /// After a cell took some word of a set.
+    pub(crate) fn with_cell(&self, cell: Word, set: WordSet) -> Known<'a>
+        requires { IsUnchanged self.now.target }
+        ensures same { Agree (known_of result) (assigned (Cell cell) (words set) (known_of self.now)) }
+        ensures len { array_vec_len result.equations ≤ array_vec_len self.now.equations }
+    {
+        Known {
+            base: self.base,
+            ac: self.ac,
+            mq: self.mq,
+            link: self.link,
+            pointer: self.pointer,
+            target: Change::Replaced(cell, set),
+            equations: freed(&Name::Cell(cell), &self.equations),
+            offsets: self.offsets,
+        }
+    }
+
+    /// After one of some cells, unknown which, went up by one.
+    pub(crate) fn counted(&self, cells: &WordSet) -> Known<'a>
+        requires { IsUnchanged self.now.target }
+        ensures same { Agree (known_of result)
+            (smeared (words cells.now) (λ y. shifted ((known_of self.now).set (Cell y)) 1) (known_of self.now)) }
+        ensures len { array_vec_len result.equations ≤ array_vec_len self.now.equations }
+    {
+        Known {
+            base: self.base,
+            ac: self.ac,
+            mq: self.mq,
+            link: self.link,
+            pointer: self.pointer,
+            target: Change::Counted(*cells),
+            equations: freed_of_cells(cells, &self.equations),
+            offsets: self.offsets,
+        }
+    }
+
+    /// After one of some cells, unknown which, took some word of a set.
+    pub(crate) fn stored(&self, cells: &WordSet, set: WordSet) -> Known<'a>
+        requires { IsUnchanged self.now.target }
+        ensures same { Agree (known_of result) (smeared (words cells.now) (λ y. words set) (known_of self.now)) }
+        ensures len { array_vec_len result.equations ≤ array_vec_len self.now.equations }
+    {
+        Known {
+            base: self.base,
+            ac: self.ac,
+            mq: self.mq,
+            link: self.link,
+            pointer: self.pointer,
+            target: Change::Stored(*cells, set),
+            equations: freed_of_cells(cells, &self.equations),
+            offsets: self.offsets,
+        }
+    }
+
+    /// After a cell went up by one, where these words of it are left.
+    pub(crate) fn counted_to(&self, cell: Word, set: WordSet) -> Known<'a>
+        requires { IsUnchanged self.now.target }
+        ensures same { Agree (known_of result)
+            (with_name (Cell cell) (words set) (moved (Cell cell) 1 (known_of self.now))) }
+        ensures len { array_vec_len result.equations ≤ array_vec_len self.now.equations }
+    {
+        Known {
+            base: self.base,
+            ac: self.ac,
+            mq: self.mq,
+            link: self.link,
+            pointer: self.pointer,
+            target: Change::Replaced(cell, set),
+            equations: raised(&Name::Cell(cell), one(), &self.equations),
+            offsets: self.offsets,
+        }
+    }
+}

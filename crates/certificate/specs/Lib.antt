@@ -3,3 +3,4 @@ pub mod Spelling
 pub mod Reading
 pub mod Sample
 pub mod Line
+pub mod Fields

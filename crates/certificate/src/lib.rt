@@ -4,6 +4,8 @@
 ghost use Rattle.certificate.specs.Sample.{SampleLaw};
 ghost use Rattle.certificate.specs.Line.{TextLaw};
 
+mod fields;
+
 /// The version of a certificate's text.
 #[derive(Clone, Copy, PartialEq, Eq, Debug)]
 pub enum Version {

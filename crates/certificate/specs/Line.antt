@@ -3,8 +3,9 @@ use Rattle.std.specs.Prelude.{◌≡◌, ℕ, ◌+◌, ◌/◌, ◌%◌, ◌<◌
 use Rattle.word12.specs.Words.{octal_text}
 use Rattle.wordset.specs.Words.{Words, some_below, has_some}
 use Rattle.facts.specs.Facts.{Equation}
+use Rattle.facts.specs.Statements.{TrackedCell, Statement}
 use Rattle.certificate.specs.declared.Version.{Version}
-use Rattle.certificate.specs.Spelling.{TrackedCell, Statement, RoutineLine, FactLine, ExitLine, Lines, set_text, offsets_text, name_text, digits, mq_text, version_text, text}
+use Rattle.certificate.specs.Spelling.{RoutineLine, FactLine, ExitLine, Lines, set_text, offsets_text, name_text, digits, mq_text, version_text, text}
 use Rattle.certificate.specs.Reading.{Each, FitsVersion, IsRoutine, IsTracked, IsEquation, AreLines}
 
 -- The words of the accumulator and of MQ, and the links.

@@ -1,3 +1,4 @@
 pub mod TextLemmas
 pub mod SetLemmas
 pub mod FieldsLemmas
+pub mod RunLemmas

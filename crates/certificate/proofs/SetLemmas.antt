@@ -4,7 +4,8 @@ use Rattle.std.specs.Prelude.{if◌then◌else◌, codes}
 use Rattle.std.proofs.lemmas.Bool.{true≢false, false≢true, eqb-true, eq-eqb, ne_eqb, cases_lt}
 use Rattle.word12.specs.Words.{octal_text}
 use Rattle.wordset.specs.Words.{Words, some_below, has_some}
-use Rattle.certificate.specs.Spelling.{begins, ends, mark, marks, set_text}
+use Rattle.certificate.specs.Spelling.{begins, ends, mark, marks}
+use Rattle.certificate.specs.Fields.{run_text}
 
 -- What is written at k words from n on.
 unfoldable pub written : ℕ → ℕ → Words → List ℕ
@@ -18,9 +19,6 @@ rest s n = written (4096 - n) n s
 -- A comma, where words came before.
 abbrev pub comma : Words → ℕ → List ℕ
 comma s n = if some_below n s then codes "," else []
-
-abbrev pub run_text : ℕ → ℕ → List ℕ
-run_text low high = octal_text low ++ (if low == high then [] else codes "-" ++ octal_text high)
 
 -- The first run of a set's words from n on.
 pub record Run (s : Words) (n low high : ℕ) : Type 0 where
@@ -163,7 +161,7 @@ run_here s n low high r = elim (cases_lt low high) [
         ap (λ (x : List ℕ). x ++ rest s (low + 1)) (mark_first s low (begun s low here r.starts))
 
 -- After a run comes no word, if there is a further word at all.
-gap_after : (s : Words) (n low high : ℕ) → Run s n low high → high + 1 < 4096 → s (high + 1) ≡ false
+pub gap_after : (s : Words) (n low high : ℕ) → Run s n low high → high + 1 < 4096 → s (high + 1) ≡ false
 gap_after s n low high r h = go (s (high + 1)) refl
   where
     n2 : (high == 4095) ≡ false

@@ -1,11 +1,11 @@
 -- A set read run by run.
-use Rattle.std.proofs.Common.{◌≡◌, ◌≢◌, ◌⊎◌, ℕ, zero, suc, ◌+◌, ◌-◌, ◌/◌, ◌<◌, ◌≤◌, ◌==◌, Bool, true, false, not, ◌&&◌, ◌||◌, List, [], ◌∷◌, ◌++◌, length, Option, Some, None, refl, ap, ◌∙◌, sym, subst, inl, inr, arith, append_assoc, append-nil}
+use Rattle.std.proofs.Common.{◌≡◌, ◌≢◌, ◌⊎◌, ℕ, zero, suc, ◌+◌, ◌-◌, ◌/◌, ◌<◌, ◌≤◌, ◌==◌, Bool, true, false, not, ◌&&◌, ◌||◌, List, [], ◌∷◌, ◌++◌, length, Option, Some, None, refl, ap, ◌∙◌, sym, subst, inl, inr, arith, append_assoc, append-nil, length-append}
 use Rattle.std.specs.Prelude.{if◌then◌else◌, codes, nat_le, IfSome}
 use Rattle.std.specs.Option.{IsSomeAnd}
 use Rattle.std.proofs.lemmas.Bool.{true≢false, false≢true, eqb-true, eq-eqb, ne_eqb, cases_lt}
 use Rattle.std.proofs.lemmas.Bool.Decides.{nat_tests}
 use Rattle.word12.specs.Words.{octal_text}
-use Rattle.wordset.specs.Words.{Words, SameWords, nothing, between, some_below, has_some}
+use Rattle.wordset.specs.Words.{Words, SameWords, nothing, between, union, some_below, has_some}
 use Rattle.wordset.proofs.Tests.{IsSome, some_from, some_to, some_none_of}
 use Rattle.certificate.specs.Spelling.{marks, set_text}
 use Rattle.certificate.specs.Fields.{run_text, NoDash, EndsField}
@@ -341,3 +341,42 @@ first_digit s full tail r e = elim (next_run s 0 (λ h. refl)) [
       let m : run_text q.low q.high ++ rest s (q.high + 2) ++ tail ≡ 45 ∷ r = rw (whole_rest s, k) at e in
       let z : 48 + q.low / 512 ≡ 45 = cc in omega arith)
 ]
+
+-- How much is left.
+abbrev pub how_long : Option (List ℕ) → ℕ
+how_long None = 0
+how_long (Some r) = length r + 1
+
+pub shorter : (now mid next : Option (List ℕ)) (low high : ℕ) → IsSomeAnd mid (λ r. now ≡ Some (44 ∷ r)) →
+    IfSome next (λ r. mid ≡ Some (run_text low high ++ r)) → how_long next < how_long now
+shorter None None next low high a b = absurd a
+shorter (Some x) None next low high a b = absurd a
+shorter None (Some y) next low high a b = absurd (cc)
+shorter (Some x) (Some y) None low high a b = omega arith
+shorter (Some x) (Some y) (Some r) low high a b =
+    let e : x ≡ 44 ∷ y = cc in
+    let f : y ≡ run_text low high ++ r = cc in
+    let g : length x ≡ suc (length y) = ap length e in
+    let k : length y ≡ length (run_text low high ++ r) = ap length f in
+    omega (arith, length-append (run_text low high) r)
+
+-- The first run.
+pub begun_with : (old next : Option (List ℕ)) (u : Words) (low high m : ℕ) → RunRead 0 old next low high → m ≡ high → m < 4096 →
+    u ≡ between low high → AfterRun old next u (m + 2)
+begun_with old next u low high m g is below e = let small : high < 4096 = omega arith in rw is (at_run old old next nothing u 0 low high (at_first old) g small (λ v. ap (λ (f : Words). f v) e))
+
+-- A further run.
+pub going_on : (old now mid next : Option (List ℕ)) (t w u : Words) (n low high m : ℕ) → AfterRun old now t n →
+    IsSomeAnd mid (λ r. now ≡ Some (44 ∷ r)) → ((r : List ℕ) → now ≡ Some (44 ∷ r) → (true ≡ true) × (mid ≡ Some r)) →
+    RunRead n mid next low high → m ≡ high → m < 4096 → w ≡ between low high → u ≡ union t w → AfterRun old next u (m + 2)
+going_on old now None next t w u n low high m h took begins g is below e f = absurd took
+going_on old now (Some y) next t w u n low high m h took begins g is below e f =
+    let small : high < 4096 = omega arith in
+    rw is (at_run old (Some y) next t u n low high
+    (at_comma old now (Some y) t n h (at_some (Sofar old t n) now _ h.read took).some took (λ r q. (begins r q).1) y took)
+    g small (λ v. ap (λ (k : Words). k v) f ∙ ap (λ (k : Words). t v || k v) e))
+
+-- No further run.
+pub ending : (old now next : Option (List ℕ)) (t : Words) (n : ℕ) → AfterRun old now t n → next ≡ now →
+    ((r : List ℕ) → now ≡ Some (44 ∷ r) → (false ≡ true) × (next ≡ Some r)) → SetRead old next t
+ending old now next t n h same none = rw same (at_end old now t n h (λ r e. false≢true (none r e).0))

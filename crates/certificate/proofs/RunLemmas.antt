@@ -6,7 +6,7 @@ use Rattle.std.proofs.lemmas.Bool.{true≢false, false≢true, eqb-true, eq-eqb,
 use Rattle.std.proofs.lemmas.Bool.Decides.{nat_tests}
 use Rattle.word12.specs.Words.{octal_text}
 use Rattle.wordset.specs.Words.{Words, SameWords, nothing, between, union, some_below, has_some}
-use Rattle.wordset.proofs.Tests.{IsSome, some_from, some_to, some_none_of}
+use Rattle.wordset.proofs.Tests.{IsSome, some_from, some_to, some_none_of, none_of_some}
 use Rattle.certificate.specs.Spelling.{marks, set_text}
 use Rattle.certificate.specs.Fields.{run_text, NoDash, EndsField}
 use Rattle.certificate.proofs.SetLemmas.{rest, comma, Run, None_from, whole_rest, none_rest, run_rest, StartsAt, starts_after, Next, gap_after, next_run}
@@ -380,3 +380,61 @@ going_on old now (Some y) next t w u n low high m h took begins g is below e f =
 pub ending : (old now next : Option (List ℕ)) (t : Words) (n : ℕ) → AfterRun old now t n → next ≡ now →
     ((r : List ℕ) → now ≡ Some (44 ∷ r) → (false ≡ true) × (next ≡ Some r)) → SetRead old next t
 ending old now next t n h same none = rw same (at_end old now t n h (λ r e. false≢true (none r e).0))
+
+empty_text : (t : Words) → ((v : ℕ) → v < 4096 → t v ≡ false) → set_text t ≡ 45 ∷ []
+empty_text t none = rw (some_none_of 4096 t none) refl
+
+full_text : (t : Words) → has_some t ≡ true → set_text t ≡ marks 4096 t
+full_text t e = rw e refl
+
+-- What a call that reads a set says.
+pub record FieldRead (old now : Option (List ℕ)) (t : Words) : Type 0 where
+  pub read : IfSome now (λ r. old ≡ Some (set_text t ++ r))
+  pub only : (s : Words) (tail : List ℕ) → EndsField tail → old ≡ Some (set_text s ++ tail) → SameWords t s × (now ≡ Some tail)
+
+-- A set is empty, or has a word.
+by_words : (s : Words) → (has_some s ≡ true) ⊎ ((v : ℕ) → v < 4096 → s v ≡ false)
+by_words s = go (has_some s) refl
+  where
+    go : (b : Bool) → has_some s ≡ b → (has_some s ≡ true) ⊎ ((v : ℕ) → v < 4096 → s v ≡ false)
+    go true e = inl e
+    go false e = inr (none_of_some 4096 s e)
+
+-- A dash.
+pub dash_read : (old now : Option (List ℕ)) (t : Words) → t ≡ nothing → IsSomeAnd now (λ r. old ≡ Some (45 ∷ r)) →
+    ((r : List ℕ) → old ≡ Some (45 ∷ r) → (true ≡ true) × (now ≡ Some r)) → FieldRead old now t
+dash_read old now t e took begins = record { read = reads now took; only = only }
+  where
+    none : (v : ℕ) → v < 4096 → t v ≡ false
+    none v h = ap (λ (f : Words). f v) e
+
+    reads : (o : Option (List ℕ)) → IsSomeAnd o (λ r. old ≡ Some (45 ∷ r)) → IfSome o (λ r. old ≡ Some (set_text t ++ r))
+    reads None a = tt
+    reads (Some r) a = rw (empty_text t none) a
+
+    dashed : (o : Option (List ℕ)) → IsSomeAnd o (λ r. old ≡ Some (45 ∷ r)) → (s : Words) (tail : List ℕ) → has_some s ≡ true →
+        old ≡ Some (set_text s ++ tail) → ⊥
+    dashed None a s tail full q = absurd a
+    dashed (Some r) a s tail full q =
+        let w : set_text s ++ tail ≡ 45 ∷ r = cc in first_digit s full tail r (rw (full_text s full) at w)
+
+    only : (s : Words) (tail : List ℕ) → EndsField tail → old ≡ Some (set_text s ++ tail) → SameWords t s × (now ≡ Some tail)
+    only s tail ends q = elim (by_words s) [
+      | inl full ↦ absurd (dashed now took s tail full q)
+      | inr empty ↦ (λ v h. none v h ∙ sym (empty v h), (begins tail (rw (empty_text s empty) at q)).1)
+    ]
+
+-- No dash.
+pub set_read : (old mid now : Option (List ℕ)) (t : Words) → mid ≡ old → ((r : List ℕ) → old ≡ Some (45 ∷ r) → (false ≡ true) × (mid ≡ Some r)) →
+    SetRead mid now t → FieldRead old now t
+set_read old mid now t e begins g = record { read = reads now g.read; only = only }
+  where
+    reads : (o : Option (List ℕ)) → IfSome o (λ r. (has_some t ≡ true) × (mid ≡ Some (marks 4096 t ++ r))) → IfSome o (λ r. old ≡ Some (set_text t ++ r))
+    reads None a = tt
+    reads (Some r) a = rw (full_text t a.0) (sym e ∙ a.1)
+
+    only : (s : Words) (tail : List ℕ) → EndsField tail → old ≡ Some (set_text s ++ tail) → SameWords t s × (now ≡ Some tail)
+    only s tail ends q = elim (by_words s) [
+      | inl full ↦ g.only s tail full ends (e ∙ (rw (full_text s full) at q))
+      | inr empty ↦ absurd (false≢true (begins tail (rw (empty_text s empty) at q)).0)
+    ]

@@ -2,3 +2,4 @@ pub mod TextLemmas
 pub mod SetLemmas
 pub mod FieldsLemmas
 pub mod RunLemmas
+pub mod DigitLemmas

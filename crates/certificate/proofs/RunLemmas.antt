@@ -423,18 +423,3 @@ dash_read old now t e took begins = record { read = reads now took; only = only 
       | inl full ↦ absurd (dashed now took s tail full q)
       | inr empty ↦ (λ v h. none v h ∙ sym (empty v h), (begins tail (rw (empty_text s empty) at q)).1)
     ]
-
--- No dash.
-pub set_read : (old mid now : Option (List ℕ)) (t : Words) → mid ≡ old → ((r : List ℕ) → old ≡ Some (45 ∷ r) → (false ≡ true) × (mid ≡ Some r)) →
-    SetRead mid now t → FieldRead old now t
-set_read old mid now t e begins g = record { read = reads now g.read; only = only }
-  where
-    reads : (o : Option (List ℕ)) → IfSome o (λ r. (has_some t ≡ true) × (mid ≡ Some (marks 4096 t ++ r))) → IfSome o (λ r. old ≡ Some (set_text t ++ r))
-    reads None a = tt
-    reads (Some r) a = rw (full_text t a.0) (sym e ∙ a.1)
-
-    only : (s : Words) (tail : List ℕ) → EndsField tail → old ≡ Some (set_text s ++ tail) → SameWords t s × (now ≡ Some tail)
-    only s tail ends q = elim (by_words s) [
-      | inl full ↦ g.only s tail full ends (e ∙ (rw (full_text s full) at q))
-      | inr empty ↦ absurd (false≢true (begins tail (rw (empty_text s empty) at q)).0)
-    ]

@@ -3,13 +3,19 @@
 ghost use Rattle.std.specs.Prelude.{ℕ, ◌≡◌, ◌+◌, ◌<◌, ◌≤◌, ◌↔◌, List, [], ◌∷◌, ◌++◌, IsTrue, true, false, Some, None, IfSome};
 ghost use Rattle.word12.specs.Words.{octal_text};
 ghost use Rattle.std.specs.Option.{IsSomeAnd};
-ghost use Rattle.wordset.specs.Words.{Words, SameWords, has_some};
+ghost use Rattle.wordset.specs.Words.{Words, SameWords, SameLinks, some_below, has_some};
 ghost use Rattle.wordset.specs.Lanes.{words};
-ghost use Rattle.certificate.specs.Spelling.{marks, set_text};
+ghost use Rattle.wordset.specs.Links.{links_of};
+ghost use Rattle.facts.specs.Facts.{Name as Named};
+ghost use Rattle.facts.specs.Meaning.{name_of, offsets_of};
+ghost use Rattle.certificate.specs.Spelling.{marks, set_text, digits, offsets_text, name_text};
+ghost use Rattle.certificate.specs.Reading.{place_of_name};
+ghost use Rattle.certificate.specs.Line.{rank_text};
 ghost use Rattle.certificate.specs.Fields.{left, WasFirst, run_text, NoDash, EndsField};
 
-use word12::Word;
-use wordset::WordSet;
+use facts::{Name, Offsets};
+use word12::{Link, Word};
+use wordset::{Links, WordSet};
 
 /// A line from some field on, or nothing once a field didn't read.
 #[derive(Clone, Copy, Debug)]
@@ -156,5 +162,90 @@ impl<'a> Fields<'a> {
             return WordSet::empty();
         }
         self.runs()
+    }
+
+    /// Some of the digits below `count`, in rising order.
+    fn digits(&mut self, count: usize) -> Offsets
+        requires { count ≤ 8 }
+        ensures read { WasFirst self.old self.new (digits count (offsets_of result)) }
+        ensures others { (v : ℕ) → count ≤ v → v < 8 → offsets_of result v ≡ false }
+        ensures only { (s : Words) (rest : List ℕ) → EndsField rest → left self.old ≡ Some (digits count s ++ rest) →
+            ((v : ℕ) → v < count → offsets_of result v ≡ s v) × (left self.new ≡ Some rest) }
+    {
+        let mut found = Offsets::none();
+        for digit in 0..count {
+            if self.takes(b'0' + digit as u8) {
+                found.insert(digit);
+            }
+        }
+        found
+    }
+
+    /// Links: `0`, `1` or `01`.
+    pub fn links(&mut self) -> Links
+        ensures some { IfSome (left self.new) (λ rest. some_below 2 (links_of result) ≡ true) }
+        ensures read { WasFirst self.old self.new (digits 2 (links_of result)) }
+        ensures only { (s : Words) (rest : List ℕ) → some_below 2 s ≡ true → EndsField rest →
+            left self.old ≡ Some (digits 2 s ++ rest) →
+            SameLinks (links_of result) s × (left self.new ≡ Some rest) }
+    {
+        let links = links_among(self.digits(2));
+        if links.is_empty() {
+            self.fail();
+        }
+        links
+    }
+
+    /// Offsets, `-` where there are none.
+    pub fn offsets(&mut self) -> Offsets
+        ensures read { WasFirst self.old self.new (offsets_text (offsets_of result)) }
+        ensures only { (s : Words) (rest : List ℕ) → EndsField rest → left self.old ≡ Some (offsets_text s ++ rest) →
+            ((o : ℕ) → o < 8 → offsets_of result o ≡ s o) × (left self.new ≡ Some rest) }
+    {
+        if self.takes(b'-') {
+            return Offsets::none();
+        }
+        let offsets = self.digits(8);
+        if offsets.is_empty() {
+            self.fail();
+        }
+        offsets
+    }
+
+    /// A rank, of two octal digits.
+    pub fn rank(&mut self) -> usize
+        ensures small { result < 64 }
+        ensures read { WasFirst self.old self.new (rank_text result) }
+        ensures only { (n : ℕ) (rest : List ℕ) → n < 64 → left self.old ≡ Some (rank_text n ++ rest) →
+            (result ≡ n) × (left self.new ≡ Some rest) }
+    {
+        let first = self.digit();
+        let second = self.digit();
+        8 * first + second
+    }
+
+    /// `AC` or a cell's address.
+    pub fn name(&mut self) -> Name
+        ensures read { WasFirst self.old self.new (name_text (name_of result)) }
+        ensures only { (n : Named) (rest : List ℕ) → place_of_name n < 4097 → left self.old ≡ Some (name_text n ++ rest) →
+            (name_of result ≡ n) × (left self.new ≡ Some rest) }
+    {
+        if self.takes(b'A') {
+            self.skip(b"C");
+            return Name::Accumulator;
+        }
+        Name::Cell(self.word())
+    }
+}
+
+/// The links of which the numbers are among these digits.
+fn links_among(digits: Offsets) -> Links
+    ensures { SameLinks (links_of result) (offsets_of digits) }
+{
+    match (digits.contains(0), digits.contains(1)) {
+        (false, false) => Links::none(),
+        (true, false) => Links::one(Link::CLEAR),
+        (false, true) => Links::one(Link::SET),
+        (true, true) => Links::both(),
     }
 }

@@ -1,7 +1,7 @@
 use Rattle.std.proofs.Common.{refl}
 use Rattle.wordset.specs.Lanes.{words}
 use Rattle.certificate.specs.Fields.{left}
-use Rattle.certificate.proofs.RunLemmas.{dash_read, set_read}
+use Rattle.certificate.proofs.RunLemmas.{dash_read}
 use Rattle.certificate.proofs.fields.Fields.set.Goals as goal
 
 pub returns-then-takes-clause-read : goal.returns-then-takes-clause-read

@@ -1,0 +1,5 @@
+pub mod TextLemmas
+pub mod SetLemmas
+pub mod FieldsLemmas
+pub mod RunLemmas
+pub mod DigitLemmas

@@ -91,7 +91,9 @@ impl<A: Allocator> Watcher<A> {
         ensures happens { OnOk result (Happens (meaning declaration.now).profile (view self.old.world) Event.Step (view self.new.world)) }
         ensures calls { OnOk result (open_calls self.new.calls.items ≡ calls_after (meaning declaration.now) (view self.old.world).state (open_calls self.old.calls.items)) }
         ensures profile { profile_of self.new.world ≡ (meaning declaration.now).profile }
-        ensures only_growth { OnErr result (TakesMemory (meaning declaration.now) (view self.old.world)) }
+        ensures unchanged { OnErr result (view self.new.world ≡ view self.old.world) }
+        ensures only_growth { OnErr result
+            (TakesMemory (meaning declaration.now) (view self.old.world)) }
     {
         let cpu = self.world.cpu();
         let action = next_action(cpu, declaration.profile());

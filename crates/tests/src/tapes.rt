@@ -230,18 +230,21 @@ fn refused_inputs_write_nothing(rt: HostRuntime) -> Result<(), Fail> {
 #[test]
 fn a_sink_that_fails_has_a_prefix(rt: HostRuntime) -> Result<(), Fail> {
     let frames = tape(rt.alloc(), &[0o7402])?;
-    let text = b"HALT 0200 AC=0000 L=0 PC=0201 STEPS=1\n";
-    for room in [0usize, 1, 20, 37] {
-        let mut out = MemorySink::new(rt.alloc(), room);
-        let ended = run(
-            rt.alloc(),
-            &mut MemorySource::new(frames.bytes()),
-            options(Profile::Pdp8I, false),
-            &mut out,
-        );
-        assert_eq!(rt; ended, Err(Fault::Device(DeviceFault::Write)));
-        assert!(rt; text.starts_with(out.bytes()));
-        assert_eq!(rt; out.bytes().len(), room);
+    let summary = b"HALT 0200 AC=0000 L=0 PC=0201 STEPS=1\n".as_slice();
+    let traced = b"0200 7402 HLT AC=0000 L=0\nHALT 0200 AC=0000 L=0 PC=0201 STEPS=1\n".as_slice();
+    for (trace, text) in [(false, summary), (true, traced)] {
+        for room in [0usize, 1, 20, 37] {
+            let mut out = MemorySink::new(rt.alloc(), room);
+            let ended = run(
+                rt.alloc(),
+                &mut MemorySource::new(frames.bytes()),
+                options(Profile::Pdp8I, trace),
+                &mut out,
+            );
+            assert_eq!(rt; ended, Err(Fault::Device(DeviceFault::Write)));
+            assert!(rt; text.starts_with(out.bytes()));
+            assert_eq!(rt; out.bytes().len(), room);
+        }
     }
     Ok(())
 }

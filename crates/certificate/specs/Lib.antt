@@ -4,3 +4,4 @@ pub mod Reading
 pub mod Sample
 pub mod Line
 pub mod Fields
+pub mod Meaning

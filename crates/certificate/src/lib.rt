@@ -5,6 +5,7 @@ ghost use Rattle.certificate.specs.Sample.{SampleLaw};
 ghost use Rattle.certificate.specs.Line.{TextLaw};
 
 mod fields;
+mod line;
 
 /// The version of a certificate's text.
 #[derive(Clone, Copy, PartialEq, Eq, Debug)]

@@ -5,3 +5,5 @@ pub mod Sample
 pub mod Line
 pub mod Fields
 pub mod Meaning
+pub mod Order
+pub mod Progress

@@ -45,7 +45,7 @@ pub enum Line {
     /// What holds at an address, and the offsets; the cells and equations follow.
     Fact(Word, Registers, Offsets),
     /// What holds when the routine of an entry returns by an offset; the cells and equations follow.
-    Exit(Word, usize, Registers),
+    Exit(Word, u8, Registers),
     /// A tracked cell of the fact or exit before.
     Cell(TrackedCell),
     /// An equation of the fact or exit before.
@@ -148,7 +148,7 @@ fn read_exit(version: Version, line: &[u8]) -> Option<Line>
     fields.skip(b"exit ");
     let entry = fields.word();
     fields.skip(b" ");
-    let offset = fields.digit();
+    let offset = fields.digit() as u8;
     let registers = read_registers(&mut fields, version);
     if fields.is_done() {
         Some(Line::Exit(entry, offset, registers))

@@ -3,3 +3,4 @@ pub mod SetLemmas
 pub mod FieldsLemmas
 pub mod RunLemmas
 pub mod DigitLemmas
+pub mod LineLemmas

@@ -4,3 +4,6 @@ pub mod Reading
 pub mod Sample
 pub mod Line
 pub mod Fields
+pub mod Meaning
+pub mod Order
+pub mod Progress

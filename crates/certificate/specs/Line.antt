@@ -1,7 +1,7 @@
 -- The lines of a certificate after the first one, each with its one spelling, and those that make a certificate.
 use Rattle.std.specs.Prelude.{◌≡◌, ℕ, ◌+◌, ◌/◌, ◌%◌, ◌<◌, true, List, [], ◌∷◌, ◌++◌, codes, map, flat_map}
 use Rattle.word12.specs.Words.{octal_text}
-use Rattle.wordset.specs.Words.{Words, some_below, has_some}
+use Rattle.wordset.specs.Words.{Words, SameWords, SameLinks, some_below, has_some}
 use Rattle.facts.specs.Facts.{Equation}
 use Rattle.facts.specs.Statements.{TrackedCell, Statement}
 use Rattle.certificate.specs.declared.Version.{Version}
@@ -47,15 +47,25 @@ rank_text n = (48 + n / 8) ∷ (48 + n % 8) ∷ []
 abbrev pub words_text : Version → Registers → List ℕ
 words_text v r = codes " ac " ++ set_text r.ac ++ mq_text v r.mq ++ codes " link " ++ digits 2 r.link
 
--- The one spelling of a line, without its line feed.
-abbrev pub line_text : Version → Line → List ℕ
-line_text v (RoutineIs r) =
+-- The line of a routine, of a cell and of an equation.
+abbrev pub routine_line : RoutineLine → List ℕ
+routine_line r =
     codes "routine " ++ octal_text r.entry ++ codes " rank " ++ rank_text r.rank ++ codes " sites " ++ set_text r.sites ++
     codes " writes " ++ set_text r.writes
+
+abbrev pub cell_line : TrackedCell → List ℕ
+cell_line c = codes "cell " ++ octal_text c.address ++ codes " " ++ set_text c.set
+
+abbrev pub equation_line : Equation → List ℕ
+equation_line e = codes "equal " ++ name_text e.left ++ codes " " ++ name_text e.right ++ codes " " ++ octal_text e.more
+
+-- The one spelling of a line, without its line feed.
+abbrev pub line_text : Version → Line → List ℕ
+line_text v (RoutineIs r) = routine_line r
 line_text v (FactIs a r offsets) = codes "fact " ++ octal_text a ++ words_text v r ++ codes " offsets " ++ offsets_text offsets
 line_text v (ExitIs e o r) = codes "exit " ++ octal_text e ++ codes " " ++ (48 + o) ∷ words_text v r
-line_text v (CellIs c) = codes "cell " ++ octal_text c.address ++ codes " " ++ set_text c.set
-line_text v (EquationIs e) = codes "equal " ++ name_text e.left ++ codes " " ++ name_text e.right ++ codes " " ++ octal_text e.more
+line_text v (CellIs c) = cell_line c
+line_text v (EquationIs e) = equation_line e
 line_text v End = codes "end"
 
 -- The registers of a statement.
@@ -88,3 +98,20 @@ all_ended v lines = flat_map (λ l. ended (line_text v l)) lines
 pub record TextLaw : Type 0 where
   pub lines : (c : Lines) → text c ≡ ended (version_text c.version) ++ all_ended c.version (lines_of c)
   pub form : (c : Lines) → AreLines c → Each (IsLine c.version) (lines_of c)
+
+-- The two registers have the same words and links.
+pub record SameRegisters (a b : Registers) : Type 0 where
+  pub ac : SameWords a.ac b.ac
+  pub mq : SameWords a.mq b.mq
+  pub link : SameLinks a.link b.link
+
+-- The two lines say the same: sets agree on words, links and offsets.
+abbrev pub SameLine : Line → Line → Type 0
+SameLine (RoutineIs a) (RoutineIs b) =
+    (a.entry ≡ b.entry) × (a.rank ≡ b.rank) × SameWords a.sites b.sites × SameWords a.writes b.writes
+SameLine (FactIs a r m) (FactIs b s n) = (a ≡ b) × SameRegisters r s × ((o : ℕ) → o < 8 → m o ≡ n o)
+SameLine (ExitIs a m r) (ExitIs b n s) = (a ≡ b) × (m ≡ n) × SameRegisters r s
+SameLine (CellIs a) (CellIs b) = (a.address ≡ b.address) × SameWords a.set b.set
+SameLine (EquationIs a) (EquationIs b) = a ≡ b
+SameLine End End = Unit {0}
+SameLine _ _ = ⊥

@@ -164,6 +164,17 @@ impl<'a> Fields<'a> {
         self.runs()
     }
 
+    /// A set that isn't empty.
+    pub fn some_set(&mut self) -> WordSet
+        ensures some { IfSome (left self.new) (λ rest. has_some (words result) ≡ true) }
+        ensures read { WasFirst self.old self.new (set_text (words result)) }
+        ensures only { (s : Words) (rest : List ℕ) → has_some s ≡ true → EndsField rest →
+            left self.old ≡ Some (set_text s ++ rest) →
+            SameWords (words result) s × (left self.new ≡ Some rest) }
+    {
+        self.runs()
+    }
+
     /// Some of the digits below `count`, in rising order.
     fn digits(&mut self, count: usize) -> Offsets
         requires { count ≤ 8 }

@@ -2,9 +2,10 @@
 use Rattle.std.specs.Prelude.{◌≡◌, ℕ, ◌+◌, ◌*◌, ◌<◌, ◌≤◌, ◌==◌, Bool, true, false, if◌then◌else◌, List, [], ◌∷◌, length, map}
 use Rattle.wordset.specs.Words.{Words, SameWords, nothing, everything, some_below, has_some}
 use Rattle.facts.specs.Facts.{Name, Ac, Cell, Equation, Fact}
+use Rattle.facts.specs.Statements.{TrackedCell, Statement, fact_of, unknown}
 use Rattle.certificate.specs.declared.Version.{Version}
 use Rattle.certificate.specs.declared.Version.TheVariants.{One, Two}
-use Rattle.certificate.specs.Spelling.{TrackedCell, Statement, RoutineLine, FactLine, ExitLine, Lines}
+use Rattle.certificate.specs.Spelling.{RoutineLine, FactLine, ExitLine, Lines}
 use Rattle.certificate.specs.Certificate.{Certificate}
 
 -- The numbers rise, from a number on.
@@ -81,24 +82,6 @@ pub record AreLines (c : Lines) : Type 0 where
   pub exits : Each (IsExit c.version) c.exits
   pub exits_rise : RiseFrom 0 (map (λ e. 8 * e.entry + e.offset) c.exits)
 
--- The words of a cell: those of its line, or all where it has none.
-abbrev pub tracked : ℕ → List TrackedCell → Words
-tracked a [] = everything
-tracked a (c ∷ cs) = if c.address == a then c.set else tracked a cs
-
--- The words of each name.
-abbrev pub sets_of : Statement → Name → Words
-sets_of s Ac = s.ac
-sets_of s (Cell a) = tracked a s.cells
-
--- The fact that a line states.
-abbrev pub fact_of : Statement → Words → Fact
-fact_of s offsets = record { set = sets_of s; mq = s.mq; link = s.link; equations = s.equations; offsets = offsets }
-
--- Where no line is.
-abbrev pub unknown : Fact
-unknown = record { set = λ n. everything; mq = everything; link = everything; equations = []; offsets = nothing }
-
 -- A routine line has the entry.
 abbrev pub has_routine : List RoutineLine → Words
 has_routine [] e = false
@@ -138,10 +121,10 @@ abbrev pub has_exit_in : List ExitLine → ℕ → Words
 has_exit_in [] e o = false
 has_exit_in (x ∷ xs) e o = if is_exit x e o then true else has_exit_in xs e o
 
--- The exit fact of an entry and an offset by its line.
+-- The exit fact of an entry and an offset by its line. It has all offsets, since nothing is asked of them.
 abbrev pub exit_in : List ExitLine → ℕ → ℕ → Fact
 exit_in [] e o = unknown
-exit_in (x ∷ xs) e o = if is_exit x e o then fact_of x.statement nothing else exit_in xs e o
+exit_in (x ∷ xs) e o = if is_exit x e o then fact_of x.statement everything else exit_in xs e o
 
 -- The certificate that the lines make.
 abbrev pub certificate_of : Lines → Certificate

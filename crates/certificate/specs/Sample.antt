@@ -2,8 +2,9 @@
 use Rattle.std.specs.Prelude.{◌≡◌, ℕ, ◌==◌, ◌||◌, List, [], ◌∷◌, ◌++◌, codes}
 use Rattle.wordset.specs.Words.{one, nothing, everything, between}
 use Rattle.facts.specs.Facts.{Cell}
+use Rattle.facts.specs.Statements.{Statement}
 use Rattle.certificate.specs.declared.Version.TheVariants.{Two}
-use Rattle.certificate.specs.Spelling.{Statement, Lines, text}
+use Rattle.certificate.specs.Spelling.{Lines, text}
 use Rattle.certificate.specs.Reading.{AreLines}
 
 -- Some words of the accumulator, a tracked cell and an equation.

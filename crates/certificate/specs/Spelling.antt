@@ -4,21 +4,9 @@ use Rattle.std.proofs.Common.{zero, suc}
 use Rattle.word12.specs.Words.{octal_text}
 use Rattle.wordset.specs.Words.{Words, some_below, has_some}
 use Rattle.facts.specs.Facts.{Name, Ac, Cell, Equation}
+use Rattle.facts.specs.Statements.{TrackedCell, Statement}
 use Rattle.certificate.specs.declared.Version.{Version}
 use Rattle.certificate.specs.declared.Version.TheVariants.{One, Two}
-
--- A tracked cell and its words.
-pub record TrackedCell : Type 0 where
-  pub address : ℕ
-  pub set : Words
-
--- What a fact and an exit say alike.
-pub record Statement : Type 0 where
-  pub ac : Words
-  pub mq : Words
-  pub link : Words
-  pub cells : List TrackedCell
-  pub equations : List Equation
 
 -- A routine: its entry, its rank, where it is called and what it may write.
 pub record RoutineLine : Type 0 where

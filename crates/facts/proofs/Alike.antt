@@ -12,7 +12,7 @@ both_ways true b h g = sym (h refl)
 both_ways false true h g = g refl
 both_ways false false h g = refl
 
-some_same : (n : ℕ) (a b : ℕ → Bool) → ((v : ℕ) → v < n → a v ≡ b v) → some_below n a ≡ some_below n b
+pub some_same : (n : ℕ) (a b : ℕ → Bool) → ((v : ℕ) → v < n → a v ≡ b v) → some_below n a ≡ some_below n b
 unfolding some_below
 some_same zero a b h = refl
 some_same (suc n) a b h =
@@ -29,7 +29,7 @@ first_same (suc n) a b h =
     let rest : first_below n a ≡ first_below n b = first_same n a b (λ v lt. h v (omega arith)) in
     rw (here, some, rest) refl
 
-only_same : (a b : Words) → SameWords a b → only a ≡ only b
+pub only_same : (a b : Words) → SameWords a b → only a ≡ only b
 unfolding only
 only_same a b h = ap (only_of a) (first_same 4096 a b h) ∙ go (first_below 4096 b)
   where
@@ -76,7 +76,7 @@ narrowed_to a b n v lt sets from h =
     and_from _ _ (sym (sets n v lt) ∙ p.0)
     (met_all b n v b.equations (λ e m. sym (is_met_same a b n e v sets) ∙ met_each a n v a.equations p.1 e (from e m)))
 
-narrowed_same : {a b : Fact} → SameFact a b → (n : Name) → SameWords (narrowed a n) (narrowed b n)
+pub narrowed_same : {a b : Fact} → SameFact a b → (n : Name) → SameWords (narrowed a n) (narrowed b n)
 narrowed_same {a} {b} h n v lt =
     both_ways (narrowed a n v) (narrowed b n v)
     (narrowed_to a b n v lt h.sets h.equations.from)

@@ -2,7 +2,7 @@ use Rattle.std.proofs.Common.{◌≡◌, ℕ, ◌<◌, ◌==◌, Bool, true, fal
 use Rattle.std.specs.Prelude.{if◌then◌else◌, nat_lt}
 use Rattle.std.proofs.lemmas.Bool.{and_from, cases_Bool, eqb-true, eq-eqb, ne_eqb, true≢false, false≢true}
 use Rattle.wordset.specs.Words.{plus, minus, Words, union, shifted}
-use Rattle.facts.specs.Facts.{Name, Ac, Cell, same, Equation, Fact, Values, IsTrueOf, AllTrue, Holds, met_by, narrowed, Among, Knows, KnowsAll, Entails, is_outside, outside, joined}
+use Rattle.facts.specs.Facts.{Name, Ac, Cell, same, Equation, Fact, Values, IsTrueOf, AllTrue, Holds, met_by, narrowed, Among, Knows, KnowsAll, Entails, has_cell, is_outside, outside, joined}
 use Rattle.facts.specs.Changes.{moved_equations, with_set, moved, free_of, assigned, cells_of, smeared_set, smeared, oriented, copy_of, copied, with_equations}
 use Rattle.facts.proofs.Numbers.{minus_plus, moved_number, or_left, or_right, only_tells}
 
@@ -187,7 +187,7 @@ entails_holds {a} {b} {v} en ws h = record {
 
 -- what a fact says of the cells outside a set
 pub record HoldsOutside (written : Words) (f : Fact) (v : Values) : Type 0 where
-  pub cells : (a : ℕ) → written a ≡ false → f.set (Cell a) (v (Cell a)) ≡ true
+  pub cells : (a : ℕ) → has_cell written a ≡ false → f.set (Cell a) (v (Cell a)) ≡ true
   pub equations : AllTrue v (outside written f.equations)
 
 outside_all : (v : Values) (written : Words) (es : List Equation) → AllTrue v es → AllTrue v (outside written es)
@@ -205,11 +205,11 @@ outside_holds {f} {v} written h = record {
 }
 
 -- it still does after cells of the set changed
-kept_outside : (v w : Values) (written : Words) → ((a : ℕ) → written a ≡ false → w (Cell a) ≡ v (Cell a)) → (n : Name) → is_outside written n ≡ true → w n ≡ v n
+kept_outside : (v w : Values) (written : Words) → ((a : ℕ) → has_cell written a ≡ false → w (Cell a) ≡ v (Cell a)) → (n : Name) → is_outside written n ≡ true → w n ≡ v n
 kept_outside v w written o Ac q = absurd (false≢true q)
-kept_outside v w written o (Cell a) q = o a (elim (cases_Bool (written a)) [ inl t ↦ absurd (true≢false (sym q ∙ ap not t)) | inr t ↦ t ])
+kept_outside v w written o (Cell a) q = o a (elim (cases_Bool (has_cell written a)) [ inl t ↦ absurd (true≢false (sym q ∙ ap not t)) | inr t ↦ t ])
 
-outside_kept : (v w : Values) (written : Words) → ((a : ℕ) → written a ≡ false → w (Cell a) ≡ v (Cell a)) → (es : List Equation) → AllTrue v (outside written es) → AllTrue w (outside written es)
+outside_kept : (v w : Values) (written : Words) → ((a : ℕ) → has_cell written a ≡ false → w (Cell a) ≡ v (Cell a)) → (es : List Equation) → AllTrue v (outside written es) → AllTrue w (outside written es)
 outside_kept v w written o [] t = tt
 outside_kept v w written o (e ∷ es) t = go (outside_kept v w written o es) (is_outside written e.left) (is_outside written e.right) refl refl t
   where
@@ -218,7 +218,7 @@ outside_kept v w written o (e ∷ es) t = go (outside_kept v w written o es) (is
     go rest true false p q t = rest t
     go rest false c p q t = rest t
 
-pub still_outside : {f : Fact} {v w : Values} (written : Words) → ((a : ℕ) → written a ≡ false → w (Cell a) ≡ v (Cell a)) → HoldsOutside written f v → HoldsOutside written f w
+pub still_outside : {f : Fact} {v w : Values} (written : Words) → ((a : ℕ) → has_cell written a ≡ false → w (Cell a) ≡ v (Cell a)) → HoldsOutside written f v → HoldsOutside written f w
 still_outside {f} {v} {w} written o h = record {
   cells = λ a q. rw (o a q) (h.cells a q);
   equations = outside_kept v w written o f.equations h.equations;
@@ -234,8 +234,8 @@ joined_holds {call} {exit} {v} written c x = record {
   where
     sets : (n : Name) → (let chosen : Words = if is_outside written n then call.set n else exit.set n in chosen (v n) ≡ true)
     sets Ac = x.sets Ac
-    sets (Cell a) = go (written a) refl
+    sets (Cell a) = go (has_cell written a) refl
       where
-        go : (b : Bool) → written a ≡ b → (let chosen : Words = if not b then call.set (Cell a) else exit.set (Cell a) in chosen (v (Cell a)) ≡ true)
+        go : (b : Bool) → has_cell written a ≡ b → (let chosen : Words = if not b then call.set (Cell a) else exit.set (Cell a) in chosen (v (Cell a)) ≡ true)
         go true q = x.sets (Cell a)
         go false q = c.cells a q

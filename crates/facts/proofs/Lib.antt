@@ -6,3 +6,7 @@ pub mod Steps
 pub mod Covers
 pub mod Starting
 pub mod Alike
+pub mod EntailLemmas
+pub mod KnownLemmas
+pub mod StartLemmas
+pub mod AgreeLemmas

@@ -26,10 +26,10 @@ not_true : (b : Bool) → not b ≡ true → b ≡ false
 not_true true e = absurd (false≢true e)
 not_true false e = refl
 
-each_from : (n : ℕ) (test : ℕ → Bool) → ((k : ℕ) → k < n → test k ≡ true) → each_below n test ≡ true
+pub each_from : (n : ℕ) (test : ℕ → Bool) → ((k : ℕ) → k < n → test k ≡ true) → each_below n test ≡ true
 each_from n test h = let e : some_below n (λ v. not (test v)) ≡ false = none_below n test h in rw e
 
-each_at : (n : ℕ) (test : ℕ → Bool) (k : ℕ) → k < n → each_below n test ≡ true → test k ≡ true
+pub each_at : (n : ℕ) (test : ℕ → Bool) (k : ℕ) → k < n → each_below n test ≡ true → test k ≡ true
 each_at n test k lt e = not_false (test k) (some_not n (λ v. not (test v)) k lt (not_true (some_below n (λ v. not (test v))) e))
 
 -- a cell of a memory with the tape's words laid over others

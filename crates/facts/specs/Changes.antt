@@ -1,7 +1,7 @@
 -- What may happen to a fact: a word that moves by a count, one that takes a new value, one of several cells that changes.
-use Rattle.std.specs.Prelude.{ℕ, ◌==◌, Bool, false, ◌&&◌, ◌||◌, if◌then◌else◌, List, [], ◌∷◌, ◌++◌, nat_lt}
+use Rattle.std.specs.Prelude.{ℕ, ◌==◌, Bool, false, ◌||◌, if◌then◌else◌, List, [], ◌∷◌, ◌++◌, nat_lt}
 use Rattle.wordset.specs.Words.{plus, minus, Words, union, shifted}
-use Rattle.facts.specs.Facts.{Name, Ac, Cell, same, Equation, Fact, narrowed}
+use Rattle.facts.specs.Facts.{Name, Ac, Cell, same, Equation, Fact, narrowed, has_cell}
 
 -- An equation after n's word went up by k.
 abbrev pub moved_equation : Name → ℕ → Equation → Equation
@@ -42,14 +42,14 @@ assigned n set f = record f {
 -- The names of the cells of a set.
 abbrev pub cells_of : Words → Name → Bool
 cells_of cells Ac = false
-cells_of cells (Cell a) = nat_lt a 4096 && cells a
+cells_of cells (Cell a) = has_cell cells a
 
 -- The sets after one cell a of the set, unknown which, took some word of new a: each of them may still hold its old
 -- word.
 abbrev pub smeared_set : Words → (ℕ → Words) → (Name → Words) → Name → Words
 smeared_set cells new sets Ac = sets Ac
 smeared_set cells new sets (Cell a) =
-    if nat_lt a 4096 && cells a then union (sets (Cell a)) (new a) else sets (Cell a)
+    if has_cell cells a then union (sets (Cell a)) (new a) else sets (Cell a)
 
 -- The fact after one cell a of the set, unknown which, took some word of new a.
 unfoldable pub smeared : Words → (ℕ → Words) → Fact → Fact

@@ -2,11 +2,12 @@
 use Rattle.std.specs.Prelude.{◌≡◌, ℕ, ◌<◌, ◌==◌, true, false, ◌&&◌, ◌||◌, ◌⊎◌, Some, None}
 use Rattle.instruct.specs.Instructions.{Meaning, And, Tad, Isz, Dca, Jms, Jmp}
 use Rattle.wordset.specs.Words.{Words, only}
-use Rattle.declaration.specs.Declaration.{Routine}
-use Rattle.declaration.specs.Declaration.{IsListed}
-use Rattle.policy.specs.Rules.{pointer_of}
+use Rattle.declaration.specs.Declaration.{Routine, IsListed}
+use Rattle.policy.specs.Rules.{pointer_of, IsSupported, HaltsDeclared}
 use Rattle.facts.specs.Facts.{Fact, Place}
 use Rattle.facts.specs.Outcomes.{targets}
+use Rattle.facts.specs.declared.Condition.{Condition}
+use Rattle.facts.specs.declared.Condition.TheVariants.{V3, V5, V6, V13, V14}
 
 -- The cells in which ISZ or DCA may store.
 abbrev pub may_store : Place → Fact → Meaning → Words
@@ -59,3 +60,23 @@ WritesAreListed pl writes f m =
 abbrev pub ReadsAreListed : Place → Fact → Meaning → Type 0
 ReadsAreListed pl f m =
     (a : ℕ) → a < 4096 → may_read pl f m a ≡ true → IsListed pl.declaration.reads a ⊎ (pl.routine ≡ Some a)
+
+-- The word keeps the conditions that are asked of it before its outcomes are looked at.
+pub record KeepsConditions (pl : Place) (writes : Words) (f : Fact) (at : ℕ) (m : Meaning) : Type 0 where
+  pub supported : IsSupported m
+  pub declared : WritesAreDeclared pl f m
+  pub kept : EntriesAreKept pl f m
+  pub listed : WritesAreListed pl writes f m
+  pub halts : HaltsDeclared pl.declaration m at
+
+-- The word breaks this one of them, and none that is asked before: V3, V5, V14, V6 and V13, in this order.
+abbrev pub BreaksFirst : Place → Words → Fact → ℕ → Meaning → Condition → Type 0
+BreaksFirst pl writes f at m V3 = IsSupported m → ⊥
+BreaksFirst pl writes f at m V5 = IsSupported m × (WritesAreDeclared pl f m → ⊥)
+BreaksFirst pl writes f at m V14 = IsSupported m × (WritesAreDeclared pl f m × (EntriesAreKept pl f m → ⊥))
+BreaksFirst pl writes f at m V6 =
+    IsSupported m × (WritesAreDeclared pl f m × (EntriesAreKept pl f m × (WritesAreListed pl writes f m → ⊥)))
+BreaksFirst pl writes f at m V13 =
+    IsSupported m × (WritesAreDeclared pl f m × (EntriesAreKept pl f m ×
+    (WritesAreListed pl writes f m × (HaltsDeclared pl.declaration m at → ⊥))))
+BreaksFirst pl writes f at m _ = ⊥

@@ -1,5 +1,5 @@
 -- Facts: what is known of the machine whenever the program counter is at an address.
-use Rattle.std.specs.Prelude.{◌≡◌, ℕ, ◌+◌, ◌-◌, ◌<◌, ◌≤◌, ◌==◌, Bool, true, false, not, ◌&&◌, ◌⊎◌, if◌then◌else◌, Option, Some, None, List, [], ◌∷◌, ◌++◌}
+use Rattle.std.specs.Prelude.{◌≡◌, ℕ, ◌+◌, ◌-◌, ◌<◌, ◌≤◌, ◌==◌, Bool, true, false, not, ◌&&◌, ◌⊎◌, if◌then◌else◌, Option, Some, None, List, [], ◌∷◌, ◌++◌, nat_lt}
 use Rattle.wordset.specs.Words.{plus, minus, Words, everything, one, some_below, IsWithin, IsLinkWithin, only}
 use Rattle.processor.specs.Cells.{Cells}
 use Rattle.processor.specs.Machine.{State}
@@ -155,10 +155,14 @@ pub record Entails (a b : Fact) : Type 0 where
 abbrev pub EntailsOffsets : Fact → Fact → Type 0
 EntailsOffsets a b = (o : ℕ) → o < 8 → a.offsets o ≡ true → b.offsets o ≡ true
 
+-- The set has this cell. What a set says of numbers past 7777 is nothing.
+abbrev pub has_cell : Words → Words
+has_cell cells a = nat_lt a 4096 && cells a
+
 -- A cell that isn't written is outside the written set; the accumulator never is.
 abbrev pub is_outside : Words → Name → Bool
 is_outside written Ac = false
-is_outside written (Cell a) = not (written a)
+is_outside written (Cell a) = not (has_cell written a)
 
 -- The equations between cells outside the written set.
 abbrev pub outside : Words → List Equation → List Equation

@@ -1,7 +1,8 @@
 -- Facts that agree: what code knows of a fact is its words below 4096, and its equations in some order.
-use Rattle.std.specs.Prelude.{◌≡◌, ℕ, ◌<◌, List}
+use Rattle.std.specs.Prelude.{◌≡◌, ℕ, ◌<◌, List, [], ◌∷◌}
 use Rattle.wordset.specs.Words.{SameWords, SameLinks}
 use Rattle.facts.specs.Facts.{Name, Equation, Fact, Among, Entails, EntailsOffsets}
+use Rattle.facts.specs.Outcomes.{Outcome, Goes, CallsTo, Returns}
 
 -- The same equations, in whatever order and however often.
 pub record SameEquations (es gs : List Equation) : Type 0 where
@@ -26,3 +27,24 @@ pub record EntailAlike (a b c : Fact) : Type 0 where
 -- This holds of all facts that agree.
 abbrev pub SameLaw : Type 0
 SameLaw = (a b c : Fact) → SameFact a b → EntailAlike a b c
+
+-- The same words below 4096, links and offsets, and one list of equations: what code says of a fact that it makes.
+pub record Agree (a b : Fact) : Type 0 where
+  pub sets : (n : Name) → SameWords (a.set n) (b.set n)
+  pub mq : SameWords a.mq b.mq
+  pub link : SameLinks a.link b.link
+  pub equations : a.equations ≡ b.equations
+  pub offsets : (o : ℕ) → o < 8 → a.offsets o ≡ b.offsets o
+
+-- The two outcomes are of one kind, at the same addresses, with facts that agree.
+abbrev pub AgreeingOutcome : Outcome → Outcome → Type 0
+AgreeingOutcome (Goes n f) (Goes m g) = SameWords n m × Agree f g
+AgreeingOutcome (CallsTo n f) (CallsTo m g) = SameWords n m × Agree f g
+AgreeingOutcome (Returns f) (Returns g) = Agree f g
+AgreeingOutcome _ _ = ⊥
+
+-- The outcomes agree one by one, in their order.
+abbrev pub AgreeingOutcomes : List Outcome → List Outcome → Type 0
+AgreeingOutcomes [] [] = Unit {0}
+AgreeingOutcomes (o ∷ os) (p ∷ ps) = AgreeingOutcome o p × AgreeingOutcomes os ps
+AgreeingOutcomes _ _ = ⊥

@@ -5,6 +5,19 @@ ghost use Rattle.facts.specs.Law.{StepLaw};
 ghost use Rattle.facts.specs.Starts.{StartLaw};
 ghost use Rattle.facts.specs.Same.{SameLaw};
 
+mod entailment;
+mod equations;
+mod fact;
+mod known;
+mod names;
+mod offsets;
+
+pub use entailment::{entails, entails_return, holds_before, narrowed};
+pub use fact::{Fact, TrackedCell};
+pub use known::Known;
+pub use names::{Equation, Name};
+pub use offsets::Offsets;
+
 /// The conditions that a certificate must meet.
 #[derive(Clone, Copy, PartialEq, Eq, Debug)]
 pub enum Condition {
@@ -61,3 +74,6 @@ pub fn start_law()
 pub fn same_law()
     ensures { SameLaw }
 {}
+
+#[cfg(test)]
+mod tests;

@@ -1,7 +1,7 @@
 -- What a write, a call and a return leave of the suspended callers.
 use Rattle.std.proofs.Common.{◌≡◌, ℕ, ◌-◌, ◌<◌, ◌≤◌, Bool, true, false, ◌⊎◌, Some, [], ◌∷◌, refl, sym, ap, ◌∙◌, inl, inr, arith}
 use Rattle.std.specs.Prelude.{if◌then◌else◌}
-use Rattle.std.proofs.lemmas.Bool.{ne_eqb, true≢false, cases_eq}
+use Rattle.std.proofs.lemmas.Bool.{and_from, ne_eqb, true≢false, cases_eq, lt-ltb}
 use Rattle.wordset.specs.Words.{plus, IsWithin}
 use Rattle.processor.specs.Cells.{Cells, updated}
 use Rattle.processor.specs.Machine.{seen, steps_pointer}
@@ -70,7 +70,7 @@ module _ (j : Case) (start : Cells) where
       below = fs.0.below;
       kept = still_outside (j.certificate.writes k.entry) (λ a q. elim (ch.cells a) [
         | inl x ↦ x
-        | inr x ↦ absurd (true≢false (sym (cov.1 a x.0 x.1) ∙ q))
+        | inr x ↦ absurd (true≢false (sym (and_from _ _ (lt-ltb a 4096 x.0) (cov.1 a x.0 x.1)) ∙ q))
       ]) fs.0.kept;
       own = own_kept (j.certificate.fact (k.after - 1)) e m n k ks cov fs.0.below ch fs.1 fs.0.own;
       returns = fs.0.returns;

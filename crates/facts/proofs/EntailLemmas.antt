@@ -1,0 +1,140 @@
+use Rattle.std.proofs.Common.{◌≡◌, ℕ, ◌+◌, ◌<◌, ◌==◌, Bool, true, false, ◌&&◌, ◌≤◌, Some, None, List, [], ◌∷◌, map, drop, get_or, length, refl, sym, ap, ◌∙◌, subst, arith}
+use Rattle.std.specs.Prelude.{if◌then◌else◌, IsTrue, ◌↔◌}
+use Rattle.std.proofs.lemmas.Bool.{and_from, and_parts, eqb-true, eq-eqb, true≢false, false≢true}
+use Rattle.std.proofs.lemmas.List.{drop_more}
+use Rattle.std.proofs.Math.ListN.{drop_of_length-le}
+use Rattle.wordset.specs.Words.{plus, minus, Words, SameWords, IsWithin, only}
+use Rattle.facts.specs.Facts.{Name, Ac, Cell, Equation, Fact, narrowed, met_by, Knows, KnowsAll, Entails, EntailsOffsets}
+use Rattle.facts.proofs.Alike.{only_same}
+use Rattle.wordset.specs.Lanes.{words}
+use Rattle.facts.specs.declared.fact.TrackedCell.{TrackedCell as CodeCell}
+use Rattle.facts.specs.declared.fact.Fact.{Fact as CodeFact}
+use Rattle.facts.specs.declared.names.Equation.{Equation as CodeEquation}
+use Rattle.facts.specs.Statements.{TrackedCell, tracked}
+use Rattle.facts.specs.Showing.{Shows, EachWithin, EntailsRegisters}
+use Rattle.facts.specs.Meaning.{tracked_of, Meets, equation_of, statement_of, meaning}
+
+pub back_twice : (v k : ℕ) → v < 4096 → minus v (minus 0 k) ≡ plus v k
+back_twice v k h = omega arith
+
+pub within_same : {a b c : Words} → SameWords a b → IsWithin b c → IsWithin a c
+within_same s w v lt h = w v lt (sym (s v lt) ∙ h)
+
+pub within_set : {a b c : Words} → b ≡ c → IsWithin a b → IsWithin a c
+within_set e w v lt h = ap (λ (s : Words). s v) (sym e) ∙ w v lt h
+
+pub same_flip : {a b : Words} → SameWords a b → SameWords b a
+same_flip s v lt = sym (s v lt)
+
+pub not_true : {A : Type 0} → (A → ⊥) → IsTrue false ↔ A
+not_true h = (λ t. absurd (false≢true t), λ a. absurd (h a))
+
+pub not_both : {A : Type 0} (b : Bool) → b ≡ false → (A → IsTrue b) → A → ⊥
+not_both b e h a = true≢false (sym (h a) ∙ e)
+
+-- one equation after another
+pub meet_one : (f : Fact) (n : Name) (e : Equation) (es : List Equation) (old new : Words) → Meets f n e old new → (v : ℕ) → v < 4096 →
+    (new v && met_by f n es v) ≡ (old v && met_by f n (e ∷ es) v)
+meet_one f n e es old new m v lt = rw (m v lt) (go (old v) _ _ _)
+  where
+    go : (a b c d : Bool) → ((a && (b && (c && true))) && d) ≡ (a && (b && (c && d)))
+    go true true true d = refl
+    go true true false d = refl
+    go true false c d = refl
+    go false b c d = refl
+
+-- the entries, one by one or by cell
+pub each_tracked : (f : Fact) (cells : List TrackedCell) → EachWithin f cells → (a : ℕ) → IsWithin (narrowed f (Cell a)) (tracked a cells)
+each_tracked f [] w a v lt h = refl
+each_tracked f (t ∷ ts) w a v lt h = and_from _ _ (go (t.address == a) refl) (each_tracked f ts w.1 a v lt h)
+  where
+    go : (b : Bool) → (t.address == a) ≡ b → (if b then t.set v else true) ≡ true
+    go false e = refl
+    go true e = w.0 v lt (let q : t.address ≡ a = eqb-true t.address a e in rw q h)
+
+pub tracked_each : (f : Fact) (cells : List TrackedCell) → ((a : ℕ) → IsWithin (narrowed f (Cell a)) (tracked a cells)) → EachWithin f cells
+tracked_each f [] w = tt
+tracked_each f (t ∷ ts) w = (
+  λ v lt h. let q : (t.address == t.address) ≡ true = eq-eqb t.address t.address refl in let p : ((if t.address == t.address then t.set v else true) && tracked t.address ts v) ≡ true = w t.address v lt h in
+      (let r : (if t.address == t.address then t.set v else true) ≡ true = (and_parts _ _ p).0 in rw q at r),
+  tracked_each f ts (λ a v lt h. (and_parts _ _ (w a v lt h)).1),
+)
+
+-- two single words
+pub shows_some : (f : Fact) (e : Equation) (a b : Words) (x y z : ℕ) (t : Bool) → SameWords a (narrowed f e.left) → SameWords b (narrowed f e.right) →
+    Some x ≡ only a → Some y ≡ only b → t ≡ (x == z) → z ≡ plus y e.more → IsTrue t ↔ Shows f e
+shows_some f e a b x y z t sa sb ea eb et ez =
+    let l : only (narrowed f e.left) ≡ Some x = sym (only_same a _ sa) ∙ sym ea in
+    let r : only (narrowed f e.right) ≡ Some y = sym (only_same b _ sb) ∙ sym eb in (
+      λ q. (x, y, l, r, eqb-true x z (sym et ∙ q) ∙ ez),
+      λ s. (let ex : s.0 ≡ x = some_is (sym s.2 ∙ l) in let ey : s.1 ≡ y = some_is (sym s.3 ∙ r) in et ∙ eq-eqb x z (sym ex ∙ s.4 ∙ ap (λ k. plus k e.more) ey ∙ sym ez)),
+    )
+  where
+    some_is : {p q : ℕ} → Some p ≡ Some q → p ≡ q
+    some_is e = cc
+
+pub shows_left : (f : Fact) (e : Equation) (a : Words) → SameWords a (narrowed f e.left) → None ≡ only a → IsTrue false ↔ Shows f e
+shows_left f e a s n = not_true (λ w. none_is (n ∙ only_same a _ s ∙ w.2))
+  where
+    none_is : {p : ℕ} → None ≡ Some p → ⊥
+    none_is e = cc
+
+pub shows_right : (f : Fact) (e : Equation) (b : Words) → SameWords b (narrowed f e.right) → None ≡ only b → IsTrue false ↔ Shows f e
+shows_right f e b s n = not_true (λ w. none_is (n ∙ only_same b _ s ∙ w.3))
+  where
+    none_is : {p : ℕ} → None ≡ Some p → ⊥
+    none_is e = cc
+
+pub drop_item : {A : Type 0} (xs : List A) (i : ℕ) (x : A) → i < length xs → x ≡ get_or xs i x → drop i xs ≡ x ∷ drop (i + 1) xs
+drop_item xs i x lt e = drop_more xs i x lt ∙ ap (λ y. y ∷ drop (i + 1) xs) (sym e)
+
+pub each_step : (f : Fact) (cells : List CodeCell) (i : ℕ) (t : CodeCell) → i < length cells → t ≡ get_or cells i t → IsWithin (narrowed f (Cell t.cell)) (words t.set) →
+    (EachWithin f (map tracked_of (drop i cells)) ↔ EachWithin f (map tracked_of cells)) → (EachWithin f (map tracked_of (drop (i + 1) cells)) ↔ EachWithin f (map tracked_of cells))
+each_step f cells i t lt e w h = (
+  λ r. h.0 (subst (λ xs. EachWithin f (map tracked_of xs)) (sym (drop_item cells i t lt e)) (w, r)),
+  λ a. (let p : EachWithin f (map tracked_of (t ∷ drop (i + 1) cells)) = subst (λ xs. EachWithin f (map tracked_of xs)) (drop_item cells i t lt e) (h.1 a) in p.1),
+)
+
+pub each_fails : (f : Fact) (cells : List CodeCell) (i : ℕ) (t : CodeCell) → i < length cells → t ≡ get_or cells i t → (IsWithin (narrowed f (Cell t.cell)) (words t.set) → ⊥) →
+    (EachWithin f (map tracked_of (drop i cells)) ↔ EachWithin f (map tracked_of cells)) → IsTrue false ↔ EachWithin f (map tracked_of cells)
+each_fails f cells i t lt e not h =
+    not_true (λ a. (let p : EachWithin f (map tracked_of (t ∷ drop (i + 1) cells)) = subst (λ xs. EachWithin f (map tracked_of xs)) (drop_item cells i t lt e) (h.1 a) in not p.0))
+
+pub knows_step : (f : Fact) (es : List CodeEquation) (i : ℕ) (g : CodeEquation) → i < length es → g ≡ get_or es i g → Knows f (equation_of g) →
+    (KnowsAll f (map equation_of (drop i es)) ↔ KnowsAll f (map equation_of es)) → (KnowsAll f (map equation_of (drop (i + 1) es)) ↔ KnowsAll f (map equation_of es))
+knows_step f es i g lt e w h = (
+  λ r. h.0 (subst (λ xs. KnowsAll f (map equation_of xs)) (sym (drop_item es i g lt e)) (w, r)),
+  λ a. (let p : KnowsAll f (map equation_of (g ∷ drop (i + 1) es)) = subst (λ xs. KnowsAll f (map equation_of xs)) (drop_item es i g lt e) (h.1 a) in p.1),
+)
+
+pub knows_fails : (f : Fact) (es : List CodeEquation) (i : ℕ) (g : CodeEquation) → i < length es → g ≡ get_or es i g → (Knows f (equation_of g) → ⊥) →
+    (KnowsAll f (map equation_of (drop i es)) ↔ KnowsAll f (map equation_of es)) → IsTrue false ↔ KnowsAll f (map equation_of es)
+knows_fails f es i g lt e not h =
+    not_true (λ a. (let p : KnowsAll f (map equation_of (g ∷ drop (i + 1) es)) = subst (λ xs. KnowsAll f (map equation_of xs)) (drop_item es i g lt e) (h.1 a) in not p.0))
+
+pub narrowed_step : (f : Fact) (n : Name) (es : List CodeEquation) (i : ℕ) (g : CodeEquation) (old new : Words) → i < length es → g ≡ get_or es i g → Meets f n (equation_of g) old new →
+    (v : ℕ) → v < 4096 → (new v && met_by f n (map equation_of (drop (i + 1) es)) v) ≡ (old v && met_by f n (map equation_of (drop i es)) v)
+narrowed_step f n es i g old new h e m v lt =
+    meet_one f n (equation_of g) (map equation_of (drop (i + 1) es)) old new m v lt ∙ ap (λ xs. old v && met_by f n (map equation_of xs) v) (sym (drop_item es i g h e))
+
+pub narrowed_end : (f : Fact) (n : Name) (es : List CodeEquation) (i : ℕ) (set old : Words) → length es ≤ i →
+    ((v : ℕ) → v < 4096 → (set v && met_by f n (map equation_of (drop i es)) v) ≡ old v) → (v : ℕ) → v < 4096 → set v ≡ old v
+narrowed_end f n es i set old h inv v lt =
+    let e : drop i es ≡ [] = drop_of_length-le es h in
+    let q : (set v && met_by f n (map equation_of (drop i es)) v) ≡ set v = rw e (and_true (set v)) in
+    sym q ∙ inv v lt
+  where
+    and_true : (b : Bool) → (b && true) ≡ b
+    and_true true = refl
+    and_true false = refl
+
+pub entails_iff : (k : Fact) (f : CodeFact) (b : Bool) → EntailsRegisters k (meaning f) → EntailsOffsets k (meaning f) → EachWithin k (statement_of f).cells →
+    (IsTrue b ↔ KnowsAll k (meaning f).equations) → IsTrue b ↔ (Entails k (meaning f) × EntailsOffsets k (meaning f))
+entails_iff k f b registers offsets each know = (λ t. (record { sets = sets; mq = registers.mq; link = registers.link; equations = know.0 t }, offsets), λ e. know.1 e.0.equations)
+  where
+    sets : (n : Name) → IsWithin (narrowed k n) ((meaning f).set n)
+    sets Ac = registers.ac
+    sets (Cell a) = each_tracked k (statement_of f).cells each a
+
+pub registers_of : {a b : Fact} → Entails a b → EntailsRegisters a b
+registers_of e = record { ac = e.sets Ac; mq = e.mq; link = e.link }

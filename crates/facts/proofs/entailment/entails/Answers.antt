@@ -1,0 +1,5 @@
+use Rattle.facts.proofs.AgreeLemmas.{entails_agree}
+use Rattle.facts.proofs.entailment.entails.Goals as goal
+
+pub returns : goal.returns
+returns c = entails_agree _ c.of.ensures c.entails.ensures

@@ -1,0 +1,8 @@
+use Rattle.std.proofs.Common.{drop, map}
+use Rattle.std.specs.Prelude.{◌↔◌}
+use Rattle.facts.specs.Facts.{Among}
+use Rattle.facts.specs.Meaning.{equation_of}
+use Rattle.facts.proofs.known.Known.lists.Given as goal
+
+abbrev pub invariant-loop-e : goal.invariant-loop-e
+invariant-loop-e l = Among (equation_of l.equation) (map equation_of (drop l.e-index l.equations)) ↔ Among (equation_of l.equation) (map equation_of l.self.equations.items)

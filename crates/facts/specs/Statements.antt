@@ -1,0 +1,35 @@
+-- What is said of a fact in so many words: sets for some cells, and equations. Every other cell may hold any word.
+use Rattle.std.specs.Prelude.{ℕ, ◌==◌, true, ◌&&◌, if◌then◌else◌, List, [], ◌∷◌}
+use Rattle.wordset.specs.Words.{Words, everything}
+use Rattle.facts.specs.Facts.{Name, Ac, Cell, Equation, Fact}
+
+-- A tracked cell and its words.
+pub record TrackedCell : Type 0 where
+  pub address : ℕ
+  pub set : Words
+
+-- The words of the accumulator, of MQ and of tracked cells, the links, and equations.
+pub record Statement : Type 0 where
+  pub ac : Words
+  pub mq : Words
+  pub link : Words
+  pub cells : List TrackedCell
+  pub equations : List Equation
+
+-- The words of a cell: those that all its entries allow, or all words where it has none.
+abbrev pub tracked : ℕ → List TrackedCell → Words
+tracked a [] v = true
+tracked a (c ∷ cs) v = (if c.address == a then c.set v else true) && tracked a cs v
+
+-- The words of each name.
+abbrev pub sets_of : Statement → Name → Words
+sets_of s Ac = s.ac
+sets_of s (Cell a) = tracked a s.cells
+
+-- The fact that is stated.
+abbrev pub fact_of : Statement → Words → Fact
+fact_of s offsets = record { set = sets_of s; mq = s.mq; link = s.link; equations = s.equations; offsets = offsets }
+
+-- Nothing is known.
+abbrev pub unknown : Fact
+unknown = record { set = λ n. everything; mq = everything; link = everything; equations = []; offsets = everything }

@@ -1,0 +1,175 @@
+//! Whether facts entail one another, and which hold of every start.
+
+ghost use Rattle.std.specs.Prelude.{◌≡◌, ◌<◌, ◌↔◌, ℕ, IsTrue, None, map, true};
+ghost use Rattle.wordset.specs.Words.{SameWords};
+ghost use Rattle.wordset.specs.Lanes.{words};
+ghost use Rattle.wordset.specs.Links.{links_of};
+ghost use Rattle.bin_tape.specs.Image.{HoldsWords};
+ghost use Rattle.peripherals.specs.Loading.{image_of};
+ghost use Rattle.facts.specs.Facts.{Place, narrowed, joined, Entails, EntailsOffsets};
+ghost use Rattle.facts.specs.Starts.{HoldsOfStarts, each_below, has_each, is_always, are_always, holds_before};
+ghost use Rattle.facts.specs.Meaning.{name_of, equation_of, tracked_of, meaning};
+ghost use Rattle.facts.specs.Showing.{MayStart, AreCells, allows_all};
+
+use crate::fact::{Fact, TrackedCell};
+use crate::known::Known;
+use crate::names::{Equation, Name};
+use bin_tape::Image;
+use word12::Word;
+use wordset::{Links, WordSet};
+
+/// The words that the equations of a fact leave to a name: its set met with its partners' sets,
+/// shifted along the equations, one step only.
+pub fn narrowed(fact: &Fact, name: &Name) -> WordSet
+    ensures { SameWords (words result) (narrowed (meaning fact.now) (name_of name.now)) }
+{
+    Known::of(fact).narrowed(name)
+}
+
+/// Whether a fact entails another: what the one leaves possible the other allows.
+pub fn entails(a: &Fact, b: &Fact) -> bool
+    ensures { IsTrue result ↔
+        (Entails (meaning a.now) (meaning b.now) × EntailsOffsets (meaning a.now) (meaning b.now)) }
+{
+    Known::of(a).entails(b)
+}
+
+/// Whether what a caller's fact and an exit's say after a call entails a fact: the exit's of the
+/// cells that are written in between, the caller's of all others.
+pub fn entails_return(call: &Fact, exit: &Fact, written: &WordSet, after: &Fact) -> bool
+    ensures { IsTrue result ↔
+        (Entails (joined (meaning call.now) (meaning exit.now) (words written.now)) (meaning after.now) ×
+        EntailsOffsets (meaning call.now) (meaning after.now)) }
+{
+    Known::after_call(call, exit, written).entails(after)
+}
+
+/// Whether a fact holds of every start of a tape, whatever the accumulator, the link, MQ and the
+/// cells that aren't on the tape hold. It does so whatever is declared.
+pub fn holds_before(fact: &Fact, image: &Image) -> bool
+    ensures test { result ≡ holds_before (image_of image.now) (meaning fact.now) }
+    ensures starts { (place : Place) → place.image ≡ image_of image.now → place.routine ≡ None →
+        place.declaration.start < 4096 → IsTrue result ↔ HoldsOfStarts place (meaning fact.now) }
+{
+    look_into(*image);
+    look_at(fact.cells());
+    passes(fact, image)
+}
+
+/// The test of a start: the registers, the tracked cells, then the equations.
+fn passes(fact: &Fact, image: &Image) -> bool
+    ensures { result ≡ holds_before (image_of image.now) (meaning fact.now) }
+{
+    if !allows_all_registers(fact) {
+        return false;
+    }
+    if !may_each_start(fact.cells(), image) {
+        return false;
+    }
+    are_all_always(fact.equations(), image)
+}
+
+/// The proof needs each tracked cell to be looked at, since each is a word.
+fn look_at(cells: &[TrackedCell])
+    ensures { AreCells (map tracked_of cells.now) }
+{
+    for entry in cells {
+        let _index = entry.cell.index();
+    }
+}
+
+/// The proof needs the image to be looked at, since it holds words.
+fn look_into(image: Image)
+    ensures { HoldsWords image }
+{
+    let _word = image.get(Word::ZERO);
+}
+
+/// Whether a set has all words.
+fn is_everything(set: &WordSet) -> bool
+    ensures { result ≡ each_below 4096 (words set.now) }
+{
+    set.is_all()
+}
+
+/// Whether both links are in a set.
+#[tactic(auto, using(crate::proofs::StartLemmas::two_links))]
+fn are_both(links: Links) -> bool
+    ensures { result ≡ each_below 2 (links_of links) }
+{
+    if links.set { links.clear } else { false }
+}
+
+/// Whether the accumulator, MQ and the link may be anything.
+fn allows_all_registers(fact: &Fact) -> bool
+    ensures { result ≡ allows_all (meaning fact.now) }
+{
+    let ac = is_everything(fact.accumulator());
+    let mq = is_everything(fact.mq());
+    let link = are_both(fact.link());
+    ac && mq && link
+}
+
+/// The word of an image at an address, if there is one.
+fn word_of(image: &Image, at: Word) -> Option<Word>
+    ensures word { result ≡ image_of image.now at }
+    ensures small { at < 4096 }
+{
+    image.get(at)
+}
+
+/// Whether each tracked cell may hold what the tape lets it hold.
+fn may_each_start(cells: &[TrackedCell], image: &Image) -> bool
+    ensures { IsTrue result ↔ MayStart (image_of image.now) (map tracked_of cells.now) }
+{
+    for entry in cells {
+        if !may_start(&entry.set, word_of(image, entry.cell)) {
+            return false;
+        }
+    }
+    true
+}
+
+/// Whether a set has each word that a cell may hold at the start: the tape's, or all words.
+fn may_start(set: &WordSet, word: Option<Word>) -> bool
+    ensures { result ≡ has_each word (words set.now) }
+{
+    match word {
+        None => is_everything(set),
+        Some(word) => set.contains(word),
+    }
+}
+
+/// Whether each equation is true whatever the start.
+fn are_all_always(equations: &[Equation], image: &Image) -> bool
+    ensures { result ≡ are_always (image_of image.now) (map equation_of equations.now) }
+{
+    for e in equations {
+        if !is_always(e, image) {
+            return false;
+        }
+    }
+    true
+}
+
+/// Whether an equation is true whatever the start: between two cells of the tape whose words fulfil
+/// it, or of a cell and itself.
+fn is_always(equation: &Equation, image: &Image) -> bool
+    ensures { result ≡ is_always (image_of image.now) (equation_of equation.now) }
+{
+    match &equation.left {
+        Name::Accumulator => false,
+        Name::Cell(left) => {
+            if *left == equation.right {
+                return equation.more.index() == 0;
+            }
+            let Some(word) = word_of(image, *left) else {
+                return false;
+            };
+            let Some(other) = word_of(image, equation.right) else {
+                return false;
+            };
+            word == other.add(equation.more)
+        }
+    }
+}

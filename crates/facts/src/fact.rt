@@ -1,0 +1,217 @@
+//! Facts: what is known of the machine whenever the program counter is at an address.
+
+ghost use Rattle.std.specs.Prelude.{ℕ, ◌≡◌, ◌<◌, ◌≤◌, ◌↔◌, ◌∷◌, [], ◌++◌, length, map, IsTrue, false};
+ghost use Rattle.arrayvec.specs.ArrayVec.{array_vec_len};
+ghost use Rattle.wordset.specs.Words.{SameWords, nothing};
+ghost use Rattle.wordset.specs.Lanes.{words};
+ghost use Rattle.wordset.specs.Links.{links_of};
+ghost use Rattle.facts.specs.Facts.{narrowed};
+ghost use Rattle.facts.specs.Changes.{with_offsets};
+ghost use Rattle.facts.specs.Statements.{unknown, tracked};
+ghost use Rattle.facts.specs.Same.{SameFact};
+ghost use Rattle.facts.specs.Meaning.{name_of, equation_of, tracked_of, offsets_of, statement_of, cell_words, meaning};
+
+use crate::names::{Equation, Name};
+use crate::offsets::Offsets;
+use arrayvec::ArrayVec;
+use word12::Word;
+use wordset::{Links, WordSet};
+
+/// A tracked cell and the words that it may hold.
+///
+/// Contracts see it as `tracked_of` gives it.
+#[derive(Clone, Copy, PartialEq, Eq, Debug)]
+pub struct TrackedCell {
+    /// The cell's address.
+    pub cell: Word,
+    /// The words that it may hold.
+    pub set: WordSet,
+}
+
+impl Default for TrackedCell {
+    fn default() -> Self {
+        TrackedCell {
+            cell: Word::ZERO,
+            set: WordSet::empty(),
+        }
+    }
+}
+
+/// What is known of the machine whenever the program counter is at an address: the words that the
+/// accumulator, MQ and at most 64 tracked cells may hold, the links, at most 32 equations, and how
+/// far the running routine's return word may have been counted up. A cell that isn't tracked may
+/// hold any word.
+///
+/// Contracts see its parts as `statement_of` gives them, and the fact as `meaning` gives it.
+#[derive(Drop)]
+pub struct Fact {
+    ac: WordSet,
+    mq: WordSet,
+    link: Links,
+    cells: ArrayVec<TrackedCell, 64>,
+    equations: ArrayVec<Equation, 32>,
+    offsets: Offsets,
+}
+
+impl Fact {
+    /// The fact of which nothing is known: all words, both links, no cells, equations or offsets.
+    pub fn any() -> Fact
+        ensures fact { SameFact (meaning result) (with_offsets nothing unknown) }
+        ensures cells { (statement_of result).cells ≡ [] }
+    {
+        Fact {
+            ac: WordSet::all(),
+            mq: WordSet::all(),
+            link: Links::both(),
+            cells: ArrayVec::new(),
+            equations: ArrayVec::new(),
+            offsets: Offsets::none(),
+        }
+    }
+
+    /// The words that the accumulator may hold.
+    pub fn accumulator(&self) -> &WordSet
+        ensures { words result.now ≡ (statement_of self.now).ac }
+    {
+        &self.ac
+    }
+
+    /// The words that MQ may hold.
+    pub fn mq(&self) -> &WordSet
+        ensures { words result.now ≡ (statement_of self.now).mq }
+    {
+        &self.mq
+    }
+
+    /// What the link may be.
+    pub fn link(&self) -> Links
+        ensures { links_of result ≡ (statement_of self.now).link }
+    {
+        self.link
+    }
+
+    /// The tracked cells.
+    pub fn cells(&self) -> &[TrackedCell]
+        ensures cells { map tracked_of result.now ≡ (statement_of self.now).cells }
+        ensures few { length result.now ≤ 64 }
+    {
+        self.cells.as_slice()
+    }
+
+    /// The equations.
+    pub fn equations(&self) -> &[Equation]
+        ensures equations { map equation_of result.now ≡ (statement_of self.now).equations }
+        ensures few { length result.now ≤ 32 }
+    {
+        self.equations.as_slice()
+    }
+
+    /// How far the running routine's return word may have been counted up.
+    pub fn offsets(&self) -> Offsets
+        ensures { offsets_of result ≡ (meaning self.now).offsets }
+    {
+        self.offsets
+    }
+
+    /// The words that a name may hold: all words for a cell that isn't tracked.
+    pub fn set(&self, name: &Name) -> WordSet
+        ensures { SameWords (words result) ((meaning self.now).set (name_of name.now)) }
+    {
+        match name {
+            Name::Accumulator => self.ac,
+            Name::Cell(cell) => self.set_of_cell(*cell),
+        }
+    }
+
+    /// The words that a cell may hold.
+    pub(crate) fn set_of_cell(&self, cell: Word) -> WordSet
+        ensures { SameWords (words result) (cell_words self.now cell) }
+    {
+        cell_set(&self.cells, cell)
+    }
+
+    /// Lets the accumulator hold these words.
+    pub fn set_accumulator(&mut self, set: WordSet)
+        ensures statement { statement_of self.new ≡ record (statement_of self.old) { ac = words set } }
+        ensures offsets { offsets_of self.new.offsets ≡ offsets_of self.old.offsets }
+    {
+        self.ac = set;
+    }
+
+    /// Lets MQ hold these words.
+    pub fn set_mq(&mut self, set: WordSet)
+        ensures statement { statement_of self.new ≡ record (statement_of self.old) { mq = words set } }
+        ensures offsets { offsets_of self.new.offsets ≡ offsets_of self.old.offsets }
+    {
+        self.mq = set;
+    }
+
+    /// Lets the link be one of these.
+    pub fn set_link(&mut self, links: Links)
+        ensures statement { statement_of self.new ≡ record (statement_of self.old) { link = links_of links } }
+        ensures offsets { offsets_of self.new.offsets ≡ offsets_of self.old.offsets }
+    {
+        self.link = links;
+    }
+
+    /// Lets the return word have been counted up by these.
+    pub fn set_offsets(&mut self, offsets: Offsets)
+        ensures fact { meaning self.new ≡ with_offsets (offsets_of offsets) (meaning self.old) }
+        ensures statement { statement_of self.new ≡ statement_of self.old }
+    {
+        self.offsets = offsets;
+    }
+
+    /// Whether 64 cells are tracked.
+    pub fn is_full_of_cells(&self) -> bool
+        ensures { IsTrue result ↔ (length (statement_of self.now).cells ≡ 64) }
+    {
+        self.cells.is_full()
+    }
+
+    /// Tracks one more cell, which may hold these words.
+    pub fn track(&mut self, cell: Word, set: WordSet)
+        requires { length (statement_of self.old).cells < 64 }
+        ensures statement { statement_of self.new ≡ record (statement_of self.old) {
+          cells = (statement_of self.old).cells ++ record { address = cell; set = words set } ∷ [];
+        } }
+        ensures offsets { offsets_of self.new.offsets ≡ offsets_of self.old.offsets }
+    {
+        self.cells.push(TrackedCell { cell, set });
+    }
+
+    /// Whether there are 32 equations.
+    pub fn is_full_of_equations(&self) -> bool
+        ensures { IsTrue result ↔ (length (statement_of self.now).equations ≡ 32) }
+    {
+        self.equations.is_full()
+    }
+
+    /// Adds an equation.
+    pub fn relate(&mut self, equation: Equation)
+        requires { length (statement_of self.old).equations < 32 }
+        ensures statement { statement_of self.new ≡ record (statement_of self.old) {
+          equations = (statement_of self.old).equations ++ equation_of equation ∷ [];
+        } }
+        ensures offsets { offsets_of self.new.offsets ≡ offsets_of self.old.offsets }
+    {
+        self.equations.push(Equation {
+            left: equation.left,
+            right: equation.right,
+            more: equation.more,
+        });
+    }
+}
+
+/// The words of a cell: those that all its entries allow, or all words where it has none.
+fn cell_set(cells: &[TrackedCell], cell: Word) -> WordSet
+    ensures { SameWords (words result) (tracked cell (map tracked_of cells.now)) }
+{
+    let mut set = WordSet::all();
+    for entry in cells {
+        if entry.cell == cell {
+            set = set.meet(&entry.set);
+        }
+    }
+    set
+}

@@ -1,0 +1,263 @@
+//! What is known: a fact, or what a caller's fact and an exit's say together.
+//!
+//! A fact has up to 64 tracked cells of 512 bytes, and what is known after a call up to 128. So it
+//! is seen through the facts that it came from.
+
+ghost use Rattle.std.specs.Prelude.{◌≡◌, ◌↔◌, map, IsTrue};
+ghost use Rattle.wordset.specs.Words.{SameWords};
+ghost use Rattle.wordset.specs.Lanes.{words};
+ghost use Rattle.wordset.specs.Links.{links_of};
+ghost use Rattle.facts.specs.Facts.{Ac, narrowed, Among, Knows, KnowsAll, Entails, EntailsOffsets, joined};
+ghost use Rattle.facts.specs.Same.{Agree};
+ghost use Rattle.facts.specs.Meaning.{name_of, equation_of, offsets_of, meaning, source_words, known_of, tracked_of, Meets};
+ghost use Rattle.facts.specs.Showing.{Shows, EachWithin, EntailsRegisters};
+
+use crate::equations::{Equations, copy, has_cell, joined, outside};
+use crate::fact::{Fact, TrackedCell};
+use crate::names::{Equation, Name, is_same_equation, is_same_name, negated};
+use crate::offsets::Offsets;
+use word12::Word;
+use wordset::{Links, WordSet};
+
+/// Where the words of cells come from.
+#[derive(Clone, Copy)]
+pub(crate) enum Source<'a> {
+    /// A fact.
+    One(&'a Fact),
+    /// A caller's fact, an exit's fact, and the cells that are written in between.
+    Joined(&'a Fact, &'a Fact, &'a WordSet),
+}
+
+/// What is known, with the readers of a fact.
+///
+/// Contracts see it as the fact that `known_of` gives.
+#[derive(Drop)]
+pub struct Known<'a> {
+    base: Source<'a>,
+    ac: WordSet,
+    mq: WordSet,
+    link: Links,
+    equations: Equations,
+    offsets: Offsets,
+}
+
+/// The words of a cell.
+fn source_set(source: &Source<'_>, cell: Word) -> WordSet
+    ensures { SameWords (words result) (source_words source.now cell) }
+{
+    match source {
+        Source::One(fact) => fact.set_of_cell(cell),
+        Source::Joined(call, exit, written) => {
+            if has_cell(written, cell) {
+                exit.set_of_cell(cell)
+            } else {
+                call.set_of_cell(cell)
+            }
+        }
+    }
+}
+
+impl Known<'_> {
+    /// The words that the accumulator may hold.
+    pub fn accumulator(&self) -> &WordSet
+        ensures { words result.now ≡ (known_of self.now).set Ac }
+    {
+        &self.ac
+    }
+
+    /// The words that MQ may hold.
+    pub fn mq(&self) -> &WordSet
+        ensures { words result.now ≡ (known_of self.now).mq }
+    {
+        &self.mq
+    }
+
+    /// What the link may be.
+    pub fn link(&self) -> Links
+        ensures { links_of result ≡ (known_of self.now).link }
+    {
+        self.link
+    }
+
+    /// The equations.
+    pub fn equations(&self) -> &[Equation]
+        ensures { map equation_of result.now ≡ (known_of self.now).equations }
+    {
+        self.equations.as_slice()
+    }
+
+    /// How far the running routine's return word may have been counted up.
+    pub fn offsets(&self) -> Offsets
+        ensures { offsets_of result ≡ (known_of self.now).offsets }
+    {
+        self.offsets
+    }
+
+    /// The words that a name may hold.
+    pub fn set(&self, name: &Name) -> WordSet
+        ensures { SameWords (words result) ((known_of self.now).set (name_of name.now)) }
+    {
+        match name {
+            Name::Accumulator => self.ac,
+            Name::Cell(cell) => source_set(&self.base, *cell),
+        }
+    }
+
+    /// The words of a set that an equation leaves to a name.
+    #[tactic(auto, using(crate::proofs::EntailLemmas::back_twice))]
+    fn met(&self, name: &Name, equation: &Equation, set: WordSet) -> WordSet
+        ensures { Meets (known_of self.now) (name_of name.now) (equation_of equation.now) (words set) (words result) }
+    {
+        let left = if is_same_name(&equation.left, name) {
+            self.set(&Name::Cell(equation.right))
+                .shift(equation.more)
+                .meet(&set)
+        } else {
+            set
+        };
+        if is_same_name(&Name::Cell(equation.right), name) {
+            self.set(&equation.left)
+                .shift(negated(equation.more))
+                .meet(&left)
+        } else {
+            left
+        }
+    }
+
+    /// The words that the equations leave to a name: its set met with its partners' sets, shifted
+    /// along the equations, one step only.
+    pub fn narrowed(&self, name: &Name) -> WordSet
+        ensures { SameWords (words result) (narrowed (known_of self.now) (name_of name.now)) }
+    {
+        let mut set = self.set(name);
+        let equations = self.equations.as_slice();
+        for e in equations {
+            set = self.met(name, e, set);
+        }
+        set
+    }
+
+    /// Whether an equation is among those that are known.
+    fn lists(&self, equation: &Equation) -> bool
+        ensures { IsTrue result ↔ Among (equation_of equation.now) (known_of self.now).equations }
+    {
+        let equations = self.equations.as_slice();
+        for e in equations {
+            if is_same_equation(e, equation) {
+                return true;
+            }
+        }
+        false
+    }
+
+    /// Whether one word is left on each side of an equation, and they fulfil it.
+    fn shows(&self, equation: &Equation) -> bool
+        ensures { IsTrue result ↔ Shows (known_of self.now) (equation_of equation.now) }
+    {
+        let left = self.narrowed(&equation.left);
+        let right = self.narrowed(&Name::Cell(equation.right));
+        match left.only() {
+            None => false,
+            Some(x) => match right.only() {
+                None => false,
+                Some(y) => x == y.add(equation.more),
+            },
+        }
+    }
+
+    /// Whether an equation is known.
+    fn knows(&self, equation: &Equation) -> bool
+        ensures { IsTrue result ↔ Knows (known_of self.now) (equation_of equation.now) }
+    {
+        if self.lists(equation) {
+            return true;
+        }
+        self.shows(equation)
+    }
+
+    /// Whether all these equations are known.
+    fn knows_all(&self, equations: &[Equation]) -> bool
+        ensures { IsTrue result ↔ KnowsAll (known_of self.now) (map equation_of equations.now) }
+    {
+        for e in equations {
+            if !self.knows(e) {
+                return false;
+            }
+        }
+        true
+    }
+
+    /// Whether each of these cells has its narrowed set within what is tracked.
+    fn is_each_within(&self, cells: &[TrackedCell]) -> bool
+        ensures { IsTrue result ↔ EachWithin (known_of self.now) (map tracked_of cells.now) }
+    {
+        for t in cells {
+            if !self.narrowed(&Name::Cell(t.cell)).is_subset(&t.set) {
+                return false;
+            }
+        }
+        true
+    }
+
+    /// Whether what is known entails a fact.
+    pub fn entails(&self, fact: &Fact) -> bool
+        ensures { IsTrue result ↔
+            (Entails (known_of self.now) (meaning fact.now) × EntailsOffsets (known_of self.now) (meaning fact.now)) }
+    {
+        if !self.entails_registers(fact) {
+            return false;
+        }
+        if !self.offsets.is_subset(fact.offsets()) {
+            return false;
+        }
+        if !self.is_each_within(fact.cells()) {
+            return false;
+        }
+        self.knows_all(fact.equations())
+    }
+
+    /// Whether the accumulator, MQ and the link are as a fact says.
+    fn entails_registers(&self, fact: &Fact) -> bool
+        ensures { IsTrue result ↔ EntailsRegisters (known_of self.now) (meaning fact.now) }
+    {
+        if !self.link.is_subset(fact.link()) {
+            return false;
+        }
+        if !self.mq.is_subset(fact.mq()) {
+            return false;
+        }
+        self.narrowed(&Name::Accumulator)
+            .is_subset(fact.accumulator())
+    }
+}
+
+impl<'a> Known<'a> {
+    /// What a fact knows.
+    pub fn of(fact: &'a Fact) -> Known<'a>
+        ensures { Agree (known_of result) (meaning fact.now) }
+    {
+        Known {
+            base: Source::One(fact),
+            ac: *fact.accumulator(),
+            mq: *fact.mq(),
+            link: fact.link(),
+            equations: copy(fact.equations()),
+            offsets: fact.offsets(),
+        }
+    }
+
+    /// What is known after a call: of the cells that the routine writes what its exit says, and of
+    /// the others what the caller knew.
+    pub fn after_call(call: &'a Fact, exit: &'a Fact, written: &'a WordSet) -> Known<'a>
+        ensures { Agree (known_of result) (joined (meaning call.now) (meaning exit.now) (words written.now)) }
+    {
+        Known {
+            base: Source::Joined(call, exit, written),
+            ac: *exit.accumulator(),
+            mq: *exit.mq(),
+            link: exit.link(),
+            equations: joined(outside(written, call.equations()), exit.equations()),
+            offsets: call.offsets(),
+        }
+    }
+}

@@ -1,0 +1,72 @@
+//! The names that facts speak of, and equations between their words.
+
+ghost use Rattle.std.specs.Prelude.{◌≡◌, ◌↔◌, IsTrue};
+ghost use Rattle.wordset.specs.Words.{minus};
+ghost use Rattle.facts.specs.Facts.{same};
+ghost use Rattle.facts.specs.Meaning.{name_of, equation_of};
+
+use word12::Word;
+
+/// What a set or an equation of a fact speaks of.
+///
+/// Contracts see it as `name_of` gives it.
+#[derive(Clone, Copy, PartialEq, Eq, Debug)]
+pub enum Name {
+    /// The accumulator.
+    Accumulator,
+    /// The cell of this address.
+    Cell(Word),
+}
+
+/// The equation left = right + more, modulo 4096, whose right side is a cell.
+///
+/// Contracts see it as `equation_of` gives it.
+#[derive(Clone, Copy, PartialEq, Eq, Debug)]
+pub struct Equation {
+    /// The accumulator or a cell.
+    pub left: Name,
+    /// The address of a cell.
+    pub right: Word,
+    /// How much more the left word is.
+    pub more: Word,
+}
+
+impl Default for Equation {
+    fn default() -> Self {
+        Equation {
+            left: Name::Accumulator,
+            right: Word::ZERO,
+            more: Word::ZERO,
+        }
+    }
+}
+
+/// Whether two names are one.
+pub(crate) fn is_same_name(a: &Name, b: &Name) -> bool
+    ensures { result ≡ same (name_of a.now) (name_of b.now) }
+{
+    match a {
+        Name::Accumulator => match b {
+            Name::Accumulator => true,
+            Name::Cell(_) => false,
+        },
+        Name::Cell(x) => match b {
+            Name::Accumulator => false,
+            Name::Cell(y) => *x == *y,
+        },
+    }
+}
+
+/// Whether two equations are one.
+pub(crate) fn is_same_equation(a: &Equation, b: &Equation) -> bool
+    ensures { IsTrue result ↔ (equation_of a.now ≡ equation_of b.now) }
+{
+    is_same_name(&a.left, &b.left) && a.right == b.right && a.more == b.more
+}
+
+/// The word that takes back what another adds.
+pub(crate) fn negated(word: Word) -> Word
+    ensures { result ≡ minus 0 word }
+{
+    word.complement().increment()
+}

@@ -1,0 +1,68 @@
+//! How far a return word may have been counted up.
+
+ghost use Rattle.std.specs.Prelude.{◌≡◌, ◌<◌, ◌==◌, ◌↔◌, ◌||◌, ℕ, IsTrue, true, false};
+ghost use Rattle.facts.specs.Meaning.{offsets_of};
+
+/// Some of the offsets 0 to 7, by which a routine's return word may have been counted up.
+///
+/// Contracts see them as `offsets_of` gives them.
+#[derive(Clone, Copy, PartialEq, Eq, Debug)]
+pub struct Offsets {
+    known: [bool; 8],
+}
+
+impl Offsets {
+    /// No offset.
+    pub fn none() -> Offsets
+        ensures { (o : ℕ) → o < 8 → offsets_of result o ≡ false }
+    {
+        Offsets { known: [false; 8] }
+    }
+
+    /// All eight offsets.
+    pub fn all() -> Offsets
+        ensures { (o : ℕ) → o < 8 → offsets_of result o ≡ true }
+    {
+        Offsets { known: [true; 8] }
+    }
+
+    /// Whether an offset is among them.
+    pub fn contains(self, offset: usize) -> bool
+        requires { offset < 8 }
+        ensures { result ≡ offsets_of self offset }
+    {
+        self.known[offset]
+    }
+
+    /// Puts an offset in.
+    pub fn insert(&mut self, offset: usize)
+        requires { offset < 8 }
+        ensures { (o : ℕ) → o < 8 → offsets_of self.new o ≡ (offsets_of self.old o || o == offset) }
+    {
+        self.known[offset] = true;
+    }
+
+    /// Whether there is no offset.
+    pub fn is_empty(self) -> bool
+        ensures { IsTrue result ↔ ((o : ℕ) → o < 8 → offsets_of self o ≡ false) }
+    {
+        for o in 0..8usize {
+            if self.known[o] {
+                return false;
+            }
+        }
+        true
+    }
+
+    /// Whether each offset is among the others.
+    pub fn is_subset(self, other: Offsets) -> bool
+        ensures { IsTrue result ↔ ((o : ℕ) → o < 8 → offsets_of self o ≡ true → offsets_of other o ≡ true) }
+    {
+        for o in 0..8usize {
+            if self.known[o] && !other.known[o] {
+                return false;
+            }
+        }
+        true
+    }
+}

@@ -53,9 +53,11 @@ impl<A: Allocator> Draft<A> {
 
     /// Adds what the line of a number says, where it may follow.
     fn add(&mut self, line: &Line, number: usize) -> Result<(), DeclarationFault>
-        ensures added { OnOk result (gathered self.new ≡ with_line (gathered self.old) (said line.now)) }
+        ensures added { OnOk result
+            (gathered self.new ≡ with_line (gathered self.old) (said line.now)) }
         ensures follows { OnOk result (MayFollow (gathered self.old) (said line.now)) }
-        ensures refused { IfErr result (LineFails (gathered self.old) number (Some (said line.now))) }
+        ensures refused { IfErr result
+            (LineFails (gathered self.old) number (Some (said line.now))) }
     {
         match line {
             Line::Nothing => {}
@@ -72,9 +74,12 @@ impl<A: Allocator> Draft<A> {
     }
 
     fn add_start(&mut self, at: Word, number: usize) -> Result<(), DeclarationFault>
-        ensures added { OnOk result (gathered self.new ≡ with_line (gathered self.old) (said (Line.Start at))) }
-        ensures follows { OnOk result (MayFollow (gathered self.old) (said (Line.Start at))) }
-        ensures refused { IfErr result (LineFails (gathered self.old) number (Some (said (Line.Start at)))) }
+        ensures added { OnOk result
+            (gathered self.new ≡ with_line (gathered self.old) (said (Line.Start at))) }
+        ensures follows { OnOk result
+            (MayFollow (gathered self.old) (said (Line.Start at))) }
+        ensures refused { IfErr result
+            (LineFails (gathered self.old) number (Some (said (Line.Start at)))) }
     {
         if self.start.is_some() {
             return Err(DeclarationFault::TwoStarts(number));
@@ -84,9 +89,12 @@ impl<A: Allocator> Draft<A> {
     }
 
     fn add_profile(&mut self, profile: Profile, number: usize) -> Result<(), DeclarationFault>
-        ensures added { OnOk result (gathered self.new ≡ with_line (gathered self.old) (said (Line.Machine profile))) }
-        ensures follows { OnOk result (MayFollow (gathered self.old) (said (Line.Machine profile))) }
-        ensures refused { IfErr result (LineFails (gathered self.old) number (Some (said (Line.Machine profile)))) }
+        ensures added { OnOk result
+            (gathered self.new ≡ with_line (gathered self.old) (said (Line.Machine profile))) }
+        ensures follows { OnOk result
+            (MayFollow (gathered self.old) (said (Line.Machine profile))) }
+        ensures refused { IfErr result
+            (LineFails (gathered self.old) number (Some (said (Line.Machine profile)))) }
     {
         if self.profile.is_some() {
             return Err(DeclarationFault::TwoProfiles(number));
@@ -96,9 +104,12 @@ impl<A: Allocator> Draft<A> {
     }
 
     fn add_routine(&mut self, routine: &Routine, number: usize) -> Result<(), DeclarationFault>
-        ensures added { OnOk result (gathered self.new ≡ with_line (gathered self.old) (said (Line.Sub routine.now))) }
-        ensures follows { OnOk result (MayFollow (gathered self.old) (said (Line.Sub routine.now))) }
-        ensures refused { IfErr result (LineFails (gathered self.old) number (Some (said (Line.Sub routine.now)))) }
+        ensures added { OnOk result
+            (gathered self.new ≡ with_line (gathered self.old) (said (Line.Sub routine.now))) }
+        ensures follows { OnOk result
+            (MayFollow (gathered self.old) (said (Line.Sub routine.now))) }
+        ensures refused { IfErr result
+            (LineFails (gathered self.old) number (Some (said (Line.Sub routine.now)))) }
     {
         if self.routines.len() >= MOST_ROUTINES {
             return Err(DeclarationFault::TooMany);
@@ -125,7 +136,8 @@ impl<A: Allocator> Draft<A> {
         ensures says { IfOk result (λ d. Says (gathered self) (meaning d)) }
         ensures rules { IfOk result (λ d. KeepsRules (gathered self) (meaning d).start) }
         ensures declared { IfOk result (λ d. IsDeclared (meaning d)) }
-        ensures routines { IfOk result (λ d. map subroutine_of (routines_of d) ≡ (gathered self).routines) }
+        ensures routines { IfOk result (λ d.
+            map subroutine_of (routines_of d) ≡ (gathered self).routines) }
         ensures broken { IfErr result (RuleFails (gathered self)) }
     {
         let Some(start) = self.start else {

@@ -112,10 +112,28 @@ impl<A: Allocator> Model for Declaration<A> {
 
     ghost Value = { Kept };
 
-    ghost view = { λ d. record { start = d.start; profile = d.profile; main = d.main; routines = d.routines.items; variables = d.variables; stops = d.stops; pauses = d.pauses; reads = d.reads } };
+    ghost view = { λ d. record {
+      start = d.start;
+      profile = d.profile;
+      main = d.main;
+      routines = d.routines.items;
+      variables = d.variables;
+      stops = d.stops;
+      pauses = d.pauses;
+      reads = d.reads;
+    } };
 
     // Each declaration keeps the overlap rules.
-    ghost invariant = { λ d. IsDeclared (meaning (record { start = d.start; profile = d.profile; main = d.main; routines = d.routines.items; variables = d.variables; stops = d.stops; pauses = d.pauses; reads = d.reads })) };
+    ghost invariant = { λ d. IsDeclared (meaning (record {
+      start = d.start;
+      profile = d.profile;
+      main = d.main;
+      routines = d.routines.items;
+      variables = d.variables;
+      stops = d.stops;
+      pauses = d.pauses;
+      reads = d.reads;
+    })) };
 }
 
 impl Offsets {
@@ -172,7 +190,8 @@ impl<A: Allocator> Declaration<A> {
         ensures found { IfOk result (λ d. Declares text.now (meaning d)) }
         ensures declared { IfOk result (λ d. IsDeclared (meaning d)) }
         ensures routines { IfOk result (λ d. ListsRoutines text.now (routines_of d)) }
-        ensures only { (d : Declared) → Declares text.now d → IfErr result (λ fault. fault ≡ NoMemory) }
+        ensures only { (d : Declared) → Declares text.now d
+            → IfErr result (λ fault. fault ≡ NoMemory) }
         ensures refused { IfErr result (Fails text.now) }
         ensures exact { (fault : DeclarationFault) → Fails text.now fault → fault ≢ NoMemory
             → IsErrOf result fault ⊎ IsErrOf result NoMemory }

@@ -135,8 +135,9 @@ fn sub_line(rest: Words<'_>) -> Option<Line>
 
 /// The routine of an entry and of what follows the word `body`.
 fn routine(entry: &[u8], rest: Words<'_>) -> Option<Line>
-    ensures { option_map said result ≡ routine (octal_word entry.now) (body_read (words_left rest.entry))
-        (offsets_read (after_first is_returns (words_left rest.entry))) }
+    ensures { let words = words_left rest.entry in
+        option_map said result ≡ routine (octal_word entry.now) (body_read words)
+        (offsets_read (after_first is_returns words)) }
 {
     let mut words = rest;
     let Some(entry) = text::octal_word(entry) else {
@@ -158,7 +159,8 @@ fn routine(entry: &[u8], rest: Words<'_>) -> Option<Line>
 /// The cells of ranges, one or more, up to the word `returns`, which is taken too.
 fn body(rest: &mut Words<'_>) -> Option<WordSet>
     ensures cells { option_map words result ≡ body_read (words_left rest.old) }
-    ensures rest { OnSome result (words_left rest.new ≡ after_first is_returns (words_left rest.old)) }
+    ensures rest { OnSome result
+        (words_left rest.new ≡ after_first is_returns (words_left rest.old)) }
 {
     let mut ahead = *rest;
     match ahead.next() {
@@ -169,8 +171,10 @@ fn body(rest: &mut Words<'_>) -> Option<WordSet>
 
 /// The same of ranges of which there may be none.
 fn body_cells(rest: &mut Words<'_>) -> Option<WordSet>
-    ensures cells { option_map words result ≡ option_map any_of (ranges_before (words_left rest.old)) }
-    ensures rest { OnSome result (words_left rest.new ≡ after_first is_returns (words_left rest.old)) }
+    ensures cells { option_map words result
+        ≡ option_map any_of (ranges_before (words_left rest.old)) }
+    ensures rest { OnSome result
+        (words_left rest.new ≡ after_first is_returns (words_left rest.old)) }
 {
     let mut set = WordSet::empty();
     while let Some(word) = rest.next() {
@@ -226,7 +230,8 @@ impl Offsets {
 
 /// The cells of words, one or more.
 fn some_cells(form: Form, rest: Words<'_>) -> Option<WordSet>
-    ensures { option_map words result ≡ option_map any_of (some_read (cells_read form) (words_left rest.entry)) }
+    ensures { option_map words result
+        ≡ option_map any_of (some_read (cells_read form) (words_left rest.entry)) }
 {
     let mut ahead = rest;
     match ahead.next() {
@@ -237,7 +242,8 @@ fn some_cells(form: Form, rest: Words<'_>) -> Option<WordSet>
 
 /// The cells of words, of which there may be none.
 fn all_cells(form: Form, rest: Words<'_>) -> Option<WordSet>
-    ensures { option_map words result ≡ option_map any_of (all_read (cells_read form) (words_left rest.entry)) }
+    ensures { option_map words result
+        ≡ option_map any_of (all_read (cells_read form) (words_left rest.entry)) }
 {
     let mut words = rest;
     let mut set = WordSet::empty();

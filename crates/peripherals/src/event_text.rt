@@ -54,7 +54,8 @@ struct Repeated {
 /// 1,000,000 events in all, or `NoMemory` where a growth was refused, in this order.
 pub fn events<A: Allocator>(alloc: A, text: &[u8]) -> Result<Vec<Event, A>, EventsFault>
     ensures found { IfOk result (λ events. Spells text.now events.items) }
-    ensures only { (events : List Event) → Spells text.now events → IfErr result (λ fault. fault ≡ NoMemory) }
+    ensures only { (events : List Event) → Spells text.now events
+        → IfErr result (λ fault. fault ≡ NoMemory) }
     ensures refused { IfErr result (Fails text.now) }
     ensures exact { (fault : EventsFault) → Fails text.now fault → fault ≢ NoMemory
         → IsErrOf result fault ⊎ IsErrOf result NoMemory }
@@ -185,7 +186,8 @@ fn events_numbered(name: &[u8], number: &[u8]) -> Option<Repeated>
 
 /// So many steps, from 1 to 1000000.
 fn steps(number: &[u8]) -> Option<Repeated>
-    ensures { option_map repeated result ≡ option_map (λ n. replicate n Step) (decimal_between 1 most_events number.now) }
+    ensures { option_map repeated result
+        ≡ option_map (λ n. replicate n Step) (decimal_between 1 most_events number.now) }
 {
     let times = text::decimal_between(1, MOST_EVENTS, number)?;
     Some(Repeated {

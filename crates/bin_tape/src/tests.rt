@@ -1,6 +1,6 @@
 //! Tapes worked by hand from the description of the format, frame by frame.
 
-use crate::standard::{Reads, Writes};
+use streams::standard::{Reads, Writes};
 use crate::{
     ByteSink, ByteSource, Failed, Image, TapeFault, TapeWord, WriteTapeFault, put, read_from,
     read_tape, write_tape,

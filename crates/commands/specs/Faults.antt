@@ -1,6 +1,6 @@
 -- Which faults a command may have: the first of its inputs that has one, and then its own work. Each table names the
 -- faults that can come; no other does.
-use Rattle.std.specs.Prelude.{ℕ, ◌≡◌, Bool, true, false, Result, Ok, Err, Option, List, IfSome, ◌⊎◌}
+use Rattle.std.specs.Prelude.{ℕ, Bool, true, false, Result, Err, List, IfSome, ◌⊎◌}
 use Rattle.streams.specs.declared.input.InputFault.{InputFault}
 use Rattle.streams.specs.declared.input.InputFault.TheVariants as input_fault
 use Rattle.bin_tape.specs.Refuses.{Refuses}

@@ -73,7 +73,8 @@ pub fn watch<A: Allocator + Copy, R: ByteSource, D: ByteSource, E: ByteSource, W
     requires writable { W.mark out.old ≡ false }
     // What is written is what is seen of the run.
     ensures watched { IfOk result (λ status. Writes
-        (λ line. IsWatchedSo (R.remaining tape.old) (D.remaining declaration.old) (E.remaining list.old) line status)
+        (λ line. IsWatchedSo (R.remaining tape.old) (D.remaining declaration.old)
+        (E.remaining list.old) line status)
         (W.taken out.old) (W.taken out.new)) }
     // A fault is that of the first input that has one.
     ensures faults { IfErr result (IsWatchFault
@@ -88,7 +89,8 @@ pub fn watch<A: Allocator + Copy, R: ByteSource, D: ByteSource, E: ByteSource, W
     ensures nothing { OnErr result (W.mark out.new ≡ false → W.taken out.new ≡ W.taken out.old) }
     // A write failed exactly where the answer says so, and so did a read.
     ensures marks { W.mark out.new ≡ fails_to_write result }
-    ensures reads { R.mark tape.new || D.mark declaration.new || E.mark list.new ≡ fails_to_read result }
+    ensures reads { R.mark tape.new || D.mark declaration.new || E.mark list.new ≡
+        fails_to_read result }
 {
     let image = tape_from(tape)?;
     let promised = declaration_from(alloc, declaration)?;

@@ -1,5 +1,5 @@
 -- The instruction table: what each word of twelve bits means, where it stands, on a machine of each profile.
-use Rattle.std.specs.Prelude.{ℕ, ◌≡◌, ◌/◌, Bool, true, false, not, ◌||◌, ◌==◌, if◌then◌else◌, Option, Some, None}
+use Rattle.std.specs.Prelude.{ℕ, ◌/◌, Bool, true, false, not, ◌||◌, ◌==◌, if◌then◌else◌, Option, Some, None}
 use Rattle.std.specs.Option.{option_map}
 use Rattle.instruct.specs.declared.Profile.{Profile}
 use Rattle.instruct.specs.declared.Profile.TheVariants.{Pdp8I, Pdp8E}

@@ -3,7 +3,7 @@ use Rattle.std.proofs.Common.{ℕ, ◌≡◌, ◌/◌, ◌==◌, Bool, true, fal
 use Rattle.instruct.specs.declared.Profile.TheVariants.{Pdp8I}
 use Rattle.instruct.specs.Bits.{has_bit}
 use Rattle.instruct.specs.Instructions.{Meaning, And, Tad, Isz, Dca, Jms, Jmp, Group1, Group2, Group3, Device, Undefined, DeviceAction, meaning_of, device_action, device_meaning, operate_meaning, is_group1}
-use Rattle.processor.specs.Machine.{State, Answer, Does, Step}
+use Rattle.processor.specs.Machine.{State, Answer, Does}
 use Rattle.processor.specs.Mq.{with_mq, LeavesMq}
 
 -- the meanings that say nothing of MQ

@@ -28,6 +28,15 @@ abbrev pub fails_to_read : {T : Type 0} → Result T Fault → Bool
 fails_to_read (Err (Device Read)) = true
 fails_to_read _ = false
 
+-- The answer's fault is the tape's, or the declaration's.
+abbrev pub is_fault_of_tape : Fault → Bool
+is_fault_of_tape (Tape fault) = true
+is_fault_of_tape _ = false
+
+abbrev pub is_fault_of_declaration : Fault → Bool
+is_fault_of_declaration (Declared fault) = true
+is_fault_of_declaration _ = false
+
 -- A read that failed is the device's fault; any other fault of a tape is the tape's.
 abbrev pub fault_of_tape : TapeFault → Fault
 fault_of_tape ReadFault = Device Read

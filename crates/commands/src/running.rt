@@ -2,7 +2,7 @@
 
 ghost use Rattle.std.specs.Prelude.{◌≡◌, ◌||◌, true, false, IfOk, IfErr, OnOk, OnErr};
 ghost use Rattle.commands.specs.Dumping.{IsDump};
-ghost use Rattle.commands.specs.Faults.{fails_to_read, fails_to_write, IsEventRunFault, IsRunFault, IsTapeFault};
+ghost use Rattle.commands.specs.Faults.{is_fault_of_tape, fails_to_read, fails_to_write, IsEventRunFault, IsRunFault, IsTapeFault};
 ghost use Rattle.commands.specs.Course.{ends_at_halt, events_in};
 ghost use Rattle.commands.specs.Inputs.{input};
 ghost use Rattle.commands.specs.Running.{IsEventRun, IsPartOf, IsPartOfEventRun, IsPartOfRoundRun, IsRoundRun, IsRunOf, status_of};
@@ -139,6 +139,9 @@ pub fn run_events<A: Allocator + Copy, R: ByteSource, E: ByteSource, W: ByteSink
         W.taken out.new ≡ W.taken out.old) }
     ensures marks { W.mark out.new ≡ fails_to_write result }
     ensures reads { R.mark tape.new || E.mark text.new ≡ fails_to_read result }
+    // The text isn't read after a tape that is refused, or whose read failed.
+    ensures unread { IfErr result (λ fault. is_fault_of_tape fault ≡ true → text.new ≡ text.old) }
+    ensures unread_after_failure { R.mark tape.new ≡ true → text.new ≡ text.old }
 {
     let image = tape_from(tape)?;
     let list = events_from(alloc, text)?;

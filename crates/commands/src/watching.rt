@@ -1,7 +1,7 @@
 //! The command that watches a run.
 
 ghost use Rattle.std.specs.Prelude.{◌≡◌, ◌||◌, false, true, IfOk, IfErr, OnErr};
-ghost use Rattle.commands.specs.Faults.{IsWatchFault, fails_to_read, fails_to_write};
+ghost use Rattle.commands.specs.Faults.{IsWatchFault, is_fault_of_declaration, is_fault_of_tape, fails_to_read, fails_to_write};
 ghost use Rattle.commands.specs.Inputs.{input};
 ghost use Rattle.commands.specs.WatchText.{IsWatched, IsWatchedSo, broken_text, watched_status, watched_text};
 ghost use Rattle.commands.specs.Writes.{FrontOf, Writes};
@@ -91,6 +91,14 @@ pub fn watch<A: Allocator + Copy, R: ByteSource, D: ByteSource, E: ByteSource, W
     ensures marks { W.mark out.new ≡ fails_to_write result }
     ensures reads { R.mark tape.new || D.mark declaration.new || E.mark list.new ≡
         fails_to_read result }
+    // An input isn't read after one that is refused, or whose read failed.
+    ensures unread { IfErr result (λ fault. is_fault_of_tape fault ≡ true →
+        (declaration.new ≡ declaration.old) × (list.new ≡ list.old)) }
+    ensures unread_list { IfErr result (λ fault. is_fault_of_declaration fault ≡ true →
+        list.new ≡ list.old) }
+    ensures unread_after_failure { R.mark tape.new ≡ true →
+        (declaration.new ≡ declaration.old) × (list.new ≡ list.old) }
+    ensures unread_list_after_failure { D.mark declaration.new ≡ true → list.new ≡ list.old }
 {
     let image = tape_from(tape)?;
     let promised = declaration_from(alloc, declaration)?;

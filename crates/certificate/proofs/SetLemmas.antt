@@ -141,8 +141,8 @@ run_here s n low high r = elim (cases_lt low high) [
       let e : (low + 1) + (high - (low + 1)) ≡ high = omega arith in
       let n2 : (low == high) ≡ false = ne_eqb low high (λ z. omega arith) in
       let more : rest s (low + 1) ≡ (codes "-" ++ octal_text high) ++ rest s (high + 1) =
-          rw e at (to_last (high - (low + 1)) (low + 1) s (omega arith) (rw e r.small)
-          (λ u a b. r.inside u (omega arith) (omega arith)) (rw e r.stops)) in
+      rw e at (to_last (high - (low + 1)) (low + 1) s (omega arith) (rw e r.small)
+      (λ u a b. r.inside u (omega arith) (omega arith)) (rw e r.stops)) in
       first ∙ (ap (λ (x : List ℕ). (comma s low ++ octal_text low) ++ x) more ∙ rw n2 (simp append_assoc)))
   | inr h ↦ (
       let e : high ≡ low = (let o : low ≤ high = r.order in omega arith) in

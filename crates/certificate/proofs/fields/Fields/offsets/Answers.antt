@@ -33,5 +33,3 @@ returns-else-is_empty-clause-only c =
     (c.if-takes.ensures.kept refl) c.if-takes.ensures.only
     (record { read = c.digits-offsets.ensures.read; only = c.digits-offsets.ensures.only })
     (has_offset (offsets_of c.digits-offsets.result) c.if-is_empty.ensures.1)).only
-
-

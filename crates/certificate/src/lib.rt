@@ -8,6 +8,7 @@ use thiserror::Error;
 
 mod fields;
 mod line;
+mod parser;
 mod progress;
 
 /// The version of a certificate's text.

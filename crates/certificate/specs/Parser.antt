@@ -1,0 +1,40 @@
+-- What the parser of a certificate's text has seen.
+use Rattle.std.specs.Prelude.{◌≡◌, ℕ, ◌+◌, ◌<◌, ◌≤◌, ◌⊎◌, true, false, List, [], ◌++◌, length, Option, Some, None, IfSome}
+use Rattle.certificate.specs.declared.CertificateFault.{CertificateFault}
+use Rattle.certificate.specs.declared.CertificateFault.TheVariants.{NoMemory}
+use Rattle.certificate.specs.declared.progress.Progress.{Progress}
+use Rattle.certificate.specs.declared.parser.Parser.{Parser}
+use Rattle.certificate.specs.Line.{Line}
+use Rattle.certificate.specs.Order.{AreInOrder, front}
+use Rattle.certificate.specs.Progress.{Tracks}
+use Rattle.certificate.specs.Faults.{NoFeed, HasFault, most_bytes}
+
+-- Lines in order of which the text is this and what is kept is that.
+pub record Reached (p : Progress) (text : List ℕ) : Type 0 where
+  pub before : List Line
+  pub order : AreInOrder p.version before
+  pub tracks : Tracks p before
+  pub is : text ≡ front p.version before
+
+-- The whole lines that were read.
+abbrev pub HasRead : Option Progress → List ℕ → Type 0
+HasRead None text = text ≡ []
+HasRead (Some p) text = Reached p text
+
+-- The bytes are whole lines that were read, and a line so far.
+pub record Seen {A : Type 0} (p : Parser A) (bytes : List ℕ) : Type 0 where
+  pub tail : List ℕ
+  pub split : bytes ≡ p.text.items ++ tail
+  pub read : HasRead p.progress p.text.items
+  pub feed : NoFeed tail
+  pub line : p.is_long ≡ false → p.line.items ≡ tail
+  pub long : p.is_long ≡ true → 32768 < length tail
+
+-- No more bytes than may be read, and no more lines than bytes.
+pub record IsSmall {A : Type 0} (p : Parser A) : Type 0 where
+  pub count : p.count ≤ most_bytes
+  pub number : IfSome p.progress (λ g. g.number ≤ p.count + 2)
+
+-- Memory was wanting, or whatever follows the bytes, the text has this fault.
+abbrev pub Refuses : List ℕ → CertificateFault → Type 0
+Refuses bytes fault = (fault ≡ NoMemory) ⊎ ((rest : List ℕ) → HasFault (bytes ++ rest) fault)

@@ -4,3 +4,4 @@ pub mod FieldsLemmas
 pub mod RunLemmas
 pub mod DigitLemmas
 pub mod LineLemmas
+pub mod ParserLemmas

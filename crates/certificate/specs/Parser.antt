@@ -1,5 +1,5 @@
 -- What the parser of a certificate's text has seen.
-use Rattle.std.specs.Prelude.{◌≡◌, ℕ, ◌+◌, ◌<◌, ◌≤◌, ◌⊎◌, true, false, List, [], ◌++◌, length, Option, Some, None, IfSome}
+use Rattle.std.specs.Prelude.{◌≡◌, ℕ, ◌+◌, ◌<◌, ◌≤◌, ◌⊎◌, Bool, true, false, List, [], ◌++◌, length, Option, Some, None, IfSome}
 use Rattle.certificate.specs.declared.CertificateFault.{CertificateFault}
 use Rattle.certificate.specs.declared.CertificateFault.TheVariants.{NoMemory}
 use Rattle.certificate.specs.declared.progress.Progress.{Progress}
@@ -21,14 +21,19 @@ abbrev pub HasRead : Option Progress → List ℕ → Type 0
 HasRead None text = text ≡ []
 HasRead (Some p) text = Reached p text
 
--- The bytes are whole lines that were read, and a line so far.
-pub record Seen {A : Type 0} (p : Parser A) (bytes : List ℕ) : Type 0 where
+-- The bytes are whole lines that were read, whose text is kept, and a line so far, whose bytes are kept unless there are
+-- too many.
+pub record Parts (text : List ℕ) (progress : Option Progress) (line : List ℕ) (is_long : Bool) (bytes : List ℕ) : Type 0 where
   pub tail : List ℕ
-  pub split : bytes ≡ p.text.items ++ tail
-  pub read : HasRead p.progress p.text.items
+  pub split : bytes ≡ text ++ tail
+  pub read : HasRead progress text
   pub feed : NoFeed tail
-  pub line : p.is_long ≡ false → p.line.items ≡ tail
-  pub long : p.is_long ≡ true → 32768 < length tail
+  pub same : is_long ≡ false → line ≡ tail
+  pub long : is_long ≡ true → 32768 < length tail
+  pub full : is_long ≡ true → 32768 ≤ length line
+
+abbrev pub Seen : {A : Type 0} → Parser A → List ℕ → Type 0
+Seen p bytes = Parts p.text.items p.progress p.line.items p.is_long bytes
 
 -- No more bytes than may be read, and no more lines than bytes.
 pub record IsSmall {A : Type 0} (p : Parser A) : Type 0 where

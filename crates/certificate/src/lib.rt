@@ -4,6 +4,7 @@
 ghost use Rattle.certificate.specs.Sample.{SampleLaw};
 ghost use Rattle.certificate.specs.Line.{TextLaw};
 
+use std::alloc::Allocator;
 use thiserror::Error;
 
 mod fields;
@@ -18,6 +19,13 @@ pub enum Version {
     One,
     /// Facts and exits say which words MQ may hold.
     Two,
+}
+
+/// What is claimed of a program, so that a checker can test it: its text, and the version of that.
+#[derive(Drop)]
+pub struct Certificate<A: Allocator> {
+    version: Version,
+    text: Vec<u8, A>,
 }
 
 /// Why a text is no certificate.

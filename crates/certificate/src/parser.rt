@@ -5,11 +5,11 @@ ghost use Rattle.std.specs.Prelude.{IfSome, false};
 ghost use Rattle.certificate.specs.declared.Version.{Version as Spelled};
 ghost use Rattle.certificate.specs.declared.CertificateFault.TheVariants.{NoMemory};
 ghost use Rattle.certificate.specs.Spelling.{version_text};
-ghost use Rattle.certificate.specs.Faults.{most_bytes};
+ghost use Rattle.certificate.specs.Faults.{most_bytes, HasFault, IsText};
 ghost use Rattle.certificate.specs.Parser.{Seen, IsSmall, Refuses};
 
 use crate::progress::Progress;
-use crate::{CertificateFault, Version};
+use crate::{Certificate, CertificateFault, Version};
 use arrayvec::ArrayVec;
 use std::alloc::Allocator;
 
@@ -66,7 +66,7 @@ impl<A: Allocator> Parser<A> {
         ensures kept { MatchResult result
             (λ u. (self.new.text.items ≡ self.old.text.items ++ self.old.line.items ++ 10 ∷ []) ×
                 (self.new.line.items ≡ []) × (self.new.progress ≡ Some progress) × (self.new.is_long ≡ false))
-            (λ e. e ≡ NoMemory) }
+            (λ e. (e ≡ NoMemory) × (self.new.progress ≡ self.old.progress)) }
     {
         let Ok(()) = self.text.extend_from_slice(&self.line) else {
             return Err(CertificateFault::NoMemory);
@@ -139,5 +139,30 @@ impl<A: Allocator> Parser<A> {
             self.line.push(byte);
         }
         Ok(())
+    }
+
+    /// The certificate, where the bytes are a whole one.
+    pub fn finish(self) -> Result<Certificate<A>, CertificateFault>
+        requires { IsSmall self }
+        ensures { (bytes : List ℕ) → Seen self bytes → self.count ≡ length bytes →
+            MatchResult result (λ c. IsText c.version bytes × (c.text.items ≡ bytes)) (HasFault bytes) }
+    {
+        let Parser {
+            text,
+            progress,
+            line,
+            is_long,
+            count: _,
+        } = self;
+        match progress {
+            None => Err(CertificateFault::Version),
+            Some(progress) if progress.is_ended() && line.is_empty() && !is_long => {
+                Ok(Certificate {
+                    version: progress.version(),
+                    text,
+                })
+            }
+            Some(progress) => Err(CertificateFault::BadLine(progress.number())),
+        }
     }
 }

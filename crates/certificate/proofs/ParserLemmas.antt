@@ -11,10 +11,10 @@ use Rattle.certificate.specs.declared.progress.Progress.{Progress}
 use Rattle.certificate.specs.declared.line.Line.{Line as ReadLine}
 use Rattle.certificate.specs.Spelling.{version_text}
 use Rattle.certificate.specs.Line.{Line, line_text}
-use Rattle.certificate.specs.Order.{AreInOrder, front, IsBad, IsMisplaced, IsOneTooMany}
+use Rattle.certificate.specs.Order.{any, is_end, AreInOrder, front, IsBad, IsMisplaced, IsOneTooMany}
 use Rattle.certificate.specs.Progress.{Tracks, Takes}
 use Rattle.certificate.specs.Meaning.{said}
-use Rattle.certificate.specs.Faults.{most_bytes, NoFeed, HasLine, HasFaultyLine, HasRest, HasFault}
+use Rattle.certificate.specs.Faults.{most_bytes, NoFeed, HasLine, HasFaultyLine, HasRest, IsCut, HasFault}
 use Rattle.certificate.specs.Parser.{Reached, HasRead, Parts, Refuses}
 
 long_bad : (v : Version) (before : List Line) (bytes : List ℕ) → 32768 < length bytes → IsBad v before bytes
@@ -222,3 +222,28 @@ has_place n most e h = elim (cases_lt n most) [
   | inl a ↦ a
   | inr a ↦ absurd (let z : n ≡ most = omega arith in true≢false (sym (eq-eqb n most z) ∙ sym e))
 ]
+
+-- The bytes end without the end, or with something after it.
+pub cut : (text line bytes : List ℕ) (long : Bool) (o : Option Progress) (p : Progress) (n : ℕ) → o ≡ Some p → Parts text o line long bytes →
+    length bytes ≤ most_bytes → n ≡ p.number →
+    ((before : List Line) → Tracks p before → any is_end before ≡ true → long ≡ false → line ≡ [] → ⊥) → IsCut bytes n
+cut text line bytes long o p n is h few number lacks = record {
+  lines = record {
+    version = p.version;
+    before = g.before;
+    order = g.order;
+    rest = h.tail;
+    split = h.split ∙ ap (λ (x : List ℕ). x ++ h.tail) g.is;
+    feed = h.feed;
+  };
+  few = few;
+  number = number ∙ g.tracks.number;
+  lacks = λ ended none. go long refl none (λ q e. lacks g.before g.tracks ended q e);
+}
+  where
+    g : Reached p text
+    g = let z : HasRead (Some p) text = rw is at h.read in z
+
+    go : (c : Bool) → long ≡ c → h.tail ≡ [] → (long ≡ false → line ≡ [] → ⊥) → ⊥
+    go false q none lacks = lacks q (h.same q ∙ none)
+    go true q none lacks = let a : 32768 < length h.tail = h.long q in let b : length h.tail ≡ 0 = ap length none in omega arith

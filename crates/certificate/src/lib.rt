@@ -1,9 +1,13 @@
 //! Certificates: the claims about a program that a checker tests, and their spelling as text.
 #![tactic(auto)]
 
+ghost use Rattle.std.specs.Prelude.{◌≡◌, ◌⊎◌, IfOk, IfErr};
+ghost use Rattle.certificate.specs.declared.CertificateFault.TheVariants.{NoMemory};
+ghost use Rattle.certificate.specs.Faults.{IsText, HasFault};
 ghost use Rattle.certificate.specs.Sample.{SampleLaw};
 ghost use Rattle.certificate.specs.Line.{TextLaw};
 
+use crate::parser::Parser;
 use std::alloc::Allocator;
 use thiserror::Error;
 
@@ -26,6 +30,29 @@ pub enum Version {
 pub struct Certificate<A: Allocator> {
     version: Version,
     text: Vec<u8, A>,
+}
+
+impl<A: Allocator> Certificate<A> {
+    /// The certificate of a text.
+    ///
+    /// # Errors
+    ///
+    /// The first fault of the text in the order of its bytes, and at one line in the order `BadLine`,
+    /// `Order`, `TooMany`, `NoMemory`; at the first line it's `Version`. A text past 1,048,576 bytes
+    /// is `TooMany` where no line before has a fault, and one that ends without its end is `BadLine`
+    /// with the number of the line that is lacking.
+    pub fn parse(alloc: A, bytes: &[u8]) -> Result<Certificate<A>, CertificateFault>
+        ensures found { IfOk result (λ c. IsText c.version bytes.now × (c.text.items ≡ bytes.now)) }
+        ensures refused { IfErr result (λ fault. (fault ≡ NoMemory) ⊎ HasFault bytes.now fault) }
+    {
+        let mut parser = Parser::new(alloc);
+        for byte in bytes {
+            if let Err(fault) = parser.take(*byte) {
+                return Err(fault);
+            }
+        }
+        parser.finish()
+    }
 }
 
 /// Why a text is no certificate.

@@ -154,15 +154,18 @@ impl<A: Allocator> Parser<A> {
             is_long,
             count: _,
         } = self;
-        match progress {
-            None => Err(CertificateFault::Version),
-            Some(progress) if progress.is_ended() && line.is_empty() && !is_long => {
-                Ok(Certificate {
-                    version: progress.version(),
-                    text,
-                })
-            }
-            Some(progress) => Err(CertificateFault::BadLine(progress.number())),
+        let Some(progress) = progress else {
+            return Err(CertificateFault::Version);
+        };
+        if !progress.is_ended() {
+            return Err(CertificateFault::BadLine(progress.number()));
         }
+        if is_long || !line.is_empty() {
+            return Err(CertificateFault::BadLine(progress.number()));
+        }
+        Ok(Certificate {
+            version: progress.version(),
+            text,
+        })
     }
 }

@@ -1,3 +1,5 @@
+use Rattle.std.proofs.Common.{ℕ, List, Err, subst}
+use Rattle.certificate.specs.Progress.{Takes}
 use Rattle.certificate.proofs.ParserLemmas.{next_kept, next_refused, long_refused}
 use Rattle.certificate.proofs.parser.Parser.end_next.Goals as goal
 
@@ -15,4 +17,6 @@ returns-in-Ok-clause-seen g c = λ bytes h small.
 pub returns-in-Err-clause-seen : goal.returns-in-Err-clause-seen
 returns-in-Err-clause-seen g c = λ bytes h small.
     next_refused c.args.self.now.text.items c.args.self.now.line.items bytes c.args.self.now.progress c.args.progress c.accept.new.self c.in-Err.fault
-    c.requires.next (rw c.if-self.false at h) small (λ before k. rw c.deref.ensures.0 at (c.in-Err.ensures.lines before k))
+    c.requires.next (rw c.if-self.false at h) small (λ before k.
+    subst (λ (x : List ℕ). Takes c.args.progress.version before x c.accept.new.self (Err c.in-Err.fault)) c.deref.ensures.0
+    (c.in-Err.ensures.lines before k))

@@ -5,3 +5,4 @@ pub mod RunLemmas
 pub mod DigitLemmas
 pub mod LineLemmas
 pub mod ParserLemmas
+pub mod LengthLemmas

@@ -7,6 +7,6 @@ pub mod Covers
 pub mod Starting
 pub mod Alike
 pub mod EntailLemmas
-pub mod ChangeLemmas
+pub mod KnownLemmas
 pub mod StartLemmas
 pub mod AgreeLemmas

@@ -17,12 +17,6 @@ use arrayvec::ArrayVec;
 use word12::Word;
 use wordset::{Links, WordSet};
 
-/// The most tracked cells of a fact.
-pub const MOST_CELLS: usize = 64;
-
-/// The most equations of a fact.
-pub const MOST_EQUATIONS: usize = 32;
-
 /// A tracked cell and the words that it may hold.
 ///
 /// Contracts see it as `tracked_of` gives it.
@@ -179,7 +173,8 @@ impl Fact {
     pub fn track(&mut self, cell: Word, set: WordSet)
         requires { length (statement_of self.old).cells < 64 }
         ensures statement { statement_of self.new ≡ record (statement_of self.old) {
-            cells = (statement_of self.old).cells ++ record { address = cell; set = words set } ∷ [] } }
+          cells = (statement_of self.old).cells ++ record { address = cell; set = words set } ∷ [];
+        } }
         ensures offsets { offsets_of self.new.offsets ≡ offsets_of self.old.offsets }
     {
         self.cells.push(TrackedCell { cell, set });
@@ -196,7 +191,8 @@ impl Fact {
     pub fn relate(&mut self, equation: Equation)
         requires { length (statement_of self.old).equations < 32 }
         ensures statement { statement_of self.new ≡ record (statement_of self.old) {
-            equations = (statement_of self.old).equations ++ equation_of equation ∷ [] } }
+          equations = (statement_of self.old).equations ++ equation_of equation ∷ [];
+        } }
         ensures offsets { offsets_of self.new.offsets ≡ offsets_of self.old.offsets }
     {
         self.equations.push(Equation {

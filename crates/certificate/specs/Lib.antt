@@ -9,3 +9,4 @@ pub mod Order
 pub mod Progress
 pub mod Faults
 pub mod Parser
+pub mod Kept

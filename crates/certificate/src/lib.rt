@@ -1,14 +1,18 @@
 //! Certificates: the claims about a program that a checker tests, and their spelling as text.
 #![tactic(auto)]
 
-ghost use Rattle.std.specs.Prelude.{◌≡◌, ◌⊎◌, IfOk, IfErr};
+ghost use Rattle.std.specs.Prelude.{◌≡◌, ◌⊎◌, false, is_err, IfOk, IfErr, OnOk, OnErr};
+ghost use Rattle.std.specs.Io.KnownBytes.{Appends};
+ghost use Rattle.streams.specs.Bytes.{AppendsFront};
 ghost use Rattle.certificate.specs.declared.CertificateFault.TheVariants.{NoMemory};
 ghost use Rattle.certificate.specs.Faults.{IsText, HasFault};
+ghost use Rattle.certificate.specs.Kept.{version_of, text_of};
 ghost use Rattle.certificate.specs.Sample.{SampleLaw};
 ghost use Rattle.certificate.specs.Line.{TextLaw};
 
 use crate::parser::Parser;
 use std::alloc::Allocator;
+use streams::{ByteSink, put};
 use thiserror::Error;
 
 mod fields;
@@ -42,7 +46,8 @@ impl<A: Allocator> Certificate<A> {
     /// is `TooMany` where no line before has a fault, and one that ends without its end is `BadLine`
     /// with the number of the line that is lacking.
     pub fn parse(alloc: A, bytes: &[u8]) -> Result<Certificate<A>, CertificateFault>
-        ensures found { IfOk result (λ c. IsText c.version bytes.now × (c.text.items ≡ bytes.now)) }
+        ensures found { IfOk result (λ c. IsText (version_of c) bytes.now) }
+        ensures text { IfOk result (λ c. text_of c ≡ bytes.now) }
         ensures refused { IfErr result (λ fault. (fault ≡ NoMemory) ⊎ HasFault bytes.now fault) }
     {
         let mut parser = Parser::new(alloc);
@@ -53,7 +58,37 @@ impl<A: Allocator> Certificate<A> {
         }
         parser.finish()
     }
+
+    /// The version of its text.
+    pub fn version(&self) -> Version
+        ensures { result ≡ version_of self.now }
+    {
+        self.version
+    }
+
+    /// Writes its text. The sink has met no failure yet.
+    ///
+    /// # Errors
+    ///
+    /// `WriteFault` where a write failed or took nothing, which the mark shows; a front of the text
+    /// went out before it.
+    pub fn write<W: ByteSink>(&self, sink: &mut W) -> Result<(), WriteFault>
+        requires unmarked { W.mark sink.old ≡ false }
+        ensures whole { OnOk result (Appends (W.taken sink.old) (W.taken sink.new) (text_of self.now)) }
+        ensures front { OnErr result (AppendsFront (W.taken sink.old) (W.taken sink.new) (text_of self.now)) }
+        ensures marks { W.mark sink.new ≡ is_err result }
+    {
+        match put(sink, &self.text) {
+            Ok(()) => Ok(()),
+            Err(_) => Err(WriteFault),
+        }
+    }
 }
+
+/// A write failed or took nothing.
+#[derive(Clone, Copy, PartialEq, Eq, Debug, Error)]
+#[error("WriteFault")]
+pub struct WriteFault;
 
 /// Why a text is no certificate.
 #[derive(Clone, Copy, PartialEq, Eq, Debug, Error)]

@@ -38,16 +38,16 @@ nothing_more : (b : Bool) (x : List ℕ) → (if b && false then x else []) ≡ 
 nothing_more true x = refl
 nothing_more false x = refl
 
-mark_first : (s : Words) (a : ℕ) → begins s a ≡ true → mark s a ≡ comma s a ++ octal_text a
+pub mark_first : (s : Words) (a : ℕ) → begins s a ≡ true → mark s a ≡ comma s a ++ octal_text a
 mark_first s a e = rw e (rw (nothing_more (ends s a) (codes "-" ++ octal_text a)) (append-nil (comma s a ++ octal_text a)))
 
-mark_last : (s : Words) (a : ℕ) → begins s a ≡ false → ends s a ≡ true → mark s a ≡ codes "-" ++ octal_text a
+pub mark_last : (s : Words) (a : ℕ) → begins s a ≡ false → ends s a ≡ true → mark s a ≡ codes "-" ++ octal_text a
 mark_last s a e f = rw (e, f) refl
 
-mark_none : (s : Words) (a : ℕ) → begins s a ≡ false → ends s a ≡ false → mark s a ≡ []
+pub mark_none : (s : Words) (a : ℕ) → begins s a ≡ false → ends s a ≡ false → mark s a ≡ []
 mark_none s a e f = rw (e, f) refl
 
-absent : (s : Words) (a : ℕ) → s a ≡ false → mark s a ≡ []
+pub absent : (s : Words) (a : ℕ) → s a ≡ false → mark s a ≡ []
 absent s a e = mark_none s a (rw e refl) (rw e refl)
 
 marks_split : (k n : ℕ) (s : Words) → marks (k + n) s ≡ marks n s ++ written k n s

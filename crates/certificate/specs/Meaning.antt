@@ -1,4 +1,4 @@
--- What the lines that were read say.
+-- What the lines that were read say; it serves private contracts.
 use Rattle.std.specs.Prelude.{◌≡◌, ℕ, ◌<◌}
 use Rattle.wordset.specs.Words.{Words, SameWords, SameLinks}
 use Rattle.wordset.specs.Lanes.{words}

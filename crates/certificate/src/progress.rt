@@ -8,8 +8,8 @@ ghost use Rattle.certificate.specs.Order.{any, is_end, may_stand, is_detail, pla
 ghost use Rattle.certificate.specs.Progress.{Tracks, TracksOthers, Fits, Takes};
 ghost use Rattle.certificate.specs.Meaning.{said};
 
-use crate::{CertificateFault, Version};
 use crate::line::{Line, read_line};
+use crate::{CertificateFault, Version};
 use facts::{Equation, Name};
 
 /// What is kept of the lines that were read.

@@ -64,7 +64,11 @@ fn fault(alloc: Global, lines: &[&str]) -> Result<Option<CertificateFault>, Allo
 }
 
 /// The fault of the lines of HELLO with another in place of one of them.
-fn fault_with(alloc: Global, number: usize, line: &'static str) -> Result<Option<CertificateFault>, AllocError>
+fn fault_with(
+    alloc: Global,
+    number: usize,
+    line: &'static str,
+) -> Result<Option<CertificateFault>, AllocError>
     requires { number < 35 }
 {
     let mut lines = HELLO;
@@ -105,19 +109,44 @@ fn lines_have_one_spelling(rt: HostRuntime) -> Result<(), Fail> {
 
 #[test]
 fn faults_are_told_in_order(rt: HostRuntime) -> Result<(), Fail> {
-    assert_eq!(rt; fault_with(rt.alloc(), 0, "PDP8-CERTIFICATE 3")?, Some(CertificateFault::Version));
-    assert_eq!(rt; fault_with(rt.alloc(), 0, "PDP8-CERTIFICATE 2")?, Some(CertificateFault::BadLine(3)));
-    assert_eq!(rt; fault_with(rt.alloc(), 1, "cell 0010 0224")?, Some(CertificateFault::BadLine(2)));
-    assert_eq!(rt; fault_with(rt.alloc(), 4, "fact 0201 ac 0000 link 0 offsets -")?, Some(CertificateFault::Order(5)));
-    assert_eq!(rt; fault_with(rt.alloc(), 33, "end")?, Some(CertificateFault::BadLine(35)));
+    assert_eq!(rt;
+        fault_with(rt.alloc(), 0, "PDP8-CERTIFICATE 3")?,
+        Some(CertificateFault::Version)
+    );
+    assert_eq!(rt;
+        fault_with(rt.alloc(), 0, "PDP8-CERTIFICATE 2")?,
+        Some(CertificateFault::BadLine(3))
+    );
+    assert_eq!(rt;
+        fault_with(rt.alloc(), 1, "cell 0010 0224")?,
+        Some(CertificateFault::BadLine(2))
+    );
+    assert_eq!(rt;
+        fault_with(rt.alloc(), 4, "fact 0201 ac 0000 link 0 offsets -")?,
+        Some(CertificateFault::Order(5))
+    );
+    assert_eq!(rt;
+        fault_with(rt.alloc(), 33, "end")?,
+        Some(CertificateFault::BadLine(35))
+    );
     let front = &HELLO[..34];
-    assert_eq!(rt; fault(rt.alloc(), front)?, Some(CertificateFault::BadLine(35)));
-    assert_eq!(rt; fault(rt.alloc(), &HELLO[..0])?, Some(CertificateFault::Version));
+    assert_eq!(rt;
+        fault(rt.alloc(), front)?,
+        Some(CertificateFault::BadLine(35))
+    );
+    assert_eq!(rt;
+        fault(rt.alloc(), &HELLO[..0])?,
+        Some(CertificateFault::Version)
+    );
     Ok(())
 }
 
 /// The answer to a text where the allocation of this number is refused, and whether one was.
-fn refused_at<A: Allocator + Copy>(alloc: A, count: u64, text: &[u8]) -> (Option<CertificateFault>, bool) {
+fn refused_at<A: Allocator + Copy>(
+    alloc: A,
+    count: u64,
+    text: &[u8],
+) -> (Option<CertificateFault>, bool) {
     let heap = Refusing::new(alloc, count);
     let answer = Certificate::parse(&heap, text).err();
     let refused = heap.has_refused();
@@ -126,7 +155,11 @@ fn refused_at<A: Allocator + Copy>(alloc: A, count: u64, text: &[u8]) -> (Option
 
 /// Whether a text is answered so where nothing is refused, and by NoMemory at each growth that is
 /// refused in turn.
-fn answers_in_turn<A: Allocator + Copy>(alloc: A, text: &[u8], expected: Option<CertificateFault>) -> bool {
+fn answers_in_turn<A: Allocator + Copy>(
+    alloc: A,
+    text: &[u8],
+    expected: Option<CertificateFault>,
+) -> bool {
     for count in 0..200u64 {
         let (answer, refused) = refused_at(alloc, count, text);
         if !refused {

@@ -1,6 +1,6 @@
 //! Certificates: the program that prints HELLO, with one change or another.
 
-ghost use Rattle.std.specs.Prelude.{◌≡◌, false};
+ghost use Rattle.std.specs.Prelude.{◌<◌};
 
 use certificate::{Certificate, CertificateFault, Version};
 use std::alloc::{AllocError, Allocator, Global};

@@ -1,5 +1,5 @@
 -- How many bytes a line of a certificate has at most.
-use Rattle.std.proofs.Common.{◌≡◌, ◌⊎◌, ℕ, zero, suc, ◌+◌, ◌-◌, ◌*◌, ◌<◌, ◌≤◌, ◌==◌, Bool, true, false, not, ◌&&◌, ◌||◌, List, [], ◌∷◌, ◌++◌, length, refl, ap, ◌∙◌, sym, inl, inr, arith, length-append}
+use Rattle.std.proofs.Common.{◌≡◌, ◌⊎◌, ℕ, zero, suc, ◌+◌, ◌-◌, ◌*◌, ◌<◌, ◌≤◌, ◌==◌, Bool, true, false, ◌&&◌, List, [], ◌∷◌, ◌++◌, length, refl, ap, inl, inr, arith, length-append}
 use Rattle.std.specs.Prelude.{if◌then◌else◌, codes}
 use Rattle.std.proofs.lemmas.Bool.{true≢false, false≢true, ne_eqb}
 use Rattle.word12.specs.Words.{octal_text}
@@ -124,7 +124,7 @@ unfolding marks
 marks_short zero s h = omega arith
 marks_short (suc n) s h =
     let more : 3 * (length (marks n s) + length (mark s n)) ≤ 10 * suc n + slack s (suc n) =
-        one_more n (length (marks n s)) s (omega arith) (marks_short n s (omega arith)) in
+    one_more n (length (marks n s)) s (omega arith) (marks_short n s (omega arith)) in
     omega (arith, length-append (marks n s) (mark s n))
 
 set_short : (s : Words) → length (set_text s) ≤ 13656
@@ -171,9 +171,13 @@ words_short v r =
     let a : length (set_text r.ac) ≤ 13656 = set_short r.ac in
     let b : length (mq_text v r.mq) ≤ 13660 = mq_short v r.mq in
     let c : length (digits 2 r.link) ≤ 2 = digits_short 2 r.link in
-    omega (arith, length-append (codes " ac ") (set_text r.ac), length-append (codes " ac " ++ set_text r.ac) (mq_text v r.mq),
-    length-append (codes " ac " ++ set_text r.ac ++ mq_text v r.mq) (codes " link "),
-    length-append (codes " ac " ++ set_text r.ac ++ mq_text v r.mq ++ codes " link ") (digits 2 r.link))
+    omega (
+      arith,
+      length-append (codes " ac ") (set_text r.ac),
+      length-append (codes " ac " ++ set_text r.ac) (mq_text v r.mq),
+      length-append (codes " ac " ++ set_text r.ac ++ mq_text v r.mq) (codes " link "),
+      length-append (codes " ac " ++ set_text r.ac ++ mq_text v r.mq ++ codes " link ") (digits 2 r.link),
+    )
 
 name_short : (n : Name) → length (name_text n) ≤ 4
 name_short Ac = omega arith
@@ -197,8 +201,11 @@ pub line_short : (v : Version) (l : Line) → length (line_text v l) ≤ 32768
 line_short v (RoutineIs r) =
     let a : length (set_text r.sites) ≤ 13656 = set_short r.sites in
     let b : length (set_text r.writes) ≤ 13656 = set_short r.writes in
-    omega (arith, eight (codes "routine ") (octal_text r.entry) (codes " rank ") (rank_text r.rank) (codes " sites ") (set_text r.sites)
-    (codes " writes ") (set_text r.writes))
+    omega (
+      arith,
+      eight (codes "routine ") (octal_text r.entry) (codes " rank ") (rank_text r.rank) (codes " sites ") (set_text r.sites)
+          (codes " writes ") (set_text r.writes),
+    )
 line_short v (FactIs a r offsets) =
     let b : length (words_text v r) ≤ 27330 = words_short v r in
     let c : length (offsets_text offsets) ≤ 8 = offsets_short offsets in

@@ -1,7 +1,7 @@
 -- A certificate's text taken byte by byte.
-use Rattle.std.proofs.Common.{◌≡◌, ◌≢◌, ◌⊎◌, ℕ, zero, suc, ◌+◌, ◌-◌, ◌<◌, ◌≤◌, ◌==◌, Bool, true, false, List, [], ◌∷◌, ◌++◌, length, Option, Some, None, Result, Ok, Err, refl, ap, ◌∙◌, sym, subst, inl, inr, arith, append_assoc, append-nil, length-append, get_or, add-one, drop-cons, length-take-le}
+use Rattle.std.proofs.Common.{◌≡◌, ◌≢◌, ◌⊎◌, ℕ, ◌+◌, ◌<◌, ◌≤◌, ◌==◌, Bool, true, false, List, [], ◌∷◌, ◌++◌, length, Option, Some, None, Result, Ok, Err, refl, ap, ◌∙◌, sym, subst, inl, inr, arith, append_assoc, append-nil, length-append, get_or, add-one, drop-cons, length-take-le}
 use Rattle.std.specs.Prelude.{IfSome, IfOk, IfErr, MatchResult, take, drop}
-use Rattle.std.proofs.lemmas.Bool.{true≢false, false≢true, eqb-true, eq-eqb, cases_lt}
+use Rattle.std.proofs.lemmas.Bool.{true≢false, eqb-true, eq-eqb, cases_lt}
 use Rattle.std.proofs.Math.Seq.{take-append_seam}
 use Rattle.std.proofs.lemmas.List.{take-append-drop}
 use Rattle.certificate.specs.declared.Version.{Version}
@@ -205,7 +205,8 @@ one_too_many text line bytes progress long b count h most e =
       (let t : take most_bytes (bytes ++ b ∷ [] ++ rest) ≡ bytes =
           ap (λ (x : List ℕ). take most_bytes x) (append_assoc bytes (b ∷ []) rest) ∙
           (ap (λ k. take k (bytes ++ (b ∷ rest))) (sym n) ∙ take-append_seam bytes (b ∷ rest)) in
-      rw t (whole progress h))))
+          rw t (whole progress h)),
+    ))
   where
     whole : (o : Option Progress) → Parts text o line long bytes → NoFeed bytes ⊎ HasRest bytes
     whole None h = inl (let z : text ≡ [] = h.read in let w : bytes ≡ h.tail = h.split ∙ rw z refl in rw w h.feed)

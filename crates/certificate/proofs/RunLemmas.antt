@@ -1,15 +1,14 @@
 -- A set read run by run.
-use Rattle.std.proofs.Common.{◌≡◌, ◌≢◌, ◌⊎◌, ℕ, zero, suc, ◌+◌, ◌-◌, ◌/◌, ◌<◌, ◌≤◌, ◌==◌, Bool, true, false, not, ◌&&◌, ◌||◌, List, [], ◌∷◌, ◌++◌, length, Option, Some, None, refl, ap, ◌∙◌, sym, subst, inl, inr, arith, append_assoc, append-nil, length-append}
-use Rattle.std.specs.Prelude.{if◌then◌else◌, codes, nat_le, IfSome}
+use Rattle.std.proofs.Common.{◌≡◌, ◌⊎◌, ℕ, suc, ◌+◌, ◌-◌, ◌/◌, ◌<◌, ◌≤◌, Bool, true, false, ◌&&◌, ◌||◌, List, [], ◌∷◌, ◌++◌, length, Option, Some, None, refl, ap, ◌∙◌, sym, subst, inl, inr, arith, append_assoc, length-append}
+use Rattle.std.specs.Prelude.{nat_le, IfSome}
 use Rattle.std.specs.Option.{IsSomeAnd}
-use Rattle.std.proofs.lemmas.Bool.{true≢false, false≢true, eqb-true, eq-eqb, ne_eqb, cases_lt}
+use Rattle.std.proofs.lemmas.Bool.{true≢false, false≢true, eq-eqb, ne_eqb, cases_lt}
 use Rattle.std.proofs.lemmas.Bool.Decides.{nat_tests}
-use Rattle.word12.specs.Words.{octal_text}
 use Rattle.wordset.specs.Words.{Words, SameWords, nothing, between, union, some_below, has_some}
-use Rattle.wordset.proofs.Tests.{IsSome, some_from, some_to, some_none_of, none_of_some}
+use Rattle.wordset.proofs.Tests.{IsSome, some_from, some_none_of, none_of_some}
 use Rattle.certificate.specs.Spelling.{marks, set_text}
 use Rattle.certificate.specs.Fields.{run_text, NoDash, EndsField}
-use Rattle.certificate.proofs.SetLemmas.{rest, comma, Run, None_from, whole_rest, none_rest, run_rest, StartsAt, starts_after, Next, gap_after, next_run}
+use Rattle.certificate.proofs.SetLemmas.{rest, comma, Run, None_from, whole_rest, none_rest, run_rest, StartsAt, starts_after, gap_after, next_run}
 
 -- The two sets have the same words below n.
 abbrev pub SameBelow : ℕ → Words → Words → Type 0

@@ -65,7 +65,7 @@ impl<A: Allocator> Parser<A> {
         ensures same { self.new.count ≡ self.old.count }
         ensures kept { MatchResult result
             (λ u. (self.new.text.items ≡ self.old.text.items ++ self.old.line.items ++ 10 ∷ []) ×
-                (self.new.line.items ≡ []) × (self.new.progress ≡ Some progress) × (self.new.is_long ≡ false))
+            (self.new.line.items ≡ []) × (self.new.progress ≡ Some progress) × (self.new.is_long ≡ false))
             (λ e. (e ≡ NoMemory) × (self.new.progress ≡ self.old.progress)) }
     {
         let Ok(()) = self.text.extend_from_slice(&self.line) else {

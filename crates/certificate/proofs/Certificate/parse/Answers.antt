@@ -1,4 +1,4 @@
-use Rattle.std.proofs.Common.{ℕ, List, take, ◌≡◌}
+use Rattle.std.proofs.Common.{take, ◌≡◌}
 use Rattle.certificate.specs.Faults.{IsText, HasFault}
 use Rattle.certificate.proofs.ParserLemmas.{parsed, if_first, if_second, if_refused, refused_at, count_taken}
 use Rattle.certificate.proofs.Certificate.parse.Goals as goal

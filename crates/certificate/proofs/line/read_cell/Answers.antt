@@ -1,4 +1,4 @@
-use Rattle.std.proofs.Common.{refl, ap, ◌∙◌, List, ℕ, [], Some}
+use Rattle.std.proofs.Common.{ap, ◌∙◌, List, ℕ, [], Some}
 use Rattle.std.proofs.lemmas.Bool.{false≢true}
 use Rattle.certificate.proofs.LineLemmas.{cell_fields}
 use Rattle.certificate.proofs.line.read_cell.Goals as goal

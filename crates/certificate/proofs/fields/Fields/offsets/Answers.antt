@@ -1,7 +1,7 @@
 use Rattle.std.proofs.Common.{refl}
 use Rattle.facts.specs.Meaning.{offsets_of}
 use Rattle.certificate.specs.Fields.{left}
-use Rattle.certificate.proofs.DigitLemmas.{DigitsAre, dash_read, offsets_read, offsets_fail, has_offset}
+use Rattle.certificate.proofs.DigitLemmas.{dash_read, offsets_read, offsets_fail, has_offset}
 use Rattle.certificate.proofs.fields.Fields.offsets.Goals as goal
 
 pub returns-then-takes-clause-read : goal.returns-then-takes-clause-read

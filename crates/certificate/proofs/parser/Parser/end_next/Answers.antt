@@ -9,7 +9,7 @@ returns-then-self-clause-seen g c = λ bytes h small.
     c.number.result c.requires.next c.if-self.true h small c.number.ensures
 
 pub returns-in-Ok-clause-seen : goal.returns-in-Ok-clause-seen
-returns-in-Ok-clause-seen g c = λ bytes h small. 
+returns-in-Ok-clause-seen g c = λ bytes h small.
     next_kept c.keep.result c.args.self.now.text.items c.args.self.now.line.items c.keep.new.self.text.items c.keep.new.self.line.items bytes
     c.args.self.now.progress c.keep.new.self.progress c.keep.new.self.is_long c.args.progress c.accept.new.self c.in-Ok.field-0 c.requires.next
     (rw c.if-self.false at h) c.in-Ok.ensures.version (λ before k. rw c.deref.ensures.0 at (c.in-Ok.ensures.lines before k)) c.keep.ensures.kept

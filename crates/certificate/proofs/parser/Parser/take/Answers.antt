@@ -12,6 +12,6 @@ returns-then-is_full-clause-seen g c = λ bytes h e.
     c.if-byte-eq10.false (is_full _ _ c.if-is_full.ensures.value)
 
 pub returns-else-is_full-clause-seen : goal.returns-else-is_full-clause-seen
-returns-else-is_full-clause-seen g c = λ bytes h e. 
+returns-else-is_full-clause-seen g c = λ bytes h e.
     pushed c.args.self.now.text.items c.args.self.now.line.items c.push.new.self.items bytes c.args.self.now.progress c.args.self.now.is_long c.args.byte h
     c.if-byte-eq10.false (has_place _ _ c.if-is_full.ensures.value c.if-is_full.ensures.fits) c.push.ensures.items

@@ -17,12 +17,6 @@ use arrayvec::ArrayVec;
 use word12::Word;
 use wordset::{Links, WordSet};
 
-/// The most tracked cells of a fact.
-pub const MOST_CELLS: usize = 64;
-
-/// The most equations of a fact.
-pub const MOST_EQUATIONS: usize = 32;
-
 /// A tracked cell and the words that it may hold.
 ///
 /// Contracts see it as `tracked_of` gives it.

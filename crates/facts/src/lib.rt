@@ -14,7 +14,7 @@ mod names;
 mod offsets;
 
 pub use entailment::{entails, entails_return, holds_before, narrowed};
-pub use fact::{Fact, MOST_CELLS, MOST_EQUATIONS, TrackedCell};
+pub use fact::{Fact, TrackedCell};
 pub use known::Known;
 pub use names::{Equation, Name};
 pub use offsets::Offsets;
@@ -75,3 +75,6 @@ pub fn start_law()
 pub fn same_law()
     ensures { SameLaw }
 {}
+
+#[cfg(test)]
+mod tests;

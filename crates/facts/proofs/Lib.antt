@@ -11,3 +11,4 @@ pub mod ChangeLemmas
 pub mod StartLemmas
 pub mod AgreeLemmas
 pub mod ChangingLemmas
+pub mod PlaceLemmas

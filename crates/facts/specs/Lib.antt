@@ -8,3 +8,4 @@ pub mod Starts
 pub mod Same
 pub mod Meaning
 pub mod Showing
+pub mod Places

@@ -12,12 +12,14 @@ mod fact;
 mod known;
 mod names;
 mod offsets;
+mod place;
 
 pub use entailment::{entails, entails_return, holds_before, narrowed};
 pub use fact::{Fact, TrackedCell};
 pub use known::Known;
 pub use names::{Equation, Name};
 pub use offsets::Offsets;
+pub use place::{Place, Running};
 
 /// The conditions that a certificate must meet.
 #[derive(Clone, Copy, PartialEq, Eq, Debug)]

@@ -12,3 +12,4 @@ pub mod StartLemmas
 pub mod AgreeLemmas
 pub mod ChangingLemmas
 pub mod PlaceLemmas
+pub mod OutcomeLemmas

@@ -9,3 +9,4 @@ pub mod Same
 pub mod Meaning
 pub mod Showing
 pub mod Places
+pub mod Slots

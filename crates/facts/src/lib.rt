@@ -12,6 +12,7 @@ mod fact;
 mod known;
 mod names;
 mod offsets;
+mod outcome;
 mod place;
 
 pub use entailment::{entails, entails_return, holds_before, narrowed};
@@ -19,6 +20,7 @@ pub use fact::{Fact, TrackedCell};
 pub use known::Known;
 pub use names::{Equation, Name};
 pub use offsets::Offsets;
+pub use outcome::Outcome;
 pub use place::{Place, Running};
 
 /// The conditions that a certificate must meet.

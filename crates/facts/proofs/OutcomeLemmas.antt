@@ -1,0 +1,52 @@
+-- Outcomes that agree.
+use Rattle.std.proofs.Common.{◌≡◌, ℕ, ◌+◌, ◌<◌, ◌%◌, ◌==◌, Bool, true, false, ◌&&◌, ◌||◌, Option, Some, None, List, [], ◌∷◌, ◌++◌, refl, sym, ap, ◌∙◌, arith}
+use Rattle.std.specs.Prelude.{if◌then◌else◌}
+use Rattle.wordset.specs.Words.{plus, Words, SameWords, SameLinks, one, everything, some_below, has_some, has_link}
+use Rattle.facts.specs.Facts.{Name, Ac, Cell, Fact, narrowed}
+use Rattle.facts.specs.Outcomes.{Outcome, Goes, CallsTo, Returns, alive, given, goes}
+use Rattle.facts.specs.Same.{Agree, AgreeingOutcome, AgreeingOutcomes}
+use Rattle.facts.proofs.Alike.{some_same}
+use Rattle.facts.proofs.AgreeLemmas.{narrowed_agree}
+
+pub has_same : {s t : Words} → SameWords s t → has_some s ≡ has_some t
+has_same {s} {t} e = some_same 4096 s t e
+
+pub alive_agree : {p q s t : Words} {f g h i : Fact} → SameWords p q → Agree f g → SameWords s t → Agree h i → alive p f s h ≡ alive q g t i
+alive_agree {p} {q} {s} {t} {f} {g} {h} {i} ep a es b =
+    let x1 : has_some p ≡ has_some q = has_same ep in
+    let x2 : has_some (narrowed f Ac) ≡ has_some (narrowed g Ac) = has_same (narrowed_agree a Ac) in
+    let x3 : has_some (h.set Ac) ≡ has_some (i.set Ac) = has_same (b.sets Ac) in
+    let x4 : has_some h.mq ≡ has_some i.mq = has_same b.mq in
+    let x5 : has_link h.link ≡ has_link i.link = some_same 2 h.link i.link b.link in
+    let x6 : has_some s ≡ has_some t = has_same es in
+    rw (x1, x2, x3, x4, x5, x6) refl
+
+pub given_agree : (a b : Bool) (o : Outcome) (p : Outcome) → a ≡ b → AgreeingOutcome o p → AgreeingOutcomes (given a o) (given b p)
+given_agree true true o p e h = (h, tt)
+given_agree false false o p e h = tt
+given_agree true false o p e h = absurd (cc)
+given_agree false true o p e h = absurd (cc)
+
+pub goes_some : {a b : Bool} (m n : Words) (f g : Fact) → a ≡ true → a ≡ b → SameWords m n → Agree f g → AgreeingOutcomes (Goes m f ∷ []) (given b (Goes n g))
+goes_some {a} {b} m n f g t e w h = let y : b ≡ true = sym e ∙ t in rw y ((w, h), tt)
+
+pub calls_some : {a b : Bool} (m n : Words) (f g : Fact) → a ≡ true → a ≡ b → SameWords m n → Agree f g → AgreeingOutcomes (CallsTo m f ∷ []) (given b (CallsTo n g))
+calls_some {a} {b} m n f g t e w h = let y : b ≡ true = sym e ∙ t in rw y ((w, h), tt)
+
+pub returns_some : {a b : Bool} (f g : Fact) → a ≡ true → a ≡ b → Agree f g → AgreeingOutcomes (Returns f ∷ []) (given b (Returns g))
+returns_some {a} {b} f g t e h = let y : b ≡ true = sym e ∙ t in rw y (h, tt)
+
+pub given_none : {a b : Bool} (p : Outcome) → a ≡ false → a ≡ b → AgreeingOutcomes [] (given b p)
+given_none {a} {b} p t e = let y : b ≡ false = sym e ∙ t in rw y tt
+
+pub append_agree : (a b c d : List Outcome) → AgreeingOutcomes a b → AgreeingOutcomes c d → AgreeingOutcomes (a ++ c) (b ++ d)
+append_agree [] [] c d h k = k
+append_agree [] (p ∷ ps) c d h k = absurd h
+append_agree (o ∷ os) [] c d h k = absurd h
+append_agree (o ∷ os) (p ∷ ps) c d h k = (h.0, append_agree os ps c d h.1 k)
+
+pub one_at : {s : Words} {n m : ℕ} → s ≡ one n → n ≡ m → SameWords s (one m)
+one_at {s} {n} {m} e h v lt = ap (λ (x : Words). x v) e ∙ ap (λ k. v == k) h
+
+pub plus_two : (a n m : ℕ) → n ≡ (a + 1) % 4096 → m ≡ (n + 1) % 4096 → m ≡ plus a 2
+plus_two a n m h g = omega arith

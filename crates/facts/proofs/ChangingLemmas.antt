@@ -1,14 +1,16 @@
 -- What happens to what is known.
-use Rattle.std.proofs.Common.{◌≡◌, ℕ, ◌+◌, ◌<◌, ◌==◌, Bool, true, false, ◌&&◌, ◌||◌, List, [], ◌∷◌, ◌++◌, map, refl, sym, ap, ◌∙◌, arith}
+use Rattle.std.proofs.Common.{◌≡◌, ℕ, ◌+◌, ◌<◌, ◌==◌, Bool, true, false, ◌&&◌, ◌||◌, List, [], ◌∷◌, ◌++◌, map, refl, sym, ap, subst, ◌∙◌, arith}
 use Rattle.std.proofs.Math.Path.{fun_ext}
 use Rattle.std.specs.Prelude.{if◌then◌else◌, nat_lt, not}
 use Rattle.std.proofs.lemmas.Bool.{ltb-true}
+use Rattle.std.proofs.lemmas.List.{map-append}
+use Rattle.wordset.specs.declared.links.Links.{Links as CodeLinks}
 use Rattle.arrayvec.specs.ArrayVec.{ArrayVec}
 use Rattle.wordset.specs.Words.{plus, minus, Words, SameWords, SameLinks, one, shifted, union}
 use Rattle.wordset.specs.Lanes.{words}
 use Rattle.wordset.specs.Links.{links_of}
 use Rattle.facts.specs.Facts.{Name, Ac, Cell, same, Fact, Equation, narrowed, has_cell}
-use Rattle.facts.specs.Changes.{moved_equations, free_of, cells_of, with_set, moved, assigned, smeared, smeared_set, with_name, with_equations, with_mq, with_link, with_offsets}
+use Rattle.facts.specs.Changes.{moved_equations, free_of, cells_of, with_set, copied, moved, assigned, smeared, smeared_set, with_name, with_equations, with_mq, with_link, with_offsets}
 use Rattle.facts.specs.Same.{Agree}
 use Rattle.facts.proofs.Numbers.{minus_lt}
 use Rattle.facts.proofs.AgreeLemmas.{agree_refl, agree_trans, narrowed_agree}
@@ -172,3 +174,51 @@ mq_agree h e = record { sets = h.sets; mq = e; link = h.link; equations = h.equa
 
 pub name_agree : {f g : Fact} {s t : Words} (n : Name) → Agree f g → SameWords s t → Agree (with_name n s f) (with_name n t g)
 name_agree {f} {g} {s} {t} n h e = record { sets = with_set_same f.set g.set s t n h.sets e; mq = h.mq; link = h.link; equations = h.equations; offsets = h.offsets }
+
+pub same_agrees : (k : Known) (es : ArrayVec CodeEquation) → es.items ≡ k.equations.items → Agree (known_of (record k { equations = es })) (known_of k)
+same_agrees k es e = record { sets = sets; mq = λ v lt. refl; link = λ l lt. refl; equations = ap (map equation_of) e; offsets = λ o lt. refl }
+  where
+    sets : (n : Name) → SameWords (known_set (record k { equations = es }) n) (known_set k n)
+    sets Ac v lt = refl
+    sets (Cell a) v lt = refl
+
+pub holding_agrees : (k : Known) (set : List ℕ) → Agree (known_of (record k { ac = set })) (with_name Ac (words set) (known_of k))
+holding_agrees k set = record { sets = ac_sets k set (words set) (λ v lt. refl); mq = λ v lt. refl; link = λ l lt. refl; equations = refl; offsets = λ o lt. refl }
+
+pub link_agrees : (k : Known) (l : CodeLinks) → Agree (known_of (record k { link = l })) (with_link (links_of l) (known_of k))
+link_agrees k l = record { sets = sets; mq = λ v lt. refl; link = λ n lt. refl; equations = refl; offsets = λ o lt. refl }
+  where
+    sets : (n : Name) → SameWords (known_set (record k { link = l }) n) (known_set k n)
+    sets Ac v lt = refl
+    sets (Cell a) v lt = refl
+
+pub mq_agrees : (k : Known) (set : List ℕ) → Agree (known_of (record k { mq = set })) (with_mq (words set) (known_of k))
+mq_agrees k set = record { sets = sets; mq = λ v lt. refl; link = λ n lt. refl; equations = refl; offsets = λ o lt. refl }
+  where
+    sets : (n : Name) → SameWords (known_set (record k { mq = set }) n) (known_set k n)
+    sets Ac v lt = refl
+    sets (Cell a) v lt = refl
+
+pub told_agrees : (k : Known) (es more : ArrayVec CodeEquation) → es.items ≡ more.items ++ k.equations.items → Agree (known_of (record k { equations = es })) (with_equations (map equation_of more.items) (known_of k))
+told_agrees k es more e = record { sets = sets; mq = λ v lt. refl; link = λ n lt. refl; equations = ap (map equation_of) e ∙ map-append equation_of more.items k.equations.items; offsets = λ o lt. refl }
+  where
+    sets : (n : Name) → SameWords (known_set (record k { equations = es }) n) (known_set k n)
+    sets Ac v lt = refl
+    sets (Cell a) v lt = refl
+
+pub deposited_agree : (f g h i : Fact) (s : Words) (y : ℕ) (es : List Equation) (zero : Words) → Agree g (assigned (Cell y) s f) → Agree h (with_equations es g) → zero ≡ one 0 →
+    Agree i (assigned Ac zero h) → Agree i (assigned Ac (one 0) (with_equations es (assigned (Cell y) s f)))
+deposited_agree f g h i s y es zero put told z done =
+    agree_trans done (assigned_agree Ac (agree_trans told (told_agree es put)) (λ v lt. ap (λ (x : Words). x v) z))
+
+pub deposited_words : {f g : Fact} {s t : Words} → Agree f g → (y : ℕ) → SameWords s t →
+    Agree (assigned Ac (one 0) (with_equations (copied y f.equations) (assigned (Cell y) s f))) (assigned Ac (one 0) (with_equations (copied y g.equations) (assigned (Cell y) t g)))
+deposited_words {f} {g} {s} {t} h y e =
+    let es : copied y f.equations ≡ copied y g.equations = ap (copied y) h.equations in
+    subst (λ xs. Agree (assigned Ac (one 0) (with_equations (copied y f.equations) (assigned (Cell y) s f))) (assigned Ac (one 0) (with_equations xs (assigned (Cell y) t g)))) es
+    (assigned_agree Ac (told_agree (copied y f.equations) (assigned_agree (Cell y) h e)) (λ v lt. refl))
+
+pub stored_words : {f g k r : Fact} {p q s t zero : Words} → Agree f g → SameWords p q → SameWords s t → Agree k (smeared p (λ y. s) f) → zero ≡ one 0 → Agree r (assigned Ac zero k) →
+    Agree r (assigned Ac (one 0) (smeared q (λ y. t) g))
+stored_words h e n put z done =
+    agree_trans done (assigned_agree Ac (agree_trans put (smeared_agree h e (λ y. n))) (λ v lt. ap (λ (x : Words). x v) z))

@@ -154,4 +154,99 @@ impl<'a> Known<'a> {
             offsets: self.offsets,
         }
     }
+
+    /// The same.
+    pub(crate) fn same(&self) -> Known<'a>
+        ensures same { Agree (known_of result) (known_of self.now) }
+        ensures target { result.target ≡ self.now.target }
+        ensures len { array_vec_len result.equations ≤ array_vec_len self.now.equations }
+    {
+        Known {
+            base: self.base,
+            ac: self.ac,
+            mq: self.mq,
+            link: self.link,
+            pointer: self.pointer,
+            target: self.target,
+            equations: copy(&self.equations),
+            offsets: self.offsets,
+        }
+    }
+
+    /// With other words of the accumulator; its equations stay.
+    pub(crate) fn holding(self, set: WordSet) -> Known<'a>
+        ensures { Agree (known_of result) (with_name Ac (words set) (known_of self.entry)) }
+    {
+        Known {
+            base: self.base,
+            ac: set,
+            mq: self.mq,
+            link: self.link,
+            pointer: self.pointer,
+            target: self.target,
+            equations: self.equations,
+            offsets: self.offsets,
+        }
+    }
+
+    /// With other links.
+    pub(crate) fn with_link(self, links: Links) -> Known<'a>
+        ensures { Agree (known_of result) (with_link (links_of links) (known_of self.entry)) }
+    {
+        Known {
+            base: self.base,
+            ac: self.ac,
+            mq: self.mq,
+            link: links,
+            pointer: self.pointer,
+            target: self.target,
+            equations: self.equations,
+            offsets: self.offsets,
+        }
+    }
+
+    /// With other words of MQ.
+    pub(crate) fn with_mq(self, set: WordSet) -> Known<'a>
+        ensures { Agree (known_of result) (with_mq (words set) (known_of self.entry)) }
+    {
+        Known {
+            base: self.base,
+            ac: self.ac,
+            mq: set,
+            link: self.link,
+            pointer: self.pointer,
+            target: self.target,
+            equations: self.equations,
+            offsets: self.offsets,
+        }
+    }
+
+    /// With further equations.
+    fn told(&self, more: Equations) -> Known<'a>
+        requires { array_vec_len more + array_vec_len self.now.equations ≤ 64 }
+        ensures { Agree (known_of result) (with_equations (map equation_of more.items) (known_of self.now)) }
+    {
+        Known {
+            base: self.base,
+            ac: self.ac,
+            mq: self.mq,
+            link: self.link,
+            pointer: self.pointer,
+            target: self.target,
+            equations: joined(more, &self.equations),
+            offsets: self.offsets,
+        }
+    }
+
+    /// After the accumulator's words were put into a cell, and it was cleared.
+    pub(crate) fn deposited(&self, cell: Word, set: WordSet) -> Known<'a>
+        requires target { IsUnchanged self.now.target }
+        requires room { array_vec_len self.now.equations ≤ 32 }
+        ensures { Agree (known_of result) (assigned Ac (one 0)
+            (with_equations (copied cell (known_of self.now).equations) (assigned (Cell cell) (words set) (known_of self.now)))) }
+    {
+        let put = self.with_cell(cell, set);
+        let told = put.told(copies(cell, &self.equations));
+        told.with_ac(WordSet::one(Word::ZERO))
+    }
 }

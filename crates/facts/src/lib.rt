@@ -14,6 +14,7 @@ mod names;
 mod offsets;
 mod outcome;
 mod place;
+mod references;
 
 pub use entailment::{entails, entails_return, holds_before, narrowed};
 pub use fact::{Fact, TrackedCell};

@@ -1,0 +1,74 @@
+//! The outcomes of the words that refer to memory.
+
+ghost use Rattle.std.specs.Prelude.{ℕ, ◌≡◌, ◌≤◌, ◌++◌};
+ghost use Rattle.arrayvec.specs.ArrayVec.{array_vec_len};
+ghost use Rattle.wordset.specs.Words.{Words, SameWords, everything, only};
+ghost use Rattle.wordset.specs.Lanes.{words};
+ghost use Rattle.facts.specs.Facts as said;
+ghost use Rattle.facts.specs.Outcomes.{alive, given, anded, dca_case, jmp, CallsTo};
+ghost use Rattle.facts.specs.Same.{Agree, AgreeingOutcomes};
+ghost use Rattle.facts.specs.Meaning.{known_of, IsUnchanged};
+ghost use Rattle.facts.specs.Places.{place_of};
+ghost use Rattle.facts.specs.Slots.{slot};
+
+use crate::known::Known;
+use crate::names::Name;
+use crate::outcome::{Outcome, address_after, calling, going, returning};
+use crate::place::Place;
+use std::alloc::Allocator;
+use word12::Word;
+use wordset::WordSet;
+
+/// DCA: the one target takes the accumulator's words and equations, or an unknown one of several
+/// its words; then the accumulator is 0.
+pub(crate) fn deposit<'a>(at: Word, known: &Known<'a>, targets: &WordSet) -> Option<Outcome<'a>>
+    requires target { IsUnchanged known.now.target }
+    requires room { array_vec_len known.now.equations ≤ 32 }
+    ensures { (place : said.Place) (f : said.Fact) (p : Words) → Agree (known_of known.now) f → SameWords (words targets.now) p →
+        AgreeingOutcomes (slot result) (dca_case place at f p (only p)) }
+{
+    let ac = known.narrowed(&Name::Accumulator);
+    let next = address_after(at);
+    match targets.only() {
+        Some(cell) => {
+            let after = known.deposited(cell, ac);
+            going(targets, known, &ac, &next, after)
+        }
+        None => {
+            let after = known.stored(targets, ac).with_ac(WordSet::one(Word::ZERO));
+            going(targets, known, &WordSet::all(), &next, after)
+        }
+    }
+}
+
+/// JMS calls each target.
+pub(crate) fn call<'a>(known: &Known<'a>, targets: &WordSet) -> Option<Outcome<'a>>
+    ensures { (f : said.Fact) (p : Words) → Agree (known_of known.now) f → SameWords (words targets.now) p →
+        AgreeingOutcomes (slot result) (given (alive p f everything f) (CallsTo p f)) }
+{
+    calling(targets, known, known.same())
+}
+
+impl<A: Allocator> Place<'_, A> {
+    /// AND: all a and v, for the words a of the accumulator and v of the targets.
+    pub(crate) fn combine<'a>(&self, at: Word, known: &Known<'a>, targets: &WordSet) -> Option<Outcome<'a>>
+        ensures { (f : said.Fact) (p : Words) → Agree (known_of known.now) f → SameWords (words targets.now) p →
+            AgreeingOutcomes (slot result) (anded (place_of self.now) at f p) }
+    {
+        let ac = known.narrowed(&Name::Accumulator);
+        let seen = self.words_at(known, targets);
+        let after = known.with_ac(ac.ands(&seen));
+        going(targets, known, &WordSet::all(), &address_after(at), after)
+    }
+
+    /// JMP goes to each target; JMP I through the running routine's own entry returns.
+    pub(crate) fn jump<'a>(&self, indirect: bool, named: Word, known: &Known<'a>, targets: &WordSet) -> Option<Outcome<'a>>
+        ensures { (f : said.Fact) (p : Words) → Agree (known_of known.now) f → SameWords (words targets.now) p →
+            AgreeingOutcomes (slot result) (jmp (place_of self.now) indirect named f p) }
+    {
+        if indirect && self.is_own(named) {
+            return returning(targets, known, known.same());
+        }
+        going(targets, known, &WordSet::all(), targets, known.same())
+    }
+}

@@ -1,5 +1,5 @@
 -- What happens to what is known.
-use Rattle.std.proofs.Common.{◌≡◌, ℕ, ◌+◌, ◌<◌, ◌==◌, Bool, true, false, ◌&&◌, ◌||◌, List, [], ◌∷◌, ◌++◌, map, refl, sym, ap, subst, ◌∙◌, arith}
+use Rattle.std.proofs.Common.{◌≡◌, ℕ, ◌+◌, ◌-◌, ◌<◌, ◌==◌, Bool, true, false, ◌&&◌, ◌||◌, List, [], ◌∷◌, ◌++◌, map, refl, sym, ap, subst, ◌∙◌, arith}
 use Rattle.std.proofs.Math.Path.{fun_ext}
 use Rattle.std.specs.Prelude.{if◌then◌else◌, nat_lt, not}
 use Rattle.std.proofs.lemmas.Bool.{ltb-true}
@@ -14,10 +14,11 @@ use Rattle.facts.specs.Changes.{moved_equations, free_of, cells_of, with_set, co
 use Rattle.facts.specs.Same.{Agree}
 use Rattle.facts.proofs.Numbers.{minus_lt}
 use Rattle.facts.proofs.AgreeLemmas.{agree_refl, agree_trans, narrowed_agree}
+use Rattle.facts.specs.declared.offsets.Offsets.{Offsets}
 use Rattle.facts.specs.declared.known.Known.{Known}
 use Rattle.facts.specs.declared.names.Equation.{Equation as CodeEquation}
 use Rattle.facts.specs.declared.known.Change.TheVariants.{Unchanged, Replaced, Counted, Stored}
-use Rattle.facts.specs.Meaning.{known_of, known_set, equation_of, changed, IsUnchanged, source_words}
+use Rattle.facts.specs.Meaning.{known_of, known_set, equation_of, offsets_of, changed, IsUnchanged, source_words}
 
 pub ac_sets : (k : Known) (set : List ℕ) (new : Words) → SameWords (words set) new → (n : Name) → SameWords (known_set (record k { ac = set }) n) (with_set Ac new (known_set k) n)
 ac_sets k set new s Ac v lt = s v lt
@@ -222,3 +223,21 @@ pub stored_words : {f g k r : Fact} {p q s t zero : Words} → Agree f g → Sam
     Agree r (assigned Ac (one 0) (smeared q (λ y. t) g))
 stored_words h e n put z done =
     agree_trans done (assigned_agree Ac (agree_trans put (smeared_agree h e (λ y. n))) (λ v lt. ap (λ (x : Words). x v) z))
+
+pub later_agrees : (k : Known) (es : ArrayVec CodeEquation) (o : Offsets) → es.items ≡ k.equations.items → ((n : ℕ) → n < 8 → offsets_of o n ≡ (if n == 0 then false else offsets_of k.offsets (n - 1))) →
+    Agree (known_of (record k { equations = es; offsets = o })) (with_offsets (λ n. if n == 0 then false else (known_of k).offsets (n - 1)) (known_of k))
+later_agrees k es o e h = record { sets = sets; mq = λ v lt. refl; link = λ n lt. refl; equations = ap (map equation_of) e; offsets = h }
+  where
+    sets : (n : Name) → SameWords (known_set (record k { equations = es; offsets = o }) n) (known_set k n)
+    sets Ac v lt = refl
+    sets (Cell a) v lt = refl
+
+pub later_agree : {f g : Fact} → Agree f g → Agree (with_offsets (λ n. if n == 0 then false else f.offsets (n - 1)) f) (with_offsets (λ n. if n == 0 then false else g.offsets (n - 1)) g)
+later_agree {f} {g} h = record { sets = h.sets; mq = h.mq; link = h.link; equations = h.equations; offsets = offsets }
+  where
+    offsets : (n : ℕ) → n < 8 → (if n == 0 then false else f.offsets (n - 1)) ≡ (if n == 0 then false else g.offsets (n - 1))
+    offsets n lt = go (n == 0)
+      where
+        go : (b : Bool) → (if b then false else f.offsets (n - 1)) ≡ (if b then false else g.offsets (n - 1))
+        go true = refl
+        go false = h.offsets (n - 1) (omega arith)

@@ -1,9 +1,10 @@
 -- Outcomes that agree.
-use Rattle.std.proofs.Common.{◌≡◌, ℕ, ◌+◌, ◌<◌, ◌%◌, ◌==◌, Bool, true, false, ◌&&◌, ◌||◌, Option, Some, None, List, [], ◌∷◌, ◌++◌, refl, sym, ap, ◌∙◌, arith}
+use Rattle.std.proofs.Common.{◌≡◌, ℕ, ◌+◌, ◌-◌, ◌<◌, ◌%◌, ◌==◌, Bool, true, false, not, ◌&&◌, ◌||◌, Option, Some, None, List, [], ◌∷◌, ◌++◌, refl, sym, ap, ◌∙◌, arith}
 use Rattle.std.specs.Prelude.{if◌then◌else◌}
-use Rattle.wordset.specs.Words.{plus, Words, SameWords, SameLinks, one, everything, some_below, has_some, has_link}
-use Rattle.facts.specs.Facts.{Name, Ac, Cell, Fact, narrowed}
-use Rattle.facts.specs.Outcomes.{Outcome, Goes, CallsTo, Returns, alive, given, goes}
+use Rattle.wordset.specs.Words.{plus, Words, SameWords, SameLinks, one, everything, some_below, has_some, has_link, without, shifted, difference}
+use Rattle.facts.specs.Facts.{Name, Ac, Cell, Fact, Place, narrowed}
+use Rattle.facts.specs.Outcomes.{Outcome, Goes, CallsTo, Returns, alive, given, goes, isz_case}
+use Rattle.facts.specs.Changes.{moved, with_name, with_offsets}
 use Rattle.facts.specs.Same.{Agree, AgreeingOutcome, AgreeingOutcomes}
 use Rattle.facts.proofs.Alike.{some_same}
 use Rattle.facts.proofs.AgreeLemmas.{narrowed_agree}
@@ -50,3 +51,25 @@ one_at {s} {n} {m} e h v lt = ap (λ (x : Words). x v) e ∙ ap (λ k. v == k) h
 
 pub plus_two : (a n m : ℕ) → n ≡ (a + 1) % 4096 → m ≡ (n + 1) % 4096 → m ≡ plus a 2
 plus_two a n m h g = omega arith
+
+-- ISZ of one cell
+pub isz_variable : (pl : Place) (at : ℕ) (f : Fact) (p : Words) (y : ℕ) (a b : List Outcome) → pl.declaration.variable y ≡ true →
+    AgreeingOutcomes a (given (narrowed f (Cell y) 4095 && alive p f (one 0) (with_name (Cell y) (one 0) (moved (Cell y) 1 f))) (Goes (one (plus at 2)) (with_name (Cell y) (one 0) (moved (Cell y) 1 f)))) →
+    AgreeingOutcomes b (goes p f (without 0 (shifted (narrowed f (Cell y)) 1)) (one (plus at 1)) (with_name (Cell y) (without 0 (shifted (narrowed f (Cell y)) 1)) (moved (Cell y) 1 f))) →
+    AgreeingOutcomes (a ++ b) (isz_case pl at f p (Some y))
+isz_variable pl at f p y a b var h k = rw var (append_agree a _ b _ h k)
+
+pub isz_own : (pl : Place) (at : ℕ) (f : Fact) (p : Words) (y : ℕ) (a : List Outcome) → pl.declaration.variable y ≡ false →
+    AgreeingOutcomes a (goes p f everything (one (plus at 1)) (with_offsets (λ o. if o == 0 then false else f.offsets (o - 1)) f)) →
+    AgreeingOutcomes a (isz_case pl at f p (Some y))
+isz_own pl at f p y a var h = rw var h
+
+pub left_over : {s r zero : Words} (m : Words) (k : ℕ) → k ≡ 1 → SameWords s (shifted m k) → zero ≡ one 0 → r ≡ difference s zero → SameWords r (without 0 (shifted m 1))
+left_over {s} {r} {zero} m k e h z d v lt =
+    ap (λ (x : Words). x v) d ∙ ap (λ b. b && not (zero v)) (h v lt) ∙ ap (λ n. shifted m n v && not (zero v)) e ∙ ap (λ (x : Words). shifted m 1 v && not (x v)) z ∙ go (v == 0) (shifted m 1 v)
+  where
+    go : (b c : Bool) → (c && not b) ≡ (if b then false else c)
+    go true true = refl
+    go true false = refl
+    go false true = refl
+    go false false = refl

@@ -1,19 +1,20 @@
 //! What happens to what is known: a word that counts up or takes a new value, one of several cells
 //! that changes.
 
-ghost use Rattle.std.specs.Prelude.{ℕ, ◌≡◌, ◌≤◌, ◌+◌, map};
+ghost use Rattle.std.specs.Prelude.{ℕ, ◌≡◌, ◌≤◌, ◌+◌, ◌-◌, ◌==◌, ◌∷◌, [], if◌then◌else◌, false, map};
 ghost use Rattle.arrayvec.specs.ArrayVec.{array_vec_len};
 ghost use Rattle.wordset.specs.Words.{one, shifted};
 ghost use Rattle.wordset.specs.Lanes.{words};
 ghost use Rattle.wordset.specs.Links.{links_of};
 ghost use Rattle.facts.specs.Facts.{Ac, Cell};
-ghost use Rattle.facts.specs.Changes.{copied, moved, assigned, smeared, with_equations, with_name, with_mq, with_link};
+ghost use Rattle.facts.specs.Changes.{copied, moved, assigned, smeared, with_equations, with_name, with_mq, with_link, with_offsets};
 ghost use Rattle.facts.specs.Same.{Agree};
 ghost use Rattle.facts.specs.Meaning.{equation_of, known_of, IsUnchanged};
 
 use crate::equations::{Equations, copies, copy, freed, freed_of_cells, joined, raised};
 use crate::known::{Change, Known};
-use crate::names::Name;
+use crate::names::{Equation, Name};
+use arrayvec::ArrayVec;
 use word12::Word;
 use wordset::{Links, WordSet};
 
@@ -219,6 +220,46 @@ impl<'a> Known<'a> {
             equations: self.equations,
             offsets: self.offsets,
         }
+    }
+
+    /// After the running routine's return word went up by one.
+    pub(crate) fn returning_later(&self) -> Known<'a>
+        ensures { Agree (known_of result)
+            (with_offsets (λ o. if o == 0 then false else (known_of self.now).offsets (o - 1)) (known_of self.now)) }
+    {
+        Known {
+            base: self.base,
+            ac: self.ac,
+            mq: self.mq,
+            link: self.link,
+            pointer: self.pointer,
+            target: self.target,
+            equations: copy(&self.equations),
+            offsets: self.offsets.counted(),
+        }
+    }
+
+    /// After the accumulator's word went up by k, where these words of it are left.
+    pub(crate) fn raised_to(&self, k: Word, set: WordSet) -> Known<'a>
+        ensures { Agree (known_of result) (with_name Ac (words set) (moved Ac k (known_of self.now))) }
+    {
+        self.raised_ac(k).holding(set)
+    }
+
+    /// After the accumulator became the sum of a cell's word and another, where these words of it
+    /// are left.
+    pub(crate) fn summed(&self, cell: Word, more: Word, set: WordSet) -> Known<'a>
+        requires { array_vec_len self.now.equations ≤ 32 }
+        ensures { Agree (known_of result) (with_equations
+            (record { left = Ac; right = Cell cell; more = more } ∷ []) (assigned Ac (words set) (known_of self.now))) }
+    {
+        let mut first = ArrayVec::new();
+        first.push(Equation {
+            left: Name::Accumulator,
+            right: cell,
+            more,
+        });
+        self.with_ac(set).told(first)
     }
 
     /// With further equations.

@@ -5,7 +5,7 @@ ghost use Rattle.wordset.specs.Words.{Words, SameWords, has_some, has_link, ever
 ghost use Rattle.wordset.specs.Lanes.{words};
 ghost use Rattle.wordset.specs.Links.{links_of};
 ghost use Rattle.facts.specs.Facts.{Ac, Fact, narrowed};
-ghost use Rattle.facts.specs.Outcomes.{alive, given, goes, CallsTo, Returns};
+ghost use Rattle.facts.specs.Outcomes.{alive, given, goes, Goes, CallsTo, Returns};
 ghost use Rattle.facts.specs.Same.{Agree, AgreeingOutcomes};
 ghost use Rattle.facts.specs.Meaning.{known_of};
 ghost use Rattle.facts.specs.Slots.{slot};
@@ -78,6 +78,19 @@ pub(crate) fn going<'a>(targets: &WordSet, before: &Known<'_>, changed: &WordSet
 {
     if is_alive(targets, before, changed, &after) {
         Some(Outcome::Goes(*next, after))
+    } else {
+        None
+    }
+}
+
+/// The outcome that goes on at some addresses, where it is chosen and can come about.
+pub(crate) fn going_if<'a>(chosen: bool, targets: &WordSet, before: &Known<'_>, changed: &WordSet, next: &WordSet, after: Known<'a>) -> Option<Outcome<'a>>
+    ensures { (p changes nexts : Words) (f h : Fact) → SameWords (words targets.now) p → Agree (known_of before.now) f →
+        SameWords (words changed.now) changes → SameWords (words next.now) nexts → Agree (known_of after.entry) h →
+        AgreeingOutcomes (slot result) (given (chosen && alive p f changes h) (Goes nexts h)) }
+{
+    if chosen {
+        going(targets, before, changed, next, after)
     } else {
         None
     }

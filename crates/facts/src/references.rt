@@ -1,11 +1,11 @@
 //! The outcomes of the words that refer to memory.
 
-ghost use Rattle.std.specs.Prelude.{ℕ, ◌≡◌, ◌≤◌, ◌++◌};
+ghost use Rattle.std.specs.Prelude.{ℕ, ◌≡◌, ◌≤◌, ◌++◌, true, false, Some};
 ghost use Rattle.arrayvec.specs.ArrayVec.{array_vec_len};
 ghost use Rattle.wordset.specs.Words.{Words, SameWords, everything, only};
 ghost use Rattle.wordset.specs.Lanes.{words};
 ghost use Rattle.facts.specs.Facts as said;
-ghost use Rattle.facts.specs.Outcomes.{alive, given, anded, dca_case, jmp, CallsTo};
+ghost use Rattle.facts.specs.Outcomes.{alive, given, anded, dca_case, isz_case, jmp, CallsTo};
 ghost use Rattle.facts.specs.Same.{Agree, AgreeingOutcomes};
 ghost use Rattle.facts.specs.Meaning.{known_of, IsUnchanged};
 ghost use Rattle.facts.specs.Places.{place_of};
@@ -13,7 +13,7 @@ ghost use Rattle.facts.specs.Slots.{slot};
 
 use crate::known::Known;
 use crate::names::Name;
-use crate::outcome::{Outcome, address_after, calling, going, returning};
+use crate::outcome::{Outcome, address_after, address_skipped_to, calling, going, going_if, returning};
 use crate::place::Place;
 use std::alloc::Allocator;
 use word12::Word;
@@ -39,6 +39,38 @@ pub(crate) fn deposit<'a>(at: Word, known: &Known<'a>, targets: &WordSet) -> Opt
             going(targets, known, &WordSet::all(), &next, after)
         }
     }
+}
+
+/// ISZ of one variable: it skips where the variable was 7777, and otherwise leaves it not zero.
+pub(crate) fn count_one<'a>(at: Word, known: &Known<'a>, targets: &WordSet, cell: Word) -> (Option<Outcome<'a>>, Option<Outcome<'a>>)
+    requires { IsUnchanged known.now.target }
+    ensures { (place : said.Place) (f : said.Fact) (p : Words) → place.declaration.variable cell ≡ true →
+        Agree (known_of known.now) f → SameWords (words targets.now) p →
+        AgreeingOutcomes (slot result.0 ++ slot result.1) (isz_case place at f p (Some cell)) }
+{
+    let old = known.narrowed(&Name::Cell(cell));
+    let zero = WordSet::one(Word::ZERO);
+    let more = old.shift(Word::ZERO.increment()).minus(&zero);
+    let last = Word::ZERO.complement();
+    let skips = going_if(
+        old.contains(last),
+        targets,
+        known,
+        &zero,
+        &address_skipped_to(at),
+        known.counted_to(cell, zero),
+    );
+    let goes_on = going(targets, known, &more, &address_after(at), known.counted_to(cell, more));
+    (skips, goes_on)
+}
+
+/// ISZ of the running routine's own entry counts the offsets up.
+pub(crate) fn count_own<'a>(at: Word, known: &Known<'a>, targets: &WordSet, cell: Word) -> Option<Outcome<'a>>
+    ensures { (place : said.Place) (f : said.Fact) (p : Words) → place.declaration.variable cell ≡ false →
+        Agree (known_of known.now) f → SameWords (words targets.now) p →
+        AgreeingOutcomes (slot result) (isz_case place at f p (Some cell)) }
+{
+    going(targets, known, &WordSet::all(), &address_after(at), known.returning_later())
 }
 
 /// JMS calls each target.

@@ -13,3 +13,4 @@ pub mod AgreeLemmas
 pub mod ChangingLemmas
 pub mod PlaceLemmas
 pub mod OutcomeLemmas
+pub mod TadLemmas

@@ -2,10 +2,11 @@
 
 ghost use Rattle.std.specs.Prelude.{ℕ, ◌≡◌, ◌≤◌, ◌++◌, true, false, Some};
 ghost use Rattle.arrayvec.specs.ArrayVec.{array_vec_len};
-ghost use Rattle.wordset.specs.Words.{Words, SameWords, everything, only};
+ghost use Rattle.wordset.specs.Words.{Words, SameWords, everything, only, sums};
 ghost use Rattle.wordset.specs.Lanes.{words};
 ghost use Rattle.facts.specs.Facts as said;
-ghost use Rattle.facts.specs.Outcomes.{alive, given, anded, dca_case, isz_case, jmp, CallsTo};
+ghost use Rattle.facts.specs.Facts.{Ac, narrowed};
+ghost use Rattle.facts.specs.Outcomes.{alive, given, anded, tad_word, tad_case, tad, dca_case, isz_case, jmp, CallsTo};
 ghost use Rattle.facts.specs.Same.{Agree, AgreeingOutcomes};
 ghost use Rattle.facts.specs.Meaning.{known_of, IsUnchanged};
 ghost use Rattle.facts.specs.Places.{place_of};
@@ -73,6 +74,18 @@ pub(crate) fn count_own<'a>(at: Word, known: &Known<'a>, targets: &WordSet, cell
     going(targets, known, &WordSet::all(), &address_after(at), known.returning_later())
 }
 
+/// What is known after a sum: with one word added the accumulator's equations move by it, and
+/// otherwise they are dropped.
+fn after_sum<'a>(known: &Known<'a>, added: &Option<Word>, set: WordSet) -> Known<'a>
+    ensures { (f : said.Fact) (v : Words) → Agree (known_of known.now) f → SameWords (words set) (sums (narrowed f Ac) v) →
+        Agree (known_of result) (tad_word f v added.now) }
+{
+    match added {
+        Some(word) => known.raised_to(*word, set),
+        None => known.with_ac(set),
+    }
+}
+
 /// JMS calls each target.
 pub(crate) fn call<'a>(known: &Known<'a>, targets: &WordSet) -> Option<Outcome<'a>>
     ensures { (f : said.Fact) (p : Words) → Agree (known_of known.now) f → SameWords (words targets.now) p →
@@ -91,6 +104,41 @@ impl<A: Allocator> Place<'_, A> {
         let seen = self.words_at(known, targets);
         let after = known.with_ac(ac.ands(&seen));
         going(targets, known, &WordSet::all(), &address_after(at), after)
+    }
+
+    /// What is known of the accumulator after TAD: of one variable to one word it is their sum.
+    fn after_tad<'a>(&self, known: &Known<'a>, target: &Option<Word>, ac: &Option<Word>, added: &Option<Word>, set: WordSet) -> Known<'a>
+        requires { array_vec_len known.now.equations ≤ 32 }
+        ensures { (f : said.Fact) (v : Words) → Agree (known_of known.now) f → SameWords (words set) (sums (narrowed f Ac) v) →
+            Agree (known_of result) (tad_case (place_of self.now) f v target.now ac.now added.now) }
+    {
+        match target {
+            None => after_sum(known, added, set),
+            Some(cell) => match ac {
+                None => after_sum(known, added, set),
+                Some(word) => {
+                    if self.declaration.is_variable(*cell) {
+                        known.summed(*cell, *word, set)
+                    } else {
+                        after_sum(known, added, set)
+                    }
+                }
+            },
+        }
+    }
+
+    /// TAD: all sums, and the link complemented by the carries that occur.
+    pub(crate) fn add<'a>(&self, at: Word, known: &Known<'a>, targets: &WordSet) -> Option<Outcome<'a>>
+        requires { array_vec_len known.now.equations ≤ 32 }
+        ensures { (f : said.Fact) (p : Words) → Agree (known_of known.now) f → SameWords (words targets.now) p →
+            AgreeingOutcomes (slot result) (tad (place_of self.now) at f p) }
+    {
+        let ac = known.narrowed(&Name::Accumulator);
+        let seen = self.words_at(known, targets);
+        let (sums, carries) = ac.sums(&seen);
+        let links = known.link.toggled(carries);
+        let sum = self.after_tad(known, &targets.only(), &ac.only(), &seen.only(), sums);
+        going(targets, known, &WordSet::all(), &address_after(at), sum.with_link(links))
     }
 
     /// JMP goes to each target; JMP I through the running routine's own entry returns.

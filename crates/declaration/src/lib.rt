@@ -14,9 +14,9 @@ ghost use Rattle.declaration.specs.Kept.{cells, offsets_of, subroutine_of, routi
 use crate::drafts::Draft;
 use crate::lines::read_line;
 use instruct::Profile;
-use streams::text::Lines;
 use std::alloc::Allocator;
 use std::marker::Model;
+use streams::text::Lines;
 use thiserror::Error;
 use word12::Word;
 use wordset::WordSet;

@@ -2,8 +2,8 @@
 
 use crate::{Declaration, DeclarationFault};
 use instruct::Profile;
-use testing::Refusing;
 use std::test::Fail;
+use testing::Refusing;
 use word12::Word;
 
 /// The declaration of a program that types HELLO.

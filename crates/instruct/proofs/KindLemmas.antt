@@ -1,12 +1,16 @@
 -- The kind of a word and its meaning, one from the other.
-use Rattle.std.proofs.Common.{ℕ, ◌<◌, ◌≡◌, ◌/◌, ◌≤◌, ◌==◌, arith, refl, sym, ◌∙◌, ap, Bool, true, false, if◌then◌else◌, Option, Some, None}
+use Rattle.std.proofs.Common.{ℕ, ◌<◌, ◌≡◌, ◌/◌, ◌≤◌, ◌==◌, arith, refl, sym, ◌∙◌, ap, Bool, true, false, if◌then◌else◌, Option, Some, None, cond, List, [], ◌∷◌, ◌++◌, zero, suc}
+use Rattle.std.specs.List.{find}
+use Rattle.std.specs.Option.{option_map}
 use Rattle.std.proofs.lemmas.Bool.Decides.{nat_tests}
 use Rattle.instruct.specs.declared.Profile.{Profile}
 use Rattle.instruct.specs.declared.Profile.TheVariants.{Pdp8I, Pdp8E}
 use Rattle.instruct.specs.declared.Instruction.TheVariants.{Memory, Operate1, Operate2, Operate3, Iot, Unsupported}
-use Rattle.instruct.specs.Bits.{has_bit, is_indirect, named_cell, is_one_of}
+use Rattle.instruct.specs.declared.devices.DeviceOperation.{DeviceOperation}
+use Rattle.instruct.specs.Bits.{has_bit, is_indirect, named_cell}
+use Rattle.instruct.specs.Devices.{word_of, operations, more_operations, device_operation}
 use Rattle.instruct.specs.Operates.{MqOperate, mq_operate_of}
-use Rattle.instruct.specs.Instructions.{DeviceAction, Skips, Ors, Clears, Takes, Leaves, Meaning, And, Tad, Isz, Dca, Jms, Jmp, Group1, Group2, Group3, Device, Undefined, flag_tests, byte_readers, quiet_words, quiet_words_of_8e, device_action, device_meaning, is_group1, mq_meaning, group3_meaning, operate_meaning, meaning_of, kind_of}
+use Rattle.instruct.specs.Instructions.{DeviceAction, Skips, Ors, Clears, Takes, Leaves, Meaning, And, Tad, Isz, Dca, Jms, Jmp, Group1, Group2, Group3, Device, Undefined, processor_action, operation_of, reference, device_action, device_meaning, is_group1, mq_meaning, group3_meaning, operate_meaning, meaning_of, kind_of}
 
 pub memory_kind : (p : Profile) (at word : ℕ) → word / 512 < 6 → kind_of (meaning_of p at word) ≡ Memory
 unfolding meaning_of
@@ -136,20 +140,31 @@ device_meaning_of p at word is = device_of p word (meaning_of p at word) (shape 
 pub undefined_meaning : (p : Profile) (at word : ℕ) → kind_of (meaning_of p at word) ≡ Unsupported → meaning_of p at word ≡ Undefined
 undefined_meaning p at word is = undefined_of p word (meaning_of p at word) (shape p at word) is
 
-action_chain : (b c d e f g : Bool) (a : DeviceAction) →
-    (if b then Some Skips else (if c then Some Ors else (if d then Some Clears else (if e then Some Takes else (if f then Some Leaves else None))))) ≡ Some a →
-    (if b then Some Skips else (if c then Some Ors else (if d then Some Clears else (if e then Some Takes else (if f then Some Leaves else (if g then Some Leaves else None)))))) ≡ Some a
-action_chain true c d e f g a is = is
-action_chain false true d e f g a is = is
-action_chain false false true e f g a is = is
-action_chain false false false true f g a is = is
-action_chain false false false false true g a is = is
-action_chain false false false false false g a is = cc
+find_front : {X : Type 0} → (test : X → Bool) (xs ys : List X) (z : X) → find test xs ≡ Some z → find test (xs ++ ys) ≡ Some z
+find_front test [] ys z is = cc
+find_front test (x ∷ xs) ys z is = go (test x) (λ e. find_front test xs ys z e) is
+  where
+    go : (b : Bool) → (find test xs ≡ Some z → find test (xs ++ ys) ≡ Some z) → cond b (Some x) (find test xs) ≡ Some z → cond b (Some x) (find test (xs ++ ys)) ≡ Some z
+    go true rest e = e
+    go false rest e = rest e
+
+operation_of_8e : (word : ℕ) (o : DeviceOperation) → device_operation Pdp8I word ≡ Some o → device_operation Pdp8E word ≡ Some o
+unfolding device_operation
+operation_of_8e word o is = find_front (λ p. word == word_of p) operations (more_operations Pdp8E) o is
+
+mapped : (o : Option DeviceOperation) (a : DeviceAction) → option_map processor_action o ≡ Some a → (p : DeviceOperation) × (o ≡ Some p) × (processor_action p ≡ a)
+mapped (Some p) a is = (p, refl, some_is (processor_action p) a is)
+  where
+    some_is : (x y : DeviceAction) → Some x ≡ Some y → x ≡ y
+    some_is x y e = cc
+mapped None a is = cc
 
 -- the 8/E has each device word of the 8/I, with the same action
 pub action_of_8e : (p : Profile) (word : ℕ) (a : DeviceAction) → device_action p word ≡ Some a → device_action Pdp8E word ≡ Some a
 action_of_8e Pdp8E word a is = is
-action_of_8e Pdp8I word a is = action_chain (is_one_of flag_tests word) (is_one_of byte_readers word) (word == 0o6032) (word == 0o6036) (is_one_of quiet_words word) (is_one_of quiet_words_of_8e word) a is
+action_of_8e Pdp8I word a is =
+    let found = mapped (device_operation Pdp8I word) a is in
+    rw (operation_of_8e word found.0 found.1) (ap (λ x. Some x) found.2)
 
 -- the operation decides the meaning of a memory reference
 pub and_meaning : (p : Profile) (at word : ℕ) → word / 512 ≡ 0 → meaning_of p at word ≡ And (is_indirect word) (named_cell word at)
@@ -175,3 +190,17 @@ jms_meaning p at word is = rw is refl
 pub jmp_meaning : (p : Profile) (at word : ℕ) → word / 512 ≡ 5 → meaning_of p at word ≡ Jmp (is_indirect word) (named_cell word at)
 unfolding meaning_of
 jmp_meaning p at word is = rw is refl
+
+by_operation : (p : Profile) (at word k : ℕ) → k < 6 → word / 512 ≡ k → meaning_of p at word ≡ reference (operation_of word) (is_indirect word) (named_cell word at)
+unfolding meaning_of
+by_operation p at word zero h e = rw e refl
+by_operation p at word (suc zero) h e = rw e refl
+by_operation p at word (suc (suc zero)) h e = rw e refl
+by_operation p at word (suc (suc (suc zero))) h e = rw e refl
+by_operation p at word (suc (suc (suc (suc zero)))) h e = rw e refl
+by_operation p at word (suc (suc (suc (suc (suc zero))))) h e = rw e refl
+by_operation p at word (suc (suc (suc (suc (suc (suc k)))))) h e = absurd (omega arith)
+
+-- the operation, the indirect bit and the named cell are the meaning of a memory reference
+pub reference_meaning : (p : Profile) (at word : ℕ) → kind_of (meaning_of p at word) ≡ Memory → meaning_of p at word ≡ reference (operation_of word) (is_indirect word) (named_cell word at)
+reference_meaning p at word is = by_operation p at word (word / 512) (memory_operation p at word is) refl

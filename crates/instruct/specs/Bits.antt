@@ -1,14 +1,9 @@
 -- The bits of a word as arithmetic. The machine numbers them from the top; here bit k is the one of weight 2 ^ k.
-use Rattle.std.specs.Prelude.{ℕ, ◌+◌, ◌*◌, ◌/◌, ◌%◌, ◌^◌, Bool, ◌==◌, if◌then◌else◌, List}
-use Rattle.std.specs.List.{list_any}
+use Rattle.std.specs.Prelude.{ℕ, ◌+◌, ◌*◌, ◌/◌, ◌%◌, ◌^◌, Bool, ◌==◌, if◌then◌else◌}
 
 -- The bit of weight 2 ^ k is set.
 abbrev pub has_bit : ℕ → ℕ → Bool
 has_bit k word = (word / 2 ^ k % 2) == 1
-
--- The word is one of a list.
-abbrev pub is_one_of : List ℕ → ℕ → Bool
-is_one_of words word = list_any (λ w. w == word) words
 
 -- The cell that a memory reference names: its low seven bits, on the page of its own address where 0200 is set, else on
 -- page zero.

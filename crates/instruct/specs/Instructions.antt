@@ -1,10 +1,16 @@
 -- The instruction table: what each word of twelve bits means, where it stands, on a machine of each profile.
-use Rattle.std.specs.Prelude.{ℕ, ◌/◌, Bool, true, false, not, ◌&&◌, ◌||◌, ◌==◌, if◌then◌else◌, List, [], ◌∷◌, Option, Some, None}
+use Rattle.std.specs.Prelude.{ℕ, ◌≡◌, ◌/◌, Bool, true, false, not, ◌||◌, ◌==◌, if◌then◌else◌, Option, Some, None}
+use Rattle.std.specs.Option.{option_map}
 use Rattle.instruct.specs.declared.Profile.{Profile}
 use Rattle.instruct.specs.declared.Profile.TheVariants.{Pdp8I, Pdp8E}
 use Rattle.instruct.specs.declared.Instruction.{Instruction}
 use Rattle.instruct.specs.declared.Instruction.TheVariants.{Memory, Operate1, Operate2, Operate3, Iot, Unsupported}
-use Rattle.instruct.specs.Bits.{has_bit, is_one_of, named_cell, is_indirect}
+use Rattle.instruct.specs.declared.Operation.{Operation}
+use Rattle.instruct.specs.declared.Operation.TheVariants as operation
+use Rattle.instruct.specs.declared.devices.DeviceOperation.{DeviceOperation}
+use Rattle.instruct.specs.declared.devices.DeviceOperation.TheVariants.{DisableInterrupts, SkipOnReaderFlag, ReadReaderBuffer, FetchReaderFrame, ReadReaderBufferAndFetchFrame, SkipOnPunchFlag, ClearPunchFlag, Punch, ClearPunchFlagAndPunch, SkipOnKeyboardFlag, ClearKeyboardFlagAndAccumulator, ReadKeyboardBuffer, TakeKeyboardByte, SkipOnPrinterFlag, ClearPrinterFlag, Print, ClearPrinterFlagAndPrint, ClearKeyboardFlag, SetPrinterFlag}
+use Rattle.instruct.specs.Bits.{has_bit, named_cell, is_indirect}
+use Rattle.instruct.specs.Devices.{device_operation}
 use Rattle.instruct.specs.Operates.{MqOperate, mq_operate_of}
 
 -- What a device word does to the processor: it skips if a flag is set, ors a device's byte into the accumulator, clears
@@ -31,36 +37,34 @@ pub data Meaning : Type 0 where
   Device : DeviceAction → Meaning
   Undefined : Meaning
 
--- RSF, PSF, KSF and TSF.
-abbrev pub flag_tests : List ℕ
-flag_tests = 0o6011 ∷ 0o6021 ∷ 0o6031 ∷ 0o6041 ∷ []
-
--- RRB, RRB RFC and KRS.
-abbrev pub byte_readers : List ℕ
-byte_readers = 0o6012 ∷ 0o6016 ∷ 0o6034 ∷ []
-
--- IOF, RFC, PCF, PPC, PLS, TCF, TPC and TLS.
-abbrev pub quiet_words : List ℕ
-quiet_words = 0o6002 ∷ 0o6014 ∷ 0o6022 ∷ 0o6024 ∷ 0o6026 ∷ 0o6042 ∷ 0o6044 ∷ 0o6046 ∷ []
-
--- KCF and TFL, which the 8/E has beside them.
-abbrev pub quiet_words_of_8e : List ℕ
-quiet_words_of_8e = 0o6030 ∷ 0o6040 ∷ []
-
 abbrev pub is_8e : Profile → Bool
 is_8e Pdp8I = false
 is_8e Pdp8E = true
 
--- The device words; KCC is 6032 and KRB is 6036.
+abbrev pub processor_action : DeviceOperation → DeviceAction
+processor_action DisableInterrupts = Leaves
+processor_action SkipOnReaderFlag = Skips
+processor_action ReadReaderBuffer = Ors
+processor_action FetchReaderFrame = Leaves
+processor_action ReadReaderBufferAndFetchFrame = Ors
+processor_action SkipOnPunchFlag = Skips
+processor_action ClearPunchFlag = Leaves
+processor_action Punch = Leaves
+processor_action ClearPunchFlagAndPunch = Leaves
+processor_action SkipOnKeyboardFlag = Skips
+processor_action ClearKeyboardFlagAndAccumulator = Clears
+processor_action ReadKeyboardBuffer = Ors
+processor_action TakeKeyboardByte = Takes
+processor_action SkipOnPrinterFlag = Skips
+processor_action ClearPrinterFlag = Leaves
+processor_action Print = Leaves
+processor_action ClearPrinterFlagAndPrint = Leaves
+processor_action ClearKeyboardFlag = Leaves
+processor_action SetPrinterFlag = Leaves
+
+-- What a word does as a device word to the processor, or none.
 abbrev pub device_action : Profile → ℕ → Option DeviceAction
-device_action profile word =
-    if is_one_of flag_tests word then Some Skips
-    else (if is_one_of byte_readers word then Some Ors
-    else (if word == 0o6032 then Some Clears
-    else (if word == 0o6036 then Some Takes
-    else (if is_one_of quiet_words word then Some Leaves
-    else (if is_8e profile && is_one_of quiet_words_of_8e word then Some Leaves
-    else None)))))
+device_action profile word = option_map processor_action (device_operation profile word)
 
 abbrev pub device_meaning : Option DeviceAction → Meaning
 device_meaning (Some action) = Device action
@@ -99,6 +103,25 @@ meaning_of profile at word =
     else (if word / 512 == 5 then Jmp (is_indirect word) (named_cell word at)
     else (if word / 512 == 6 then device_meaning (device_action profile word)
     else operate_meaning profile word))))))
+
+-- The operation of a memory reference: its bits 0 to 2. Words from 6000 on, which refer to no memory, count as JMP.
+abbrev pub operation_of : ℕ → Operation
+operation_of word =
+    if word / 512 == 0 then operation.And
+    else (if word / 512 == 1 then operation.Tad
+    else (if word / 512 == 2 then operation.Isz
+    else (if word / 512 == 3 then operation.Dca
+    else (if word / 512 == 4 then operation.Jms
+    else operation.Jmp))))
+
+-- The meaning of a memory reference by its operation, its indirect bit and its named cell.
+abbrev pub reference : Operation → Bool → ℕ → Meaning
+reference operation.And indirect named = And indirect named
+reference operation.Tad indirect named = Tad indirect named
+reference operation.Isz indirect named = Isz indirect named
+reference operation.Dca indirect named = Dca indirect named
+reference operation.Jms indirect named = Jms indirect named
+reference operation.Jmp indirect named = Jmp indirect named
 
 -- The kind of a meaning, as the code names it.
 abbrev pub kind_of : Meaning → Instruction

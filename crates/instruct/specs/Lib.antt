@@ -1,4 +1,5 @@
 pub mod Bits
 pub mod Operates
+pub mod Devices
 pub mod Instructions
 pub mod Names

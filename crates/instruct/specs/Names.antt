@@ -1,20 +1,25 @@
 -- The names of the words, as a listing of a tape shows them.
-use Rattle.std.specs.Prelude.{ℕ, ◌≡◌, ◌+◌, ◌/◌, ◌%◌, Bool, ◌==◌, if◌then◌else◌, List, [], ◌∷◌, ◌++◌, length, codes}
+use Rattle.std.specs.Prelude.{ℕ, ◌≡◌, ◌+◌, ◌/◌, ◌%◌, Bool, ◌==◌, if◌then◌else◌, List, [], ◌∷◌, ◌++◌, length, codes, Option, Some, None}
 use Rattle.std.specs.List.{join_with_byte}
 use Rattle.instruct.specs.declared.Profile.{Profile}
 use Rattle.instruct.specs.declared.Instruction.{Instruction}
 use Rattle.instruct.specs.declared.Instruction.TheVariants.{Memory, Operate1, Operate2, Operate3, Iot, Unsupported}
 use Rattle.instruct.specs.Bits.{has_bit, is_indirect}
-use Rattle.instruct.specs.Instructions.{instruction_of}
+use Rattle.instruct.specs.declared.Operation.{Operation}
+use Rattle.instruct.specs.declared.Operation.TheVariants as operation
+use Rattle.instruct.specs.declared.devices.DeviceOperation.{DeviceOperation}
+use Rattle.instruct.specs.declared.devices.DeviceOperation.TheVariants.{DisableInterrupts, SkipOnReaderFlag, ReadReaderBuffer, FetchReaderFrame, ReadReaderBufferAndFetchFrame, SkipOnPunchFlag, ClearPunchFlag, Punch, ClearPunchFlagAndPunch, SkipOnKeyboardFlag, ClearKeyboardFlagAndAccumulator, ReadKeyboardBuffer, TakeKeyboardByte, SkipOnPrinterFlag, ClearPrinterFlag, Print, ClearPrinterFlagAndPrint, ClearKeyboardFlag, SetPrinterFlag}
+use Rattle.instruct.specs.Devices.{device_operation}
+use Rattle.instruct.specs.Instructions.{instruction_of, operation_of}
 
 -- The mnemonic of a memory reference by its operation.
-abbrev pub mnemonic : ℕ → List ℕ
-mnemonic operation =
-    if operation == 0 then codes "AND"
-    else (if operation == 1 then codes "TAD"
-    else (if operation == 2 then codes "ISZ"
-    else (if operation == 3 then codes "DCA"
-    else (if operation == 4 then codes "JMS" else codes "JMP"))))
+abbrev pub mnemonic : Operation → List ℕ
+mnemonic operation.And = codes "AND"
+mnemonic operation.Tad = codes "TAD"
+mnemonic operation.Isz = codes "ISZ"
+mnemonic operation.Dca = codes "DCA"
+mnemonic operation.Jms = codes "JMS"
+mnemonic operation.Jmp = codes "JMP"
 
 -- The place in a page as three octal digits; 48 is the code of the digit 0.
 abbrev pub place_digits : ℕ → List ℕ
@@ -23,7 +28,7 @@ place_digits place = (48 + place / 64) ∷ (48 + place / 8 % 8) ∷ (48 + place 
 -- The mnemonic, I if the reference is indirect, then Z for page zero or C for the current page with the place in it.
 abbrev pub memory_name : ℕ → List ℕ
 memory_name word =
-    mnemonic (word / 512) ++ (if is_indirect word then codes " I" else []) ++
+    mnemonic (operation_of word) ++ (if is_indirect word then codes " I" else []) ++
     (if has_bit 7 word then codes " C" else codes " Z") ++ place_digits (word % 128)
 
 -- A name that applies where a bit is set.
@@ -74,38 +79,43 @@ group3_name word =
     else (if word == 0o7621 then codes "CAM"
     else (if word == 0o7701 then codes "CLA MQA" else codes "CLA SWP"))))
 
-abbrev pub device_name : ℕ → List ℕ
-device_name word =
-    if word == 0o6002 then codes "IOF"
-    else (if word == 0o6011 then codes "RSF"
-    else (if word == 0o6012 then codes "RRB"
-    else (if word == 0o6014 then codes "RFC"
-    else (if word == 0o6016 then codes "RRB RFC"
-    else (if word == 0o6021 then codes "PSF"
-    else (if word == 0o6022 then codes "PCF"
-    else (if word == 0o6024 then codes "PPC"
-    else (if word == 0o6026 then codes "PLS"
-    else (if word == 0o6030 then codes "KCF"
-    else (if word == 0o6031 then codes "KSF"
-    else (if word == 0o6032 then codes "KCC"
-    else (if word == 0o6034 then codes "KRS"
-    else (if word == 0o6036 then codes "KRB"
-    else (if word == 0o6040 then codes "TFL"
-    else (if word == 0o6041 then codes "TSF"
-    else (if word == 0o6042 then codes "TCF"
-    else (if word == 0o6044 then codes "TPC" else codes "TLS")))))))))))))))))
+abbrev pub device_name : DeviceOperation → List ℕ
+device_name DisableInterrupts = codes "IOF"
+device_name SkipOnReaderFlag = codes "RSF"
+device_name ReadReaderBuffer = codes "RRB"
+device_name FetchReaderFrame = codes "RFC"
+device_name ReadReaderBufferAndFetchFrame = codes "RRB RFC"
+device_name SkipOnPunchFlag = codes "PSF"
+device_name ClearPunchFlag = codes "PCF"
+device_name Punch = codes "PPC"
+device_name ClearPunchFlagAndPunch = codes "PLS"
+device_name SkipOnKeyboardFlag = codes "KSF"
+device_name ClearKeyboardFlagAndAccumulator = codes "KCC"
+device_name ReadKeyboardBuffer = codes "KRS"
+device_name TakeKeyboardByte = codes "KRB"
+device_name SkipOnPrinterFlag = codes "TSF"
+device_name ClearPrinterFlag = codes "TCF"
+device_name Print = codes "TPC"
+device_name ClearPrinterFlagAndPrint = codes "TLS"
+device_name ClearKeyboardFlag = codes "KCF"
+device_name SetPrinterFlag = codes "TFL"
 
-abbrev pub name_by_kind : Instruction → ℕ → List ℕ
-name_by_kind Memory word = memory_name word
-name_by_kind Operate1 word = spaced (group1_names word)
-name_by_kind Operate2 word = spaced (group2_names word)
-name_by_kind Operate3 word = group3_name word
-name_by_kind Iot word = device_name word
-name_by_kind Unsupported word = codes "?"
+-- A word without a name is shown by a question mark.
+abbrev pub device_name_if : Option DeviceOperation → List ℕ
+device_name_if (Some operation) = device_name operation
+device_name_if None = codes "?"
+
+abbrev pub name_by_kind : Instruction → Profile → ℕ → List ℕ
+name_by_kind Memory profile word = memory_name word
+name_by_kind Operate1 profile word = spaced (group1_names word)
+name_by_kind Operate2 profile word = spaced (group2_names word)
+name_by_kind Operate3 profile word = group3_name word
+name_by_kind Iot profile word = device_name_if (device_operation profile word)
+name_by_kind Unsupported profile word = codes "?"
 
 -- The name of a word on a machine of a profile.
 unfoldable pub name_of : Profile → ℕ → List ℕ
-name_of profile word = name_by_kind (instruction_of profile word) word
+name_of profile word = name_by_kind (instruction_of profile word) profile word
 
 -- A text is some names, with one space between two.
 pub record IsSpaced (names : List (List ℕ)) (text : List ℕ) : Type 0 where

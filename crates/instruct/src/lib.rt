@@ -6,15 +6,19 @@
 #![tactic(auto)]
 
 mod bits;
+mod devices;
 mod naming;
 mod operate;
 
-ghost use Rattle.std.specs.Prelude.{ℕ, ◌≡◌};
+ghost use Rattle.std.specs.Prelude.{ℕ, ◌≡◌, ◌/◌};
+ghost use Rattle.instruct.specs.declared.Profile.{Profile};
+ghost use Rattle.instruct.specs.declared.Instruction.TheVariants.{Memory};
 ghost use Rattle.instruct.specs.Bits.{named_cell, is_indirect};
-ghost use Rattle.instruct.specs.Instructions.{instruction_of, kind_of, meaning_of, device_action, device_meaning, operate_meaning, group3_meaning, is_group1};
+ghost use Rattle.instruct.specs.Instructions.{instruction_of, kind_of, meaning_of, operation_of, reference, device_action, device_meaning, operate_meaning, group3_meaning, is_group1};
 
 use crate::bits::{Group1, Group2, Reference};
 use bitflags::Flags;
+pub use devices::DeviceOperation;
 pub use naming::name;
 pub use operate::{halts, operate1, operate2, operate3, skips};
 use word12::Word;
@@ -45,6 +49,44 @@ pub enum Instruction {
     Unsupported,
 }
 
+/// The operations of memory references.
+#[derive(Clone, Copy, PartialEq, Eq, Debug)]
+pub enum Operation {
+    /// The bitwise and with the operand.
+    And,
+    /// The sum with the operand, whose carry complements the link.
+    Tad,
+    /// The operand counts up, and the next instruction is skipped where it becomes 0000.
+    Isz,
+    /// The accumulator is stored and cleared.
+    Dca,
+    /// The return address is stored, and the routine behind it goes on.
+    Jms,
+    /// The program goes on at the effective address.
+    Jmp,
+}
+
+impl Operation {
+    /// The operation of a memory reference. Words from 6000 on, which refer to no memory, count as JMP.
+    #[inline(always)]
+    #[tactic(auto, using(crate::proofs::KindLemmas::reference_meaning))]
+    pub fn of(word: Word) -> Operation
+        ensures code { result ≡ operation_of word }
+        // With the indirect bit and the named cell it is the meaning of the word.
+        ensures meaning { (profile : Profile) → (at : ℕ) → kind_of (meaning_of profile at word) ≡ Memory
+            → meaning_of profile at word ≡ reference result (is_indirect word) (named_cell word at) }
+    {
+        match operation_code(word) {
+            0 => Operation::And,
+            1 => Operation::Tad,
+            2 => Operation::Isz,
+            3 => Operation::Dca,
+            4 => Operation::Jms,
+            _ => Operation::Jmp,
+        }
+    }
+}
+
 /// The kind of a word on a machine of a profile.
 #[tactic(auto, using(crate::proofs::KindLemmas::kinds), unfolding(crate::specs::Instructions::instruction_of))]
 pub fn decode(word: Word, profile: Profile) -> Instruction
@@ -52,24 +94,27 @@ pub fn decode(word: Word, profile: Profile) -> Instruction
     ensures meaning { (at : ℕ) → result ≡ kind_of (meaning_of profile at word) }
     ensures kind { result ≡ instruction_of profile word }
 {
-    let number = word.value();
-    match number >> 9 {
+    match operation_code(word) {
         0..=5 => Instruction::Memory,
-        6 => decode_device(number, profile),
-        _ => decode_operate(number, profile),
+        6 => decode_device(word, profile),
+        _ => decode_operate(word.value(), profile),
     }
 }
 
-fn decode_device(number: u16, profile: Profile) -> Instruction
-    ensures { result ≡ kind_of (device_meaning (device_action profile number)) }
+/// Bits 0 to 2 of a word, which say what kind of instruction it is.
+#[inline(always)]
+fn operation_code(word: Word) -> u16
+    ensures { result ≡ word / 512 }
 {
-    match number {
-        0o6011 | 0o6021 | 0o6031 | 0o6041 => Instruction::Iot,
-        0o6012 | 0o6016 | 0o6034 => Instruction::Iot,
-        0o6032 | 0o6036 => Instruction::Iot,
-        0o6002 | 0o6014 | 0o6022 | 0o6024 | 0o6026 | 0o6042 | 0o6044 | 0o6046 => Instruction::Iot,
-        0o6030 | 0o6040 if profile == Profile::Pdp8E => Instruction::Iot,
-        _ => Instruction::Unsupported,
+    word.value() >> 9
+}
+
+fn decode_device(word: Word, profile: Profile) -> Instruction
+    ensures { result ≡ kind_of (device_meaning (device_action profile word)) }
+{
+    match DeviceOperation::of(word, profile) {
+        Some(_) => Instruction::Iot,
+        None => Instruction::Unsupported,
     }
 }
 

@@ -5,11 +5,12 @@ ghost use Rattle.std.specs.Option.{option_copied};
 ghost use Rattle.instruct.specs.Bits.{has_bit};
 ghost use Rattle.instruct.specs.declared.Profile.TheVariants.{Pdp8E};
 ghost use Rattle.instruct.specs.declared.Instruction.TheVariants.{Operate3, Iot};
+ghost use Rattle.instruct.specs.Devices.{device_operation};
 ghost use Rattle.instruct.specs.Instructions.{instruction_of};
-ghost use Rattle.instruct.specs.Names.{name_of, mnemonic, memory_name, named_if, spaced, rotate_names, group1_names, test_names, group2_names, group3_name, device_name, IsSpaced};
+ghost use Rattle.instruct.specs.Names.{name_of, mnemonic, memory_name, named_if, spaced, rotate_names, group1_names, test_names, group2_names, group3_name, device_name_if, IsSpaced};
 
 use crate::bits::{Group1, Group2, Reference};
-use crate::{Instruction, Profile, decode, refers_indirectly};
+use crate::{DeviceOperation, Instruction, Operation, Profile, decode, refers_indirectly};
 use arrayvec::ArrayString;
 use bitflags::Flags;
 use word12::Word;
@@ -29,7 +30,7 @@ pub fn name(word: Word, profile: Profile) -> ArrayString<32>
         Instruction::Operate1 => name_group1(Group1(word.value())),
         Instruction::Operate2 => name_group2(Group2(word.value())),
         Instruction::Operate3 => text_of(name_group3(word.value())),
-        Instruction::Iot => text_of(name_device(word.value())),
+        Instruction::Iot => text_of(name_device(word, profile)),
         Instruction::Unsupported => text_of("?"),
     }
 }
@@ -43,24 +44,27 @@ fn text_of(name: &str) -> ArrayString<32>
     text
 }
 
-fn name_operation(operation: u16) -> &'static str
-    ensures name { result.now ≡ mnemonic operation }
-    ensures short { length result.now ≡ 3 }
-{
-    match operation {
-        0 => "AND",
-        1 => "TAD",
-        2 => "ISZ",
-        3 => "DCA",
-        4 => "JMS",
-        _ => "JMP",
+impl Operation {
+    /// The handbook's name of the operation, of 3 characters.
+    pub fn mnemonic(self) -> &'static str
+        ensures name { result.now ≡ mnemonic self }
+        ensures short { length result.now ≡ 3 }
+    {
+        match self {
+            Operation::And => "AND",
+            Operation::Tad => "TAD",
+            Operation::Isz => "ISZ",
+            Operation::Dca => "DCA",
+            Operation::Jms => "JMS",
+            Operation::Jmp => "JMP",
+        }
     }
 }
 
 fn name_memory(word: Word) -> ArrayString<32>
     ensures { result.bytes ≡ memory_name word }
 {
-    let mut text = text_of(name_operation(word.value() >> 9));
+    let mut text = text_of(Operation::of(word).mnemonic());
     if refers_indirectly(word) {
         text.push_str(" I");
     }
@@ -205,29 +209,12 @@ fn name_group3(number: u16) -> &'static str
     }
 }
 
-fn name_device(number: u16) -> &'static str
-    ensures name { result.now ≡ device_name number }
+fn name_device(word: Word, profile: Profile) -> &'static str
+    ensures name { result.now ≡ device_name_if (device_operation profile word) }
     ensures short { length result.now ≤ 7 }
 {
-    match number {
-        0o6002 => "IOF",
-        0o6011 => "RSF",
-        0o6012 => "RRB",
-        0o6014 => "RFC",
-        0o6016 => "RRB RFC",
-        0o6021 => "PSF",
-        0o6022 => "PCF",
-        0o6024 => "PPC",
-        0o6026 => "PLS",
-        0o6030 => "KCF",
-        0o6031 => "KSF",
-        0o6032 => "KCC",
-        0o6034 => "KRS",
-        0o6036 => "KRB",
-        0o6040 => "TFL",
-        0o6041 => "TSF",
-        0o6042 => "TCF",
-        0o6044 => "TPC",
-        _ => "TLS",
+    match DeviceOperation::of(word, profile) {
+        Some(operation) => operation.mnemonic(),
+        None => "?",
     }
 }

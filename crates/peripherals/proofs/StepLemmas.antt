@@ -5,6 +5,10 @@ use Rattle.instruct.specs.declared.Profile.{Profile}
 use Rattle.instruct.specs.declared.Instruction.TheVariants.{Memory, Operate1, Operate2, Operate3, Iot, Unsupported}
 use Rattle.instruct.specs.declared.Instruction.{Instruction}
 use Rattle.instruct.specs.Instructions.{Leaves, Meaning, Undefined, And, Tad, Isz, Dca, Jms, Jmp, Group1, Group2, Group3, Device, meaning_of, kind_of, DeviceAction, device_action, device_meaning}
+use Rattle.instruct.specs.Devices.{device_operation}
+use Rattle.instruct.specs.declared.Profile.TheVariants.{Pdp8E}
+use Rattle.instruct.specs.declared.devices.DeviceOperation.{DeviceOperation}
+use Rattle.instruct.specs.declared.devices.DeviceOperation.TheVariants.{Print, ClearPrinterFlagAndPrint, Punch, ClearPunchFlagAndPunch}
 use Rattle.processor.specs.Machine.{State, Answer, Step, Does, instruction}
 use Rattle.processor.specs.Steps.{answer_taken, halts_after, BusAfter}
 use Rattle.peripherals.specs.declared.devices.Panel.{Panel}
@@ -91,8 +95,22 @@ differs p at word k meaning is = elim (eqb_tells word k) [
 ]
 
 leaves : (p : Profile) (at : ℕ) → (meaning_of p at 0o6044 ≡ Device Leaves) × (meaning_of p at 0o6046 ≡ Device Leaves) × (meaning_of p at 0o6024 ≡ Device Leaves) × (meaning_of p at 0o6026 ≡ Device Leaves)
-unfolding meaning_of
+unfolding meaning_of device_operation
 leaves p at = (refl, refl, refl, refl)
+
+-- a word without an operation prints and punches nothing
+is_another : (word k : ℕ) (o : DeviceOperation) → None ≡ device_operation Pdp8E word → device_operation Pdp8E k ≡ Some o → (word == k) ≡ false
+is_another word k o none some = elim (eqb_tells word k) [
+  | inl same ↦ let here : None ≡ device_operation Pdp8E k = rw same.1 at none in cc
+  | inr apart ↦ apart.0
+]
+
+pub no_operation : (word : ℕ) → None ≡ device_operation Pdp8E word → (prints word ≡ false) × (punches word ≡ false)
+unfolding device_operation
+no_operation word none = (
+  rw (is_another word 0o6044 Print none refl, is_another word 0o6046 ClearPrinterFlagAndPrint none refl) refl,
+  rw (is_another word 0o6024 Punch none refl, is_another word 0o6026 ClearPunchFlagAndPunch none refl) refl,
+)
 
 undefined_prints : (p : Profile) (at word : ℕ) → meaning_of p at word ≡ Undefined → prints word ≡ false
 undefined_prints p at word is = rw (differs p at word 0o6044 (leaves p at).0 is, differs p at word 0o6046 (leaves p at).1 is) refl

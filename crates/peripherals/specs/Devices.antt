@@ -1,6 +1,8 @@
 -- The keyboard, the printer, the tape reader, the punch and the switches; and one instruction in front of them.
 use Rattle.std.specs.Prelude.{ℕ, ◌≡◌, ◌%◌, ◌==◌, Bool, true, false, ◌||◌, ◌⊎◌, if◌then◌else◌, Option, Some, None, List, [], ◌∷◌, ◌++◌}
 use Rattle.instruct.specs.declared.Profile.{Profile}
+use Rattle.instruct.specs.declared.devices.DeviceOperation.TheVariants.{ClearKeyboardFlag, ClearKeyboardFlagAndAccumulator, ClearPrinterFlag, ClearPrinterFlagAndPrint, ClearPunchFlag, ClearPunchFlagAndPunch, FetchReaderFrame, Print, Punch, ReadKeyboardBuffer, ReadReaderBuffer, ReadReaderBufferAndFetchFrame, SetPrinterFlag, SkipOnKeyboardFlag, SkipOnPrinterFlag, SkipOnPunchFlag, SkipOnReaderFlag, TakeKeyboardByte}
+use Rattle.instruct.specs.Devices.{word_of}
 use Rattle.instruct.specs.Instructions.{Undefined}
 use Rattle.processor.specs.Machine.{State, Answer, Silent, Truth, Byte, Step, instruction}
 use Rattle.processor.specs.Steps.{answer_taken, halts_after}
@@ -59,32 +61,43 @@ with_keyboard_flag flag d = record d { flag = flag }
 abbrev pub fetched : Reader → Reader
 fetched d = record { flag = false; buffer = 0; fetching = true }
 
--- The answer of the devices to a device word: RSF, PSF, KSF and TSF are told a flag, RRB, RRB RFC, KRS and KRB a byte.
+-- The answer of the devices to a device word: a test is told a flag, and a word that takes a byte the byte.
 abbrev pub answer_to : Devices → ℕ → Answer
 answer_to v word =
-    if word == 0o6011 then Truth v.reader.flag
-    else (if word == 0o6021 then Truth v.punch.flag
-    else (if word == 0o6031 then Truth v.keyboard.flag
-    else (if word == 0o6041 then Truth v.printer.flag
-    else (if word == 0o6012 || word == 0o6016 then Byte v.reader.buffer
-    else (if word == 0o6034 || word == 0o6036 then Byte v.keyboard.buffer
+    if word == word_of SkipOnReaderFlag then Truth v.reader.flag
+    else (if word == word_of SkipOnPunchFlag then Truth v.punch.flag
+    else (if word == word_of SkipOnKeyboardFlag then Truth v.keyboard.flag
+    else (if word == word_of SkipOnPrinterFlag then Truth v.printer.flag
+    else (if word == word_of ReadReaderBuffer || word == word_of ReadReaderBufferAndFetchFrame
+    then Byte v.reader.buffer
+    else (if word == word_of ReadKeyboardBuffer || word == word_of TakeKeyboardByte
+    then Byte v.keyboard.buffer
     else Silent)))))
 
--- The devices after a word that is carried out, by the accumulator before it: RRB; RFC and RRB RFC; PCF; PPC; PLS;
--- KCF, KCC and KRB; TFL; TCF; TPC; TLS. All other words leave them.
+-- The words that drop the reader's byte and fetch the next frame, and those that clear the keyboard's flag.
+abbrev pub fetches : ℕ → Bool
+fetches word = word == word_of FetchReaderFrame || word == word_of ReadReaderBufferAndFetchFrame
+
+abbrev pub clears_keyboard : ℕ → Bool
+clears_keyboard word =
+    word == word_of ClearKeyboardFlag ||
+    (word == word_of ClearKeyboardFlagAndAccumulator || word == word_of TakeKeyboardByte)
+
+-- The devices after a word that is carried out, by the accumulator before it. All other words leave them.
 unfoldable pub devices_after : Devices → ℕ → ℕ → Devices
 devices_after v word ac =
-    if word == 0o6012 then record v { reader = with_reader_flag false v.reader }
-    else (if word == 0o6014 || word == 0o6016 then record v { reader = fetched v.reader }
-    else (if word == 0o6022 then record v { punch = with_writer_flag false v.punch }
-    else (if word == 0o6024 then record v { punch = given ac v.punch }
-    else (if word == 0o6026 then record v { punch = given ac (with_writer_flag false v.punch) }
-    else (if word == 0o6030 || (word == 0o6032 || word == 0o6036)
-    then record v { keyboard = with_keyboard_flag false v.keyboard }
-    else (if word == 0o6040 then record v { printer = with_writer_flag true v.printer }
-    else (if word == 0o6042 then record v { printer = with_writer_flag false v.printer }
-    else (if word == 0o6044 then record v { printer = given ac v.printer }
-    else (if word == 0o6046 then record v { printer = given ac (with_writer_flag false v.printer) }
+    if word == word_of ReadReaderBuffer then record v { reader = with_reader_flag false v.reader }
+    else (if fetches word then record v { reader = fetched v.reader }
+    else (if word == word_of ClearPunchFlag then record v { punch = with_writer_flag false v.punch }
+    else (if word == word_of Punch then record v { punch = given ac v.punch }
+    else (if word == word_of ClearPunchFlagAndPunch
+    then record v { punch = given ac (with_writer_flag false v.punch) }
+    else (if clears_keyboard word then record v { keyboard = with_keyboard_flag false v.keyboard }
+    else (if word == word_of SetPrinterFlag then record v { printer = with_writer_flag true v.printer }
+    else (if word == word_of ClearPrinterFlag then record v { printer = with_writer_flag false v.printer }
+    else (if word == word_of Print then record v { printer = given ac v.printer }
+    else (if word == word_of ClearPrinterFlagAndPrint
+    then record v { printer = given ac (with_writer_flag false v.printer) }
     else v)))))))))
 
 -- The machine and its devices, and the address of the HLT at which it stands; none while it runs.

@@ -1,6 +1,8 @@
 -- What a world in code shows of the machine and its devices.
 use Rattle.std.specs.Prelude.{ℕ, ◌≡◌, ◌%◌, Bool, ◌||◌, ◌==◌, if◌then◌else◌, List, [], ◌∷◌, ◌++◌}
 use Rattle.instruct.specs.declared.Profile.{Profile}
+use Rattle.instruct.specs.declared.devices.DeviceOperation.TheVariants.{Punch, ClearPunchFlagAndPunch, Print, ClearPrinterFlagAndPrint}
+use Rattle.instruct.specs.Devices.{word_of}
 use Rattle.processor.specs.Machine.{Answer}
 use Rattle.processor.specs.Steps.{state_of}
 use Rattle.peripherals.specs.Devices.{Writer, Devices, WorldState, answer_to, devices_after}
@@ -24,11 +26,11 @@ devices_of p printed punched = record {
 
 -- TPC and TLS print.
 abbrev pub prints : ℕ → Bool
-prints word = word == 0o6044 || word == 0o6046
+prints word = word == word_of Print || word == word_of ClearPrinterFlagAndPrint
 
 -- PPC and PLS punch.
 abbrev pub punches : ℕ → Bool
-punches word = word == 0o6024 || word == 0o6026
+punches word = word == word_of Punch || word == word_of ClearPunchFlagAndPunch
 
 -- The output of a device after a word that gives it the low eight bits of the accumulator, or doesn't.
 abbrev pub put_out : Bool → ℕ → List ℕ → List ℕ

@@ -1,14 +1,15 @@
 //! The keyboard, the printer, the reader, the punch and the switches, as the processor meets them
 //! during one instruction.
 
-ghost use Rattle.std.specs.Prelude.{ℕ, ◌≡◌, true, false, if◌then◌else◌, IsSome};
-ghost use Rattle.instruct.specs.declared.Profile.TheVariants.{Pdp8E};
-ghost use Rattle.instruct.specs.Instructions.{device_action};
-ghost use Rattle.processor.specs.Steps.{DeviceAnswers};
+ghost use Rattle.std.specs.Prelude.{ℕ, ◌≡◌, true, false, if◌then◌else◌};
+ghost use Rattle.instruct.specs.Devices.{word_of};
+ghost use Rattle.instruct.specs.Instructions.{processor_action};
+ghost use Rattle.processor.specs.Machine.{Answers};
 ghost use Rattle.peripherals.specs.declared.Seen.TheVariants.{Changed, NotEnabled};
 ghost use Rattle.peripherals.specs.World.{panel_answer, GoesOn};
 
 use crate::Seen;
+use instruct::{DeviceOperation, Profile};
 use processor::{Bus, IotAnswer};
 use word12::Word;
 
@@ -81,56 +82,53 @@ impl Panel {
 
     /// What a device word makes of the devices, the bytes put out apart.
     #[tactic(auto, unfolding(crate::specs::Devices::devices_after))]
-    fn after(self, word: Word) -> Panel
-        ensures { (ac : ℕ) → GoesOn self word ac result }
+    fn after(self, operation: DeviceOperation) -> Panel
+        ensures { (ac : ℕ) → GoesOn self (word_of operation) ac result }
     {
         let mut after = self;
-        match word.value() {
-            0o6012 => after.reader.flag = false,
-            0o6014 | 0o6016 => {
-                after.reader = Reader {
-                    flag: false,
-                    buffer: 0,
-                    fetching: true,
-                }
+        match operation {
+            DeviceOperation::ReadReaderBuffer => after.reader.flag = false,
+            DeviceOperation::FetchReaderFrame | DeviceOperation::ReadReaderBufferAndFetchFrame => {
+                after.reader.fetch()
             }
-            0o6022 => after.punch.flag = false,
-            0o6024 => after.punch.busy = true,
-            0o6026 => {
-                after.punch = Outlet {
-                    flag: false,
-                    busy: true,
-                }
-            }
-            0o6030 | 0o6032 | 0o6036 => after.keyboard.flag = false,
-            0o6040 => after.printer.flag = true,
-            0o6042 => after.printer.flag = false,
-            0o6044 => after.printer.busy = true,
-            0o6046 => {
-                after.printer = Outlet {
-                    flag: false,
-                    busy: true,
-                }
-            }
-            _ => {}
+            DeviceOperation::ClearPunchFlag => after.punch.flag = false,
+            DeviceOperation::Punch => after.punch.busy = true,
+            DeviceOperation::ClearPunchFlagAndPunch => after.punch.begin(),
+            DeviceOperation::ClearKeyboardFlag
+            | DeviceOperation::ClearKeyboardFlagAndAccumulator
+            | DeviceOperation::TakeKeyboardByte => after.keyboard.flag = false,
+            DeviceOperation::SetPrinterFlag => after.printer.flag = true,
+            DeviceOperation::ClearPrinterFlag => after.printer.flag = false,
+            DeviceOperation::Print => after.printer.busy = true,
+            DeviceOperation::ClearPrinterFlagAndPrint => after.printer.begin(),
+            DeviceOperation::DisableInterrupts
+            | DeviceOperation::SkipOnReaderFlag
+            | DeviceOperation::SkipOnPunchFlag
+            | DeviceOperation::SkipOnKeyboardFlag
+            | DeviceOperation::ReadKeyboardBuffer
+            | DeviceOperation::SkipOnPrinterFlag => {}
         }
         after
     }
 
     /// What a device word makes of the accumulator and whether it skips.
-    fn answer(self, word: Word, ac: Word) -> IotAnswer
-        requires { IsSome (device_action Pdp8E word) }
-        ensures { DeviceAnswers (device_action Pdp8E word) ac (panel_answer self word) result.ac result.skip }
+    fn answer(self, operation: DeviceOperation, ac: Word) -> IotAnswer
+        ensures { Answers (processor_action operation) ac (panel_answer self (word_of operation))
+            result.ac result.skip }
     {
-        let (ac, skip) = match word.value() {
-            0o6011 => (ac, self.reader.flag),
-            0o6021 => (ac, self.punch.flag),
-            0o6031 => (ac, self.keyboard.flag),
-            0o6041 => (ac, self.printer.flag),
-            0o6012 | 0o6016 => (ac.or(Word::from_byte(self.reader.buffer)), false),
-            0o6034 => (ac.or(Word::from_byte(self.keyboard.buffer)), false),
-            0o6036 => (Word::from_byte(self.keyboard.buffer), false),
-            0o6032 => (Word::ZERO, false),
+        let (ac, skip) = match operation {
+            DeviceOperation::SkipOnReaderFlag => (ac, self.reader.flag),
+            DeviceOperation::SkipOnPunchFlag => (ac, self.punch.flag),
+            DeviceOperation::SkipOnKeyboardFlag => (ac, self.keyboard.flag),
+            DeviceOperation::SkipOnPrinterFlag => (ac, self.printer.flag),
+            DeviceOperation::ReadReaderBuffer | DeviceOperation::ReadReaderBufferAndFetchFrame => {
+                (ac.or(Word::from_byte(self.reader.buffer)), false)
+            }
+            DeviceOperation::ReadKeyboardBuffer => {
+                (ac.or(Word::from_byte(self.keyboard.buffer)), false)
+            }
+            DeviceOperation::TakeKeyboardByte => (Word::from_byte(self.keyboard.buffer), false),
+            DeviceOperation::ClearKeyboardFlagAndAccumulator => (Word::ZERO, false),
             _ => (ac, false),
         };
         IotAnswer { ac, skip }
@@ -138,6 +136,16 @@ impl Panel {
 }
 
 impl Outlet {
+    /// The flag is cleared and a byte is under way.
+    fn begin(&mut self)
+        ensures { self.new ≡ record { flag = false; busy = true } }
+    {
+        *self = Outlet {
+            flag: false,
+            busy: true,
+        };
+    }
+
     /// The device gets done with its byte, if it was busy.
     pub(crate) fn finish(&mut self) -> Seen
         ensures seen { result ≡ (if self.old.busy then Changed else NotEnabled) }
@@ -155,6 +163,17 @@ impl Outlet {
 }
 
 impl Reader {
+    /// The byte is dropped and the next frame is asked for.
+    fn fetch(&mut self)
+        ensures { self.new ≡ record { flag = false; buffer = 0; fetching = true } }
+    {
+        *self = Reader {
+            flag: false,
+            buffer: 0,
+            fetching: true,
+        };
+    }
+
     /// The reader gets a frame, if it waits for one.
     pub(crate) fn receive(&mut self, byte: u8) -> Seen
         ensures seen { result ≡ (if self.old.fetching then Changed else NotEnabled) }
@@ -183,8 +202,11 @@ impl Bus for Panel {
 
     #[inline(never)]
     fn iot(&mut self, word: Word, ac: Word) -> IotAnswer {
-        let answer = self.answer(word, ac);
-        *self = self.after(word);
+        let Some(operation) = DeviceOperation::of(word, Profile::Pdp8E) else {
+            return IotAnswer { ac, skip: false };
+        };
+        let answer = self.answer(operation, ac);
+        *self = self.after(operation);
         answer
     }
 

@@ -10,9 +10,9 @@ ghost use Rattle.streams.specs.Text.{decimal_between};
 ghost use Rattle.peripherals.specs.EventText.{Spells, Fails, event_named, events_numbered, line_events, most_bytes, most_events};
 ghost use Rattle.peripherals.specs.Repeated.{repeated, RefusesMore};
 
-use streams::text::{self, Lines, Words};
 use crate::Event;
 use std::alloc::Allocator;
+use streams::text::{self, Lines, Words};
 use thiserror::Error;
 
 /// The most bytes of a text of events.

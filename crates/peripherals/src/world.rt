@@ -12,7 +12,7 @@ ghost use Rattle.peripherals.specs.World.{view, profile_of, prints, punches, put
 use crate::devices::{Keyboard, Panel};
 use crate::{Event, NoMemory, Seen, Start};
 use bin_tape::Image;
-use instruct::Profile;
+use instruct::{DeviceOperation, Profile};
 use processor::{Cpu, Memory, Outcome};
 use std::alloc::Allocator;
 use word12::Word;
@@ -58,9 +58,13 @@ fn put_out<A: Allocator>(
     ensures only { OnErr result (IsTrue (prints word || punches word)) }
 {
     let byte = ac.low_byte();
-    match word.value() {
-        0o6044 | 0o6046 => printed.push(byte).map_err(|_| NoMemory),
-        0o6024 | 0o6026 => punched.push(byte).map_err(|_| NoMemory),
+    match DeviceOperation::of(word, Profile::Pdp8E) {
+        Some(DeviceOperation::Print | DeviceOperation::ClearPrinterFlagAndPrint) => {
+            printed.push(byte).map_err(|_| NoMemory)
+        }
+        Some(DeviceOperation::Punch | DeviceOperation::ClearPunchFlagAndPunch) => {
+            punched.push(byte).map_err(|_| NoMemory)
+        }
         _ => Ok(()),
     }
 }

@@ -9,8 +9,8 @@ use Rattle.wordset.specs.Words.{Words, minus}
 use Rattle.processor.specs.Cells.{Cells, AreWords}
 use Rattle.processor.specs.Machine.{State, place, steps_pointer, instruction}
 use Rattle.processor.specs.Runs.{Image}
-use Rattle.policy.specs.declared.actions.Operation.{Operation}
-use Rattle.policy.specs.declared.actions.Operation.TheVariants as operation
+use Rattle.instruct.specs.declared.Operation.{Operation}
+use Rattle.instruct.specs.declared.Operation.TheVariants as operation
 use Rattle.policy.specs.declared.actions.Reference.{Reference}
 use Rattle.policy.specs.declared.actions.Action.TheVariants as action
 use Rattle.policy.specs.declared.rules.Rule.{Rule}

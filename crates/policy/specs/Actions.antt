@@ -1,11 +1,11 @@
 -- What an instruction is about to do, as far as the rules ask.
-use Rattle.std.specs.Prelude.{ℕ, ◌/◌, ◌==◌, Bool, if◌then◌else◌}
+use Rattle.std.specs.Prelude.{ℕ, Bool, if◌then◌else◌}
 use Rattle.instruct.specs.Operates.{is_halt}
 use Rattle.instruct.specs.Instructions.{Meaning, And, Tad, Isz, Dca, Jms, Jmp, Group1, Group2, Group3, Device, Undefined}
 use Rattle.processor.specs.Cells.{Cells}
 use Rattle.processor.specs.Machine.{place}
-use Rattle.policy.specs.declared.actions.Operation.{Operation}
-use Rattle.policy.specs.declared.actions.Operation.TheVariants as operation
+use Rattle.instruct.specs.declared.Operation.{Operation}
+use Rattle.instruct.specs.declared.Operation.TheVariants as operation
 use Rattle.policy.specs.declared.actions.Action.{Action}
 use Rattle.policy.specs.declared.actions.Action.TheVariants.{Refers, Halts, GoesOn, Unsupported}
 
@@ -26,13 +26,3 @@ action_of (Group2 w) memory = if is_halt w then Halts else GoesOn
 action_of (Group3 o) memory = GoesOn
 action_of (Device a) memory = GoesOn
 action_of Undefined memory = Unsupported
-
--- The operation of a word that refers to memory: its bits 0 to 2.
-abbrev pub operation_of : ℕ → Operation
-operation_of word =
-    if word / 512 == 0 then operation.And
-    else (if word / 512 == 1 then operation.Tad
-    else (if word / 512 == 2 then operation.Isz
-    else (if word / 512 == 3 then operation.Dca
-    else (if word / 512 == 4 then operation.Jms
-    else operation.Jmp))))

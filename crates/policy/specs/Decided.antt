@@ -3,8 +3,8 @@ use Rattle.std.specs.Prelude.{◌≡◌, ℕ, ◌==◌, Bool, true, false, not, 
 use Rattle.wordset.specs.Words.{Words, minus}
 use Rattle.processor.specs.Cells.{Cells}
 use Rattle.processor.specs.Machine.{steps_pointer}
-use Rattle.policy.specs.declared.actions.Operation.{Operation}
-use Rattle.policy.specs.declared.actions.Operation.TheVariants.{And, Tad, Isz, Dca, Jms, Jmp}
+use Rattle.instruct.specs.declared.Operation.{Operation}
+use Rattle.instruct.specs.declared.Operation.TheVariants.{And, Tad, Isz, Dca, Jms, Jmp}
 use Rattle.policy.specs.declared.actions.Reference.{Reference}
 use Rattle.policy.specs.declared.actions.Action.{Action}
 use Rattle.policy.specs.declared.actions.Action.TheVariants.{Refers, Halts, GoesOn, Unsupported}

@@ -14,10 +14,11 @@ ghost use Rattle.policy.specs.Watching.{IsLeastBroken};
 ghost use Rattle.policy.specs.OpenCalls.{open_calls};
 ghost use Rattle.policy.specs.Decided.{is_own, may_write, writes, calls_entry, finds_call, is_return, returns, may_load, reads, broken_by_reference, least_broken};
 
-use crate::actions::{Action, Operation, Reference, is_auto_index, next_action};
-use declaration::Declaration;
+use crate::actions::{Action, Reference, next_action};
 use crate::rules::Rule;
-use processor::{Cpu, Memory};
+use declaration::Declaration;
+use instruct::Operation;
+use processor::{Cpu, Memory, is_auto_index};
 use std::alloc::Allocator;
 use word12::Word;
 

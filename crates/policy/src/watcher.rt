@@ -18,11 +18,12 @@ ghost use Rattle.policy.specs.Decided.{is_call, followed, IsCall};
 ghost use Rattle.policy.specs.Watching.{IsClean, BreaksAt, Tells, begun};
 ghost use Rattle.policy.specs.WatchedSteps.{Watches, TakesMemory, GrowsAt, Grows, Passes, waits, LegalStepTakesMemory};
 
-use crate::actions::{Action, Operation, Reference, next_action};
-use declaration::Declaration;
+use crate::actions::{Action, Reference, next_action};
 use crate::legality::{Call, broken_rule, is_return};
 use crate::rules::Rule;
 use bin_tape::Image;
+use declaration::Declaration;
+use instruct::Operation;
 use peripherals::{Event, NoMemory, Start, World};
 use std::alloc::Allocator;
 use word12::{Link, Word};

@@ -1,13 +1,13 @@
 -- Steps by the meaning of the word.
-use Rattle.std.proofs.Common.{ℕ, ◌≡◌, ◌<◌, Bool, true, false, refl, sym, if◌then◌else◌, IsSome}
+use Rattle.std.proofs.Common.{ℕ, ◌≡◌, ◌<◌, Bool, true, false, refl, sym, ap, ◌∙◌, if◌then◌else◌, IsSome}
 use Rattle.instruct.specs.declared.Profile.{Profile}
 use Rattle.instruct.specs.declared.Profile.TheVariants.{Pdp8E}
 use Rattle.instruct.specs.declared.Instruction.TheVariants.{Operate1, Operate2, Operate3, Iot}
 use Rattle.instruct.specs.Operates.{operate1_of, operate2_of, operate3_of, skips_of, reads_switches_of, is_halt}
 use Rattle.instruct.specs.Instructions.{meaning_of, kind_of, device_action, Group2}
 use Rattle.instruct.proofs.KindLemmas.{group1_meaning, group2_meaning, group3_meaning_of, device_meaning_of, action_of_8e}
-use Rattle.processor.specs.Cells.{Cells}
-use Rattle.processor.specs.Machine.{State, Answer, Answers, Silent, Switches, Does, Step, instruction, after, next_pc, place, is_auto_index}
+use Rattle.processor.specs.Cells.{Cells, updated}
+use Rattle.processor.specs.Machine.{State, Answer, Answers, Silent, Switches, Does, Step, instruction, after, next_pc, seen, place, is_auto_index}
 use Rattle.processor.specs.Steps.{DeviceAnswers, answer_taken, halts_after}
 use Rattle.processor.proofs.CellLemmas.{updated_same}
 
@@ -53,3 +53,8 @@ device_has_action p at word kind =
 -- a pointer in an auto-index cell is used as it is after it was stepped
 pub stepped_place : (i : Bool) (c : ℕ) (m : Cells) → i ≡ true → is_auto_index c ≡ true → place i c m ≡ after (m c) 1
 stepped_place i c m indirect auto = rw (indirect, auto) (updated_same m c (after (m c) 1))
+
+-- the memory after a pointer in an auto-index cell was counted up
+pub stepped_memory : (i : Bool) (c address : ℕ) (m next : Cells) → i ≡ true → is_auto_index c ≡ true → address ≡ place i c m → next ≡ updated m c address → next ≡ seen i c m
+stepped_memory i c address m next indirect auto is stored =
+    stored ∙ ap (λ a. updated m c a) (is ∙ stepped_place i c m indirect auto) ∙ rw (indirect, auto) refl

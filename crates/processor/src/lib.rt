@@ -17,8 +17,8 @@ ghost use Rattle.processor.specs.Machine.{Answer, Silent, Switches, next_pc, see
 ghost use Rattle.processor.specs.Steps.{state_of, answer_taken, Happened, BusAfter, DeviceAnswers};
 
 use instruct::{
-    Instruction, Profile, decode, halts, operate1, operate2, operate3, refers_indirectly, skips,
-    target,
+    Instruction, Operation, Profile, decode, halts, operate1, operate2, operate3,
+    refers_indirectly, skips, target,
 };
 pub use memory::Memory;
 use word12::{Link, Word};
@@ -83,29 +83,42 @@ pub trait Bus {
         ensures { result ≡ switch_word self.now };
 }
 
-/// Whether a cell is one of 0010 to 0017.
-fn is_auto_index(address: Word) -> bool
+/// Whether a cell is one of 0010 to 0017, the auto-index cells.
+pub fn is_auto_index(address: Word) -> bool
     ensures { result ≡ is_auto_index address }
 {
     (0o10..=0o17).contains(&address.value())
 }
 
-/// The effective address of a memory reference; a pointer in an auto-index cell is stepped first.
-fn resolve(memory: &mut Memory, word: Word, at: Word) -> Word
-    ensures place { result ≡ place (is_indirect word) (named_cell word at) (cell_of memory.old) }
-    ensures seen { cell_of memory.new ≡ seen (is_indirect word) (named_cell word at) (cell_of memory.old) }
+/// The effective address of the memory reference `word` at an address, with the memory as it is
+/// before it: the cell that the word names, or where it is indirect the word in that cell, counted
+/// up first in an auto-index cell.
+pub fn effective_address(memory: &Memory, word: Word, at: Word) -> Word
+    ensures { result ≡ place (is_indirect word) (named_cell word at) (cell_of memory.now) }
 {
     let named = target(word, at);
     if !refers_indirectly(word) {
         return named;
     }
     let pointer = memory.get(named);
-    if !is_auto_index(named) {
-        return pointer;
+    if is_auto_index(named) {
+        pointer.increment()
+    } else {
+        pointer
     }
-    let stepped = pointer.increment();
-    memory.set(named, stepped);
-    stepped
+}
+
+/// The effective address of a memory reference; a pointer in an auto-index cell is counted up.
+fn resolve(memory: &mut Memory, word: Word, at: Word) -> Word
+    ensures place { result ≡ place (is_indirect word) (named_cell word at) (cell_of memory.old) }
+    ensures seen { cell_of memory.new ≡ seen (is_indirect word) (named_cell word at) (cell_of memory.old) }
+{
+    let address = effective_address(memory, word, at);
+    let named = target(word, at);
+    if refers_indirectly(word) && is_auto_index(named) {
+        memory.set(named, address);
+    }
+    address
 }
 
 /// The link after a sum, whose carry complements it.
@@ -211,13 +224,13 @@ impl Cpu {
         ensures does { Does (meaning_of self.old.profile self.old.pc word) (state_of self.old) Silent (state_of self.new) }
         ensures profile { self.new.profile ≡ self.old.profile }
     {
-        match word.value() >> 9 {
-            0 => self.and(word),
-            1 => self.add(word),
-            2 => self.count(word),
-            3 => self.deposit(word),
-            4 => self.call(word),
-            _ => self.jump(word),
+        match Operation::of(word) {
+            Operation::And => self.and(word),
+            Operation::Tad => self.add(word),
+            Operation::Isz => self.count(word),
+            Operation::Dca => self.deposit(word),
+            Operation::Jms => self.call(word),
+            Operation::Jmp => self.jump(word),
         }
     }
 

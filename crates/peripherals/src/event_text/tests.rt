@@ -1,8 +1,8 @@
 //! Texts of events worked by hand from the description of their lines.
 
 use crate::{Event, EventsFault, events};
-use testing::Refusing;
 use std::test::Fail;
+use testing::Refusing;
 use word12::Word;
 
 fn word(value: u16) -> Result<Word, Fail> {

@@ -14,3 +14,4 @@ pub mod ChangingLemmas
 pub mod PlaceLemmas
 pub mod OutcomeLemmas
 pub mod TadLemmas
+pub mod ReachLemmas

@@ -12,9 +12,11 @@ mod fact;
 mod known;
 mod names;
 mod offsets;
+
 mod outcome;
 mod place;
 mod references;
+mod registers;
 
 pub use entailment::{entails, entails_return, holds_before, narrowed};
 pub use fact::{Fact, TrackedCell};

@@ -4,9 +4,10 @@ ghost use Rattle.std.specs.Prelude.{ℕ, ◌≡◌, ◌≤◌, ◌++◌, true, f
 ghost use Rattle.arrayvec.specs.ArrayVec.{array_vec_len};
 ghost use Rattle.wordset.specs.Words.{Words, SameWords, everything, only, sums};
 ghost use Rattle.wordset.specs.Lanes.{words};
+ghost use Rattle.processor.specs.Machine.{steps_pointer};
 ghost use Rattle.facts.specs.Facts as said;
 ghost use Rattle.facts.specs.Facts.{Ac, narrowed};
-ghost use Rattle.facts.specs.Outcomes.{alive, given, anded, tad_word, tad_case, tad, dca_case, isz_case, jmp, CallsTo};
+ghost use Rattle.facts.specs.Outcomes.{stepped, targets, alive, given, anded, tad_word, tad_case, tad, dca_case, isz_case, jmp, CallsTo};
 ghost use Rattle.facts.specs.Same.{Agree, AgreeingOutcomes};
 ghost use Rattle.facts.specs.Meaning.{known_of, IsUnchanged};
 ghost use Rattle.facts.specs.Places.{place_of};
@@ -16,9 +17,17 @@ use crate::known::Known;
 use crate::names::Name;
 use crate::outcome::{Outcome, address_after, address_skipped_to, calling, going, going_if, returning};
 use crate::place::Place;
+use processor::is_auto_index;
 use std::alloc::Allocator;
 use word12::Word;
 use wordset::WordSet;
+
+/// Whether a reference steps the pointer in its named cell.
+fn steps_pointer(indirect: bool, named: Word) -> bool
+    ensures { result ≡ steps_pointer indirect named }
+{
+    indirect && is_auto_index(named)
+}
 
 /// DCA: the one target takes the accumulator's words and equations, or an unknown one of several
 /// its words; then the accumulator is 0.
@@ -95,6 +104,27 @@ pub(crate) fn call<'a>(known: &Known<'a>, targets: &WordSet) -> Option<Outcome<'
 }
 
 impl<A: Allocator> Place<'_, A> {
+    /// What is known when a reference is made, and its targets: a stepped pointer counts up first.
+    pub(crate) fn reach<'a>(&self, indirect: bool, named: Word, known: &Known<'a>) -> (Known<'a>, WordSet)
+        requires pointer { IsUnchanged known.now.pointer }
+        requires target { IsUnchanged known.now.target }
+        ensures known { (f : said.Fact) → Agree (known_of known.now) f → Agree (known_of result.0) (stepped indirect named f) }
+        ensures targets { (f : said.Fact) → Agree (known_of known.now) f →
+            SameWords (words result.1) (targets (place_of self.now) indirect named f) }
+        ensures target { IsUnchanged result.0.target }
+        ensures len { array_vec_len result.0.equations ≤ array_vec_len known.now.equations }
+    {
+        if steps_pointer(indirect, named) {
+            let after = known.stepped(named);
+            let targets = after.set(&Name::Cell(named));
+            return (after, targets);
+        }
+        if indirect {
+            return (known.same(), self.words_in(known, named));
+        }
+        (known.same(), WordSet::one(named))
+    }
+
     /// AND: all a and v, for the words a of the accumulator and v of the targets.
     pub(crate) fn combine<'a>(&self, at: Word, known: &Known<'a>, targets: &WordSet) -> Option<Outcome<'a>>
         ensures { (f : said.Fact) (p : Words) → Agree (known_of known.now) f → SameWords (words targets.now) p →

@@ -1,0 +1,36 @@
+//! The outcomes of operate words, which go on at the next address whatever memory holds.
+
+ghost use Rattle.std.specs.Prelude.{◌≡◌};
+ghost use Rattle.wordset.specs.Words.{everything, one, plus};
+ghost use Rattle.instruct.specs.declared.Profile.TheVariants.{Pdp8E};
+ghost use Rattle.instruct.specs.declared.Instruction.TheVariants.{Operate1};
+ghost use Rattle.instruct.specs.Instructions.{instruction_of};
+ghost use Rattle.facts.specs.Facts as said;
+ghost use Rattle.facts.specs.Outcomes.{goes, changes_ac, related1, operated1};
+ghost use Rattle.facts.specs.Same.{Agree, AgreeingOutcomes};
+ghost use Rattle.facts.specs.Meaning.{known_of};
+ghost use Rattle.facts.specs.Slots.{slot};
+
+use crate::known::Known;
+use crate::names::Name;
+use crate::outcome::{Outcome, address_after, going};
+use word12::Word;
+use wordset::WordSet;
+
+/// The outcome that goes on at the next address with what is known then.
+pub(crate) fn go_on<'a>(at: Word, known: &Known<'_>, after: Known<'a>) -> Option<Outcome<'a>>
+    ensures { (f h : said.Fact) → Agree (known_of known.now) f → Agree (known_of after.entry) h →
+        AgreeingOutcomes (slot result) (goes everything f everything (one (plus at 1)) h) }
+{
+    let all = WordSet::all();
+    going(&all, known, &all, &address_after(at), after)
+}
+
+/// Whether a word of group 1 has CLA, CMA, a rotate or BSW: it leaves no equation of the
+/// accumulator.
+fn changes_accumulator(word: Word) -> bool
+    ensures { result ≡ changes_ac word }
+{
+    let bits = word.value();
+    bits >> 7 & 1 == 1 || bits >> 5 & 1 == 1 || bits >> 3 & 1 == 1 || bits >> 2 & 1 == 1 || bits >> 1 & 1 == 1
+}

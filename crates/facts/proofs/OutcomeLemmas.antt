@@ -1,11 +1,12 @@
 -- Outcomes that agree.
 use Rattle.std.proofs.Common.{◌≡◌, ℕ, ◌+◌, ◌-◌, ◌<◌, ◌%◌, ◌==◌, Bool, true, false, not, ◌&&◌, ◌||◌, Option, Some, None, List, [], ◌∷◌, ◌++◌, refl, sym, ap, ◌∙◌, arith}
 use Rattle.std.specs.Prelude.{if◌then◌else◌}
-use Rattle.wordset.specs.Words.{plus, Words, SameWords, SameLinks, one, everything, some_below, has_some, has_link, without, shifted, difference}
+use Rattle.wordset.specs.Words.{plus, minus, Words, SameWords, SameLinks, one, everything, some_below, has_some, has_link, without, shifted, difference}
 use Rattle.facts.specs.Facts.{Name, Ac, Cell, Fact, Place, narrowed}
 use Rattle.facts.specs.Outcomes.{Outcome, Goes, CallsTo, Returns, alive, given, goes, isz_case}
 use Rattle.facts.specs.Changes.{moved, with_name, with_offsets}
 use Rattle.facts.specs.Same.{Agree, AgreeingOutcome, AgreeingOutcomes}
+use Rattle.facts.proofs.Numbers.{minus_lt}
 use Rattle.facts.proofs.Alike.{some_same}
 use Rattle.facts.proofs.AgreeLemmas.{narrowed_agree}
 
@@ -73,3 +74,20 @@ left_over {s} {r} {zero} m k e h z d v lt =
     go true false = refl
     go false true = refl
     go false false = refl
+
+pub shifts_agree : {a b : Words} → SameWords a b → SameWords (shifted a 1) (shifted b 1)
+shifts_agree h v lt = h (minus v 1) (minus_lt v 1)
+
+pub lit_last : 4095 < 4096
+lit_last = omega arith
+
+pub stays_test : (r : Bool) (set rest n : Words) (k : ℕ) → SameWords set n → rest ≡ without k set → k ≡ 4095 → r ≡ not (has_some rest) → not r ≡ has_some (without 4095 n)
+stays_test r set rest n k h e q t = ap not t ∙ twice (has_some rest) ∙ has_same (λ v lt. ap (λ (x : Words). x v) e ∙ ap (λ j. without j set v) q ∙ go v (v == 4095) (h v lt))
+  where
+    twice : (b : Bool) → not (not b) ≡ b
+    twice true = refl
+    twice false = refl
+
+    go : (v : ℕ) (b : Bool) → set v ≡ n v → (if b then false else set v) ≡ (if b then false else n v)
+    go v true z = refl
+    go v false z = z

@@ -1,12 +1,12 @@
 //! The outcomes of the words that refer to memory.
 
-ghost use Rattle.std.specs.Prelude.{ℕ, ◌≡◌, ◌≤◌, ◌++◌, true, false, Some};
+ghost use Rattle.std.specs.Prelude.{ℕ, ◌≡◌, ◌≤◌, ◌++◌, ◌||◌, ◌&&◌, true, false, Some, None};
 ghost use Rattle.arrayvec.specs.ArrayVec.{array_vec_len};
-ghost use Rattle.wordset.specs.Words.{Words, SameWords, everything, only, sums};
+ghost use Rattle.wordset.specs.Words.{Words, SameWords, everything, only, sums, some_below, has_some, without};
 ghost use Rattle.wordset.specs.Lanes.{words};
 ghost use Rattle.processor.specs.Machine.{steps_pointer};
 ghost use Rattle.facts.specs.Facts as said;
-ghost use Rattle.facts.specs.Facts.{Ac, narrowed};
+ghost use Rattle.facts.specs.Facts.{Ac, Cell, narrowed};
 ghost use Rattle.facts.specs.Outcomes.{stepped, targets, alive, given, anded, tad_word, tad_case, tad, dca_case, isz_case, jmp, CallsTo};
 ghost use Rattle.facts.specs.Same.{Agree, AgreeingOutcomes};
 ghost use Rattle.facts.specs.Meaning.{known_of, IsUnchanged};
@@ -81,6 +81,70 @@ pub(crate) fn count_own<'a>(at: Word, known: &Known<'a>, targets: &WordSet, cell
         AgreeingOutcomes (slot result) (isz_case place at f p (Some cell)) }
 {
     going(targets, known, &WordSet::all(), &address_after(at), known.returning_later())
+}
+
+/// Whether one of two is true.
+fn either(a: bool, b: bool) -> bool
+    ensures { result ≡ (a || b) }
+{
+    a || b
+}
+
+/// Whether a cell may hold 7777.
+fn may_wrap(known: &Known<'_>, cell: Word) -> bool
+    ensures { result ≡ narrowed (known_of known.now) (Cell cell) 4095 }
+{
+    known.narrowed(&Name::Cell(cell)).contains(Word::ZERO.complement())
+}
+
+/// Whether a cell may hold another word than 7777.
+fn may_stay(known: &Known<'_>, cell: Word) -> bool
+    ensures { result ≡ has_some (without 4095 (narrowed (known_of known.now) (Cell cell))) }
+{
+    let mut rest = known.narrowed(&Name::Cell(cell));
+    rest.remove(Word::ZERO.complement());
+    !rest.is_empty()
+}
+
+/// Whether some of the cells may hold 7777.
+fn may_some_wrap(known: &Known<'_>, cells: &WordSet) -> bool
+    ensures { result ≡ some_below 4096 (λ y. words cells.now y && narrowed (known_of known.now) (Cell y) 4095) }
+{
+    let mut found = false;
+    let mut next = 0usize;
+    while let Some(cell) = cells.first_from(next) {
+        found = either(found, may_wrap(known, cell));
+        next = cell.index() + 1;
+    }
+    found
+}
+
+/// Whether some of the cells may hold another word than 7777.
+fn may_some_stay(known: &Known<'_>, cells: &WordSet) -> bool
+    ensures { result ≡ some_below 4096
+        (λ y. words cells.now y && has_some (without 4095 (narrowed (known_of known.now) (Cell y)))) }
+{
+    let mut found = false;
+    let mut next = 0usize;
+    while let Some(cell) = cells.first_from(next) {
+        found = either(found, may_stay(known, cell));
+        next = cell.index() + 1;
+    }
+    found
+}
+
+/// ISZ of several variables counts an unknown one of them up.
+pub(crate) fn count_several<'a>(at: Word, known: &Known<'a>, targets: &WordSet) -> (Option<Outcome<'a>>, Option<Outcome<'a>>)
+    requires { IsUnchanged known.now.target }
+    ensures { (place : said.Place) (f : said.Fact) (p : Words) → Agree (known_of known.now) f → SameWords (words targets.now) p →
+        AgreeingOutcomes (slot result.0 ++ slot result.1) (isz_case place at f p None) }
+{
+    let all = WordSet::all();
+    let wraps = may_some_wrap(known, targets);
+    let stays = may_some_stay(known, targets);
+    let skips = going_if(wraps, targets, known, &all, &address_skipped_to(at), known.counted(targets));
+    let goes_on = going_if(stays, targets, known, &all, &address_after(at), known.counted(targets));
+    (skips, goes_on)
 }
 
 /// What is known after a sum: with one word added the accumulator's equations move by it, and

@@ -15,3 +15,4 @@ pub mod PlaceLemmas
 pub mod OutcomeLemmas
 pub mod TadLemmas
 pub mod ReachLemmas
+pub mod RegisterLemmas

@@ -4,6 +4,7 @@ ghost use Rattle.std.specs.Prelude.{◌≡◌};
 ghost use Rattle.wordset.specs.Words.{everything, one, plus};
 ghost use Rattle.instruct.specs.declared.Profile.TheVariants.{Pdp8E};
 ghost use Rattle.instruct.specs.declared.Instruction.TheVariants.{Operate1};
+ghost use Rattle.instruct.specs.Bits.{has_bit};
 ghost use Rattle.instruct.specs.Instructions.{instruction_of};
 ghost use Rattle.facts.specs.Facts as said;
 ghost use Rattle.facts.specs.Outcomes.{goes, changes_ac, related1, operated1};
@@ -33,4 +34,36 @@ fn changes_accumulator(word: Word) -> bool
 {
     let bits = word.value();
     bits >> 7 & 1 == 1 || bits >> 5 & 1 == 1 || bits >> 3 & 1 == 1 || bits >> 2 & 1 == 1 || bits >> 1 & 1 == 1
+}
+
+/// Whether a word has IAC.
+fn increments(word: Word) -> bool
+    ensures { result ≡ has_bit 0 word }
+{
+    word.value() & 1 == 1
+}
+
+/// What is known of the accumulator's equations after a word of group 1: with IAC alone they move
+/// by one.
+fn related<'a>(word: Word, known: &Known<'a>) -> Known<'a>
+    ensures { (f : said.Fact) → Agree (known_of known.now) f → Agree (known_of result) (related1 word f) }
+{
+    if changes_accumulator(word) {
+        return known.with_ac(WordSet::all());
+    }
+    if increments(word) {
+        return known.raised_ac(Word::ZERO.increment());
+    }
+    known.same()
+}
+
+/// A word of group 1: the images of the words and links.
+pub(crate) fn operate<'a>(at: Word, word: Word, known: &Known<'a>) -> Option<Outcome<'a>>
+    requires { instruction_of Pdp8E word ≡ Operate1 }
+    ensures { (f : said.Fact) → Agree (known_of known.now) f →
+        AgreeingOutcomes (slot result) (goes everything f everything (one (plus at 1)) (operated1 word f)) }
+{
+    let ac = known.narrowed(&Name::Accumulator);
+    let (images, links) = ac.map_operate(word, known.link);
+    go_on(at, known, related(word, known).holding(images).with_link(links))
 }

@@ -1,20 +1,20 @@
 //! The outcomes of operate words, which go on at the next address whatever memory holds.
 
-ghost use Rattle.std.specs.Prelude.{◌≡◌};
+ghost use Rattle.std.specs.Prelude.{◌≡◌, ◌++◌};
 ghost use Rattle.wordset.specs.Words.{everything, one, plus};
 ghost use Rattle.instruct.specs.declared.Profile.TheVariants.{Pdp8E};
 ghost use Rattle.instruct.specs.declared.Instruction.TheVariants.{Operate1};
 ghost use Rattle.instruct.specs.Bits.{has_bit};
-ghost use Rattle.instruct.specs.Instructions.{instruction_of};
+ghost use Rattle.instruct.specs.Instructions.{instruction_of, Skips, Ors, Clears, Leaves};
 ghost use Rattle.facts.specs.Facts as said;
-ghost use Rattle.facts.specs.Outcomes.{goes, changes_ac, related1, operated1};
+ghost use Rattle.facts.specs.Outcomes.{goes, changes_ac, related1, operated1, device_outcomes};
 ghost use Rattle.facts.specs.Same.{Agree, AgreeingOutcomes};
 ghost use Rattle.facts.specs.Meaning.{known_of};
 ghost use Rattle.facts.specs.Slots.{slot};
 
 use crate::known::Known;
 use crate::names::Name;
-use crate::outcome::{Outcome, address_after, going};
+use crate::outcome::{Outcome, address_after, address_skipped_to, going};
 use word12::Word;
 use wordset::WordSet;
 
@@ -66,4 +66,37 @@ pub(crate) fn operate<'a>(at: Word, word: Word, known: &Known<'a>) -> Option<Out
     let ac = known.narrowed(&Name::Accumulator);
     let (images, links) = ac.map_operate(word, known.link);
     go_on(at, known, related(word, known).holding(images).with_link(links))
+}
+
+/// A flag test: the flag may be set or not.
+pub(crate) fn test_flag<'a>(at: Word, known: &Known<'a>) -> (Option<Outcome<'a>>, Option<Outcome<'a>>)
+    ensures { (f : said.Fact) → Agree (known_of known.now) f →
+        AgreeingOutcomes (slot result.0 ++ slot result.1) (device_outcomes at f Skips) }
+{
+    let all = WordSet::all();
+    let stays = go_on(at, known, known.same());
+    let skips = going(&all, known, &all, &address_skipped_to(at), known.same());
+    (stays, skips)
+}
+
+/// A device's byte, which may be any, is or'd into the accumulator.
+pub(crate) fn or_byte<'a>(at: Word, known: &Known<'a>) -> Option<Outcome<'a>>
+    ensures { (f : said.Fact) → Agree (known_of known.now) f → AgreeingOutcomes (slot result) (device_outcomes at f Ors) }
+{
+    let ac = known.narrowed(&Name::Accumulator);
+    go_on(at, known, known.with_ac(ac.or_any(Word::from_byte(0o377))))
+}
+
+/// The accumulator is cleared.
+pub(crate) fn clear<'a>(at: Word, known: &Known<'a>) -> Option<Outcome<'a>>
+    ensures { (f : said.Fact) → Agree (known_of known.now) f → AgreeingOutcomes (slot result) (device_outcomes at f Clears) }
+{
+    go_on(at, known, known.with_ac(WordSet::one(Word::ZERO)))
+}
+
+/// Nothing changes.
+pub(crate) fn leave<'a>(at: Word, known: &Known<'a>) -> Option<Outcome<'a>>
+    ensures { (f : said.Fact) → Agree (known_of known.now) f → AgreeingOutcomes (slot result) (device_outcomes at f Leaves) }
+{
+    go_on(at, known, known.same())
 }

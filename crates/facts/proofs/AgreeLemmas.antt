@@ -1,9 +1,9 @@
 -- Facts that agree.
-use Rattle.std.proofs.Common.{◌≡◌, ℕ, ◌<◌, Bool, true, List, refl, sym, ◌∙◌, subst}
+use Rattle.std.proofs.Common.{Bool, refl, sym, ◌∙◌, subst}
 use Rattle.std.specs.Prelude.{IsTrue, ◌↔◌}
-use Rattle.wordset.specs.Words.{Words, SameWords}
-use Rattle.facts.specs.Facts.{Name, Equation, Fact, Among, narrowed, Entails, EntailsOffsets}
-use Rattle.facts.specs.Same.{SameEquations, SameFact, Agree}
+use Rattle.wordset.specs.Words.{SameWords}
+use Rattle.facts.specs.Facts.{Name, Fact, Among, narrowed, Entails, EntailsOffsets}
+use Rattle.facts.specs.Same.{SameFact, Agree}
 use Rattle.facts.proofs.Alike.{narrowed_same, same_law}
 
 pub agree_refl : (f : Fact) → Agree f f

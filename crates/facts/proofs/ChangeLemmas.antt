@@ -1,12 +1,11 @@
 -- What changes make of what is known.
-use Rattle.std.proofs.Common.{◌≡◌, ℕ, ◌+◌, ◌<◌, ◌==◌, Bool, true, false, ◌&&◌, ◌||◌, List, [], ◌∷◌, ◌++◌, map, refl, sym, ap, ◌∙◌, arith}
-use Rattle.std.specs.Prelude.{if◌then◌else◌, nat_lt, not, slice_index_or}
+use Rattle.std.proofs.Common.{◌≡◌, ℕ, ◌==◌, Bool, true, false, ◌&&◌, List, ◌++◌, map, refl, ap, ◌∙◌}
+use Rattle.std.specs.Prelude.{if◌then◌else◌, nat_lt, not}
 use Rattle.std.proofs.lemmas.List.{map-append}
-use Rattle.wordset.specs.Words.{plus, minus, Words, SameWords, shifted, union}
+use Rattle.wordset.specs.Words.{minus, Words, SameWords, shifted, union}
 use Rattle.wordset.specs.Lanes.{words}
 use Rattle.wordset.specs.Links.{links_of}
-use Rattle.facts.specs.Facts.{Name, Ac, Cell, same, Fact, Equation, narrowed, joined, outside, has_cell, is_outside}
-use Rattle.facts.specs.Changes.{moved_equations, free_of, cells_of, with_set, moved, assigned, smeared, smeared_set, with_name}
+use Rattle.facts.specs.Facts.{Name, Ac, Cell, Equation, joined, outside, has_cell, is_outside}
 use Rattle.facts.specs.Same.{Agree}
 use Rattle.facts.proofs.Numbers.{minus_lt}
 use Rattle.facts.specs.declared.fact.Fact.{Fact as CodeFact}
@@ -51,7 +50,6 @@ joined_agree call exit written k b p t ac mq link offsets es = record {
 
 pub map_both : (xs ys : List CodeEquation) (es : List Equation) → map equation_of xs ≡ es → map equation_of (xs ++ ys) ≡ es ++ map equation_of ys
 map_both xs ys es e = map-append equation_of xs ys ∙ ap (λ (z : List Equation). z ++ map equation_of ys) e
-
 
 pub fact_agrees : (f : CodeFact) (k : Known) → ((a : ℕ) → source_words k.base a ≡ cell_words f a) →
     IsUnchanged k.pointer → IsUnchanged k.target → words k.ac ≡ words f.ac → words k.mq ≡ words f.mq → links_of k.link ≡ links_of f.link → offsets_of k.offsets ≡ offsets_of f.offsets →

@@ -1,19 +1,19 @@
 -- What happens to what is known.
-use Rattle.std.proofs.Common.{◌≡◌, ℕ, ◌+◌, ◌-◌, ◌<◌, ◌==◌, Bool, true, false, ◌&&◌, ◌||◌, List, [], ◌∷◌, ◌++◌, map, refl, sym, ap, subst, ◌∙◌, arith}
+use Rattle.std.proofs.Common.{◌≡◌, ℕ, ◌-◌, ◌<◌, ◌==◌, Bool, true, false, ◌&&◌, List, ◌++◌, map, refl, ap, subst, ◌∙◌, arith}
 use Rattle.std.proofs.Math.Path.{fun_ext}
-use Rattle.std.specs.Prelude.{if◌then◌else◌, nat_lt, not}
+use Rattle.std.specs.Prelude.{if◌then◌else◌, nat_lt}
 use Rattle.std.proofs.lemmas.Bool.{ltb-true}
 use Rattle.std.proofs.lemmas.List.{map-append}
 use Rattle.wordset.specs.declared.links.Links.{Links as CodeLinks}
 use Rattle.arrayvec.specs.ArrayVec.{ArrayVec}
-use Rattle.wordset.specs.Words.{plus, minus, Words, SameWords, SameLinks, one, shifted, union}
+use Rattle.wordset.specs.Words.{minus, Words, SameWords, SameLinks, one, shifted, union}
 use Rattle.wordset.specs.Lanes.{words}
 use Rattle.wordset.specs.Links.{links_of}
 use Rattle.facts.specs.Facts.{Name, Ac, Cell, same, Fact, Equation, narrowed, has_cell}
 use Rattle.facts.specs.Changes.{moved_equations, free_of, cells_of, with_set, copied, moved, assigned, smeared, smeared_set, with_name, with_equations, with_mq, with_link, with_offsets}
 use Rattle.facts.specs.Same.{Agree}
 use Rattle.facts.proofs.Numbers.{minus_lt}
-use Rattle.facts.proofs.AgreeLemmas.{agree_refl, agree_trans, narrowed_agree}
+use Rattle.facts.proofs.AgreeLemmas.{agree_trans, narrowed_agree}
 use Rattle.facts.specs.declared.offsets.Offsets.{Offsets}
 use Rattle.facts.specs.declared.known.Known.{Known}
 use Rattle.facts.specs.declared.names.Equation.{Equation as CodeEquation}
@@ -117,14 +117,14 @@ pub assigned_agree : {f g : Fact} {s t : Words} (n : Name) → Agree f g → Sam
 unfolding assigned
 assigned_agree {f} {g} {s} {t} n h e = record {
   sets = with_set_same f.set g.set s t n h.sets e;
-  mq = h.mq; link = h.link;
+  mq = h.mq;
+  link = h.link;
   equations = ap (free_of (λ m. same m n)) h.equations;
   offsets = h.offsets;
 }
 
 pub told_agree : {f g : Fact} (es : List Equation) → Agree f g → Agree (with_equations es f) (with_equations es g)
 told_agree es h = record { sets = h.sets; mq = h.mq; link = h.link; equations = ap (λ x. es ++ x) h.equations; offsets = h.offsets }
-
 
 pub moved_agree : {f g : Fact} (n : Name) (k : ℕ) → Agree f g → Agree (moved n k f) (moved n k g)
 unfolding moved

@@ -1,19 +1,18 @@
-use Rattle.std.proofs.Common.{◌≡◌, ℕ, ◌+◌, ◌<◌, ◌==◌, Bool, true, false, ◌&&◌, ◌≤◌, Option, Some, None, List, [], ◌∷◌, map, drop, get_or, length, refl, sym, ap, ◌∙◌, subst, inl, inr, arith}
-use Rattle.std.specs.Prelude.{if◌then◌else◌, IsTrue, ◌↔◌, nat_eq}
-use Rattle.std.proofs.lemmas.Bool.{and_from, and_parts, cases_Bool, eqb-true, eq-eqb, true≢false, false≢true}
-use Rattle.std.proofs.lemmas.List.{at_drop_more, drop_more}
+use Rattle.std.proofs.Common.{◌≡◌, ℕ, ◌+◌, ◌<◌, ◌==◌, Bool, true, false, ◌&&◌, ◌≤◌, Some, None, List, [], ◌∷◌, map, drop, get_or, length, refl, sym, ap, ◌∙◌, subst, arith}
+use Rattle.std.specs.Prelude.{if◌then◌else◌, IsTrue, ◌↔◌}
+use Rattle.std.proofs.lemmas.Bool.{and_from, and_parts, eqb-true, eq-eqb, true≢false, false≢true}
+use Rattle.std.proofs.lemmas.List.{drop_more}
 use Rattle.std.proofs.Math.ListN.{drop_of_length-le}
-use Rattle.wordset.specs.Words.{plus, minus, Words, SameWords, IsWithin, IsLinkWithin, only}
+use Rattle.wordset.specs.Words.{plus, minus, Words, SameWords, IsWithin, only}
 use Rattle.facts.specs.Facts.{Name, Ac, Cell, Equation, Fact, narrowed, met_by, Knows, KnowsAll, Entails, EntailsOffsets}
 use Rattle.facts.proofs.Alike.{only_same}
 use Rattle.wordset.specs.Lanes.{words}
 use Rattle.facts.specs.declared.fact.TrackedCell.{TrackedCell as CodeCell}
 use Rattle.facts.specs.declared.fact.Fact.{Fact as CodeFact}
-use Rattle.facts.specs.declared.known.Known.{Known}
 use Rattle.facts.specs.declared.names.Equation.{Equation as CodeEquation}
 use Rattle.facts.specs.Statements.{TrackedCell, tracked}
 use Rattle.facts.specs.Showing.{Shows, EachWithin, EntailsRegisters}
-use Rattle.facts.specs.Meaning.{tracked_of, Meets, equation_of, statement_of, meaning, known_of}
+use Rattle.facts.specs.Meaning.{tracked_of, Meets, equation_of, statement_of, meaning}
 
 pub back_twice : (v k : ℕ) → v < 4096 → minus v (minus 0 k) ≡ plus v k
 back_twice v k h = omega arith
@@ -55,19 +54,21 @@ each_tracked f (t ∷ ts) w a v lt h = and_from _ _ (go (t.address == a) refl) (
 
 pub tracked_each : (f : Fact) (cells : List TrackedCell) → ((a : ℕ) → IsWithin (narrowed f (Cell a)) (tracked a cells)) → EachWithin f cells
 tracked_each f [] w = tt
-tracked_each f (t ∷ ts) w =
-    (λ v lt h. let q : (t.address == t.address) ≡ true = eq-eqb t.address t.address refl in let p : ((if t.address == t.address then t.set v else true) && tracked t.address ts v) ≡ true = w t.address v lt h in
-    (let r : (if t.address == t.address then t.set v else true) ≡ true = (and_parts _ _ p).0 in rw q at r),
-    tracked_each f ts (λ a v lt h. (and_parts _ _ (w a v lt h)).1))
+tracked_each f (t ∷ ts) w = (
+  λ v lt h. let q : (t.address == t.address) ≡ true = eq-eqb t.address t.address refl in let p : ((if t.address == t.address then t.set v else true) && tracked t.address ts v) ≡ true = w t.address v lt h in
+      (let r : (if t.address == t.address then t.set v else true) ≡ true = (and_parts _ _ p).0 in rw q at r),
+  tracked_each f ts (λ a v lt h. (and_parts _ _ (w a v lt h)).1),
+)
 
 -- two single words
 pub shows_some : (f : Fact) (e : Equation) (a b : Words) (x y z : ℕ) (t : Bool) → SameWords a (narrowed f e.left) → SameWords b (narrowed f e.right) →
     Some x ≡ only a → Some y ≡ only b → t ≡ (x == z) → z ≡ plus y e.more → IsTrue t ↔ Shows f e
 shows_some f e a b x y z t sa sb ea eb et ez =
     let l : only (narrowed f e.left) ≡ Some x = sym (only_same a _ sa) ∙ sym ea in
-    let r : only (narrowed f e.right) ≡ Some y = sym (only_same b _ sb) ∙ sym eb in
-    (λ q. (x, y, l, r, eqb-true x z (sym et ∙ q) ∙ ez),
-    λ s. (let ex : s.0 ≡ x = some_is (sym s.2 ∙ l) in let ey : s.1 ≡ y = some_is (sym s.3 ∙ r) in et ∙ eq-eqb x z (sym ex ∙ s.4 ∙ ap (λ k. plus k e.more) ey ∙ sym ez)))
+    let r : only (narrowed f e.right) ≡ Some y = sym (only_same b _ sb) ∙ sym eb in (
+      λ q. (x, y, l, r, eqb-true x z (sym et ∙ q) ∙ ez),
+      λ s. (let ex : s.0 ≡ x = some_is (sym s.2 ∙ l) in let ey : s.1 ≡ y = some_is (sym s.3 ∙ r) in et ∙ eq-eqb x z (sym ex ∙ s.4 ∙ ap (λ k. plus k e.more) ey ∙ sym ez)),
+    )
   where
     some_is : {p q : ℕ} → Some p ≡ Some q → p ≡ q
     some_is e = cc
@@ -89,9 +90,10 @@ drop_item xs i x lt e = drop_more xs i x lt ∙ ap (λ y. y ∷ drop (i + 1) xs)
 
 pub each_step : (f : Fact) (cells : List CodeCell) (i : ℕ) (t : CodeCell) → i < length cells → t ≡ get_or cells i t → IsWithin (narrowed f (Cell t.cell)) (words t.set) →
     (EachWithin f (map tracked_of (drop i cells)) ↔ EachWithin f (map tracked_of cells)) → (EachWithin f (map tracked_of (drop (i + 1) cells)) ↔ EachWithin f (map tracked_of cells))
-each_step f cells i t lt e w h =
-    (λ r. h.0 (subst (λ xs. EachWithin f (map tracked_of xs)) (sym (drop_item cells i t lt e)) (w, r)),
-    λ a. (let p : EachWithin f (map tracked_of (t ∷ drop (i + 1) cells)) = subst (λ xs. EachWithin f (map tracked_of xs)) (drop_item cells i t lt e) (h.1 a) in p.1))
+each_step f cells i t lt e w h = (
+  λ r. h.0 (subst (λ xs. EachWithin f (map tracked_of xs)) (sym (drop_item cells i t lt e)) (w, r)),
+  λ a. (let p : EachWithin f (map tracked_of (t ∷ drop (i + 1) cells)) = subst (λ xs. EachWithin f (map tracked_of xs)) (drop_item cells i t lt e) (h.1 a) in p.1),
+)
 
 pub each_fails : (f : Fact) (cells : List CodeCell) (i : ℕ) (t : CodeCell) → i < length cells → t ≡ get_or cells i t → (IsWithin (narrowed f (Cell t.cell)) (words t.set) → ⊥) →
     (EachWithin f (map tracked_of (drop i cells)) ↔ EachWithin f (map tracked_of cells)) → IsTrue false ↔ EachWithin f (map tracked_of cells)
@@ -100,9 +102,10 @@ each_fails f cells i t lt e not h =
 
 pub knows_step : (f : Fact) (es : List CodeEquation) (i : ℕ) (g : CodeEquation) → i < length es → g ≡ get_or es i g → Knows f (equation_of g) →
     (KnowsAll f (map equation_of (drop i es)) ↔ KnowsAll f (map equation_of es)) → (KnowsAll f (map equation_of (drop (i + 1) es)) ↔ KnowsAll f (map equation_of es))
-knows_step f es i g lt e w h =
-    (λ r. h.0 (subst (λ xs. KnowsAll f (map equation_of xs)) (sym (drop_item es i g lt e)) (w, r)),
-    λ a. (let p : KnowsAll f (map equation_of (g ∷ drop (i + 1) es)) = subst (λ xs. KnowsAll f (map equation_of xs)) (drop_item es i g lt e) (h.1 a) in p.1))
+knows_step f es i g lt e w h = (
+  λ r. h.0 (subst (λ xs. KnowsAll f (map equation_of xs)) (sym (drop_item es i g lt e)) (w, r)),
+  λ a. (let p : KnowsAll f (map equation_of (g ∷ drop (i + 1) es)) = subst (λ xs. KnowsAll f (map equation_of xs)) (drop_item es i g lt e) (h.1 a) in p.1),
+)
 
 pub knows_fails : (f : Fact) (es : List CodeEquation) (i : ℕ) (g : CodeEquation) → i < length es → g ≡ get_or es i g → (Knows f (equation_of g) → ⊥) →
     (KnowsAll f (map equation_of (drop i es)) ↔ KnowsAll f (map equation_of es)) → IsTrue false ↔ KnowsAll f (map equation_of es)

@@ -1,11 +1,9 @@
 -- What cells may hold, and the images of sets, for facts that agree.
-use Rattle.std.proofs.Common.{◌≡◌, ℕ, zero, suc, ◌+◌, ◌-◌, ◌/◌, ◌<◌, ◌==◌, Bool, true, false, ◌&&◌, ◌||◌, List, Option, Some, None, refl, sym, ap, ◌∙◌, subst, arith, add-one}
-use Rattle.std.specs.Prelude.{if◌then◌else◌, nat_lt, bit_and, bit_or}
-use Rattle.wordset.specs.Words.{plus, minus, Words, SameWords, SameLinks, everything, all_words, nothing, one, some_below, has_some, sums, carries, toggled, ands, ors, or_any, images, images_at, union, without, shifted}
+use Rattle.std.proofs.Common.{◌≡◌, ℕ, ◌+◌, ◌-◌, ◌/◌, ◌<◌, ◌==◌, Bool, true, false, ◌&&◌, ◌||◌, refl, sym, ap, ◌∙◌, arith, add-one}
+use Rattle.std.specs.Prelude.{if◌then◌else◌, bit_and, bit_or}
+use Rattle.wordset.specs.Words.{minus, Words, SameWords, SameLinks, everything, all_words, some_below, sums, carries, toggled, ands, ors, or_any, images, images_at, without}
 use Rattle.std.proofs.lemmas.Bool.{lt-ltb}
-use Rattle.bin_tape.specs.Image.{word_at}
-use Rattle.peripherals.specs.Loading.{image_of}
-use Rattle.facts.specs.Facts.{Name, Ac, Cell, Fact, Place, narrowed, words_in, own_words, is_routine, tape_word}
+use Rattle.facts.specs.Facts.{Cell, Fact, Place, narrowed, words_in, own_words, is_routine, tape_word}
 use Rattle.facts.specs.Outcomes.{words_at}
 use Rattle.facts.specs.Same.{Agree}
 use Rattle.facts.proofs.Alike.{some_same}

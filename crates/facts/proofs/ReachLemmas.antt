@@ -1,6 +1,5 @@
 -- What a reference reaches.
-use Rattle.std.proofs.Common.{◌≡◌, ℕ, ◌<◌, Bool, true, false, refl, sym, ap, ◌∙◌}
-use Rattle.std.specs.Prelude.{if◌then◌else◌}
+use Rattle.std.proofs.Common.{◌≡◌, ℕ, Bool, true, false}
 use Rattle.wordset.specs.Words.{Words, SameWords, one}
 use Rattle.processor.specs.Machine.{steps_pointer}
 use Rattle.facts.specs.Facts.{Cell, Fact, Place, words_in}

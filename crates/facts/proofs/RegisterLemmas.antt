@@ -1,5 +1,5 @@
 -- What operate words make of a fact.
-use Rattle.std.proofs.Common.{◌≡◌, ℕ, ◌<◌, Bool, true, false, refl, sym, ap, subst, ◌∙◌}
+use Rattle.std.proofs.Common.{◌≡◌, ℕ, Bool, true, false}
 use Rattle.std.specs.Prelude.{if◌then◌else◌}
 use Rattle.instruct.specs.Bits.{has_bit}
 use Rattle.wordset.specs.Words.{Words, SameWords, SameLinks, everything, images}

@@ -1,8 +1,8 @@
 -- The test of a start, piece by piece.
-use Rattle.std.proofs.Common.{◌≡◌, ℕ, zero, suc, ◌+◌, ◌<◌, ◌≤◌, ◌==◌, Bool, true, false, not, ◌&&◌, ◌||◌, Option, Some, None, List, [], ◌∷◌, map, drop, get_or, length, refl, sym, ap, ◌∙◌, subst, inl, inr, arith}
+use Rattle.std.proofs.Common.{◌≡◌, ℕ, ◌+◌, ◌<◌, ◌≤◌, ◌==◌, Bool, true, false, not, ◌&&◌, ◌||◌, Option, Some, None, List, [], ◌∷◌, map, drop, get_or, length, refl, sym, ap, ◌∙◌, subst, arith}
 use Rattle.std.specs.Prelude.{if◌then◌else◌, IsTrue, ◌↔◌, nat_lt}
 use Rattle.std.specs.Option.{ForSome}
-use Rattle.std.proofs.lemmas.Bool.{and_from, and_parts, cases_Bool, eqb-true, eq-eqb, true≢false, false≢true}
+use Rattle.std.proofs.lemmas.Bool.{and_from, and_parts, eqb-true, eq-eqb, true≢false}
 use Rattle.std.proofs.Math.ListN.{drop_of_length-le}
 use Rattle.wordset.specs.Words.{Words, SameWords, everything, some_below}
 use Rattle.wordset.specs.Lanes.{words}
@@ -11,16 +11,15 @@ use Rattle.wordset.specs.declared.links.Links.{Links}
 use Rattle.processor.specs.Runs.{Image}
 use Rattle.bin_tape.specs.Image.{word_at, HoldsWords}
 use Rattle.peripherals.specs.Loading.{image_of}
-use Rattle.facts.specs.Facts.{Name, Ac, Cell, Fact, Place}
+use Rattle.facts.specs.Facts.{Ac, Cell, Fact, Place}
 use Rattle.facts.specs.Statements.{TrackedCell, tracked}
-use Rattle.facts.specs.Starts.{each_below, has_each, are_always, is_always, holds_before, AreTapeWords, TracksWords, HoldsOfStarts}
+use Rattle.facts.specs.Starts.{each_below, has_each, are_always, holds_before, AreTapeWords, HoldsOfStarts}
 use Rattle.facts.specs.Showing.{MayStart, AreCells, allows_all}
 use Rattle.facts.proofs.Starting.{each_from, each_at, start_law}
 use Rattle.facts.proofs.EntailLemmas.{not_true, drop_item}
 use Rattle.facts.specs.declared.fact.TrackedCell.{TrackedCell as CodeCell}
 use Rattle.facts.specs.declared.fact.Fact.{Fact as CodeFact}
-use Rattle.facts.specs.declared.names.Equation.{Equation as CodeEquation}
-use Rattle.facts.specs.Meaning.{tracked_of, equation_of, statement_of, meaning}
+use Rattle.facts.specs.Meaning.{tracked_of, statement_of, meaning}
 
 pub both_ways : (a b : Bool) → (a ≡ true → b ≡ true) → (b ≡ true → a ≡ true) → a ≡ b
 both_ways true b h g = sym (h refl)
@@ -66,9 +65,10 @@ start_rest image t ts h a lt = each_right (image a) (λ v. if t.address == a the
 
 pub start_step : (image : Image) (cells : List CodeCell) (i : ℕ) (t : CodeCell) → i < length cells → t ≡ get_or cells i t → has_each (image t.cell) (words t.set) ≡ true →
     (MayStart image (map tracked_of (drop i cells)) ↔ MayStart image (map tracked_of cells)) → (MayStart image (map tracked_of (drop (i + 1) cells)) ↔ MayStart image (map tracked_of cells))
-start_step image cells i t lt e w h =
-    (λ r. h.0 (subst (λ xs. MayStart image (map tracked_of xs)) (sym (drop_item cells i t lt e)) (start_more image (tracked_of t) (map tracked_of (drop (i + 1) cells)) w r)),
-    λ a. start_rest image (tracked_of t) (map tracked_of (drop (i + 1) cells)) (subst (λ xs. MayStart image (map tracked_of xs)) (drop_item cells i t lt e) (h.1 a)))
+start_step image cells i t lt e w h = (
+  λ r. h.0 (subst (λ xs. MayStart image (map tracked_of xs)) (sym (drop_item cells i t lt e)) (start_more image (tracked_of t) (map tracked_of (drop (i + 1) cells)) w r)),
+  λ a. start_rest image (tracked_of t) (map tracked_of (drop (i + 1) cells)) (subst (λ xs. MayStart image (map tracked_of xs)) (drop_item cells i t lt e) (h.1 a)),
+)
 
 pub start_fails : (image : Image) (cells : List CodeCell) (i : ℕ) (t : CodeCell) → i < length cells → t ≡ get_or cells i t → t.cell < 4096 → has_each (image t.cell) (words t.set) ≡ false →
     (MayStart image (map tracked_of (drop i cells)) ↔ MayStart image (map tracked_of cells)) → IsTrue false ↔ MayStart image (map tracked_of cells)

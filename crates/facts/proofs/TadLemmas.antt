@@ -1,5 +1,5 @@
 -- What TAD makes of a fact.
-use Rattle.std.proofs.Common.{◌≡◌, ℕ, ◌<◌, Bool, true, false, Option, Some, None, [], ◌∷◌, refl, sym, ap, ◌∙◌}
+use Rattle.std.proofs.Common.{◌≡◌, ℕ, Bool, true, false, Option, Some, None, [], ◌∷◌, refl, ap, ◌∙◌}
 use Rattle.std.specs.Prelude.{if◌then◌else◌}
 use Rattle.wordset.specs.Words.{Words, SameLinks, sums, carries, toggled, only}
 use Rattle.facts.specs.Facts.{Ac, Cell, Fact, Place, narrowed}

@@ -1,5 +1,5 @@
 -- What may happen to a fact: a word that moves by a count, one that takes a new value, one of several cells that changes.
-use Rattle.std.specs.Prelude.{ℕ, ◌==◌, Bool, false, ◌&&◌, ◌||◌, if◌then◌else◌, List, [], ◌∷◌, ◌++◌, nat_lt}
+use Rattle.std.specs.Prelude.{ℕ, ◌==◌, Bool, false, ◌||◌, if◌then◌else◌, List, [], ◌∷◌, ◌++◌, nat_lt}
 use Rattle.wordset.specs.Words.{plus, minus, Words, union, shifted}
 use Rattle.facts.specs.Facts.{Name, Ac, Cell, same, Equation, Fact, narrowed, has_cell}
 

@@ -1,5 +1,5 @@
 -- Facts as they're kept in code, and what they mean.
-use Rattle.std.specs.Prelude.{◌≡◌, ℕ, ◌<◌, ◌==◌, true, false, ◌&&◌, if◌then◌else◌, List, [], ◌∷◌, slice_index_or, map}
+use Rattle.std.specs.Prelude.{◌≡◌, ℕ, ◌<◌, ◌==◌, false, ◌&&◌, if◌then◌else◌, [], ◌∷◌, slice_index_or, map}
 use Rattle.wordset.specs.Words.{Words, union, shifted}
 use Rattle.wordset.specs.Lanes.{words}
 use Rattle.wordset.specs.Links.{links_of}

@@ -1,5 +1,5 @@
 -- Places as they're kept in code, and what they mean.
-use Rattle.std.specs.Prelude.{ℕ, Option, Some, None}
+use Rattle.std.specs.Prelude.{Option, Some, None}
 use Rattle.wordset.specs.Words.{Words, nothing}
 use Rattle.wordset.specs.Lanes.{words}
 use Rattle.peripherals.specs.Loading.{image_of}

@@ -64,8 +64,16 @@ pub(crate) fn raised(name: &Name, k: Word, equations: &[Equation]) -> Equations
 {
     let mut list = ArrayVec::new();
     for e in equations {
-        let up = if is_same_name(&e.left, name) { e.more.add(k) } else { e.more };
-        let down = if is_same_name(&Name::Cell(e.right), name) { negated(k) } else { Word::ZERO };
+        let up = if is_same_name(&e.left, name) {
+            e.more.add(k)
+        } else {
+            e.more
+        };
+        let down = if is_same_name(&Name::Cell(e.right), name) {
+            negated(k)
+        } else {
+            Word::ZERO
+        };
         list.push(Equation {
             left: e.left,
             right: e.right,

@@ -173,7 +173,8 @@ impl Fact {
     pub fn track(&mut self, cell: Word, set: WordSet)
         requires { length (statement_of self.old).cells < 64 }
         ensures statement { statement_of self.new ≡ record (statement_of self.old) {
-            cells = (statement_of self.old).cells ++ record { address = cell; set = words set } ∷ [] } }
+          cells = (statement_of self.old).cells ++ record { address = cell; set = words set } ∷ [];
+        } }
         ensures offsets { offsets_of self.new.offsets ≡ offsets_of self.old.offsets }
     {
         self.cells.push(TrackedCell { cell, set });
@@ -190,7 +191,8 @@ impl Fact {
     pub fn relate(&mut self, equation: Equation)
         requires { length (statement_of self.old).equations < 32 }
         ensures statement { statement_of self.new ≡ record (statement_of self.old) {
-            equations = (statement_of self.old).equations ++ equation_of equation ∷ [] } }
+          equations = (statement_of self.old).equations ++ equation_of equation ∷ [];
+        } }
         ensures offsets { offsets_of self.new.offsets ≡ offsets_of self.old.offsets }
     {
         self.equations.push(Equation {

@@ -155,12 +155,16 @@ impl Known<'_> {
         ensures { Meets (known_of self.now) (name_of name.now) (equation_of equation.now) (words set) (words result) }
     {
         let left = if is_same_name(&equation.left, name) {
-            self.set(&Name::Cell(equation.right)).shift(equation.more).meet(&set)
+            self.set(&Name::Cell(equation.right))
+                .shift(equation.more)
+                .meet(&set)
         } else {
             set
         };
         if is_same_name(&Name::Cell(equation.right), name) {
-            self.set(&equation.left).shift(negated(equation.more)).meet(&left)
+            self.set(&equation.left)
+                .shift(negated(equation.more))
+                .meet(&left)
         } else {
             left
         }
@@ -268,7 +272,8 @@ impl Known<'_> {
         if !self.mq.is_subset(fact.mq()) {
             return false;
         }
-        self.narrowed(&Name::Accumulator).is_subset(fact.accumulator())
+        self.narrowed(&Name::Accumulator)
+            .is_subset(fact.accumulator())
     }
 }
 

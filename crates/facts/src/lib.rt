@@ -12,7 +12,6 @@ mod fact;
 mod known;
 mod names;
 mod offsets;
-
 mod outcome;
 mod place;
 mod references;

@@ -71,7 +71,13 @@ fn is_alive(targets: &WordSet, before: &Known<'_>, changed: &WordSet, after: &Kn
 }
 
 /// The outcome that goes on at some addresses, where it can come about.
-pub(crate) fn going<'a>(targets: &WordSet, before: &Known<'_>, changed: &WordSet, next: &WordSet, after: Known<'a>) -> Option<Outcome<'a>>
+pub(crate) fn going<'a>(
+    targets: &WordSet,
+    before: &Known<'_>,
+    changed: &WordSet,
+    next: &WordSet,
+    after: Known<'a>,
+) -> Option<Outcome<'a>>
     ensures { (p changes nexts : Words) (f h : Fact) → SameWords (words targets.now) p → Agree (known_of before.now) f →
         SameWords (words changed.now) changes → SameWords (words next.now) nexts → Agree (known_of after.entry) h →
         AgreeingOutcomes (slot result) (goes p f changes nexts h) }
@@ -84,7 +90,14 @@ pub(crate) fn going<'a>(targets: &WordSet, before: &Known<'_>, changed: &WordSet
 }
 
 /// The outcome that goes on at some addresses, where it is chosen and can come about.
-pub(crate) fn going_if<'a>(chosen: bool, targets: &WordSet, before: &Known<'_>, changed: &WordSet, next: &WordSet, after: Known<'a>) -> Option<Outcome<'a>>
+pub(crate) fn going_if<'a>(
+    chosen: bool,
+    targets: &WordSet,
+    before: &Known<'_>,
+    changed: &WordSet,
+    next: &WordSet,
+    after: Known<'a>,
+) -> Option<Outcome<'a>>
     ensures { (p changes nexts : Words) (f h : Fact) → SameWords (words targets.now) p → Agree (known_of before.now) f →
         SameWords (words changed.now) changes → SameWords (words next.now) nexts → Agree (known_of after.entry) h →
         AgreeingOutcomes (slot result) (given (chosen && alive p f changes h) (Goes nexts h)) }
@@ -97,7 +110,11 @@ pub(crate) fn going_if<'a>(chosen: bool, targets: &WordSet, before: &Known<'_>, 
 }
 
 /// The outcome that calls the targets, where it can come about.
-pub(crate) fn calling<'a>(targets: &WordSet, before: &Known<'_>, after: Known<'a>) -> Option<Outcome<'a>>
+pub(crate) fn calling<'a>(
+    targets: &WordSet,
+    before: &Known<'_>,
+    after: Known<'a>,
+) -> Option<Outcome<'a>>
     ensures { (p : Words) (f h : Fact) → SameWords (words targets.now) p → Agree (known_of before.now) f → Agree (known_of after.entry) h →
         AgreeingOutcomes (slot result) (given (alive p f everything h) (CallsTo p h)) }
 {
@@ -109,7 +126,11 @@ pub(crate) fn calling<'a>(targets: &WordSet, before: &Known<'_>, after: Known<'a
 }
 
 /// The outcome that returns, where it can come about.
-pub(crate) fn returning<'a>(targets: &WordSet, before: &Known<'_>, after: Known<'a>) -> Option<Outcome<'a>>
+pub(crate) fn returning<'a>(
+    targets: &WordSet,
+    before: &Known<'_>,
+    after: Known<'a>,
+) -> Option<Outcome<'a>>
     ensures { (p : Words) (f h : Fact) → SameWords (words targets.now) p → Agree (known_of before.now) f → Agree (known_of after.entry) h →
         AgreeingOutcomes (slot result) (given (alive p f everything h) (Returns h)) }
 {

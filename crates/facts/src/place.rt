@@ -87,7 +87,11 @@ impl<A: Allocator> Place<'_, A> {
         let offsets = known.offsets();
         let mut set = WordSet::empty();
         for o in 0..8usize {
-            set = union_if(offsets.contains(o), &set, &sites.shift(Word::from_index(o + 1)));
+            set = union_if(
+                offsets.contains(o),
+                &set,
+                &sites.shift(Word::from_index(o + 1)),
+            );
         }
         set
     }

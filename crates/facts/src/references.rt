@@ -15,7 +15,9 @@ ghost use Rattle.facts.specs.Slots.{slot};
 
 use crate::known::Known;
 use crate::names::Name;
-use crate::outcome::{Outcome, address_after, address_skipped_to, calling, going, going_if, returning};
+use crate::outcome::{
+    Outcome, address_after, address_skipped_to, calling, going, going_if, returning,
+};
 use crate::place::Place;
 use processor::is_auto_index;
 use std::alloc::Allocator;
@@ -52,7 +54,12 @@ pub(crate) fn deposit<'a>(at: Word, known: &Known<'a>, targets: &WordSet) -> Opt
 }
 
 /// ISZ of one variable: it skips where the variable was 7777, and otherwise leaves it not zero.
-pub(crate) fn count_one<'a>(at: Word, known: &Known<'a>, targets: &WordSet, cell: Word) -> (Option<Outcome<'a>>, Option<Outcome<'a>>)
+pub(crate) fn count_one<'a>(
+    at: Word,
+    known: &Known<'a>,
+    targets: &WordSet,
+    cell: Word,
+) -> (Option<Outcome<'a>>, Option<Outcome<'a>>)
     requires { IsUnchanged known.now.target }
     ensures { (place : said.Place) (f : said.Fact) (p : Words) → place.declaration.variable cell ≡ true →
         Agree (known_of known.now) f → SameWords (words targets.now) p →
@@ -70,17 +77,34 @@ pub(crate) fn count_one<'a>(at: Word, known: &Known<'a>, targets: &WordSet, cell
         &address_skipped_to(at),
         known.counted_to(cell, zero),
     );
-    let goes_on = going(targets, known, &more, &address_after(at), known.counted_to(cell, more));
+    let goes_on = going(
+        targets,
+        known,
+        &more,
+        &address_after(at),
+        known.counted_to(cell, more),
+    );
     (skips, goes_on)
 }
 
 /// ISZ of the running routine's own entry counts the offsets up.
-pub(crate) fn count_own<'a>(at: Word, known: &Known<'a>, targets: &WordSet, cell: Word) -> Option<Outcome<'a>>
+pub(crate) fn count_own<'a>(
+    at: Word,
+    known: &Known<'a>,
+    targets: &WordSet,
+    cell: Word,
+) -> Option<Outcome<'a>>
     ensures { (place : said.Place) (f : said.Fact) (p : Words) → place.declaration.variable cell ≡ false →
         Agree (known_of known.now) f → SameWords (words targets.now) p →
         AgreeingOutcomes (slot result) (isz_case place at f p (Some cell)) }
 {
-    going(targets, known, &WordSet::all(), &address_after(at), known.returning_later())
+    going(
+        targets,
+        known,
+        &WordSet::all(),
+        &address_after(at),
+        known.returning_later(),
+    )
 }
 
 /// Whether one of two is true.
@@ -94,7 +118,9 @@ fn either(a: bool, b: bool) -> bool
 fn may_wrap(known: &Known<'_>, cell: Word) -> bool
     ensures { result ≡ narrowed (known_of known.now) (Cell cell) 4095 }
 {
-    known.narrowed(&Name::Cell(cell)).contains(Word::ZERO.complement())
+    known
+        .narrowed(&Name::Cell(cell))
+        .contains(Word::ZERO.complement())
 }
 
 /// Whether a cell may hold another word than 7777.
@@ -134,7 +160,11 @@ fn may_some_stay(known: &Known<'_>, cells: &WordSet) -> bool
 }
 
 /// ISZ of several variables counts an unknown one of them up.
-pub(crate) fn count_several<'a>(at: Word, known: &Known<'a>, targets: &WordSet) -> (Option<Outcome<'a>>, Option<Outcome<'a>>)
+pub(crate) fn count_several<'a>(
+    at: Word,
+    known: &Known<'a>,
+    targets: &WordSet,
+) -> (Option<Outcome<'a>>, Option<Outcome<'a>>)
     requires { IsUnchanged known.now.target }
     ensures { (place : said.Place) (f : said.Fact) (p : Words) → Agree (known_of known.now) f → SameWords (words targets.now) p →
         AgreeingOutcomes (slot result.0 ++ slot result.1) (isz_case place at f p None) }
@@ -142,8 +172,22 @@ pub(crate) fn count_several<'a>(at: Word, known: &Known<'a>, targets: &WordSet) 
     let all = WordSet::all();
     let wraps = may_some_wrap(known, targets);
     let stays = may_some_stay(known, targets);
-    let skips = going_if(wraps, targets, known, &all, &address_skipped_to(at), known.counted(targets));
-    let goes_on = going_if(stays, targets, known, &all, &address_after(at), known.counted(targets));
+    let skips = going_if(
+        wraps,
+        targets,
+        known,
+        &all,
+        &address_skipped_to(at),
+        known.counted(targets),
+    );
+    let goes_on = going_if(
+        stays,
+        targets,
+        known,
+        &all,
+        &address_after(at),
+        known.counted(targets),
+    );
     (skips, goes_on)
 }
 
@@ -169,7 +213,12 @@ pub(crate) fn call<'a>(known: &Known<'a>, targets: &WordSet) -> Option<Outcome<'
 
 impl<A: Allocator> Place<'_, A> {
     /// What is known when a reference is made, and its targets: a stepped pointer counts up first.
-    pub(crate) fn reach<'a>(&self, indirect: bool, named: Word, known: &Known<'a>) -> (Known<'a>, WordSet)
+    pub(crate) fn reach<'a>(
+        &self,
+        indirect: bool,
+        named: Word,
+        known: &Known<'a>,
+    ) -> (Known<'a>, WordSet)
         requires pointer { IsUnchanged known.now.pointer }
         requires target { IsUnchanged known.now.target }
         ensures known { (f : said.Fact) → Agree (known_of known.now) f → Agree (known_of result.0) (stepped indirect named f) }
@@ -190,7 +239,12 @@ impl<A: Allocator> Place<'_, A> {
     }
 
     /// AND: all a and v, for the words a of the accumulator and v of the targets.
-    pub(crate) fn combine<'a>(&self, at: Word, known: &Known<'a>, targets: &WordSet) -> Option<Outcome<'a>>
+    pub(crate) fn combine<'a>(
+        &self,
+        at: Word,
+        known: &Known<'a>,
+        targets: &WordSet,
+    ) -> Option<Outcome<'a>>
         ensures { (f : said.Fact) (p : Words) → Agree (known_of known.now) f → SameWords (words targets.now) p →
             AgreeingOutcomes (slot result) (anded (place_of self.now) at f p) }
     {
@@ -201,7 +255,14 @@ impl<A: Allocator> Place<'_, A> {
     }
 
     /// What is known of the accumulator after TAD: of one variable to one word it is their sum.
-    fn after_tad<'a>(&self, known: &Known<'a>, target: &Option<Word>, ac: &Option<Word>, added: &Option<Word>, set: WordSet) -> Known<'a>
+    fn after_tad<'a>(
+        &self,
+        known: &Known<'a>,
+        target: &Option<Word>,
+        ac: &Option<Word>,
+        added: &Option<Word>,
+        set: WordSet,
+    ) -> Known<'a>
         requires { array_vec_len known.now.equations ≤ 32 }
         ensures { (f : said.Fact) (v : Words) → Agree (known_of known.now) f → SameWords (words set) (sums (narrowed f Ac) v) →
             Agree (known_of result) (tad_case (place_of self.now) f v target.now ac.now added.now) }
@@ -222,7 +283,12 @@ impl<A: Allocator> Place<'_, A> {
     }
 
     /// TAD: all sums, and the link complemented by the carries that occur.
-    pub(crate) fn add<'a>(&self, at: Word, known: &Known<'a>, targets: &WordSet) -> Option<Outcome<'a>>
+    pub(crate) fn add<'a>(
+        &self,
+        at: Word,
+        known: &Known<'a>,
+        targets: &WordSet,
+    ) -> Option<Outcome<'a>>
         requires { array_vec_len known.now.equations ≤ 32 }
         ensures { (f : said.Fact) (p : Words) → Agree (known_of known.now) f → SameWords (words targets.now) p →
             AgreeingOutcomes (slot result) (tad (place_of self.now) at f p) }
@@ -232,11 +298,23 @@ impl<A: Allocator> Place<'_, A> {
         let (sums, carries) = ac.sums(&seen);
         let links = known.link.toggled(carries);
         let sum = self.after_tad(known, &targets.only(), &ac.only(), &seen.only(), sums);
-        going(targets, known, &WordSet::all(), &address_after(at), sum.with_link(links))
+        going(
+            targets,
+            known,
+            &WordSet::all(),
+            &address_after(at),
+            sum.with_link(links),
+        )
     }
 
     /// JMP goes to each target; JMP I through the running routine's own entry returns.
-    pub(crate) fn jump<'a>(&self, indirect: bool, named: Word, known: &Known<'a>, targets: &WordSet) -> Option<Outcome<'a>>
+    pub(crate) fn jump<'a>(
+        &self,
+        indirect: bool,
+        named: Word,
+        known: &Known<'a>,
+        targets: &WordSet,
+    ) -> Option<Outcome<'a>>
         ensures { (f : said.Fact) (p : Words) → Agree (known_of known.now) f → SameWords (words targets.now) p →
             AgreeingOutcomes (slot result) (jmp (place_of self.now) indirect named f p) }
     {

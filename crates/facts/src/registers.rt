@@ -1,12 +1,15 @@
 //! The outcomes of operate words, which go on at the next address whatever memory holds.
 
 ghost use Rattle.std.specs.Prelude.{◌≡◌, ◌++◌};
-ghost use Rattle.wordset.specs.Words.{everything, one, plus};
+ghost use Rattle.wordset.specs.Words.{Words, SameWords, everything, one, plus};
+ghost use Rattle.wordset.specs.Lanes.{words};
 ghost use Rattle.instruct.specs.declared.Profile.TheVariants.{Pdp8E};
 ghost use Rattle.instruct.specs.declared.Instruction.TheVariants.{Operate1};
 ghost use Rattle.instruct.specs.Bits.{has_bit};
 ghost use Rattle.instruct.specs.Instructions.{instruction_of, Skips, Ors, Clears, Leaves};
 ghost use Rattle.facts.specs.Facts as said;
+ghost use Rattle.facts.specs.Facts.{Ac};
+ghost use Rattle.facts.specs.Changes.{assigned, with_mq};
 ghost use Rattle.facts.specs.Outcomes.{goes, changes_ac, related1, operated1, device_outcomes};
 ghost use Rattle.facts.specs.Same.{Agree, AgreeingOutcomes};
 ghost use Rattle.facts.specs.Meaning.{known_of};
@@ -33,7 +36,11 @@ fn changes_accumulator(word: Word) -> bool
     ensures { result ≡ changes_ac word }
 {
     let bits = word.value();
-    bits >> 7 & 1 == 1 || bits >> 5 & 1 == 1 || bits >> 3 & 1 == 1 || bits >> 2 & 1 == 1 || bits >> 1 & 1 == 1
+    bits >> 7 & 1 == 1
+        || bits >> 5 & 1 == 1
+        || bits >> 3 & 1 == 1
+        || bits >> 2 & 1 == 1
+        || bits >> 1 & 1 == 1
 }
 
 /// Whether a word has IAC.
@@ -65,11 +72,18 @@ pub(crate) fn operate<'a>(at: Word, word: Word, known: &Known<'a>) -> Option<Out
 {
     let ac = known.narrowed(&Name::Accumulator);
     let (images, links) = ac.map_operate(word, known.link);
-    go_on(at, known, related(word, known).holding(images).with_link(links))
+    go_on(
+        at,
+        known,
+        related(word, known).holding(images).with_link(links),
+    )
 }
 
 /// A flag test: the flag may be set or not.
-pub(crate) fn test_flag<'a>(at: Word, known: &Known<'a>) -> (Option<Outcome<'a>>, Option<Outcome<'a>>)
+pub(crate) fn test_flag<'a>(
+    at: Word,
+    known: &Known<'a>,
+) -> (Option<Outcome<'a>>, Option<Outcome<'a>>)
     ensures { (f : said.Fact) → Agree (known_of known.now) f →
         AgreeingOutcomes (slot result.0 ++ slot result.1) (device_outcomes at f Skips) }
 {
@@ -99,4 +113,12 @@ pub(crate) fn leave<'a>(at: Word, known: &Known<'a>) -> Option<Outcome<'a>>
     ensures { (f : said.Fact) → Agree (known_of known.now) f → AgreeingOutcomes (slot result) (device_outcomes at f Leaves) }
 {
     go_on(at, known, known.same())
+}
+
+/// The outcome after the accumulator and MQ took these words.
+fn take<'a>(at: Word, known: &Known<'a>, ac: WordSet, mq: WordSet) -> Option<Outcome<'a>>
+    ensures { (f : said.Fact) (s t : Words) → Agree (known_of known.now) f → SameWords (words ac) s → SameWords (words mq) t →
+        AgreeingOutcomes (slot result) (goes everything f everything (one (plus at 1)) (with_mq t (assigned Ac s f))) }
+{
+    go_on(at, known, known.with_ac(ac).with_mq(mq))
 }

@@ -1,7 +1,6 @@
 use Rattle.std.proofs.Common.{◌≡◌, ◌≤◌, ◌++◌, length, drop, map}
 use Rattle.facts.specs.Facts.{same}
 use Rattle.facts.specs.Changes.{free_of}
-use Rattle.wordset.specs.Lanes.{words}
 use Rattle.facts.specs.Meaning.{name_of, equation_of}
 use Rattle.facts.proofs.equations.freed.Given as goal
 

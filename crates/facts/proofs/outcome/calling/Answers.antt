@@ -1,4 +1,4 @@
-use Rattle.std.proofs.Common.{sym, ◌∙◌}
+use Rattle.std.proofs.Common.{◌∙◌}
 use Rattle.facts.proofs.PlaceLemmas.{all_same}
 use Rattle.wordset.specs.Lanes.{words}
 use Rattle.facts.specs.Meaning.{known_of}

@@ -1,4 +1,4 @@
-use Rattle.std.proofs.Common.{sym, ◌∙◌}
+use Rattle.std.proofs.Common.{◌∙◌}
 use Rattle.wordset.specs.Lanes.{words}
 use Rattle.facts.specs.Meaning.{known_of}
 use Rattle.facts.proofs.OutcomeLemmas.{goes_some, given_none, alive_agree}

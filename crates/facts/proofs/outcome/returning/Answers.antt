@@ -1,6 +1,5 @@
-use Rattle.std.proofs.Common.{sym, ◌∙◌}
+use Rattle.std.proofs.Common.{◌∙◌}
 use Rattle.facts.proofs.PlaceLemmas.{all_same}
-use Rattle.wordset.specs.Lanes.{words}
 use Rattle.facts.specs.Meaning.{known_of}
 use Rattle.facts.proofs.OutcomeLemmas.{returns_some, given_none, alive_agree}
 use Rattle.facts.proofs.outcome.returning.Goals as goal

@@ -1,4 +1,3 @@
-use Rattle.std.proofs.Common.{◌≡◌, refl}
 use Rattle.facts.specs.Facts.{Ac}
 use Rattle.facts.proofs.AgreeLemmas.{agree_trans}
 use Rattle.facts.proofs.ChangingLemmas.{name_agree, moved_agree, assigned_agree}

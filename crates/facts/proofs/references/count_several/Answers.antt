@@ -1,7 +1,6 @@
 use Rattle.std.proofs.Common.{◌≡◌, ◌∙◌, subst}
 use Rattle.std.specs.Prelude.{◌&&◌}
-use Rattle.wordset.specs.Words.{SameWords, one, everything, plus, shifted, some_below, has_some, without}
-use Rattle.wordset.specs.Lanes.{words}
+use Rattle.wordset.specs.Words.{one, everything, plus, shifted, some_below, has_some, without}
 use Rattle.facts.specs.Facts.{Cell, Fact, narrowed}
 use Rattle.facts.specs.Changes.{smeared}
 use Rattle.facts.specs.Outcomes.{alive, given, Goes}

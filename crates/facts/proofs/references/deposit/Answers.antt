@@ -1,9 +1,7 @@
-use Rattle.std.proofs.Common.{◌≡◌, ◌∙◌, sym, ap}
-use Rattle.wordset.specs.Words.{Words, SameWords, one, everything, only, plus}
+use Rattle.std.proofs.Common.{◌≡◌, ◌∙◌, sym}
+use Rattle.wordset.specs.Words.{SameWords, one, everything, only, plus}
 use Rattle.wordset.specs.Lanes.{words}
-use Rattle.facts.specs.Facts.{narrowed, Ac, Cell}
-use Rattle.facts.specs.Changes.{copied, assigned, smeared, with_equations}
-use Rattle.facts.specs.Meaning.{known_of}
+use Rattle.facts.specs.Facts.{narrowed, Ac}
 use Rattle.facts.proofs.Alike.{only_same}
 use Rattle.facts.proofs.PlaceLemmas.{all_same}
 use Rattle.facts.proofs.AgreeLemmas.{agree_trans, narrowed_agree}

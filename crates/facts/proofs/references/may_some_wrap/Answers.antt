@@ -1,6 +1,6 @@
 use Rattle.std.proofs.Common.{◌≡◌, ◌+◌, ◌∙◌, sym, ap, arith}
 use Rattle.std.specs.Prelude.{◌&&◌, ◌||◌}
-use Rattle.wordset.specs.Words.{some_below, has_some, without, IsFirstFrom, HasNoneFrom}
+use Rattle.wordset.specs.Words.{some_below, IsFirstFrom, HasNoneFrom}
 use Rattle.wordset.specs.Lanes.{words}
 use Rattle.wordset.proofs.Tests.{some_none, some_next, some_last}
 use Rattle.facts.specs.Facts.{Cell, narrowed}

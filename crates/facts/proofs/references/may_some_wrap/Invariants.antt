@@ -1,6 +1,6 @@
 use Rattle.std.proofs.Common.{◌≡◌, ◌≤◌, ◌-◌}
 use Rattle.std.specs.Prelude.{◌&&◌}
-use Rattle.wordset.specs.Words.{some_below, has_some, without}
+use Rattle.wordset.specs.Words.{some_below}
 use Rattle.wordset.specs.Lanes.{words}
 use Rattle.facts.specs.Facts.{Cell, narrowed}
 use Rattle.facts.specs.Meaning.{known_of}

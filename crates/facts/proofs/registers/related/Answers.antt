@@ -1,5 +1,4 @@
-use Rattle.std.proofs.Common.{◌∙◌, sym, ap, subst, refl}
-use Rattle.wordset.specs.Words.{Words}
+use Rattle.std.proofs.Common.{◌∙◌, sym, subst}
 use Rattle.facts.specs.Facts.{Ac}
 use Rattle.facts.specs.Changes.{moved}
 use Rattle.facts.specs.Same.{Agree}

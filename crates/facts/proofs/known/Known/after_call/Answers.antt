@@ -1,4 +1,4 @@
-use Rattle.std.proofs.Common.{◌≡◌, ◌∙◌, ◌++◌, ap, refl, map, List}
+use Rattle.std.proofs.Common.{◌∙◌, ◌++◌, ap, refl, map, List}
 use Rattle.wordset.specs.Lanes.{words}
 use Rattle.facts.specs.Facts.{Equation, outside}
 use Rattle.facts.specs.declared.known.Known.{Known}

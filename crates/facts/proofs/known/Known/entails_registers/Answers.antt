@@ -9,10 +9,10 @@ returns-then-not-is_subset c = not_true (λ r. not_both _ c.if-not-is_subset.tru
 
 pub returns : goal.returns
 returns c = (
-    λ t. record {
-      ac = within_same (same_flip c.narrowed.ensures) (within_set c.accumulator.ensures (c.is_subset-3.ensures.0 t));
-      mq = within_set c.mq.ensures (c.is_subset-2.ensures.0 c.if-not-is_subset-2.false);
-      link = λ k lt q. ap (λ (s : Words). s k) (sym c.link.ensures) ∙ c.is_subset.ensures.0 c.if-not-is_subset.false k lt q;
-    },
-    λ r. c.is_subset-3.ensures.1 (within_set (sym c.accumulator.ensures) (within_same c.narrowed.ensures r.ac)),
+  λ t. record {
+    ac = within_same (same_flip c.narrowed.ensures) (within_set c.accumulator.ensures (c.is_subset-3.ensures.0 t));
+    mq = within_set c.mq.ensures (c.is_subset-2.ensures.0 c.if-not-is_subset-2.false);
+    link = λ k lt q. ap (λ (s : Words). s k) (sym c.link.ensures) ∙ c.is_subset.ensures.0 c.if-not-is_subset.false k lt q;
+  },
+  λ r. c.is_subset-3.ensures.1 (within_set (sym c.accumulator.ensures) (within_same c.narrowed.ensures r.ac)),
 )

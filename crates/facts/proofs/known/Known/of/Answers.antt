@@ -1,4 +1,4 @@
-use Rattle.std.proofs.Common.{◌≡◌, ◌∙◌, ap, refl, map}
+use Rattle.std.proofs.Common.{◌∙◌, ap, refl, map}
 use Rattle.facts.specs.declared.known.Known.{Known}
 use Rattle.facts.specs.declared.known.Source.TheVariants.{One}
 use Rattle.facts.specs.declared.known.Change.TheVariants.{Unchanged}

@@ -1,7 +1,6 @@
 use Rattle.std.proofs.Common.{◌∙◌, ap, map}
-use Rattle.facts.specs.Facts.{same, Ac, Cell}
-use Rattle.facts.specs.Changes.{moved_equations, free_of, cells_of}
-use Rattle.wordset.specs.Lanes.{words}
+use Rattle.facts.specs.Facts.{Ac}
+use Rattle.facts.specs.Changes.{moved_equations}
 use Rattle.facts.specs.Meaning.{equation_of}
 use Rattle.facts.proofs.ChangeLemmas.{shifted_same}
 use Rattle.facts.proofs.ChangingLemmas.{moved_ac}

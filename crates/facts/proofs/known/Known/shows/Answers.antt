@@ -1,6 +1,3 @@
-use Rattle.std.proofs.Common.{sym, ◌∙◌}
-use Rattle.std.specs.Prelude.{nat_eq}
-use Rattle.wordset.specs.Words.{plus}
 use Rattle.facts.specs.Meaning.{known_of, equation_of}
 use Rattle.facts.proofs.known.Known.shows.Goals as goal
 use Rattle.facts.proofs.EntailLemmas.{shows_some, shows_left, shows_right}

@@ -1,6 +1,6 @@
 use Rattle.std.proofs.Common.{◌∙◌, ap, map, subst}
-use Rattle.facts.specs.Facts.{same, Ac, Cell}
-use Rattle.facts.specs.Changes.{moved_equations, free_of, cells_of}
+use Rattle.facts.specs.Facts.{Cell}
+use Rattle.facts.specs.Changes.{moved_equations}
 use Rattle.wordset.specs.Words.{SameWords, shifted}
 use Rattle.wordset.specs.Lanes.{words}
 use Rattle.facts.specs.Meaning.{equation_of}

@@ -1,6 +1,5 @@
 use Rattle.std.proofs.Common.{◌∙◌, ap, map}
-use Rattle.facts.specs.Facts.{same, Ac, Cell}
-use Rattle.facts.specs.Changes.{moved_equations, free_of, cells_of}
+use Rattle.facts.specs.Changes.{free_of, cells_of}
 use Rattle.wordset.specs.Lanes.{words}
 use Rattle.facts.specs.Meaning.{equation_of}
 use Rattle.facts.proofs.ChangingLemmas.{smeared_stored}

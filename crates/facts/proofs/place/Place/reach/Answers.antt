@@ -1,11 +1,10 @@
-use Rattle.std.proofs.Common.{◌∙◌, sym, ap}
-use Rattle.wordset.specs.Words.{Words}
+use Rattle.std.proofs.Common.{◌∙◌, sym}
 use Rattle.facts.specs.Facts.{Cell}
 use Rattle.facts.specs.Places.{place_of}
 use Rattle.facts.proofs.AgreeLemmas.{agree_trans}
 use Rattle.facts.proofs.ChangingLemmas.{moved_agree}
 use Rattle.facts.proofs.PlaceLemmas.{in_agree}
-use Rattle.facts.proofs.ReachLemmas.{step_yes, step_no, reach_stepped, reach_pointer, reach_named}
+use Rattle.facts.proofs.ReachLemmas.{step_yes, reach_stepped, reach_pointer}
 use Rattle.facts.proofs.place.Place.reach.Goals as goal
 
 pub returns-then-steps_pointer-clause-known : goal.returns-then-steps_pointer-clause-known

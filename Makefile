@@ -1,19 +1,32 @@
 # Thin: each target calls rt or a script.
 PREFIX ?= /usr/local
 
-.PHONY: run test install bench fmt
+# How many libraries are proved side by side: one for each processor that has 3 GB of free memory.
+JOBS ?= $(shell awk -v n="$$(nproc)" '/^MemAvailable/ { m = int($$2 / 3000000); print m < 1 ? 1 : m < n ? m : n }' /proc/meminfo)
 
-# Builds the program and runs it on the stored tape.
+.PHONY: run try test install bench fmt
+
+# Proves the libraries below the program, side by side, and the program, builds it and runs it on the stored tape.
 run:
+	@echo "Proving pdp8 and all below it, $(JOBS) crates at a time. From nothing this takes some 15 minutes on four processors,"
+	@echo "and seconds where nothing has changed. Each crate's lines come when it is done; make try proves nothing and is quick."
+	cd crates/pdp8 && rt all check --jobs $(JOBS)
 	cd crates/pdp8 && rt run < stdin
 
-# The gate: every proof from nothing, the edits that must fail, every test and the program.
+# Runs the program on the stored tape without any proof, in less than a minute.
+try:
+	cd crates/pdp8 && rt try < stdin
+	@echo "Nothing was proved. make run proves the program before it runs it."
+
+# The gate: the list of definitions and whether each edit applies, which takes a second; then every proof from nothing, the
+# edits that must fail, every test and the program.
 test:
+	python3 tests/definitions.py
+	python3 tests/edits.py
 	rt ci
 
 # Puts pdp8 into $(PREFIX)/bin.
-install:
-	cd crates/pdp8 && rt run < stdin
+install: run
 	install -D -m 755 crates/pdp8/out/pdp8 $(PREFIX)/bin/pdp8
 
 # Times the machine, the tapes, the sets, the assembler and the watcher; needs Debian's simh and palbart.

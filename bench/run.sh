@@ -10,8 +10,8 @@ simh=${SIMH:-/usr/bin/pdp8}
 work=$(mktemp -d)
 trap 'rm -r "$work"' EXIT
 # Building runs the program once, whose lines are left out.
-(cd "$top/crates/machine_speed" && rt run >"$work/built" 2>&1) || { cat "$work/built"; exit 1; }
-program=$top/crates/machine_speed/out/machine_speed
+(cd "$top/crates/speed" && rt run >"$work/built" 2>&1) || { cat "$work/built"; exit 1; }
+program=$top/crates/speed/out/speed
 
 if ! echo quit | "$simh" 2>&1 | grep -q 'PDP-8 simulator'; then
     echo "bench/run.sh: SIMH's pdp8 isn't installed, so its column is left out"

@@ -6,10 +6,10 @@ top=$(cd "$(dirname "$0")/.." && pwd)
 times=${1:-1000}
 work=$(mktemp -d)
 trap 'rm -r "$work"' EXIT
-(cd "$top/crates/machine_speed" && rt run >"$work/built" 2>&1) || { cat "$work/built"; exit 1; }
+(cd "$top/crates/speed" && rt run >"$work/built" 2>&1) || { cat "$work/built"; exit 1; }
 TIMEFORMAT=%U
 for _ in 1 2 3 4 5 6 7; do
-    { time "$top/crates/machine_speed/out/machine_speed" tapes "$times" >"$work/tapes"; } 2>&1
+    { time "$top/crates/speed/out/speed" tapes "$times" >"$work/tapes"; } 2>&1
 done | sort -n | head -1 >"$work/least"
 cat "$work/tapes"
 awk -v times="$times" '{ printf "%.1f microseconds to write the fullest tape and read it back\n", $1 / times * 1e6 }' "$work/least"

@@ -5,9 +5,9 @@ set -euo pipefail
 cd "$(dirname "$0")/.."
 folder=$(mktemp -d)
 trap 'rm -rf "$folder"' EXIT
-(cd crates/machine_speed && rt run > /dev/null 2>&1)
+(cd crates/speed && rt run > /dev/null 2>&1)
 (cd crates/pdp8 && rt run < stdin > /dev/null 2>&1)
-crates/machine_speed/out/machine_speed tape > "$folder/fullest.bin"
+crates/speed/out/speed tape > "$folder/fullest.bin"
 python3 tests/second_reader.py "$folder/fullest.bin" > "$folder/second"
 crates/pdp8/out/pdp8 dump "$folder/fullest.bin" | cut -d ' ' -f 1,2 > "$folder/dumped"
 cmp "$folder/second" "$folder/dumped"

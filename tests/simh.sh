@@ -2,7 +2,7 @@
 # Compares this repository's program with SIMH's pdp8 (Debian's package simh), where it is installed: SIMH loads
 # each tape and runs it, and its AC, link and program counter must be those that `pdp8 run` says. It also loads the
 # fullest tape that the proved writer writes, and each cell must be the one that `pdp8 dump` says.
-# No gate runs it. It wants the programs pdp8 and machine_speed built, or builds them.
+# No gate runs it. It wants the programs pdp8 and speed built, or builds them.
 set -e
 top=$(cd "$(dirname "$0")/.." && pwd)
 simh=${SIMH:-/usr/bin/pdp8}
@@ -18,6 +18,6 @@ build() {
 }
 program=${PDP8:-$top/crates/pdp8/out/pdp8}
 [ -x "$program" ] || build pdp8 stdin
-build machine_speed /dev/null
-"$top/crates/machine_speed/out/machine_speed" tape >"$work/fullest.bin"
+build speed /dev/null
+"$top/crates/speed/out/speed" tape >"$work/fullest.bin"
 python3 "$top/tests/simh.py" "$simh" "$program" "$work"

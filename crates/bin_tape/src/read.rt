@@ -10,10 +10,10 @@ ghost use Rattle.bin_tape.specs.Served.{Serves};
 ghost use Rattle.bin_tape.specs.declared.fault.TapeFault.{TapeFault};
 ghost use Rattle.bin_tape.specs.declared.fault.TapeFault.TheVariants.{ReadFault};
 
-use streams::ByteSource;
 use crate::fault::TapeFault;
 use crate::image::Image;
 use crate::reader::{Fed, Reader};
+use streams::ByteSource;
 
 /// How many frames are looked at.
 pub const LIMIT: usize = 65_536;

@@ -1,12 +1,12 @@
 //! Tapes worked by hand from the description of the format, frame by frame.
 
-use testing::memory::{MemorySink, MemorySource};
 use crate::standard::{Reads, Writes};
 use crate::{
     ByteSink, ByteSource, Failed, Image, TapeFault, TapeWord, WriteTapeFault, put, read_from,
     read_tape, write_tape,
 };
 use std::test::Fail;
+use testing::memory::{MemorySink, MemorySource};
 use word12::Word;
 
 /// The words of a program that prints HELLO, from 0200 on.

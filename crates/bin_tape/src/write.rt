@@ -8,12 +8,12 @@ ghost use Rattle.bin_tape.specs.Tape.{frames, IsTape};
 ghost use Rattle.bin_tape.specs.Written.{cell_words, words_below, word_frames, written_tape, failed_to_write};
 ghost use Rattle.bin_tape.specs.declared.fault.WriteTapeFault.TheVariants.{EmptyImage, WriteFault};
 
-use streams::{ByteSink, put};
 use crate::fault::WriteTapeFault;
 use crate::image::Image;
 use crate::laws::written_tapes_read_back;
 use crate::word::TapeWord;
 use std::marker::Model;
+use streams::{ByteSink, put};
 use word12::Word;
 
 /// How many frames 0200 stand before the first word, and after the checksum.

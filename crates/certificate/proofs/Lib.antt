@@ -1,0 +1,6 @@
+pub mod TextLemmas
+pub mod SetLemmas
+pub mod FieldsLemmas
+pub mod RunLemmas
+pub mod DigitLemmas
+pub mod LineLemmas

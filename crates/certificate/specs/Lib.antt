@@ -2,3 +2,8 @@ pub mod Certificate
 pub mod Spelling
 pub mod Reading
 pub mod Sample
+pub mod Line
+pub mod Fields
+pub mod Meaning
+pub mod Order
+pub mod Progress

@@ -1,20 +1,55 @@
--- The bytes that were read so far, and the source's.
-use Rattle.std.proofs.Common.{ℕ, ◌≡◌, ◌≤◌, List, ◌++◌, length, take, sym, ◌∙◌, ap, arith, append-nil}
+-- Texts that were read up to a limit, and what they hold.
+use Rattle.std.proofs.Common.{ℕ, ◌≡◌, ◌+◌, ◌≤◌, ◌<◌, Bool, true, List, length, take, refl, sym, ◌∙◌, ap, subst, arith, inl, inr}
 use Rattle.std.specs.Prelude.{Option, Some, None, IfSome}
-use Rattle.std.specs.Io.KnownBytes.{Consumes, IsAtEnd}
-use Rattle.std.proofs.lemmas.List.{take_all, take-append-le}
+use Rattle.std.proofs.lemmas.Bool.{cases_lt}
+use Rattle.std.proofs.lemmas.List.{length-take-le, take_all}
+use Rattle.peripherals.specs.declared.Event.{Event}
+use Rattle.peripherals.specs.EventText.{Spells, FailsAtLine as EventsFailAtLine, Fails as FailsAsEvents}
+use Rattle.peripherals.specs.declared.event_text.EventsFault.{EventsFault}
+use Rattle.peripherals.specs.declared.event_text.EventsFault.TheVariants as events_fault
+use Rattle.declaration.specs.Declaration.{Declaration}
+use Rattle.declaration.specs.Text.{Declares, FailsAtLine, FailsAtRule, Fails as FailsAsDeclaration}
+use Rattle.declaration.specs.declared.DeclarationFault.{DeclarationFault}
+use Rattle.declaration.specs.declared.DeclarationFault.TheVariants as fault
+use Rattle.commands.specs.Faults.{IsEventsFault, IsEventsInputFault, IsDeclarationFault, IsDeclarationInputFault, fault_of_events, fault_of_declaration}
+use Rattle.commands.specs.Inputs.{HasEvents, HasDeclaration, input}
 
-pub at_end : (old new : Option (List ℕ)) (text : List ℕ) (limit : ℕ) → Consumes old new text → IsAtEnd new → length text ≤ limit → IfSome old (λ bytes. text ≡ take limit bytes)
-at_end None new text limit consumes ends within = tt
-at_end (Some bytes) None text limit consumes ends within = absurd consumes
-at_end (Some bytes) (Some rest) text limit consumes ends within =
-    let whole : bytes ≡ text = consumes ∙ ap (λ (r : List ℕ). text ++ r) ends ∙ append-nil text in
-    rw whole (sym (take_all limit text within))
+-- bytes that were read up to one more than a limit: all there are, or more than the limit
+all_or_more : (P : List ℕ → Type 0) (had : Option (List ℕ)) (text : List ℕ) (most : ℕ) → IfSome had (λ bytes. text ≡ take (most + 1) bytes) →
+    P text → ((bytes : List ℕ) → most < length text → most < length bytes → P text → P bytes) → IfSome had P
+all_or_more P None text most is holds long = tt
+all_or_more P (Some bytes) text most is holds long = elim (cases_lt most (length bytes)) [
+  | inl more ↦ (let taken : length (take (most + 1) bytes) ≡ most + 1 = length-take-le (most + 1) bytes (omega arith) in let same : length text ≡ length (take (most + 1) bytes) = ap length is in long bytes (omega (arith, taken, same)) more holds)
+  | inr fits ↦ subst P (is ∙ take_all (most + 1) bytes (omega arith)) holds
+]
 
-pub full : (old new : Option (List ℕ)) (text : List ℕ) (limit : ℕ) → Consumes old new text → length text ≡ limit → IfSome old (λ bytes. text ≡ take limit bytes)
-full None new text limit consumes is = tt
-full (Some bytes) None text limit consumes is = absurd consumes
-full (Some bytes) (Some rest) text limit consumes is =
-    let within : limit ≤ length text = omega arith in
-    let most : length text ≤ limit = omega arith in
-    rw (consumes, take-append-le limit text rest within) (sym (take_all limit text most))
+pub has_events : (had : Option (List ℕ)) (text : List ℕ) (events : List Event) → IfSome had (λ bytes. text ≡ take 65537 bytes) → Spells text events → HasEvents had events
+has_events had text events is spells = all_or_more (λ bytes. Spells bytes events) had text 65536 is spells (λ bytes long more s. absurd (let short = s.short in omega (arith, short, long)))
+
+pub events_fault_is : (fault : EventsFault) (failed : Bool) (had left : Option (List ℕ)) (text : List ℕ) → IfSome had (λ bytes. text ≡ take 65537 bytes) → FailsAsEvents text fault →
+    IsEventsInputFault (input failed had left) (fault_of_events fault)
+events_fault_is events_fault.NoMemory failed had left text is fails = tt
+events_fault_is events_fault.TooMany failed had left text is fails = all_or_more (λ bytes. IsEventsFault bytes events_fault.TooMany) had text 65536 is fails (λ bytes long more f. inl more)
+events_fault_is (events_fault.BadLine n) failed had left text is fails = all_or_more (λ bytes. EventsFailAtLine bytes (events_fault.BadLine n)) had text 65536 is fails (λ bytes long more f. absurd (let short = f.good.short in omega (arith, short, long)))
+
+pub has_declaration : (had : Option (List ℕ)) (text : List ℕ) (d : Declaration) → IfSome had (λ bytes. text ≡ take 16385 bytes) → Declares text d → HasDeclaration had d
+has_declaration had text d is declares = all_or_more (λ bytes. Declares bytes d) had text 16384 is declares (λ bytes long more s. absurd (let short = s.good.short in omega (arith, short, long)))
+
+at_line : (fault : DeclarationFault) (had : Option (List ℕ)) (text : List ℕ) → IfSome had (λ bytes. text ≡ take 16385 bytes) → FailsAtLine text fault → IfSome had (λ bytes. FailsAtLine bytes fault)
+at_line fault had text is fails = all_or_more (λ bytes. FailsAtLine bytes fault) had text 16384 is fails (λ bytes long more f. absurd (let short = f.stands.short in omega (arith, short, long)))
+
+at_rule : (fault : DeclarationFault) (had : Option (List ℕ)) (text : List ℕ) → IfSome had (λ bytes. text ≡ take 16385 bytes) → FailsAtRule text fault → IfSome had (λ bytes. FailsAtRule bytes fault)
+at_rule fault had text is fails = all_or_more (λ bytes. FailsAtRule bytes fault) had text 16384 is fails (λ bytes long more f. absurd (let short = f.good.short in omega (arith, short, long)))
+
+pub declaration_fault_is : (fault : DeclarationFault) (failed : Bool) (had left : Option (List ℕ)) (text : List ℕ) → IfSome had (λ bytes. text ≡ take 16385 bytes) → FailsAsDeclaration text fault →
+    IsDeclarationInputFault (input failed had left) (fault_of_declaration fault)
+declaration_fault_is fault.NoMemory failed had left text is fails = tt
+declaration_fault_is fault.TooMany failed had left text is fails = all_or_more (λ bytes. IsDeclarationFault bytes fault.TooMany) had text 16384 is fails (λ bytes long more f. inl more)
+declaration_fault_is (fault.BadLine n) failed had left text is fails = at_line (fault.BadLine n) had text is fails
+declaration_fault_is (fault.TwoStarts n) failed had left text is fails = at_line (fault.TwoStarts n) had text is fails
+declaration_fault_is (fault.TwoProfiles n) failed had left text is fails = at_line (fault.TwoProfiles n) had text is fails
+declaration_fault_is fault.NoStart failed had left text is fails = at_rule fault.NoStart had text is fails
+declaration_fault_is (fault.Overlap a) failed had left text is fails = at_rule (fault.Overlap a) had text is fails
+declaration_fault_is (fault.EntryInAutoIndex a) failed had left text is fails = at_rule (fault.EntryInAutoIndex a) had text is fails
+declaration_fault_is fault.StartNotInMain failed had left text is fails = at_rule fault.StartNotInMain had text is fails
+declaration_fault_is (fault.HaltNotInBody a) failed had left text is fails = at_rule (fault.HaltNotInBody a) had text is fails

@@ -1,7 +1,8 @@
 pub mod FollowLemmas
-pub mod TextLemmas
 pub mod InputLemmas
-pub mod RunLemmas
+pub mod TextLemmas
 pub mod SourceLemmas
 pub mod WatchLemmas
 pub mod PartLemmas
+pub mod RunLemmas
+pub mod AssembleLemmas

@@ -1,18 +1,18 @@
 -- Sizes of parts, and which read failed.
-use Rattle.std.proofs.Common.{ℕ, ◌≡◌, ◌+◌, ◌<◌, Bool, true, false, ◌||◌, if◌then◌else◌, List, [], ◌∷◌, ◌++◌, map, take, drop, get_or, length, slice_set, refl, sym, ◌∙◌, ap, subst, arith, inl, inr}
+use Rattle.std.proofs.Common.{ℕ, ◌≡◌, ◌+◌, ◌<◌, ◌≤◌, Bool, true, false, ◌||◌, if◌then◌else◌, List, [], ◌∷◌, ◌++◌, map, take, drop, get_or, length, slice_set, refl, sym, ◌∙◌, ap, subst, arith, inl, inr}
 use Rattle.std.specs.Prelude.{Option, Some, None, Err, IfSome, slice_get, option_map}
 use Rattle.std.specs.List.{AllByRecursion, list_any}
 use Rattle.std.proofs.Math.Bool.{or-false}
 use Rattle.std.proofs.Math.Seq.{split_at}
 use Rattle.std.proofs.lemmas.Bool.{lt-ltb, le-ltb, cases_lt}
-use Rattle.std.proofs.lemmas.List.{map-append, length-take-le, take_more_set, take-map, length-map, drop_more, get_or-set_same, length-set, set_split}
+use Rattle.std.proofs.lemmas.List.{map-append, length-take-le, length-take, take_all, take_more_set, take-map, length-map, drop_more, get_or-set_same, length-set, set_split}
 use Rattle.std.proofs.lemmas.List.Folds.{list_any-append}
 use Rattle.std.proofs.lemmas.Option.{slice_get-map, slice_get-get_or}
 use Rattle.streams.specs.Bytes.{Gave}
 use Rattle.pal_acts.specs.declared.code.Code.TheVariants.{TooLong}
 use Rattle.pal_asm.specs.Sources.{fault_at, first_long, long_fault, size_fault}
 use Rattle.pal_asm.specs.declared.fault.PalFault.{PalFault}
-use Rattle.commands.specs.SourceTexts.{AreRead, IsShort, is_bad_number, FailsToReadPart, IsPartFault, ArePartsFault}
+use Rattle.commands.specs.SourceTexts.{AreRead, IsShort, is_bad_number, FailsToReadPart, IsPartFault, ArePartsFault, IsLong}
 use Rattle.commands.specs.Faults.{fails_to_read}
 use Rattle.commands.specs.declared.status.Fault.{Fault}
 use Rattle.commands.specs.declared.status.Fault.TheVariants.{Tape, EmptyImage, Source, Declared, Events, Device}
@@ -45,12 +45,29 @@ none_more mark ss i new within before good =
     ap (list_any mark) (take_more_set ss i new within) ∙ list_any-append mark (take i ss) (new ∷ [])
     ∙ ap (λ b. b || list_any mark (new ∷ [])) before ∙ ap (λ b. b || false) good
 
-short_source : (x : Option (List ℕ)) (y : List ℕ) → IfSome x (λ bytes. y ≡ take 65537 bytes) → IsShort y → IfSome x IsShort
+short_source : (x : Option (List ℕ)) (y : List ℕ) → IfSome x (λ bytes. y ≡ bytes) → IsShort y → IfSome x IsShort
 short_source None y is short = tt
-short_source (Some bytes) y is short = elim (cases_lt 65536 (length bytes)) [
-  | inl long ↦ (let taken : length (take 65537 bytes) ≡ 65537 = length-take-le 65537 bytes (omega arith) in let same : length y ≡ length (take 65537 bytes) = ap length is in omega (arith, taken, same, short))
-  | inr fits ↦ fits
+short_source (Some bytes) y is short = subst IsShort is short
+
+-- bytes that were read up to one more than the limit are all, where they aren't more than the limit
+all_of : (bytes text : List ℕ) (most : ℕ) → text ≡ take (most + 1) bytes → length text ≤ most → text ≡ bytes
+all_of bytes text most is short = elim (cases_lt most (length bytes)) [
+  | inl long ↦ (let taken : length (take (most + 1) bytes) ≡ most + 1 = length-take-le (most + 1) bytes (omega arith) in let same : length text ≡ length (take (most + 1) bytes) = ap length is in absurd (omega (arith, taken, same, short)))
+  | inr fits ↦ is ∙ take_all (most + 1) bytes (omega arith)
 ]
+
+pub whole : (had : Option (List ℕ)) (text : List ℕ) (most : ℕ) → IfSome had (λ bytes. text ≡ take (most + 1) bytes) → length text ≤ most → IfSome had (λ bytes. text ≡ bytes)
+whole None text most is short = tt
+whole (Some bytes) text most is short = all_of bytes text most is short
+
+-- a part that is longer than the limit
+pub long_text : (had : Option (List ℕ)) (text : List ℕ) → IfSome had (λ bytes. text ≡ take 65537 bytes) → 65536 < length text → IsLong had
+long_text None text is long = record { part = text; is = tt; long = long }
+long_text (Some bytes) text is long = record {
+  part = bytes;
+  is = refl;
+  long = let same : length text ≡ length (take 65537 bytes) = ap length is in let most = length-take 65537 bytes in omega (arith, same, most, long);
+}
 
 -- sources whose parts are short are short
 short_sources : (xs : List (Option (List ℕ))) (ys : List (List ℕ)) → AreRead xs ys → AllByRecursion IsShort ys → AllByRecursion (λ source. IfSome source IsShort) xs
@@ -89,9 +106,9 @@ fails_to_read_part mark remaining items ss os i d new vs short within same numbe
 -- what is read of a source, if nothing hinders
 part_of : Option (List ℕ) → List ℕ
 part_of None = []
-part_of (Some bytes) = take 65537 bytes
+part_of (Some bytes) = bytes
 
-of_source : (x : Option (List ℕ)) → IfSome x (λ bytes. part_of x ≡ take 65537 bytes)
+of_source : (x : Option (List ℕ)) → IfSome x (λ bytes. part_of x ≡ bytes)
 unfolding part_of
 of_source None = tt
 of_source (Some bytes) = refl
@@ -142,7 +159,7 @@ bad_number remaining marks left os bad =
 long_part : {S V : Type 0} (remaining : S → Option (List ℕ)) (items : V → List ℕ) (marks : List Bool) (left : List (Option (List ℕ))) (os : List S) (i : ℕ) (d : S) (vs : List V) (part : List ℕ) →
     i < length os → is_bad_number (length os) ≡ false →
     AreRead (map remaining (take i os)) (map items vs) → AllByRecursion IsShort (map items vs) →
-    IfSome (remaining (get_or os i d)) (λ bytes. part ≡ take 65537 bytes) → 65536 < length part →
+    IfSome (remaining (get_or os i d)) (λ bytes. part ≡ bytes) → 65536 < length part →
     ArePartsFault marks (map remaining os) left (Source (fault_at TooLong (length vs + 1) 0))
 long_part remaining items marks left os i d vs part within number reads all is long =
     let later = map remaining (drop (ℕ.suc i) os) in
@@ -165,8 +182,9 @@ pub parts_fault : (T : Type 0) {S V : Type 0} (mark : S → Bool) (remaining : S
 parts_fault T mark remaining items ss os i d new vs (Tape x) short within same number reads all marked is = is
 parts_fault T mark remaining items ss os i d new vs EmptyImage short within same number reads all marked is = is
 parts_fault T mark remaining items ss os i d new vs (Source x) short within same number reads all marked is =
-    rw is.0 (long_part remaining items (map mark (slice_set ss i new)) (map remaining (slice_set ss i new)) os i d vs is.1 within number reads all
-    (subst (λ s. IfSome (remaining s) (λ bytes. is.1 ≡ take 65537 bytes)) (same_there ss os i d short within same) is.2) is.3)
+    let held = is.1 in
+    rw is.0 (long_part remaining items (map mark (slice_set ss i new)) (map remaining (slice_set ss i new)) os i d vs held.part within number reads all
+    (subst (λ s. IfSome (remaining s) (λ bytes. held.part ≡ bytes)) (same_there ss os i d short within same) held.is) held.long)
 parts_fault T mark remaining items ss os i d new vs (Declared x) short within same number reads all marked is = is
 parts_fault T mark remaining items ss os i d new vs (Events x) short within same number reads all marked is = is
 parts_fault T mark remaining items ss os i d new vs (Device Read) short within same number reads all marked is =

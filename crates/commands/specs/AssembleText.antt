@@ -1,8 +1,6 @@
 -- What `assemble` and `list` write, and why they may have no answer.
 use Rattle.std.specs.Prelude.{ℕ, ◌≡◌, Bool, false, List, Option, length}
-use Rattle.std.specs.Io.KnownBytes.{Appends}
 use Rattle.instruct.specs.declared.Profile.{Profile}
-use Rattle.streams.specs.Bytes.{AppendsFront}
 use Rattle.bin_tape.specs.Image.{IsEmptyImage}
 use Rattle.bin_tape.specs.Tape.{IsTape}
 use Rattle.bin_tape.specs.Written.{written_tape}
@@ -12,52 +10,33 @@ use Rattle.pal_asm.specs.Listings.{Lists}
 use Rattle.pal_asm.specs.Sources.{Means, IsFault}
 use Rattle.pal_asm.specs.declared.fault.PalFault.{PalFault}
 use Rattle.commands.specs.declared.status.Fault.{Fault}
-use Rattle.commands.specs.declared.status.Fault.TheVariants.{Tape, EmptyImage, Source, Declared, Events, Device}
+use Rattle.commands.specs.declared.status.Fault.TheVariants.{EmptyImage, Source, Device}
 use Rattle.commands.specs.declared.status.Fault.TheVariants as fault
 use Rattle.commands.specs.declared.status.DeviceFault.TheVariants.{Read, Write}
 use Rattle.commands.specs.SourceTexts.{AreRead, is_bad_number, FailsToReadPart}
 
--- Sources with these bytes, as far as they are known, are read as these parts, which mean these symbols and this image.
+-- Sources with these bytes, as far as they are known, are these parts, which mean these symbols and this image.
 pub record Assembles (profile : Profile) (sources : List (Option (List ℕ))) (symbols : List (Name × ℕ)) (image : List (Option ℕ)) : Type 0 where
   pub parts : List (List ℕ)
   pub read : AreRead sources parts
   pub means : Means (permanent_symbols profile) parts symbols image
 
--- The tape of that image was written: it reads back as that image.
-pub record WritesTape (profile : Profile) (sources : List (Option (List ℕ))) (old new : Option (List ℕ)) : Type 0 where
+-- The sources are assembled, and this is the tape of their image: it reads back as that image.
+pub record IsAssembled (profile : Profile) (sources : List (Option (List ℕ))) (tape : List ℕ) : Type 0 where
   pub symbols : List (Name × ℕ)
   pub image : List (Option ℕ)
   pub assembles : Assembles profile sources symbols image
-  pub written : Appends old new (written_tape image)
+  pub tape_is : tape ≡ written_tape image
   pub reads_back : IsTape (written_tape image) image
 
--- A front of the tape of that image was written.
-pub record FrontOfTape (profile : Profile) (sources : List (Option (List ℕ))) (old new : Option (List ℕ)) : Type 0 where
-  pub symbols : List (Name × ℕ)
-  pub image : List (Option ℕ)
-  pub assembles : Assembles profile sources symbols image
-  pub front : AppendsFront old new (written_tape image)
-
 -- The sources mean an image and have this listing.
-pub record ListsSources (profile : Profile) (sources : List (Option (List ℕ))) (text : List ℕ) : Type 0 where
+pub record IsListing (profile : Profile) (sources : List (Option (List ℕ))) (text : List ℕ) : Type 0 where
   pub symbols : List (Name × ℕ)
   pub image : List (Option ℕ)
   pub parts : List (List ℕ)
   pub read : AreRead sources parts
   pub means : Means (permanent_symbols profile) parts symbols image
   pub lists : Lists (permanent_symbols profile) parts symbols text
-
--- That listing was written.
-pub record WritesListing (profile : Profile) (sources : List (Option (List ℕ))) (old new : Option (List ℕ)) : Type 0 where
-  pub text : List ℕ
-  pub lists : ListsSources profile sources text
-  pub written : Appends old new text
-
--- A front of that listing was written.
-pub record FrontOfListing (profile : Profile) (sources : List (Option (List ℕ))) (old new : Option (List ℕ)) : Type 0 where
-  pub text : List ℕ
-  pub lists : ListsSources profile sources text
-  pub front : AppendsFront old new text
 
 -- The source means an image without a word.
 pub record MeansNothing (profile : Profile) (sources : List (Option (List ℕ))) : Type 0 where
@@ -76,21 +55,18 @@ pub record HasFault (profile : Profile) (sources : List (Option (List ℕ))) (fa
 abbrev pub IsAssemblyFault : Profile → List (List ℕ) → Fault → Type 0
 IsAssemblyFault profile parts (Source fault) = IsFault (permanent_symbols profile) parts fault
 IsAssemblyFault profile parts fault.NoMemory = Unit {0}
-IsAssemblyFault profile parts fault = ⊥
+IsAssemblyFault profile parts _ = ⊥
 
--- Why a command of sources has no result. The sources have these marks, had these bytes, and have those left. The fault of
--- a read, and that memory was refused, are told only where there is a good number of sources.
-abbrev pub IsSourceFault : Profile → List Bool → List (Option (List ℕ)) → List (Option (List ℕ)) → Fault → Type 0
-IsSourceFault profile marks sources left (Tape fault) = ⊥
-IsSourceFault profile marks sources left EmptyImage = MeansNothing profile sources
-IsSourceFault profile marks sources left (Source fault) = HasFault profile sources fault
-IsSourceFault profile marks sources left (Declared fault) = ⊥
-IsSourceFault profile marks sources left (Events fault) = ⊥
-IsSourceFault profile marks sources left (Device Read) = FailsToReadPart marks sources left
-IsSourceFault profile marks sources left (Device Write) = Unit {0}
-IsSourceFault profile marks sources left fault.NoMemory = is_bad_number (length sources) ≡ false
-
--- Why `list` has no result: for the same reasons, but a source without a word has a listing too.
+-- Why a source has no listing. The sources have these marks, had these bytes, and have those left. The fault of a read, and
+-- that memory was refused, are told only where there is a good number of sources.
 abbrev pub IsListFault : Profile → List Bool → List (Option (List ℕ)) → List (Option (List ℕ)) → Fault → Type 0
-IsListFault profile marks sources left EmptyImage = ⊥
-IsListFault profile marks sources left fault = IsSourceFault profile marks sources left fault
+IsListFault profile marks sources left (Source fault) = HasFault profile sources fault
+IsListFault profile marks sources left (Device Read) = FailsToReadPart marks sources left
+IsListFault profile marks sources left (Device Write) = Unit {0}
+IsListFault profile marks sources left fault.NoMemory = is_bad_number (length sources) ≡ false
+IsListFault profile marks sources left _ = ⊥
+
+-- Why a source has no tape: for the same reasons, or since it has no word.
+abbrev pub IsSourceFault : Profile → List Bool → List (Option (List ℕ)) → List (Option (List ℕ)) → Fault → Type 0
+IsSourceFault profile marks sources left EmptyImage = MeansNothing profile sources
+IsSourceFault profile marks sources left fault = IsListFault profile marks sources left fault

@@ -1,13 +1,11 @@
 -- The text of a tape's image, a line for each word.
-use Rattle.std.specs.Prelude.{ℕ, Option, Some, None, List, [], ◌++◌, codes, take}
+use Rattle.std.specs.Prelude.{ℕ, ◌≡◌, Option, Some, None, List, [], ◌++◌, codes}
 use Rattle.std.proofs.Common.{zero, suc}
 use Rattle.word12.specs.Words.{octal_text}
 use Rattle.instruct.specs.declared.Profile.{Profile}
 use Rattle.instruct.specs.Names.{name_of}
-use Rattle.std.specs.Io.KnownBytes.{Appends}
 use Rattle.bin_tape.specs.Image.{word_at}
-use Rattle.streams.specs.Bytes.{AppendsFront}
-use Rattle.bin_tape.specs.Tape.{IsTape}
+use Rattle.commands.specs.Inputs.{HasImage}
 
 -- The address, the word and its name.
 abbrev pub dump_line : Profile → ℕ → Option ℕ → List ℕ
@@ -23,14 +21,8 @@ dump_below profile image (suc at) = dump_below profile image at ++ dump_line pro
 abbrev pub dump_text : Profile → List (Option ℕ) → List ℕ
 dump_text profile image = dump_below profile image 4096
 
--- The frames are a tape, and what was written is the text of its image.
-pub record WritesDump (profile : Profile) (frames : List ℕ) (old new : Option (List ℕ)) : Type 0 where
+-- The frames are a tape, and this is the text of its image.
+pub record IsDump (profile : Profile) (frames : Option (List ℕ)) (text : List ℕ) : Type 0 where
   pub image : List (Option ℕ)
-  pub tape : IsTape (take 65536 frames) image
-  pub written : Appends old new (dump_text profile image)
-
--- The frames are a tape, and a front of the text of its image was written.
-pub record FrontOfDump (profile : Profile) (frames : List ℕ) (old new : Option (List ℕ)) : Type 0 where
-  pub image : List (Option ℕ)
-  pub tape : IsTape (take 65536 frames) image
-  pub front : AppendsFront old new (dump_text profile image)
+  pub tape : HasImage frames image
+  pub text_is : text ≡ dump_text profile image

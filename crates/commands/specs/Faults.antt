@@ -1,109 +1,98 @@
--- Which faults a command's own work may have.
-use Rattle.std.specs.Prelude.{ℕ, ◌≡◌, Bool, true, false, Result, Ok, Err, Option, List, IfSome, ◌⊎◌, take}
-use Rattle.bin_tape.specs.Refuses.{Refuses, IsUnfinished}
-use Rattle.streams.specs.Bytes.{Gave}
-use Rattle.bin_tape.specs.Tape.{IsTape}
-use Rattle.peripherals.specs.EventText.{Fails}
+-- Which faults a command may have: the first of its inputs that has one, and then its own work. Each table names the
+-- faults that can come; no other does.
+use Rattle.std.specs.Prelude.{ℕ, ◌≡◌, Bool, true, false, Result, Ok, Err, Option, List, IfSome, ◌⊎◌}
+use Rattle.streams.specs.declared.input.InputFault.{InputFault}
+use Rattle.streams.specs.declared.input.InputFault.TheVariants as input_fault
+use Rattle.bin_tape.specs.Refuses.{Refuses}
 use Rattle.bin_tape.specs.declared.fault.TapeFault.{TapeFault}
 use Rattle.bin_tape.specs.declared.fault.TapeFault.TheVariants.{ReadFault}
-use Rattle.commands.specs.declared.status.Fault.{Fault}
-use Rattle.commands.specs.declared.status.Fault.TheVariants.{Tape, EmptyImage, Source, Declared, Events, Device}
-use Rattle.commands.specs.declared.status.Fault.TheVariants as fault
+use Rattle.peripherals.specs.EventText.{Fails as FailsAsEvents, most_bytes as most_event_bytes}
 use Rattle.peripherals.specs.declared.event_text.EventsFault.{EventsFault}
-use Rattle.peripherals.specs.declared.event_text.EventsFault.TheVariants.{NoMemory}
+use Rattle.peripherals.specs.declared.event_text.EventsFault.TheVariants as events_fault
+use Rattle.declaration.specs.Text.{Fails as FailsAsDeclaration, most_bytes as most_declaration_bytes}
+use Rattle.declaration.specs.declared.DeclarationFault.{DeclarationFault}
+use Rattle.declaration.specs.declared.DeclarationFault.TheVariants as declaration_fault
+use Rattle.commands.specs.declared.status.Fault.{Fault}
+use Rattle.commands.specs.declared.status.Fault.TheVariants.{Tape, Declared, Events, Device}
+use Rattle.commands.specs.declared.status.Fault.TheVariants as fault
 use Rattle.commands.specs.declared.status.DeviceFault.TheVariants.{Read, Write}
-
--- Memory was refused, or a write failed.
-abbrev pub IsRunFault : Fault → Type 0
-IsRunFault (Tape _) = ⊥
-IsRunFault EmptyImage = ⊥
-IsRunFault (Source _) = ⊥
-IsRunFault (Declared _) = ⊥
-IsRunFault (Events _) = ⊥
-IsRunFault (Device Read) = ⊥
-IsRunFault (Device Write) = Unit {0}
-IsRunFault fault.NoMemory = Unit {0}
+use Rattle.commands.specs.Inputs.{Input, IsGoodTape, IsGoodDeclaration, FailsInTape, FailsInText}
 
 -- The answer is that a write failed.
 abbrev pub fails_to_write : {T : Type 0} → Result T Fault → Bool
-fails_to_write (Ok _) = false
-fails_to_write (Err (Tape _)) = false
-fails_to_write (Err EmptyImage) = false
-fails_to_write (Err (Source _)) = false
-fails_to_write (Err (Declared _)) = false
-fails_to_write (Err (Events _)) = false
-fails_to_write (Err (Device Read)) = false
 fails_to_write (Err (Device Write)) = true
-fails_to_write (Err fault.NoMemory) = false
+fails_to_write _ = false
 
 -- The answer is that a read failed.
 abbrev pub fails_to_read : {T : Type 0} → Result T Fault → Bool
-fails_to_read (Ok _) = false
-fails_to_read (Err (Tape _)) = false
-fails_to_read (Err EmptyImage) = false
-fails_to_read (Err (Source _)) = false
-fails_to_read (Err (Declared _)) = false
-fails_to_read (Err (Events _)) = false
 fails_to_read (Err (Device Read)) = true
-fails_to_read (Err (Device Write)) = false
-fails_to_read (Err fault.NoMemory) = false
+fails_to_read _ = false
 
 -- A read that failed is the device's fault; any other fault of a tape is the tape's.
 abbrev pub fault_of_tape : TapeFault → Fault
 fault_of_tape ReadFault = Device Read
 fault_of_tape fault = Tape fault
 
--- A want of memory is nobody's fault; any other fault of a text of events is the text's.
+-- The same of a text that wasn't read.
+abbrev pub fault_of_input : InputFault → Fault
+fault_of_input input_fault.ReadFailed = Device Read
+fault_of_input input_fault.NoMemory = fault.NoMemory
+
+-- A want of memory is nobody's fault; any other fault of a text is the text's.
 abbrev pub fault_of_events : EventsFault → Fault
-fault_of_events NoMemory = fault.NoMemory
+fault_of_events events_fault.NoMemory = fault.NoMemory
 fault_of_events fault = Events fault
 
--- A text wasn't read: a read failed, or memory was refused.
-abbrev pub IsInputFault : Bool → Fault → Type 0
-IsInputFault marked (Tape _) = ⊥
-IsInputFault marked EmptyImage = ⊥
-IsInputFault marked (Source _) = ⊥
-IsInputFault marked (Declared _) = ⊥
-IsInputFault marked (Events _) = ⊥
-IsInputFault marked (Device Read) = marked ≡ true
-IsInputFault marked (Device Write) = ⊥
-IsInputFault marked fault.NoMemory = Unit {0}
-
--- A read of a tape failed, and the frames given before it bring no answer.
-abbrev pub FailsToRead : Bool → Option (List ℕ) → Option (List ℕ) → Type 0
-FailsToRead marked old new = (marked ≡ true) × Gave old new IsUnfinished
-
--- A fault of the tape is the first fault of its bytes, if no read failed; a read fault comes where one did, and the bytes
--- given before it bring no answer.
-abbrev pub IsTapeFault : Bool → Option (List ℕ) → Option (List ℕ) → Fault → Type 0
-IsTapeFault marked old new (Tape fault) = IfSome old (λ bytes. Refuses 65536 bytes fault)
-IsTapeFault marked old new EmptyImage = ⊥
-IsTapeFault marked old new (Source _) = ⊥
-IsTapeFault marked old new (Declared _) = ⊥
-IsTapeFault marked old new (Events _) = ⊥
-IsTapeFault marked old new (Device Read) = FailsToRead marked old new
-IsTapeFault marked old new (Device Write) = Unit {0}
-IsTapeFault marked old new fault.NoMemory = Unit {0}
-
--- The frames are a tape, within the limit of what is looked at.
-pub record AreTape (frames : List ℕ) : Type 0 where
-  pub image : List (Option ℕ)
-  pub tape : IsTape (take 65536 frames) image
+abbrev pub fault_of_declaration : DeclarationFault → Fault
+fault_of_declaration declaration_fault.NoMemory = fault.NoMemory
+fault_of_declaration fault = Declared fault
 
 -- The text has this fault; a want of memory is none.
-abbrev pub IsTextFault : List ℕ → EventsFault → Type 0
-IsTextFault text NoMemory = ⊥
-IsTextFault text fault = Fails text fault
+abbrev pub IsEventsFault : List ℕ → EventsFault → Type 0
+IsEventsFault text events_fault.NoMemory = ⊥
+IsEventsFault text fault = FailsAsEvents text fault
 
--- The same with a text of events, which is looked at where the tape is good; a read of either may fail.
-abbrev pub IsEventsFault : Bool → Option (List ℕ) → Option (List ℕ) → Bool → Option (List ℕ) → Fault → Type 0
-IsEventsFault marked frames left text_marked text (Tape fault) = IfSome frames (λ bytes. Refuses 65536 bytes fault)
-IsEventsFault marked frames left text_marked text EmptyImage = ⊥
-IsEventsFault marked frames left text_marked text (Source fault) = ⊥
-IsEventsFault marked frames left text_marked text (Declared fault) = ⊥
-IsEventsFault marked frames left text_marked text (Events fault) =
-    IfSome frames AreTape × IfSome text (λ bytes. IsTextFault (take 65537 bytes) fault)
-IsEventsFault marked frames left text_marked text (Device Read) =
-    FailsToRead marked frames left ⊎ ((text_marked ≡ true) × IfSome frames AreTape)
-IsEventsFault marked frames left text_marked text (Device Write) = Unit {0}
-IsEventsFault marked frames left text_marked text fault.NoMemory = Unit {0}
+abbrev pub IsDeclarationFault : List ℕ → DeclarationFault → Type 0
+IsDeclarationFault text declaration_fault.NoMemory = ⊥
+IsDeclarationFault text fault = FailsAsDeclaration text fault
+
+-- Why a tape wasn't read: it has this fault, or a read failed. Reading a tape takes no memory.
+abbrev pub IsTapeInputFault : Input → Fault → Type 0
+IsTapeInputFault tape (Tape fault) = IfSome tape.had (λ bytes. Refuses 65536 bytes fault)
+IsTapeInputFault tape (Device Read) = FailsInTape tape
+IsTapeInputFault tape _ = ⊥
+
+-- Why a text of events wasn't read: it has this fault, a read failed, or memory was refused.
+abbrev pub IsEventsInputFault : Input → Fault → Type 0
+IsEventsInputFault text (Events fault) = IfSome text.had (λ bytes. IsEventsFault bytes fault)
+IsEventsInputFault text (Device Read) = FailsInText most_event_bytes text
+IsEventsInputFault text fault.NoMemory = Unit {0}
+IsEventsInputFault text _ = ⊥
+
+-- The same of a declaration.
+abbrev pub IsDeclarationInputFault : Input → Fault → Type 0
+IsDeclarationInputFault text (Declared fault) = IfSome text.had (λ bytes. IsDeclarationFault bytes fault)
+IsDeclarationInputFault text (Device Read) = FailsInText most_declaration_bytes text
+IsDeclarationInputFault text fault.NoMemory = Unit {0}
+IsDeclarationInputFault text _ = ⊥
+
+-- The inputs are good, and a write failed or memory was refused.
+abbrev pub IsRunFault : Fault → Type 0
+IsRunFault (Device Write) = Unit {0}
+IsRunFault fault.NoMemory = Unit {0}
+IsRunFault _ = ⊥
+
+-- Why a command of a tape has no result: the tape's fault, or after a good tape that of the work.
+abbrev pub IsTapeFault : Input → Fault → Type 0
+IsTapeFault tape fault = IsTapeInputFault tape fault ⊎ (IsGoodTape tape.had × IsRunFault fault)
+
+-- The same with a text of events, which is looked at after a good tape.
+abbrev pub IsEventRunFault : Input → Input → Fault → Type 0
+IsEventRunFault tape text fault =
+    IsTapeInputFault tape fault ⊎ (IsGoodTape tape.had × (IsEventsInputFault text fault ⊎ IsRunFault fault))
+
+-- The same with a declaration between them: each input is looked at where those before it are good.
+abbrev pub IsWatchFault : Input → Input → Input → Fault → Type 0
+IsWatchFault tape text list fault =
+    IsTapeInputFault tape fault ⊎ (IsGoodTape tape.had × (IsDeclarationInputFault text fault
+    ⊎ (IsGoodDeclaration text.had × (IsEventsInputFault list fault ⊎ IsRunFault fault))))

@@ -1,7 +1,12 @@
-pub mod Follows
+pub mod Writes
+pub mod Inputs
 pub mod Faults
-pub mod Running
+pub mod Statuses
+pub mod Trace
+pub mod Follows
 pub mod Summary
+pub mod Course
+pub mod Running
 pub mod Dumping
 pub mod WatchText
 pub mod SourceTexts

@@ -1,17 +1,17 @@
--- The run of a tape.
-use Rattle.std.specs.Prelude.{ℕ, ◌≡◌, Bool, false, if◌then◌else◌, None, List, Option, take}
-use Rattle.std.specs.Io.KnownBytes.{Appends}
-use Rattle.instruct.specs.declared.Profile.{Profile}
-use Rattle.streams.specs.Bytes.{AppendsFront}
-use Rattle.bin_tape.specs.Tape.{IsTape}
+-- The run of a tape, and what it writes.
+use Rattle.std.specs.Prelude.{ℕ, ◌≡◌, Bool, true, false, None, ◌⊎◌, ◌++◌, List, Option}
 use Rattle.peripherals.specs.declared.Event.{Event}
 use Rattle.peripherals.specs.Devices.{WorldState, idle}
-use Rattle.peripherals.specs.EventText.{Spells}
 use Rattle.peripherals.specs.Loading.{image_of, laid}
+use Rattle.commands.specs.declared.follow.End.{End}
+use Rattle.commands.specs.declared.follow.End.TheVariants.{Unsupported}
+use Rattle.commands.specs.declared.running.RunOptions.{RunOptions}
 use Rattle.commands.specs.declared.status.Status.{Status}
 use Rattle.commands.specs.declared.status.Status.TheVariants.{Done, Refused}
-use Rattle.commands.specs.Follows.{Follows}
+use Rattle.commands.specs.Inputs.{HasImage, HasEvents}
+use Rattle.commands.specs.Follows.{Follows, IsTraceOfSome, rounds}
 use Rattle.commands.specs.Summary.{summary}
+use Rattle.commands.specs.Trace.{traced}
 
 -- A machine whose registers and other cells are 0, loaded with an image, which stands at an address.
 abbrev pub fresh : List (Option ℕ) → ℕ → WorldState
@@ -22,38 +22,54 @@ fresh image pc = record {
 }
 
 -- A run that is stuck at an unsupported word is refused.
-abbrev pub status_of : Bool → Status
-status_of stuck = if stuck then Refused else Done
+abbrev pub status_of : End → Status
+status_of (Unsupported at) = Refused
+status_of _ = Done
 
--- The frames are a tape, and these events follow from its image; what was written is the summary.
-pub record WritesRun (profile : Profile) (start : ℕ) (ends_at_halt : Bool) (events : List Event) (frames : List ℕ) (old new : Option (List ℕ)) (status : Status) : Type 0 where
-  pub image : List (Option ℕ)
-  pub tape : IsTape (take 65536 frames) image
+-- From an image these events lead to an end: the text is the trace, if one is asked for, and the summary. Without a trace
+-- it is the summary.
+pub record IsRunOf (options : RunOptions) (ends_at_halt : Bool) (events : List Event) (image : List (Option ℕ)) (text : List ℕ) (status : Status) : Type 0 where
+  pub lines : List ℕ
   pub steps : ℕ
-  pub stuck : Bool
+  pub end : End
   pub final : WorldState
-  pub follows : Follows profile ends_at_halt events (fresh image start) steps stuck final
-  pub written : Appends old new (summary stuck final steps)
-  pub status_is : status ≡ status_of stuck
+  pub follows : Follows options.profile ends_at_halt events (fresh image options.start) lines steps end final
+  pub text_is : text ≡ traced options.trace lines ++ summary end final steps
+  pub status_is : status ≡ status_of end
 
--- The same by the events that a text spells; such a run goes on after a halt.
-pub record WritesEventRun (profile : Profile) (start : ℕ) (text frames : List ℕ) (old new : Option (List ℕ)) (status : Status) : Type 0 where
-  pub events : List Event
-  pub spelled : Spells (take 65537 text) events
-  pub run : WritesRun profile start false events frames old new status
+-- A trace is asked for, and the text is that of the run of some first events.
+pub record IsTraceOf (options : RunOptions) (ends_at_halt : Bool) (events : List Event) (image : List (Option ℕ)) (text : List ℕ) : Type 0 where
+  pub asked : options.trace ≡ true
+  pub is : IsTraceOfSome options.profile ends_at_halt events (fresh image options.start) text
 
--- The frames are a tape, and these events follow from its image; a front of the summary was written.
-pub record FrontOfRun (profile : Profile) (start : ℕ) (ends_at_halt : Bool) (events : List Event) (frames : List ℕ) (old new : Option (List ℕ)) : Type 0 where
+-- What a run may be about to write: its whole text, or the trace of some first events.
+abbrev pub IsPartOf : RunOptions → Bool → List Event → List (Option ℕ) → List ℕ → Type 0
+IsPartOf options ends_at_halt events image text =
+    ((status : Status) × IsRunOf options ends_at_halt events image text status)
+    ⊎ IsTraceOf options ends_at_halt events image text
+
+-- The frames are a tape, and the text is that of the run of its image by so many rounds, which ends at a halt.
+pub record IsRoundRun (options : RunOptions) (frames : Option (List ℕ)) (text : List ℕ) (status : Status) : Type 0 where
   pub image : List (Option ℕ)
-  pub tape : IsTape (take 65536 frames) image
-  pub steps : ℕ
-  pub stuck : Bool
-  pub final : WorldState
-  pub follows : Follows profile ends_at_halt events (fresh image start) steps stuck final
-  pub front : AppendsFront old new (summary stuck final steps)
+  pub tape : HasImage frames image
+  pub run : IsRunOf options true (rounds options.rounds) image text status
 
--- The same by the events that a text spells.
-pub record FrontOfEventRun (profile : Profile) (start : ℕ) (text frames : List ℕ) (old new : Option (List ℕ)) : Type 0 where
+pub record IsPartOfRoundRun (options : RunOptions) (frames : Option (List ℕ)) (text : List ℕ) : Type 0 where
+  pub image : List (Option ℕ)
+  pub tape : HasImage frames image
+  pub part : IsPartOf options true (rounds options.rounds) image text
+
+-- The same by the events that a list spells; such a run goes on after a halt.
+pub record IsEventRun (options : RunOptions) (frames list : Option (List ℕ)) (text : List ℕ) (status : Status) : Type 0 where
+  pub image : List (Option ℕ)
+  pub tape : HasImage frames image
   pub events : List Event
-  pub spelled : Spells (take 65537 text) events
-  pub run : FrontOfRun profile start false events frames old new
+  pub spelled : HasEvents list events
+  pub run : IsRunOf options false events image text status
+
+pub record IsPartOfEventRun (options : RunOptions) (frames list : Option (List ℕ)) (text : List ℕ) : Type 0 where
+  pub image : List (Option ℕ)
+  pub tape : HasImage frames image
+  pub events : List Event
+  pub spelled : HasEvents list events
+  pub part : IsPartOf options false events image text

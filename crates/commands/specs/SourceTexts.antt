@@ -5,17 +5,16 @@ use Rattle.streams.specs.Bytes.{Gave}
 use Rattle.pal_acts.specs.declared.code.Code.TheVariants.{TooLong}
 use Rattle.pal_asm.specs.Sources.{fault_at, size_fault}
 use Rattle.commands.specs.declared.status.Fault.{Fault}
-use Rattle.commands.specs.declared.status.Fault.TheVariants.{Tape, EmptyImage, Source, Declared, Events, Device}
+use Rattle.commands.specs.declared.status.Fault.TheVariants.{Source, Device}
 use Rattle.commands.specs.declared.status.Fault.TheVariants as fault
-use Rattle.commands.specs.declared.status.DeviceFault.TheVariants.{Read, Write}
+use Rattle.commands.specs.declared.status.DeviceFault.TheVariants.{Read}
 
--- These parts were read from sources that had these bytes: each from its own, and one byte more than a part may have at
--- most, so that a longer one is seen to be too long.
+-- These are the parts that sources with these bytes hold: each source one, as far as it tells its bytes.
 abbrev pub AreRead : List (Option (List ℕ)) → List (List ℕ) → Type 0
 AreRead [] [] = Unit {0}
 AreRead [] (part ∷ parts) = ⊥
 AreRead (source ∷ sources) [] = ⊥
-AreRead (source ∷ sources) (part ∷ parts) = IfSome source (λ bytes. part ≡ take 65537 bytes) × AreRead sources parts
+AreRead (source ∷ sources) (part ∷ parts) = IfSome source (λ bytes. part ≡ bytes) × AreRead sources parts
 
 -- There are no parts, or more than 16.
 abbrev pub is_bad_number : ℕ → Bool
@@ -38,26 +37,23 @@ pub record FailsToReadPart (marks : List Bool) (sources left : List (Option (Lis
   pub still : slice_get left at ≡ Some has
   pub gave : Gave had has IsShort
 
--- Why the code has no part of this number from a source that had these bytes and has those left: it is too long, its read
+-- A source holds this part, which is too long.
+pub record IsLong (had : Option (List ℕ)) : Type 0 where
+  pub part : List ℕ
+  pub is : IfSome had (λ bytes. part ≡ bytes)
+  pub long : 65536 < length part
+
+-- Why the part of this number isn't read from a source that had these bytes and has those left: it is too long, its read
 -- failed, or memory was refused.
 abbrev pub IsPartFault : ℕ → Option (List ℕ) → Option (List ℕ) → Fault → Type 0
-IsPartFault n had has (Tape _) = ⊥
-IsPartFault n had has EmptyImage = ⊥
-IsPartFault n had has (Source fault) =
-    (fault ≡ fault_at TooLong n 0) × (part : List ℕ) × IfSome had (λ bytes. part ≡ take 65537 bytes) × (65536 < length part)
-IsPartFault n had has (Declared _) = ⊥
-IsPartFault n had has (Events _) = ⊥
+IsPartFault n had has (Source fault) = (fault ≡ fault_at TooLong n 0) × IsLong had
 IsPartFault n had has (Device Read) = Gave had has IsShort
-IsPartFault n had has (Device Write) = ⊥
 IsPartFault n had has fault.NoMemory = Unit {0}
+IsPartFault n had has _ = ⊥
 
--- Why the code has no parts: the sources have a fault of sizes, a read failed, or memory was refused.
+-- Why there are no parts: the sources have a fault of sizes, a read failed, or memory was refused.
 abbrev pub ArePartsFault : List Bool → List (Option (List ℕ)) → List (Option (List ℕ)) → Fault → Type 0
-ArePartsFault marks sources left (Tape _) = ⊥
-ArePartsFault marks sources left EmptyImage = ⊥
 ArePartsFault marks sources left (Source fault) = (parts : List (List ℕ)) × AreRead sources parts × (size_fault parts ≡ Some fault)
-ArePartsFault marks sources left (Declared _) = ⊥
-ArePartsFault marks sources left (Events _) = ⊥
 ArePartsFault marks sources left (Device Read) = FailsToReadPart marks sources left
-ArePartsFault marks sources left (Device Write) = ⊥
 ArePartsFault marks sources left fault.NoMemory = is_bad_number (length sources) ≡ false
+ArePartsFault marks sources left _ = ⊥

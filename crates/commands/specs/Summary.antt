@@ -1,27 +1,29 @@
 -- The summary of a run.
-use Rattle.std.specs.Prelude.{ℕ, ◌+◌, ◌/◌, ◌%◌, Bool, true, false, Option, Some, None, List, [], ◌∷◌, ◌++◌, codes, decimal}
+use Rattle.std.specs.Prelude.{ℕ, ◌+◌, ◌/◌, ◌%◌, List, [], ◌∷◌, ◌++◌, codes, decimal}
 use Rattle.word12.specs.Words.{octal_text}
 use Rattle.processor.specs.Machine.{State}
 use Rattle.peripherals.specs.Devices.{WorldState}
+use Rattle.commands.specs.declared.follow.End.{End}
+use Rattle.commands.specs.declared.follow.End.TheVariants.{Halted, Unsupported, Bound}
 
 -- A link as the digit 0 or 1.
 abbrev pub link_text : ℕ → List ℕ
 link_text link = (48 + link) ∷ []
 
 -- How a run ended and where: stuck at an unsupported word, halted by the HLT at this address, or at its bound.
-abbrev pub end_text : Bool → Option ℕ → ℕ → List ℕ
-end_text true halted pc = codes "UNSUPPORTED " ++ octal_text pc
-end_text false (Some at) pc = codes "HALT " ++ octal_text at
-end_text false None pc = codes "BOUND " ++ octal_text pc
+abbrev pub end_text : End → List ℕ
+end_text (Unsupported at) = codes "UNSUPPORTED " ++ octal_text at
+end_text (Halted at) = codes "HALT " ++ octal_text at
+end_text (Bound at) = codes "BOUND " ++ octal_text at
 
 abbrev pub registers_text : State → List ℕ
 registers_text s =
     codes " AC=" ++ octal_text s.ac ++ (codes " L=" ++ link_text s.link) ++ codes " PC=" ++ octal_text s.pc
 
 -- The first line: the end, the registers, and how many instructions were carried out.
-abbrev pub state_line : Bool → WorldState → ℕ → List ℕ
-state_line stuck w steps =
-    end_text stuck w.halted_at w.state.pc ++ registers_text w.state ++ (codes " STEPS=" ++ decimal steps ++ codes "\n")
+abbrev pub state_line : End → WorldState → ℕ → List ℕ
+state_line end w steps =
+    end_text end ++ registers_text w.state ++ (codes " STEPS=" ++ decimal steps ++ codes "\n")
 
 -- A byte after a space, as three octal digits.
 abbrev pub byte_text : ℕ → List ℕ
@@ -36,7 +38,7 @@ abbrev pub output_line : List ℕ → List ℕ → List ℕ
 output_line name [] = []
 output_line name (b ∷ bs) = name ++ bytes_text (b ∷ bs) ++ codes "\n"
 
-abbrev pub summary : Bool → WorldState → ℕ → List ℕ
-summary stuck w steps =
-    state_line stuck w steps ++ output_line (codes "PRINTED") w.devices.printer.output ++
+abbrev pub summary : End → WorldState → ℕ → List ℕ
+summary end w steps =
+    state_line end w steps ++ output_line (codes "PRINTED") w.devices.printer.output ++
     output_line (codes "PUNCHED") w.devices.punch.output

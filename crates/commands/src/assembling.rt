@@ -7,19 +7,21 @@ ghost use Rattle.pal_asm.specs.Listings.{Lists};
 ghost use Rattle.pal_asm.specs.Programs.{symbols_of, image_of, listing_of, symbols_in, image_in};
 ghost use Rattle.pal_acts.specs.declared.code.Code.TheVariants.{TooLong};
 ghost use Rattle.pal_asm.specs.Sources.{fault_at, texts, Means};
-ghost use Rattle.commands.specs.AssembleText.{IsAssemblyFault, IsSourceFault, WritesTape, FrontOfTape, IsListFault, WritesListing, FrontOfListing};
+ghost use Rattle.commands.specs.AssembleText.{IsAssembled, IsAssemblyFault, IsListFault, IsListing, IsSourceFault};
 ghost use Rattle.commands.specs.Faults.{fails_to_read, fails_to_write};
 ghost use Rattle.commands.specs.SourceTexts.{is_bad_number};
+ghost use Rattle.commands.specs.Writes.{FrontOf, Writes};
 ghost use Rattle.commands.specs.declared.status.Fault.TheVariants.{Source};
 ghost use Rattle.commands.specs.declared.status.Status.TheVariants.{Done};
 
 use crate::sources::{lend, read_parts};
 use crate::status::{DeviceFault, Fault, Status};
+use bin_tape::laws::written_tapes_read_back;
 use bin_tape::{WriteTapeFault, write_tape};
-use streams::{ByteSink, ByteSource};
 use instruct::Profile;
 use pal_asm::{AssembleFault, Program, Translation, WriteFault};
 use std::alloc::Allocator;
+use streams::{ByteSink, ByteSource};
 
 /// What the parts of a source mean.
 fn translation_of<'s, A: Allocator + Copy>(
@@ -27,7 +29,8 @@ fn translation_of<'s, A: Allocator + Copy>(
     parts: &[&'s [u8]],
     profile: Profile,
 ) -> Result<Translation<'s, A>, Fault>
-    ensures found { IfOk result (λ translation. Means (permanent_symbols profile) (texts parts.now) (symbols_in translation) (image_in translation)) }
+    ensures found { IfOk result (λ translation. Means (permanent_symbols profile) (texts parts.now)
+        (symbols_in translation) (image_in translation)) }
     ensures faults { IfErr result (IsAssemblyFault profile (texts parts.now)) }
 {
     match pal_asm::translate(alloc, parts, profile) {
@@ -43,8 +46,10 @@ fn program_of<A: Allocator + Copy>(
     parts: &[&[u8]],
     profile: Profile,
 ) -> Result<Program<A>, Fault>
-    ensures found { IfOk result (λ program. Means (permanent_symbols profile) (texts parts.now) (symbols_of program) (image_of program)) }
-    ensures listed { IfOk result (λ program. Lists (permanent_symbols profile) (texts parts.now) (symbols_of program) (listing_of program)) }
+    ensures found { IfOk result (λ program. Means (permanent_symbols profile) (texts parts.now)
+        (symbols_of program) (image_of program)) }
+    ensures listed { IfOk result (λ program. Lists (permanent_symbols profile) (texts parts.now)
+        (symbols_of program) (listing_of program)) }
     ensures faults { IfErr result (IsAssemblyFault profile (texts parts.now)) }
 {
     match pal_asm::assemble(alloc, parts, profile) {
@@ -72,23 +77,28 @@ pub fn assemble<A: Allocator + Copy, R: ByteSource, W: ByteSink>(
     requires writable { W.mark out.old ≡ false }
     // What is written is the tape of the image that the source means.
     ensures done { IfOk result (λ status. status ≡ Done) }
-    ensures tape { OnOk result (WritesTape profile (map R.remaining sources.old) (W.taken out.old) (W.taken out.new)) }
-    // A fault of the source is its one fault; that of a read comes only where the number of sources is good and those
-    // before it aren't too long.
-    ensures faults { IfErr result (IsSourceFault profile (map R.mark sources.new) (map R.remaining sources.old) (map R.remaining sources.new)) }
+    ensures tape { OnOk result (Writes (IsAssembled profile (map R.remaining sources.old))
+        (W.taken out.old) (W.taken out.new)) }
+    // A fault of the source is its one fault; that of a read comes only where the number of sources
+    // is good and those before it aren't too long.
+    ensures faults { IfErr result (IsSourceFault profile (map R.mark sources.new)
+        (map R.remaining sources.old) (map R.remaining sources.new)) }
     // Where a write failed, a front of that tape went out,
-    ensures front { W.mark out.new ≡ true → FrontOfTape profile (map R.remaining sources.old) (W.taken out.old) (W.taken out.new) }
+    ensures front { W.mark out.new ≡ true → FrontOf (IsAssembled profile (map R.remaining sources.old))
+        (W.taken out.old) (W.taken out.new) }
     // and any other fault leaves the output as it was.
     ensures nothing { OnErr result (W.mark out.new ≡ false → W.taken out.new ≡ W.taken out.old) }
     // A write failed exactly where the answer says so, and so did a read.
     ensures marks { W.mark out.new ≡ fails_to_write result }
     ensures reads { list_any R.mark sources.new ≡ fails_to_read result }
     // A bad number of sources is told, and nothing is read.
-    ensures number { is_bad_number (length sources.old) ≡ true → (result ≡ Err (Source (fault_at TooLong 0 0))) × (sources.new ≡ sources.old) }
+    ensures number { is_bad_number (length sources.old) ≡ true →
+        (result ≡ Err (Source (fault_at TooLong 0 0))) × (sources.new ≡ sources.old) }
 {
     let parts = read_parts(alloc, sources)?;
     let slices = lend(alloc, &parts)?;
     let translation = translation_of(alloc, &slices, profile)?;
+    written_tapes_read_back(translation.image());
     match write_tape(translation.image(), out) {
         Ok(()) => Ok(Status::Done),
         Err(WriteTapeFault::EmptyImage) => Err(Fault::EmptyImage),
@@ -110,13 +120,17 @@ pub fn list<A: Allocator + Copy, R: ByteSource, W: ByteSink>(
     requires readable { AllByRecursion (λ source. R.mark source ≡ false) sources.old }
     requires writable { W.mark out.old ≡ false }
     ensures done { IfOk result (λ status. status ≡ Done) }
-    ensures listing { OnOk result (WritesListing profile (map R.remaining sources.old) (W.taken out.old) (W.taken out.new)) }
-    ensures faults { IfErr result (IsListFault profile (map R.mark sources.new) (map R.remaining sources.old) (map R.remaining sources.new)) }
-    ensures front { W.mark out.new ≡ true → FrontOfListing profile (map R.remaining sources.old) (W.taken out.old) (W.taken out.new) }
+    ensures listing { OnOk result (Writes (IsListing profile (map R.remaining sources.old))
+        (W.taken out.old) (W.taken out.new)) }
+    ensures faults { IfErr result (IsListFault profile (map R.mark sources.new)
+        (map R.remaining sources.old) (map R.remaining sources.new)) }
+    ensures front { W.mark out.new ≡ true → FrontOf (IsListing profile (map R.remaining sources.old))
+        (W.taken out.old) (W.taken out.new) }
     ensures nothing { OnErr result (W.mark out.new ≡ false → W.taken out.new ≡ W.taken out.old) }
     ensures marks { W.mark out.new ≡ fails_to_write result }
     ensures reads { list_any R.mark sources.new ≡ fails_to_read result }
-    ensures number { is_bad_number (length sources.old) ≡ true → (result ≡ Err (Source (fault_at TooLong 0 0))) × (sources.new ≡ sources.old) }
+    ensures number { is_bad_number (length sources.old) ≡ true →
+        (result ≡ Err (Source (fault_at TooLong 0 0))) × (sources.new ≡ sources.old) }
 {
     let parts = read_parts(alloc, sources)?;
     let slices = lend(alloc, &parts)?;

@@ -1,34 +1,108 @@
-//! Driving a world: rounds, or a list of events.
+//! Driving a world by events, in rounds or from a list.
 
-ghost use Rattle.std.specs.Prelude.{◌≡◌, true, false, IfOk, IfErr, [], ◌∷◌};
+ghost use Rattle.std.specs.Prelude.{◌≡◌, ◌<◌, true, false, get_or, length, IfOk, IfErr, OnOk};
+ghost use Rattle.std.specs.Io.KnownBytes.{Appends};
+ghost use Rattle.streams.specs.Bytes.{AppendsFront};
+ghost use Rattle.peripherals.specs.Events.{Happens};
+ghost use Rattle.peripherals.specs.Seen.{seen_of};
 ghost use Rattle.peripherals.specs.World.{view, profile_of};
 ghost use Rattle.commands.specs.Faults.{IsRunFault, fails_to_write};
-ghost use Rattle.commands.specs.Follows.{Follows, Leads, IsOneAtMost, rounds};
+ghost use Rattle.commands.specs.Follows.{IsTraceOfSome, end_of};
+ghost use Rattle.commands.specs.Course.{Ran, ends_at_halt, event_of_round, events_in};
+ghost use Rattle.commands.specs.Trace.{trace_of, traced};
+ghost use Rattle.commands.specs.Writes.{FrontOf};
 
 use crate::status::Fault;
 use crate::trace::put_trace;
-use streams::ByteSink;
 use peripherals::{Event, Seen, World};
 use std::alloc::Allocator;
+use streams::ByteSink;
+use word12::Word;
+
+/// How a run ended, and where.
+#[derive(Clone, Copy, PartialEq, Eq, Debug)]
+pub enum End {
+    /// At the HLT with this address.
+    Halted(Word),
+    /// At an unsupported word with this address, which changed nothing.
+    Unsupported(Word),
+    /// The rounds or the events were used up, and the program counter has this address.
+    Bound(Word),
+}
 
 /// How far a run came.
 #[derive(Clone, Copy, PartialEq, Eq, Debug)]
-pub struct Progress {
+pub struct Outcome {
     /// How many instructions were carried out.
     pub steps: u64,
-    /// The run ended at an unsupported word.
-    pub stuck: bool,
+    /// How the run ended.
+    pub end: End,
 }
 
-/// What comes after an event.
-#[derive(Clone, Copy, PartialEq, Eq, Debug)]
-enum Next {
-    /// The run goes on, and so many more instructions were carried out.
-    Goes(u64),
-    /// The run ends at a halt.
-    Stops,
-    /// The run ends at an unsupported word.
-    Stuck,
+/// What happens in a run, one event after the other.
+#[derive(Clone, Copy, Debug)]
+pub enum Course<'e> {
+    /// So many rounds: an instruction is tried, then the printer and the punch get done. A halt ends
+    /// the run.
+    Rounds(u32),
+    /// These events. The run goes on after a halt.
+    Listed(&'e [Event]),
+}
+
+impl Course<'_> {
+    /// How many events there are.
+    #[tactic(auto, using(crate::proofs::FollowLemmas::rounds_length))]
+    pub fn len(&self) -> usize
+        ensures { result ≡ length (events_in self.now) }
+    {
+        match self {
+            Course::Rounds(count) => *count as usize * 3,
+            Course::Listed(events) => events.len(),
+        }
+    }
+
+    /// The event with this index.
+    #[tactic(auto, using(crate::proofs::FollowLemmas::rounds_at))]
+    pub fn event(&self, index: usize) -> Event
+        requires { index < length (events_in self.now) }
+        ensures { result ≡ get_or (events_in self.now) index Event.Step }
+    {
+        match self {
+            Course::Rounds(_) => event_of_round(index % 3),
+            Course::Listed(events) => match events.get(index) {
+                Some(event) => *event,
+                None => Event::Step,
+            },
+        }
+    }
+
+    /// A halt ends the run.
+    pub fn ends_at_halt(&self) -> bool
+        ensures { result ≡ ends_at_halt self.now }
+    {
+        matches!(self, Course::Rounds(_))
+    }
+}
+
+/// The events of a round, by their index in it.
+fn event_of_round(index: usize) -> Event
+    ensures { result ≡ event_of_round index }
+{
+    match index {
+        0 => Event::Step,
+        1 => Event::PrinterDone,
+        _ => Event::PunchDone,
+    }
+}
+
+/// The end of a run that isn't stuck.
+fn end_of<A: Allocator>(world: &World<A>) -> End
+    ensures { result ≡ end_of (view world.now) }
+{
+    match world.halted_at() {
+        Some(at) => End::Halted(at),
+        None => End::Bound(world.cpu().pc),
+    }
 }
 
 /// Applies one event. A trace has a line for each instruction that was carried out.
@@ -37,117 +111,75 @@ fn advance<A: Allocator, W: ByteSink>(
     out: &mut W,
     trace: bool,
     event: Event,
-    ends_at_halt: bool,
-) -> Result<Next, Fault>
+) -> Result<Seen, Fault>
     requires unmarked { W.mark out.old ≡ false }
-    ensures leads { IfOk result (λ next. Leads (profile_of world.old) ends_at_halt (event ∷ []) (view world.old) next (view world.new)) }
-    ensures one { IfOk result IsOneAtMost }
+    ensures happens { OnOk result
+        (Happens (profile_of world.old) (view world.old) event (view world.new)) }
+    ensures seen { IfOk result (λ seen. seen ≡ seen_of (profile_of world.old) (view world.old) event) }
+    ensures wrote { OnOk result (Appends (W.taken out.old) (W.taken out.new)
+        (traced trace (trace_of (profile_of world.old) (view world.old) event (view world.new)))) }
     ensures profile { profile_of world.new ≡ profile_of world.old }
     ensures faults { IfErr result IsRunFault }
     ensures marks { W.mark out.new ≡ fails_to_write result }
+    ensures asked { W.mark out.new ≡ true → trace ≡ true }
+    ensures broke { W.mark out.new ≡ true →
+        Happens (profile_of world.old) (view world.old) event (view world.new) }
+    ensures front { W.mark out.new ≡ true → AppendsFront (W.taken out.old) (W.taken out.new)
+        (trace_of (profile_of world.old) (view world.old) event (view world.new)) }
     ensures silent { trace ≡ false → out.new ≡ out.old }
 {
     let at = world.cpu().pc;
     let word = world.cpu().memory.get(at);
     let seen = world.apply(event)?;
-    if trace && matches!(&seen, Seen::Ran | Seen::Halted) {
-        put_trace(out, at, word, world.cpu())?;
+    if !trace {
+        return Ok(seen);
     }
-    match seen {
-        Seen::Ran => Ok(Next::Goes(1)),
-        Seen::Halted if ends_at_halt => Ok(Next::Stops),
-        Seen::Halted => Ok(Next::Goes(1)),
-        Seen::Unsupported(_) => Ok(Next::Stuck),
-        Seen::NotEnabled => Ok(Next::Goes(0)),
-        Seen::Changed => Ok(Next::Goes(0)),
-    }
+    put_trace(out, &seen, at, word, world.cpu())?;
+    Ok(seen)
 }
 
-/// One round: an instruction is tried, and if the run goes on, the printer and the punch get done.
-fn round<A: Allocator, W: ByteSink>(
+/// Lets a world go through a course. The run ends early at an unsupported word, and at a halt where
+/// the course says so.
+pub fn follow<A: Allocator, W: ByteSink>(
     world: &mut World<A>,
     out: &mut W,
     trace: bool,
-) -> Result<Next, Fault>
+    course: &Course<'_>,
+) -> Result<Outcome, Fault>
     requires unmarked { W.mark out.old ≡ false }
-    ensures leads { IfOk result (λ next. Leads (profile_of world.old) true (rounds 1) (view world.old) next (view world.new)) }
-    ensures one { IfOk result IsOneAtMost }
-    ensures profile { profile_of world.new ≡ profile_of world.old }
+    ensures ran { IfOk result (λ outcome. Ran (profile_of world.old) (ends_at_halt course.now) trace
+        (events_in course.now) (view world.old) outcome (view world.new) (W.taken out.old) (W.taken out.new)) }
     ensures faults { IfErr result IsRunFault }
     ensures marks { W.mark out.new ≡ fails_to_write result }
-    ensures silent { trace ≡ false → out.new ≡ out.old }
-{
-    match advance(world, out, trace, Event::Step, true)? {
-        Next::Goes(count) => {
-            world.apply(Event::PrinterDone)?;
-            world.apply(Event::PunchDone)?;
-            Ok(Next::Goes(count))
-        }
-        Next::Stops => Ok(Next::Stops),
-        Next::Stuck => Ok(Next::Stuck),
-    }
-}
-
-/// Makes so many rounds; the run ends early at a halt and at an unsupported word.
-pub fn follow_rounds<A: Allocator, W: ByteSink>(
-    world: &mut World<A>,
-    out: &mut W,
-    trace: bool,
-    count: u32,
-) -> Result<Progress, Fault>
-    requires unmarked { W.mark out.old ≡ false }
-    ensures follows { IfOk result (λ progress. Follows (profile_of world.old) true (rounds count) (view world.old) progress.steps progress.stuck (view world.new)) }
-    ensures faults { IfErr result IsRunFault }
-    ensures marks { W.mark out.new ≡ fails_to_write result }
+    ensures asked { W.mark out.new ≡ true → trace ≡ true }
+    ensures front { W.mark out.new ≡ true → FrontOf
+        (IsTraceOfSome (profile_of world.old) (ends_at_halt course.now) (events_in course.now) (view world.old))
+        (W.taken out.old) (W.taken out.new) }
     ensures silent { trace ≡ false → out.new ≡ out.old }
 {
     let mut steps = 0;
-    for _turn in 0..count {
-        match round(world, out, trace)? {
-            Next::Goes(more) => steps += more,
-            Next::Stops => {
-                return Ok(Progress {
+    for index in 0..course.len() {
+        match advance(world, out, trace, course.event(index))? {
+            Seen::Ran => steps += 1,
+            Seen::Halted if course.ends_at_halt() => {
+                return Ok(Outcome {
                     steps: steps + 1,
-                    stuck: false,
+                    end: end_of(world),
                 });
             }
-            Next::Stuck => return Ok(Progress { steps, stuck: true }),
-        }
-    }
-    Ok(Progress {
-        steps,
-        stuck: false,
-    })
-}
-
-/// Applies the events of a list; the run ends early at an unsupported word alone.
-pub fn follow_events<A: Allocator, W: ByteSink>(
-    world: &mut World<A>,
-    out: &mut W,
-    trace: bool,
-    events: &[Event],
-) -> Result<Progress, Fault>
-    requires unmarked { W.mark out.old ≡ false }
-    ensures follows { IfOk result (λ progress. Follows (profile_of world.old) false events.now (view world.old) progress.steps progress.stuck (view world.new)) }
-    ensures faults { IfErr result IsRunFault }
-    ensures marks { W.mark out.new ≡ fails_to_write result }
-    ensures silent { trace ≡ false → out.new ≡ out.old }
-{
-    let mut steps = 0;
-    for event in events {
-        match advance(world, out, trace, *event, false)? {
-            Next::Goes(more) => steps += more,
-            Next::Stops => {
-                return Ok(Progress {
-                    steps: steps + 1,
-                    stuck: false,
+            Seen::Halted => steps += 1,
+            Seen::Unsupported(_) => {
+                return Ok(Outcome {
+                    steps,
+                    end: End::Unsupported(world.cpu().pc),
                 });
             }
-            Next::Stuck => return Ok(Progress { steps, stuck: true }),
+            Seen::NotEnabled => {}
+            Seen::Changed => {}
         }
     }
-    Ok(Progress {
+    Ok(Outcome {
         steps,
-        stuck: false,
+        end: end_of(world),
     })
 }

@@ -3,7 +3,7 @@
 
 pub mod assembling;
 pub mod follow;
-mod input;
+mod inputs;
 pub mod running;
 mod sources;
 pub mod status;

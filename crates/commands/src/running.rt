@@ -1,28 +1,24 @@
-//! The commands, over sources and sinks.
+//! The commands that read a tape: its run and its words.
 
-ghost use Rattle.std.specs.Prelude.{ℕ, ◌≡◌, List, Option, Some, None, take, false, true, IfOk, IfErr, IfSome, OnOk, OnErr};
-ghost use Rattle.std.specs.Io.KnownBytes.{Appends};
-ghost use Rattle.bin_tape.specs.Tape.{IsTape};
-ghost use Rattle.bin_tape.specs.Refuses.{Refuses};
-ghost use Rattle.commands.specs.Dumping.{dump_text, WritesDump, FrontOfDump};
-ghost use Rattle.commands.specs.Faults.{fails_to_write, IsTapeFault, IsEventsFault};
-ghost use Rattle.commands.specs.Follows.{rounds};
+ghost use Rattle.std.specs.Prelude.{◌≡◌, ◌||◌, true, false, IfOk, IfErr, OnOk, OnErr};
+ghost use Rattle.commands.specs.Dumping.{IsDump};
+ghost use Rattle.commands.specs.Faults.{fails_to_read, fails_to_write, IsEventRunFault, IsRunFault, IsTapeFault};
+ghost use Rattle.commands.specs.Course.{ends_at_halt, events_in};
+ghost use Rattle.commands.specs.Inputs.{input};
+ghost use Rattle.commands.specs.Running.{IsEventRun, IsPartOf, IsPartOfEventRun, IsPartOfRoundRun, IsRoundRun, IsRunOf, status_of};
+ghost use Rattle.commands.specs.Writes.{FrontOf, Writes};
 ghost use Rattle.commands.specs.declared.status.Status.TheVariants.{Done};
-ghost use Rattle.commands.specs.Running.{WritesRun, WritesEventRun, FrontOfRun, FrontOfEventRun, status_of};
 
-use crate::follow::{follow_events, follow_rounds};
-use crate::input::read_text;
+use crate::follow::{Course, End, follow};
+use crate::inputs::{events_from, tape_from};
 use crate::status::{Fault, Status};
 use crate::text::{dump_of, summary_of};
-use bin_tape::read_from;
-use streams::{ByteSink, ByteSource, put};
+use bin_tape::Image;
 use instruct::Profile;
-use peripherals::{Start, World, events};
+use peripherals::{Start, World};
 use std::alloc::Allocator;
+use streams::{ByteSink, ByteSource, put};
 use word12::Word;
-
-/// One byte more than a text of events may have, so that a longer one is seen to be too long.
-const MOST_TEXT: usize = 65_537;
 
 /// How a tape is run.
 #[derive(Clone, Copy, PartialEq, Eq, Debug)]
@@ -37,9 +33,47 @@ pub struct RunOptions {
     pub profile: Profile,
 }
 
+/// A run that is stuck at an unsupported word is refused.
+fn status_of(end: End) -> Status
+    ensures { result ≡ status_of end }
+{
+    match end {
+        End::Unsupported(_) => Status::Refused,
+        End::Halted(_) | End::Bound(_) => Status::Done,
+    }
+}
+
+/// Lets an image's machine go through a course, and writes the trace, if it is asked for, and the
+/// summary.
+fn run_course<A: Allocator + Copy, W: ByteSink>(
+    alloc: A,
+    image: &Image,
+    options: RunOptions,
+    course: &Course<'_>,
+    out: &mut W,
+) -> Result<Status, Fault>
+    requires { W.mark out.old ≡ false }
+    ensures run { IfOk result (λ status. Writes
+        (λ text. IsRunOf options (ends_at_halt course.now) (events_in course.now) image.now text status)
+        (W.taken out.old) (W.taken out.new)) }
+    ensures faults { IfErr result IsRunFault }
+    ensures front { W.mark out.new ≡ true → FrontOf
+        (IsPartOf options (ends_at_halt course.now) (events_in course.now) image.now)
+        (W.taken out.old) (W.taken out.new) }
+    ensures nothing { OnErr result (W.mark out.new ≡ false → options.trace ≡ false →
+        W.taken out.new ≡ W.taken out.old) }
+    ensures marks { W.mark out.new ≡ fails_to_write result }
+{
+    let mut world = World::load(alloc, image, options.start, &Start::zero(), options.profile);
+    let outcome = follow(&mut world, out, options.trace, course)?;
+    let text = summary_of(alloc, &outcome, &world)?;
+    put(out, &text)?;
+    Ok(status_of(outcome.end))
+}
+
 /// Runs a tape in rounds of an instruction, a completion of the printer and one of the punch, and
-/// writes the summary. The run ends early at a halt and at an unsupported word; the latter's status
-/// is `Refused`.
+/// writes the summary, and before it the trace if it is asked for. The run ends early at a halt and
+/// at an unsupported word; the latter's status is `Refused`.
 ///
 /// # Errors
 ///
@@ -53,34 +87,27 @@ pub fn run<A: Allocator + Copy, R: ByteSource, W: ByteSink>(
 ) -> Result<Status, Fault>
     requires readable { R.mark tape.old ≡ false }
     requires writable { W.mark out.old ≡ false }
-    // Without a trace, what is written is the summary of the run that follows from the tape.
-    ensures run { IfOk result (λ status. options.trace ≡ false → IfSome (R.remaining tape.old)
-        (λ frames. WritesRun options.profile options.start true (rounds options.rounds) frames (W.taken out.old) (W.taken out.new) status)) }
-    // A fault of the tape is the first fault of its bytes.
-    ensures tape { IfErr result (IsTapeFault (R.mark tape.new) (R.remaining tape.old) (R.remaining tape.new)) }
-    // Where a write failed, a front of that summary went out,
-    ensures front { W.mark out.new ≡ true → options.trace ≡ false → IfSome (R.remaining tape.old)
-        (λ frames. FrontOfRun options.profile options.start true (rounds options.rounds) frames (W.taken out.old) (W.taken out.new)) }
-    // and any other fault leaves the output as it was.
-    ensures nothing { OnErr result (W.mark out.new ≡ false → options.trace ≡ false → W.taken out.new ≡ W.taken out.old) }
-    // A write failed exactly where the answer says so.
+    // What is written is that of the run that follows from the tape by the rounds.
+    ensures run { IfOk result (λ status. Writes
+        (λ text. IsRoundRun options (R.remaining tape.old) text status) (W.taken out.old) (W.taken out.new)) }
+    // A fault of the tape is the first fault of its bytes; any other comes after a good tape.
+    ensures faults { IfErr result (IsTapeFault
+        (input (R.mark tape.new) (R.remaining tape.old) (R.remaining tape.new))) }
+    // Where a write failed, a front of that went out, under a trace at least of its first lines,
+    ensures front { W.mark out.new ≡ true → FrontOf (IsPartOfRoundRun options (R.remaining tape.old))
+        (W.taken out.old) (W.taken out.new) }
+    // and any other fault leaves the output as it was, but for the trace.
+    ensures nothing { OnErr result (W.mark out.new ≡ false → options.trace ≡ false →
+        W.taken out.new ≡ W.taken out.old) }
+    // A write failed exactly where the answer says so, and so did a read.
     ensures marks { W.mark out.new ≡ fails_to_write result }
+    ensures reads { R.mark tape.new ≡ fails_to_read result }
 {
-    let image = read_from(tape)?;
-    let mut world = World::load(
-        alloc,
-        &image,
-        options.start,
-        &Start::zero(),
-        options.profile,
-    );
-    let progress = follow_rounds(&mut world, out, options.trace, options.rounds)?;
-    let text = summary_of(alloc, progress.stuck, &world, progress.steps)?;
-    put(out, &text)?;
-    Ok(status_of(progress.stuck))
+    let image = tape_from(tape)?;
+    run_course(alloc, &image, options, &Course::Rounds(options.rounds), out)
 }
 
-/// Runs a tape by the events of a text in place of rounds, and writes the summary. The run ends
+/// Runs a tape by the events of a text in place of rounds, and writes as [`run`] does. The run ends
 /// early at an unsupported word alone; `rounds` of the options isn't looked at.
 ///
 /// # Errors
@@ -96,35 +123,23 @@ pub fn run_events<A: Allocator + Copy, R: ByteSource, E: ByteSource, W: ByteSink
     requires readable { R.mark tape.old ≡ false }
     requires text_readable { E.mark text.old ≡ false }
     requires writable { W.mark out.old ≡ false }
-    ensures run { IfOk result (λ status. options.trace ≡ false → IfSome (R.remaining tape.old) (λ frames. IfSome (E.remaining text.old)
-        (λ bytes. WritesEventRun options.profile options.start bytes frames (W.taken out.old) (W.taken out.new) status))) }
-    ensures faults { IfErr result (IsEventsFault (R.mark tape.new) (R.remaining tape.old) (R.remaining tape.new) (E.mark text.new) (E.remaining text.old)) }
-    ensures front { W.mark out.new ≡ true → options.trace ≡ false → IfSome (R.remaining tape.old) (λ frames. IfSome (E.remaining text.old)
-        (λ bytes. FrontOfEventRun options.profile options.start bytes frames (W.taken out.old) (W.taken out.new))) }
-    ensures nothing { OnErr result (W.mark out.new ≡ false → options.trace ≡ false → W.taken out.new ≡ W.taken out.old) }
+    ensures run { IfOk result (λ status. Writes
+        (λ written. IsEventRun options (R.remaining tape.old) (E.remaining text.old) written status)
+        (W.taken out.old) (W.taken out.new)) }
+    ensures faults { IfErr result (IsEventRunFault
+        (input (R.mark tape.new) (R.remaining tape.old) (R.remaining tape.new))
+        (input (E.mark text.new) (E.remaining text.old) (E.remaining text.new))) }
+    ensures front { W.mark out.new ≡ true →
+        FrontOf (IsPartOfEventRun options (R.remaining tape.old) (E.remaining text.old))
+        (W.taken out.old) (W.taken out.new) }
+    ensures nothing { OnErr result (W.mark out.new ≡ false → options.trace ≡ false →
+        W.taken out.new ≡ W.taken out.old) }
     ensures marks { W.mark out.new ≡ fails_to_write result }
+    ensures reads { R.mark tape.new || E.mark text.new ≡ fails_to_read result }
 {
-    let image = read_from(tape)?;
-    let bytes = read_text(alloc, text, MOST_TEXT)?;
-    let list = events(alloc, &bytes)?;
-    let mut world = World::load(
-        alloc,
-        &image,
-        options.start,
-        &Start::zero(),
-        options.profile,
-    );
-    let progress = follow_events(&mut world, out, options.trace, &list)?;
-    let summary = summary_of(alloc, progress.stuck, &world, progress.steps)?;
-    put(out, &summary)?;
-    Ok(status_of(progress.stuck))
-}
-
-/// A run that is stuck at an unsupported word is refused.
-fn status_of(stuck: bool) -> Status
-    ensures { result ≡ status_of stuck }
-{
-    if stuck { Status::Refused } else { Status::Done }
+    let image = tape_from(tape)?;
+    let list = events_from(alloc, text)?;
+    run_course(alloc, &image, options, &Course::Listed(&list), out)
 }
 
 /// Writes a line for each word of a tape, in rising order of the addresses: the address, the word
@@ -142,15 +157,17 @@ pub fn dump<A: Allocator + Copy, R: ByteSource, W: ByteSink>(
     requires readable { R.mark tape.old ≡ false }
     requires writable { W.mark out.old ≡ false }
     ensures done { IfOk result (λ status. status ≡ Done) }
-    ensures dump { OnOk result (IfSome (R.remaining tape.old)
-        (λ frames. WritesDump profile frames (W.taken out.old) (W.taken out.new))) }
-    ensures tape { IfErr result (IsTapeFault (R.mark tape.new) (R.remaining tape.old) (R.remaining tape.new)) }
-    ensures front { W.mark out.new ≡ true → IfSome (R.remaining tape.old)
-        (λ frames. FrontOfDump profile frames (W.taken out.old) (W.taken out.new)) }
+    ensures dump { OnOk result (Writes (IsDump profile (R.remaining tape.old))
+        (W.taken out.old) (W.taken out.new)) }
+    ensures faults { IfErr result (IsTapeFault
+        (input (R.mark tape.new) (R.remaining tape.old) (R.remaining tape.new))) }
+    ensures front { W.mark out.new ≡ true → FrontOf (IsDump profile (R.remaining tape.old))
+        (W.taken out.old) (W.taken out.new) }
     ensures nothing { OnErr result (W.mark out.new ≡ false → W.taken out.new ≡ W.taken out.old) }
     ensures marks { W.mark out.new ≡ fails_to_write result }
+    ensures reads { R.mark tape.new ≡ fails_to_read result }
 {
-    let image = read_from(tape)?;
+    let image = tape_from(tape)?;
     let text = dump_of(alloc, &image, profile)?;
     put(out, &text)?;
     Ok(Status::Done)

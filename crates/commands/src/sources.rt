@@ -1,6 +1,6 @@
 //! The parts of a source, read.
 
-ghost use Rattle.std.specs.Prelude.{◌≡◌, Err, true, false, length, map, take, IfOk, IfErr, IfSome, List, ℕ};
+ghost use Rattle.std.specs.Prelude.{◌≡◌, Err, true, false, length, map, IfOk, IfErr, IfSome, List, ℕ};
 ghost use Rattle.std.specs.List.{AllByRecursion, list_any};
 ghost use Rattle.pal_acts.specs.declared.code.Code.TheVariants.{TooLong};
 ghost use Rattle.pal_asm.specs.Sources.{fault_at, texts};
@@ -8,12 +8,11 @@ ghost use Rattle.commands.specs.declared.status.Fault.TheVariants.{Source};
 ghost use Rattle.commands.specs.Faults.{fails_to_read};
 ghost use Rattle.commands.specs.SourceTexts.{AreRead, IsShort, IsPartFault, ArePartsFault, is_bad_number};
 
-use crate::input::read_text;
 use crate::status::Fault;
-use streams::ByteSource;
 use pal_acts::Code;
 use pal_asm::PalFault;
 use std::alloc::{AllocError, Allocator};
+use streams::{ByteSource, read_at_most};
 
 /// How many parts a source may have.
 const MOST_PARTS: usize = 16;
@@ -46,12 +45,12 @@ fn read_part<A: Allocator, R: ByteSource>(
     number: usize,
 ) -> Result<Vec<u8, A>, Fault>
     requires { R.mark source.old ≡ false }
-    ensures read { IfOk result (λ part. IfSome (R.remaining source.old) (λ bytes. part.items ≡ take 65537 bytes)) }
+    ensures read { IfOk result (λ part. IfSome (R.remaining source.old) (λ bytes. part.items ≡ bytes)) }
     ensures fits { IfOk result (λ part. IsShort part.items) }
     ensures faults { IfErr result (IsPartFault number (R.remaining source.old) (R.remaining source.new)) }
     ensures marks { R.mark source.new ≡ fails_to_read result }
 {
-    let part = read_text(alloc, source, MOST_PART)?;
+    let part = read_at_most(alloc, source, MOST_PART)?;
     if part.len() >= MOST_PART {
         return Err(too_long(number));
     }
@@ -66,11 +65,14 @@ pub(crate) fn read_parts<A: Allocator + Copy, R: ByteSource>(
 ) -> Result<Vec<Vec<u8, A>, A>, Fault>
     requires { AllByRecursion (λ source. R.mark source ≡ false) sources.old }
     ensures number { IfOk result (λ _. is_bad_number (length sources.old) ≡ false) }
-    ensures read { IfOk result (λ parts. AreRead (map R.remaining sources.old) (map (λ part. part.items) parts.items)) }
-    ensures faults { IfErr result (ArePartsFault (map R.mark sources.new) (map R.remaining sources.old) (map R.remaining sources.new)) }
+    ensures read { IfOk result (λ parts. AreRead
+        (map R.remaining sources.old) (map (λ part. part.items) parts.items)) }
+    ensures faults { IfErr result (ArePartsFault (map R.mark sources.new)
+        (map R.remaining sources.old) (map R.remaining sources.new)) }
     ensures marks { list_any R.mark sources.new ≡ fails_to_read result }
     // A bad number of parts is told, and nothing is read.
-    ensures told { is_bad_number (length sources.old) ≡ true → (result ≡ Err (Source (fault_at TooLong 0 0))) × (sources.new ≡ sources.old) }
+    ensures told { is_bad_number (length sources.old) ≡ true →
+        (result ≡ Err (Source (fault_at TooLong 0 0))) × (sources.new ≡ sources.old) }
 {
     if is_bad_number(sources.len()) {
         return Err(too_long(0));

@@ -1,16 +1,17 @@
 //! How a command ends.
 
-ghost use Rattle.std.specs.Prelude.{◌≡◌};
+ghost use Rattle.std.specs.Prelude.{◌≡◌, ◌≤◌};
 ghost use Rattle.commands.specs.declared.status.Fault.TheVariants.{Device, NoMemory};
 ghost use Rattle.commands.specs.declared.status.DeviceFault.TheVariants.{Write};
-ghost use Rattle.commands.specs.Faults.{fault_of_tape, fault_of_events};
+ghost use Rattle.commands.specs.Faults.{fault_of_declaration, fault_of_events, fault_of_input, fault_of_tape};
+ghost use Rattle.commands.specs.Statuses.{code_of, status_of_fault};
 
 use bin_tape::TapeFault;
-use streams::Failed;
+use declaration::DeclarationFault;
 use pal_asm::PalFault;
 use peripherals::{EventsFault, NoMemory};
-use declaration::DeclarationFault;
 use std::alloc::AllocError;
+use streams::{Failed, InputFault};
 use thiserror::Error;
 
 /// The statuses of the program.
@@ -30,7 +31,10 @@ pub enum Status {
 
 impl Status {
     /// The status as the system sees it.
-    pub fn code(self) -> u8 {
+    pub fn code(self) -> u8
+        ensures code { result ≡ code_of self }
+        ensures small { result ≤ 4 }
+    {
         self as u8
     }
 }
@@ -74,7 +78,9 @@ pub enum Fault {
 
 impl Fault {
     /// The status that the program ends with.
-    pub fn status(self) -> Status {
+    pub fn status(self) -> Status
+        ensures { result ≡ status_of_fault self }
+    {
         match self {
             Fault::Tape(_)
             | Fault::EmptyImage
@@ -107,6 +113,29 @@ impl From<EventsFault> for Fault {
         match fault {
             EventsFault::NoMemory => Fault::NoMemory,
             _ => Fault::Events(fault),
+        }
+    }
+}
+
+impl From<DeclarationFault> for Fault {
+    ghost from_gives = { λ fault result. result ≡ fault_of_declaration fault };
+
+    /// A want of memory is not the text's fault.
+    fn from(fault: DeclarationFault) -> Fault {
+        match fault {
+            DeclarationFault::NoMemory => Fault::NoMemory,
+            _ => Fault::Declared(fault),
+        }
+    }
+}
+
+impl From<InputFault> for Fault {
+    ghost from_gives = { λ fault result. result ≡ fault_of_input fault };
+
+    fn from(fault: InputFault) -> Fault {
+        match fault {
+            InputFault::ReadFailed => Fault::Device(DeviceFault::Read),
+            InputFault::NoMemory => Fault::NoMemory,
         }
     }
 }

@@ -8,6 +8,7 @@ ghost use Rattle.peripherals.specs.World.{view};
 ghost use Rattle.commands.specs.Dumping.{dump_line, dump_below, dump_text};
 ghost use Rattle.commands.specs.Summary.{end_text, link_text, registers_text, state_line, byte_text, bytes_text, output_line, summary};
 
+use crate::follow::{End, Outcome};
 use bin_tape::Image;
 use instruct::{Profile, name};
 use itoa::Buffer;
@@ -23,28 +24,22 @@ fn push_word<A: Allocator>(text: &mut Vec<u8, A>, word: Word) -> Result<(), Allo
     text.extend_from_slice(&word.to_octal())
 }
 
-/// Adds how a run ended, and where.
-fn push_end<A: Allocator>(
-    text: &mut Vec<u8, A>,
-    stuck: bool,
-    halted_at: Option<Word>,
-    pc: Word,
-) -> Result<(), AllocError>
-    ensures { OnOk result (text.new.items ≡ text.old.items ++ end_text stuck halted_at pc) }
+/// Adds a name and the address that it stands for.
+fn push_place<A: Allocator>(text: &mut Vec<u8, A>, name: &[u8], at: Word) -> Result<(), AllocError>
+    ensures { OnOk result (text.new.items ≡ text.old.items ++ (name.now ++ octal_text at)) }
 {
-    if stuck {
-        text.extend_from_slice(b"UNSUPPORTED ")?;
-        return push_word(text, pc);
-    }
-    match halted_at {
-        Some(at) => {
-            text.extend_from_slice(b"HALT ")?;
-            push_word(text, at)
-        }
-        None => {
-            text.extend_from_slice(b"BOUND ")?;
-            push_word(text, pc)
-        }
+    text.extend_from_slice(name)?;
+    push_word(text, at)
+}
+
+/// Adds how a run ended, and where.
+fn push_end<A: Allocator>(text: &mut Vec<u8, A>, end: End) -> Result<(), AllocError>
+    ensures { OnOk result (text.new.items ≡ text.old.items ++ end_text end) }
+{
+    match end {
+        End::Unsupported(at) => push_place(text, b"UNSUPPORTED ", at),
+        End::Halted(at) => push_place(text, b"HALT ", at),
+        End::Bound(at) => push_place(text, b"BOUND ", at),
     }
 }
 
@@ -68,7 +63,8 @@ fn push_registers<A: Allocator>(text: &mut Vec<u8, A>, cpu: &Cpu) -> Result<(), 
 
 /// Adds how many instructions were carried out.
 fn push_steps<A: Allocator>(text: &mut Vec<u8, A>, steps: u64) -> Result<(), AllocError>
-    ensures { OnOk result (text.new.items ≡ text.old.items ++ (codes " STEPS=" ++ decimal steps ++ codes "\n")) }
+    ensures { OnOk result
+        (text.new.items ≡ text.old.items ++ (codes " STEPS=" ++ decimal steps ++ codes "\n")) }
 {
     let mut digits = Buffer::new();
     text.extend_from_slice(b" STEPS=")?;
@@ -79,16 +75,15 @@ fn push_steps<A: Allocator>(text: &mut Vec<u8, A>, steps: u64) -> Result<(), All
 /// Adds the first line of a summary.
 fn push_state<A: Allocator, B: Allocator>(
     text: &mut Vec<u8, A>,
-    stuck: bool,
+    outcome: &Outcome,
     world: &World<B>,
-    steps: u64,
 ) -> Result<(), AllocError>
-    ensures { OnOk result (text.new.items ≡ text.old.items ++ state_line stuck (view world.now) steps) }
+    ensures { OnOk result
+        (text.new.items ≡ text.old.items ++ state_line outcome.now.end (view world.now) outcome.now.steps) }
 {
-    let cpu = world.cpu();
-    push_end(text, stuck, world.halted_at(), cpu.pc)?;
-    push_registers(text, cpu)?;
-    push_steps(text, steps)
+    push_end(text, outcome.end)?;
+    push_registers(text, world.cpu())?;
+    push_steps(text, outcome.steps)
 }
 
 /// The three octal digits of a byte, after a space.
@@ -133,14 +128,14 @@ fn push_output<A: Allocator>(
 /// The summary of a run.
 pub fn summary_of<A: Allocator, B: Allocator>(
     alloc: A,
-    stuck: bool,
+    outcome: &Outcome,
     world: &World<B>,
-    steps: u64,
 ) -> Result<Vec<u8, A>, AllocError>
-    ensures { IfOk result (λ text. text.items ≡ summary stuck (view world.now) steps) }
+    ensures { IfOk result (λ text.
+        text.items ≡ summary outcome.now.end (view world.now) outcome.now.steps) }
 {
     let mut text = Vec::new(alloc);
-    push_state(&mut text, stuck, world, steps)?;
+    push_state(&mut text, outcome, world)?;
     push_output(&mut text, b"PRINTED", world.printed())?;
     push_output(&mut text, b"PUNCHED", world.punched())?;
     Ok(text)

@@ -1,63 +1,18 @@
 //! The command that watches a run.
 
-ghost use Rattle.std.specs.Prelude.{◌≡◌, ◌++◌, false, true, take, codes, decimal, IfOk, IfErr, IfSome, OnOk, OnErr};
-ghost use Rattle.peripherals.specs.EventText.{Spells};
-ghost use Rattle.declaration.specs.Text.{Declares};
-ghost use Rattle.declaration.specs.Kept.{meaning};
-ghost use Rattle.policy.specs.Watching.{number_of};
-ghost use Rattle.commands.specs.Faults.{fails_to_write};
-ghost use Rattle.commands.specs.WatchText.{IsDeclarationInputFault, IsEventsInputFault, IsWatchFault, WritesWatched, FrontOfWatched, watched_text, watched_status, broken_text};
+ghost use Rattle.std.specs.Prelude.{◌≡◌, ◌||◌, false, true, IfOk, IfErr, OnErr};
+ghost use Rattle.commands.specs.Faults.{IsWatchFault, fails_to_read, fails_to_write};
+ghost use Rattle.commands.specs.Inputs.{input};
+ghost use Rattle.commands.specs.WatchText.{IsWatched, IsWatchedSo, broken_text, watched_status, watched_text};
+ghost use Rattle.commands.specs.Writes.{FrontOf, Writes};
 
-use crate::input::read_text;
+use crate::inputs::{declaration_from, events_from, tape_from};
 use crate::status::{Fault, Status};
-use bin_tape::read_from;
-use streams::{ByteSink, ByteSource, put};
 use itoa::Buffer;
-use peripherals::{Event, EventsFault, Start, events};
-use declaration::{Declaration, DeclarationFault};
+use peripherals::Start;
 use policy::{Rule, Watched};
 use std::alloc::{AllocError, Allocator};
-
-/// One byte more than the text of a declaration may have, so that a longer one is seen to be too
-/// long.
-const MOST_DECLARATION: usize = 16_385;
-
-/// The same of a text of events.
-const MOST_EVENTS: usize = 65_537;
-
-/// Reads a declaration.
-pub(crate) fn declaration_from<A: Allocator + Copy, R: ByteSource>(
-    alloc: A,
-    source: &mut R,
-) -> Result<Declaration<A>, Fault>
-    requires { R.mark source.old ≡ false }
-    ensures declares { IfOk result (λ d. IfSome (R.remaining source.old) (λ bytes. Declares (take 16385 bytes) (meaning d))) }
-    ensures faults { IfErr result (IsDeclarationInputFault (R.mark source.new) (R.remaining source.old)) }
-{
-    let text = read_text(alloc, source, MOST_DECLARATION)?;
-    match Declaration::parse(alloc, &text) {
-        Ok(declaration) => Ok(declaration),
-        Err(DeclarationFault::NoMemory) => Err(Fault::NoMemory),
-        Err(fault) => Err(Fault::Declared(fault)),
-    }
-}
-
-/// Reads a list of events.
-pub(crate) fn events_from<A: Allocator + Copy, R: ByteSource>(
-    alloc: A,
-    source: &mut R,
-) -> Result<Vec<Event, A>, Fault>
-    requires { R.mark source.old ≡ false }
-    ensures spells { IfOk result (λ list. IfSome (R.remaining source.old) (λ bytes. Spells (take 65537 bytes) list.items)) }
-    ensures faults { IfErr result (IsEventsInputFault (R.mark source.new) (R.remaining source.old)) }
-{
-    let text = read_text(alloc, source, MOST_EVENTS)?;
-    match events(alloc, &text) {
-        Ok(list) => Ok(list),
-        Err(EventsFault::NoMemory) => Err(Fault::NoMemory),
-        Err(fault) => Err(Fault::Events(fault)),
-    }
-}
+use streams::{ByteSink, ByteSource, put};
 
 /// The line for a broken rule.
 fn broken_line<A: Allocator>(alloc: A, event: usize, rule: Rule) -> Result<Vec<u8, A>, AllocError>
@@ -117,17 +72,25 @@ pub fn watch<A: Allocator + Copy, R: ByteSource, D: ByteSource, E: ByteSource, W
     requires list_readable { E.mark list.old ≡ false }
     requires writable { W.mark out.old ≡ false }
     // What is written is what is seen of the run.
-    ensures watched { IfOk result (WritesWatched (R.remaining tape.old) (D.remaining declaration.old) (E.remaining list.old) (W.taken out.old) (W.taken out.new)) }
+    ensures watched { IfOk result (λ status. Writes
+        (λ line. IsWatchedSo (R.remaining tape.old) (D.remaining declaration.old) (E.remaining list.old) line status)
+        (W.taken out.old) (W.taken out.new)) }
     // A fault is that of the first input that has one.
-    ensures faults { IfErr result (IsWatchFault (R.mark tape.new) (R.remaining tape.old) (R.remaining tape.new) (D.mark declaration.new) (D.remaining declaration.old) (E.mark list.new) (E.remaining list.old)) }
+    ensures faults { IfErr result (IsWatchFault
+        (input (R.mark tape.new) (R.remaining tape.old) (R.remaining tape.new))
+        (input (D.mark declaration.new) (D.remaining declaration.old) (D.remaining declaration.new))
+        (input (E.mark list.new) (E.remaining list.old) (E.remaining list.new))) }
     // Where a write failed, a front of the line went out,
-    ensures front { W.mark out.new ≡ true → FrontOfWatched (R.remaining tape.old) (D.remaining declaration.old) (E.remaining list.old) (W.taken out.old) (W.taken out.new) }
+    ensures front { W.mark out.new ≡ true → FrontOf
+        (IsWatched (R.remaining tape.old) (D.remaining declaration.old) (E.remaining list.old))
+        (W.taken out.old) (W.taken out.new) }
     // and any other fault leaves the output as it was.
     ensures nothing { OnErr result (W.mark out.new ≡ false → W.taken out.new ≡ W.taken out.old) }
-    // A write failed exactly where the answer says so.
+    // A write failed exactly where the answer says so, and so did a read.
     ensures marks { W.mark out.new ≡ fails_to_write result }
+    ensures reads { R.mark tape.new || D.mark declaration.new || E.mark list.new ≡ fails_to_read result }
 {
-    let image = read_from(tape)?;
+    let image = tape_from(tape)?;
     let promised = declaration_from(alloc, declaration)?;
     let happened = events_from(alloc, list)?;
     let watched = policy::watch(alloc, &image, &promised, &Start::zero(), &happened)?;

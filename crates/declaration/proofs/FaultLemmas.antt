@@ -1,77 +1,51 @@
--- The fault at a line, from what was gathered before it.
-use Rattle.std.proofs.Common.{ℕ, ◌≡◌, ◌<◌, ◌≤◌, ◌+◌, List, ◌∷◌, ◌++◌, length, true, arith, subst, sym, ◌∙◌, ap, Some, None, inr}
+-- What lines that are taken say together, and the fault of the first that isn't.
+use Rattle.std.proofs.Common.{ℕ, ◌≡◌, ◌<◌, ◌≤◌, List, [], length, true, subst, sym, inr}
+use Rattle.streams.specs.Taking.{TakesAll, RefusesFirst}
 use Rattle.streams.specs.Text.{text_lines}
-use Rattle.declaration.specs.Lines.{Line, line_of}
-use Rattle.declaration.specs.Text.{Contents, contents, AreGood, StandsAfter, HasBadLine, Fails, is_entry, most_bytes, most_routines}
-use Rattle.declaration.specs.Drafts.{Refuses, HasLines}
+use Rattle.streams.proofs.TakingLemmas.{takes_keep}
+use Rattle.declaration.specs.Lines.{line_of}
+use Rattle.declaration.specs.Text.{Contents, contents, LineFails, FailsAtLine, Fails, is_entry, most_bytes}
+use Rattle.declaration.specs.Drafts.{Adds, HasLines}
 use Rattle.declaration.specs.declared.DeclarationFault.{DeclarationFault}
 use Rattle.declaration.specs.declared.DeclarationFault.TheVariants.{BadLine, TwoStarts, TwoProfiles, NoStart, Overlap, EntryInAutoIndex, StartNotInMain, TooMany, HaltNotInBody, NoMemory}
-use Rattle.declaration.proofs.DraftLemmas.{Gathers}
+use Rattle.declaration.proofs.DraftLemmas.{Gathers, Gathers-none, Gathers-push}
 use Rattle.declaration.proofs.EntryLemmas.{entries_fit}
 
--- a line after good ones
-stands_after : (text : List ℕ) (before after : List (List ℕ)) (line : List ℕ) (number : ℕ) (c : Contents) → length text ≤ most_bytes → text_lines text ≡ before ++ line ∷ after → number ≡ length before + 1
-    → (g : Gathers before c) → StandsAfter text g.lines number line
-stands_after text before after line number c short stands counted g = record { short = short; before = before; after = after; stands = stands; good = g.good; counted = counted }
-
-pub bad_at : (text : List ℕ) (before after : List (List ℕ)) (line : List ℕ) (number : ℕ) (c : Contents) → length text ≤ most_bytes → text_lines text ≡ before ++ line ∷ after → number ≡ length before + 1
-    → Gathers before c → None ≡ line_of line → HasBadLine text number
-bad_at text before after line number c short stands counted g bad = record { lines = g.lines; line = line; stands = stands_after text before after line number c short stands counted g; bad = sym bad }
-
--- what a draft refuses is a fault of the text
-pub refused_at : (text : List ℕ) (before after : List (List ℕ)) (line : List ℕ) (number : ℕ) (c : Contents) (l : Line) (fault : DeclarationFault)
-    → length text ≤ most_bytes → text_lines text ≡ before ++ line ∷ after → number ≡ length before + 1 → Gathers before c → Some l ≡ line_of line → Refuses c l number fault → Fails text fault
-refused_at text before after line number c l (TwoStarts n) short stands counted g is refuses = record {
-  lines = g.lines;
-  line = line;
-  stands = stands_after text before after line n c short stands (refuses.0 ∙ counted) g;
-  start = refuses.1;
-  is = sym is ∙ ap (λ x. Some x) refuses.2;
-  second = subst (λ (x : Contents). length x.starts ≡ 1) (sym g.together) refuses.3;
-}
-refused_at text before after line number c l (TwoProfiles n) short stands counted g is refuses = record {
-  lines = g.lines;
-  line = line;
-  stands = stands_after text before after line n c short stands (refuses.0 ∙ counted) g;
-  profile = refuses.1;
-  is = sym is ∙ ap (λ x. Some x) refuses.2;
-  second = subst (λ (x : Contents). length x.profiles ≡ 1) (sym g.together) refuses.3;
-}
-refused_at text before after line number c l TooMany short stands counted g is refuses =
-    let least : most_routines ≤ length (contents g.lines).routines = subst (λ (x : Contents). most_routines ≤ length x.routines) (sym g.together) refuses.2 in
-    inr (record {
-      lines = g.lines;
-      number = number;
-      line = line;
-      stands = stands_after text before after line number c short stands counted g;
-      routine = refuses.0;
-      is = sym is ∙ ap (λ x. Some x) refuses.1;
-      full = omega (arith, g.good.few);
-    })
-refused_at text before after line number c l NoMemory short stands counted g is refuses = record {
-  lines = g.lines;
-  number = number;
-  line = line;
-  stands = stands_after text before after line number c short stands counted g;
-  routine = refuses.0;
-  is = sym is ∙ ap (λ x. Some x) refuses.1;
-  room = subst (λ (x : Contents). length x.routines < most_routines) (sym g.together) refuses.2;
-}
-refused_at text before after line number c l (BadLine n) short stands counted g is refuses = absurd refuses
-refused_at text before after line number c l NoStart short stands counted g is refuses = absurd refuses
-refused_at text before after line number c l (Overlap a) short stands counted g is refuses = absurd refuses
-refused_at text before after line number c l (EntryInAutoIndex a) short stands counted g is refuses = absurd refuses
-refused_at text before after line number c l StartNotInMain short stands counted g is refuses = absurd refuses
-refused_at text before after line number c l (HaltNotInBody a) short stands counted g is refuses = absurd refuses
+-- lines that are taken are good
+gathers : {S : Type 0} (say : S → Contents) (s t : S) (lines : List (List ℕ)) → say s ≡ contents [] → TakesAll (λ x line y. Adds (say x) line (say y)) s lines t → Gathers lines (say t)
+gathers say s t lines none all =
+    takes_keep (λ x line y. Adds (say x) line (say y)) (λ ls x. Gathers ls (say x)) (λ before line x y g a. Gathers-push before (say x) (say y) line a.line g (sym a.is) a.follows a.added) lines s t (Gathers-none (say s) none) all
 
 -- all lines are good
-pub has_lines : (text : List ℕ) (texts : List (List ℕ)) (c : Contents) → length text ≤ most_bytes → texts ≡ text_lines text → Gathers texts c → HasLines text c
-has_lines text texts c short all g = record {
-  lines = g.lines;
-  good = record { short = short; good = subst (λ (ts : List (List ℕ)). AreGood ts g.lines) all g.good };
-  together = g.together;
-}
+pub has_lines : {S : Type 0} (say : S → Contents) (s t : S) (text : List ℕ) → length text ≤ most_bytes → say s ≡ contents [] → TakesAll (λ x line y. Adds (say x) line (say y)) s (text_lines text) t → HasLines text (say t)
+has_lines say s t text short none all = let g = gathers say s t (text_lines text) none all in record { lines = g.lines; good = record { short = short; good = g.good }; together = g.together }
 
 -- and their entries are words
-pub gathered_fit : (texts : List (List ℕ)) (c : Contents) → Gathers texts c → (e : ℕ) → is_entry c e ≡ true → e < 4096
-gathered_fit texts c g e is = entries_fit texts g.lines g.good.say e (subst (λ (x : Contents). is_entry x e ≡ true) (sym g.together) is)
+pub gathered_fit : {S : Type 0} (say : S → Contents) (s t : S) (lines : List (List ℕ)) → say s ≡ contents [] → TakesAll (λ x line y. Adds (say x) line (say y)) s lines t → (e : ℕ) → is_entry (say t) e ≡ true → e < 4096
+gathered_fit say s t lines none all e is =
+    let g = gathers say s t lines none all in entries_fit lines g.lines g.good.say e (subst (λ (x : Contents). is_entry x e ≡ true) (sym g.together) is)
+
+at_line : (text : List ℕ) (fault : DeclarationFault) → FailsAtLine text fault → Fails text fault
+at_line text (BadLine n) f = f
+at_line text (TwoStarts n) f = f
+at_line text (TwoProfiles n) f = f
+at_line text TooMany f = inr f
+at_line text NoMemory f = f
+at_line text NoStart f = absurd f.fails
+at_line text (Overlap a) f = absurd f.fails
+at_line text (EntryInAutoIndex a) f = absurd f.fails
+at_line text StartNotInMain f = absurd f.fails
+at_line text (HaltNotInBody a) f = absurd f.fails
+
+-- what is refused first is a fault of the text
+pub fails_text : {S : Type 0} (say : S → Contents) (s : S) (text : List ℕ) (fault : DeclarationFault) → length text ≤ most_bytes → say s ≡ contents []
+    → RefusesFirst (λ x line y. Adds (say x) line (say y)) (λ x number line. LineFails (say x) number (line_of line)) s (text_lines text) fault → Fails text fault
+fails_text say s text fault short none f =
+    let g = gathers say s f.t f.before none f.taken in
+    at_line text fault (record {
+      lines = g.lines;
+      number = f.number;
+      line = f.line;
+      stands = record { short = short; before = f.before; stands = f.stands; good = g.good };
+      fails = subst (λ (x : Contents). LineFails x f.number (line_of f.line) fault) (sym g.together) f.refused;
+    })

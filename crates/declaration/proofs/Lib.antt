@@ -5,3 +5,4 @@ pub mod IsDeclaredLemmas
 pub mod EntryLemmas
 pub mod FaultLemmas
 pub mod VerdictLemmas
+mod OwnerLemmas

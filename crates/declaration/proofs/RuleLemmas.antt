@@ -1,25 +1,23 @@
 -- The sets by which the rules are checked.
 use Rattle.std.proofs.Common.{ℕ, ◌≡◌, ◌<◌, ◌+◌, ◌==◌, Bool, true, false, not, ◌&&◌, ◌||◌, cond, List, [], ◌∷◌, length, map, take, get_or, zero-add, add-zero, add_assoc, arith, refl, sym, ◌∙◌, ap, Option, Some, None, inl, inr}
-use Rattle.std.specs.Prelude.{nat_le, nat_lt, if◌then◌else◌}
+use Rattle.std.specs.Prelude.{nat_le, if◌then◌else◌}
 use Rattle.std.specs.List.{list_any, count_by}
 use Rattle.std.specs.Option.{option_to_list, unwrap_or}
 use Rattle.instruct.specs.declared.Profile.{Profile}
 use Rattle.instruct.specs.declared.Profile.TheVariants.{Pdp8I}
-use Rattle.std.proofs.lemmas.Bool.{cases_Bool, and_parts, ltb-true, cases_eq, ne_eqb, lt-ltb, le-leb}
+use Rattle.std.proofs.lemmas.Bool.{cases_Bool, cases_eq, ne_eqb, le-leb}
 use Rattle.std.proofs.lemmas.List.Sums.{sum_by_more, sum_by-cons}
 use Rattle.wordset.specs.Words.{Words, SameWords, IsFirstFrom, HasNoneFrom}
 use Rattle.wordset.specs.Lanes.{words}
-use Rattle.declaration.specs.Kept.{cells, subroutine_of}
+use Rattle.wordset.proofs.SetLemmas.{word_small}
+use Rattle.declaration.specs.Kept.{subroutine_of}
 use Rattle.declaration.specs.Text.{Contents, profile_of, is_entry, in_bodies, bodies_at, entries_at, overlaps, entry_in_index, halt_outside}
 use Rattle.processor.specs.Machine.{is_auto_index}
 use Rattle.declaration.specs.Drafts.{Counts, kept_bodies, kept_entries}
-use Rattle.declaration.specs.declared.sets.Coverage.{Coverage}
+use Rattle.declaration.specs.declared.coverage.Coverage.{Coverage}
 use Rattle.declaration.specs.declared.Routine.{Routine as KeptRoutine}
 
 -- ---- sets below 4096
-
-pub cells_below : (lanes : List ℕ) (a : ℕ) → a < 4096 → cells lanes a ≡ words lanes a
-cells_below lanes a h = rw (lt-ltb a 4096 h) refl
 
 -- the first of a set is the first of another that has the same words
 pub first_same : (set other : Words) (w : ℕ) → SameWords set other → IsFirstFrom 0 set w → IsFirstFrom 0 other w
@@ -83,55 +81,55 @@ overlaps_found c bodies entries v h b e variable stop pause is_variable is_stop 
 
 -- none is counted yet
 pub bodies_start : (coverage grown : Coverage) (main : List ℕ) (routines : List KeptRoutine) → Counts coverage (λ _. 0)
-    → ((number : ℕ → ℕ) → Counts coverage number → Counts grown (λ a. number a + (if cells main a then 1 else 0)))
+    → ((number : ℕ → ℕ) → Counts coverage number → Counts grown (λ a. number a + (if words main a then 1 else 0)))
     → Counts grown (kept_bodies main (take 0 routines))
 bodies_start coverage grown main routines none add =
-    Counts-same grown (λ a. 0 + (if cells main a then 1 else 0)) (kept_bodies main (take 0 routines)) (add (λ _. 0) none) (λ a h. zero-add (if cells main a then 1 else 0) ∙ sym (add-zero (if cells main a then 1 else 0)))
+    Counts-same grown (λ a. 0 + (if words main a then 1 else 0)) (kept_bodies main (take 0 routines)) (add (λ _. 0) none) (λ a h. zero-add (if words main a then 1 else 0) ∙ sym (add-zero (if words main a then 1 else 0)))
 
 eqb-turned : (a b : ℕ) → (a == b) ≡ (b == a)
 eqb-turned a b = elim (cases_eq a b) [ inl e ↦ rw e refl | inr ne ↦ ne_eqb a b ne ∙ sym (ne_eqb b a (λ e. ne (sym e))) ]
 
 -- one routine more
 bodies_more : (main : List ℕ) (routines : List KeptRoutine) (i : ℕ) (r : KeptRoutine) (a : ℕ) → i < length routines → r ≡ get_or routines i r
-    → kept_bodies main (take i routines) a + (if cells r.body a then 1 else 0) ≡ kept_bodies main (take (i + 1) routines) a
+    → kept_bodies main (take i routines) a + (if words r.body a then 1 else 0) ≡ kept_bodies main (take (i + 1) routines) a
 bodies_more main routines i r a h is =
-    let more : count_by (λ x. cells x.body a) (take (i + 1) routines) ≡ count_by (λ x. cells x.body a) (take i routines) + (if cells (get_or routines i r).body a then 1 else 0) =
-    sum_by_more (λ x. cond (cells x.body a) 1 0) routines i r h in
-    let same : (if cells r.body a then 1 else 0) ≡ (if cells (get_or routines i r).body a then 1 else 0) = ap (λ (x : KeptRoutine). if cells x.body a then 1 else 0) is in
-    add_assoc (if cells main a then 1 else 0) (count_by (λ x. cells x.body a) (take i routines)) (if cells r.body a then 1 else 0)
-    ∙ ap (λ n. (if cells main a then 1 else 0) + n) (ap (λ n. count_by (λ x. cells x.body a) (take i routines) + n) same ∙ sym more)
+    let more : count_by (λ x. words x.body a) (take (i + 1) routines) ≡ count_by (λ x. words x.body a) (take i routines) + (if words (get_or routines i r).body a then 1 else 0) =
+    sum_by_more (λ x. cond (words x.body a) 1 0) routines i r h in
+    let same : (if words r.body a then 1 else 0) ≡ (if words (get_or routines i r).body a then 1 else 0) = ap (λ (x : KeptRoutine). if words x.body a then 1 else 0) is in
+    add_assoc (if words main a then 1 else 0) (count_by (λ x. words x.body a) (take i routines)) (if words r.body a then 1 else 0)
+    ∙ ap (λ n. (if words main a then 1 else 0) + n) (ap (λ n. count_by (λ x. words x.body a) (take i routines) + n) same ∙ sym more)
 
 pub bodies_step : (coverage grown : Coverage) (main : List ℕ) (routines : List KeptRoutine) (i : ℕ) (r : KeptRoutine) → i < length routines → r ≡ get_or routines i r
     → Counts coverage (kept_bodies main (take i routines))
-    → ((number : ℕ → ℕ) → Counts coverage number → Counts grown (λ a. number a + (if cells r.body a then 1 else 0)))
+    → ((number : ℕ → ℕ) → Counts coverage number → Counts grown (λ a. number a + (if words r.body a then 1 else 0)))
     → Counts grown (kept_bodies main (take (i + 1) routines))
 bodies_step coverage grown main routines i r h is so_far add =
-    Counts-same grown (λ a. kept_bodies main (take i routines) a + (if cells r.body a then 1 else 0)) (kept_bodies main (take (i + 1) routines)) (add (kept_bodies main (take i routines)) so_far) (λ a small. bodies_more main routines i r a h is)
+    Counts-same grown (λ a. kept_bodies main (take i routines) a + (if words r.body a then 1 else 0)) (kept_bodies main (take (i + 1) routines)) (add (kept_bodies main (take i routines)) so_far) (λ a small. bodies_more main routines i r a h is)
 
-entries_more : (routines : List KeptRoutine) (i : ℕ) (r : KeptRoutine) (set : List ℕ) (a : ℕ) → i < length routines → r ≡ get_or routines i r → cells set a ≡ (r.entry == a)
-    → kept_entries (take i routines) a + (if cells set a then 1 else 0) ≡ kept_entries (take (i + 1) routines) a
+entries_more : (routines : List KeptRoutine) (i : ℕ) (r : KeptRoutine) (set : List ℕ) (a : ℕ) → i < length routines → r ≡ get_or routines i r → words set a ≡ (r.entry == a)
+    → kept_entries (take i routines) a + (if words set a then 1 else 0) ≡ kept_entries (take (i + 1) routines) a
 entries_more routines i r set a h is inside =
     let more : count_by (λ x. x.entry == a) (take (i + 1) routines) ≡ count_by (λ x. x.entry == a) (take i routines) + (if (get_or routines i r).entry == a then 1 else 0) =
     sum_by_more (λ x. cond (x.entry == a) 1 0) routines i r h in
-    let same : (if cells set a then 1 else 0) ≡ (if (get_or routines i r).entry == a then 1 else 0) = ap (λ b. if b then 1 else 0) inside ∙ ap (λ (x : KeptRoutine). if x.entry == a then 1 else 0) is in
+    let same : (if words set a then 1 else 0) ≡ (if (get_or routines i r).entry == a then 1 else 0) = ap (λ b. if b then 1 else 0) inside ∙ ap (λ (x : KeptRoutine). if x.entry == a then 1 else 0) is in
     ap (λ n. kept_entries (take i routines) a + n) same ∙ sym more
 
 pub entries_step : (coverage grown : Coverage) (routines : List KeptRoutine) (i : ℕ) (r : KeptRoutine) (set : List ℕ) → i < length routines → r ≡ get_or routines i r
     → SameWords (words set) (λ a. a == r.entry)
     → Counts coverage (kept_entries (take i routines))
-    → ((number : ℕ → ℕ) → Counts coverage number → Counts grown (λ a. number a + (if cells set a then 1 else 0)))
+    → ((number : ℕ → ℕ) → Counts coverage number → Counts grown (λ a. number a + (if words set a then 1 else 0)))
     → Counts grown (kept_entries (take (i + 1) routines))
 entries_step coverage grown routines i r set h is one so_far add =
-    Counts-same grown (λ a. kept_entries (take i routines) a + (if cells set a then 1 else 0)) (kept_entries (take (i + 1) routines)) (add (kept_entries (take i routines)) so_far)
-    (λ a small. entries_more routines i r set a h is (cells_below set a small ∙ (one a small ∙ eqb-turned a r.entry)))
+    Counts-same grown (λ a. kept_entries (take i routines) a + (if words set a then 1 else 0)) (kept_entries (take (i + 1) routines)) (add (kept_entries (take i routines)) so_far)
+    (λ a small. entries_more routines i r set a h is (one a small ∙ eqb-turned a r.entry))
 
 -- of all that is kept
-pub bodies_all : (coverage : Coverage) (c : Contents) (main : List ℕ) (routines items : List KeptRoutine) → routines ≡ items → c.main ≡ cells main → c.routines ≡ map subroutine_of items
+pub bodies_all : (coverage : Coverage) (c : Contents) (main : List ℕ) (routines items : List KeptRoutine) → routines ≡ items → c.main ≡ words main → c.routines ≡ map subroutine_of items
     → Counts coverage (kept_bodies main routines) → Counts coverage (bodies_at c)
 bodies_all coverage c main routines items same is_main are_routines counts =
     Counts-same coverage (kept_bodies main routines) (bodies_at c) counts (λ a h.
-    ap (λ rs. (if cells main a then 1 else 0) + count_by (λ r. cells r.body a) rs) same
-    ∙ (ap (λ n. (if cells main a then 1 else 0) + n) (sym (count_map subroutine_of (λ r. r.body a) items))
+    ap (λ rs. (if words main a then 1 else 0) + count_by (λ r. words r.body a) rs) same
+    ∙ (ap (λ n. (if words main a then 1 else 0) + n) (sym (count_map subroutine_of (λ r. r.body a) items))
     ∙ (ap (λ m. (if m a then 1 else 0) + count_by (λ r. r.body a) (map subroutine_of items)) (sym is_main)
     ∙ ap (λ rs. (if c.main a then 1 else 0) + count_by (λ r. r.body a) rs) (sym are_routines))))
 
@@ -158,18 +156,18 @@ profile_or None = refl
 profile_or (Some p) = refl
 
 -- the cells that are kept are words
-pub cell_below : (lanes : List ℕ) (a : ℕ) → cells lanes a ≡ true → a < 4096
-cell_below lanes a is = ltb-true a 4096 (and_parts (nat_lt a 4096) (words lanes a) is).0
+pub cell_below : (lanes : List ℕ) (a : ℕ) → words lanes a ≡ true → a < 4096
+cell_below lanes a is = word_small lanes a is
 
 body_below : (routines : List KeptRoutine) (a : ℕ) → list_any (λ r. r.body a) (map subroutine_of routines) ≡ true → a < 4096
 body_below [] a is = absurd (cc)
-body_below (r ∷ rs) a is = elim (cases_Bool (cells r.body a)) [
+body_below (r ∷ rs) a is = elim (cases_Bool (words r.body a)) [
   | inl e ↦ cell_below r.body a e
   | inr e ↦ body_below rs a (rw e at is)
 ]
 
-pub in_bodies_below : (main : List ℕ) (routines : List KeptRoutine) (a : ℕ) → (cells main a || list_any (λ r. r.body a) (map subroutine_of routines)) ≡ true → a < 4096
-in_bodies_below main routines a is = elim (cases_Bool (cells main a)) [
+pub in_bodies_below : (main : List ℕ) (routines : List KeptRoutine) (a : ℕ) → (words main a || list_any (λ r. r.body a) (map subroutine_of routines)) ≡ true → a < 4096
+in_bodies_below main routines a is = elim (cases_Bool (words main a)) [
   | inl e ↦ cell_below main a e
   | inr e ↦ body_below routines a (rw e at is)
 ]

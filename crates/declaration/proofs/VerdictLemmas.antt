@@ -2,14 +2,14 @@
 use Rattle.std.proofs.Common.{ℕ, ◌≡◌, ◌≢◌, ◌<◌, ◌≤◌, ◌+◌, false, List, [], ◌∷◌, ◌++◌, length, map, arith, refl, subst, sym, ◌∙◌, ap, Option, Some, None, Result, Ok, Err, IfOk, IfErr, ◌⊎◌, inl, inr, append_assoc, append-nil, add-zero, length-append}
 use Rattle.std.specs.Prelude.{nat_le, if◌then◌else◌}
 use Rattle.std.specs.List.{flat_map}
-use Rattle.std.proofs.lemmas.Bool.{lt-leb}
+use Rattle.std.proofs.lemmas.Bool.{lt-leb, le-leb}
 use Rattle.std.proofs.lemmas.Grind.{flat_map-append}
 use Rattle.wordset.specs.Words.{Words, first_below, IsFirstFrom, HasNoneFrom}
 use Rattle.wordset.proofs.Firsts.{first_is}
 use Rattle.streams.specs.Text.{text_lines}
 use Rattle.declaration.specs.Declaration.{Declaration}
 use Rattle.declaration.specs.Lines.{Line, Nothing, Start, Main, Sub, Variables, Stops, Pauses, Machine, Reads, line_of}
-use Rattle.declaration.specs.Text.{Contents, contents, start_in, profile_in, routine_in, overlaps, entry_in_index, halt_outside, Breaks, AreGood, HasGoodLines, Declares, StandsAfter, HasBadLine, HasSecondStart, HasSecondProfile, HasManyRoutines, BreaksRule, Fails, most_bytes, most_routines}
+use Rattle.declaration.specs.Text.{Contents, contents, start_in, profile_in, routine_in, overlaps, entry_in_index, halt_outside, LineFails, RuleFails, AreGood, HasGoodLines, Declares, StandsAfter, FailsAtLine, FailsAtRule, Fails, most_bytes, most_routines}
 use Rattle.declaration.specs.Drafts.{with_line}
 use Rattle.declaration.specs.declared.DeclarationFault.{DeclarationFault}
 use Rattle.declaration.specs.declared.DeclarationFault.TheVariants.{BadLine, TwoStarts, TwoProfiles, NoStart, Overlap, EntryInAutoIndex, StartNotInMain, TooMany, HaltNotInBody, NoMemory}
@@ -110,12 +110,12 @@ Within-good : (texts : List (List ℕ)) (lines : List Line) → AreGood texts li
 Within-good texts lines g = record { starts = g.starts; profiles = g.profiles; few = g.few }
 
 -- where a line stands after good ones, the fault is that of its line or after it
-verdict-at : (text : List ℕ) (lines : List Line) (number : ℕ) (line : List ℕ) (s : StandsAfter text lines number line) → verdict text ≡ or_else (line_fault (contents lines) number (line_of line)) (scan number (said_after (contents lines) (line_of line)) s.after)
+verdict-at : (text : List ℕ) (lines : List Line) (number : ℕ) (line : List ℕ) (s : StandsAfter text lines number line) → verdict text ≡ or_else (line_fault (contents lines) number (line_of line)) (scan number (said_after (contents lines) (line_of line)) s.stands.after)
 verdict-at text lines number line s =
-    let place : 0 + length s.before + 1 ≡ number = omega (arith, s.counted) in
-    ap (λ ts. scan 0 (contents []) ts) s.stands
-    ∙ (scan-good 0 s.before (line ∷ s.after) [] lines s.good.say (Within-good s.before lines s.good)
-    ∙ ap (λ n. or_else (line_fault (contents lines) n (line_of line)) (scan n (said_after (contents lines) (line_of line)) s.after)) place)
+    let place : 0 + length s.before + 1 ≡ number = omega (arith, s.stands.counted) in
+    ap (λ ts. scan 0 (contents []) ts) s.stands.stands
+    ∙ (scan-good 0 s.before (line ∷ s.stands.after) [] lines s.good.say (Within-good s.before lines s.good)
+    ∙ ap (λ n. or_else (line_fault (contents lines) n (line_of line)) (scan n (said_after (contents lines) (line_of line)) s.stands.after)) place)
 
 -- where all lines are good, it is that of what they say
 verdict-all : (text : List ℕ) (lines : List Line) → HasGoodLines text lines → verdict text ≡ rule_fault (contents lines) (contents lines).starts
@@ -125,27 +125,25 @@ verdict-all text lines g =
 
 -- ---- each fault
 
-verdict-bad : (text : List ℕ) (number : ℕ) → HasBadLine text number → verdict text ≡ Some (BadLine number)
-verdict-bad text number f =
-    verdict-at text f.lines number f.line f.stands ∙ ap (λ o. or_else (line_fault (contents f.lines) number o) (scan number (said_after (contents f.lines) o) f.stands.after)) f.bad
+-- the fault of a line that fails is its fault
+line-fails : (c : Contents) (number : ℕ) (line : Option Line) (fault : DeclarationFault) → LineFails c number line fault → fault ≢ NoMemory → line_fault c number line ≡ Some fault
+line-fails c number line (BadLine n) f known = ap (line_fault c number) f.1 ∙ ap (λ k. Some (BadLine k)) (sym f.0)
+line-fails c number line (TwoStarts n) f known =
+    ap (line_fault c number) f.2 ∙ (ap (λ k. if nat_le 1 k then Some (TwoStarts number) else None) f.3 ∙ ap (λ k. Some (TwoStarts k)) (sym f.0))
+line-fails c number line (TwoProfiles n) f known =
+    ap (line_fault c number) f.2 ∙ (ap (λ k. if nat_le 1 k then Some (TwoProfiles number) else None) f.3 ∙ ap (λ k. Some (TwoProfiles k)) (sym f.0))
+line-fails c number line TooMany f known = ap (line_fault c number) f.1 ∙ (rw (le-leb most_routines (length c.routines) f.2) refl)
+line-fails c number line NoMemory f known = absurd (known refl)
+line-fails c number line NoStart f known = absurd f
+line-fails c number line (Overlap a) f known = absurd f
+line-fails c number line (EntryInAutoIndex a) f known = absurd f
+line-fails c number line StartNotInMain f known = absurd f
+line-fails c number line (HaltNotInBody a) f known = absurd f
 
-verdict-start : (text : List ℕ) (number : ℕ) → HasSecondStart text number → verdict text ≡ Some (TwoStarts number)
-verdict-start text number f =
-    verdict-at text f.lines number f.line f.stands
-    ∙ (ap (λ o. or_else (line_fault (contents f.lines) number o) (scan number (said_after (contents f.lines) o) f.stands.after)) f.is
-    ∙ ap (λ k. or_else (if nat_le 1 k then Some (TwoStarts number) else None) (scan number (with_line (contents f.lines) (Start f.start)) f.stands.after)) f.second)
-
-verdict-profile : (text : List ℕ) (number : ℕ) → HasSecondProfile text number → verdict text ≡ Some (TwoProfiles number)
-verdict-profile text number f =
-    verdict-at text f.lines number f.line f.stands
-    ∙ (ap (λ o. or_else (line_fault (contents f.lines) number o) (scan number (said_after (contents f.lines) o) f.stands.after)) f.is
-    ∙ ap (λ k. or_else (if nat_le 1 k then Some (TwoProfiles number) else None) (scan number (with_line (contents f.lines) (Machine f.profile)) f.stands.after)) f.second)
-
-verdict-many : (text : List ℕ) → HasManyRoutines text → verdict text ≡ Some TooMany
-verdict-many text f =
+verdict-line : (text : List ℕ) (fault : DeclarationFault) → FailsAtLine text fault → fault ≢ NoMemory → verdict text ≡ Some fault
+verdict-line text fault f known =
     verdict-at text f.lines f.number f.line f.stands
-    ∙ (ap (λ o. or_else (line_fault (contents f.lines) f.number o) (scan f.number (said_after (contents f.lines) o) f.stands.after)) f.is
-    ∙ ap (λ k. or_else (if nat_le most_routines k then Some TooMany else None) (scan f.number (with_line (contents f.lines) (Sub f.routine)) f.stands.after)) f.full)
+    ∙ ap (λ o. or_else o (scan f.number (said_after (contents f.lines) (line_of f.line)) f.stands.stands.after)) (line-fails (contents f.lines) f.number (line_of f.line) fault f.fails known)
 
 found_first : (set : Words) (a : ℕ) → IsFirstFrom 0 set a → first_below 4096 set ≡ Some a
 found_first set a is = sym (first_is (Some a) set is)
@@ -153,7 +151,7 @@ found_first set a is = sym (first_is (Some a) set is)
 found_none : (set : Words) → HasNoneFrom 0 set → first_below 4096 set ≡ None
 found_none set none = sym (first_is None set none)
 
-rule-broken : (c : Contents) (fault : DeclarationFault) → Breaks c fault → rule_fault c c.starts ≡ Some fault
+rule-broken : (c : Contents) (fault : DeclarationFault) → RuleFails c fault → rule_fault c c.starts ≡ Some fault
 rule-broken c NoStart b = ap (rule_fault c) b
 rule-broken c (Overlap a) b = ap (rule_fault c) b.starts ∙ (rw (found_first (overlaps c) a b.least) refl)
 rule-broken c (EntryInAutoIndex a) b = ap (rule_fault c) b.starts ∙ (rw (found_none (overlaps c) b.apart, found_first (entry_in_index c) a b.least) refl)
@@ -165,16 +163,16 @@ rule-broken c (TwoProfiles n) b = absurd b
 rule-broken c TooMany b = absurd b
 rule-broken c NoMemory b = absurd b
 
-verdict-rule : (text : List ℕ) (fault : DeclarationFault) → BreaksRule text fault → verdict text ≡ Some fault
-verdict-rule text fault f = verdict-all text f.lines f.good ∙ rule-broken (contents f.lines) fault f.breaks
+verdict-rule : (text : List ℕ) (fault : DeclarationFault) → FailsAtRule text fault → verdict text ≡ Some fault
+verdict-rule text fault f = verdict-all text f.lines f.good ∙ rule-broken (contents f.lines) fault f.fails
 
 -- a text that isn't too long and fails for no want of memory has its fault as its verdict
 verdict-fails : (text : List ℕ) (fault : DeclarationFault) → length text ≤ most_bytes → Fails text fault → fault ≢ NoMemory → verdict text ≡ Some fault
-verdict-fails text (BadLine n) short f known = verdict-bad text n f
-verdict-fails text (TwoStarts n) short f known = verdict-start text n f
-verdict-fails text (TwoProfiles n) short f known = verdict-profile text n f
+verdict-fails text (BadLine n) short f known = verdict-line text (BadLine n) f known
+verdict-fails text (TwoStarts n) short f known = verdict-line text (TwoStarts n) f known
+verdict-fails text (TwoProfiles n) short f known = verdict-line text (TwoProfiles n) f known
 verdict-fails text TooMany short (inl long) known = absurd (omega arith)
-verdict-fails text TooMany short (inr f) known = verdict-many text f
+verdict-fails text TooMany short (inr f) known = verdict-line text TooMany f known
 verdict-fails text NoMemory short f known = absurd (known refl)
 verdict-fails text NoStart short f known = verdict-rule text NoStart f
 verdict-fails text (Overlap a) short f known = verdict-rule text (Overlap a) f

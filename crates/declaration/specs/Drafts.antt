@@ -1,22 +1,19 @@
--- What is gathered while a declaration is read.
-use Rattle.std.specs.Prelude.{◌≡◌, ℕ, ◌+◌, ◌<◌, ◌≤◌, nat_le, ◌==◌, if◌then◌else◌, unwrap_or, List, [], ◌∷◌, ◌++◌, length, map, Option, Some, None}
+-- What is gathered while a declaration is read. Private contracts alone cite this.
+use Rattle.std.specs.Prelude.{◌≡◌, ℕ, ◌+◌, ◌<◌, nat_le, ◌==◌, if◌then◌else◌, unwrap_or, List, [], ◌∷◌, ◌++◌, length, map, Option, Some, None}
 use Rattle.std.specs.List.{list_any, count_by, before_first}
 use Rattle.std.specs.Option.{option_map, option_to_list}
-use Rattle.instruct.specs.declared.Profile.{Profile}
 use Rattle.wordset.specs.Words.{Words, nothing, union}
 use Rattle.wordset.specs.Lanes.{words}
-use Rattle.declaration.specs.Kept.{cells, subroutine_of}
-use Rattle.declaration.specs.Lines.{Subroutine, Line, Nothing, Start, Main, Sub, Variables, Stops, Pauses, Machine, Reads, all_read, range_of, address_of, is_returns}
+use Rattle.declaration.specs.Kept.{subroutine_of}
+use Rattle.declaration.specs.Lines.{Line, Nothing, Start, Main, Sub, Variables, Stops, Pauses, Machine, Reads, all_read, range_of, address_of, is_returns, line_of}
 use Rattle.declaration.specs.Text.{Contents, contents, HasGoodLines, most_routines}
 use Rattle.declaration.specs.declared.Routine.{Routine as KeptRoutine}
-use Rattle.declaration.specs.declared.DeclarationFault.{DeclarationFault}
-use Rattle.declaration.specs.declared.DeclarationFault.TheVariants.{BadLine, TwoStarts, TwoProfiles, NoStart, Overlap, EntryInAutoIndex, StartNotInMain, TooMany, HaltNotInBody, NoMemory}
 use Rattle.declaration.specs.declared.lines.Form.{Form}
 use Rattle.declaration.specs.declared.lines.Form.TheVariants.{Range, Address}
 use Rattle.declaration.specs.declared.lines.Line.{Line as KeptLine}
 use Rattle.declaration.specs.declared.lines.Line.TheVariants.{Nothing as KeptNothing, Start as KeptStart, Main as KeptMain, Sub as KeptSub, Variables as KeptVariables, Stops as KeptStops, Pauses as KeptPauses, Machine as KeptMachine, Reads as KeptReads}
 use Rattle.declaration.specs.declared.drafts.Draft.{Draft}
-use Rattle.declaration.specs.declared.sets.Coverage.{Coverage}
+use Rattle.declaration.specs.declared.coverage.Coverage.{Coverage}
 
 -- What a word of a list of cells may be.
 abbrev pub cells_read : Form → List ℕ → Option Words
@@ -31,25 +28,25 @@ ranges_before words = if list_any is_returns words then all_read range_of (befor
 abbrev pub said : KeptLine → Line
 said KeptNothing = Nothing
 said (KeptStart at) = Start at
-said (KeptMain set) = Main (cells set)
+said (KeptMain set) = Main (words set)
 said (KeptSub r) = Sub (subroutine_of r)
-said (KeptVariables set) = Variables (cells set)
-said (KeptStops set) = Stops (cells set)
-said (KeptPauses set) = Pauses (cells set)
+said (KeptVariables set) = Variables (words set)
+said (KeptStops set) = Stops (words set)
+said (KeptPauses set) = Pauses (words set)
 said (KeptMachine p) = Machine p
-said (KeptReads set) = Reads (cells set)
+said (KeptReads set) = Reads (words set)
 
 -- What is gathered so far.
 abbrev pub gathered : {A : Type 0} → Draft A → Contents
 gathered d = record {
   starts = option_to_list d.start;
   profiles = option_to_list d.profile;
-  main = cells d.main;
+  main = words d.main;
   routines = map subroutine_of d.routines.items;
-  variable = cells d.variables;
-  stop = cells d.stops;
-  pause = cells d.pauses;
-  reads = option_map cells d.reads;
+  variable = words d.variables;
+  stop = words d.stops;
+  pause = words d.pauses;
+  reads = option_map words d.reads;
 }
 
 -- What is said with one line more.
@@ -76,18 +73,12 @@ MayFollow c (Pauses set) = Unit {0}
 MayFollow c (Machine p) = c.profiles ≡ []
 MayFollow c (Reads set) = Unit {0}
 
--- The line with this number is refused so after what was said before it.
-abbrev pub Refuses : Contents → Line → ℕ → DeclarationFault → Type 0
-Refuses c line number (TwoStarts n) = (n ≡ number) × (a : ℕ) × (line ≡ Start a) × (length c.starts ≡ 1)
-Refuses c line number (TwoProfiles n) = (n ≡ number) × (p : Profile) × (line ≡ Machine p) × (length c.profiles ≡ 1)
-Refuses c line number TooMany = (r : Subroutine) × (line ≡ Sub r) × (most_routines ≤ length c.routines)
-Refuses c line number NoMemory = (r : Subroutine) × (line ≡ Sub r) × (length c.routines < most_routines)
-Refuses c line number (BadLine n) = ⊥
-Refuses c line number NoStart = ⊥
-Refuses c line number (Overlap a) = ⊥
-Refuses c line number (EntryInAutoIndex a) = ⊥
-Refuses c line number StartNotInMain = ⊥
-Refuses c line number (HaltNotInBody a) = ⊥
+-- A line that may follow adds what it says to what was said before it.
+pub record Adds (c : Contents) (text : List ℕ) (after : Contents) : Type 0 where
+  pub line : Line
+  pub is : line_of text ≡ Some line
+  pub follows : MayFollow c line
+  pub added : after ≡ with_line c line
 
 -- All lines of a text that isn't too long are good, and this is what they say together.
 pub record HasLines (text : List ℕ) (c : Contents) : Type 0 where
@@ -102,7 +93,7 @@ pub record Counts (coverage : Coverage) (number : ℕ → ℕ) : Type 0 where
 
 -- In how many bodies a cell is, and how many routines have an entry, of those that are kept.
 abbrev pub kept_bodies : List ℕ → List KeptRoutine → ℕ → ℕ
-kept_bodies main routines a = (if cells main a then 1 else 0) + count_by (λ r. cells r.body a) routines
+kept_bodies main routines a = (if words main a then 1 else 0) + count_by (λ r. words r.body a) routines
 
 abbrev pub kept_entries : List KeptRoutine → ℕ → ℕ
 kept_entries routines a = count_by (λ r. r.entry == a) routines

@@ -1,10 +1,11 @@
 -- The declaration that a text makes, and which fault a text has.
-use Rattle.std.specs.Prelude.{◌≡◌, ℕ, ◌+◌, ◌<◌, ◌≤◌, ◌==◌, nat_le, Bool, true, false, not, ◌&&◌, ◌||◌, ◌⊎◌, if◌then◌else◌, List, [], ◌∷◌, ◌++◌, length, map, Option, Some, None}
+use Rattle.std.specs.Prelude.{◌≡◌, ℕ, ◌+◌, ◌<◌, ◌≤◌, ◌==◌, nat_le, Bool, true, false, not, ◌&&◌, ◌||◌, ◌⊎◌, if◌then◌else◌, List, [], ◌∷◌, length, map, Option, Some, None}
 use Rattle.std.specs.List.{list_any, count_by, flat_map}
 use Rattle.instruct.specs.declared.Profile.{Profile}
 use Rattle.instruct.specs.declared.Profile.TheVariants.{Pdp8I}
 use Rattle.wordset.specs.Words.{Words, nothing, IsFirstFrom, HasNoneFrom}
 use Rattle.processor.specs.Machine.{is_auto_index}
+use Rattle.streams.specs.Taking.{StandsAt}
 use Rattle.streams.specs.Text.{text_lines}
 use Rattle.declaration.specs.Declaration.{Declaration}
 use Rattle.declaration.specs.Lines.{Subroutine, Line, Start, Main, Sub, Variables, Stops, Pauses, Machine, Reads, line_of}
@@ -178,17 +179,17 @@ pub record HasHaltOutside (c : Contents) (a : ℕ) : Type 0 where
   pub least : IsFirstFrom 0 (halt_outside c) a
 
 -- The first rule that is broken by what all lines say, and where.
-abbrev pub Breaks : Contents → DeclarationFault → Type 0
-Breaks c NoStart = c.starts ≡ []
-Breaks c (Overlap a) = HasOverlap c a
-Breaks c (EntryInAutoIndex a) = HasIndexEntry c a
-Breaks c StartNotInMain = StartsOutside c
-Breaks c (HaltNotInBody a) = HasHaltOutside c a
-Breaks c (BadLine number) = ⊥
-Breaks c (TwoStarts number) = ⊥
-Breaks c (TwoProfiles number) = ⊥
-Breaks c TooMany = ⊥
-Breaks c NoMemory = ⊥
+abbrev pub RuleFails : Contents → DeclarationFault → Type 0
+RuleFails c NoStart = c.starts ≡ []
+RuleFails c (Overlap a) = HasOverlap c a
+RuleFails c (EntryInAutoIndex a) = HasIndexEntry c a
+RuleFails c StartNotInMain = StartsOutside c
+RuleFails c (HaltNotInBody a) = HasHaltOutside c a
+RuleFails c (BadLine number) = ⊥
+RuleFails c (TwoStarts number) = ⊥
+RuleFails c (TwoProfiles number) = ⊥
+RuleFails c TooMany = ⊥
+RuleFails c NoMemory = ⊥
 
 -- Each of these texts of lines says what it stands for here: none is bad, there is at most one start and one machine,
 -- and there aren't too many routines.
@@ -220,72 +221,47 @@ pub record ListsRoutines (text : List ℕ) (routines : List KeptRoutine) : Type 
 pub record StandsAfter (text : List ℕ) (lines : List Line) (number : ℕ) (line : List ℕ) : Type 0 where
   pub short : length text ≤ most_bytes
   pub before : List (List ℕ)
-  pub after : List (List ℕ)
-  pub stands : text_lines text ≡ before ++ line ∷ after
+  pub stands : StandsAt (text_lines text) before line number
   pub good : AreGood before lines
-  pub counted : number ≡ length before + 1
 
--- The first line that isn't good has this number, and is bad.
-pub record HasBadLine (text : List ℕ) (number : ℕ) : Type 0 where
-  pub lines : List Line
-  pub line : List ℕ
-  pub stands : StandsAfter text lines number line
-  pub bad : line_of line ≡ None
+-- After what was said, the line with this number, which says this, fails so: it is bad; it says a second start, a second
+-- machine, or a routine more than are taken; or, where memory is refused, it says a routine.
+abbrev pub LineFails : Contents → ℕ → Option Line → DeclarationFault → Type 0
+LineFails c number line (BadLine n) = (n ≡ number) × (line ≡ None)
+LineFails c number line (TwoStarts n) = (n ≡ number) × (a : ℕ) × (line ≡ Some (Start a)) × (length c.starts ≡ 1)
+LineFails c number line (TwoProfiles n) = (n ≡ number) × (p : Profile) × (line ≡ Some (Machine p)) × (length c.profiles ≡ 1)
+LineFails c number line TooMany = (r : Subroutine) × (line ≡ Some (Sub r)) × (most_routines ≤ length c.routines)
+LineFails c number line NoMemory = (r : Subroutine) × (line ≡ Some (Sub r)) × (length c.routines < most_routines)
+LineFails c number line NoStart = ⊥
+LineFails c number line (Overlap a) = ⊥
+LineFails c number line (EntryInAutoIndex a) = ⊥
+LineFails c number line StartNotInMain = ⊥
+LineFails c number line (HaltNotInBody a) = ⊥
 
--- The first line that isn't good has this number, and says a second start.
-pub record HasSecondStart (text : List ℕ) (number : ℕ) : Type 0 where
-  pub lines : List Line
-  pub line : List ℕ
-  pub stands : StandsAfter text lines number line
-  pub start : ℕ
-  pub is : line_of line ≡ Some (Start start)
-  pub second : length (contents lines).starts ≡ 1
-
--- The first line that isn't good has this number, and says a second machine.
-pub record HasSecondProfile (text : List ℕ) (number : ℕ) : Type 0 where
-  pub lines : List Line
-  pub line : List ℕ
-  pub stands : StandsAfter text lines number line
-  pub profile : Profile
-  pub is : line_of line ≡ Some (Machine profile)
-  pub second : length (contents lines).profiles ≡ 1
-
--- The first line that isn't good says one routine more than are taken.
-pub record HasManyRoutines (text : List ℕ) : Type 0 where
+-- The first line of the text that isn't good fails so.
+pub record FailsAtLine (text : List ℕ) (fault : DeclarationFault) : Type 0 where
   pub lines : List Line
   pub number : ℕ
   pub line : List ℕ
   pub stands : StandsAfter text lines number line
-  pub routine : Subroutine
-  pub is : line_of line ≡ Some (Sub routine)
-  pub full : length (contents lines).routines ≡ most_routines
-
--- A line asks for memory: all lines up to it are good, and it says a routine.
-pub record AsksForMemory (text : List ℕ) : Type 0 where
-  pub lines : List Line
-  pub number : ℕ
-  pub line : List ℕ
-  pub stands : StandsAfter text lines number line
-  pub routine : Subroutine
-  pub is : line_of line ≡ Some (Sub routine)
-  pub room : length (contents lines).routines < most_routines
+  pub fails : LineFails (contents lines) number (line_of line) fault
 
 -- All lines of the text are good, and what they say breaks a rule.
-pub record BreaksRule (text : List ℕ) (fault : DeclarationFault) : Type 0 where
+pub record FailsAtRule (text : List ℕ) (fault : DeclarationFault) : Type 0 where
   pub lines : List Line
   pub good : HasGoodLines text lines
-  pub breaks : Breaks (contents lines) fault
+  pub fails : RuleFails (contents lines) fault
 
--- This text fails so: without looking at a line where it is too long; at its first line that isn't good; by the first
--- rule that is broken by what all its lines say; or, where memory is refused, at a line that asks for some.
+-- This text fails so: without looking at a line where it is too long; at its first line that isn't good; or by the first
+-- rule that is broken by what all its lines say.
 abbrev pub Fails : List ℕ → DeclarationFault → Type 0
-Fails text (BadLine number) = HasBadLine text number
-Fails text (TwoStarts number) = HasSecondStart text number
-Fails text (TwoProfiles number) = HasSecondProfile text number
-Fails text TooMany = (most_bytes < length text) ⊎ HasManyRoutines text
-Fails text NoMemory = AsksForMemory text
-Fails text NoStart = BreaksRule text NoStart
-Fails text (Overlap a) = BreaksRule text (Overlap a)
-Fails text (EntryInAutoIndex a) = BreaksRule text (EntryInAutoIndex a)
-Fails text StartNotInMain = BreaksRule text StartNotInMain
-Fails text (HaltNotInBody a) = BreaksRule text (HaltNotInBody a)
+Fails text (BadLine number) = FailsAtLine text (BadLine number)
+Fails text (TwoStarts number) = FailsAtLine text (TwoStarts number)
+Fails text (TwoProfiles number) = FailsAtLine text (TwoProfiles number)
+Fails text TooMany = (most_bytes < length text) ⊎ FailsAtLine text TooMany
+Fails text NoMemory = FailsAtLine text NoMemory
+Fails text NoStart = FailsAtRule text NoStart
+Fails text (Overlap a) = FailsAtRule text (Overlap a)
+Fails text (EntryInAutoIndex a) = FailsAtRule text (EntryInAutoIndex a)
+Fails text StartNotInMain = FailsAtRule text StartNotInMain
+Fails text (HaltNotInBody a) = FailsAtRule text (HaltNotInBody a)

@@ -1,19 +1,20 @@
 //! What the lines of a declaration say together, and the rules that it keeps.
 
-ghost use Rattle.std.specs.Prelude.{ℕ, ◌≡◌, ◌<◌, ◌+◌, [], ◌∷◌, if◌then◌else◌, map, IsTrue, OnOk, IfOk, IfErr};
+ghost use Rattle.std.specs.Prelude.{ℕ, Some, ◌≡◌, ◌<◌, ◌+◌, [], ◌∷◌, if◌then◌else◌, map, IsTrue, OnOk, IfOk, IfErr};
 ghost use Rattle.wordset.specs.Words.{SameWords};
 ghost use Rattle.wordset.specs.Lanes.{words};
 ghost use Rattle.processor.specs.Machine.{is_auto_index};
 ghost use Rattle.declaration.specs.Declaration.{IsDeclared};
 ghost use Rattle.declaration.specs.Kept.{meaning, routines_of, subroutine_of};
-ghost use Rattle.declaration.specs.Text.{contents, is_entry, Says, KeepsRules, Breaks, overlaps, entry_in_index, halt_outside, bodies_at, entries_at};
-ghost use Rattle.declaration.specs.Drafts.{gathered, said, with_line, MayFollow, Refuses, Counts, kept_bodies, kept_entries};
+ghost use Rattle.declaration.specs.Text.{contents, is_entry, Says, KeepsRules, LineFails, RuleFails, overlaps, entry_in_index, halt_outside, bodies_at, entries_at};
+ghost use Rattle.declaration.specs.Drafts.{gathered, said, with_line, MayFollow, Counts, kept_bodies, kept_entries};
 
-use super::lines::Line;
-use super::sets::{self, Coverage};
+use super::coverage::Coverage;
+use super::lines::{Line, read_line};
 use super::{Declaration, DeclarationFault, Routine};
 use instruct::Profile;
 use std::alloc::Allocator;
+use streams::taking::LineTaker;
 use word12::Word;
 use wordset::WordSet;
 
@@ -41,29 +42,31 @@ impl<A: Allocator> Draft<A> {
         Draft {
             start: None,
             profile: None,
-            main: sets::none(),
+            main: WordSet::empty(),
             routines: Vec::new(alloc),
-            variables: sets::none(),
-            stops: sets::none(),
-            pauses: sets::none(),
+            variables: WordSet::empty(),
+            stops: WordSet::empty(),
+            pauses: WordSet::empty(),
             reads: None,
         }
     }
 
     /// Adds what the line of a number says, where it may follow.
-    pub fn add(&mut self, line: &Line, number: usize) -> Result<(), DeclarationFault>
-        ensures added { OnOk result (gathered self.new ≡ with_line (gathered self.old) (said line.now)) }
+    fn add(&mut self, line: &Line, number: usize) -> Result<(), DeclarationFault>
+        ensures added { OnOk result
+            (gathered self.new ≡ with_line (gathered self.old) (said line.now)) }
         ensures follows { OnOk result (MayFollow (gathered self.old) (said line.now)) }
-        ensures refused { IfErr result (Refuses (gathered self.old) (said line.now) number) }
+        ensures refused { IfErr result
+            (LineFails (gathered self.old) number (Some (said line.now))) }
     {
         match line {
             Line::Nothing => {}
             Line::Start(at) => return self.add_start(*at, number),
-            Line::Main(set) => sets::add(&mut self.main, set),
+            Line::Main(set) => self.main = self.main.union(set),
             Line::Sub(routine) => return self.add_routine(routine, number),
-            Line::Variables(set) => sets::add(&mut self.variables, set),
-            Line::Stops(set) => sets::add(&mut self.stops, set),
-            Line::Pauses(set) => sets::add(&mut self.pauses, set),
+            Line::Variables(set) => self.variables = self.variables.union(set),
+            Line::Stops(set) => self.stops = self.stops.union(set),
+            Line::Pauses(set) => self.pauses = self.pauses.union(set),
             Line::Machine(profile) => return self.add_profile(*profile, number),
             Line::Reads(set) => self.add_reads(set),
         }
@@ -71,9 +74,12 @@ impl<A: Allocator> Draft<A> {
     }
 
     fn add_start(&mut self, at: Word, number: usize) -> Result<(), DeclarationFault>
-        ensures added { OnOk result (gathered self.new ≡ with_line (gathered self.old) (said (Line.Start at))) }
-        ensures follows { OnOk result (MayFollow (gathered self.old) (said (Line.Start at))) }
-        ensures refused { IfErr result (Refuses (gathered self.old) (said (Line.Start at)) number) }
+        ensures added { OnOk result
+            (gathered self.new ≡ with_line (gathered self.old) (said (Line.Start at))) }
+        ensures follows { OnOk result
+            (MayFollow (gathered self.old) (said (Line.Start at))) }
+        ensures refused { IfErr result
+            (LineFails (gathered self.old) number (Some (said (Line.Start at)))) }
     {
         if self.start.is_some() {
             return Err(DeclarationFault::TwoStarts(number));
@@ -83,9 +89,12 @@ impl<A: Allocator> Draft<A> {
     }
 
     fn add_profile(&mut self, profile: Profile, number: usize) -> Result<(), DeclarationFault>
-        ensures added { OnOk result (gathered self.new ≡ with_line (gathered self.old) (said (Line.Machine profile))) }
-        ensures follows { OnOk result (MayFollow (gathered self.old) (said (Line.Machine profile))) }
-        ensures refused { IfErr result (Refuses (gathered self.old) (said (Line.Machine profile)) number) }
+        ensures added { OnOk result
+            (gathered self.new ≡ with_line (gathered self.old) (said (Line.Machine profile))) }
+        ensures follows { OnOk result
+            (MayFollow (gathered self.old) (said (Line.Machine profile))) }
+        ensures refused { IfErr result
+            (LineFails (gathered self.old) number (Some (said (Line.Machine profile)))) }
     {
         if self.profile.is_some() {
             return Err(DeclarationFault::TwoProfiles(number));
@@ -95,9 +104,12 @@ impl<A: Allocator> Draft<A> {
     }
 
     fn add_routine(&mut self, routine: &Routine, number: usize) -> Result<(), DeclarationFault>
-        ensures added { OnOk result (gathered self.new ≡ with_line (gathered self.old) (said (Line.Sub routine.now))) }
-        ensures follows { OnOk result (MayFollow (gathered self.old) (said (Line.Sub routine.now))) }
-        ensures refused { IfErr result (Refuses (gathered self.old) (said (Line.Sub routine.now)) number) }
+        ensures added { OnOk result
+            (gathered self.new ≡ with_line (gathered self.old) (said (Line.Sub routine.now))) }
+        ensures follows { OnOk result
+            (MayFollow (gathered self.old) (said (Line.Sub routine.now))) }
+        ensures refused { IfErr result
+            (LineFails (gathered self.old) number (Some (said (Line.Sub routine.now)))) }
     {
         if self.routines.len() >= MOST_ROUTINES {
             return Err(DeclarationFault::TooMany);
@@ -111,12 +123,11 @@ impl<A: Allocator> Draft<A> {
     fn add_reads(&mut self, set: &WordSet)
         ensures { gathered self.new ≡ with_line (gathered self.old) (said (Line.Reads set.now)) }
     {
-        let mut reads = match self.reads {
+        let reads = match self.reads {
             Some(reads) => reads,
-            None => sets::none(),
+            None => WordSet::empty(),
         };
-        sets::add(&mut reads, set);
-        self.reads = Some(reads);
+        self.reads = Some(reads.union(set));
     }
 
     /// The declaration, where all that was said keeps the rules.
@@ -125,8 +136,9 @@ impl<A: Allocator> Draft<A> {
         ensures says { IfOk result (λ d. Says (gathered self) (meaning d)) }
         ensures rules { IfOk result (λ d. KeepsRules (gathered self) (meaning d).start) }
         ensures declared { IfOk result (λ d. IsDeclared (meaning d)) }
-        ensures routines { IfOk result (λ d. map subroutine_of (routines_of d) ≡ (gathered self).routines) }
-        ensures broken { IfErr result (Breaks (gathered self)) }
+        ensures routines { IfOk result (λ d.
+            map subroutine_of (routines_of d) ≡ (gathered self).routines) }
+        ensures broken { IfErr result (RuleFails (gathered self)) }
     {
         let Some(start) = self.start else {
             return Err(DeclarationFault::NoStart);
@@ -150,7 +162,7 @@ impl<A: Allocator> Draft<A> {
     fn keeps_rules(&self, start: Word) -> Result<(), DeclarationFault>
         requires { (gathered self.now).starts ≡ start ∷ [] }
         ensures kept { OnOk result (KeepsRules (gathered self.now) start) }
-        ensures broken { IfErr result (Breaks (gathered self.now)) }
+        ensures broken { IfErr result (RuleFails (gathered self.now)) }
     {
         let bodies = bodies(&self.main, &self.routines);
         let entries = entries(&self.routines);
@@ -160,7 +172,7 @@ impl<A: Allocator> Draft<A> {
         if let Some(at) = self.entries_in_index(&entries).first_from(0) {
             return Err(DeclarationFault::EntryInAutoIndex(at));
         }
-        if !sets::has(&self.main, start) {
+        if !self.main.contains(start) {
             return Err(DeclarationFault::StartNotInMain);
         }
         if let Some(at) = self.halts_outside(&bodies).first_from(0) {
@@ -197,6 +209,24 @@ impl<A: Allocator> Draft<A> {
         ensures { SameWords (words result) (halt_outside (gathered self.now)) }
     {
         self.stops.union(&self.pauses).minus(&bodies.once)
+    }
+}
+
+impl<A: Allocator> LineTaker for Draft<A> {
+    ghost use Rattle.declaration.specs.Lines.{line_of};
+    ghost use Rattle.declaration.specs.Drafts.{Adds};
+
+    type Fault = DeclarationFault;
+
+    ghost takes = { λ old line new. Adds (gathered old) line (gathered new) };
+
+    ghost refuses = { λ old number line. LineFails (gathered old) number (line_of line) };
+
+    fn take(&mut self, number: usize, line: &[u8]) -> Result<(), DeclarationFault> {
+        match read_line(line) {
+            Some(said) => self.add(&said, number),
+            None => Err(DeclarationFault::BadLine(number)),
+        }
     }
 }
 

@@ -1,29 +1,29 @@
 //! Declarations: as a text gives them, as they are kept, and their readers.
 #![tactic(auto)]
 
-ghost use Rattle.std.specs.Prelude.{ℕ, ◌≡◌, ◌≢◌, ◌⊎◌, ◌<◌, ◌≤◌, ◌↔◌, ◌==◌, length, IsTrue, IfOk, IfErr, IsErrOf, None, Some, is_some};
+ghost use Rattle.std.specs.Prelude.{ℕ, ◌≡◌, ◌≢◌, ◌⊎◌, ◌<◌, ◌≤◌, ◌↔◌, ◌==◌, length, IsTrue, true, false, IfSome, IfNone, IfOk, IfErr, IsErrOf, None, Some, is_some};
+ghost use Rattle.std.specs.List.{find};
 ghost use Rattle.std.specs.Option.{option_map};
-ghost use Rattle.declaration.specs.Declaration.{Declaration as Declared, IsDeclared};
-ghost use Rattle.declaration.specs.Declaration.{IsListed};
+ghost use Rattle.declaration.specs.Declaration.{Declaration as Declared, Routine as MainOrEntry, IsDeclared, IsListed};
 ghost use Rattle.declaration.specs.Text.{Declares, Fails, ListsRoutines, is_entry, most_bytes};
 ghost use Rattle.declaration.specs.Drafts.{gathered, HasLines};
 ghost use Rattle.declaration.specs.declared.DeclarationFault.{DeclarationFault};
 ghost use Rattle.declaration.specs.declared.DeclarationFault.TheVariants.{NoMemory};
-ghost use Rattle.declaration.specs.Kept.{cells, offsets_of, subroutine_of, routines_of, meaning};
+ghost use Rattle.wordset.specs.Lanes.{words};
+ghost use Rattle.declaration.specs.Kept.{offsets_of, subroutine_of, routine_of, routines_of, meaning};
 
 use crate::drafts::Draft;
-use crate::lines::read_line;
 use instruct::Profile;
 use std::alloc::Allocator;
 use std::marker::Model;
-use streams::text::Lines;
+use streams::taking::take_lines;
 use thiserror::Error;
 use word12::Word;
 use wordset::WordSet;
 
+mod coverage;
 mod drafts;
 mod lines;
-mod sets;
 
 /// The most bytes of a declaration.
 const MOST_BYTES: usize = 16_384;
@@ -80,6 +80,15 @@ pub struct Routine {
     offsets: Offsets,
 }
 
+/// Whose body a cell is in.
+#[derive(Clone, Copy, PartialEq, Eq, Debug)]
+pub enum Owner {
+    /// Main's.
+    Main,
+    /// That of the routine of this entry.
+    Routine(Word),
+}
+
 /// What the author of a program promises of its runs: the start, the bodies of main and of the
 /// routines, the variables, the declared halts, the machine, and the cells that may be read, if
 /// they are listed.
@@ -103,10 +112,28 @@ impl<A: Allocator> Model for Declaration<A> {
 
     ghost Value = { Kept };
 
-    ghost view = { λ d. record { start = d.start; profile = d.profile; main = d.main; routines = d.routines.items; variables = d.variables; stops = d.stops; pauses = d.pauses; reads = d.reads } };
+    ghost view = { λ d. record {
+      start = d.start;
+      profile = d.profile;
+      main = d.main;
+      routines = d.routines.items;
+      variables = d.variables;
+      stops = d.stops;
+      pauses = d.pauses;
+      reads = d.reads;
+    } };
 
     // Each declaration keeps the overlap rules.
-    ghost invariant = { λ d. IsDeclared (meaning (record { start = d.start; profile = d.profile; main = d.main; routines = d.routines.items; variables = d.variables; stops = d.stops; pauses = d.pauses; reads = d.reads })) };
+    ghost invariant = { λ d. IsDeclared (meaning (record {
+      start = d.start;
+      profile = d.profile;
+      main = d.main;
+      routines = d.routines.items;
+      variables = d.variables;
+      stops = d.stops;
+      pauses = d.pauses;
+      reads = d.reads;
+    })) };
 }
 
 impl Offsets {
@@ -129,7 +156,7 @@ impl Routine {
 
     /// The cells of the body.
     pub fn body(&self) -> &WordSet
-        ensures { cells result.now ≡ (subroutine_of self.now).body }
+        ensures { words result.now ≡ (subroutine_of self.now).body }
     {
         &self.body
     }
@@ -163,7 +190,8 @@ impl<A: Allocator> Declaration<A> {
         ensures found { IfOk result (λ d. Declares text.now (meaning d)) }
         ensures declared { IfOk result (λ d. IsDeclared (meaning d)) }
         ensures routines { IfOk result (λ d. ListsRoutines text.now (routines_of d)) }
-        ensures only { (d : Declared) → Declares text.now d → IfErr result (λ fault. fault ≡ NoMemory) }
+        ensures only { (d : Declared) → Declares text.now d
+            → IfErr result (λ fault. fault ≡ NoMemory) }
         ensures refused { IfErr result (Fails text.now) }
         ensures exact { (fault : DeclarationFault) → Fails text.now fault → fault ≢ NoMemory
             → IsErrOf result fault ⊎ IsErrOf result NoMemory }
@@ -197,7 +225,7 @@ impl<A: Allocator> Declaration<A> {
 
     /// The cells of main's body.
     pub fn main(&self) -> &WordSet
-        ensures { cells result.now ≡ (meaning self.now).body None }
+        ensures { words result.now ≡ (meaning self.now).body None }
     {
         &self.main
     }
@@ -211,28 +239,28 @@ impl<A: Allocator> Declaration<A> {
 
     /// The variable cells.
     pub fn variables(&self) -> &WordSet
-        ensures { cells result.now ≡ (meaning self.now).variable }
+        ensures { words result.now ≡ (meaning self.now).variable }
     {
         &self.variables
     }
 
     /// The declared halts that are stops.
     pub fn stops(&self) -> &WordSet
-        ensures { cells result.now ≡ (meaning self.now).stop }
+        ensures { words result.now ≡ (meaning self.now).stop }
     {
         &self.stops
     }
 
     /// The declared halts that are pauses.
     pub fn pauses(&self) -> &WordSet
-        ensures { cells result.now ≡ (meaning self.now).pause }
+        ensures { words result.now ≡ (meaning self.now).pause }
     {
         &self.pauses
     }
 
     /// The cells that may be read, if they are listed.
     pub fn reads(&self) -> Option<&WordSet>
-        ensures { option_map (λ set. cells set.now) result ≡ (meaning self.now).reads }
+        ensures { option_map (λ set. words set.now) result ≡ (meaning self.now).reads }
     {
         self.reads.as_ref()
     }
@@ -256,6 +284,20 @@ impl<A: Allocator> Declaration<A> {
         ensures { result ≡ (meaning self.now).body (Some entry) at }
     {
         self.routines.iter().any(|routine| routine.entry == entry && routine.body.contains(at))
+    }
+
+    /// The routine whose body has a cell, if there is one. No cell is in two bodies.
+    pub fn owner_of(&self, at: Word) -> Option<Owner>
+        ensures found { IfSome result (λ owner.
+            (meaning self.now).body (routine_of owner) at ≡ true) }
+        ensures none { IfNone result ((r : MainOrEntry) → (meaning self.now).body r at ≡ false) }
+        ensures only { (r : MainOrEntry) → (meaning self.now).body r at ≡ true
+            → option_map routine_of result ≡ Some r }
+    {
+        if self.main.contains(at) {
+            return Some(Owner::Main);
+        }
+        routine_with(&self.routines, at)
     }
 
     /// Whether the routine of an entry may return at an offset.
@@ -305,6 +347,17 @@ impl<A: Allocator> Declaration<A> {
     }
 }
 
+/// The first routine whose body has a cell.
+fn routine_with(routines: &[Routine], at: Word) -> Option<Owner>
+    ensures { option_map routine_of result
+        ≡ option_map (λ r. Some r.entry) (find (λ r. words r.body at) routines.now) }
+{
+    routines
+        .iter()
+        .find(|routine| routine.body.contains(at))
+        .map(|routine| Owner::Routine(routine.entry))
+}
+
 /// The declaration of a text that isn't too long.
 fn parse_lines<A: Allocator>(alloc: A, text: &[u8]) -> Result<Declaration<A>, DeclarationFault>
     requires { length text.now ≤ most_bytes }
@@ -323,19 +376,15 @@ fn parse_lines<A: Allocator>(alloc: A, text: &[u8]) -> Result<Declaration<A>, De
 fn read_lines<A: Allocator>(alloc: A, text: &[u8]) -> Result<Draft<A>, DeclarationFault>
     requires { length text.now ≤ most_bytes }
     ensures found { IfOk result (λ draft. HasLines text.now (gathered draft)) }
-    ensures fit { IfOk result (λ draft. (e : ℕ) → IsTrue (is_entry (gathered draft) e) → e < 4096) }
+    ensures fit { IfOk result (λ draft.
+        (e : ℕ) → IsTrue (is_entry (gathered draft) e) → e < 4096) }
     ensures refused { IfErr result (Fails text.now) }
 {
     let mut draft = Draft::new(alloc);
-    for (index, line) in Lines::of(text).enumerate() {
-        let Some(said) = read_line(line) else {
-            return Err(DeclarationFault::BadLine(index + 1));
-        };
-        if let Err(fault) = draft.add(&said, index + 1) {
-            return Err(fault);
-        }
+    match take_lines(&mut draft, text) {
+        Ok(()) => Ok(draft),
+        Err(fault) => Err(fault),
     }
-    Ok(draft)
 }
 
 #[cfg(test)]

@@ -5,11 +5,12 @@ ghost use Rattle.streams.specs.Text.{octal_word};
 ghost use Rattle.std.specs.List.{after_first, position};
 ghost use Rattle.std.specs.Option.{option_map};
 ghost use Rattle.streams.specs.TextLeft.{words_left};
-ghost use Rattle.declaration.specs.Kept.{cells, offsets_of};
+ghost use Rattle.wordset.specs.Lanes.{words};
+ghost use Rattle.declaration.specs.Kept.{offsets_of};
 ghost use Rattle.declaration.specs.Lines.{is_dash, range_of, address_of, offset_of, any_of, these, all_read, some_read, span, is_returns, body_read, offsets_read, routine, start_line, sub_line, profile_line, named_line, line_of};
 ghost use Rattle.declaration.specs.Drafts.{cells_read, ranges_before, said};
 
-use super::{Offsets, Routine, sets};
+use super::{Offsets, Routine};
 use instruct::Profile;
 use streams::text::{self, Words};
 use word12::Word;
@@ -134,8 +135,9 @@ fn sub_line(rest: Words<'_>) -> Option<Line>
 
 /// The routine of an entry and of what follows the word `body`.
 fn routine(entry: &[u8], rest: Words<'_>) -> Option<Line>
-    ensures { option_map said result ≡ routine (octal_word entry.now) (body_read (words_left rest.entry))
-        (offsets_read (after_first is_returns (words_left rest.entry))) }
+    ensures { let words = words_left rest.entry in
+        option_map said result ≡ routine (octal_word entry.now) (body_read words)
+        (offsets_read (after_first is_returns words)) }
 {
     let mut words = rest;
     let Some(entry) = text::octal_word(entry) else {
@@ -155,29 +157,32 @@ fn routine(entry: &[u8], rest: Words<'_>) -> Option<Line>
 }
 
 /// The cells of ranges, one or more, up to the word `returns`, which is taken too.
-fn body(words: &mut Words<'_>) -> Option<WordSet>
-    ensures cells { option_map cells result ≡ body_read (words_left words.old) }
-    ensures rest { OnSome result (words_left words.new ≡ after_first is_returns (words_left words.old)) }
+fn body(rest: &mut Words<'_>) -> Option<WordSet>
+    ensures cells { option_map words result ≡ body_read (words_left rest.old) }
+    ensures rest { OnSome result
+        (words_left rest.new ≡ after_first is_returns (words_left rest.old)) }
 {
-    let mut ahead = *words;
+    let mut ahead = *rest;
     match ahead.next() {
-        Some(first) if !text::is(first, "returns") => body_cells(words),
+        Some(first) if !text::is(first, "returns") => body_cells(rest),
         _ => None,
     }
 }
 
 /// The same of ranges of which there may be none.
-fn body_cells(words: &mut Words<'_>) -> Option<WordSet>
-    ensures cells { option_map cells result ≡ option_map any_of (ranges_before (words_left words.old)) }
-    ensures rest { OnSome result (words_left words.new ≡ after_first is_returns (words_left words.old)) }
+fn body_cells(rest: &mut Words<'_>) -> Option<WordSet>
+    ensures cells { option_map words result
+        ≡ option_map any_of (ranges_before (words_left rest.old)) }
+    ensures rest { OnSome result
+        (words_left rest.new ≡ after_first is_returns (words_left rest.old)) }
 {
-    let mut set = sets::none();
-    while let Some(word) = words.next() {
+    let mut set = WordSet::empty();
+    while let Some(word) = rest.next() {
         if text::is(word, "returns") {
             return Some(set);
         }
         match range(word) {
-            Some(more) => sets::add(&mut set, &more),
+            Some(more) => set = set.union(&more),
             None => return None,
         }
     }
@@ -224,25 +229,27 @@ impl Offsets {
 }
 
 /// The cells of words, one or more.
-fn some_cells(form: Form, words: Words<'_>) -> Option<WordSet>
-    ensures { option_map cells result ≡ option_map any_of (some_read (cells_read form) (words_left words.entry)) }
+fn some_cells(form: Form, rest: Words<'_>) -> Option<WordSet>
+    ensures { option_map words result
+        ≡ option_map any_of (some_read (cells_read form) (words_left rest.entry)) }
 {
-    let mut ahead = words;
+    let mut ahead = rest;
     match ahead.next() {
-        Some(_) => all_cells(form, words),
+        Some(_) => all_cells(form, rest),
         None => None,
     }
 }
 
 /// The cells of words, of which there may be none.
 fn all_cells(form: Form, rest: Words<'_>) -> Option<WordSet>
-    ensures { option_map cells result ≡ option_map any_of (all_read (cells_read form) (words_left rest.entry)) }
+    ensures { option_map words result
+        ≡ option_map any_of (all_read (cells_read form) (words_left rest.entry)) }
 {
     let mut words = rest;
-    let mut set = sets::none();
+    let mut set = WordSet::empty();
     while let Some(word) = words.next() {
         match form.cells(word) {
-            Some(more) => sets::add(&mut set, &more),
+            Some(more) => set = set.union(&more),
             None => return None,
         }
     }
@@ -252,7 +259,7 @@ fn all_cells(form: Form, rest: Words<'_>) -> Option<WordSet>
 impl Form {
     /// The cells of a word of this form.
     fn cells(self, word: &[u8]) -> Option<WordSet>
-        ensures { option_map cells result ≡ cells_read self word.now }
+        ensures { option_map words result ≡ cells_read self word.now }
     {
         match self {
             Form::Range => range(word),
@@ -263,14 +270,14 @@ impl Form {
 
 /// The cell of an address.
 fn address(word: &[u8]) -> Option<WordSet>
-    ensures { option_map cells result ≡ address_of word.now }
+    ensures { option_map words result ≡ address_of word.now }
 {
-    text::octal_word(word).map(sets::only)
+    text::octal_word(word).map(WordSet::one)
 }
 
 /// The cells of an address, or from one address to another, which isn't below it.
 fn range(word: &[u8]) -> Option<WordSet>
-    ensures { option_map cells result ≡ range_of word.now }
+    ensures { option_map words result ≡ range_of word.now }
 {
     match place_of_dash(word) {
         None => address(word),
@@ -287,7 +294,7 @@ fn place_of_dash(word: &[u8]) -> Option<usize>
 
 /// The cells from one address to another.
 fn span(low: &[u8], high: &[u8]) -> Option<WordSet>
-    ensures { option_map cells result ≡ span (octal_word low.now) (octal_word high.now) }
+    ensures { option_map words result ≡ span (octal_word low.now) (octal_word high.now) }
 {
     let Some(low) = text::octal_word(low) else {
         return None;
@@ -296,7 +303,7 @@ fn span(low: &[u8], high: &[u8]) -> Option<WordSet>
         return None;
     };
     if low.value() <= high.value() {
-        Some(sets::from_to(low, high))
+        Some(WordSet::range(low, high))
     } else {
         None
     }

@@ -10,7 +10,7 @@ use Rattle.instruct.specs.declared.devices.DeviceOperation.{DeviceOperation}
 use Rattle.instruct.specs.Bits.{has_bit, is_indirect, named_cell}
 use Rattle.instruct.specs.Devices.{word_of, operations, more_operations, device_operation}
 use Rattle.instruct.specs.Operates.{MqOperate, mq_operate_of}
-use Rattle.instruct.specs.Instructions.{DeviceAction, Skips, Ors, Clears, Takes, Leaves, Meaning, And, Tad, Isz, Dca, Jms, Jmp, Group1, Group2, Group3, Device, Undefined, processor_action, operation_of, reference, device_action, device_meaning, is_group1, mq_meaning, group3_meaning, operate_meaning, meaning_of, kind_of}
+use Rattle.instruct.specs.Instructions.{DeviceAction, Meaning, And, Tad, Isz, Dca, Jms, Jmp, Group1, Group2, Group3, Device, Undefined, processor_action, operation_of, reference, device_action, device_meaning, is_group1, mq_meaning, group3_meaning, operate_meaning, meaning_of, kind_of}
 
 pub memory_kind : (p : Profile) (at word : ℕ) → word / 512 < 6 → kind_of (meaning_of p at word) ≡ Memory
 unfolding meaning_of

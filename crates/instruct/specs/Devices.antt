@@ -44,4 +44,5 @@ more_operations Pdp8E = ClearKeyboardFlag ∷ SetPrinterFlag ∷ []
 
 -- The operation of a word on a machine of a profile, or none.
 unfoldable pub device_operation : Profile → ℕ → Option DeviceOperation
-device_operation profile word = find (λ o. word == word_of o) (operations ++ more_operations profile)
+device_operation profile word =
+    find (λ o. word == word_of o) (operations ++ more_operations profile)

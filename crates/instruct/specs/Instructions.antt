@@ -1,5 +1,5 @@
 -- The instruction table: what each word of twelve bits means, where it stands, on a machine of each profile.
-use Rattle.std.specs.Prelude.{ℕ, ◌≡◌, ◌/◌, Bool, true, false, not, ◌||◌, ◌==◌, if◌then◌else◌, Option, Some, None}
+use Rattle.std.specs.Prelude.{ℕ, ◌/◌, Bool, true, false, not, ◌||◌, ◌==◌, if◌then◌else◌, Option, Some, None}
 use Rattle.std.specs.Option.{option_map}
 use Rattle.instruct.specs.declared.Profile.{Profile}
 use Rattle.instruct.specs.declared.Profile.TheVariants.{Pdp8I, Pdp8E}
@@ -122,6 +122,10 @@ reference operation.Isz indirect named = Isz indirect named
 reference operation.Dca indirect named = Dca indirect named
 reference operation.Jms indirect named = Jms indirect named
 reference operation.Jmp indirect named = Jmp indirect named
+
+-- The meaning of the memory reference by this operation that a word at an address is.
+abbrev pub reference_at : Operation → ℕ → ℕ → Meaning
+reference_at operation word at = reference operation (is_indirect word) (named_cell word at)
 
 -- The kind of a meaning, as the code names it.
 abbrev pub kind_of : Meaning → Instruction

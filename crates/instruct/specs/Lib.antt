@@ -1,5 +1,6 @@
 pub mod Bits
 pub mod Operates
+pub mod Group3
 pub mod Devices
 pub mod Instructions
 pub mod Names

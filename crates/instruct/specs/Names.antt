@@ -5,6 +5,7 @@ use Rattle.instruct.specs.declared.Profile.{Profile}
 use Rattle.instruct.specs.declared.Instruction.{Instruction}
 use Rattle.instruct.specs.declared.Instruction.TheVariants.{Memory, Operate1, Operate2, Operate3, Iot, Unsupported}
 use Rattle.instruct.specs.Bits.{has_bit, is_indirect}
+use Rattle.instruct.specs.Operates.{MqOperate, Mql, Mqa, Swp, Cam, ClaMqa, ClaSwp, mq_operate_of}
 use Rattle.instruct.specs.declared.Operation.{Operation}
 use Rattle.instruct.specs.declared.Operation.TheVariants as operation
 use Rattle.instruct.specs.declared.devices.DeviceOperation.{DeviceOperation}
@@ -71,13 +72,18 @@ group2_names word =
     test_names word ++ named_if (has_bit 7 word) (codes "CLA") ++ named_if (has_bit 2 word) (codes "OSR") ++
     named_if (has_bit 1 word) (codes "HLT")
 
-abbrev pub group3_name : ℕ → List ℕ
-group3_name word =
-    if word == 0o7421 then codes "MQL"
-    else (if word == 0o7501 then codes "MQA"
-    else (if word == 0o7521 then codes "SWP"
-    else (if word == 0o7621 then codes "CAM"
-    else (if word == 0o7701 then codes "CLA MQA" else codes "CLA SWP"))))
+abbrev pub group3_name : MqOperate → List ℕ
+group3_name Mql = codes "MQL"
+group3_name Mqa = codes "MQA"
+group3_name Swp = codes "SWP"
+group3_name Cam = codes "CAM"
+group3_name ClaMqa = codes "CLA MQA"
+group3_name ClaSwp = codes "CLA SWP"
+
+-- A word without a name is shown by a question mark.
+abbrev pub group3_name_if : Option MqOperate → List ℕ
+group3_name_if (Some operate) = group3_name operate
+group3_name_if None = codes "?"
 
 abbrev pub device_name : DeviceOperation → List ℕ
 device_name DisableInterrupts = codes "IOF"
@@ -100,7 +106,6 @@ device_name ClearPrinterFlagAndPrint = codes "TLS"
 device_name ClearKeyboardFlag = codes "KCF"
 device_name SetPrinterFlag = codes "TFL"
 
--- A word without a name is shown by a question mark.
 abbrev pub device_name_if : Option DeviceOperation → List ℕ
 device_name_if (Some operation) = device_name operation
 device_name_if None = codes "?"
@@ -109,7 +114,7 @@ abbrev pub name_by_kind : Instruction → Profile → ℕ → List ℕ
 name_by_kind Memory profile word = memory_name word
 name_by_kind Operate1 profile word = spaced (group1_names word)
 name_by_kind Operate2 profile word = spaced (group2_names word)
-name_by_kind Operate3 profile word = group3_name word
+name_by_kind Operate3 profile word = group3_name_if (mq_operate_of word)
 name_by_kind Iot profile word = device_name_if (device_operation profile word)
 name_by_kind Unsupported profile word = codes "?"
 
@@ -121,3 +126,7 @@ name_of profile word = name_by_kind (instruction_of profile word) profile word
 pub record IsSpaced (names : List (List ℕ)) (text : List ℕ) : Type 0 where
   pub joined : text ≡ join_with_byte 32 names
   pub empty : (length text == 0) ≡ (length names == 0)
+
+-- Whatever names a text is, these stand behind them in the text after it.
+abbrev pub Adds : List (List ℕ) → List ℕ → List ℕ → Type 0
+Adds more before after = (names : List (List ℕ)) → IsSpaced names before → IsSpaced (names ++ more) after

@@ -26,7 +26,14 @@ impl Flags for Group1 {
 
     ghost exact = { ⊤ };
 
-    ghost table = { (codes "CLA", 128) ∷ (codes "CLL", 64) ∷ (codes "CMA", 32) ∷ (codes "CML", 16) ∷ (codes "RAR", 8) ∷ (codes "RAL", 4) ∷ (codes "TWICE", 2) ∷ (codes "IAC", 1) ∷ [] };
+    ghost table = { (codes "CLA", 128) ∷
+        (codes "CLL", 64) ∷
+        (codes "CMA", 32) ∷
+        (codes "CML", 16) ∷
+        (codes "RAR", 8) ∷
+        (codes "RAL", 4) ∷
+        (codes "TWICE", 2) ∷
+        (codes "IAC", 1) ∷ [] };
 
     ghost set_of = { λ p. p.0 };
 
@@ -66,7 +73,15 @@ impl Flags for Group2 {
 
     ghost exact = { ⊤ };
 
-    ghost table = { (codes "NOT_GROUP1", 256) ∷ (codes "CLA", 128) ∷ (codes "SMA", 64) ∷ (codes "SZA", 32) ∷ (codes "SNL", 16) ∷ (codes "REVERSE", 8) ∷ (codes "OSR", 4) ∷ (codes "HLT", 2) ∷ (codes "GROUP3", 1) ∷ [] };
+    ghost table = { (codes "NOT_GROUP1", 256) ∷
+        (codes "CLA", 128) ∷
+        (codes "SMA", 64) ∷
+        (codes "SZA", 32) ∷
+        (codes "SNL", 16) ∷
+        (codes "REVERSE", 8) ∷
+        (codes "OSR", 4) ∷
+        (codes "HLT", 2) ∷
+        (codes "GROUP3", 1) ∷ [] };
 
     ghost set_of = { λ p. p.0 };
 
@@ -99,7 +114,8 @@ impl Flags for Reference {
 
     ghost exact = { ⊤ };
 
-    ghost table = { (codes "INDIRECT", 256) ∷ (codes "CURRENT_PAGE", 128) ∷ [] };
+    ghost table = { (codes "INDIRECT", 256) ∷
+        (codes "CURRENT_PAGE", 128) ∷ [] };
 
     ghost set_of = { λ p. p.0 };
 

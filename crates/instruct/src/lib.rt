@@ -14,9 +14,10 @@ ghost use Rattle.std.specs.Prelude.{ℕ, ◌≡◌, ◌/◌};
 ghost use Rattle.instruct.specs.declared.Profile.{Profile};
 ghost use Rattle.instruct.specs.declared.Instruction.TheVariants.{Memory};
 ghost use Rattle.instruct.specs.Bits.{named_cell, is_indirect};
-ghost use Rattle.instruct.specs.Instructions.{instruction_of, kind_of, meaning_of, operation_of, reference, device_action, device_meaning, operate_meaning, group3_meaning, is_group1};
+ghost use Rattle.instruct.specs.Instructions.{instruction_of, kind_of, meaning_of, operation_of, reference_at, device_action, device_meaning, operate_meaning, group3_meaning, is_group1};
 
 use crate::bits::{Group1, Group2, Reference};
+use crate::operate::MqOperation;
 use bitflags::Flags;
 pub use devices::DeviceOperation;
 pub use naming::name;
@@ -67,14 +68,16 @@ pub enum Operation {
 }
 
 impl Operation {
-    /// The operation of a memory reference. Words from 6000 on, which refer to no memory, count as JMP.
+    /// The operation of a memory reference. Words from 6000 on, which refer to no memory, count as
+    /// JMP.
     #[inline(always)]
     #[tactic(auto, using(crate::proofs::KindLemmas::reference_meaning))]
     pub fn of(word: Word) -> Operation
         ensures code { result ≡ operation_of word }
         // With the indirect bit and the named cell it is the meaning of the word.
-        ensures meaning { (profile : Profile) → (at : ℕ) → kind_of (meaning_of profile at word) ≡ Memory
-            → meaning_of profile at word ≡ reference result (is_indirect word) (named_cell word at) }
+        ensures meaning { (profile : Profile) → (at : ℕ) →
+            kind_of (meaning_of profile at word) ≡ Memory →
+            meaning_of profile at word ≡ reference_at result word at }
     {
         match operation_code(word) {
             0 => Operation::And,
@@ -97,7 +100,7 @@ pub fn decode(word: Word, profile: Profile) -> Instruction
     match operation_code(word) {
         0..=5 => Instruction::Memory,
         6 => decode_device(word, profile),
-        _ => decode_operate(word.value(), profile),
+        _ => decode_operate(word, profile),
     }
 }
 
@@ -119,12 +122,12 @@ fn decode_device(word: Word, profile: Profile) -> Instruction
 }
 
 #[tactic(auto, using(crate::proofs::Tests::bit_tests))]
-fn decode_operate(number: u16, profile: Profile) -> Instruction
-    ensures { result ≡ kind_of (operate_meaning profile number) }
+fn decode_operate(word: Word, profile: Profile) -> Instruction
+    ensures { result ≡ kind_of (operate_meaning profile word) }
 {
-    let bits = Group2(number);
+    let bits = Group2(word.value());
     if !bits.contains(Group2::NOT_GROUP1) {
-        if is_group_1(Group1(number), profile) {
+        if is_group_1(Group1(word.value()), profile) {
             Instruction::Operate1
         } else {
             Instruction::Unsupported
@@ -132,21 +135,19 @@ fn decode_operate(number: u16, profile: Profile) -> Instruction
     } else if !bits.contains(Group2::GROUP3) {
         Instruction::Operate2
     } else {
-        decode_group3(number, profile)
+        decode_group3(word, profile)
     }
 }
 
-fn decode_group3(number: u16, profile: Profile) -> Instruction
-    ensures { result ≡ kind_of (group3_meaning profile number) }
+fn decode_group3(word: Word, profile: Profile) -> Instruction
+    ensures { result ≡ kind_of (group3_meaning profile word) }
 {
     match profile {
         Profile::Pdp8I => Instruction::Unsupported,
-        Profile::Pdp8E => {
-            match number {
-                0o7421 | 0o7501 | 0o7521 | 0o7621 | 0o7701 | 0o7721 => Instruction::Operate3,
-                _ => Instruction::Unsupported,
-            }
-        }
+        Profile::Pdp8E => match MqOperation::of(word) {
+            Some(_) => Instruction::Operate3,
+            None => Instruction::Unsupported,
+        },
     }
 }
 

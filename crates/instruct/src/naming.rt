@@ -6,10 +6,12 @@ ghost use Rattle.instruct.specs.Bits.{has_bit};
 ghost use Rattle.instruct.specs.declared.Profile.TheVariants.{Pdp8E};
 ghost use Rattle.instruct.specs.declared.Instruction.TheVariants.{Operate3, Iot};
 ghost use Rattle.instruct.specs.Devices.{device_operation};
+ghost use Rattle.instruct.specs.Operates.{mq_operate_of};
 ghost use Rattle.instruct.specs.Instructions.{instruction_of};
-ghost use Rattle.instruct.specs.Names.{name_of, mnemonic, memory_name, named_if, spaced, rotate_names, group1_names, test_names, group2_names, group3_name, device_name_if, IsSpaced};
+ghost use Rattle.instruct.specs.Names.{name_of, mnemonic, memory_name, named_if, spaced, rotate_names, group1_names, test_names, group2_names, group3_name_if, device_name_if, IsSpaced, Adds};
 
 use crate::bits::{Group1, Group2, Reference};
+use crate::operate::MqOperation;
 use crate::{DeviceOperation, Instruction, Operation, Profile, decode, refers_indirectly};
 use arrayvec::ArrayString;
 use bitflags::Flags;
@@ -29,7 +31,7 @@ pub fn name(word: Word, profile: Profile) -> ArrayString<32>
         Instruction::Memory => name_memory(word),
         Instruction::Operate1 => name_group1(Group1(word.value())),
         Instruction::Operate2 => name_group2(Group2(word.value())),
-        Instruction::Operate3 => text_of(name_group3(word.value())),
+        Instruction::Operate3 => text_of(name_group3(word)),
         Instruction::Iot => text_of(name_device(word, profile)),
         Instruction::Unsupported => text_of("?"),
     }
@@ -92,7 +94,7 @@ fn name_page(word: Word) -> &'static str
 fn push_name(text: &mut ArrayString<32>, name: &str)
     requires room { length text.old.bytes ≤ 28 }
     requires three { length name.now ≡ 3 }
-    ensures names { (names : List (List ℕ)) → IsSpaced names text.old.bytes → IsSpaced (names ++ name.now ∷ []) text.new.bytes }
+    ensures names { Adds (name.now ∷ []) text.old.bytes text.new.bytes }
     ensures length { length text.new.bytes ≤ length text.old.bytes + 4 }
 {
     if text.is_empty() {
@@ -107,7 +109,7 @@ fn push_name(text: &mut ArrayString<32>, name: &str)
 fn push_if(text: &mut ArrayString<32>, applies: bool, name: &str)
     requires room { length text.old.bytes ≤ 28 }
     requires three { length name.now ≡ 3 }
-    ensures names { (names : List (List ℕ)) → IsSpaced names text.old.bytes → IsSpaced (names ++ named_if applies name.now) text.new.bytes }
+    ensures names { Adds (named_if applies name.now) text.old.bytes text.new.bytes }
     ensures length { length text.new.bytes ≤ length text.old.bytes + 4 }
 {
     if applies {
@@ -144,7 +146,7 @@ fn name_rotate(bits: Group1) -> Option<&'static str>
 
 fn push_rotate(text: &mut ArrayString<32>, bits: Group1)
     requires room { length text.old.bytes ≤ 28 }
-    ensures names { (names : List (List ℕ)) → IsSpaced names text.old.bytes → IsSpaced (names ++ rotate_names bits.0) text.new.bytes }
+    ensures names { Adds (rotate_names bits.0) text.old.bytes text.new.bytes }
     ensures length { length text.new.bytes ≤ length text.old.bytes + 4 }
 {
     if let Some(rotate) = name_rotate(bits) {
@@ -195,17 +197,13 @@ fn name_group2(bits: Group2) -> ArrayString<32>
     text
 }
 
-fn name_group3(number: u16) -> &'static str
-    ensures name { result.now ≡ group3_name number }
+fn name_group3(word: Word) -> &'static str
+    ensures name { result.now ≡ group3_name_if (mq_operate_of word) }
     ensures short { length result.now ≤ 7 }
 {
-    match number {
-        0o7421 => "MQL",
-        0o7501 => "MQA",
-        0o7521 => "SWP",
-        0o7621 => "CAM",
-        0o7701 => "CLA MQA",
-        _ => "CLA SWP",
+    match MqOperation::of(word) {
+        Some(operation) => operation.mnemonic(),
+        None => "?",
     }
 }
 

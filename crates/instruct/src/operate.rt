@@ -1,7 +1,10 @@
 //! What the operate words make of the accumulator, the link and MQ.
 
-ghost use Rattle.std.specs.Prelude.{◌≡◌};
-ghost use Rattle.instruct.specs.Operates.{operate1_of, any_test_holds, skips_of, operate2_of, operate3_of, cleared, complemented, counted, rotated, is_halt};
+ghost use Rattle.std.specs.Prelude.{◌≡◌, ◌≤◌, length};
+ghost use Rattle.std.specs.Option.{option_map};
+ghost use Rattle.instruct.specs.Group3.{mq_operate_as};
+ghost use Rattle.instruct.specs.Names.{group3_name};
+ghost use Rattle.instruct.specs.Operates.{operate1_of, any_test_holds, skips_of, operate2_of, mq_operate_of, mq_operate, operate3_of, cleared, complemented, counted, rotated, is_halt};
 
 use crate::bits::{Group1, Group2};
 use bitflags::Flags;
@@ -141,22 +144,77 @@ pub fn operate2(word: Word, ac: Word, switches: Word) -> Word
     }
 }
 
+/// The operations of group 3, which only the 8/E has here.
+#[derive(Clone, Copy, PartialEq, Eq, Debug)]
+pub(crate) enum MqOperation {
+    /// MQL 7421: MQ takes the accumulator, which is cleared.
+    Mql,
+    /// MQA 7501: MQ is ored into the accumulator.
+    Mqa,
+    /// SWP 7521: the accumulator and MQ are exchanged.
+    Swp,
+    /// CAM 7621: both are cleared.
+    Cam,
+    /// CLA MQA 7701: the accumulator takes MQ.
+    ClaMqa,
+    /// CLA SWP 7721: the accumulator takes MQ, which is cleared.
+    ClaSwp,
+}
+
+impl MqOperation {
+    /// The operation of a word of group 3, or none where it has none.
+    pub(crate) fn of(word: Word) -> Option<MqOperation>
+        ensures { option_map mq_operate_as result ≡ mq_operate_of word }
+    {
+        match word.value() {
+            0o7421 => Some(MqOperation::Mql),
+            0o7501 => Some(MqOperation::Mqa),
+            0o7521 => Some(MqOperation::Swp),
+            0o7621 => Some(MqOperation::Cam),
+            0o7701 => Some(MqOperation::ClaMqa),
+            0o7721 => Some(MqOperation::ClaSwp),
+            _ => None,
+        }
+    }
+
+    /// The handbook's name of the word, of at most 7 characters.
+    pub(crate) fn mnemonic(self) -> &'static str
+        ensures name { result.now ≡ group3_name (mq_operate_as self) }
+        ensures short { length result.now ≤ 7 }
+    {
+        match self {
+            MqOperation::Mql => "MQL",
+            MqOperation::Mqa => "MQA",
+            MqOperation::Swp => "SWP",
+            MqOperation::Cam => "CAM",
+            MqOperation::ClaMqa => "CLA MQA",
+            MqOperation::ClaSwp => "CLA SWP",
+        }
+    }
+
+    /// The accumulator and MQ, in this order, after the operation.
+    fn results(self, ac: Word, mq: Word) -> (Word, Word)
+        ensures { result ≡ mq_operate (mq_operate_as self) (ac, mq) }
+    {
+        match self {
+            MqOperation::Mql => (Word::ZERO, ac),
+            MqOperation::Mqa => (ac.or(mq), mq),
+            MqOperation::Swp => (mq, ac),
+            MqOperation::Cam => (Word::ZERO, Word::ZERO),
+            MqOperation::ClaMqa => (mq, mq),
+            MqOperation::ClaSwp => (mq, Word::ZERO),
+        }
+    }
+}
+
 /// The accumulator and MQ, in this order, after one of the words of group 3 that the 8/E has here.
-///
-/// MQL 7421 moves the accumulator to MQ and clears it, MQA 7501 ors MQ in, SWP 7521 exchanges the
-/// two, CAM 7621 clears both, CLA MQA 7701 takes MQ, CLA SWP 7721 takes MQ and clears it. Any other
-/// word leaves both.
+/// Any other word leaves both.
 pub fn operate3(word: Word, ac: Word, mq: Word) -> (Word, Word)
     ensures { result ≡ operate3_of word (ac, mq) }
 {
-    match word.value() {
-        0o7421 => (Word::ZERO, ac),
-        0o7501 => (ac.or(mq), mq),
-        0o7521 => (mq, ac),
-        0o7621 => (Word::ZERO, Word::ZERO),
-        0o7701 => (mq, mq),
-        0o7721 => (mq, Word::ZERO),
-        _ => (ac, mq),
+    match MqOperation::of(word) {
+        Some(operation) => operation.results(ac, mq),
+        None => (ac, mq),
     }
 }
 

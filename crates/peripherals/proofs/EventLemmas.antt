@@ -1,15 +1,14 @@
 -- The fault of a text of events, as one function of its lines, and that no other fits.
 use Rattle.std.proofs.Common.{ℕ, ◌≡◌, ◌≢◌, ◌<◌, ◌≤◌, ◌+◌, List, [], ◌∷◌, ◌++◌, length, arith, refl, sym, ◌∙◌, ap, Option, Some, None, cond, ltb, Result, Ok, Err, IfOk, IfErr, ◌⊎◌, inl, inr, append_assoc, append-nil, add-zero, length-append}
-use Rattle.std.specs.Result.{IsErrAnd}
-use Rattle.std.proofs.lemmas.List.{length-replicate}
 use Rattle.std.proofs.lemmas.Bool.{le-ltb, lt-ltb}
 use Rattle.peripherals.specs.declared.Event.{Event}
 use Rattle.peripherals.specs.declared.event_text.EventsFault.{EventsFault}
 use Rattle.peripherals.specs.declared.event_text.EventsFault.TheVariants.{BadLine, TooMany, NoMemory}
-use Rattle.peripherals.specs.declared.event_text.Repeated.{Repeated}
-use Rattle.peripherals.specs.Repeated.{repeated, RefusesMore}
+use Rattle.peripherals.specs.Repeated.{Adds}
 use Rattle.streams.specs.Text.{text_lines}
-use Rattle.peripherals.specs.EventText.{LinesSpell, Spells, GoodBefore, PassesLimit, StandsBad, Fails, line_events, most_events}
+use Rattle.streams.specs.Taking.{TakesAll, RefusesFirst}
+use Rattle.streams.proofs.TakingLemmas.{takes_keep}
+use Rattle.peripherals.specs.EventText.{LinesSpell, Spells, GoodBefore, LineFails, FailsAtLine, Fails, line_events, most_bytes, most_events}
 
 -- one good line more
 pub LinesSpell-push : (ls : List (List ℕ)) (es : List Event) (l : List ℕ) (more : List Event) → LinesSpell ls es → line_events l ≡ Some more → LinesSpell (ls ++ l ∷ []) (es ++ more)
@@ -47,18 +46,18 @@ verdict-spells text es s =
     rw whole at (verdict-good most_events (text_lines text) [] 0 0 es s.spells (omega (arith, s.few)))
 
 -- where a line stands after good ones, the fault is that of its line or after it
-verdict-at : (text : List ℕ) (before : List (List ℕ)) (line : List ℕ) (es : List Event) (g : GoodBefore text before line es) → verdict most_events 0 0 (text_lines text) ≡ verdict most_events (0 + length before) (0 + length es) (line ∷ g.after)
-verdict-at text before line es g = rw g.stands (verdict-good most_events before (line ∷ g.after) 0 0 es g.spells (omega (arith, g.few)))
+verdict-at : (text : List ℕ) (before : List (List ℕ)) (line : List ℕ) (number : ℕ) (es : List Event) (g : GoodBefore text before line number es) → verdict most_events 0 0 (text_lines text) ≡ verdict most_events (0 + length before) (0 + length es) (line ∷ g.stands.after)
+verdict-at text before line number es g = rw g.stands.stands (verdict-good most_events before (line ∷ g.stands.after) 0 0 es g.spells (omega (arith, g.few)))
 
-verdict-bad : (text : List ℕ) (number : ℕ) → StandsBad text number → verdict most_events 0 0 (text_lines text) ≡ Some (BadLine number)
-verdict-bad text number s =
-    let place : 0 + length s.before + 1 ≡ number = omega (arith, s.counted) in
-    verdict-at text s.before s.line s.events s.good ∙ (rw (s.bad) (ap (λ n. Some (BadLine n)) place))
+verdict-bad : (text : List ℕ) (number : ℕ) → FailsAtLine text (BadLine number) → verdict most_events 0 0 (text_lines text) ≡ Some (BadLine number)
+verdict-bad text number f =
+    let place : 0 + length f.before + 1 ≡ number = omega (arith, f.fails.0, f.good.stands.counted) in
+    verdict-at text f.before f.line f.number f.events f.good ∙ (rw (f.fails.1) (ap (λ n. Some (BadLine n)) place))
 
-verdict-limit : (text : List ℕ) → PassesLimit text → verdict most_events 0 0 (text_lines text) ≡ Some TooMany
-verdict-limit text s =
-    let many : most_events < 0 + length s.events + length s.more = omega (arith, s.many) in
-    verdict-at text s.before s.line s.events s.good ∙ (rw (s.brings, lt-ltb most_events (0 + length s.events + length s.more) many) refl)
+verdict-limit : (text : List ℕ) → FailsAtLine text TooMany → verdict most_events 0 0 (text_lines text) ≡ Some TooMany
+verdict-limit text f =
+    let many : most_events < 0 + length f.events + length f.fails.0 = omega (arith, f.fails.2) in
+    verdict-at text f.before f.line f.number f.events f.good ∙ (rw (f.fails.1, lt-ltb most_events (0 + length f.events + length f.fails.0) many) refl)
 
 -- a text that spells events fails by want of memory alone
 pub only_memory : (text : List ℕ) (es : List Event) (fault : EventsFault) → Spells text es → Fails text fault → fault ≡ NoMemory
@@ -88,15 +87,28 @@ pub exact_from : {V : Type 0} (items : V → List Event) (r : Result V EventsFau
 exact_from items (Ok v) text found refused fault f known = absurd (known (only_memory text (items v) fault found f))
 exact_from items (Err other) text found refused fault f known = elim (same_fault text fault other f refused known) [ inl e ↦ inl (ap Err e) | inr e ↦ inr (ap Err e) ]
 
--- a line that isn't appended is a fault there
-pub refused_there : (text : List ℕ) (before : List (List ℕ)) (line : List ℕ) (es : List Event) (more : Repeated) (fault : EventsFault) → GoodBefore text before line es → line_events line ≡ Some (repeated more) → RefusesMore (length es) more.times fault → Fails text fault
-refused_there text before line es more (BadLine n) good brings r = absurd r
-refused_there text before line es more TooMany good brings r =
-    inr (record { before = before; line = line; events = es; more = repeated more; good = good; brings = brings; many = omega (arith, length-replicate more.times more.event) })
-refused_there text before line es more NoMemory good brings r =
-    record { before = before; line = line; events = es; more = repeated more; good = good; brings = brings; some = omega (arith, r.0, length-replicate more.times more.event); few = omega (arith, r.1, length-replicate more.times more.event) }
+-- lines that are taken spell the events that they add
+abbrev Spelt : List (List ℕ) → List Event → Type 0
+Spelt lines events = LinesSpell lines events × (length events ≤ most_events)
 
--- a fault that `?` passes on is the fault
-pub passed_on : {V : Type 0} (r : Result V EventsFault) (text : List ℕ) (fault : EventsFault) → IsErrAnd r (λ e. e ≡ fault) → Fails text fault → IfErr r (Fails text)
-passed_on (Ok v) text fault h f = tt
-passed_on (Err e) text fault h f = rw h f
+spelt_more : (before : List (List ℕ)) (line : List ℕ) (es fs : List Event) → Spelt before es → Adds es line fs → Spelt (before ++ line ∷ []) fs
+spelt_more before line es fs s a = (rw (a.added) (LinesSpell-push before es line a.more s.0 a.brings), a.few)
+
+pub spelt : {S : Type 0} (list : S → List Event) (s t : S) (lines : List (List ℕ)) → list s ≡ [] → TakesAll (λ x line y. Adds (list x) line (list y)) s lines t → Spelt lines (list t)
+spelt list s t lines none all =
+    takes_keep (λ x line y. Adds (list x) line (list y)) (λ ls x. Spelt ls (list x)) (λ before line x y p a. spelt_more before line (list x) (list y) p a) lines s t (none, omega (arith, ap length none)) all
+
+-- a text is spelt where all lines are taken, and fails where one is refused
+pub spells_text : {S : Type 0} (list : S → List Event) (s t : S) (text : List ℕ) → length text ≤ most_bytes → list s ≡ [] → TakesAll (λ x line y. Adds (list x) line (list y)) s (text_lines text) t → Spells text (list t)
+spells_text list s t text short none all = let spelt' = spelt list s t (text_lines text) none all in record { short = short; spells = spelt'.0; few = spelt'.1 }
+
+at_line : (text : List ℕ) (fault : EventsFault) → FailsAtLine text fault → Fails text fault
+at_line text (BadLine n) f = f
+at_line text TooMany f = inr f
+at_line text NoMemory f = f
+
+pub fails_text : {S : Type 0} (list : S → List Event) (s : S) (text : List ℕ) (fault : EventsFault) → length text ≤ most_bytes → list s ≡ []
+    → RefusesFirst (λ x line y. Adds (list x) line (list y)) (λ x. LineFails (list x)) s (text_lines text) fault → Fails text fault
+fails_text list s text fault short none f =
+    let good = spelt list s f.t f.before none f.taken in
+    at_line text fault (record { before = f.before; line = f.line; number = f.number; events = list f.t; good = record { short = short; stands = f.stands; spells = good.0; few = good.1 }; fails = f.refused })

@@ -6,6 +6,7 @@ use Rattle.peripherals.specs.declared.Event.{Event}
 use Rattle.peripherals.specs.declared.Event.TheVariants.{Step, Key, PrinterDone, ReaderDone, PunchDone, Switches, Continue}
 use Rattle.peripherals.specs.declared.event_text.EventsFault.{EventsFault}
 use Rattle.peripherals.specs.declared.event_text.EventsFault.TheVariants.{BadLine, TooMany, NoMemory}
+use Rattle.streams.specs.Taking.{StandsAt}
 use Rattle.streams.specs.Text.{text_lines, words_of, octal_word, octal_byte, decimal_between}
 
 -- A text has at most so many bytes, and at most so many events.
@@ -56,48 +57,34 @@ pub record Spells (text : List ℕ) (events : List Event) : Type 0 where
   pub spells : LinesSpell (text_lines text) events
   pub few : length events ≤ most_events
 
--- In a text that isn't too long, these lines stand before this line, and they are good: they spell these events, which
--- aren't too many.
-pub record GoodBefore (text : List ℕ) (before : List (List ℕ)) (line : List ℕ) (events : List Event) : Type 0 where
+-- In a text that isn't too long, this line with this number stands after these, which are good: they spell these events,
+-- which aren't too many.
+pub record GoodBefore (text : List ℕ) (before : List (List ℕ)) (line : List ℕ) (number : ℕ) (events : List Event) : Type 0 where
   pub short : length text ≤ most_bytes
-  pub after : List (List ℕ)
-  pub stands : text_lines text ≡ before ++ line ∷ after
+  pub stands : StandsAt (text_lines text) before line number
   pub spells : LinesSpell before events
   pub few : length events ≤ most_events
 
--- The first line that isn't good brings more events than are taken.
-pub record PassesLimit (text : List ℕ) : Type 0 where
+-- After these events the line with this number fails so: it is bad; it brings more events than are taken; or, where memory
+-- is refused, it brings some.
+abbrev pub LineFails : List Event → ℕ → List ℕ → EventsFault → Type 0
+LineFails events number line (BadLine n) = (n ≡ number) × (line_events line ≡ None)
+LineFails events number line TooMany =
+    (more : List Event) × (line_events line ≡ Some more) × (most_events < length events + length more)
+LineFails events number line NoMemory =
+    (more : List Event) × (line_events line ≡ Some more) × (0 < length more) × (length events + length more ≤ most_events)
+
+-- The first line that isn't good fails so.
+pub record FailsAtLine (text : List ℕ) (fault : EventsFault) : Type 0 where
   pub before : List (List ℕ)
   pub line : List ℕ
+  pub number : ℕ
   pub events : List Event
-  pub more : List Event
-  pub good : GoodBefore text before line events
-  pub brings : line_events line ≡ Some more
-  pub many : most_events < length events + length more
+  pub good : GoodBefore text before line number events
+  pub fails : LineFails events number line fault
 
--- The first line that isn't good is bad, and has this number.
-pub record StandsBad (text : List ℕ) (number : ℕ) : Type 0 where
-  pub before : List (List ℕ)
-  pub line : List ℕ
-  pub events : List Event
-  pub good : GoodBefore text before line events
-  pub bad : line_events line ≡ None
-  pub counted : number ≡ length before + 1
-
--- A line asks for memory: all lines up to it are good, and it brings events.
-pub record AsksForMemory (text : List ℕ) : Type 0 where
-  pub before : List (List ℕ)
-  pub line : List ℕ
-  pub events : List Event
-  pub more : List Event
-  pub good : GoodBefore text before line events
-  pub brings : line_events line ≡ Some more
-  pub some : 0 < length more
-  pub few : length events + length more ≤ most_events
-
--- This text fails so: at its first line that isn't good; without looking at a line where it is too long; or, where
--- memory is refused, at a line that asks for some.
+-- This text fails so: without looking at a line where it is too long, and else at its first line that isn't good.
 abbrev pub Fails : List ℕ → EventsFault → Type 0
-Fails text (BadLine number) = StandsBad text number
-Fails text TooMany = (most_bytes < length text) ⊎ PassesLimit text
-Fails text NoMemory = AsksForMemory text
+Fails text (BadLine number) = FailsAtLine text (BadLine number)
+Fails text TooMany = (most_bytes < length text) ⊎ FailsAtLine text TooMany
+Fails text NoMemory = FailsAtLine text NoMemory

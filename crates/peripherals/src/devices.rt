@@ -149,7 +149,8 @@ impl Outlet {
     /// The device gets done with its byte, if it was busy.
     pub(crate) fn finish(&mut self) -> Seen
         ensures seen { result ≡ (if self.old.busy then Changed else NotEnabled) }
-        ensures after { self.new ≡ (if self.old.busy then record { flag = true; busy = false } else self.old) }
+        ensures after { self.new ≡
+            (if self.old.busy then record { flag = true; busy = false } else self.old) }
     {
         if !self.busy {
             return Seen::NotEnabled;
@@ -177,7 +178,8 @@ impl Reader {
     /// The reader gets a frame, if it waits for one.
     pub(crate) fn receive(&mut self, byte: u8) -> Seen
         ensures seen { result ≡ (if self.old.fetching then Changed else NotEnabled) }
-        ensures after { self.new ≡ (if self.old.fetching then record { flag = true; buffer = byte; fetching = false } else self.old) }
+        ensures after { self.new ≡ (if self.old.fetching
+            then record { flag = true; buffer = byte; fetching = false } else self.old) }
     {
         if !self.fetching {
             return Seen::NotEnabled;

@@ -12,7 +12,8 @@ ghost use Rattle.peripherals.specs.Repeated.{repeated, RefusesMore};
 
 use crate::Event;
 use std::alloc::Allocator;
-use streams::text::{self, Lines, Words};
+use streams::taking::{LineTaker, take_lines};
+use streams::text::{self, Words};
 use thiserror::Error;
 
 /// The most bytes of a text of events.
@@ -53,7 +54,8 @@ struct Repeated {
 /// 1,000,000 events in all, or `NoMemory` where a growth was refused, in this order.
 pub fn events<A: Allocator>(alloc: A, text: &[u8]) -> Result<Vec<Event, A>, EventsFault>
     ensures found { IfOk result (λ events. Spells text.now events.items) }
-    ensures only { (events : List Event) → Spells text.now events → IfErr result (λ fault. fault ≡ NoMemory) }
+    ensures only { (events : List Event) → Spells text.now events
+        → IfErr result (λ fault. fault ≡ NoMemory) }
     ensures refused { IfErr result (Fails text.now) }
     ensures exact { (fault : EventsFault) → Fails text.now fault → fault ≢ NoMemory
         → IsErrOf result fault ⊎ IsErrOf result NoMemory }
@@ -70,31 +72,55 @@ fn read_lines<A: Allocator>(alloc: A, text: &[u8]) -> Result<Vec<Event, A>, Even
     ensures found { IfOk result (λ events. Spells text.now events.items) }
     ensures refused { IfErr result (Fails text.now) }
 {
-    let mut events = Vec::new(alloc);
-    for (index, line) in Lines::of(text).enumerate() {
-        let Some(more) = read_line(line) else {
-            return Err(EventsFault::BadLine(index + 1));
-        };
-        append(&mut events, more)?;
+    let mut list = EventList {
+        events: Vec::new(alloc),
+    };
+    match take_lines(&mut list, text) {
+        Ok(()) => Ok(list.events),
+        Err(fault) => Err(fault),
     }
-    Ok(events)
 }
 
-/// Appends an event some times over, where there aren't too many then.
-fn append<A: Allocator>(events: &mut Vec<Event, A>, more: Repeated) -> Result<(), EventsFault>
-    requires { vec_len events.old ≤ most_events }
-    ensures appended { OnOk result (events.new.items ≡ events.old.items ++ repeated more) }
-    ensures few { OnOk result (vec_len events.old + more.times ≤ most_events) }
-    ensures refused { IfErr result (RefusesMore (vec_len events.old) more.times) }
-{
-    let room = MOST_EVENTS as usize - events.len();
-    let times = more.times as usize;
-    if times > room {
-        return Err(EventsFault::TooMany);
+/// The events of the lines so far.
+#[derive(Drop)]
+struct EventList<A: Allocator> {
+    events: Vec<Event, A>,
+}
+
+impl<A: Allocator> EventList<A> {
+    /// Appends an event some times over, where there aren't too many then.
+    fn append(&mut self, more: Repeated) -> Result<(), EventsFault>
+        ensures appended { OnOk result
+            (self.new.events.items ≡ self.old.events.items ++ repeated more) }
+        ensures few { OnOk result (vec_len self.old.events + more.times ≤ most_events) }
+        ensures refused { IfErr result (RefusesMore (vec_len self.old.events) more.times) }
+    {
+        let count = self.events.len().saturating_add(more.times as usize);
+        if count > MOST_EVENTS as usize {
+            return Err(EventsFault::TooMany);
+        }
+        self.events
+            .resize(count, more.event)
+            .map_err(|_| EventsFault::NoMemory)
     }
-    events
-        .resize(events.len() + times, more.event)
-        .map_err(|_| EventsFault::NoMemory)
+}
+
+impl<A: Allocator> LineTaker for EventList<A> {
+    ghost use Rattle.peripherals.specs.EventText.{LineFails};
+    ghost use Rattle.peripherals.specs.Repeated.{Adds};
+
+    type Fault = EventsFault;
+
+    ghost takes = { λ old line new. Adds old.events.items line new.events.items };
+
+    ghost refuses = { λ old. LineFails old.events.items };
+
+    fn take(&mut self, number: usize, line: &[u8]) -> Result<(), EventsFault> {
+        match read_line(line) {
+            Some(more) => self.append(more),
+            None => Err(EventsFault::BadLine(number)),
+        }
+    }
 }
 
 /// The events of a line, if it isn't bad.
@@ -160,7 +186,8 @@ fn events_numbered(name: &[u8], number: &[u8]) -> Option<Repeated>
 
 /// So many steps, from 1 to 1000000.
 fn steps(number: &[u8]) -> Option<Repeated>
-    ensures { option_map repeated result ≡ option_map (λ n. replicate n Step) (decimal_between 1 most_events number.now) }
+    ensures { option_map repeated result
+        ≡ option_map (λ n. replicate n Step) (decimal_between 1 most_events number.now) }
 {
     let times = text::decimal_between(1, MOST_EVENTS, number)?;
     Some(Repeated {

@@ -51,8 +51,10 @@ fn put_out<A: Allocator>(
     word: Word,
     ac: Word,
 ) -> Result<(), NoMemory>
-    ensures printed { OnOk result (printed.new.items ≡ put_out (prints word) ac printed.old.items) }
-    ensures punched { OnOk result (punched.new.items ≡ put_out (punches word) ac punched.old.items) }
+    ensures printed { OnOk result
+        (printed.new.items ≡ put_out (prints word) ac printed.old.items) }
+    ensures punched { OnOk result
+        (punched.new.items ≡ put_out (punches word) ac punched.old.items) }
     ensures printed_kept { OnErr result (printed.new.items ≡ printed.old.items) }
     ensures punched_kept { OnErr result (punched.new.items ≡ punched.old.items) }
     ensures only { OnErr result (IsTrue (prints word || punches word)) }
@@ -127,8 +129,10 @@ impl<A: Allocator> World<A> {
     /// Tries one instruction of a machine that runs.
     fn step(&mut self) -> Result<Seen, NoMemory>
         requires { (view self.old).halted_at ≡ None }
-        ensures happens { OnOk result (Happens (profile_of self.old) (view self.old) Event.Step (view self.new)) }
-        ensures seen { IfOk result (λ seen. seen ≡ seen_of (profile_of self.old) (view self.old) Event.Step) }
+        ensures happens { OnOk result
+            (Happens (profile_of self.old) (view self.old) Event.Step (view self.new)) }
+        ensures seen { IfOk result (λ seen.
+            seen ≡ seen_of (profile_of self.old) (view self.old) Event.Step) }
         ensures profile { profile_of self.new ≡ profile_of self.old }
         ensures unchanged { OnErr result (view self.new ≡ view self.old) }
         ensures only_output { OnErr result (IsTrue (puts_out (view self.old) Event.Step)) }
@@ -155,8 +159,10 @@ impl<A: Allocator> World<A> {
     /// `NoMemory` where the room for a byte that is printed or punched was refused; the world is
     /// then as it was, and the same step may be tried again.
     pub fn apply(&mut self, event: Event) -> Result<Seen, NoMemory>
-        ensures happens { OnOk result (Happens (profile_of self.old) (view self.old) event (view self.new)) }
-        ensures seen { IfOk result (λ seen. seen ≡ seen_of (profile_of self.old) (view self.old) event) }
+        ensures happens { OnOk result
+            (Happens (profile_of self.old) (view self.old) event (view self.new)) }
+        ensures seen { IfOk result (λ seen.
+            seen ≡ seen_of (profile_of self.old) (view self.old) event) }
         ensures profile { profile_of self.new ≡ profile_of self.old }
         ensures unchanged { OnErr result (view self.new ≡ view self.old) }
         // Only a step that prints or punches can be refused.

@@ -1,7 +1,7 @@
 -- What an instruction is about to do, from its word.
 use Rattle.std.proofs.Common.{ℕ, ◌≡◌, Bool, refl, if◌then◌else◌}
 use Rattle.instruct.specs.declared.Profile.{Profile}
-use Rattle.instruct.specs.declared.Instruction.TheVariants.{Memory, Operate1, Operate2, Operate3, Iot, Unsupported as Undecoded}
+use Rattle.instruct.specs.declared.Instruction.TheVariants.{Operate1, Operate2, Operate3, Iot, Unsupported as Undecoded}
 use Rattle.instruct.specs.declared.Operation.{Operation}
 use Rattle.instruct.specs.declared.Operation.TheVariants as operation
 use Rattle.instruct.specs.Operates.{is_halt}

@@ -1,7 +1,10 @@
--- What a watcher keeps beside its world.
+-- What a watcher keeps: its machine and its call list.
 use Rattle.std.specs.Prelude.{List, [], ◌∷◌}
+use Rattle.peripherals.specs.Devices.{WorldState}
+use Rattle.peripherals.specs.World.{view}
 use Rattle.policy.specs.Calls.{Call, Calls}
 use Rattle.policy.specs.declared.legality.Call.{Call as KeptCall}
+use Rattle.policy.specs.declared.watcher.Watcher.{Watcher}
 
 -- An open call.
 abbrev pub call_of : KeptCall → Call
@@ -15,3 +18,10 @@ put_on (c ∷ cs) ks = put_on cs (call_of c ∷ ks)
 -- The call list, the last call first; the code keeps the last call last.
 abbrev pub open_calls : List KeptCall → Calls
 open_calls cs = put_on cs []
+
+-- The machine that is watched, and its call list.
+abbrev pub machine_of : {A : Type 0} → Watcher A → WorldState
+machine_of w = view w.world
+
+abbrev pub calls_of : {A : Type 0} → Watcher A → Calls
+calls_of w = open_calls w.calls.items

@@ -1,5 +1,5 @@
 -- The seven rules that a declaration lays down for each step, and the steps that keep all of them.
-use Rattle.std.specs.Prelude.{◌≡◌, ℕ, ◌<◌, ◌==◌, true, false, ◌&&◌, ◌||◌, ◌⊎◌, Option, Some, None, [], ◌∷◌}
+use Rattle.std.specs.Prelude.{◌≡◌, ℕ, ◌<◌, ◌==◌, true, false, ◌&&◌, ◌||◌, ◌⊎◌, Some, None, [], ◌∷◌}
 use Rattle.instruct.specs.Operates.{is_halt}
 use Rattle.instruct.specs.Instructions.{Meaning, And, Tad, Isz, Dca, Jms, Jmp, Group2, Undefined}
 use Rattle.wordset.specs.Words.{Words}

@@ -56,14 +56,16 @@ fn may_write<A: Allocator>(
     calls: &[Call],
     cell: Word,
 ) -> bool
-    ensures { result ≡ may_write (meaning declaration.now) operation (current (open_calls calls.now)) cell }
+    ensures { result
+        ≡ may_write (meaning declaration.now) operation (current (open_calls calls.now)) cell }
 {
     declaration.is_variable(cell) || (matches!(operation, Operation::Isz) && is_own(calls, cell))
 }
 
 /// Whether the pointer that is stepped and the cell that is stored in may be written.
 fn writes<A: Allocator>(declaration: &Declaration<A>, reference: &Reference, calls: &[Call]) -> bool
-    ensures { result ≡ writes (meaning declaration.now) reference.now (current (open_calls calls.now)) }
+    ensures { result
+        ≡ writes (meaning declaration.now) reference.now (current (open_calls calls.now)) }
 {
     let steps = reference.indirect && is_auto_index(reference.named);
     if steps && !may_write(declaration, reference.operation, calls, reference.named) {
@@ -94,8 +96,8 @@ fn distance(to: Word, from: Word) -> Word
     to.add(from.complement()).increment()
 }
 
-/// Whether the last call is one of an entry, in which there is the address of a declared place after
-/// that call.
+/// Whether the last call is one of an entry, in which there is the address of a declared place
+/// after that call.
 fn finds_call<A: Allocator>(
     declaration: &Declaration<A>,
     entry: Word,
@@ -128,7 +130,8 @@ fn returns<A: Allocator>(
     memory: &Memory,
     calls: &[Call],
 ) -> bool
-    ensures { result ≡ returns (meaning declaration.now) reference.now (cell_of memory.now) (open_calls calls.now) }
+    ensures { result ≡ returns (meaning declaration.now) reference.now
+        (cell_of memory.now) (open_calls calls.now) }
 {
     if is_return(declaration, reference) {
         finds_call(
@@ -151,7 +154,8 @@ fn may_load<A: Allocator>(declaration: &Declaration<A>, calls: &[Call], cell: Wo
 
 /// Whether the pointer and the operand may be read.
 fn reads<A: Allocator>(declaration: &Declaration<A>, reference: &Reference, calls: &[Call]) -> bool
-    ensures { result ≡ reads (meaning declaration.now) reference.now (current (open_calls calls.now)) }
+    ensures { result
+        ≡ reads (meaning declaration.now) reference.now (current (open_calls calls.now)) }
 {
     if reference.indirect && !may_load(declaration, calls, reference.named) {
         return false;
@@ -171,7 +175,9 @@ fn broken_by_reference<A: Allocator>(
     memory: &Memory,
     calls: &[Call],
 ) -> Option<Rule>
-    ensures { result ≡ broken_by_reference (meaning declaration.now) reference.now (current (open_calls calls.now)) (cell_of memory.now) (open_calls calls.now) }
+    ensures { let listed = open_calls calls.now in
+        result ≡ broken_by_reference (meaning declaration.now) reference.now (current listed)
+        (cell_of memory.now) listed }
 {
     if !writes(declaration, reference, calls) {
         return Some(Rule::WritesDeclared);
@@ -202,7 +208,9 @@ fn broken_by<A: Allocator>(
     cpu: &Cpu,
     calls: &[Call],
 ) -> Option<Rule>
-    ensures { result ≡ least_broken (meaning declaration.now) action.now cpu.now.pc (current (open_calls calls.now)) (cell_of cpu.now.memory) (open_calls calls.now) }
+    ensures { let listed = open_calls calls.now in
+        result ≡ least_broken (meaning declaration.now) action.now cpu.now.pc (current listed)
+        (cell_of cpu.now.memory) listed }
 {
     if !in_body(declaration, calls, cpu.pc) {
         return Some(Rule::StaysInBody);
@@ -231,8 +239,13 @@ pub fn broken_rule<A: Allocator>(
     cpu: &Cpu,
     calls: &[Call],
 ) -> Option<Rule>
-    ensures legal { (image : Image) → KeepsCode image (meaning declaration.now) (cell_of cpu.now.memory) → result ≡ None → IsLegal image (meaning declaration.now) (state_of cpu.now) (open_calls calls.now) }
-    ensures broken { (image : Image) (rule : Rule) → KeepsCode image (meaning declaration.now) (cell_of cpu.now.memory) → result ≡ Some rule → IsLeastBroken image (meaning declaration.now) (state_of cpu.now) (open_calls calls.now) rule }
+    ensures legal { let d = meaning declaration.now in
+        (image : Image) → KeepsCode image d (cell_of cpu.now.memory) → result ≡ None
+        → IsLegal image d (state_of cpu.now) (open_calls calls.now) }
+    ensures broken { let d = meaning declaration.now in
+        (image : Image) (rule : Rule) → KeepsCode image d (cell_of cpu.now.memory)
+        → result ≡ Some rule
+        → IsLeastBroken image d (state_of cpu.now) (open_calls calls.now) rule }
 {
     cpu.memory.are_words();
     let action = next_action(cpu, declaration.profile());

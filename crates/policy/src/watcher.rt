@@ -13,7 +13,7 @@ ghost use Rattle.policy.specs.Calls.{calls_after};
 ghost use Rattle.policy.specs.Rules.{KeepsCode};
 ghost use Rattle.policy.specs.Runs.{IsSafe};
 ghost use Rattle.declaration.specs.Kept.{meaning};
-ghost use Rattle.policy.specs.OpenCalls.{open_calls};
+ghost use Rattle.policy.specs.OpenCalls.{open_calls, machine_of, calls_of};
 ghost use Rattle.policy.specs.Decided.{is_call, followed, IsCall};
 ghost use Rattle.policy.specs.Watching.{IsClean, BreaksAt, Tells, begun};
 ghost use Rattle.policy.specs.WatchedSteps.{Watches, TakesMemory, GrowsAt, Grows, Passes, waits, LegalStepTakesMemory};
@@ -63,7 +63,8 @@ fn follow_calls<A: Allocator, D: Allocator>(
     action: &Action,
     after: Word,
 ) -> Result<(), NoMemory>
-    ensures calls { OnOk result (open_calls calls.new.items ≡ followed (meaning declaration.now) action.now after (open_calls calls.old.items)) }
+    ensures calls { OnOk result (open_calls calls.new.items
+        ≡ followed (meaning declaration.now) action.now after (open_calls calls.old.items)) }
     ensures only_calls { OnErr result (IsCall (meaning declaration.now) action.now) }
 {
     match action {
@@ -88,10 +89,14 @@ impl<A: Allocator> Watcher<A> {
     /// Carries out the next instruction, and follows it with the call list.
     fn carry_out<D: Allocator>(&mut self, declaration: &Declaration<D>) -> Result<(), NoMemory>
         requires profile { profile_of self.old.world ≡ (meaning declaration.now).profile }
-        ensures happens { OnOk result (Happens (meaning declaration.now).profile (view self.old.world) Event.Step (view self.new.world)) }
-        ensures calls { OnOk result (open_calls self.new.calls.items ≡ calls_after (meaning declaration.now) (view self.old.world).state (open_calls self.old.calls.items)) }
+        ensures happens { OnOk result (Happens (meaning declaration.now).profile
+            (machine_of self.old) Event.Step (machine_of self.new)) }
+        ensures calls { OnOk result (calls_of self.new
+            ≡ calls_after (meaning declaration.now) (machine_of self.old).state (calls_of self.old)) }
         ensures profile { profile_of self.new.world ≡ (meaning declaration.now).profile }
-        ensures only_growth { OnErr result (TakesMemory (meaning declaration.now) (view self.old.world)) }
+        ensures unchanged { OnErr result (machine_of self.new ≡ machine_of self.old) }
+        ensures only_growth { OnErr result
+            (TakesMemory (meaning declaration.now) (machine_of self.old)) }
     {
         let cpu = self.world.cpu();
         let action = next_action(cpu, declaration.profile());
@@ -109,11 +114,14 @@ impl<A: Allocator> Watcher<A> {
 
     /// Tries the next instruction of a machine that runs. It's carried out where it breaks no rule.
     fn step<D: Allocator>(&mut self, declaration: &Declaration<D>) -> Result<Option<Rule>, NoMemory>
-        requires runs { (view self.old.world).halted_at ≡ None }
+        requires runs { (machine_of self.old).halted_at ≡ None }
         requires profile { profile_of self.old.world ≡ (meaning declaration.now).profile }
-        ensures watches { IfOk result (λ told. Watches (meaning declaration.now) (view self.old.world) (open_calls self.old.calls.items) Event.Step (view self.new.world) (open_calls self.new.calls.items) told) }
+        ensures watches { IfOk result (Watches (meaning declaration.now)
+            (machine_of self.old) (calls_of self.old) Event.Step
+            (machine_of self.new) (calls_of self.new)) }
         ensures profile { profile_of self.new.world ≡ (meaning declaration.now).profile }
-        ensures only_growth { OnErr result (GrowsAt (meaning declaration.now) (view self.old.world) (open_calls self.old.calls.items)) }
+        ensures only_growth { OnErr result
+            (GrowsAt (meaning declaration.now) (machine_of self.old) (calls_of self.old)) }
     {
         match broken_rule(declaration, self.world.cpu(), &self.calls) {
             Some(rule) => Ok(Some(rule)),
@@ -132,11 +140,14 @@ impl<A: Allocator> Watcher<A> {
         declaration: &Declaration<D>,
         event: Event,
     ) -> Result<Option<Rule>, NoMemory>
-        requires passes { Passes (meaning declaration.now) (view self.old.world) event }
+        requires passes { Passes (meaning declaration.now) (machine_of self.old) event }
         requires profile { profile_of self.old.world ≡ (meaning declaration.now).profile }
-        ensures watches { IfOk result (λ told. Watches (meaning declaration.now) (view self.old.world) (open_calls self.old.calls.items) event (view self.new.world) (open_calls self.new.calls.items) told) }
+        ensures watches { IfOk result (Watches (meaning declaration.now)
+            (machine_of self.old) (calls_of self.old) event
+            (machine_of self.new) (calls_of self.new)) }
         ensures profile { profile_of self.new.world ≡ (meaning declaration.now).profile }
-        ensures only_growth { OnErr result (Grows (meaning declaration.now) (view self.old.world) (open_calls self.old.calls.items) event) }
+        ensures only_growth { OnErr result
+            (Grows (meaning declaration.now) (machine_of self.old) (calls_of self.old) event) }
     {
         match self.world.apply(event) {
             Ok(_) => Ok(None),
@@ -146,7 +157,7 @@ impl<A: Allocator> Watcher<A> {
 
     /// Whether the machine is halted, and not at a pause.
     fn waits<D: Allocator>(&self, declaration: &Declaration<D>) -> bool
-        ensures { result ≡ waits (meaning declaration.now) (view self.now.world).halted_at }
+        ensures { result ≡ waits (meaning declaration.now) (machine_of self.now).halted_at }
     {
         match self.world.halted_at() {
             None => false,
@@ -161,9 +172,12 @@ impl<A: Allocator> Watcher<A> {
         event: Event,
     ) -> Result<Option<Rule>, NoMemory>
         requires { profile_of self.old.world ≡ (meaning declaration.now).profile }
-        ensures watches { IfOk result (λ told. Watches (meaning declaration.now) (view self.old.world) (open_calls self.old.calls.items) event (view self.new.world) (open_calls self.new.calls.items) told) }
+        ensures watches { IfOk result (Watches (meaning declaration.now)
+            (machine_of self.old) (calls_of self.old) event
+            (machine_of self.new) (calls_of self.new)) }
         ensures profile { profile_of self.new.world ≡ (meaning declaration.now).profile }
-        ensures only_growth { OnErr result (Grows (meaning declaration.now) (view self.old.world) (open_calls self.old.calls.items) event) }
+        ensures only_growth { OnErr result
+            (Grows (meaning declaration.now) (machine_of self.old) (calls_of self.old) event) }
     {
         match event {
             Event::Step => {
@@ -195,9 +209,13 @@ fn watch_events<A: Allocator, D: Allocator>(
     events: &[Event],
 ) -> Result<Watched, NoMemory>
     requires profile { profile_of watcher.old.world ≡ (meaning declaration.now).profile }
-    requires no_calls { open_calls watcher.old.calls.items ≡ [] }
-    ensures tells { IfOk result (λ told. (image : Words) → KeepsCode image (meaning declaration.now) (view watcher.old.world).state.memory → Tells image (meaning declaration.now) events.now (view watcher.old.world) told) }
-    ensures only_growth { OnErr result ((image : Words) → KeepsCode image (meaning declaration.now) (view watcher.old.world).state.memory → LegalStepTakesMemory image (meaning declaration.now) events.now (view watcher.old.world)) }
+    requires no_calls { calls_of watcher.old ≡ [] }
+    ensures tells { let d = meaning declaration.now in let first = machine_of watcher.old in
+        IfOk result (λ told. (image : Words) → KeepsCode image d first.state.memory
+        → Tells image d events.now first told) }
+    ensures only_growth { let d = meaning declaration.now in let first = machine_of watcher.old in
+        OnErr result ((image : Words) → KeepsCode image d first.state.memory
+        → LegalStepTakesMemory image d events.now first) }
 {
     declaration.is_declared();
     for index in 0..events.len() {
@@ -233,8 +251,8 @@ fn holds_words<A: Allocator>(world: &World<A>)
 /// enabled keeps the rules of the declaration.
 ///
 /// The run begins at the declared start, on the declared machine, with the tape's words over the
-/// given start. A CONTINUE is enabled at a pause alone. A step at a word that isn't supported breaks
-/// the first rule. After the step that is told no event is looked at.
+/// given start. A CONTINUE is enabled at a pause alone. A step at a word that isn't supported
+/// breaks the first rule. After the step that is told no event is looked at.
 ///
 /// # Errors
 ///
@@ -248,14 +266,25 @@ pub fn watch<A: Allocator + Copy, D: Allocator>(
     events: &[Event],
 ) -> Result<Watched, NoMemory>
     // It tells the truth, and all of it.
-    ensures clean { IfOk result (λ told. told ≡ Watched.Clean → IsClean (image_of image.now) (meaning declaration.now) events.now (begun (image_of image.now) (meaning declaration.now) start.now)) }
-    ensures broken { IfOk result (λ told. (event : ℕ) (rule : Rule) → told ≡ Watched.Broken event rule → BreaksAt (image_of image.now) (meaning declaration.now) events.now (begun (image_of image.now) (meaning declaration.now) start.now) event rule) }
-    ensures only_clean { IfOk result (λ told. IsClean (image_of image.now) (meaning declaration.now) events.now (begun (image_of image.now) (meaning declaration.now) start.now) → told ≡ Watched.Clean) }
-    ensures only_broken { IfOk result (λ told. (event : ℕ) (rule : Rule) → BreaksAt (image_of image.now) (meaning declaration.now) events.now (begun (image_of image.now) (meaning declaration.now) start.now) event rule → told ≡ Watched.Broken event rule) }
+    ensures clean { let words = image_of image.now in let d = meaning declaration.now in
+        IfOk result (λ told. told ≡ Watched.Clean
+        → IsClean words d events.now (begun words d start.now)) }
+    ensures broken { let words = image_of image.now in let d = meaning declaration.now in
+        IfOk result (λ told. (event : ℕ) (rule : Rule) → told ≡ Watched.Broken event rule
+        → BreaksAt words d events.now (begun words d start.now) event rule) }
+    ensures only_clean { let words = image_of image.now in let d = meaning declaration.now in
+        IfOk result (λ told. IsClean words d events.now (begun words d start.now)
+        → told ≡ Watched.Clean) }
+    ensures only_broken { let words = image_of image.now in let d = meaning declaration.now in
+        IfOk result (λ told. (event : ℕ) (rule : Rule)
+        → BreaksAt words d events.now (begun words d start.now) event rule
+        → told ≡ Watched.Broken event rule) }
     // Of a safe program it tells nothing else.
-    ensures safe { IfOk result (λ told. IsSafe (image_of image.now) (meaning declaration.now) → told ≡ Watched.Clean) }
-    // Only a legal step that prints, punches or calls a routine can be refused, and none was illegal.
-    ensures only_growth { OnErr result (LegalStepTakesMemory (image_of image.now) (meaning declaration.now) events.now (begun (image_of image.now) (meaning declaration.now) start.now)) }
+    ensures safe { IfOk result (λ told.
+        IsSafe (image_of image.now) (meaning declaration.now) → told ≡ Watched.Clean) }
+    // Only a legal step that prints, punches or calls a routine can be refused; none was illegal.
+    ensures only_growth { let words = image_of image.now in let d = meaning declaration.now in
+        OnErr result (LegalStepTakesMemory words d events.now (begun words d start.now)) }
 {
     let world = World::load(
         alloc,

@@ -2,3 +2,4 @@ pub mod Cells
 pub mod Machine
 pub mod Runs
 pub mod Steps
+pub mod Mq

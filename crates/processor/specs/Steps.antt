@@ -2,21 +2,39 @@
 use Rattle.std.specs.Prelude.{ℕ, ◌≡◌, Bool, true, false, if◌then◌else◌, Option, Some, None}
 use Rattle.instruct.specs.declared.Profile.{Profile}
 use Rattle.instruct.specs.Operates.{is_halt, reads_switches_of}
-use Rattle.instruct.specs.Instructions.{Meaning, Group2, Device, Undefined, DeviceAction}
+use Rattle.instruct.specs.Instructions.{Meaning, Group2, Device, Undefined, DeviceAction, meaning_of}
 use Rattle.processor.specs.declared.Cpu.{Cpu}
 use Rattle.processor.specs.declared.Outcome.{Outcome}
 use Rattle.processor.specs.declared.Outcome.TheVariants.{Ran, Halted, Unsupported}
 use Rattle.processor.specs.Cells.{cell_of}
-use Rattle.processor.specs.Machine.{State, Answer, Silent, Switches, Answers, Step, instruction}
+use Rattle.processor.specs.Machine.{State, Answer, Silent, Switches, Answers, Does, Step, instruction}
 
 -- The state that a processor stands for.
 abbrev pub state_of : Cpu → State
 state_of c = record { ac = c.ac; link = c.link; mq = c.mq; pc = c.pc; memory = cell_of c.memory }
 
+-- The word at the program counter, the instruction that it is there, and the meaning of any word there.
+abbrev pub word_at_pc : Cpu → ℕ
+word_at_pc c = cell_of c.memory c.pc
+
+abbrev pub instruction_at_pc : Cpu → Meaning
+instruction_at_pc c = instruction c.profile (state_of c)
+
+abbrev pub meaning_at_pc : Cpu → ℕ → Meaning
+meaning_at_pc c word = meaning_of c.profile c.pc word
+
+-- An instruction that asks nothing leads from the one processor to the other.
+abbrev pub LeadsTo : Meaning → Cpu → Cpu → Type 0
+LeadsTo meaning before after = Does meaning (state_of before) Silent (state_of after)
+
+-- A word of group 2 is told the switches where it reads them.
+abbrev pub switches_told : ℕ → ℕ → Answer
+switches_told word switches = if reads_switches_of word then Switches switches else Silent
+
 -- The answer that a step takes, by what the bus would answer to a device word and by its switches.
 abbrev pub answer_taken : Meaning → Answer → ℕ → Answer
 answer_taken (Device action) device switches = device
-answer_taken (Group2 w) device switches = if reads_switches_of w then Switches switches else Silent
+answer_taken (Group2 w) device switches = switches_told w switches
 answer_taken _ device switches = Silent
 
 -- The instruction halts the machine after it.

@@ -5,22 +5,24 @@
 #![tactic(auto)]
 
 mod memory;
+mod mq;
 
-ghost use Rattle.std.specs.Prelude.{ℕ, ◌≡◌, ◌+◌, ◌/◌, ◌%◌, if◌then◌else◌, IsSome, true};
+ghost use Rattle.std.specs.Prelude.{ℕ, ◌≡◌, ◌+◌, ◌/◌, ◌%◌, IsSome, true};
 ghost use Rattle.instruct.specs.declared.Instruction.TheVariants.{Operate1, Operate2, Operate3, Memory as IsMemory};
 ghost use Rattle.instruct.specs.declared.Profile.TheVariants.{Pdp8E};
 ghost use Rattle.instruct.specs.Bits.{is_indirect, named_cell};
-ghost use Rattle.instruct.specs.Instructions.{meaning_of, kind_of, device_action, And, Tad, Isz, Dca, Jms, Jmp};
-ghost use Rattle.instruct.specs.Operates.{reads_switches_of};
+ghost use Rattle.instruct.specs.declared.Operation.TheVariants as operation;
+ghost use Rattle.instruct.specs.Instructions.{kind_of, device_action, reference_at};
 ghost use Rattle.processor.specs.Cells.{cell_of};
-ghost use Rattle.processor.specs.Machine.{Answer, Silent, Switches, next_pc, seen, place, is_auto_index, instruction, Does};
-ghost use Rattle.processor.specs.Steps.{state_of, answer_taken, Happened, BusAfter, DeviceAnswers};
+ghost use Rattle.processor.specs.Machine.{Answer, next_pc, seen, place, is_auto_index, Does};
+ghost use Rattle.processor.specs.Steps.{state_of, word_at_pc, instruction_at_pc, meaning_at_pc, LeadsTo, switches_told, answer_taken, Happened, BusAfter, DeviceAnswers};
 
 use instruct::{
     Instruction, Operation, Profile, decode, halts, operate1, operate2, operate3,
     refers_indirectly, skips, target,
 };
 pub use memory::Memory;
+pub use mq::basic_instructions_leave_mq;
 use word12::{Link, Word};
 
 /// The processor of a PDP-8, with its memory.
@@ -75,7 +77,8 @@ pub trait Bus {
     /// and some flag or byte.
     fn iot(&mut self, word: Word, ac: Word) -> IotAnswer
         requires { IsSome (device_action Pdp8E word) }
-        ensures table { DeviceAnswers (device_action Pdp8E word) ac (answer_to self.old word) result.ac result.skip }
+        ensures table { DeviceAnswers (device_action Pdp8E word) ac (answer_to self.old word)
+            result.ac result.skip }
         ensures device { goes_on self.old word ac self.new };
 
     /// What the switches show.
@@ -111,7 +114,8 @@ pub fn effective_address(memory: &Memory, word: Word, at: Word) -> Word
 /// The effective address of a memory reference; a pointer in an auto-index cell is counted up.
 fn resolve(memory: &mut Memory, word: Word, at: Word) -> Word
     ensures place { result ≡ place (is_indirect word) (named_cell word at) (cell_of memory.old) }
-    ensures seen { cell_of memory.new ≡ seen (is_indirect word) (named_cell word at) (cell_of memory.old) }
+    ensures seen { cell_of memory.new ≡
+        seen (is_indirect word) (named_cell word at) (cell_of memory.old) }
 {
     let address = effective_address(memory, word, at);
     let named = target(word, at);
@@ -134,8 +138,8 @@ fn carried(link: Link, left: Word, right: Word) -> Link
 
 /// The address of the instruction after the next one.
 ///
-/// Not inlined, so that a skip stays a branch: the host then guesses it, in place of waiting for the
-/// count or the test before it can fetch the next instruction.
+/// Not inlined, so that a skip stays a branch: the host then guesses it, in place of waiting for
+/// the count or the test before it can fetch the next instruction.
 #[inline(never)]
 fn address_past_next(pc: Word) -> Word
     ensures { result ≡ next_pc pc true }
@@ -157,7 +161,7 @@ fn next_address(pc: Word, skip: bool) -> Word
 impl Cpu {
     /// AND: the bitwise and with the operand.
     fn and(&mut self, word: Word)
-        ensures does { Does (And (is_indirect word) (named_cell word self.old.pc)) (state_of self.old) Silent (state_of self.new) }
+        ensures does { LeadsTo (reference_at operation.And word self.old.pc) self.old self.new }
         ensures profile { self.new.profile ≡ self.old.profile }
     {
         let address = resolve(&mut self.memory, word, self.pc);
@@ -167,7 +171,7 @@ impl Cpu {
 
     /// TAD: the sum with the operand; a carry complements the link.
     fn add(&mut self, word: Word)
-        ensures does { Does (Tad (is_indirect word) (named_cell word self.old.pc)) (state_of self.old) Silent (state_of self.new) }
+        ensures does { LeadsTo (reference_at operation.Tad word self.old.pc) self.old self.new }
         ensures profile { self.new.profile ≡ self.old.profile }
     {
         let address = resolve(&mut self.memory, word, self.pc);
@@ -179,7 +183,7 @@ impl Cpu {
 
     /// ISZ: counts the operand up, and skips where it becomes 0000.
     fn count(&mut self, word: Word)
-        ensures does { Does (Isz (is_indirect word) (named_cell word self.old.pc)) (state_of self.old) Silent (state_of self.new) }
+        ensures does { LeadsTo (reference_at operation.Isz word self.old.pc) self.old self.new }
         ensures profile { self.new.profile ≡ self.old.profile }
     {
         let address = resolve(&mut self.memory, word, self.pc);
@@ -190,7 +194,7 @@ impl Cpu {
 
     /// DCA: stores the accumulator and clears it.
     fn deposit(&mut self, word: Word)
-        ensures does { Does (Dca (is_indirect word) (named_cell word self.old.pc)) (state_of self.old) Silent (state_of self.new) }
+        ensures does { LeadsTo (reference_at operation.Dca word self.old.pc) self.old self.new }
         ensures profile { self.new.profile ≡ self.old.profile }
     {
         let address = resolve(&mut self.memory, word, self.pc);
@@ -201,7 +205,7 @@ impl Cpu {
 
     /// JMS: stores the return address and goes on behind it.
     fn call(&mut self, word: Word)
-        ensures does { Does (Jms (is_indirect word) (named_cell word self.old.pc)) (state_of self.old) Silent (state_of self.new) }
+        ensures does { LeadsTo (reference_at operation.Jms word self.old.pc) self.old self.new }
         ensures profile { self.new.profile ≡ self.old.profile }
     {
         let address = resolve(&mut self.memory, word, self.pc);
@@ -211,7 +215,7 @@ impl Cpu {
 
     /// JMP: goes on at the effective address.
     fn jump(&mut self, word: Word)
-        ensures does { Does (Jmp (is_indirect word) (named_cell word self.old.pc)) (state_of self.old) Silent (state_of self.new) }
+        ensures does { LeadsTo (reference_at operation.Jmp word self.old.pc) self.old self.new }
         ensures profile { self.new.profile ≡ self.old.profile }
     {
         self.pc = resolve(&mut self.memory, word, self.pc);
@@ -220,8 +224,8 @@ impl Cpu {
     /// A memory reference.
     #[inline(always)]
     fn refer(&mut self, word: Word)
-        requires { kind_of (meaning_of self.old.profile self.old.pc word) ≡ IsMemory }
-        ensures does { Does (meaning_of self.old.profile self.old.pc word) (state_of self.old) Silent (state_of self.new) }
+        requires { kind_of (meaning_at_pc self.old word) ≡ IsMemory }
+        ensures does { LeadsTo (meaning_at_pc self.old word) self.old self.new }
         ensures profile { self.new.profile ≡ self.old.profile }
     {
         match Operation::of(word) {
@@ -237,8 +241,8 @@ impl Cpu {
     /// A word of group 1.
     #[inline(never)]
     fn operate_first(&mut self, word: Word)
-        requires { kind_of (meaning_of self.old.profile self.old.pc word) ≡ Operate1 }
-        ensures does { Does (meaning_of self.old.profile self.old.pc word) (state_of self.old) Silent (state_of self.new) }
+        requires { kind_of (meaning_at_pc self.old word) ≡ Operate1 }
+        ensures does { LeadsTo (meaning_at_pc self.old word) self.old self.new }
         ensures profile { self.new.profile ≡ self.old.profile }
     {
         let (ac, link) = operate1(word, self.ac, self.link);
@@ -250,8 +254,9 @@ impl Cpu {
     /// A word of group 2.
     #[inline(never)]
     fn operate_second(&mut self, word: Word, switches: Word)
-        requires { kind_of (meaning_of self.old.profile self.old.pc word) ≡ Operate2 }
-        ensures does { Does (meaning_of self.old.profile self.old.pc word) (state_of self.old) (if reads_switches_of word then Switches switches else Silent) (state_of self.new) }
+        requires { kind_of (meaning_at_pc self.old word) ≡ Operate2 }
+        ensures does { Does (meaning_at_pc self.old word) (state_of self.old)
+            (switches_told word switches) (state_of self.new) }
         ensures profile { self.new.profile ≡ self.old.profile }
     {
         self.pc = next_address(self.pc, skips(word, self.ac, self.link));
@@ -261,8 +266,8 @@ impl Cpu {
     /// A word of group 3.
     #[inline(never)]
     fn operate_third(&mut self, word: Word)
-        requires { kind_of (meaning_of self.old.profile self.old.pc word) ≡ Operate3 }
-        ensures does { Does (meaning_of self.old.profile self.old.pc word) (state_of self.old) Silent (state_of self.new) }
+        requires { kind_of (meaning_at_pc self.old word) ≡ Operate3 }
+        ensures does { LeadsTo (meaning_at_pc self.old word) self.old self.new }
         ensures profile { self.new.profile ≡ self.old.profile }
     {
         let (ac, mq) = operate3(word, self.ac, self.mq);
@@ -273,7 +278,10 @@ impl Cpu {
 
     /// Takes what the devices answered to a device word.
     fn take(&mut self, answer: IotAnswer)
-        ensures taken { state_of self.new ≡ record (state_of self.old) { ac = answer.ac; pc = next_pc self.old.pc answer.skip } }
+        ensures taken { state_of self.new ≡ record (state_of self.old) {
+          ac = answer.ac;
+          pc = next_pc self.old.pc answer.skip;
+        } }
         ensures profile { self.new.profile ≡ self.old.profile }
     {
         self.pc = next_address(self.pc, answer.skip);
@@ -288,10 +296,15 @@ impl Cpu {
     #[inline(always)]
     pub fn step<B: Bus>(&mut self, bus: &mut B) -> Outcome
         // By the table, with the answer that the bus gave.
-        ensures happened { Happened result self.old.profile (state_of self.old) (answer_taken (instruction self.old.profile (state_of self.old)) (B.answer_to bus.old (cell_of self.old.memory self.old.pc)) (B.switch_word bus.old)) (state_of self.new) }
+        ensures happened { Happened result self.old.profile (state_of self.old)
+            (answer_taken (instruction_at_pc self.old)
+            (B.answer_to bus.old (word_at_pc self.old)) (B.switch_word bus.old))
+            (state_of self.new) }
         ensures profile { self.new.profile ≡ self.old.profile }
         // The bus is asked at a device word alone.
-        ensures bus { BusAfter (instruction self.old.profile (state_of self.old)) (B.goes_on bus.old (cell_of self.old.memory self.old.pc) self.old.ac bus.new) (bus.new ≡ bus.old) }
+        ensures bus { BusAfter (instruction_at_pc self.old)
+            (B.goes_on bus.old (word_at_pc self.old) self.old.ac bus.new)
+            (bus.new ≡ bus.old) }
     {
         let word = self.memory.get(self.pc);
         match decode(word, self.profile) {

@@ -1,6 +1,6 @@
 //! Exercises the machine and the tapes for as long as it is told, so that scripts can time it.
 //!
-//! `machine_speed cpu ROUNDS` runs a loop of ISZ and JMP on the processor alone, `world ROUNDS` runs
+//! `speed cpu ROUNDS` runs a loop of ISZ and JMP on the processor alone, `world ROUNDS` runs
 //! it by events, a round being 33,558,529 instructions; `tapes TIMES` writes the fullest image and
 //! reads it back; these print what came out, and no times. `tape` writes the tape of that image to standard
 //! output. Without words it does a little of the first three.

@@ -1,4 +1,6 @@
 pub mod BytesLemmas
+pub mod InputLemmas
 pub mod NumberLemmas
+pub mod TakingLemmas
 pub mod TextLemmas
 pub mod NumberedLines

@@ -1,3 +1,5 @@
 pub mod Bytes
+pub mod Input
+pub mod Taking
 pub mod Text
 pub mod TextLeft

@@ -3,8 +3,6 @@
 #![tactic(auto)]
 
 #[cfg(test)]
-mod commands;
-#[cfg(test)]
 mod desk;
 #[cfg(test)]
 mod instructions;
@@ -14,6 +12,8 @@ mod program;
 mod sets;
 #[cfg(test)]
 mod sources;
+#[cfg(test)]
+mod tapes;
 #[cfg(test)]
 mod watching;
 #[cfg(test)]

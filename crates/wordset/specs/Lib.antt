@@ -2,3 +2,4 @@ pub mod Words
 pub mod Lanes
 pub mod Links
 pub mod Bits
+pub mod Operate

@@ -4,10 +4,10 @@ ghost use Rattle.std.specs.Prelude.{◌≡◌, ◌<◌, ◌==◌, ◌&&◌, ℕ}
 ghost use Rattle.instruct.specs.declared.Profile.TheVariants.{Pdp8E};
 ghost use Rattle.instruct.specs.declared.Instruction.TheVariants.{Operate1};
 ghost use Rattle.instruct.specs.Instructions.{instruction_of};
-ghost use Rattle.instruct.specs.Operates.{operate1_of};
 ghost use Rattle.wordset.specs.Words.{SameWords, SameLinks, images, images_at};
 ghost use Rattle.wordset.specs.Lanes.{words};
 ghost use Rattle.wordset.specs.Links.{links_of};
+ghost use Rattle.wordset.specs.Operate.{accumulator_after, link_after};
 
 use crate::{Links, WordSet};
 use instruct::operate1;
@@ -19,9 +19,9 @@ impl WordSet {
     pub fn map_operate(&self, word: Word, links: Links) -> (WordSet, Links)
         requires { instruction_of Pdp8E word ≡ Operate1 }
         ensures words { SameWords (words result.0)
-            (images (λ ac link. (operate1_of word (ac, link)).0) (words self.now) (links_of links)) }
+            (images (accumulator_after word) (words self.now) (links_of links)) }
         ensures links { SameLinks (links_of result.1)
-            (images (λ ac link. (operate1_of word (ac, link)).1) (words self.now) (links_of links)) }
+            (images (link_after word) (words self.now) (links_of links)) }
     {
         let (low, low_links) = self.operate_if(links.clear, word, Link::CLEAR);
         let (high, high_links) = self.operate_if(links.set, word, Link::SET);
@@ -32,9 +32,11 @@ impl WordSet {
     fn operate_if(&self, chosen: bool, word: Word, link: Link) -> (WordSet, Links)
         requires { instruction_of Pdp8E word ≡ Operate1 }
         ensures words { (v : ℕ) → v < 4096 →
-            words result.0 v ≡ (chosen && images_at (λ ac. (operate1_of word (ac, link)).0) (words self.now) v) }
+            words result.0 v ≡
+            (chosen && images_at (λ ac. accumulator_after word ac link) (words self.now) v) }
         ensures links { (k : ℕ) → k < 2 →
-            links_of result.1 k ≡ (chosen && images_at (λ ac. (operate1_of word (ac, link)).1) (words self.now) k) }
+            links_of result.1 k ≡
+            (chosen && images_at (λ ac. link_after word ac link) (words self.now) k) }
     {
         if chosen {
             self.operate_at(word, link)
@@ -46,8 +48,10 @@ impl WordSet {
     /// The images with one link.
     fn operate_at(&self, word: Word, link: Link) -> (WordSet, Links)
         requires { instruction_of Pdp8E word ≡ Operate1 }
-        ensures words { SameWords (words result.0) (images_at (λ ac. (operate1_of word (ac, link)).0) (words self.now)) }
-        ensures links { SameLinks (links_of result.1) (images_at (λ ac. (operate1_of word (ac, link)).1) (words self.now)) }
+        ensures words { SameWords (words result.0)
+            (images_at (λ ac. accumulator_after word ac link) (words self.now)) }
+        ensures links { SameLinks (links_of result.1)
+            (images_at (λ ac. link_after word ac link) (words self.now)) }
     {
         let mut found = WordSet::empty();
         let mut links = Links::none();

@@ -12,7 +12,8 @@ impl WordSet {
     /// with which they come.
     pub fn sums(&self, other: &WordSet) -> (WordSet, Carries)
         ensures words { SameWords (words result.0) (sums (words self.now) (words other.now)) }
-        ensures carries { SameLinks (carries_of result.1) (carries (words self.now) (words other.now)) }
+        ensures carries { SameLinks (carries_of result.1)
+            (carries (words self.now) (words other.now)) }
     {
         let carries = Carries {
             absent: self.has_sum_without_carry(other),

@@ -1,27 +1,35 @@
 //! The program: from its words to its status.
 
+ghost use Rattle.std.specs.Prelude.{◌≤◌};
+
+use crate::files::{open_input, open_inputs, open_output};
+use crate::words::{Refused, Request, parse_words};
+use clap::Error;
 use commands::assembling::{assemble, list};
 use commands::running::{RunOptions, dump, run, run_events};
-use crate::files::{open_input, open_inputs, open_output};
 use commands::status::{DeviceFault, Fault, Status};
 use commands::watching::watch;
-use crate::words::{Refused, Request, parse_words};
-use streams::standard::Writes;
 use instruct::Profile;
 use std::alloc::Global;
+use std::io::ErrorKind;
 use std::rt::{Env, Files};
 use std::{env, io};
+use streams::standard::Writes;
 
 /// The words that stand for no words at all.
 static RUN_STANDARD_INPUT: [&str; 3] = ["pdp8", "run", "-"];
 
 /// Does what the program's words ask for, and says with which status it ends: 0 done, 1 refused, 2
 /// bad words, 3 a device's fault, 4 want of memory. Without words it runs the tape on standard
-/// input. Faults and the text for bad words go to standard error, help to standard output.
-pub fn exit_status<R: Env + Files + Input + Print + Eprint + AllocGlobal>(rt: &R) -> u8 {
+/// input. Faults and the text for bad words go to standard error, help to standard output; where
+/// standard error fails, the status is the same.
+pub fn exit_status<R: Env + Files + Input + Print + Eprint + AllocGlobal>(rt: &R) -> u8
+    ensures { result ≤ 4 }
+{
     let alloc = rt.alloc();
-    let Ok(arguments) = env::args(rt) else {
-        return refuse(rt, Refused::NotText).code();
+    let arguments = match env::args(rt) {
+        Ok(arguments) => arguments,
+        Err(error) => return refuse(rt, refusal_of(error.kind())).code(),
     };
     let Ok(words) = arguments.collect::<Vec<String>>(alloc) else {
         return tell(rt, Fault::NoMemory).code();
@@ -40,6 +48,14 @@ pub fn exit_status<R: Env + Files + Input + Print + Eprint + AllocGlobal>(rt: &R
     }
 }
 
+/// Why the command line's words weren't copied: one is no text, or memory was refused.
+fn refusal_of(kind: ErrorKind) -> Refused {
+    match kind {
+        ErrorKind::InvalidData => Refused::NotText,
+        _ => Refused::Memory,
+    }
+}
+
 /// Writes the line of a fault to standard error.
 fn tell<R: Eprint>(rt: &R, fault: Fault) -> Status {
     match eprintln!(rt; "{fault}") {
@@ -51,17 +67,7 @@ fn tell<R: Eprint>(rt: &R, fault: Fault) -> Status {
 fn refuse<R: Print + Eprint>(rt: &R, refused: Refused) -> Status {
     let told = match refused {
         Refused::Memory => return tell(rt, Fault::NoMemory),
-        Refused::Words(error) => {
-            let status = if error.use_stderr() {
-                Status::Words
-            } else {
-                Status::Done
-            };
-            return match error.print(rt) {
-                Ok(()) => status,
-                Err(_) => tell(rt, Fault::Device(DeviceFault::Write)),
-            };
-        }
+        Refused::Words(error) => return say(rt, &error),
         Refused::NotText => eprintln!(rt; "error: a word of the command line isn't text"),
         Refused::Start(fault) => eprintln!(rt; "error: bad value for '--start': {fault}"),
         Refused::Steps => eprintln!(rt;
@@ -74,6 +80,18 @@ fn refuse<R: Print + Eprint>(rt: &R, refused: Refused) -> Status {
     };
     match told {
         Ok(()) | Err(_) => Status::Words,
+    }
+}
+
+/// Says what is wrong with the words, on standard error, or gives help, on standard output.
+fn say<R: Print + Eprint>(rt: &R, words: &Error) -> Status {
+    let written = words.print(rt);
+    if words.use_stderr() {
+        return Status::Words;
+    }
+    match written {
+        Ok(()) => Status::Done,
+        Err(_) => tell(rt, Fault::Device(DeviceFault::Write)),
     }
 }
 

@@ -1,30 +1,30 @@
-use Rattle.std.proofs.Common.{sym, ◌∙◌, refl, ap}
-use Rattle.std.specs.Prelude.{not}
+use Rattle.std.proofs.Common.{rules, ◌≡◌, ◌∙◌, ap, subst}
+use Rattle.std.specs.Io.KnownBytes.{Appends}
+use Rattle.streams.specs.Bytes.{AppendsFront}
+use Rattle.processor.specs.Steps.{state_of}
 use Rattle.peripherals.specs.World.{view, profile_of}
-use Rattle.peripherals.specs.declared.Seen.TheVariants.{NotEnabled, Changed, Ran, Halted}
-use Rattle.commands.proofs.FollowLemmas.{one_goes, one_stops, one_stuck}
+use Rattle.commands.specs.Trace.{trace_of}
+use Rattle.commands.proofs.FollowLemmas.{same_line, where_traced, word_there}
 use Rattle.commands.proofs.follow.advance.Goals as goal
 
-pub returns-in-Ran-seen-clause-leads : goal.returns-in-Ran-seen-clause-leads
-returns-in-Ran-seen-clause-leads g c =
-    one_goes (profile_of c.args.world.now) c.args.ends_at_halt c.args.event (view c.args.world.now) (view c.apply.new.self) Ran (sym c.in_ok-seen.ensures.seen ∙ c.in-Ran-seen.is) refl c.in_ok-seen.ensures.happens
+pub returns-in_err-put_trace-clause-front : goal.returns-in_err-put_trace-clause-front
+returns-in_err-put_trace-clause-front g c = λ marked.
+    let there : c.cpu.result.now.pc ≡ (view c.args.world.now).state.pc = search rules in
+    let reads = word_there (view c.args.world.now) (state_of c.cpu-2.result.now) c.cpu.result.now.pc c.get-word.result c.cpu-2.ensures.state there c.get-word.ensures in
+    let after : state_of c.cpu-3.result.now ≡ (view c.apply.new.self).state = search rules in
+    let profile : c.cpu-3.result.now.profile ≡ profile_of c.args.world.now = search rules in
+    let same = same_line (profile_of c.args.world.now) c.cpu-3.result.now.profile (view c.args.world.now) c.args.event (view c.apply.new.self) c.in_ok-seen.seen c.cpu.result.now.pc c.get-word.result (state_of c.cpu-3.result.now)
+    c.in_ok-seen.ensures.seen there reads after profile in
+    subst (AppendsFront (g.W.ByteSink.taken c.args.out.now) (g.W.ByteSink.taken c.put_trace.new.out)) same c.in_err-put_trace.ensures.front
 
-pub returns-in-NotEnabled-clause-leads : goal.returns-in-NotEnabled-clause-leads
-returns-in-NotEnabled-clause-leads g c =
-    one_goes (profile_of c.args.world.now) c.args.ends_at_halt c.args.event (view c.args.world.now) (view c.apply.new.self) NotEnabled (sym c.in_ok-seen.ensures.seen ∙ c.in-NotEnabled.is) refl c.in_ok-seen.ensures.happens
-
-pub returns-in-Changed-clause-leads : goal.returns-in-Changed-clause-leads
-returns-in-Changed-clause-leads g c =
-    one_goes (profile_of c.args.world.now) c.args.ends_at_halt c.args.event (view c.args.world.now) (view c.apply.new.self) Changed (sym c.in_ok-seen.ensures.seen ∙ c.in-Changed.is) refl c.in_ok-seen.ensures.happens
-
-pub returns-in-Halted-clause-leads : goal.returns-in-Halted-clause-leads
-returns-in-Halted-clause-leads g c =
-    one_stops (profile_of c.args.world.now) c.args.ends_at_halt c.args.event (view c.args.world.now) (view c.apply.new.self) c.if-ends_at_halt.true (sym c.in_ok-seen.ensures.seen ∙ c.in-Halted.is) c.in_ok-seen.ensures.happens
-
-pub returns-in-Halted-2-clause-leads : goal.returns-in-Halted-2-clause-leads
-returns-in-Halted-2-clause-leads g c =
-    one_goes (profile_of c.args.world.now) c.args.ends_at_halt c.args.event (view c.args.world.now) (view c.apply.new.self) Halted (sym c.in_ok-seen.ensures.seen ∙ c.in-Halted-2.is) (ap not c.if-ends_at_halt.false) c.in_ok-seen.ensures.happens
-
-pub returns-in-Unsupported-clause-leads : goal.returns-in-Unsupported-clause-leads
-returns-in-Unsupported-clause-leads g c =
-    one_stuck (profile_of c.args.world.now) c.args.ends_at_halt c.args.event (view c.args.world.now) (view c.apply.new.self) c.in-Unsupported.field-0 (sym c.in_ok-seen.ensures.seen ∙ c.in-Unsupported.is) c.in_ok-seen.ensures.happens
+pub returns-clause-wrote : goal.returns-clause-wrote
+returns-clause-wrote g c =
+    let there : c.cpu.result.now.pc ≡ (view c.args.world.now).state.pc = search rules in
+    let reads = word_there (view c.args.world.now) (state_of c.cpu-2.result.now) c.cpu.result.now.pc c.get-word.result c.cpu-2.ensures.state there c.get-word.ensures in
+    let after : state_of c.cpu-3.result.now ≡ (view c.apply.new.self).state = search rules in
+    let profile : c.cpu-3.result.now.profile ≡ profile_of c.args.world.now = search rules in
+    let same = same_line (profile_of c.args.world.now) c.cpu-3.result.now.profile (view c.args.world.now) c.args.event (view c.apply.new.self) c.in_ok-seen.seen c.cpu.result.now.pc c.get-word.result (state_of c.cpu-3.result.now)
+    c.in_ok-seen.ensures.seen there reads after profile in
+    let wrote : Appends (g.W.ByteSink.taken c.args.out.now) (g.W.ByteSink.taken c.put_trace.new.out) (trace_of (profile_of c.args.world.now) (view c.args.world.now) c.args.event (view c.apply.new.self)) =
+    subst (Appends (g.W.ByteSink.taken c.args.out.now) (g.W.ByteSink.taken c.put_trace.new.out)) same c.in_ok-put_trace.ensures.whole in
+    where_traced c.args.trace _ _ _ (search rules) wrote

@@ -1,7 +1,13 @@
-use Rattle.std.proofs.Common.{rules, ◌<◌, length, refl}
+use Rattle.std.proofs.Common.{rules, ◌<◌, ◌≤◌, length, refl}
+use Rattle.commands.proofs.PartLemmas.{long_text, whole}
 use Rattle.commands.proofs.sources.read_part.Goals as goal
 
 pub returns-then-len-ge-MOST_PART-clause-faults : goal.returns-then-len-ge-MOST_PART-clause-faults
 returns-then-len-ge-MOST_PART-clause-faults g c =
     let long : 65536 < length c.in_ok-part.part.items = search rules in
-    rw c.too_long.ensures (refl, c.in_ok-part.part.items, c.in_ok-part.ensures.text, long)
+    rw c.too_long.ensures (refl, long_text (g.R.ByteSource.remaining c.args.source.now) c.in_ok-part.part.items c.in_ok-part.ensures.text long)
+
+pub returns-clause-read : goal.returns-clause-read
+returns-clause-read g c =
+    let short : length c.in_ok-part.part.items ≤ 65536 = search rules in
+    whole (g.R.ByteSource.remaining c.args.source.now) c.in_ok-part.part.items 65536 c.in_ok-part.ensures.text short

@@ -1,11 +1,11 @@
-use Rattle.std.proofs.Common.{rules, ◌≡◌}
+use Rattle.std.proofs.Common.{rules, ◌≡◌, refl}
 use Rattle.std.specs.Io.KnownBytes.{Appends}
 use Rattle.streams.specs.Bytes.{AppendsFront}
 use Rattle.peripherals.specs.Loading.{image_of, loaded}
 use Rattle.declaration.specs.Kept.{meaning}
 use Rattle.commands.specs.Running.{fresh}
-use Rattle.commands.specs.WatchText.{watched_text}
-use Rattle.commands.proofs.WatchLemmas.{sees}
+use Rattle.commands.specs.WatchText.{IsSeen, watched_status, watched_text}
+use Rattle.commands.proofs.WatchLemmas.{is_seen}
 use Rattle.commands.proofs.watching.watch.Goals as goal
 
 pub returns-in_err-put-clause-front : goal.returns-in_err-put-clause-front
@@ -13,11 +13,25 @@ returns-in_err-put-clause-front g c = λ marked.
     let d = meaning c.in_ok-promised.promised in
     let begins : loaded (image_of c.in_ok-image.image) d.start c.zero.result ≡ fresh c.in_ok-image.image d.start = search rules in
     let front : AppendsFront (g.W.ByteSink.taken c.args.out.now) (g.W.ByteSink.taken c.put.new.sink) (watched_text c.in_ok-watched.watched) = search rules in
+    let sees : IsSeen c.in_ok-image.image d c.in_ok-happened.happened.items c.in_ok-watched.watched = is_seen c.in_ok-image.image d c.in_ok-happened.happened.items c.in_ok-watched.watched (loaded (image_of c.in_ok-image.image) d.start c.zero.result) begins
+    (rw c.deref.ensures.value at c.in_ok-watched.ensures.clean) (rw c.deref.ensures.value at c.in_ok-watched.ensures.broken) in
     record {
-      watched = c.in_ok-watched.watched;
-      sees = sees c.in_ok-image.image d c.in_ok-happened.happened.items c.in_ok-watched.watched (loaded (image_of c.in_ok-image.image) d.start c.zero.result) _ _ _
-          c.in_ok-image.ensures.tape c.in_ok-promised.ensures.declares c.in_ok-happened.ensures.spells begins
-          (rw c.deref.ensures.value at c.in_ok-watched.ensures.clean) (rw c.deref.ensures.value at c.in_ok-watched.ensures.broken);
+      text = watched_text c.in_ok-watched.watched;
+      is = (
+        watched_status c.in_ok-watched.watched,
+        record {
+          image = c.in_ok-image.image;
+          tape = c.in_ok-image.ensures.tape;
+          declaration = d;
+          declares = c.in_ok-promised.ensures.declares;
+          events = c.in_ok-happened.happened.items;
+          spells = c.in_ok-happened.ensures.spells;
+          watched = c.in_ok-watched.watched;
+          sees = sees;
+          line_is = refl;
+          status_is = refl;
+        },
+      );
       front = front;
     }
 
@@ -26,11 +40,21 @@ returns-clause-watched g c =
     let d = meaning c.in_ok-promised.promised in
     let begins : loaded (image_of c.in_ok-image.image) d.start c.zero.result ≡ fresh c.in_ok-image.image d.start = search rules in
     let written : Appends (g.W.ByteSink.taken c.args.out.now) (g.W.ByteSink.taken c.put.new.sink) (watched_text c.in_ok-watched.watched) = search rules in
+    let sees : IsSeen c.in_ok-image.image d c.in_ok-happened.happened.items c.in_ok-watched.watched = is_seen c.in_ok-image.image d c.in_ok-happened.happened.items c.in_ok-watched.watched (loaded (image_of c.in_ok-image.image) d.start c.zero.result) begins
+    (rw c.deref.ensures.value at c.in_ok-watched.ensures.clean) (rw c.deref.ensures.value at c.in_ok-watched.ensures.broken) in
     record {
-      watched = c.in_ok-watched.watched;
-      sees = sees c.in_ok-image.image d c.in_ok-happened.happened.items c.in_ok-watched.watched (loaded (image_of c.in_ok-image.image) d.start c.zero.result) _ _ _
-          c.in_ok-image.ensures.tape c.in_ok-promised.ensures.declares c.in_ok-happened.ensures.spells begins
-          (rw c.deref.ensures.value at c.in_ok-watched.ensures.clean) (rw c.deref.ensures.value at c.in_ok-watched.ensures.broken);
+      text = watched_text c.in_ok-watched.watched;
+      is = record {
+        image = c.in_ok-image.image;
+        tape = c.in_ok-image.ensures.tape;
+        declaration = d;
+        declares = c.in_ok-promised.ensures.declares;
+        events = c.in_ok-happened.happened.items;
+        spells = c.in_ok-happened.ensures.spells;
+        watched = c.in_ok-watched.watched;
+        sees = sees;
+        line_is = refl;
+        status_is = c.watched_status.ensures;
+      };
       written = written;
-      status_is = c.watched_status.ensures;
     }

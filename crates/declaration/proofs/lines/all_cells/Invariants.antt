@@ -1,7 +1,7 @@
 use Rattle.std.proofs.Common.{◌≡◌}
 use Rattle.std.specs.Option.{option_map}
 use Rattle.streams.specs.TextLeft.{words_left}
-use Rattle.declaration.specs.Kept.{cells}
+use Rattle.wordset.specs.Lanes.{words}
 use Rattle.declaration.specs.Lines.{any_of, all_read}
 use Rattle.declaration.specs.Drafts.{cells_read}
 use Rattle.declaration.proofs.LineLemmas.{with_cells}
@@ -10,4 +10,4 @@ use Rattle.declaration.proofs.lines.all_cells.Given as goal
 -- the cells so far with those still to be read are all
 abbrev pub invariant-loop-word : goal.invariant-loop-word
 invariant-loop-word l =
-    with_cells (cells l.set) (all_read (cells_read l.form) (words_left l.words)) ≡ option_map any_of (all_read (cells_read l.form) (words_left l.rest))
+    with_cells (words l.set) (all_read (cells_read l.form) (words_left l.words)) ≡ option_map any_of (all_read (cells_read l.form) (words_left l.rest))

@@ -1,5 +1,4 @@
 use Rattle.std.proofs.Common.{sym, ◌∙◌, refl}
-use Rattle.peripherals.specs.World.{prints, punches}
 use Rattle.peripherals.proofs.StepLemmas.{no_operation}
 use Rattle.peripherals.proofs.world.put_out.Goals as goal
 

@@ -28,13 +28,13 @@ returns-in-Some-first_from-clause-broken g c = record {
   least = first_same (words c.entries_in_index.result) (entry_in_index (gathered c.args.self.now)) c.in-Some-first_from.at c.entries_in_index.ensures c.in-Some-first_from.ensures;
 }
 
-pub returns-then-not-has-clause-broken : goal.returns-then-not-has-clause-broken
-returns-then-not-has-clause-broken g c = record {
+pub returns-then-not-contains-clause-broken : goal.returns-then-not-contains-clause-broken
+returns-then-not-contains-clause-broken g c = record {
   start = c.args.start;
   starts = c.requires;
   apart = none_same (words c.overlaps.result) (overlaps (gathered c.args.self.now)) c.overlaps.ensures c.in_default.ensures;
   outside_index = none_same (words c.entries_in_index.result) (entry_in_index (gathered c.args.self.now)) c.entries_in_index.ensures c.in_default-first_from.ensures;
-  outside = sym c.has.ensures ∙ c.if-not-has.true;
+  outside = sym c.contains.ensures ∙ c.if-not-contains.true;
 }
 
 pub returns-in-Some-first_from-2-clause-broken : goal.returns-in-Some-first_from-2-clause-broken
@@ -43,7 +43,7 @@ returns-in-Some-first_from-2-clause-broken g c = record {
   starts = c.requires;
   apart = none_same (words c.overlaps.result) (overlaps (gathered c.args.self.now)) c.overlaps.ensures c.in_default.ensures;
   outside_index = none_same (words c.entries_in_index.result) (entry_in_index (gathered c.args.self.now)) c.entries_in_index.ensures c.in_default-first_from.ensures;
-  start_in_main = sym c.has.ensures ∙ c.if-not-has.false;
+  start_in_main = sym c.contains.ensures ∙ c.if-not-contains.false;
   least = first_same (words c.halts_outside.result) (halt_outside (gathered c.args.self.now)) c.in-Some-first_from-2.at c.halts_outside.ensures c.in-Some-first_from-2.ensures;
 }
 
@@ -51,6 +51,6 @@ pub returns-clause-kept : goal.returns-clause-kept
 returns-clause-kept g c = record {
   apart = none_same (words c.overlaps.result) (overlaps (gathered c.args.self.now)) c.overlaps.ensures c.in_default.ensures;
   outside_index = none_same (words c.entries_in_index.result) (entry_in_index (gathered c.args.self.now)) c.entries_in_index.ensures c.in_default-first_from.ensures;
-  start_in_main = sym c.has.ensures ∙ c.if-not-has.false;
+  start_in_main = sym c.contains.ensures ∙ c.if-not-contains.false;
   halts_inside = none_same (words c.halts_outside.result) (halt_outside (gathered c.args.self.now)) c.halts_outside.ensures c.in_default-first_from-2.ensures;
 }

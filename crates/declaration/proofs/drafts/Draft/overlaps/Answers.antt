@@ -1,6 +1,6 @@
-use Rattle.std.proofs.Common.{sym}
+use Rattle.std.proofs.Common.{refl}
 use Rattle.declaration.specs.Drafts.{gathered}
-use Rattle.declaration.proofs.RuleLemmas.{overlaps_found, cells_below}
+use Rattle.declaration.proofs.RuleLemmas.{overlaps_found}
 use Rattle.wordset.proofs.SetLemmas.{same_words}
 use Rattle.declaration.proofs.drafts.Draft.overlaps.Goals as goal
 
@@ -8,4 +8,4 @@ pub returns : goal.returns
 returns g c = λ v h.
     rw (same_words c.union-4.ensures v h, same_words c.union-3.ensures v h, same_words c.union-2.ensures v h, same_words c.union.ensures v h, same_words c.meet.ensures v h, same_words c.meet-2.ensures v h, same_words c.meet-3.ensures v h)
     (overlaps_found (gathered c.args.self.now) c.args.bodies.now c.args.entries.now v h c.requires.bodies c.requires.entries _ _ _
-    (sym (cells_below c.args.self.now.variables v h)) (sym (cells_below c.args.self.now.stops v h)) (sym (cells_below c.args.self.now.pauses v h)))
+    refl refl refl)

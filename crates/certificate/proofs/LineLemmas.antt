@@ -1,0 +1,42 @@
+-- The texts of lines field by field.
+use Rattle.std.proofs.Common.{◌≡◌, ℕ, ◌+◌, List, [], ◌∷◌, ◌++◌, refl, append_assoc, append-nil}
+use Rattle.std.specs.Prelude.{codes}
+use Rattle.word12.specs.Words.{octal_text}
+use Rattle.certificate.specs.declared.Version.{Version}
+use Rattle.certificate.specs.declared.Version.TheVariants.{One, Two}
+use Rattle.wordset.specs.Words.{Words}
+use Rattle.facts.specs.Statements.{TrackedCell}
+use Rattle.certificate.specs.Spelling.{RoutineLine, set_text, digits, mq_text, offsets_text}
+use Rattle.certificate.specs.Line.{Registers, Line, RoutineIs, FactIs, ExitIs, words_text, rank_text, routine_line, cell_line, line_text}
+use Rattle.certificate.specs.Fields.{EndsField}
+
+-- After what is said of MQ comes a space.
+pub mq_space : (v : Version) (s : Words) (rest : List ℕ) → EndsField (mq_text v s ++ 32 ∷ rest)
+mq_space One s rest = refl
+mq_space Two s rest = refl
+
+pub words_fields : (v : Version) (r : Registers) (rest : List ℕ) → words_text v r ++ rest ≡
+    codes " ac " ++ (set_text r.ac ++ (mq_text v r.mq ++ (codes " link " ++ (digits 2 r.link ++ rest))))
+words_fields v r rest = simp append_assoc
+
+pub routine_fields : (r : RoutineLine) → routine_line r ≡
+    codes "routine " ++ (octal_text r.entry ++ (codes " rank " ++ (rank_text r.rank ++ (codes " sites " ++ (set_text r.sites ++
+    (codes " writes " ++ (set_text r.writes ++ [])))))))
+routine_fields r = simp (append_assoc, append-nil)
+
+pub fact_fields : (v : Version) (a : ℕ) (r : Registers) (offsets : Words) → line_text v (FactIs a r offsets) ≡
+    codes "fact " ++ (octal_text a ++ (words_text v r ++ (codes " offsets " ++ (offsets_text offsets ++ []))))
+fact_fields v a r offsets = five (codes "fact ") (octal_text a) (words_text v r) (codes " offsets ") (offsets_text offsets)
+  where
+    five : (a b c d e : List ℕ) → a ++ b ++ c ++ d ++ e ≡ a ++ (b ++ (c ++ (d ++ (e ++ []))))
+    five a b c d e = simp (append_assoc, append-nil)
+
+pub exit_fields : (v : Version) (e o : ℕ) (r : Registers) → line_text v (ExitIs e o r) ≡
+    codes "exit " ++ (octal_text e ++ (codes " " ++ ((48 + o) ∷ (words_text v r ++ []))))
+exit_fields v e o r = four (codes "exit ") (octal_text e) (codes " ") ((48 + o) ∷ words_text v r)
+  where
+    four : (a b c d : List ℕ) → a ++ b ++ c ++ d ≡ a ++ (b ++ (c ++ (d ++ [])))
+    four a b c d = simp (append_assoc, append-nil)
+
+pub cell_fields : (c : TrackedCell) → cell_line c ≡ codes "cell " ++ (octal_text c.address ++ (codes " " ++ (set_text c.set ++ [])))
+cell_fields c = simp (append_assoc, append-nil)

@@ -1,0 +1,25 @@
+use Rattle.std.proofs.Common.{refl, sym, subst}
+use Rattle.wordset.specs.Words.{Words}
+use Rattle.facts.specs.Meaning.{offsets_of}
+use Rattle.certificate.specs.Fields.{left}
+use Rattle.certificate.proofs.DigitLemmas.{no_digits, digit_there, digit_missing, all_digits}
+use Rattle.certificate.proofs.fields.Fields.digits.Goals as goal
+use Rattle.certificate.proofs.fields.Fields.digits.Goals.{then-takes, else-takes}
+
+pub loop-digit-init : goal.loop-digit-init
+loop-digit-init c = no_digits c.args.count (left c.args.self.now) (offsets_of c.none-found.result) c.none-found.ensures
+
+pub loop-digit-preserved : goal.loop-digit-preserved
+loop-digit-preserved c = elim c.if-takes.branch [
+  | then-takes w ↦ rw w.found-is (digit_there c.args.count c.loop-digit.digit (left c.args.self.now) (left c.loop-digit.self) (left c.takes.new.self)
+      (offsets_of c.loop-digit.found) (offsets_of w.insert.new.self) c.loop-digit-test.true c.requires c.loop-digit.invariant
+      (w.if-takes.ensures.taken refl) w.if-takes.ensures.only w.insert.ensures)
+  | else-takes w ↦ rw w.found-is (digit_missing c.args.count c.loop-digit.digit (left c.args.self.now) (left c.loop-digit.self) (left c.takes.new.self)
+      (offsets_of c.loop-digit.found) c.loop-digit-test.true c.requires c.loop-digit.invariant
+      (w.if-takes.ensures.kept refl) w.if-takes.ensures.only)
+]
+
+pub returns-clause-only : goal.returns-clause-only
+returns-clause-only c =
+    all_digits c.args.count c.loop-digit.digit (left c.args.self.now) (left c.loop-digit.self) (offsets_of c.loop-digit.found)
+    c.loop-digit-test.false c.loop-digit.auto.digit-end c.loop-digit.invariant

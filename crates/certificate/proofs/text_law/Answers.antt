@@ -1,0 +1,5 @@
+use Rattle.certificate.proofs.TextLemmas.{text_law}
+use Rattle.certificate.proofs.text_law.Goals as goal
+
+pub returns : goal.returns
+returns c = text_law

@@ -1,0 +1,130 @@
+-- Which line may come after which lines. Lists of lines have the newest line first.
+use Rattle.std.specs.Prelude.{◌≡◌, ℕ, ◌+◌, ◌*◌, ◌<◌, ◌≤◌, Bool, true, false, not, ◌&&◌, ◌||◌, if◌then◌else◌, List, [], ◌∷◌, ◌++◌, length}
+use Rattle.certificate.specs.declared.Version.{Version}
+use Rattle.certificate.specs.Spelling.{version_text}
+use Rattle.certificate.specs.Reading.{place_of_equation}
+use Rattle.certificate.specs.Line.{Line, RoutineIs, FactIs, ExitIs, CellIs, EquationIs, End, IsLine, line_text, ended}
+
+-- A line of a cell or of an equation, which says more of the fact or exit before it.
+abbrev pub is_detail : Line → Bool
+is_detail (CellIs c) = true
+is_detail (EquationIs e) = true
+is_detail _ = false
+
+-- A line of a fact or of an exit.
+abbrev pub has_details : Line → Bool
+has_details (FactIs a r offsets) = true
+has_details (ExitIs e o r) = true
+has_details _ = false
+
+abbrev pub is_end : Line → Bool
+is_end End = true
+is_end _ = false
+
+-- One of the lines is so.
+abbrev pub any : (Line → Bool) → List Line → Bool
+any test [] = false
+any test (l ∷ ls) = test l || any test ls
+
+-- How many of the lines are so.
+abbrev pub how_many : (Line → Bool) → List Line → ℕ
+how_many test [] = 0
+how_many test (l ∷ ls) = (if test l then 1 else 0) + how_many test ls
+
+-- A line may stand after others if they have no end, and a cell or an equation if one of them is a fact or an exit.
+abbrev pub may_stand : List Line → Line → Bool
+may_stand before l = not (any is_end before) && (not (is_detail l) || any has_details before)
+
+-- The lines of routines, facts and exits; and the cells and equations since the last of them.
+abbrev pub heads : List Line → List Line
+heads [] = []
+heads (l ∷ ls) = if is_detail l then heads ls else l ∷ heads ls
+
+abbrev pub details_of_last : List Line → List Line
+details_of_last [] = []
+details_of_last (l ∷ ls) = if is_detail l then l ∷ details_of_last ls else []
+
+-- The place of a line in the order: routines, facts, exits and the end; and under a fact or an exit cells, then equations.
+abbrev pub place : Line → ℕ
+place (RoutineIs r) = r.entry
+place (FactIs a r offsets) = 4096 + a
+place (ExitIs e o r) = 8192 + (8 * e + o)
+place End = 40960
+place (CellIs c) = c.address
+place (EquationIs e) = 4096 + place_of_equation e
+
+-- The least place after the newest of the lines.
+abbrev pub next_place : List Line → ℕ
+next_place [] = 0
+next_place (l ∷ ls) = place l + 1
+
+-- The lines with which a line has to be in order.
+abbrev pub fellows : List Line → Line → List Line
+fellows before l = if is_detail l then details_of_last before else heads before
+
+-- A line comes in order after others.
+abbrev pub InOrder : List Line → Line → Type 0
+InOrder before l = next_place (fellows before l) ≤ place l
+
+abbrev pub is_routine : Line → Bool
+is_routine (RoutineIs r) = true
+is_routine _ = false
+
+abbrev pub is_cell : Line → Bool
+is_cell (CellIs c) = true
+is_cell _ = false
+
+abbrev pub is_equation : Line → Bool
+is_equation (EquationIs e) = true
+is_equation _ = false
+
+-- There may be 64 routines, and a fact or an exit may have 64 cells and 32 equations.
+abbrev pub HasRoom : List Line → Line → Type 0
+HasRoom before (RoutineIs r) = how_many is_routine before < 64
+HasRoom before (CellIs c) = how_many is_cell (details_of_last before) < 64
+HasRoom before (EquationIs e) = how_many is_equation (details_of_last before) < 32
+HasRoom before _ = Unit {0}
+
+-- The line is spelled by these bytes.
+abbrev pub Spells : Version → Line → List ℕ → Type 0
+Spells v l bytes = IsLine v l × (bytes ≡ line_text v l)
+
+-- A line may come next.
+pub record IsNext (v : Version) (before : List Line) (l : Line) : Type 0 where
+  pub stands : may_stand before l ≡ true
+  pub order : InOrder before l
+  pub room : HasRoom before l
+
+-- Each line may come after those before it.
+abbrev pub AreInOrder : Version → List Line → Type 0
+AreInOrder v [] = Unit {0}
+AreInOrder v (l ∷ ls) = IsLine v l × IsNext v ls l × AreInOrder v ls
+
+-- The text of a version's line and of lines.
+abbrev pub front : Version → List Line → List ℕ
+front v [] = ended (version_text v)
+front v (l ∷ ls) = front v ls ++ ended (line_text v l)
+
+-- The bytes are bad after the lines: no line that may stand there spells them.
+abbrev pub IsBad : Version → List Line → List ℕ → Type 0
+IsBad v before bytes = (l : Line) → Spells v l bytes → may_stand before l ≡ true → ⊥
+
+-- They spell a line that may stand there but is out of order.
+pub record IsMisplaced (v : Version) (before : List Line) (bytes : List ℕ) : Type 0 where
+  pub line : Line
+  pub spells : Spells v line bytes
+  pub stands : may_stand before line ≡ true
+  pub order : InOrder before line → ⊥
+
+-- They spell a line in order for which there is no room.
+pub record IsOneTooMany (v : Version) (before : List Line) (bytes : List ℕ) : Type 0 where
+  pub line : Line
+  pub spells : Spells v line bytes
+  pub stands : may_stand before line ≡ true
+  pub order : InOrder before line
+  pub room : HasRoom before line → ⊥
+
+-- They spell a line that comes next.
+pub record Continues (v : Version) (before : List Line) (bytes : List ℕ) (l : Line) : Type 0 where
+  pub spells : Spells v l bytes
+  pub next : IsNext v before l

@@ -1,0 +1,42 @@
+-- What is kept of the lines that were read.
+use Rattle.std.specs.Prelude.{◌≡◌, ℕ, ◌+◌, ◌<◌, List, ◌∷◌, length, Result, Ok, Err}
+use Rattle.certificate.specs.declared.CertificateFault.{CertificateFault}
+use Rattle.certificate.specs.declared.CertificateFault.TheVariants as faults
+use Rattle.certificate.specs.declared.Version.{Version}
+use Rattle.certificate.specs.declared.line.Line.{Line as ReadLine}
+use Rattle.certificate.specs.declared.progress.Progress.{Progress}
+use Rattle.certificate.specs.Line.{Line, RoutineIs, FactIs, ExitIs, CellIs, EquationIs, End}
+use Rattle.certificate.specs.Order.{any, how_many, is_end, has_details, is_routine, is_cell, is_equation, heads, details_of_last, next_place, Continues, IsBad, IsMisplaced, IsOneTooMany}
+use Rattle.certificate.specs.Meaning.{said}
+
+-- What is kept is that of these lines; their number apart.
+pub record TracksOthers (p : Progress) (before : List Line) : Type 0 where
+  pub ended : p.ended ≡ any is_end before
+  pub takes_details : p.takes_details ≡ any has_details before
+  pub next_head : p.next_head ≡ next_place (heads before)
+  pub next_detail : p.next_detail ≡ next_place (details_of_last before)
+  pub routines : p.routines ≡ how_many is_routine before
+  pub cells : p.cells ≡ how_many is_cell (details_of_last before)
+  pub equations : p.equations ≡ how_many is_equation (details_of_last before)
+
+pub record Tracks (p : Progress) (before : List Line) : Type 0 where
+  pub number : p.number ≡ length before + 2
+  pub others : TracksOthers p before
+
+-- There is room for a line more of its kind.
+abbrev pub Fits : Progress → Line → Type 0
+Fits p (RoutineIs r) = p.routines < 64
+Fits p (CellIs c) = p.cells < 64
+Fits p (EquationIs e) = p.equations < 32
+Fits p (FactIs a r offsets) = Unit {0}
+Fits p (ExitIs e o r) = Unit {0}
+Fits p End = Unit {0}
+
+-- What a call answers that takes the next line.
+abbrev pub Takes : Version → List Line → List ℕ → Progress → Result ReadLine CertificateFault → Type 0
+Takes v before bytes after (Ok l) = Continues v before bytes (said l) × Tracks after (said l ∷ before)
+Takes v before bytes after (Err (faults.BadLine n)) = (n ≡ length before + 2) × IsBad v before bytes
+Takes v before bytes after (Err (faults.Order n)) = (n ≡ length before + 2) × IsMisplaced v before bytes
+Takes v before bytes after (Err faults.TooMany) = IsOneTooMany v before bytes
+Takes v before bytes after (Err faults.Version) = ⊥
+Takes v before bytes after (Err faults.NoMemory) = ⊥

@@ -1,0 +1,262 @@
+//! The fields of a line, each with one spelling.
+
+ghost use Rattle.std.specs.Prelude.{ℕ, ◌≡◌, ◌+◌, ◌<◌, ◌≤◌, ◌↔◌, List, [], ◌∷◌, ◌++◌, IsTrue, true, false, Some, None, IfSome};
+ghost use Rattle.word12.specs.Words.{octal_text};
+ghost use Rattle.std.specs.Option.{IsSomeAnd};
+ghost use Rattle.wordset.specs.Words.{Words, SameWords, SameLinks, some_below, has_some};
+ghost use Rattle.wordset.specs.Lanes.{words};
+ghost use Rattle.wordset.specs.Links.{links_of};
+ghost use Rattle.facts.specs.Facts.{Name as Named};
+ghost use Rattle.facts.specs.Meaning.{name_of, offsets_of};
+ghost use Rattle.certificate.specs.Spelling.{marks, set_text, digits, offsets_text, name_text};
+ghost use Rattle.certificate.specs.Reading.{place_of_name};
+ghost use Rattle.certificate.specs.Line.{rank_text};
+ghost use Rattle.certificate.specs.Fields.{left, WasFirst, run_text, NoDash, EndsField};
+
+use facts::{Name, Offsets};
+use word12::{Link, Word};
+use wordset::{Links, WordSet};
+
+/// A line from some field on, or nothing once a field didn't read.
+#[derive(Clone, Copy, Debug)]
+pub struct Fields<'a> {
+    rest: &'a [u8],
+    reads: bool,
+}
+
+impl<'a> Fields<'a> {
+    /// The fields of a line.
+    pub fn of(line: &'a [u8]) -> Fields<'a>
+        ensures { left result ≡ Some line.now }
+    {
+        Fields {
+            rest: line,
+            reads: true,
+        }
+    }
+
+    /// Whether all fields read and nothing is left.
+    pub fn is_done(&self) -> bool
+        ensures { IsTrue result ↔ (left self.now ≡ Some []) }
+    {
+        self.reads && self.rest.is_empty()
+    }
+
+    /// A field didn't read.
+    pub fn fail(&mut self)
+        ensures { left self.new ≡ None }
+    {
+        self.reads = false;
+    }
+
+    /// Takes a byte, if it's the next one.
+    pub fn takes(&mut self, byte: u8) -> bool
+        ensures taken { result ≡ true → IsSomeAnd (left self.new) (λ rest. left self.old ≡ Some (byte ∷ rest)) }
+        ensures kept { result ≡ false → left self.new ≡ left self.old }
+        ensures only { (rest : List ℕ) → left self.old ≡ Some (byte ∷ rest) →
+            (result ≡ true) × (left self.new ≡ Some rest) }
+    {
+        if !self.reads {
+            return false;
+        }
+        match self.rest.split_first() {
+            Some((first, rest)) if *first == byte => {
+                self.rest = rest;
+                true
+            }
+            _ => false,
+        }
+    }
+
+    /// An octal digit.
+    pub fn digit(&mut self) -> usize
+        ensures small { result < 8 }
+        ensures read { WasFirst self.old self.new ((48 + result) ∷ []) }
+        ensures only { (d : ℕ) (rest : List ℕ) → d < 8 → left self.old ≡ Some ((48 + d) ∷ rest) →
+            (result ≡ d) × (left self.new ≡ Some rest) }
+    {
+        match self.rest.split_first() {
+            Some((first, rest)) if b'0' <= *first && *first < b'8' => {
+                self.rest = rest;
+                usize::from(*first - b'0')
+            }
+            _ => {
+                self.fail();
+                0
+            }
+        }
+    }
+
+    /// A word of four octal digits.
+    pub fn word(&mut self) -> Word
+        ensures read { WasFirst self.old self.new (octal_text result) }
+        ensures only { (w : ℕ) (rest : List ℕ) → w < 4096 → left self.old ≡ Some (octal_text w ++ rest) →
+            (result ≡ w) × (left self.new ≡ Some rest) }
+    {
+        let first = self.digit();
+        let second = self.digit();
+        let third = self.digit();
+        let fourth = self.digit();
+        Word::from_index(512 * first + 64 * second + 8 * third + fourth)
+    }
+
+    /// Some text as it stands here.
+    pub fn skip(&mut self, text: &[u8])
+        ensures read { WasFirst self.old self.new text.now }
+        ensures only { (rest : List ℕ) → left self.old ≡ Some (text.now ++ rest) → left self.new ≡ Some rest }
+    {
+        match self.rest.strip_prefix(text) {
+            Some(rest) => self.rest = rest,
+            None => self.fail(),
+        }
+    }
+
+    /// A run of a set's words from `from` on: its first word and its last one.
+    fn run(&mut self, from: usize) -> (Word, Word)
+        ensures read { WasFirst self.old self.new (run_text result.0 result.1) }
+        ensures order { IfSome (left self.new) (λ rest. (from ≤ result.0) × (result.0 ≤ result.1)) }
+        ensures only { (low high : ℕ) (rest : List ℕ) → from ≤ low → low ≤ high → high < 4096 → NoDash rest →
+            left self.old ≡ Some (run_text low high ++ rest) →
+            (result.0 ≡ low) × (result.1 ≡ high) × (left self.new ≡ Some rest) }
+    {
+        let low = self.word();
+        if low.index() < from {
+            self.fail();
+        }
+        if !self.takes(b'-') {
+            return (low, low);
+        }
+        let high = self.word();
+        if high <= low {
+            self.fail();
+        }
+        (low, high)
+    }
+
+    /// A set with a word, by its maximal runs.
+    fn runs(&mut self) -> WordSet
+        ensures read { IfSome (left self.new) (λ rest. (has_some (words result) ≡ true) ×
+            (left self.old ≡ Some (marks 4096 (words result) ++ rest))) }
+        ensures only { (s : Words) (rest : List ℕ) → has_some s ≡ true → EndsField rest →
+            left self.old ≡ Some (marks 4096 s ++ rest) →
+            SameWords (words result) s × (left self.new ≡ Some rest) }
+    {
+        let (low, high) = self.run(0);
+        let mut set = WordSet::range(low, high);
+        let mut next = high.index() + 2;
+        while self.takes(b',') {
+            let (low, high) = self.run(next);
+            set = set.union(&WordSet::range(low, high));
+            next = high.index() + 2;
+        }
+        set
+    }
+
+    /// A set of words, `-` for the empty one.
+    pub fn set(&mut self) -> WordSet
+        ensures read { WasFirst self.old self.new (set_text (words result)) }
+        ensures only { (s : Words) (rest : List ℕ) → EndsField rest → left self.old ≡ Some (set_text s ++ rest) →
+            SameWords (words result) s × (left self.new ≡ Some rest) }
+    {
+        if self.takes(b'-') {
+            return WordSet::empty();
+        }
+        self.runs()
+    }
+
+    /// A set that isn't empty.
+    pub fn some_set(&mut self) -> WordSet
+        ensures some { IfSome (left self.new) (λ rest. has_some (words result) ≡ true) }
+        ensures read { WasFirst self.old self.new (set_text (words result)) }
+        ensures only { (s : Words) (rest : List ℕ) → has_some s ≡ true → EndsField rest →
+            left self.old ≡ Some (set_text s ++ rest) →
+            SameWords (words result) s × (left self.new ≡ Some rest) }
+    {
+        self.runs()
+    }
+
+    /// Some of the digits below `count`, in rising order.
+    fn digits(&mut self, count: usize) -> Offsets
+        requires { count ≤ 8 }
+        ensures read { WasFirst self.old self.new (digits count (offsets_of result)) }
+        ensures others { (v : ℕ) → count ≤ v → v < 8 → offsets_of result v ≡ false }
+        ensures only { (s : Words) (rest : List ℕ) → EndsField rest → left self.old ≡ Some (digits count s ++ rest) →
+            ((v : ℕ) → v < count → offsets_of result v ≡ s v) × (left self.new ≡ Some rest) }
+    {
+        let mut found = Offsets::none();
+        for digit in 0..count {
+            if self.takes(b'0' + digit as u8) {
+                found.insert(digit);
+            }
+        }
+        found
+    }
+
+    /// Links: `0`, `1` or `01`.
+    pub fn links(&mut self) -> Links
+        ensures some { IfSome (left self.new) (λ rest. some_below 2 (links_of result) ≡ true) }
+        ensures read { WasFirst self.old self.new (digits 2 (links_of result)) }
+        ensures only { (s : Words) (rest : List ℕ) → some_below 2 s ≡ true → EndsField rest →
+            left self.old ≡ Some (digits 2 s ++ rest) →
+            SameLinks (links_of result) s × (left self.new ≡ Some rest) }
+    {
+        let links = links_among(self.digits(2));
+        if links.is_empty() {
+            self.fail();
+        }
+        links
+    }
+
+    /// Offsets, `-` where there are none.
+    pub fn offsets(&mut self) -> Offsets
+        ensures read { WasFirst self.old self.new (offsets_text (offsets_of result)) }
+        ensures only { (s : Words) (rest : List ℕ) → EndsField rest → left self.old ≡ Some (offsets_text s ++ rest) →
+            ((o : ℕ) → o < 8 → offsets_of result o ≡ s o) × (left self.new ≡ Some rest) }
+    {
+        if self.takes(b'-') {
+            return Offsets::none();
+        }
+        let offsets = self.digits(8);
+        if offsets.is_empty() {
+            self.fail();
+        }
+        offsets
+    }
+
+    /// A rank, of two octal digits.
+    pub fn rank(&mut self) -> usize
+        ensures small { result < 64 }
+        ensures read { WasFirst self.old self.new (rank_text result) }
+        ensures only { (n : ℕ) (rest : List ℕ) → n < 64 → left self.old ≡ Some (rank_text n ++ rest) →
+            (result ≡ n) × (left self.new ≡ Some rest) }
+    {
+        let first = self.digit();
+        let second = self.digit();
+        8 * first + second
+    }
+
+    /// `AC` or a cell's address.
+    pub fn name(&mut self) -> Name
+        ensures read { WasFirst self.old self.new (name_text (name_of result)) }
+        ensures only { (n : Named) (rest : List ℕ) → place_of_name n < 4097 → left self.old ≡ Some (name_text n ++ rest) →
+            (name_of result ≡ n) × (left self.new ≡ Some rest) }
+    {
+        if self.takes(b'A') {
+            self.skip(b"C");
+            return Name::Accumulator;
+        }
+        Name::Cell(self.word())
+    }
+}
+
+/// The links of which the numbers are among these digits.
+fn links_among(digits: Offsets) -> Links
+    ensures { SameLinks (links_of result) (offsets_of digits) }
+{
+    match (digits.contains(0), digits.contains(1)) {
+        (false, false) => Links::none(),
+        (true, false) => Links::one(Link::CLEAR),
+        (false, true) => Links::one(Link::SET),
+        (true, true) => Links::both(),
+    }
+}

@@ -1,0 +1,50 @@
+-- What a command read, as far as a source tells its bytes; and what became of a source that was read.
+use Rattle.std.specs.Prelude.{ℕ, ◌≡◌, ◌≤◌, Bool, true, IfSome, List, Option, length, take}
+use Rattle.streams.specs.Bytes.{Gave}
+use Rattle.bin_tape.specs.Tape.{IsTape}
+use Rattle.bin_tape.specs.Refuses.{IsUnfinished}
+use Rattle.peripherals.specs.declared.Event.{Event}
+use Rattle.peripherals.specs.EventText.{Spells}
+use Rattle.declaration.specs.Declaration.{Declaration}
+use Rattle.declaration.specs.Text.{Declares}
+
+-- The frames are a tape with this image, whose trailer is within the limit of what is looked at.
+abbrev pub HasImage : Option (List ℕ) → List (Option ℕ) → Type 0
+HasImage frames image = IfSome frames (λ bytes. IsTape (take 65536 bytes) image)
+
+-- The text spells these events.
+abbrev pub HasEvents : Option (List ℕ) → List Event → Type 0
+HasEvents text events = IfSome text (λ bytes. Spells bytes events)
+
+-- The text has this declaration.
+abbrev pub HasDeclaration : Option (List ℕ) → Declaration → Type 0
+HasDeclaration text declaration = IfSome text (λ bytes. Declares bytes declaration)
+
+-- The frames are a tape.
+pub record IsGoodTape (frames : Option (List ℕ)) : Type 0 where
+  pub image : List (Option ℕ)
+  pub tape : HasImage frames image
+
+-- The text is that of a declaration.
+pub record IsGoodDeclaration (text : Option (List ℕ)) : Type 0 where
+  pub declaration : Declaration
+  pub declares : HasDeclaration text declaration
+
+-- A source that was read: whether a read failed, what it had, and what it has left.
+pub record Input : Type 0 where
+  pub failed : Bool
+  pub had : Option (List ℕ)
+  pub left : Option (List ℕ)
+
+abbrev pub input : Bool → Option (List ℕ) → Option (List ℕ) → Input
+input failed had left = record { failed = failed; had = had; left = left }
+
+-- A read of a tape failed, and the frames given before it bring no answer.
+pub record FailsInTape (tape : Input) : Type 0 where
+  pub failed : tape.failed ≡ true
+  pub unanswered : Gave tape.had tape.left IsUnfinished
+
+-- A read of a text failed, and so many bytes at most were given before it: the text may still be short enough.
+pub record FailsInText (most : ℕ) (text : Input) : Type 0 where
+  pub failed : text.failed ≡ true
+  pub short : Gave text.had text.left (λ given. length given ≤ most)

@@ -1,0 +1,16 @@
+-- What a command wrote: a text that is right for what was read, or a front of one.
+use Rattle.std.specs.Prelude.{ℕ, List, Option}
+use Rattle.std.specs.Io.KnownBytes.{Appends}
+use Rattle.streams.specs.Bytes.{AppendsFront}
+
+-- A text of which P is true was appended to what a sink tells.
+pub record Writes (P : List ℕ → Type 0) (old new : Option (List ℕ)) : Type 0 where
+  pub text : List ℕ
+  pub is : P text
+  pub written : Appends old new text
+
+-- A front of such a text was appended: all of it, a part or nothing.
+pub record FrontOf (P : List ℕ → Type 0) (old new : Option (List ℕ)) : Type 0 where
+  pub text : List ℕ
+  pub is : P text
+  pub front : AppendsFront old new text

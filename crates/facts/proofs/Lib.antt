@@ -16,3 +16,5 @@ pub mod OutcomeLemmas
 pub mod TadLemmas
 pub mod ReachLemmas
 pub mod RegisterLemmas
+pub mod SkipLemmas
+pub mod DispatchLemmas

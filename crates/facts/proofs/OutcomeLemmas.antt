@@ -47,6 +47,11 @@ append_agree [] (p ∷ ps) c d h k = absurd h
 append_agree (o ∷ os) [] c d h k = absurd h
 append_agree (o ∷ os) (p ∷ ps) c d h k = (h.0, append_agree os ps c d h.1 k)
 
+pub keeps_agreeing : (a l : List Outcome) → AgreeingOutcomes a l → AgreeingOutcomes (a ++ []) l
+keeps_agreeing [] l h = h
+keeps_agreeing (o ∷ os) [] h = absurd h
+keeps_agreeing (o ∷ os) (p ∷ ps) h = (h.0, keeps_agreeing os ps h.1)
+
 pub one_at : {s : Words} {n m : ℕ} → s ≡ one n → n ≡ m → SameWords s (one m)
 one_at {s} {n} {m} e h v lt = ap (λ (x : Words). x v) e ∙ ap (λ k. v == k) h
 

@@ -1,5 +1,5 @@
 -- Outcomes as code gives them, and what they mean.
-use Rattle.std.specs.Prelude.{List, [], ◌∷◌, Option, Some, None}
+use Rattle.std.specs.Prelude.{List, [], ◌∷◌, ◌++◌, Option, Some, None}
 use Rattle.wordset.specs.Lanes.{words}
 use Rattle.facts.specs.Outcomes as spec
 use Rattle.facts.specs.Meaning.{known_of}
@@ -16,3 +16,8 @@ outcome_of (Returns k) = spec.Returns (known_of k)
 abbrev pub slot : Option Outcome → List spec.Outcome
 slot None = []
 slot (Some o) = outcome_of o ∷ []
+
+-- Outcomes in their order, each of which may not be there.
+abbrev pub slots : List (Option Outcome) → List spec.Outcome
+slots [] = []
+slots (o ∷ os) = slot o ++ slots os

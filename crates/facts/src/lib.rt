@@ -6,6 +6,7 @@ ghost use Rattle.facts.specs.Starts.{StartLaw};
 ghost use Rattle.facts.specs.Same.{SameLaw};
 
 mod changes;
+mod dispatch;
 mod entailment;
 mod equations;
 mod fact;
@@ -16,7 +17,9 @@ mod outcome;
 mod place;
 mod references;
 mod registers;
+mod skipping;
 
+pub use dispatch::{Outcomes, outcomes};
 pub use entailment::{entails, entails_return, holds_before, narrowed};
 pub use fact::{Fact, TrackedCell};
 pub use known::Known;

@@ -29,7 +29,7 @@ pub enum Outcome<'a> {
 }
 
 /// Whether a set has a word.
-fn has_word(set: &WordSet) -> bool
+pub(crate) fn has_word(set: &WordSet) -> bool
     ensures { result ≡ has_some (words set.now) }
 {
     !set.is_empty()

@@ -52,7 +52,7 @@ fn tape_words(word: Option<Word>) -> WordSet
 }
 
 /// The words of a set, and those of another where it is chosen.
-fn union_if(chosen: bool, set: &WordSet, more: &WordSet) -> WordSet
+pub(crate) fn union_if(chosen: bool, set: &WordSet, more: &WordSet) -> WordSet
     ensures { (v : ℕ) → words result v ≡ (words set.now v || (chosen && words more.now v)) }
 {
     if chosen { set.union(more) } else { *set }

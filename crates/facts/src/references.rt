@@ -323,4 +323,26 @@ impl<A: Allocator> Place<'_, A> {
         }
         going(targets, known, &WordSet::all(), targets, known.same())
     }
+
+    /// ISZ: of one variable, of the running routine's own entry, or of one of several variables.
+    pub(crate) fn count<'a>(
+        &self,
+        at: Word,
+        known: &Known<'a>,
+        targets: &WordSet,
+    ) -> (Option<Outcome<'a>>, Option<Outcome<'a>>)
+        requires { IsUnchanged known.now.target }
+        ensures { (f : said.Fact) (p : Words) → Agree (known_of known.now) f → SameWords (words targets.now) p →
+            AgreeingOutcomes (slot result.0 ++ slot result.1) (isz_case (place_of self.now) at f p (only p)) }
+    {
+        match targets.only() {
+            None => count_several(at, known, targets),
+            Some(cell) => {
+                if self.declaration.is_variable(cell) {
+                    return count_one(at, known, targets, cell);
+                }
+                (count_own(at, known, targets, cell), None)
+            }
+        }
+    }
 }

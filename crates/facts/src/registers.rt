@@ -1,16 +1,17 @@
 //! The outcomes of operate words, which go on at the next address whatever memory holds.
 
-ghost use Rattle.std.specs.Prelude.{◌≡◌, ◌++◌};
+ghost use Rattle.std.specs.Prelude.{◌≡◌, ◌++◌, Some};
 ghost use Rattle.wordset.specs.Words.{Words, SameWords, everything, one, plus};
 ghost use Rattle.wordset.specs.Lanes.{words};
 ghost use Rattle.instruct.specs.declared.Profile.TheVariants.{Pdp8E};
 ghost use Rattle.instruct.specs.declared.Instruction.TheVariants.{Operate1};
 ghost use Rattle.instruct.specs.Bits.{has_bit};
-ghost use Rattle.instruct.specs.Instructions.{instruction_of, Skips, Ors, Clears, Leaves};
+ghost use Rattle.instruct.specs.Operates.{MqOperate, mq_operate_of};
+ghost use Rattle.instruct.specs.Instructions.{instruction_of, processor_action, Skips, Ors, Clears, Takes, Leaves};
 ghost use Rattle.facts.specs.Facts as said;
 ghost use Rattle.facts.specs.Facts.{Ac};
 ghost use Rattle.facts.specs.Changes.{assigned, with_mq};
-ghost use Rattle.facts.specs.Outcomes.{goes, changes_ac, related1, operated1, device_outcomes};
+ghost use Rattle.facts.specs.Outcomes.{goes, changes_ac, related1, operated1, operated3, device_outcomes};
 ghost use Rattle.facts.specs.Same.{Agree, AgreeingOutcomes};
 ghost use Rattle.facts.specs.Meaning.{known_of};
 ghost use Rattle.facts.specs.Slots.{slot};
@@ -18,6 +19,7 @@ ghost use Rattle.facts.specs.Slots.{slot};
 use crate::known::Known;
 use crate::names::Name;
 use crate::outcome::{Outcome, address_after, address_skipped_to, going};
+use instruct::DeviceOperation;
 use word12::Word;
 use wordset::WordSet;
 
@@ -108,6 +110,14 @@ pub(crate) fn clear<'a>(at: Word, known: &Known<'a>) -> Option<Outcome<'a>>
     go_on(at, known, known.with_ac(WordSet::one(Word::ZERO)))
 }
 
+/// A device's byte, which may be any, is taken into the accumulator.
+pub(crate) fn take_byte<'a>(at: Word, known: &Known<'a>) -> Option<Outcome<'a>>
+    ensures { (f : said.Fact) → Agree (known_of known.now) f → AgreeingOutcomes (slot result) (device_outcomes at f Takes) }
+{
+    let bytes = WordSet::range(Word::ZERO, Word::from_byte(0o377));
+    go_on(at, known, known.with_ac(bytes))
+}
+
 /// Nothing changes.
 pub(crate) fn leave<'a>(at: Word, known: &Known<'a>) -> Option<Outcome<'a>>
     ensures { (f : said.Fact) → Agree (known_of known.now) f → AgreeingOutcomes (slot result) (device_outcomes at f Leaves) }
@@ -121,4 +131,46 @@ fn take<'a>(at: Word, known: &Known<'a>, ac: WordSet, mq: WordSet) -> Option<Out
         AgreeingOutcomes (slot result) (goes everything f everything (one (plus at 1)) (with_mq t (assigned Ac s f))) }
 {
     go_on(at, known, known.with_ac(ac).with_mq(mq))
+}
+
+/// A word of group 3 moves words between the accumulator and MQ.
+pub(crate) fn exchange<'a>(at: Word, word: Word, known: &Known<'a>) -> Option<Outcome<'a>>
+    ensures { (o : MqOperate) (f : said.Fact) → mq_operate_of word ≡ Some o → Agree (known_of known.now) f →
+        AgreeingOutcomes (slot result) (goes everything f everything (one (plus at 1)) (operated3 o f)) }
+{
+    let ac = known.narrowed(&Name::Accumulator);
+    let mq = known.mq;
+    let zero = WordSet::one(Word::ZERO);
+    match word.value() {
+        0o7421 => take(at, known, zero, ac),
+        0o7501 => take(at, known, ac.ors(&mq), mq),
+        0o7521 => take(at, known, mq, ac),
+        0o7621 => take(at, known, zero, zero),
+        0o7701 => take(at, known, mq, mq),
+        0o7721 => take(at, known, mq, zero),
+        _ => None,
+    }
+}
+
+/// A device word: a flag may be set or not, and a byte may be any.
+pub(crate) fn transfer<'a>(
+    at: Word,
+    operation: DeviceOperation,
+    known: &Known<'a>,
+) -> (Option<Outcome<'a>>, Option<Outcome<'a>>)
+    ensures { (f : said.Fact) → Agree (known_of known.now) f →
+        AgreeingOutcomes (slot result.0 ++ slot result.1) (device_outcomes at f (processor_action operation)) }
+{
+    match operation {
+        DeviceOperation::SkipOnReaderFlag
+        | DeviceOperation::SkipOnPunchFlag
+        | DeviceOperation::SkipOnKeyboardFlag
+        | DeviceOperation::SkipOnPrinterFlag => test_flag(at, known),
+        DeviceOperation::ReadReaderBuffer
+        | DeviceOperation::ReadReaderBufferAndFetchFrame
+        | DeviceOperation::ReadKeyboardBuffer => (or_byte(at, known), None),
+        DeviceOperation::ClearKeyboardFlagAndAccumulator => (clear(at, known), None),
+        DeviceOperation::TakeKeyboardByte => (take_byte(at, known), None),
+        _ => (leave(at, known), None),
+    }
 }

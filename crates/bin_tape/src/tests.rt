@@ -1,11 +1,11 @@
 //! Tapes worked by hand from the description of the format, frame by frame.
 
-use crate::standard::{Reads, Writes};
 use crate::{
     ByteSink, ByteSource, Failed, Image, TapeFault, TapeWord, WriteTapeFault, put, read_from,
     read_tape, write_tape,
 };
 use std::test::Fail;
+use streams::standard::{Reads, Writes};
 use testing::memory::{MemorySink, MemorySource};
 use word12::Word;
 

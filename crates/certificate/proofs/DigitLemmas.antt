@@ -80,8 +80,8 @@ no_digits c old t none = record { none = λ v a b. none v b; read = reads old; o
         let z : c - 0 ≡ c = omega arith in
         let y : c + 0 ≡ c = omega arith in
         let f : digits c s ≡ digits_from (c - 0) 0 s =
-            ap (λ m. digits m s) (sym y) ∙ (digits_split c 0 s ∙ (ap (λ (x : List ℕ). x ++ digits_from c 0 s) (digits_none s) ∙
-            ap (λ k. digits_from k 0 s) (sym z))) in
+        ap (λ m. digits m s) (sym y) ∙ (digits_split c 0 s ∙ (ap (λ (x : List ℕ). x ++ digits_from c 0 s) (digits_none s) ∙
+        ap (λ k. digits_from k 0 s) (sym z))) in
         (λ v h. absurd (omega arith), e ∙ ap (λ (x : List ℕ). Some (x ++ tail)) f)
 
 or_true : (b : Bool) → (b || true) ≡ true
@@ -148,14 +148,15 @@ digit_there c n old now (Some r) t u small few h took begins more = record { non
             ((v : ℕ) → v < n + 1 → u v ≡ s v) × (Some r ≡ Some (digits_from (c - (n + 1)) (n + 1) s ++ tail))
         go p = elim (by_digit s n) [
           | inl has ↦ (
-              (λ v a. elim (cases_lt v n) [
-                | inl b ↦ other v (omega arith) (λ z. omega arith) ∙ p.0 v b
-                | inr b ↦ (let z : v ≡ n = omega arith in rw z (here ∙ sym has))
-              ]),
-              (begins (digits_from (c - (n + 1)) (n + 1) s ++ tail) (p.1 ∙ ap (λ (x : List ℕ). Some (x ++ tail)) (with_digit c n s small has))).1)
+            (λ v a. elim (cases_lt v n) [
+              | inl b ↦ other v (omega arith) (λ z. omega arith) ∙ p.0 v b
+              | inr b ↦ (let z : v ≡ n = omega arith in rw z (here ∙ sym has))
+            ]),
+            (begins (digits_from (c - (n + 1)) (n + 1) s ++ tail) (p.1 ∙ ap (λ (x : List ℕ). Some (x ++ tail)) (with_digit c n s small has))).1,
+          )
           | inr lacks ↦ absurd (other_digit (c - (n + 1)) (n + 1) n s tail r ends (omega arith) (
               let f : now ≡ Some (digits_from (c - (n + 1)) (n + 1) s ++ tail) =
-                  p.1 ∙ ap (λ (x : List ℕ). Some (x ++ tail)) (without_digit c n s small lacks) in cc))
+              p.1 ∙ ap (λ (x : List ℕ). Some (x ++ tail)) (without_digit c n s small lacks) in cc))
         ]
 
 pub digit_missing : (c n : ℕ) (old now next : Option (List ℕ)) (t : Words) → n < c → c ≤ 8 → DigitsRead c n old now t →
@@ -181,11 +182,12 @@ digit_missing c n old now next t small few h same begins = rw same (record { non
         go p = elim (by_digit s n) [
           | inl has ↦ absurd (false≢true (begins _ (p.1 ∙ ap (λ (x : List ℕ). Some (x ++ tail)) (with_digit c n s small has))).0)
           | inr lacks ↦ (
-              (λ v a. elim (cases_lt v n) [
-                | inl b ↦ p.0 v b
-                | inr b ↦ (let z : v ≡ n = omega arith in rw z (h.none n (omega arith) (omega arith) ∙ sym lacks))
-              ]),
-              p.1 ∙ ap (λ (x : List ℕ). Some (x ++ tail)) (without_digit c n s small lacks))
+            (λ v a. elim (cases_lt v n) [
+              | inl b ↦ p.0 v b
+              | inr b ↦ (let z : v ≡ n = omega arith in rw z (h.none n (omega arith) (omega arith) ∙ sym lacks))
+            ]),
+            p.1 ∙ ap (λ (x : List ℕ). Some (x ++ tail)) (without_digit c n s small lacks),
+          )
         ]
 
 pub all_digits : (c n : ℕ) (old now : Option (List ℕ)) (t : Words) → c ≤ n → n ≤ c → DigitsRead c n old now t →
@@ -283,7 +285,7 @@ pub offsets_fail : {X : Type 0} (old mid now : Option (List ℕ)) (t : Words) �
     DigitsAre 8 mid now t → ((v : ℕ) → v < 8 → t v ≡ false) → (s : Words) (tail : List ℕ) → EndsField tail → old ≡ Some (offsets_text s ++ tail) → X
 offsets_fail old mid now t same begins g none s tail ends e = elim (by_offsets s) [
   | inl full ↦ (let p : ((v : ℕ) → v < 8 → t v ≡ s v) × (now ≡ Some tail) =
-        g.only s tail ends (same ∙ (e ∙ ap (λ (x : List ℕ). Some (x ++ tail)) (some_offsets s full))) in
+      g.only s tail ends (same ∙ (e ∙ ap (λ (x : List ℕ). Some (x ++ tail)) (some_offsets s full))) in
       absurd (true≢false (sym full ∙ some_none_of 8 s (λ v h. sym (p.0 v h) ∙ none v h))))
   | inr empty ↦ absurd (false≢true (begins tail (e ∙ ap (λ (x : List ℕ). Some (x ++ tail)) (no_offsets s empty))).0)
 ]
@@ -294,4 +296,4 @@ not_true false e = refl
 
 -- Not each offset is missing.
 pub has_offset : (t : Words) → (((v : ℕ) → v < 8 → t v ≡ false) → IsTrue false) → some_below 8 t ≡ true
-has_offset t h = elim (by_offsets t) [ | inl some ↦ some | inr none ↦ absurd (false≢true (h none)) ]
+has_offset t h = elim (by_offsets t) [ inl some ↦ some | inr none ↦ absurd (false≢true (h none)) ]

@@ -1,5 +1,5 @@
 -- What stands at the front of a line.
-use Rattle.std.proofs.Common.{◌≡◌, ◌≢◌, ℕ, Bool, true, false, List, [], ◌∷◌, ◌++◌, Option, Some, None, refl, ap}
+use Rattle.std.proofs.Common.{◌≡◌, ◌≢◌, ℕ, Bool, true, false, List, ◌++◌, Some, None, ap}
 use Rattle.std.specs.Prelude.{if◌then◌else◌, IfSome}
 
 pub skipped : (reads : Bool) (s p rest : List ℕ) → s ≡ p ++ rest →

@@ -4,3 +4,5 @@ pub mod FieldsLemmas
 pub mod RunLemmas
 pub mod DigitLemmas
 pub mod LineLemmas
+pub mod ParserLemmas
+pub mod LengthLemmas

@@ -1,15 +1,14 @@
 -- A set read run by run.
-use Rattle.std.proofs.Common.{◌≡◌, ◌≢◌, ◌⊎◌, ℕ, zero, suc, ◌+◌, ◌-◌, ◌/◌, ◌<◌, ◌≤◌, ◌==◌, Bool, true, false, not, ◌&&◌, ◌||◌, List, [], ◌∷◌, ◌++◌, length, Option, Some, None, refl, ap, ◌∙◌, sym, subst, inl, inr, arith, append_assoc, append-nil, length-append}
-use Rattle.std.specs.Prelude.{if◌then◌else◌, codes, nat_le, IfSome}
+use Rattle.std.proofs.Common.{◌≡◌, ◌⊎◌, ℕ, suc, ◌+◌, ◌-◌, ◌/◌, ◌<◌, ◌≤◌, Bool, true, false, ◌&&◌, ◌||◌, List, [], ◌∷◌, ◌++◌, length, Option, Some, None, refl, ap, ◌∙◌, sym, subst, inl, inr, arith, append_assoc, length-append}
+use Rattle.std.specs.Prelude.{nat_le, IfSome}
 use Rattle.std.specs.Option.{IsSomeAnd}
-use Rattle.std.proofs.lemmas.Bool.{true≢false, false≢true, eqb-true, eq-eqb, ne_eqb, cases_lt}
+use Rattle.std.proofs.lemmas.Bool.{true≢false, false≢true, eq-eqb, ne_eqb, cases_lt}
 use Rattle.std.proofs.lemmas.Bool.Decides.{nat_tests}
-use Rattle.word12.specs.Words.{octal_text}
 use Rattle.wordset.specs.Words.{Words, SameWords, nothing, between, union, some_below, has_some}
-use Rattle.wordset.proofs.Tests.{IsSome, some_from, some_to, some_none_of, none_of_some}
+use Rattle.wordset.proofs.Tests.{IsSome, some_from, some_none_of, none_of_some}
 use Rattle.certificate.specs.Spelling.{marks, set_text}
 use Rattle.certificate.specs.Fields.{run_text, NoDash, EndsField}
-use Rattle.certificate.proofs.SetLemmas.{rest, comma, Run, None_from, whole_rest, none_rest, run_rest, StartsAt, starts_after, Next, gap_after, next_run}
+use Rattle.certificate.proofs.SetLemmas.{rest, comma, Run, None_from, whole_rest, none_rest, run_rest, StartsAt, starts_after, gap_after, next_run}
 
 -- The two sets have the same words below n.
 abbrev pub SameBelow : ℕ → Words → Words → Type 0
@@ -89,14 +88,14 @@ at_first old = record { read = reads old; only = only }
     only s tail some ends e = elim (next_run s 0 (λ h. refl)) [
       | inl none ↦ absurd (true≢false (sym some ∙ none_of s none))
       | inr r ↦ record {
-          same = λ v h k. absurd (omega arith);
-          low = r.low;
-          high = r.high;
-          run = r.run;
-          left = (let f : rest s 0 ≡ comma s r.low ++ run_text r.low r.high ++ rest s (r.high + 2) = run_rest s 0 r.low r.high r.run in
-              let g : comma s r.low ≡ [] = no_comma s r.low (λ v h. r.run.before v (omega arith) h) in
-              e ∙ ap (λ (x : List ℕ). Some (x ++ tail)) (whole_rest s ∙ rw g at f));
-        }
+        same = λ v h k. absurd (omega arith);
+        low = r.low;
+        high = r.high;
+        run = r.run;
+        left = (let f : rest s 0 ≡ comma s r.low ++ run_text r.low r.high ++ rest s (r.high + 2) = run_rest s 0 r.low r.high r.run in
+            let g : comma s r.low ≡ [] = no_comma s r.low (λ v h. r.run.before v (omega arith) h) in
+            e ∙ ap (λ (x : List ℕ). Some (x ++ tail)) (whole_rest s ∙ rw g at f));
+      }
     ]
 
 some_of : (s t : Words) (n low : ℕ) → SameBelow n s t → n ≤ low → low < 4096 → IsSome n t → some_below low s ≡ true
@@ -108,7 +107,7 @@ comma_rest : (s t : Words) (n low high : ℕ) → SameBelow n s t → IsSome n t
 comma_rest s t n low high same some run =
     let f : rest s n ≡ comma s low ++ run_text low high ++ rest s (high + 2) = run_rest s n low high run in
     let g : comma s low ≡ 44 ∷ [] =
-        a_comma s low (some_of s t n low same run.reached (let p : low ≤ high = run.order in let q : high < 4096 = run.small in omega arith) some) in
+    a_comma s low (some_of s t n low same run.reached (let p : low ≤ high = run.order in let q : high < 4096 = run.small in omega arith) some) in
     rw g at f
 
 -- After a comma.
@@ -141,12 +140,12 @@ at_comma old now next t n h some took begins r0 first = record { read = reads no
           | inl none ↦ absurd (ended tail ends (let f : rest s n ≡ [] = none_rest s n none in
               let a : now ≡ Some (rest s n ++ tail) = m.left in let b : now ≡ Some tail = rw f at a in cc))
           | inr r ↦ record {
-              same = m.same;
-              low = r.low;
-              high = r.high;
-              run = r.run;
-              left = begins _ (m.left ∙ ap (λ (x : List ℕ). Some (x ++ tail)) (comma_rest s t n r.low r.high m.same some r.run));
-            }
+            same = m.same;
+            low = r.low;
+            high = r.high;
+            run = r.run;
+            left = begins _ (m.left ∙ ap (λ (x : List ℕ). Some (x ++ tail)) (comma_rest s t n r.low r.high m.same some r.run));
+          }
         ]
 
 between_in : (low high v : ℕ) → low ≤ v → v ≤ high → between low high v ≡ true
@@ -198,13 +197,13 @@ run_with s t u n low high more gap h order small same = record {
   starts = elim (cases_lt 0 low) [
     | inr z ↦ (let e : low ≡ 0 = omega arith in rw (eq-eqb low 0 e) refl)
     | inl z ↦ (let e : s (low - 1) ≡ false =
-          same (low - 1) (omega arith) (omega arith) ∙ (below_with t u low high (low - 1) more (omega arith) ∙ gap (low - 1) (omega arith)) in
+        same (low - 1) (omega arith) (omega arith) ∙ (below_with t u low high (low - 1) more (omega arith) ∙ gap (low - 1) (omega arith)) in
         rw (e, ne_eqb low 0 (λ q. omega arith)) refl)
   ];
   stops = elim (cases_lt high 4095) [
     | inr z ↦ (let e : high ≡ 4095 = omega arith in rw (eq-eqb high 4095 e) refl)
     | inl z ↦ (let e : s (high + 1) ≡ false =
-          same (high + 1) (omega arith) (omega arith) ∙ (above_with t u low high (high + 1) more (omega arith) ∙ gap (high + 1) (omega arith)) in
+        same (high + 1) (omega arith) (omega arith) ∙ (above_with t u low high (high + 1) more (omega arith) ∙ gap (high + 1) (omega arith)) in
         rw (e, ne_eqb high 4095 (λ q. omega arith)) refl)
   ];
 }
@@ -234,7 +233,7 @@ no_dash : (s : Words) (n low high : ℕ) (tail : List ℕ) → Run s n low high 
 no_dash s n low high tail run ends = elim (next_run s (high + 2) (starts_after s n low high run)) [
   | inl none ↦ (let e : rest s (high + 2) ≡ [] = none_rest s (high + 2) none in rw e (ended tail ends))
   | inr r ↦ (let e : rest s (high + 2) ≡ 44 ∷ (run_text r.low r.high ++ rest s (r.high + 2)) =
-        comma_rest s s (high + 2) r.low r.high (λ v a b. refl) (record { at = low; small = (let q : low ≤ high = run.order in omega arith); holds = run.inside low (omega arith) run.order }) r.run in
+      comma_rest s s (high + 2) r.low r.high (λ v a b. refl) (record { at = low; small = (let q : low ≤ high = run.order in omega arith); holds = run.inside low (omega arith) run.order }) r.run in
       rw e (λ q. absurd (omega arith)))
 ]
   where
@@ -272,7 +271,7 @@ at_run old now next t u n low high h g small more = record { read = reads next g
         go : AtRun s t n now tail → Remains s u (high + 2) next tail
         go m =
             let left : now ≡ Some (run_text m.low m.high ++ (rest s (m.high + 2) ++ tail)) =
-                m.left ∙ ap (λ (x : List ℕ). Some x) (append_assoc (run_text m.low m.high) (rest s (m.high + 2)) tail) in
+            m.left ∙ ap (λ (x : List ℕ). Some x) (append_assoc (run_text m.low m.high) (rest s (m.high + 2)) tail) in
             let b : Begun old t n (run_text m.low m.high ++ (rest s (m.high + 2) ++ tail)) = at_some (Begun old t n) now _ h.read left in
             made m b (g.only m.low m.high (rest s (m.high + 2) ++ tail) m.run.reached m.run.order m.run.small
             (no_dash s n m.low m.high tail m.run ends) left)
@@ -324,11 +323,13 @@ at_end old now t n h none = record { read = reads now h.read; only = only }
             elim (next_run s n m.starts) [
               | inr r ↦ absurd (none _ (m.left ∙ ap (λ (x : List ℕ). Some (x ++ tail)) (comma_rest s t n r.low r.high m.same g.some r.run)))
               | inl nothing ↦ (
-                  let q : rest s n ≡ [] = none_rest s n nothing in
-                  (λ v a. elim (cases_lt v n) [
-                    | inl w ↦ sym (m.same v w a)
-                    | inr w ↦ g.gap v (omega arith) ∙ sym (nothing v w a)
-                  ], rw q at m.left))
+                  let q : rest s n ≡ [] = none_rest s n nothing in (
+                    λ v a. elim (cases_lt v n) [
+                      | inl w ↦ sym (m.same v w a)
+                      | inr w ↦ g.gap v (omega arith) ∙ sym (nothing v w a)
+                    ],
+                    rw q at m.left,
+                  ))
             ]
 
 -- A set of words is empty, or begins with a digit.

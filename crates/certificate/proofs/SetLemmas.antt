@@ -1,9 +1,9 @@
 -- What is written of a set from a word on, and the runs that it has.
-use Rattle.std.proofs.Common.{◌≡◌, ◌≢◌, ◌⊎◌, ℕ, zero, suc, ◌+◌, ◌-◌, ◌<◌, ◌≤◌, ◌==◌, Bool, true, false, not, ◌&&◌, ◌||◌, List, [], ◌∷◌, ◌++◌, refl, ap, ◌∙◌, sym, subst, inl, inr, arith, append_assoc, append-nil}
+use Rattle.std.proofs.Common.{◌≡◌, ◌⊎◌, ℕ, zero, suc, ◌+◌, ◌-◌, ◌<◌, ◌≤◌, ◌==◌, Bool, true, false, not, ◌&&◌, ◌||◌, List, [], ◌++◌, refl, ap, ◌∙◌, sym, inl, inr, arith, append_assoc, append-nil}
 use Rattle.std.specs.Prelude.{if◌then◌else◌, codes}
-use Rattle.std.proofs.lemmas.Bool.{true≢false, false≢true, eqb-true, eq-eqb, ne_eqb, cases_lt}
+use Rattle.std.proofs.lemmas.Bool.{false≢true, eq-eqb, ne_eqb, cases_lt}
 use Rattle.word12.specs.Words.{octal_text}
-use Rattle.wordset.specs.Words.{Words, some_below, has_some}
+use Rattle.wordset.specs.Words.{Words, some_below}
 use Rattle.certificate.specs.Spelling.{begins, ends, mark, marks}
 use Rattle.certificate.specs.Fields.{run_text}
 
@@ -38,16 +38,16 @@ nothing_more : (b : Bool) (x : List ℕ) → (if b && false then x else []) ≡ 
 nothing_more true x = refl
 nothing_more false x = refl
 
-mark_first : (s : Words) (a : ℕ) → begins s a ≡ true → mark s a ≡ comma s a ++ octal_text a
+pub mark_first : (s : Words) (a : ℕ) → begins s a ≡ true → mark s a ≡ comma s a ++ octal_text a
 mark_first s a e = rw e (rw (nothing_more (ends s a) (codes "-" ++ octal_text a)) (append-nil (comma s a ++ octal_text a)))
 
-mark_last : (s : Words) (a : ℕ) → begins s a ≡ false → ends s a ≡ true → mark s a ≡ codes "-" ++ octal_text a
+pub mark_last : (s : Words) (a : ℕ) → begins s a ≡ false → ends s a ≡ true → mark s a ≡ codes "-" ++ octal_text a
 mark_last s a e f = rw (e, f) refl
 
-mark_none : (s : Words) (a : ℕ) → begins s a ≡ false → ends s a ≡ false → mark s a ≡ []
+pub mark_none : (s : Words) (a : ℕ) → begins s a ≡ false → ends s a ≡ false → mark s a ≡ []
 mark_none s a e f = rw (e, f) refl
 
-absent : (s : Words) (a : ℕ) → s a ≡ false → mark s a ≡ []
+pub absent : (s : Words) (a : ℕ) → s a ≡ false → mark s a ≡ []
 absent s a e = mark_none s a (rw e refl) (rw e refl)
 
 marks_split : (k n : ℕ) (s : Words) → marks (k + n) s ≡ marks n s ++ written k n s
@@ -141,8 +141,8 @@ run_here s n low high r = elim (cases_lt low high) [
       let e : (low + 1) + (high - (low + 1)) ≡ high = omega arith in
       let n2 : (low == high) ≡ false = ne_eqb low high (λ z. omega arith) in
       let more : rest s (low + 1) ≡ (codes "-" ++ octal_text high) ++ rest s (high + 1) =
-          rw e at (to_last (high - (low + 1)) (low + 1) s (omega arith) (rw e r.small)
-          (λ u a b. r.inside u (omega arith) (omega arith)) (rw e r.stops)) in
+      rw e at (to_last (high - (low + 1)) (low + 1) s (omega arith) (rw e r.small)
+      (λ u a b. r.inside u (omega arith) (omega arith)) (rw e r.stops)) in
       first ∙ (ap (λ (x : List ℕ). (comma s low ++ octal_text low) ++ x) more ∙ rw n2 (simp append_assoc)))
   | inr h ↦ (
       let e : high ≡ low = (let o : low ≤ high = r.order in omega arith) in

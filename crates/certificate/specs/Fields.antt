@@ -1,4 +1,4 @@
--- What the reader of a line's fields has left.
+-- What the reader of a line's fields has left; it serves private contracts.
 use Rattle.std.specs.Prelude.{◌≡◌, ◌≢◌, ℕ, ◌==◌, List, [], ◌∷◌, ◌++◌, codes, Option, Some, None, IfSome, if◌then◌else◌}
 use Rattle.word12.specs.Words.{octal_text}
 use Rattle.certificate.specs.declared.fields.Fields.{Fields}

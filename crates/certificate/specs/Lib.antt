@@ -7,3 +7,6 @@ pub mod Fields
 pub mod Meaning
 pub mod Order
 pub mod Progress
+pub mod Faults
+pub mod Parser
+pub mod Kept

@@ -1,6 +1,4 @@
--- What the lines that were read say.
-use Rattle.std.specs.Prelude.{◌≡◌, ℕ, ◌<◌}
-use Rattle.wordset.specs.Words.{Words, SameWords, SameLinks}
+-- What the lines that were read say; it serves private contracts.
 use Rattle.wordset.specs.Lanes.{words}
 use Rattle.wordset.specs.Links.{links_of}
 use Rattle.facts.specs.Meaning.{tracked_of, equation_of, offsets_of}

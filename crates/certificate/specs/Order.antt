@@ -1,5 +1,5 @@
 -- Which line may come after which lines. Lists of lines have the newest line first.
-use Rattle.std.specs.Prelude.{◌≡◌, ℕ, ◌+◌, ◌*◌, ◌<◌, ◌≤◌, Bool, true, false, not, ◌&&◌, ◌||◌, if◌then◌else◌, List, [], ◌∷◌, ◌++◌, length}
+use Rattle.std.specs.Prelude.{◌≡◌, ℕ, ◌+◌, ◌*◌, ◌<◌, ◌≤◌, Bool, true, false, not, ◌&&◌, ◌||◌, if◌then◌else◌, List, [], ◌∷◌, ◌++◌}
 use Rattle.certificate.specs.declared.Version.{Version}
 use Rattle.certificate.specs.Spelling.{version_text}
 use Rattle.certificate.specs.Reading.{place_of_equation}

@@ -213,7 +213,11 @@ fn read_end(version: Version, line: &[u8]) -> Option<Line>
 {
     let mut fields = Fields::of(line);
     fields.skip(b"end");
-    if fields.is_done() { Some(Line::End) } else { None }
+    if fields.is_done() {
+        Some(Line::End)
+    } else {
+        None
+    }
 }
 
 /// What a line says, if it's one of the lines that there are. It's given without its line feed.

@@ -4,12 +4,12 @@ ghost use Rattle.std.specs.Prelude.{◌≡◌, ◌+◌, ◌<◌, ◌≤◌, ◌^
 ghost use Rattle.facts.specs.Meaning.{equation_of};
 ghost use Rattle.certificate.specs.Reading.{place_of_equation};
 ghost use Rattle.certificate.specs.Line.{Line as SaidLine};
-ghost use Rattle.certificate.specs.Order.{may_stand, is_detail, place, next_place, fellows, HasRoom};
+ghost use Rattle.certificate.specs.Order.{any, is_end, may_stand, is_detail, place, next_place, fellows, HasRoom};
 ghost use Rattle.certificate.specs.Progress.{Tracks, TracksOthers, Fits, Takes};
 ghost use Rattle.certificate.specs.Meaning.{said};
 
-use crate::{CertificateFault, Version};
 use crate::line::{Line, read_line};
+use crate::{CertificateFault, Version};
 use facts::{Equation, Name};
 
 /// What is kept of the lines that were read.
@@ -77,6 +77,27 @@ impl Progress {
             cells: 0,
             equations: 0,
         }
+    }
+
+    /// The number of the next line, counted from 1.
+    pub fn number(&self) -> usize
+        ensures { result ≡ self.now.number }
+    {
+        self.number
+    }
+
+    /// The version of the text.
+    pub fn version(&self) -> Version
+        ensures { result ≡ self.now.version }
+    {
+        self.version
+    }
+
+    /// Whether the end was read.
+    pub fn is_ended(&self) -> bool
+        ensures { (before : List SaidLine) → Tracks self.now before → result ≡ any is_end before }
+    {
+        self.ended
     }
 
     /// Whether a line may stand here.

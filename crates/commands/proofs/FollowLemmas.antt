@@ -1,6 +1,6 @@
 -- Runs that are joined, event by event.
-use Rattle.std.proofs.Common.{ℕ, zero, suc, ◌≡◌, ◌+◌, ◌-◌, ◌*◌, ◌%◌, ◌<◌, ◌≤◌, Bool, true, false, List, [], ◌∷◌, ◌++◌, length, take, drop, get_or, refl, sym, ◌∙◌, ap, subst, append_assoc, append-nil, add_assoc, add-zero, zero-add, length-append, arith}
-use Rattle.std.specs.Prelude.{Option, Some, None}
+use Rattle.std.proofs.Common.{ℕ, zero, suc, ◌≡◌, ◌+◌, ◌*◌, ◌%◌, ◌<◌, Bool, true, false, List, [], ◌∷◌, ◌++◌, length, take, drop, get_or, refl, sym, ◌∙◌, ap, subst, append_assoc, append-nil, add_assoc, add-zero, zero-add, length-append, arith}
+use Rattle.std.specs.Prelude.{Option}
 use Rattle.std.specs.Io.KnownBytes.{Appends}
 use Rattle.std.proofs.KnownBytes.{Appends-nil, Appends-trans}
 use Rattle.std.proofs.Math.Seq.{take-append-add}
@@ -8,7 +8,7 @@ use Rattle.std.proofs.lemmas.List.{take-append-drop, take_more}
 use Rattle.streams.specs.Bytes.{AppendsFront}
 use Rattle.instruct.specs.declared.Profile.{Profile}
 use Rattle.peripherals.specs.declared.Event.{Event}
-use Rattle.peripherals.specs.declared.Event.TheVariants.{Step, PrinterDone, PunchDone}
+use Rattle.peripherals.specs.declared.Event.TheVariants.{Step}
 use Rattle.peripherals.specs.declared.Seen.{Seen}
 use Rattle.peripherals.specs.declared.Seen.TheVariants as seen
 use Rattle.peripherals.specs.Devices.{WorldState, word_at_pc}

@@ -1,6 +1,6 @@
 -- Which faults a command may have: the first of its inputs that has one, and then its own work. Each table names the
 -- faults that can come; no other does.
-use Rattle.std.specs.Prelude.{ℕ, ◌≡◌, Bool, true, false, Result, Ok, Err, Option, List, IfSome, ◌⊎◌}
+use Rattle.std.specs.Prelude.{ℕ, Bool, true, false, Result, Err, List, IfSome, ◌⊎◌}
 use Rattle.streams.specs.declared.input.InputFault.{InputFault}
 use Rattle.streams.specs.declared.input.InputFault.TheVariants as input_fault
 use Rattle.bin_tape.specs.Refuses.{Refuses}
@@ -27,6 +27,15 @@ fails_to_write _ = false
 abbrev pub fails_to_read : {T : Type 0} → Result T Fault → Bool
 fails_to_read (Err (Device Read)) = true
 fails_to_read _ = false
+
+-- The answer's fault is the tape's, or the declaration's.
+abbrev pub is_fault_of_tape : Fault → Bool
+is_fault_of_tape (Tape fault) = true
+is_fault_of_tape _ = false
+
+abbrev pub is_fault_of_declaration : Fault → Bool
+is_fault_of_declaration (Declared fault) = true
+is_fault_of_declaration _ = false
 
 -- A read that failed is the device's fault; any other fault of a tape is the tape's.
 abbrev pub fault_of_tape : TapeFault → Fault

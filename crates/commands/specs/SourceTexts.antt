@@ -53,7 +53,8 @@ IsPartFault n had has _ = ⊥
 
 -- Why there are no parts: the sources have a fault of sizes, a read failed, or memory was refused.
 abbrev pub ArePartsFault : List Bool → List (Option (List ℕ)) → List (Option (List ℕ)) → Fault → Type 0
-ArePartsFault marks sources left (Source fault) = (parts : List (List ℕ)) × AreRead sources parts × (size_fault parts ≡ Some fault)
+ArePartsFault marks sources left (Source fault) =
+    (parts : List (List ℕ)) × AreRead sources parts × (size_fault parts ≡ Some fault)
 ArePartsFault marks sources left (Device Read) = FailsToReadPart marks sources left
 ArePartsFault marks sources left fault.NoMemory = is_bad_number (length sources) ≡ false
 ArePartsFault marks sources left _ = ⊥

@@ -84,7 +84,8 @@ pub fn assemble<A: Allocator + Copy, R: ByteSource, W: ByteSink>(
     ensures faults { IfErr result (IsSourceFault profile (map R.mark sources.new)
         (map R.remaining sources.old) (map R.remaining sources.new)) }
     // Where a write failed, a front of that tape went out,
-    ensures front { W.mark out.new ≡ true → FrontOf (IsAssembled profile (map R.remaining sources.old))
+    ensures front { W.mark out.new ≡ true →
+        FrontOf (IsAssembled profile (map R.remaining sources.old))
         (W.taken out.old) (W.taken out.new) }
     // and any other fault leaves the output as it was.
     ensures nothing { OnErr result (W.mark out.new ≡ false → W.taken out.new ≡ W.taken out.old) }
@@ -124,7 +125,8 @@ pub fn list<A: Allocator + Copy, R: ByteSource, W: ByteSink>(
         (W.taken out.old) (W.taken out.new)) }
     ensures faults { IfErr result (IsListFault profile (map R.mark sources.new)
         (map R.remaining sources.old) (map R.remaining sources.new)) }
-    ensures front { W.mark out.new ≡ true → FrontOf (IsListing profile (map R.remaining sources.old))
+    ensures front { W.mark out.new ≡ true →
+        FrontOf (IsListing profile (map R.remaining sources.old))
         (W.taken out.old) (W.taken out.new) }
     ensures nothing { OnErr result (W.mark out.new ≡ false → W.taken out.new ≡ W.taken out.old) }
     ensures marks { W.mark out.new ≡ fails_to_write result }

@@ -115,7 +115,8 @@ fn advance<A: Allocator, W: ByteSink>(
     requires unmarked { W.mark out.old ≡ false }
     ensures happens { OnOk result
         (Happens (profile_of world.old) (view world.old) event (view world.new)) }
-    ensures seen { IfOk result (λ seen. seen ≡ seen_of (profile_of world.old) (view world.old) event) }
+    ensures seen { IfOk result (λ seen.
+        seen ≡ seen_of (profile_of world.old) (view world.old) event) }
     ensures wrote { OnOk result (Appends (W.taken out.old) (W.taken out.new)
         (traced trace (trace_of (profile_of world.old) (view world.old) event (view world.new)))) }
     ensures profile { profile_of world.new ≡ profile_of world.old }
@@ -148,12 +149,14 @@ pub fn follow<A: Allocator, W: ByteSink>(
 ) -> Result<Outcome, Fault>
     requires unmarked { W.mark out.old ≡ false }
     ensures ran { IfOk result (λ outcome. Ran (profile_of world.old) (ends_at_halt course.now) trace
-        (events_in course.now) (view world.old) outcome (view world.new) (W.taken out.old) (W.taken out.new)) }
+        (events_in course.now) (view world.old) outcome (view world.new)
+        (W.taken out.old) (W.taken out.new)) }
     ensures faults { IfErr result IsRunFault }
     ensures marks { W.mark out.new ≡ fails_to_write result }
     ensures asked { W.mark out.new ≡ true → trace ≡ true }
     ensures front { W.mark out.new ≡ true → FrontOf
-        (IsTraceOfSome (profile_of world.old) (ends_at_halt course.now) (events_in course.now) (view world.old))
+        (IsTraceOfSome (profile_of world.old) (ends_at_halt course.now) (events_in course.now)
+        (view world.old))
         (W.taken out.old) (W.taken out.new) }
     ensures silent { trace ≡ false → out.new ≡ out.old }
 {

@@ -2,7 +2,7 @@
 
 ghost use Rattle.std.specs.Prelude.{◌≡◌, ◌||◌, true, false, IfOk, IfErr, OnOk, OnErr};
 ghost use Rattle.commands.specs.Dumping.{IsDump};
-ghost use Rattle.commands.specs.Faults.{fails_to_read, fails_to_write, IsEventRunFault, IsRunFault, IsTapeFault};
+ghost use Rattle.commands.specs.Faults.{is_fault_of_tape, fails_to_read, fails_to_write, IsEventRunFault, IsRunFault, IsTapeFault};
 ghost use Rattle.commands.specs.Course.{ends_at_halt, events_in};
 ghost use Rattle.commands.specs.Inputs.{input};
 ghost use Rattle.commands.specs.Running.{IsEventRun, IsPartOf, IsPartOfEventRun, IsPartOfRoundRun, IsRoundRun, IsRunOf, status_of};
@@ -54,7 +54,8 @@ fn run_course<A: Allocator + Copy, W: ByteSink>(
 ) -> Result<Status, Fault>
     requires { W.mark out.old ≡ false }
     ensures run { IfOk result (λ status. Writes
-        (λ text. IsRunOf options (ends_at_halt course.now) (events_in course.now) image.now text status)
+        (λ text. IsRunOf options (ends_at_halt course.now) (events_in course.now) image.now
+        text status)
         (W.taken out.old) (W.taken out.new)) }
     ensures faults { IfErr result IsRunFault }
     ensures front { W.mark out.new ≡ true → FrontOf
@@ -89,12 +90,14 @@ pub fn run<A: Allocator + Copy, R: ByteSource, W: ByteSink>(
     requires writable { W.mark out.old ≡ false }
     // What is written is that of the run that follows from the tape by the rounds.
     ensures run { IfOk result (λ status. Writes
-        (λ text. IsRoundRun options (R.remaining tape.old) text status) (W.taken out.old) (W.taken out.new)) }
+        (λ text. IsRoundRun options (R.remaining tape.old) text status)
+        (W.taken out.old) (W.taken out.new)) }
     // A fault of the tape is the first fault of its bytes; any other comes after a good tape.
     ensures faults { IfErr result (IsTapeFault
         (input (R.mark tape.new) (R.remaining tape.old) (R.remaining tape.new))) }
     // Where a write failed, a front of that went out, under a trace at least of its first lines,
-    ensures front { W.mark out.new ≡ true → FrontOf (IsPartOfRoundRun options (R.remaining tape.old))
+    ensures front { W.mark out.new ≡ true →
+        FrontOf (IsPartOfRoundRun options (R.remaining tape.old))
         (W.taken out.old) (W.taken out.new) }
     // and any other fault leaves the output as it was, but for the trace.
     ensures nothing { OnErr result (W.mark out.new ≡ false → options.trace ≡ false →
@@ -136,6 +139,9 @@ pub fn run_events<A: Allocator + Copy, R: ByteSource, E: ByteSource, W: ByteSink
         W.taken out.new ≡ W.taken out.old) }
     ensures marks { W.mark out.new ≡ fails_to_write result }
     ensures reads { R.mark tape.new || E.mark text.new ≡ fails_to_read result }
+    // The text isn't read after a tape that is refused, or whose read failed.
+    ensures unread { IfErr result (λ fault. is_fault_of_tape fault ≡ true → text.new ≡ text.old) }
+    ensures unread_after_failure { R.mark tape.new ≡ true → text.new ≡ text.old }
 {
     let image = tape_from(tape)?;
     let list = events_from(alloc, text)?;

@@ -45,9 +45,11 @@ fn read_part<A: Allocator, R: ByteSource>(
     number: usize,
 ) -> Result<Vec<u8, A>, Fault>
     requires { R.mark source.old ≡ false }
-    ensures read { IfOk result (λ part. IfSome (R.remaining source.old) (λ bytes. part.items ≡ bytes)) }
+    ensures read { IfOk result (λ part.
+        IfSome (R.remaining source.old) (λ bytes. part.items ≡ bytes)) }
     ensures fits { IfOk result (λ part. IsShort part.items) }
-    ensures faults { IfErr result (IsPartFault number (R.remaining source.old) (R.remaining source.new)) }
+    ensures faults { IfErr result
+        (IsPartFault number (R.remaining source.old) (R.remaining source.new)) }
     ensures marks { R.mark source.new ≡ fails_to_read result }
 {
     let part = read_at_most(alloc, source, MOST_PART)?;

@@ -79,7 +79,8 @@ fn push_state<A: Allocator, B: Allocator>(
     world: &World<B>,
 ) -> Result<(), AllocError>
     ensures { OnOk result
-        (text.new.items ≡ text.old.items ++ state_line outcome.now.end (view world.now) outcome.now.steps) }
+        (text.new.items ≡ text.old.items
+        ++ state_line outcome.now.end (view world.now) outcome.now.steps) }
 {
     push_end(text, outcome.end)?;
     push_registers(text, world.cpu())?;

@@ -65,7 +65,8 @@ fn push_mq(line: &mut ArrayString<80>, profile: Profile, mq: Word)
 /// Adds the registers.
 fn push_effect(line: &mut ArrayString<80>, cpu: &Cpu)
     requires { length line.old.bytes ≤ 42 }
-    ensures text { line.new.bytes ≡ line.old.bytes ++ effect_text cpu.now.profile (state_of cpu.now) }
+    ensures text { line.new.bytes ≡
+        line.old.bytes ++ effect_text cpu.now.profile (state_of cpu.now) }
     ensures length { length line.new.bytes ≤ 62 }
 {
     line.push_str(" AC=");
@@ -77,7 +78,8 @@ fn push_effect(line: &mut ArrayString<80>, cpu: &Cpu)
 /// Adds the line of an instruction.
 fn push_line(line: &mut ArrayString<80>, at: Word, word: Word, cpu: &Cpu)
     requires { length line.old.bytes ≡ 0 }
-    ensures { line.new.bytes ≡ line.old.bytes ++ trace_line cpu.now.profile at word (state_of cpu.now) }
+    ensures { line.new.bytes ≡
+        line.old.bytes ++ trace_line cpu.now.profile at word (state_of cpu.now) }
 {
     push_place(line, at, word, cpu.profile);
     push_effect(line, cpu);

@@ -1,7 +1,7 @@
 //! The command that watches a run.
 
 ghost use Rattle.std.specs.Prelude.{◌≡◌, ◌||◌, false, true, IfOk, IfErr, OnErr};
-ghost use Rattle.commands.specs.Faults.{IsWatchFault, fails_to_read, fails_to_write};
+ghost use Rattle.commands.specs.Faults.{IsWatchFault, is_fault_of_declaration, is_fault_of_tape, fails_to_read, fails_to_write};
 ghost use Rattle.commands.specs.Inputs.{input};
 ghost use Rattle.commands.specs.WatchText.{IsWatched, IsWatchedSo, broken_text, watched_status, watched_text};
 ghost use Rattle.commands.specs.Writes.{FrontOf, Writes};
@@ -73,7 +73,8 @@ pub fn watch<A: Allocator + Copy, R: ByteSource, D: ByteSource, E: ByteSource, W
     requires writable { W.mark out.old ≡ false }
     // What is written is what is seen of the run.
     ensures watched { IfOk result (λ status. Writes
-        (λ line. IsWatchedSo (R.remaining tape.old) (D.remaining declaration.old) (E.remaining list.old) line status)
+        (λ line. IsWatchedSo (R.remaining tape.old) (D.remaining declaration.old)
+        (E.remaining list.old) line status)
         (W.taken out.old) (W.taken out.new)) }
     // A fault is that of the first input that has one.
     ensures faults { IfErr result (IsWatchFault
@@ -88,7 +89,16 @@ pub fn watch<A: Allocator + Copy, R: ByteSource, D: ByteSource, E: ByteSource, W
     ensures nothing { OnErr result (W.mark out.new ≡ false → W.taken out.new ≡ W.taken out.old) }
     // A write failed exactly where the answer says so, and so did a read.
     ensures marks { W.mark out.new ≡ fails_to_write result }
-    ensures reads { R.mark tape.new || D.mark declaration.new || E.mark list.new ≡ fails_to_read result }
+    ensures reads { R.mark tape.new || D.mark declaration.new || E.mark list.new ≡
+        fails_to_read result }
+    // An input isn't read after one that is refused, or whose read failed.
+    ensures unread { IfErr result (λ fault. is_fault_of_tape fault ≡ true →
+        (declaration.new ≡ declaration.old) × (list.new ≡ list.old)) }
+    ensures unread_list { IfErr result (λ fault. is_fault_of_declaration fault ≡ true →
+        list.new ≡ list.old) }
+    ensures unread_after_failure { R.mark tape.new ≡ true →
+        (declaration.new ≡ declaration.old) × (list.new ≡ list.old) }
+    ensures unread_list_after_failure { D.mark declaration.new ≡ true → list.new ≡ list.old }
 {
     let image = tape_from(tape)?;
     let promised = declaration_from(alloc, declaration)?;

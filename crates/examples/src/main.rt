@@ -2,15 +2,15 @@
 //! files beside them, which other programs made.
 #![tactic(auto)]
 
-use testing::memory::{MemorySink, MemorySource};
+use commands::assembling::assemble;
+use commands::running::{RunOptions, run_events};
+use commands::watching::watch;
 use instruct::Profile;
 use std::alloc::Global;
 use std::fs;
 use std::rt::Files;
+use testing::memory::{MemorySink, MemorySource};
 use word12::Word;
-use commands::assembling::assemble;
-use commands::running::{RunOptions, run_events};
-use commands::watching::watch;
 
 /// The programs, and the machines that they are for.
 static PROGRAMS: [(&str, Profile); 15] = [

@@ -7,6 +7,14 @@ pub mod Covers
 pub mod Starting
 pub mod Alike
 pub mod EntailLemmas
-pub mod KnownLemmas
+pub mod ChangeLemmas
 pub mod StartLemmas
 pub mod AgreeLemmas
+pub mod ChangingLemmas
+pub mod PlaceLemmas
+pub mod OutcomeLemmas
+pub mod TadLemmas
+pub mod ReachLemmas
+pub mod RegisterLemmas
+pub mod SkipLemmas
+pub mod DispatchLemmas

@@ -8,3 +8,5 @@ pub mod Starts
 pub mod Same
 pub mod Meaning
 pub mod Showing
+pub mod Places
+pub mod Slots

@@ -1,6 +1,6 @@
 -- Facts as they're kept in code, and what they mean.
-use Rattle.std.specs.Prelude.{◌≡◌, ℕ, ◌<◌, false, ◌&&◌, if◌then◌else◌, [], ◌∷◌, slice_index_or, map}
-use Rattle.wordset.specs.Words.{Words}
+use Rattle.std.specs.Prelude.{◌≡◌, ℕ, ◌<◌, ◌==◌, false, ◌&&◌, if◌then◌else◌, [], ◌∷◌, slice_index_or, map}
+use Rattle.wordset.specs.Words.{Words, union, shifted}
 use Rattle.wordset.specs.Lanes.{words}
 use Rattle.wordset.specs.Links.{links_of}
 use Rattle.facts.specs.Facts.{Ac, Cell, met_by, has_cell}
@@ -13,6 +13,8 @@ use Rattle.facts.specs.declared.names.Equation.{Equation}
 use Rattle.facts.specs.declared.offsets.Offsets.{Offsets}
 use Rattle.facts.specs.declared.fact.TrackedCell.{TrackedCell}
 use Rattle.facts.specs.declared.fact.Fact.{Fact}
+use Rattle.facts.specs.declared.known.Change.{Change}
+use Rattle.facts.specs.declared.known.Change.TheVariants.{Unchanged, Replaced, Counted, Stored}
 use Rattle.facts.specs.declared.known.Source.{Source}
 use Rattle.facts.specs.declared.known.Source.TheVariants.{One, Joined}
 use Rattle.facts.specs.declared.known.Known.{Known}
@@ -52,6 +54,13 @@ meaning f = fact_of (statement_of f) (offsets_of f.offsets)
 abbrev pub cell_words : Fact → ℕ → Words
 cell_words f a = tracked a (map tracked_of f.cells.items)
 
+-- What a change makes of the words of a cell.
+abbrev pub changed : Change → ℕ → Words → Words
+changed Unchanged a set = set
+changed (Replaced c s) a set = if a == c then words s else set
+changed (Counted p) a set = if has_cell (words p) a then union set (shifted set 1) else set
+changed (Stored p s) a set = if has_cell (words p) a then union set (words s) else set
+
 -- The words of a cell by where they come from: a fact; or after a call the exit's fact for the cells that are written,
 -- and the caller's for the others.
 abbrev pub source_words : Source → ℕ → Words
@@ -59,10 +68,10 @@ source_words (One f) a = cell_words f.now a
 source_words (Joined call exit written) a =
     if has_cell (words written.now) a then cell_words exit.now a else cell_words call.now a
 
--- The words of a name.
+-- The words of a name: what the two changes make of where they come from.
 abbrev pub known_set : Known → spec.Name → Words
 known_set k Ac = words k.ac
-known_set k (Cell a) = source_words k.base a
+known_set k (Cell a) = changed k.target a (changed k.pointer a (source_words k.base a))
 
 -- The fact that is known.
 abbrev pub known_of : Known → spec.Fact
@@ -77,3 +86,7 @@ known_of k = record {
 -- The words that an equation leaves of a set to a name.
 abbrev pub Meets : spec.Fact → spec.Name → spec.Equation → Words → Words → Type 0
 Meets f n e old new = (v : ℕ) → v < 4096 → new v ≡ (old v && met_by f n (e ∷ []) v)
+
+-- Nothing is changed.
+abbrev pub IsUnchanged : Change → Type 0
+IsUnchanged c = c ≡ Unchanged

@@ -2,7 +2,7 @@
 use Rattle.std.specs.Prelude.{ℕ, ◌-◌, ◌==◌, Bool, true, false, not, ◌&&◌, ◌||◌, if◌then◌else◌, Option, Some, None, List, [], ◌∷◌, ◌++◌, nat_lt}
 use Rattle.instruct.specs.Bits.{has_bit}
 use Rattle.instruct.specs.Operates.{operate1_of, skips_of, is_halt, MqOperate, Mql, Mqa, Swp, Cam, ClaMqa, ClaSwp}
-use Rattle.instruct.specs.Instructions.{Meaning, And, Tad, Isz, Dca, Jms, Jmp, Group1, Group2, Group3, Device, Undefined, DeviceAction, Skips, Ors, Clears, Takes, Leaves}
+use Rattle.instruct.specs.Instructions.{Meaning, meaning_of, And, Tad, Isz, Dca, Jms, Jmp, Group1, Group2, Group3, Device, Undefined, DeviceAction, Skips, Ors, Clears, Takes, Leaves}
 use Rattle.wordset.specs.Words.{plus, Words, everything, one, some_below, has_some, has_link, without, shifted, sums, carries, toggled, only, ands, ors, or_any, images}
 use Rattle.processor.specs.Machine.{steps_pointer, next_pc}
 use Rattle.facts.specs.Facts.{Ac, Cell, Fact, Place, narrowed, words_in, is_routine}
@@ -184,3 +184,7 @@ outcomes_of pl f at (Group2 w) = if is_halt w && pl.declaration.stop at then [] 
 outcomes_of pl f at (Group3 o) = goes everything f everything (one (plus at 1)) (operated3 o f)
 outcomes_of pl f at (Device action) = device_outcomes at f action
 outcomes_of pl f at Undefined = []
+
+-- The outcomes of a word that stands at an address.
+abbrev pub outcomes_at : Place → Fact → ℕ → ℕ → List Outcome
+outcomes_at pl f at word = outcomes_of pl f at (meaning_of pl.declaration.profile at word)

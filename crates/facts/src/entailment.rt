@@ -111,7 +111,7 @@ fn allows_all_registers(fact: &Fact) -> bool
 }
 
 /// The word of an image at an address, if there is one.
-fn word_of(image: &Image, at: Word) -> Option<Word>
+pub(crate) fn word_of(image: &Image, at: Word) -> Option<Word>
     ensures word { result ≡ image_of image.now at }
     ensures small { at < 4096 }
 {

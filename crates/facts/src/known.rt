@@ -1,23 +1,38 @@
-//! What is known: a fact, or what a caller's fact and an exit's say together.
+//! What is known after a step: a fact, or what a caller and an exit know, and what changed.
 //!
-//! A fact has up to 64 tracked cells of 512 bytes, and what is known after a call up to 128. So it
-//! is seen through the facts that it came from.
+//! A fact has up to 64 tracked cells of 512 bytes. What is known after a step is seen through the
+//! fact that it came from: at most two cells changed, or one of several unknown ones did.
 
-ghost use Rattle.std.specs.Prelude.{◌≡◌, ◌↔◌, map, IsTrue};
-ghost use Rattle.wordset.specs.Words.{SameWords};
+ghost use Rattle.std.specs.Prelude.{ℕ, ◌≡◌, ◌<◌, ◌≤◌, ◌↔◌, ◌+◌, length, map, IsTrue};
+ghost use Rattle.arrayvec.specs.ArrayVec.{array_vec_len};
+ghost use Rattle.wordset.specs.Words.{SameWords, plus, shifted};
 ghost use Rattle.wordset.specs.Lanes.{words};
 ghost use Rattle.wordset.specs.Links.{links_of};
-ghost use Rattle.facts.specs.Facts.{Ac, narrowed, Among, Knows, KnowsAll, Entails, EntailsOffsets, joined};
+ghost use Rattle.facts.specs.Facts.{Ac, Cell, narrowed, Among, Knows, KnowsAll, Entails, EntailsOffsets, joined};
+ghost use Rattle.facts.specs.Changes.{moved, assigned, smeared, with_equations, with_name, with_mq, with_link};
 ghost use Rattle.facts.specs.Same.{Agree};
-ghost use Rattle.facts.specs.Meaning.{name_of, equation_of, offsets_of, meaning, source_words, known_of, tracked_of, Meets};
+ghost use Rattle.facts.specs.Meaning.{name_of, equation_of, offsets_of, meaning, source_words, changed, known_of, tracked_of, Meets, IsUnchanged};
 ghost use Rattle.facts.specs.Showing.{Shows, EachWithin, EntailsRegisters};
 
-use crate::equations::{Equations, copy, has_cell, joined, outside};
+use crate::equations::{Equations, copy, freed, freed_of_cells, has_cell, joined, outside, raised};
 use crate::fact::{Fact, TrackedCell};
 use crate::names::{Equation, Name, is_same_equation, is_same_name, negated};
 use crate::offsets::Offsets;
 use word12::Word;
 use wordset::{Links, WordSet};
+
+/// What became of the words of cells.
+#[derive(Clone, Copy)]
+pub(crate) enum Change {
+    /// They are as they were.
+    Unchanged,
+    /// The cell has these words now.
+    Replaced(Word, WordSet),
+    /// One of the cells, unknown which, went up by one.
+    Counted(WordSet),
+    /// One of the cells, unknown which, took one of the words.
+    Stored(WordSet, WordSet),
+}
 
 /// Where the words of cells come from.
 #[derive(Clone, Copy)]
@@ -28,17 +43,19 @@ pub(crate) enum Source<'a> {
     Joined(&'a Fact, &'a Fact, &'a WordSet),
 }
 
-/// What is known, with the readers of a fact.
+/// What is known after a step, with the readers of a fact.
 ///
 /// Contracts see it as the fact that `known_of` gives.
 #[derive(Drop)]
 pub struct Known<'a> {
-    base: Source<'a>,
-    ac: WordSet,
-    mq: WordSet,
-    link: Links,
-    equations: Equations,
-    offsets: Offsets,
+    pub(crate) base: Source<'a>,
+    pub(crate) ac: WordSet,
+    pub(crate) mq: WordSet,
+    pub(crate) link: Links,
+    pub(crate) pointer: Change,
+    pub(crate) target: Change,
+    pub(crate) equations: Equations,
+    pub(crate) offsets: Offsets,
 }
 
 /// The words of a cell.
@@ -52,6 +69,31 @@ fn source_set(source: &Source<'_>, cell: Word) -> WordSet
                 exit.set_of_cell(cell)
             } else {
                 call.set_of_cell(cell)
+            }
+        }
+    }
+}
+
+/// What a change makes of the words of a cell.
+fn change_set(change: &Change, cell: Word, set: WordSet) -> WordSet
+    ensures { SameWords (words result) (changed change.now cell (words set)) }
+{
+    match change {
+        Change::Unchanged => set,
+        Change::Replaced(at, other) => if cell == *at { *other } else { set },
+        Change::Counted(cells) => {
+            if has_cell(cells, cell) {
+                let more = set.shift(Word::ZERO.increment());
+                set.union(&more)
+            } else {
+                set
+            }
+        }
+        Change::Stored(cells, other) => {
+            if has_cell(cells, cell) {
+                set.union(other)
+            } else {
+                set
             }
         }
     }
@@ -99,7 +141,11 @@ impl Known<'_> {
     {
         match name {
             Name::Accumulator => self.ac,
-            Name::Cell(cell) => source_set(&self.base, *cell),
+            Name::Cell(cell) => {
+                let old = source_set(&self.base, *cell);
+                let seen = change_set(&self.pointer, *cell, old);
+                change_set(&self.target, *cell, seen)
+            }
         }
     }
 
@@ -234,13 +280,18 @@ impl Known<'_> {
 impl<'a> Known<'a> {
     /// What a fact knows.
     pub fn of(fact: &'a Fact) -> Known<'a>
-        ensures { Agree (known_of result) (meaning fact.now) }
+        ensures same { Agree (known_of result) (meaning fact.now) }
+        ensures pointer { IsUnchanged result.pointer }
+        ensures target { IsUnchanged result.target }
+        ensures len { array_vec_len result.equations ≤ 32 }
     {
         Known {
             base: Source::One(fact),
             ac: *fact.accumulator(),
             mq: *fact.mq(),
             link: fact.link(),
+            pointer: Change::Unchanged,
+            target: Change::Unchanged,
             equations: copy(fact.equations()),
             offsets: fact.offsets(),
         }
@@ -256,6 +307,8 @@ impl<'a> Known<'a> {
             ac: *exit.accumulator(),
             mq: *exit.mq(),
             link: exit.link(),
+            pointer: Change::Unchanged,
+            target: Change::Unchanged,
             equations: joined(outside(written, call.equations()), exit.equations()),
             offsets: call.offsets(),
         }

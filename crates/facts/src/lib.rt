@@ -5,18 +5,28 @@ ghost use Rattle.facts.specs.Law.{StepLaw};
 ghost use Rattle.facts.specs.Starts.{StartLaw};
 ghost use Rattle.facts.specs.Same.{SameLaw};
 
+mod changes;
+mod dispatch;
 mod entailment;
 mod equations;
 mod fact;
 mod known;
 mod names;
 mod offsets;
+mod outcome;
+mod place;
+mod references;
+mod registers;
+mod skipping;
 
+pub use dispatch::{Outcomes, outcomes};
 pub use entailment::{entails, entails_return, holds_before, narrowed};
 pub use fact::{Fact, TrackedCell};
 pub use known::Known;
 pub use names::{Equation, Name};
 pub use offsets::Offsets;
+pub use outcome::Outcome;
+pub use place::{Place, Running};
 
 /// The conditions that a certificate must meet.
 #[derive(Clone, Copy, PartialEq, Eq, Debug)]

@@ -1,8 +1,9 @@
 //! The names that facts speak of, and equations between their words.
 
 ghost use Rattle.std.specs.Prelude.{◌≡◌, ◌↔◌, IsTrue};
-ghost use Rattle.wordset.specs.Words.{minus};
+ghost use Rattle.wordset.specs.Words.{plus, minus};
 ghost use Rattle.facts.specs.Facts.{same};
+ghost use Rattle.facts.specs.Changes.{oriented};
 ghost use Rattle.facts.specs.Meaning.{name_of, equation_of};
 
 use word12::Word;
@@ -69,4 +70,23 @@ pub(crate) fn negated(word: Word) -> Word
     ensures { result ≡ minus 0 word }
 {
     word.complement().increment()
+}
+
+/// The equation y = z + k, with the lesser cell at its left.
+pub(crate) fn turned(y: Word, z: Word, k: Word) -> Equation
+    ensures { equation_of result ≡ oriented y z k }
+{
+    if y < z {
+        Equation {
+            left: Name::Cell(y),
+            right: z,
+            more: k,
+        }
+    } else {
+        Equation {
+            left: Name::Cell(z),
+            right: y,
+            more: negated(k),
+        }
+    }
 }

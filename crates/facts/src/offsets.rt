@@ -1,6 +1,6 @@
 //! How far a return word may have been counted up.
 
-ghost use Rattle.std.specs.Prelude.{◌≡◌, ◌<◌, ◌==◌, ◌↔◌, ◌||◌, ℕ, IsTrue, true, false};
+ghost use Rattle.std.specs.Prelude.{◌≡◌, ◌<◌, ◌==◌, ◌-◌, ◌↔◌, ◌||◌, ℕ, IsTrue, true, false, if◌then◌else◌};
 ghost use Rattle.facts.specs.Meaning.{offsets_of};
 
 /// Some of the offsets 0 to 7, by which a routine's return word may have been counted up.
@@ -64,5 +64,16 @@ impl Offsets {
             }
         }
         true
+    }
+
+    /// The offsets after the return word went up by one.
+    pub(crate) fn counted(self) -> Offsets
+        ensures { (o : ℕ) → o < 8 →
+            offsets_of result o ≡ (if o == 0 then false else offsets_of self (o - 1)) }
+    {
+        let [a, b, c, d, e, f, g, _] = self.known;
+        Offsets {
+            known: [false, a, b, c, d, e, f, g],
+        }
     }
 }

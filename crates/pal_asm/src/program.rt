@@ -14,10 +14,10 @@ use crate::fault::{AssembleFault, WriteFault};
 use crate::listing::make_listing;
 use crate::translation::{Translation, translate_for};
 use bin_tape::Image;
-use streams::{ByteSink, put};
 use instruct::Profile;
 use pal_acts::{SymbolTable, Symbols, permanent_table};
 use std::alloc::{AllocError, Allocator};
+use streams::{ByteSink, put};
 
 /// What a source means: its image, its own symbols and its listing.
 #[derive(Drop)]

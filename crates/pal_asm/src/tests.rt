@@ -1,13 +1,13 @@
 //! Sources worked by hand from the rules of the language.
 
 use crate::{AssembleFault, PalFault, WriteFault, assemble, translate};
-use testing::memory::MemorySink;
 use instruct::Profile;
 use pal_acts::Code;
-use testing::Refusing;
 use std::alloc::Allocator;
 use std::format;
 use std::test::Fail;
+use testing::Refusing;
+use testing::memory::MemorySink;
 use word12::Word;
 
 /// A program that prints HELLO.

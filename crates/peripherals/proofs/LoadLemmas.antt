@@ -54,3 +54,7 @@ if_below a x y h = grind (arith, nat_tests)
 
 pub image_of-word : (cells : List (Option ℕ)) (a : ℕ) → a < 4096 → image_of cells a ≡ word_at cells a
 image_of-word cells a h = if_below a (word_at cells a) None h
+
+-- a word of the tape is what is loaded
+pub laid_word : (image : Image) (memory : Cells) (a w : ℕ) → image a ≡ Some w → laid image memory a ≡ w
+laid_word image memory a w is = rw is refl

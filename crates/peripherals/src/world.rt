@@ -1,10 +1,10 @@
 //! The world: the machine with its devices, driven by events.
 
-ghost use Rattle.std.specs.Prelude.{ℕ, ◌≡◌, None, IsTrue, IfOk, OnOk, OnErr, ◌||◌};
-ghost use Rattle.processor.specs.Cells.{cell_of};
+ghost use Rattle.std.specs.Prelude.{ℕ, ◌≡◌, ◌<◌, None, IsTrue, IfOk, OnOk, OnErr, ◌||◌};
+ghost use Rattle.processor.specs.Cells.{cell_of, AreWords};
 ghost use Rattle.processor.specs.Steps.{state_of};
 ghost use Rattle.peripherals.specs.declared.Event.{Event};
-ghost use Rattle.peripherals.specs.Events.{Happens};
+ghost use Rattle.peripherals.specs.Events.{Happens, IsLoaded};
 ghost use Rattle.peripherals.specs.Loading.{image_of, laid, loaded};
 ghost use Rattle.peripherals.specs.Seen.{seen_of, puts_out};
 ghost use Rattle.peripherals.specs.World.{view, profile_of, prints, punches, put_out};
@@ -15,7 +15,7 @@ use bin_tape::Image;
 use instruct::{DeviceOperation, Profile};
 use processor::{Cpu, Memory, Outcome};
 use std::alloc::Allocator;
-use word12::Word;
+use word12::{Link, Word};
 
 /// A machine with its teletype, its high-speed reader and punch, and its switches.
 ///
@@ -32,7 +32,8 @@ pub struct World<A: Allocator> {
 
 /// The words of an image laid over a memory.
 fn lay(image: &Image, start: &Memory) -> Memory
-    ensures { cell_of result ≡ laid (image_of image.now) (cell_of start.now) }
+    ensures laid { cell_of result ≡ laid (image_of image.now) (cell_of start.now) }
+    ensures words { AreWords (cell_of result) }
 {
     let mut memory = start.duplicate();
     for index in 0..4096 {
@@ -41,8 +42,16 @@ fn lay(image: &Image, start: &Memory) -> Memory
             memory.set(at, word);
         }
     }
+    memory.are_words();
     memory
 }
+
+/// Shows that registers hold words.
+fn are_registers(ac: Word, link: Link, mq: Word)
+    ensures ac { ac < 4096 }
+    ensures link { link < 2 }
+    ensures mq { mq < 4096 }
+{}
 
 /// Puts out what a word prints or punches.
 fn put_out<A: Allocator>(
@@ -79,8 +88,11 @@ impl<A: Allocator> World<A> {
     where
         A: Copy,
         ensures view { view result ≡ loaded (image_of image.now) pc start.now }
+        // The instruction table's runs begin there.
+        ensures start { IsLoaded (image_of image.now) pc (view result) }
         ensures profile { profile_of result ≡ profile }
     {
+        are_registers(start.ac, start.link, start.mq);
         World {
             cpu: Cpu {
                 memory: lay(image, &start.memory),

@@ -3,7 +3,7 @@ use Rattle.std.proofs.Common.{ℕ, ◌≡◌, ◌<◌, ◌==◌, inl, inr, Resul
 use Rattle.std.specs.Prelude.{if◌then◌else◌, take}
 use Rattle.std.proofs.lemmas.Bool.{cases_eq, cases_lt}
 use Rattle.std.proofs.lemmas.Result.{IfOk-weaker}
-use Rattle.processor.specs.Cells.{AreWords, cell_of}
+use Rattle.processor.specs.Cells.{cell_of}
 use Rattle.processor.specs.Machine.{State}
 use Rattle.processor.specs.Runs.{Image}
 use Rattle.peripherals.specs.declared.Event.{Event}
@@ -21,7 +21,7 @@ use Rattle.policy.specs.Rules.{IsLegal, KeepsCode}
 use Rattle.policy.specs.Runs.{IsSafe}
 use Rattle.policy.specs.Watching.{number_of, Keeps, IsLeastBroken, IsClean, BreaksAt, Tells}
 use Rattle.policy.specs.WatchedSteps.{LegalStepTakesMemory}
-use Rattle.policy.proofs.CodeLemmas.{loaded_word, loaded_keeps}
+use Rattle.policy.proofs.CodeLemmas.{loaded_keeps}
 use Rattle.policy.proofs.WatchLemmas.{run_one}
 
 -- a legal step keeps each rule
@@ -107,26 +107,9 @@ pub broken_tells : (image : Image) (d : Declaration) (events : List Event) (w : 
 broken_tells image d events w Clean n r tells breaks = absurd (clean_apart image d events w n r tells breaks)
 broken_tells image d events w (Broken m q) n r tells breaks = breaks_one image d events w m n q r tells breaks
 
--- a world as it is loaded
-loads : (image : Image) (d : Declaration) (start : Start) (w : WorldState) → w ≡ loaded image d.start start →
-    w.state.ac < 4096 → w.state.link < 2 → w.state.mq < 4096 → AreWords w.state.memory → IsLoaded image d.start w
-loads image d start w is ac link mq words = record {
-  state = record {
-    pc = ap (λ (x : WorldState). x.state.pc) is;
-    ac = ac;
-    link = link;
-    mq = mq;
-    words = words;
-    loaded = λ a v on. ap (λ (x : WorldState). x.state.memory a) is ∙ loaded_word image (cell_of start.memory) a v on;
-  };
-  devices = ap (λ (x : WorldState). x.devices) is;
-  running = ap (λ (x : WorldState). x.halted_at) is;
-}
-
-pub safe_clean : (image : Image) (d : Declaration) (start : Start) (events : List Event) (w : WorldState) → w ≡ loaded image d.start start →
-    w.state.ac < 4096 → w.state.link < 2 → w.state.mq < 4096 → AreWords w.state.memory → IsSafe image d → IsClean image d events w
-safe_clean image d start events w is ac link mq words safe = λ m x ks tries.
-    safe.events w x ks (take m events) (loads image d start w is ac link mq words) tries.before tries.runs
+-- of a safe program the declared run from a world as it is loaded is clean
+pub safe_clean : (image : Image) (d : Declaration) (events : List Event) (w : WorldState) → IsLoaded image d.start w → IsSafe image d → IsClean image d events w
+safe_clean image d events w start safe = λ m x ks tries. safe.events w x ks (take m events) start tries.before tries.runs
 
 -- what is told of the loaded world
 pub told_of : {E : Type 0} (r : Result Watched E) (image : Image) (d : Declaration) (start : Start) (events : List Event) (w : WorldState) → w ≡ loaded image d.start start →

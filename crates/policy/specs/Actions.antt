@@ -1,4 +1,4 @@
--- What an instruction is about to do, as far as the rules ask.
+-- What an instruction is about to do, as far as the rules ask. Private contracts alone cite this.
 use Rattle.std.specs.Prelude.{ℕ, Bool, if◌then◌else◌}
 use Rattle.instruct.specs.Operates.{is_halt}
 use Rattle.instruct.specs.Instructions.{Meaning, And, Tad, Isz, Dca, Jms, Jmp, Group1, Group2, Group3, Device, Undefined}

@@ -1,4 +1,5 @@
--- Each rule as a test, on what the instruction is about to do, the running routine and the cells.
+-- Each rule as a test, on what the instruction is about to do, the running routine and the cells. Private contracts alone
+-- cite this.
 use Rattle.std.specs.Prelude.{◌≡◌, ℕ, ◌==◌, Bool, true, false, not, ◌&&◌, ◌||◌, nat_lt, if◌then◌else◌, Option, Some, None, [], ◌∷◌}
 use Rattle.wordset.specs.Words.{Words, minus}
 use Rattle.processor.specs.Cells.{Cells}

@@ -1,7 +1,6 @@
 //! Watching a run: whether each of its steps keeps the rules.
 
 ghost use Rattle.std.specs.Prelude.{◌≡◌, ℕ, ◌<◌, None, [], IfOk, OnOk, OnErr};
-ghost use Rattle.processor.specs.Cells.{AreWords};
 ghost use Rattle.processor.specs.Runs.{Image as Words};
 ghost use Rattle.peripherals.specs.declared.Event.{Event};
 ghost use Rattle.peripherals.specs.Events.{Happens};
@@ -26,7 +25,7 @@ use declaration::Declaration;
 use instruct::Operation;
 use peripherals::{Event, NoMemory, Start, World};
 use std::alloc::Allocator;
-use word12::{Link, Word};
+use word12::Word;
 
 /// What a watched run shows.
 #[derive(Clone, Copy, PartialEq, Eq, Debug)]
@@ -91,8 +90,9 @@ impl<A: Allocator> Watcher<A> {
         requires profile { profile_of self.old.world ≡ (meaning declaration.now).profile }
         ensures happens { OnOk result (Happens (meaning declaration.now).profile
             (machine_of self.old) Event.Step (machine_of self.new)) }
-        ensures calls { OnOk result (calls_of self.new
-            ≡ calls_after (meaning declaration.now) (machine_of self.old).state (calls_of self.old)) }
+        ensures calls { let machine = machine_of self.old in
+            OnOk result (calls_of self.new
+            ≡ calls_after (meaning declaration.now) machine.state (calls_of self.old)) }
         ensures profile { profile_of self.new.world ≡ (meaning declaration.now).profile }
         ensures unchanged { OnErr result (machine_of self.new ≡ machine_of self.old) }
         ensures only_growth { OnErr result
@@ -228,25 +228,6 @@ fn watch_events<A: Allocator, D: Allocator>(
     Ok(Watched::Clean)
 }
 
-/// Shows that registers hold words.
-fn are_registers(ac: Word, link: Link, mq: Word)
-    ensures ac { ac < 4096 }
-    ensures link { link < 2 }
-    ensures mq { mq < 4096 }
-{}
-
-/// Shows that a world's machine holds words, which proofs about a borrowed world need.
-fn holds_words<A: Allocator>(world: &World<A>)
-    ensures ac { (view world.now).state.ac < 4096 }
-    ensures link { (view world.now).state.link < 2 }
-    ensures mq { (view world.now).state.mq < 4096 }
-    ensures memory { AreWords (view world.now).state.memory }
-{
-    let cpu = world.cpu();
-    cpu.memory.are_words();
-    are_registers(cpu.ac, cpu.link, cpu.mq);
-}
-
 /// Watches the declared run of a tape's program by a list of events: whether each step that is
 /// enabled keeps the rules of the declaration.
 ///
@@ -293,7 +274,6 @@ pub fn watch<A: Allocator + Copy, D: Allocator>(
         start,
         declaration.profile(),
     );
-    holds_words(&world);
     let mut watcher = Watcher {
         world,
         calls: Vec::new(alloc),

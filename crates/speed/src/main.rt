@@ -6,14 +6,14 @@
 //! output. Without words it does a little of the first three.
 #![tactic(auto)]
 
-use testing::memory::MemorySink;
-use streams::standard::Writes;
 use bin_tape::{Image, read_tape, write_tape};
 use instruct::Profile;
 use peripherals::{Event, Panel, Seen, Start, World};
 use processor::{Cpu, Outcome};
 use std::alloc::Allocator;
 use std::{env, io};
+use streams::standard::Writes;
+use testing::memory::MemorySink;
 use word12::Word;
 
 /// Where the loop begins.

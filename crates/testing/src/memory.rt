@@ -2,8 +2,8 @@
 
 ghost use Rattle.std.specs.Prelude.{◌≡◌, ◌<◌, ◌-◌, ◌^◌, [], Some, false};
 
-use streams::{ByteSink, ByteSource, Failed};
 use std::alloc::Allocator;
+use streams::{ByteSink, ByteSource, Failed};
 
 /// Gives the bytes of a slice, so many at most in each read, and so many reads before one fails.
 #[derive(Drop)]

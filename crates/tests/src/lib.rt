@@ -1,11 +1,15 @@
 //! Tests that cross crates: sets, instructions, worlds, watched runs and commands on whole tapes, and
-//! the whole program on given words and files.
+//! the whole program on given words and files. `plain` has the calls on sets one word at a time, with
+//! which those by lanes are compared.
 #![tactic(auto)]
 
+#[cfg(test)]
+mod certificates;
 #[cfg(test)]
 mod desk;
 #[cfg(test)]
 mod instructions;
+pub mod plain;
 #[cfg(test)]
 mod program;
 #[cfg(test)]

@@ -2,9 +2,9 @@
 
 use crate::desk::run_program;
 use crate::sources::halt_tape;
+use commands::status::Status;
 use std::alloc::Global;
 use std::test::Fail;
-use commands::status::Status;
 
 #[test]
 fn bad_words_are_told(rt: HostRuntime) -> Result<(), Fail> {

@@ -1,10 +1,11 @@
 //! Values worked by hand, and each kernel against its plain body.
 
+use crate::plain;
 use instruct::{Instruction, Profile, decode};
 use rand_core::utils::NextWord;
 use rand_pcg::Pcg32;
 use word12::{Link, Word};
-use wordset::{Carries, Links, WordSet, plain};
+use wordset::{Carries, Links, WordSet};
 
 /// The word of a number, modulo 4096.
 fn word(value: u32) -> Word {

@@ -3,20 +3,20 @@
 ghost use Rattle.std.specs.Prelude.{◌≡◌, false, IfOk};
 ghost use Rattle.std.specs.List.{AllByRecursion};
 
-use testing::memory::{MemorySink, MemorySource};
 use bin_tape::{Image, TapeFault, write_tape};
+use commands::assembling::{assemble, list};
+use commands::status::{DeviceFault, Fault, Status};
+use commands::watching::watch;
+use declaration::DeclarationFault;
 use instruct::Profile;
 use pal_acts::Code;
 use pal_asm::PalFault;
 use pal_text::{TextFault, statements};
-use declaration::DeclarationFault;
-use testing::Refusing;
 use std::alloc::{AllocError, Allocator, Global};
 use std::test::Fail;
+use testing::Refusing;
+use testing::memory::{MemorySink, MemorySource};
 use word12::Word;
-use commands::assembling::{assemble, list};
-use commands::status::{DeviceFault, Fault, Status};
-use commands::watching::watch;
 
 static HALT: &[u8] = b"*200\nHLT\n$\n";
 

@@ -1,13 +1,13 @@
 //! Commands on whole tapes.
 
-use testing::memory::{MemorySink, MemorySource};
 use bin_tape::{Image, TapeFault, write_tape};
+use commands::running::{RunOptions, dump, run, run_events};
+use commands::status::{DeviceFault, Fault, Status};
 use instruct::Profile;
 use std::alloc::Global;
 use std::test::Fail;
+use testing::memory::{MemorySink, MemorySource};
 use word12::Word;
-use commands::running::{RunOptions, dump, run, run_events};
-use commands::status::{DeviceFault, Fault, Status};
 
 /// The words of a program that prints HELLO, from 0200 on.
 static HELLO: [u16; 26] = [

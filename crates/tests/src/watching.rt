@@ -1,11 +1,11 @@
 //! Runs of small programs against their declarations.
 
 use bin_tape::Image;
-use peripherals::{Event, NoMemory, Start};
 use declaration::Declaration;
+use peripherals::{Event, NoMemory, Start};
 use policy::{Rule, Watched, watch};
-use testing::Refusing;
 use std::test::Fail;
+use testing::Refusing;
 use word12::Word;
 
 /// The words of a program that prints HELLO, from 0200 on.

@@ -3,9 +3,9 @@
 use bin_tape::Image;
 use instruct::Profile;
 use peripherals::{Event, Seen, Start, World};
-use testing::Refusing;
 use std::alloc::Allocator;
 use std::test::Fail;
+use testing::Refusing;
 use word12::{Link, Word};
 
 fn word(value: u16) -> Word {

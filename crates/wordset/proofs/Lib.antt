@@ -10,5 +10,4 @@ pub mod Parts
 pub mod Ors
 pub mod Complements
 pub mod SumLemmas
-pub mod PlainLemmas
 pub mod Halves

@@ -1,8 +1,7 @@
 //! Sets of words, kept by lanes: 64 words of 64 bits, with one bit for each of the 4096 words.
 //!
 //! Contracts see a set as the test `words`, which no number from 4096 on passes, and each call as
-//! its mathematical image. No call takes memory. The module `plain` has the same calls one word at
-//! a time, under the same definitions.
+//! its mathematical image. No call takes memory.
 #![tactic(auto)]
 
 ghost use Rattle.std.specs.Prelude.{◌≡◌, ◌<◌, ◌≤◌, ◌+◌, ◌-◌, ◌*◌, ◌/◌, ◌%◌, ◌^◌, ◌==◌, ◌↔◌, ℕ, map, bit_and, bit_or, length, not, slice_index, IsTrue, MatchOption};
@@ -18,7 +17,6 @@ use word12::Word;
 mod bits;
 mod links;
 mod operate;
-pub mod plain;
 mod sums;
 
 pub use links::{Carries, Links};

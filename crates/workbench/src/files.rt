@@ -4,12 +4,12 @@ ghost use Rattle.std.specs.Prelude.{◌≡◌, false, IfOk};
 ghost use Rattle.std.specs.List.{AllByRecursion};
 
 use commands::status::{DeviceFault, Fault};
-use streams::standard::{Reads, Writes};
 use either::Either;
 use std::alloc::Global;
 use std::fs;
 use std::io::{self, Printer};
 use std::rt::Files;
+use streams::standard::{Reads, Writes};
 
 /// Opens what a name of the command line stands for: `-` for standard input, else a file.
 ///

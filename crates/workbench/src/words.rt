@@ -1,8 +1,8 @@
 //! The program's words.
 
-use commands::running::RunOptions;
 use clap::error::ErrorKind;
 use clap::{Arg, ArgAction, ArgMatches, Command, Error};
+use commands::running::RunOptions;
 use instruct::Profile;
 use std::alloc::{AllocError, Global};
 use std::convert::AsStr;

@@ -1,4 +1,4 @@
-use Rattle.std.proofs.Common.{refl, ap, ◌∙◌, List, ℕ, ◌++◌, Some}
+use Rattle.std.proofs.Common.{refl, ap, ◌∙◌, List, ℕ, Some}
 use Rattle.certificate.proofs.LineLemmas.{mq_space, words_fields}
 use Rattle.certificate.proofs.line.read_registers.Goals as goal
 

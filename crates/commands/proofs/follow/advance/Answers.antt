@@ -1,4 +1,4 @@
-use Rattle.std.proofs.Common.{rules, ◌≡◌, ◌∙◌, ap, subst}
+use Rattle.std.proofs.Common.{rules, ◌≡◌, subst}
 use Rattle.std.specs.Io.KnownBytes.{Appends}
 use Rattle.streams.specs.Bytes.{AppendsFront}
 use Rattle.processor.specs.Steps.{state_of}

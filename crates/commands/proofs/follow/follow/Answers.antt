@@ -1,9 +1,7 @@
-use Rattle.std.proofs.Common.{rules, ◌≡◌, ◌+◌, ◌≤◌, ◌<◌, ◌∙◌, Bool, true, false, not, take, get_or, length, sym, ap, subst, refl, arith, add-zero}
+use Rattle.std.proofs.Common.{rules, ◌≡◌, ◌+◌, ◌≤◌, ◌<◌, ◌∙◌, true, false, not, take, length, sym, ap, refl, arith, add-zero}
 use Rattle.std.proofs.lemmas.List.{take_all}
 use Rattle.std.specs.Io.KnownBytes.{Appends}
-use Rattle.instruct.specs.declared.Profile.{Profile}
 use Rattle.streams.specs.Bytes.{AppendsFront}
-use Rattle.peripherals.specs.declared.Event.TheVariants.{Step}
 use Rattle.peripherals.specs.declared.Seen.{Seen}
 use Rattle.peripherals.specs.declared.Seen.TheVariants.{NotEnabled, Changed, Ran, Halted, Unsupported}
 use Rattle.peripherals.specs.Events.{Happens}

@@ -1,4 +1,4 @@
-use Rattle.std.proofs.Common.{◌≡◌, ◌≤◌, false, take, length}
+use Rattle.std.proofs.Common.{◌≡◌, ◌≤◌, false, take}
 use Rattle.peripherals.specs.World.{view, profile_of}
 use Rattle.commands.specs.Course.{ends_at_halt, events_in}
 use Rattle.commands.proofs.FollowLemmas.{Came}

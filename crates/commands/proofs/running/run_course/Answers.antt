@@ -1,9 +1,8 @@
-use Rattle.std.proofs.Common.{rules, ◌≡◌, ◌++◌, ◌∙◌, ap, sym, refl, inl, inr, true, false, subst}
+use Rattle.std.proofs.Common.{rules, ◌≡◌}
 use Rattle.std.specs.Io.KnownBytes.{Appends}
 use Rattle.streams.specs.Bytes.{AppendsFront}
 use Rattle.peripherals.specs.World.{view, profile_of}
-use Rattle.peripherals.specs.Loading.{image_of, loaded}
-use Rattle.commands.specs.Course.{Ran, ends_at_halt, events_in}
+use Rattle.commands.specs.Course.{ends_at_halt, events_in}
 use Rattle.commands.specs.Running.{fresh}
 use Rattle.commands.specs.Summary.{summary}
 use Rattle.commands.proofs.RunLemmas.{run_front, run_whole, trace_front}

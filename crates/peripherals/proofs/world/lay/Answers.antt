@@ -6,8 +6,8 @@ use Rattle.peripherals.proofs.LoadLemmas.{lay_start, lay_some, lay_none, lay_all
 use Rattle.peripherals.proofs.world.lay.Goals as goal
 use Rattle.peripherals.proofs.world.lay.Goals.{in-Some, in_default}
 
-pub returns : goal.returns
-returns c =
+pub returns-clause-laid : goal.returns-clause-laid
+returns-clause-laid c =
     let full : c.loop-index.index ≡ 4096 = omega arith in
     lay_all c.args.image.now (cell_of c.loop-index.memory) (cell_of c.args.start.now) (λ a. rw full at (c.loop-index.invariant a))
 

@@ -53,7 +53,7 @@ returns-clause-safe g c =
     let is : view c.load-world.result ≡ first = rw c.start.ensures at c.load-world.ensures.view in
     let clean : IsSafe image d → IsClean image d c.args.events.now first = λ safe.
     subst (λ (w : WorldState). IsClean image d c.args.events.now w) is
-    (safe_clean image d c.args.start.now c.args.events.now (view c.load-world.result) is c.holds_words.ensures.ac c.holds_words.ensures.link c.holds_words.ensures.mq c.holds_words.ensures.memory safe) in
+    (safe_clean image d c.args.events.now (view c.load-world.result) (rw c.start.ensures at c.load-world.ensures.start) safe) in
     IfOk-weaker c.watch_events.result _ _ (λ told tells safe. clean_tells image d c.args.events.now first told tells (clean safe))
     (told_of c.watch_events.result image d c.args.start.now c.args.events.now (view c.load-world.result) is c.watch_events.ensures.tells)
 

@@ -1,5 +1,4 @@
-use Rattle.std.proofs.Common.{refl, sym, subst}
-use Rattle.wordset.specs.Words.{Words}
+use Rattle.std.proofs.Common.{refl}
 use Rattle.facts.specs.Meaning.{offsets_of}
 use Rattle.certificate.specs.Fields.{left}
 use Rattle.certificate.proofs.DigitLemmas.{no_digits, digit_there, digit_missing, all_digits}

@@ -1,7 +1,7 @@
 use Rattle.std.proofs.Common.{refl}
 use Rattle.facts.specs.Meaning.{offsets_of}
 use Rattle.certificate.specs.Fields.{left}
-use Rattle.certificate.proofs.DigitLemmas.{DigitsAre, dash_read, offsets_read, offsets_fail, has_offset}
+use Rattle.certificate.proofs.DigitLemmas.{dash_read, offsets_read, offsets_fail, has_offset}
 use Rattle.certificate.proofs.fields.Fields.offsets.Goals as goal
 
 pub returns-then-takes-clause-read : goal.returns-then-takes-clause-read
@@ -33,5 +33,3 @@ returns-else-is_empty-clause-only c =
     (c.if-takes.ensures.kept refl) c.if-takes.ensures.only
     (record { read = c.digits-offsets.ensures.read; only = c.digits-offsets.ensures.only })
     (has_offset (offsets_of c.digits-offsets.result) c.if-is_empty.ensures.1)).only
-
-

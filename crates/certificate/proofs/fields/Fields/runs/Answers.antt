@@ -1,7 +1,7 @@
-use Rattle.std.proofs.Common.{refl, Some}
+use Rattle.std.proofs.Common.{refl}
 use Rattle.wordset.specs.Lanes.{words}
 use Rattle.certificate.specs.Fields.{left}
-use Rattle.certificate.proofs.RunLemmas.{begun_with, going_on, ending, shorter, SetRead}
+use Rattle.certificate.proofs.RunLemmas.{begun_with, going_on, ending, shorter}
 use Rattle.certificate.proofs.fields.Fields.runs.Goals as goal
 
 pub loop-self-init : goal.loop-self-init

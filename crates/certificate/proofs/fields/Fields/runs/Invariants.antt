@@ -1,4 +1,3 @@
-use Rattle.std.proofs.Common.{◌≤◌}
 use Rattle.wordset.specs.Lanes.{words}
 use Rattle.certificate.specs.Fields.{left}
 use Rattle.certificate.proofs.RunLemmas.{AfterRun, how_long}

@@ -3,8 +3,9 @@ use Rattle.wordset.specs.Lanes.{words}
 use Rattle.facts.specs.Facts.{Equation, outside}
 use Rattle.facts.specs.declared.known.Known.{Known}
 use Rattle.facts.specs.declared.known.Source.TheVariants.{Joined}
+use Rattle.facts.specs.declared.known.Change.TheVariants.{Unchanged}
 use Rattle.facts.specs.Meaning.{equation_of}
-use Rattle.facts.proofs.KnownLemmas.{joined_agree, map_both}
+use Rattle.facts.proofs.ChangeLemmas.{joined_agree, map_both}
 use Rattle.facts.proofs.known.Known.after_call.Goals as goal
 
 pub returns : goal.returns
@@ -14,10 +15,12 @@ returns c =
       ac = c.accumulator.result.now;
       mq = c.mq.result.now;
       link = c.link.result;
+      pointer = Unchanged;
+      target = Unchanged;
       equations = c.joined.result;
       offsets = c.offsets.result;
     } in
-    joined_agree c.args.call.now c.args.exit.now (words c.args.written.now) k (λ a. refl)
+    joined_agree c.args.call.now c.args.exit.now (words c.args.written.now) k (λ a. refl) refl refl
     c.accumulator.ensures c.mq.ensures c.link.ensures c.offsets.ensures
     (ap (map equation_of) c.joined.ensures.list ∙ map_both c.outside.result.items c.equations-2.result.now _
     (c.outside.ensures.list ∙ ap (outside (words c.args.written.now)) c.equations.ensures.equations) ∙

@@ -1,0 +1,294 @@
+-- A certificate's text taken byte by byte.
+use Rattle.std.proofs.Common.{◌≡◌, ◌≢◌, ◌⊎◌, ℕ, ◌+◌, ◌<◌, ◌≤◌, ◌==◌, Bool, true, false, List, [], ◌∷◌, ◌++◌, length, Option, Some, None, Result, Ok, Err, refl, ap, ◌∙◌, sym, subst, inl, inr, arith, append_assoc, append-nil, length-append, get_or, add-one, drop-cons, length-take-le}
+use Rattle.std.specs.Prelude.{IfSome, IfOk, IfErr, MatchResult, take, drop}
+use Rattle.std.proofs.lemmas.Bool.{true≢false, eqb-true, eq-eqb, cases_lt}
+use Rattle.std.proofs.Math.Seq.{take-append_seam}
+use Rattle.std.proofs.lemmas.List.{take-append-drop}
+use Rattle.certificate.specs.declared.Version.{Version}
+use Rattle.certificate.specs.declared.Version.TheVariants.{One, Two}
+use Rattle.certificate.specs.declared.CertificateFault.{CertificateFault}
+use Rattle.certificate.specs.declared.CertificateFault.TheVariants as faults
+use Rattle.certificate.specs.declared.progress.Progress.{Progress}
+use Rattle.certificate.specs.declared.line.Line.{Line as ReadLine}
+use Rattle.certificate.specs.Spelling.{version_text}
+use Rattle.certificate.specs.Line.{Line, line_text}
+use Rattle.certificate.specs.Order.{any, is_end, AreInOrder, front, IsBad, IsMisplaced, IsOneTooMany}
+use Rattle.certificate.specs.Progress.{Tracks, Takes}
+use Rattle.certificate.specs.Meaning.{said}
+use Rattle.certificate.specs.Faults.{most_bytes, NoFeed, HasLine, HasFaultyLine, HasRest, IsCut, HasFault}
+use Rattle.certificate.proofs.LengthLemmas.{line_short}
+use Rattle.certificate.specs.Parser.{Reached, HasRead, Parts, Refuses}
+
+long_bad : (v : Version) (before : List Line) (bytes : List ℕ) → 32768 < length bytes → IsBad v before bytes
+long_bad v before bytes h l spells stands =
+    let a : length (line_text v l) ≤ 32768 = line_short v l in
+    let b : length bytes ≡ length (line_text v l) = ap length spells.1 in omega arith
+
+-- What a call that keeps a line answers.
+abbrev pub Kept : Result Unit CertificateFault → List ℕ → List ℕ → Option Progress → List ℕ → List ℕ → Option Progress → Bool → Progress → Type 0
+Kept r text line old new_text new_line new long p =
+    MatchResult r
+    (λ u. (new_text ≡ text ++ line ++ 10 ∷ []) × (new_line ≡ []) × (new ≡ Some p) × (long ≡ false))
+    (λ e. (e ≡ faults.NoMemory) × (new ≡ old))
+
+pub kept_number : (r : Result Unit CertificateFault) (text line new_text new_line : List ℕ) (old new : Option Progress) (long : Bool) (p : Progress) (n : ℕ) →
+    Kept r text line old new_text new_line new long p → IfSome old (λ g. g.number ≤ n) → p.number ≤ n → IfSome new (λ g. g.number ≤ n)
+kept_number (Ok u) text line new_text new_line old new long p n k h g = let e : new ≡ Some p = k.2 in rw e g
+kept_number (Err f) text line new_text new_line old new long p n k h g = let e : new ≡ old = k.1 in rw e h
+
+-- After a line was kept.
+kept_parts : (text line new_text new_line bytes : List ℕ) (new : Option Progress) (long : Bool) (p : Progress) →
+    bytes ≡ text ++ line → new_text ≡ text ++ line ++ 10 ∷ [] → new_line ≡ [] → new ≡ Some p → long ≡ false →
+    Reached p new_text → Parts new_text new new_line long (bytes ++ 10 ∷ [])
+kept_parts text line new_text new_line bytes new long p e a b c d h = record {
+  tail = [];
+  split = rw (e, a) (sym (append-nil (text ++ line ++ 10 ∷ [])));
+  read = rw c h;
+  feed = tt;
+  same = λ q. b;
+  long = λ q. absurd (true≢false (sym q ∙ d));
+  full = λ q. absurd (true≢false (sym q ∙ d));
+}
+
+-- The line so far, where it isn't too long.
+line_split : (text line bytes : List ℕ) (progress : Option Progress) → (h : Parts text progress line false bytes) → bytes ≡ text ++ line
+line_split text line bytes progress h = rw (h.same refl) h.split
+
+line_feed : (text line bytes : List ℕ) (progress : Option Progress) → (h : Parts text progress line false bytes) → NoFeed line
+line_feed text line bytes progress h = rw (h.same refl) h.feed
+
+-- The first line.
+pub first_kept : (r : Result Unit CertificateFault) (text line new_text new_line bytes : List ℕ) (new : Option Progress) (long : Bool) (p : Progress) (v : Version) →
+    Parts text None line false bytes → line ≡ version_text v → p.version ≡ v → Tracks p [] → Kept r text line None new_text new_line new long p →
+    MatchResult r (λ u. Parts new_text new new_line long (bytes ++ 10 ∷ [])) (Refuses (bytes ++ 10 ∷ []))
+first_kept (Err f) text line new_text new_line bytes new long p v h e w t k = inl k.0
+first_kept (Ok u) text line new_text new_line bytes new long p v h e w t k =
+    kept_parts text line new_text new_line bytes new long p (line_split text line bytes None h) k.0 k.1 k.2 k.3
+    (record { before = []; order = tt; tracks = t; is = (let z : text ≡ [] = h.read in k.0 ∙ rw (z, e, w) refl) })
+
+-- A line at the end of what was seen.
+has_line : (text tail bytes whole rest : List ℕ) → bytes ≡ text ++ tail → text ≡ whole → NoFeed tail → length bytes < most_bytes →
+    HasLine (bytes ++ 10 ∷ [] ++ rest) whole tail
+has_line text tail bytes whole rest e f feed small = record {
+  rest = rest;
+  split = rw (e, f) (append_assoc (whole ++ tail) (10 ∷ []) rest);
+  feed = feed;
+  within = rw (← f) (let z : length bytes ≡ length (text ++ tail) = ap length e in omega (arith, length-append text tail));
+}
+
+other_line : (text line bytes : List ℕ) (long : Bool) (v : Version) → (h : Parts text None line long bytes) →
+    (long ≡ false → line ≡ version_text v → ⊥) → h.tail ≡ version_text v → ⊥
+other_line text line bytes long v h none e = go long refl
+  where
+    length_of : (v : Version) → length (version_text v) ≡ 18
+    length_of One = refl
+    length_of Two = refl
+
+    go : (c : Bool) → long ≡ c → ⊥
+    go false q = none q (h.same q ∙ e)
+    go true q =
+        let a : 32768 < length h.tail = h.long q in
+        let b : length h.tail ≡ length (version_text v) = ap length e in
+        let c : length (version_text v) ≡ 18 = length_of v in omega arith
+
+pub first_refused : (text line bytes : List ℕ) (long : Bool) → Parts text None line long bytes → length bytes < most_bytes →
+    ((v : Version) → long ≡ false → line ≡ version_text v → ⊥) → Refuses (bytes ++ 10 ∷ []) faults.Version
+first_refused text line bytes long h small none =
+    inr (λ rest. inl (h.tail, has_line text h.tail bytes [] rest h.split h.read h.feed small, λ v. other_line text line bytes long v h (none v)))
+
+-- A further line.
+pub next_kept : (r : Result Unit CertificateFault) (text line new_text new_line bytes : List ℕ) (old new : Option Progress) (long : Bool)
+    (p q : Progress) (l : ReadLine) → old ≡ Some p → Parts text old line false bytes → q.version ≡ p.version →
+    ((before : List Line) → Tracks p before → Takes p.version before line q (Ok l)) → Kept r text line old new_text new_line new long q →
+    MatchResult r (λ u. Parts new_text new new_line long (bytes ++ 10 ∷ [])) (Refuses (bytes ++ 10 ∷ []))
+next_kept (Err f) text line new_text new_line bytes old new long p q l is h w t k = inl k.0
+next_kept (Ok u) text line new_text new_line bytes old new long p q l is h w t k =
+    kept_parts text line new_text new_line bytes new long q (line_split text line bytes old h) k.0 k.1 k.2 k.3
+    (made (let z : HasRead (Some p) text = rw is at h.read in z))
+  where
+    made : Reached p text → Reached q new_text
+    made g =
+        let n = t g.before g.tracks in
+        let e : line ≡ line_text p.version (said l) = n.0.spells.1 in
+        record {
+          before = said l ∷ g.before;
+          order = subst (λ (v : Version). AreInOrder v (said l ∷ g.before)) (sym w) (n.0.spells.0, n.0.next, g.order);
+          tracks = n.1;
+          is = subst (λ (v : Version). new_text ≡ front v (said l ∷ g.before)) (sym w)
+              (k.0 ∙ rw (g.is, e) (append_assoc (front p.version g.before) (line_text p.version (said l)) (10 ∷ [])));
+        }
+
+faulty : (p : Progress) (text line bytes rest : List ℕ) (n : ℕ) (IsFaulty : Version → List Line → List ℕ → Type 0) → (g : Reached p text) →
+    bytes ≡ text ++ line → NoFeed line → length bytes < most_bytes → n ≡ length g.before + 2 → IsFaulty p.version g.before line →
+    HasFaultyLine (bytes ++ 10 ∷ [] ++ rest) n IsFaulty
+faulty p text line bytes rest n IsFaulty g e feed small number bad = record {
+  version = p.version;
+  before = g.before;
+  order = g.order;
+  number = number;
+  line = line;
+  place = has_line text line bytes (front p.version g.before) rest e g.is feed small;
+  faulty = bad;
+}
+
+pub next_refused : (text line bytes : List ℕ) (old : Option Progress) (p q : Progress) (f : CertificateFault) → old ≡ Some p →
+    Parts text old line false bytes → length bytes < most_bytes →
+    ((before : List Line) → Tracks p before → Takes p.version before line q (Err f)) → Refuses (bytes ++ 10 ∷ []) f
+next_refused text line bytes old p q f is h small t = go f t
+  where
+    e : bytes ≡ text ++ line
+    e = line_split text line bytes old h
+
+    feed : NoFeed line
+    feed = line_feed text line bytes old h
+
+    g : Reached p text
+    g = let z : HasRead (Some p) text = rw is at h.read in z
+
+    go : (f : CertificateFault) → ((before : List Line) → Tracks p before → Takes p.version before line q (Err f)) → Refuses (bytes ++ 10 ∷ []) f
+    go (faults.BadLine n) t = let b = t g.before g.tracks in inr (λ rest. inl (faulty p text line bytes rest n IsBad g e feed small b.0 b.1))
+    go (faults.Order n) t = let b = t g.before g.tracks in inr (λ rest. faulty p text line bytes rest n IsMisplaced g e feed small b.0 b.1)
+    go faults.TooMany t = inr (λ rest. inl (length g.before + 2, faulty p text line bytes rest (length g.before + 2) IsOneTooMany g e feed small refl (t g.before g.tracks)))
+    go faults.Version t = absurd (t g.before g.tracks)
+    go faults.NoMemory t = absurd (t g.before g.tracks)
+
+-- A line that is too long.
+pub long_refused : (text line bytes : List ℕ) (old : Option Progress) (p : Progress) (long : Bool) (n : ℕ) → old ≡ Some p → long ≡ true →
+    Parts text old line long bytes → length bytes < most_bytes → n ≡ p.number → Refuses (bytes ++ 10 ∷ []) (faults.BadLine n)
+long_refused text line bytes old p long n is e h small number =
+    inr (λ rest. inl (faulty p text h.tail bytes rest n IsBad g h.split h.feed small (number ∙ g.tracks.number) (long_bad p.version g.before h.tail (h.long e))))
+  where
+    g : Reached p text
+    g = let z : HasRead (Some p) text = rw is at h.read in z
+
+-- A byte more.
+no_feed : (xs : List ℕ) (b : ℕ) → NoFeed xs → b ≢ 10 → NoFeed (xs ++ b ∷ [])
+no_feed [] b h n = (n, tt)
+no_feed (x ∷ xs) b h n = (h.0, no_feed xs b h.1 n)
+
+pub pushed : (text line new_line bytes : List ℕ) (progress : Option Progress) (long : Bool) (b : ℕ) → Parts text progress line long bytes →
+    b ≢ 10 → length line < 32768 → new_line ≡ line ++ b ∷ [] → Parts text progress new_line long (bytes ++ b ∷ [])
+pushed text line new_line bytes progress long b h n small e = record {
+  tail = h.tail ++ b ∷ [];
+  split = ap (λ (x : List ℕ). x ++ b ∷ []) h.split ∙ append_assoc text h.tail (b ∷ []);
+  read = h.read;
+  feed = no_feed h.tail b h.feed n;
+  same = λ q. e ∙ ap (λ (x : List ℕ). x ++ b ∷ []) (h.same q);
+  long = λ q. absurd (let z : 32768 ≤ length line = h.full q in omega arith);
+  full = λ q. absurd (let z : 32768 ≤ length line = h.full q in omega arith);
+}
+
+pub passed : (text line bytes : List ℕ) (progress : Option Progress) (long : Bool) (b : ℕ) → Parts text progress line long bytes →
+    b ≢ 10 → 32768 ≤ length line → Parts text progress line true (bytes ++ b ∷ [])
+passed text line bytes progress long b h n full = record {
+  tail = h.tail ++ b ∷ [];
+  split = ap (λ (x : List ℕ). x ++ b ∷ []) h.split ∙ append_assoc text h.tail (b ∷ []);
+  read = h.read;
+  feed = no_feed h.tail b h.feed n;
+  same = λ q. absurd (true≢false q);
+  long = λ q. longer long refl;
+  full = λ q. full;
+}
+  where
+    longer : (c : Bool) → long ≡ c → 32768 < length (h.tail ++ b ∷ [])
+    longer true q = let z : 32768 < length h.tail = h.long q in omega (arith, length-append h.tail (b ∷ []))
+    longer false q = let z : length line ≡ length h.tail = ap length (h.same q) in omega (arith, length-append h.tail (b ∷ []))
+
+-- A byte past the most.
+pub one_too_many : (text line bytes : List ℕ) (progress : Option Progress) (long : Bool) (b count : ℕ) → Parts text progress line long bytes →
+    count ≡ most_bytes → count ≡ length bytes → Refuses (bytes ++ b ∷ []) faults.TooMany
+one_too_many text line bytes progress long b count h most e =
+    let n : length bytes ≡ most_bytes = sym e ∙ most in
+    inr (λ rest. inr (
+      (let z : length (bytes ++ b ∷ [] ++ rest) ≡ length bytes + 1 + length rest =
+          ap length (append_assoc bytes (b ∷ []) rest) ∙ (length-append bytes (b ∷ rest) ∙ omega arith) in omega arith),
+      (let t : take most_bytes (bytes ++ b ∷ [] ++ rest) ≡ bytes =
+          ap (λ (x : List ℕ). take most_bytes x) (append_assoc bytes (b ∷ []) rest) ∙
+          (ap (λ k. take k (bytes ++ (b ∷ rest))) (sym n) ∙ take-append_seam bytes (b ∷ rest)) in
+          rw t (whole progress h)),
+    ))
+  where
+    whole : (o : Option Progress) → Parts text o line long bytes → NoFeed bytes ⊎ HasRest bytes
+    whole None h = inl (let z : text ≡ [] = h.read in let w : bytes ≡ h.tail = h.split ∙ rw z refl in rw w h.feed)
+    whole (Some p) h = inr (record {
+      version = p.version;
+      before = h.read.before;
+      order = h.read.order;
+      rest = h.tail;
+      split = h.split ∙ ap (λ (x : List ℕ). x ++ h.tail) h.read.is;
+      feed = h.feed;
+    })
+
+pub is_full : (n most : ℕ) → true ≡ (n == most) → most ≤ n
+is_full n most e = let z : n ≡ most = eqb-true n most (sym e) in omega arith
+
+pub has_place : (n most : ℕ) → false ≡ (n == most) → n ≤ most → n < most
+has_place n most e h = elim (cases_lt n most) [
+  | inl a ↦ a
+  | inr a ↦ absurd (let z : n ≡ most = omega arith in true≢false (sym (eq-eqb n most z) ∙ sym e))
+]
+
+-- The bytes end without the end, or with something after it.
+pub cut : (text line bytes : List ℕ) (long : Bool) (o : Option Progress) (p : Progress) (n : ℕ) → o ≡ Some p → Parts text o line long bytes →
+    length bytes ≤ most_bytes → n ≡ p.number →
+    ((before : List Line) → Tracks p before → any is_end before ≡ true → long ≡ false → line ≡ [] → ⊥) → IsCut bytes n
+cut text line bytes long o p n is h few number lacks = record {
+  lines = record {
+    version = p.version;
+    before = g.before;
+    order = g.order;
+    rest = h.tail;
+    split = h.split ∙ ap (λ (x : List ℕ). x ++ h.tail) g.is;
+    feed = h.feed;
+  };
+  few = few;
+  number = number ∙ g.tracks.number;
+  lacks = λ ended none. go long refl none (λ q e. lacks g.before g.tracks ended q e);
+}
+  where
+    g : Reached p text
+    g = let z : HasRead (Some p) text = rw is at h.read in z
+
+    go : (c : Bool) → long ≡ c → h.tail ≡ [] → (long ≡ false → line ≡ [] → ⊥) → ⊥
+    go false q none lacks = lacks q (h.same q ∙ none)
+    go true q none lacks = let a : 32768 < length h.tail = h.long q in let b : length h.tail ≡ 0 = ap length none in omega arith
+
+all_taken : (i : ℕ) (xs : List ℕ) → length xs ≤ i → i ≤ length xs → take i xs ≡ xs
+all_taken i xs a b =
+    let e : i ≡ length xs = omega arith in
+    ap (λ k. take k xs) e ∙ (ap (λ (x : List ℕ). take (length xs) x) (sym (append-nil xs)) ∙ take-append_seam xs [])
+
+-- All bytes were taken.
+pub parsed : {X : Type 0} (r : Result X CertificateFault) (P : List ℕ → X → Type 0) (bytes : List ℕ) (i : ℕ) → length bytes ≤ i → i ≤ length bytes →
+    MatchResult r (P (take i bytes)) (HasFault (take i bytes)) → MatchResult r (P bytes) (HasFault bytes)
+parsed r P bytes i a b h = subst (λ (x : List ℕ). MatchResult r (P x) (HasFault x)) (all_taken i bytes a b) h
+
+pub if_first : {X : Type 0} (r : Result X CertificateFault) (P O : X → Type 0) (Q : CertificateFault → Type 0) → MatchResult r (λ x. P x × O x) Q → IfOk r P
+if_first (Ok x) P O Q h = h.0
+if_first (Err f) P O Q h = tt
+
+pub if_second : {X : Type 0} (r : Result X CertificateFault) (P O : X → Type 0) (Q : CertificateFault → Type 0) → MatchResult r (λ x. P x × O x) Q → IfOk r O
+if_second (Ok x) P O Q h = h.1
+if_second (Err f) P O Q h = tt
+
+pub if_refused : {X : Type 0} (r : Result X CertificateFault) (P : X → Type 0) (bytes : List ℕ) → MatchResult r P (HasFault bytes) →
+    IfErr r (λ f. (f ≡ faults.NoMemory) ⊎ HasFault bytes f)
+if_refused (Ok x) P bytes h = tt
+if_refused (Err f) P bytes h = inr h
+
+-- A byte was refused.
+pub refused_at : (bytes : List ℕ) (i : ℕ) (f : CertificateFault) → i < length bytes → Refuses (take i bytes ++ get_or bytes i 0 ∷ []) f →
+    (f ≡ faults.NoMemory) ⊎ HasFault bytes f
+refused_at bytes i f h (inl e) = inl e
+refused_at bytes i f h (inr g) = inr (subst (λ (x : List ℕ). HasFault x f) whole (g (drop (i + 1) bytes)))
+  where
+    whole : take i bytes ++ get_or bytes i 0 ∷ [] ++ drop (i + 1) bytes ≡ bytes
+    whole = append_assoc (take i bytes) (get_or bytes i 0 ∷ []) (drop (i + 1) bytes) ∙
+        (let e : drop i bytes ≡ get_or bytes i 0 ∷ drop (i + 1) bytes = rw (add-one, drop-cons bytes i 0) refl in
+        ap (λ (x : List ℕ). take i bytes ++ x) (sym e) ∙ take-append-drop i bytes)
+
+pub count_taken : (bytes : List ℕ) (i count : ℕ) → i ≤ length bytes → count ≡ i → count ≡ length (take i bytes)
+count_taken bytes i count h e = e ∙ sym (length-take-le i bytes h)
+
+pub not_empty : (line : List ℕ) → false ≡ (length line == 0) → line ≡ [] → ⊥
+not_empty line e f = true≢false (sym (eq-eqb (length line) 0 (ap length f)) ∙ sym e)

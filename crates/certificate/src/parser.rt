@@ -1,0 +1,171 @@
+//! The text of a certificate, a byte at a time.
+
+ghost use Rattle.std.specs.Prelude.{ℕ, ◌≡◌, ◌+◌, ◌<◌, ◌≤◌, ◌⊎◌, ◌^◌, List, [], ◌∷◌, ◌++◌, length, IfOk, IfErr, MatchResult, Some, None};
+ghost use Rattle.std.specs.Prelude.{IfSome, false};
+ghost use Rattle.certificate.specs.declared.Version.{Version as Spelled};
+ghost use Rattle.certificate.specs.declared.CertificateFault.TheVariants.{NoMemory};
+ghost use Rattle.certificate.specs.Spelling.{version_text};
+ghost use Rattle.certificate.specs.Faults.{most_bytes, HasFault, IsText};
+ghost use Rattle.certificate.specs.Parser.{Seen, IsSmall, Refuses};
+
+use crate::progress::Progress;
+use crate::{Certificate, CertificateFault, Version};
+use arrayvec::ArrayVec;
+use std::alloc::Allocator;
+
+/// The most bytes of a certificate's text.
+const MOST_BYTES: usize = 1_048_576;
+
+/// No line of a certificate has more bytes.
+const MOST_OF_A_LINE: usize = 32_768;
+
+/// A certificate's text as far as it was taken: the whole lines, what they say for those that
+/// follow, and the bytes of the line since then, of which there may be too many.
+#[derive(Drop)]
+pub struct Parser<A: Allocator> {
+    text: Vec<u8, A>,
+    progress: Option<Progress>,
+    line: ArrayVec<u8, MOST_OF_A_LINE>,
+    is_long: bool,
+    count: usize,
+}
+
+/// The version of a first line.
+fn version_of(line: &[u8]) -> Option<Version>
+    ensures read { IfSome result (λ v. line.now ≡ version_text v) }
+    ensures only { (v : Spelled) → line.now ≡ version_text v → result ≡ Some v }
+{
+    if line == b"PDP8-CERTIFICATE 1".as_slice() {
+        return Some(Version::One);
+    }
+    if line == b"PDP8-CERTIFICATE 2".as_slice() {
+        return Some(Version::Two);
+    }
+    None
+}
+
+impl<A: Allocator> Parser<A> {
+    /// Before the first byte.
+    pub fn new(alloc: A) -> Parser<A>
+        ensures seen { Seen result [] }
+        ensures small { IsSmall result }
+        ensures count { result.count ≡ 0 }
+    {
+        Parser {
+            text: Vec::new(alloc),
+            progress: None,
+            line: ArrayVec::new(),
+            is_long: false,
+            count: 0,
+        }
+    }
+
+    /// Keeps the line and what it says.
+    fn keep(&mut self, progress: Progress) -> Result<(), CertificateFault>
+        ensures same { self.new.count ≡ self.old.count }
+        ensures kept { MatchResult result
+            (λ u. (self.new.text.items ≡ self.old.text.items ++ self.old.line.items ++ 10 ∷ []) ×
+            (self.new.line.items ≡ []) × (self.new.progress ≡ Some progress) × (self.new.is_long ≡ false))
+            (λ e. (e ≡ NoMemory) × (self.new.progress ≡ self.old.progress)) }
+    {
+        let Ok(()) = self.text.extend_from_slice(&self.line) else {
+            return Err(CertificateFault::NoMemory);
+        };
+        let Ok(()) = self.text.push(b'\n') else {
+            return Err(CertificateFault::NoMemory);
+        };
+        self.line = ArrayVec::new();
+        self.is_long = false;
+        self.progress = Some(progress);
+        Ok(())
+    }
+
+    /// Ends the first line.
+    fn end_first(&mut self) -> Result<(), CertificateFault>
+        requires first { self.old.progress ≡ None }
+        requires count { self.old.count ≤ most_bytes }
+        ensures count { self.new.count ≡ self.old.count }
+        ensures number { IfSome self.new.progress (λ g. g.number ≤ self.new.count + 2) }
+        ensures seen { (bytes : List ℕ) → Seen self.old bytes → length bytes < most_bytes →
+            MatchResult result (λ u. Seen self.new (bytes ++ 10 ∷ [])) (Refuses (bytes ++ 10 ∷ [])) }
+    {
+        match version_of(&self.line) {
+            Some(version) if !self.is_long => self.keep(Progress::start(version)),
+            _ => Err(CertificateFault::Version),
+        }
+    }
+
+    /// Ends a further line.
+    fn end_next(&mut self, progress: Progress) -> Result<(), CertificateFault>
+        requires next { self.old.progress ≡ Some progress }
+        requires count { self.old.count ≤ most_bytes }
+        requires number { progress.number ≤ self.old.count + 1 }
+        ensures count { self.new.count ≡ self.old.count }
+        ensures number { IfSome self.new.progress (λ g. g.number ≤ self.new.count + 2) }
+        ensures seen { (bytes : List ℕ) → Seen self.old bytes → length bytes < most_bytes →
+            MatchResult result (λ u. Seen self.new (bytes ++ 10 ∷ [])) (Refuses (bytes ++ 10 ∷ [])) }
+    {
+        if self.is_long {
+            return Err(CertificateFault::BadLine(progress.number()));
+        }
+        let mut next = progress;
+        match next.accept(&self.line) {
+            Ok(_) => self.keep(next),
+            Err(fault) => Err(fault),
+        }
+    }
+
+    /// Takes the next byte.
+    pub fn take(&mut self, byte: u8) -> Result<(), CertificateFault>
+        requires { IsSmall self.old }
+        ensures small { IsSmall self.new }
+        ensures count { IfOk result (λ u. self.new.count ≡ self.old.count + 1) }
+        ensures seen { (bytes : List ℕ) → Seen self.old bytes → self.old.count ≡ length bytes →
+            MatchResult result (λ u. Seen self.new (bytes ++ byte ∷ [])) (Refuses (bytes ++ byte ∷ [])) }
+    {
+        if self.count == MOST_BYTES {
+            return Err(CertificateFault::TooMany);
+        }
+        self.count += 1;
+        if byte == b'\n' {
+            return match self.progress {
+                None => self.end_first(),
+                Some(progress) => self.end_next(progress),
+            };
+        }
+        if self.line.is_full() {
+            self.is_long = true;
+        } else {
+            self.line.push(byte);
+        }
+        Ok(())
+    }
+
+    /// The certificate, where the bytes are a whole one.
+    pub fn finish(self) -> Result<Certificate<A>, CertificateFault>
+        requires { IsSmall self }
+        ensures { (bytes : List ℕ) → Seen self bytes → self.count ≡ length bytes →
+            MatchResult result (λ c. IsText c.version bytes × (c.text.items ≡ bytes)) (HasFault bytes) }
+    {
+        let Parser {
+            text,
+            progress,
+            line,
+            is_long,
+            count: _,
+        } = self;
+        let Some(progress) = progress else {
+            return Err(CertificateFault::Version);
+        };
+        if !progress.is_ended() {
+            return Err(CertificateFault::BadLine(progress.number()));
+        }
+        if is_long || !line.is_empty() {
+            return Err(CertificateFault::BadLine(progress.number()));
+        }
+        Ok(Certificate {
+            version: progress.version(),
+            text,
+        })
+    }
+}

@@ -1,0 +1,93 @@
+-- What changes make of what is known.
+use Rattle.std.proofs.Common.{◌≡◌, ℕ, ◌==◌, Bool, true, false, ◌&&◌, List, ◌++◌, map, refl, ap, ◌∙◌}
+use Rattle.std.specs.Prelude.{if◌then◌else◌, nat_lt, not}
+use Rattle.std.proofs.lemmas.List.{map-append}
+use Rattle.wordset.specs.Words.{minus, Words, SameWords, shifted, union}
+use Rattle.wordset.specs.Lanes.{words}
+use Rattle.wordset.specs.Links.{links_of}
+use Rattle.facts.specs.Facts.{Name, Ac, Cell, Equation, joined, outside, has_cell, is_outside}
+use Rattle.facts.specs.Same.{Agree}
+use Rattle.facts.proofs.Numbers.{minus_lt}
+use Rattle.facts.specs.declared.fact.Fact.{Fact as CodeFact}
+use Rattle.facts.specs.declared.known.Known.{Known}
+use Rattle.facts.specs.declared.known.Change.{Change}
+use Rattle.facts.specs.declared.names.Equation.{Equation as CodeEquation}
+use Rattle.facts.specs.declared.known.Change.TheVariants.{Unchanged, Replaced, Counted, Stored}
+use Rattle.facts.specs.Meaning.{known_of, known_set, equation_of, changed, IsUnchanged, source_words, cell_words, meaning, offsets_of}
+
+pub has_cell_words : (lanes : List ℕ) (a : ℕ) → has_cell (words lanes) a ≡ words lanes a
+unfolding words
+has_cell_words lanes a = go (nat_lt a 4096) _
+  where
+    go : (b c : Bool) → (b && (b && c)) ≡ (b && c)
+    go true c = refl
+    go false c = refl
+
+pub shifted_same : {a b s : Words} (k : ℕ) → SameWords a b → SameWords s (shifted a k) → SameWords s (shifted b k)
+shifted_same k e h v lt = h v lt ∙ e (minus v k) (minus_lt v k)
+
+pub joined_agree : (call exit : CodeFact) (written : Words) (k : Known) → ((a : ℕ) → source_words k.base a ≡ (if has_cell written a then cell_words exit a else cell_words call a)) →
+    IsUnchanged k.pointer → IsUnchanged k.target → words k.ac ≡ words exit.ac → words k.mq ≡ words exit.mq → links_of k.link ≡ links_of exit.link → offsets_of k.offsets ≡ offsets_of call.offsets →
+    map equation_of k.equations.items ≡ outside written (map equation_of call.equations.items) ++ map equation_of exit.equations.items →
+    Agree (known_of k) (joined (meaning call) (meaning exit) written)
+unfolding joined
+joined_agree call exit written k b p t ac mq link offsets es = record {
+  sets = sets;
+  mq = λ v lt. ap (λ (s : Words). s v) mq;
+  link = λ v lt. ap (λ (s : Words). s v) link;
+  equations = es;
+  offsets = λ o lt. ap (λ (s : Words). s o) offsets;
+}
+  where
+    sets : (n : Name) → (let chosen : Words = if is_outside written n then (meaning call).set n else (meaning exit).set n in SameWords (known_set k n) chosen)
+    sets Ac v lt = ap (λ (s : Words). s v) ac
+    sets (Cell a) v lt = rw (t, p, b a) (go (has_cell written a))
+      where
+        go : (q : Bool) → (let x : Words = if q then cell_words exit a else cell_words call a in
+            let y : Words = if not q then cell_words call a else cell_words exit a in x v ≡ y v)
+        go true = refl
+        go false = refl
+
+pub map_both : (xs ys : List CodeEquation) (es : List Equation) → map equation_of xs ≡ es → map equation_of (xs ++ ys) ≡ es ++ map equation_of ys
+map_both xs ys es e = map-append equation_of xs ys ∙ ap (λ (z : List Equation). z ++ map equation_of ys) e
+
+pub fact_agrees : (f : CodeFact) (k : Known) → ((a : ℕ) → source_words k.base a ≡ cell_words f a) →
+    IsUnchanged k.pointer → IsUnchanged k.target → words k.ac ≡ words f.ac → words k.mq ≡ words f.mq → links_of k.link ≡ links_of f.link → offsets_of k.offsets ≡ offsets_of f.offsets →
+    map equation_of k.equations.items ≡ map equation_of f.equations.items → Agree (known_of k) (meaning f)
+fact_agrees f k b p t ac mq link offsets es = record {
+  sets = sets;
+  mq = λ v lt. ap (λ (s : Words). s v) mq;
+  link = λ v lt. ap (λ (s : Words). s v) link;
+  equations = es;
+  offsets = λ o lt. ap (λ (s : Words). s o) offsets;
+}
+  where
+    sets : (n : Name) → SameWords (known_set k n) ((meaning f).set n)
+    sets Ac v lt = ap (λ (s : Words). s v) ac
+    sets (Cell a) v lt = rw (t, p, b a) refl
+
+pub changed_same : (c : Change) (a : ℕ) {s t : Words} → SameWords s t → SameWords (changed c a s) (changed c a t)
+changed_same Unchanged a h v lt = h v lt
+changed_same (Replaced c r) a {s} {t} h v lt = go (a == c)
+  where
+    go : (b : Bool) → (let x : Words = if b then words r else s in let y : Words = if b then words r else t in x v ≡ y v)
+    go true = refl
+    go false = h v lt
+changed_same (Counted p) a {s} {t} h v lt = go (has_cell (words p) a)
+  where
+    more : s (minus v 1) ≡ t (minus v 1)
+    more = h (minus v 1) (minus_lt v 1)
+
+    go : (b : Bool) → (let x : Words = if b then union s (shifted s 1) else s in let y : Words = if b then union t (shifted t 1) else t in x v ≡ y v)
+    go true = rw (h v lt, more) refl
+    go false = h v lt
+changed_same (Stored p r) a {s} {t} h v lt = go (has_cell (words p) a)
+  where
+    go : (b : Bool) → (let x : Words = if b then union s (words r) else s in let y : Words = if b then union t (words r) else t in x v ≡ y v)
+    go true = rw (h v lt) refl
+    go false = h v lt
+
+pub set_same : (k : Known) (a : ℕ) {s t u : Words} → SameWords s (source_words k.base a) → SameWords t (changed k.pointer a s) → SameWords u (changed k.target a t) →
+    SameWords u (known_set k (Cell a))
+set_same k a old seen new v lt =
+    new v lt ∙ changed_same k.target a (λ w l. seen w l ∙ changed_same k.pointer a old w l) v lt

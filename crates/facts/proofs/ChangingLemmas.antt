@@ -1,0 +1,243 @@
+-- What happens to what is known.
+use Rattle.std.proofs.Common.{◌≡◌, ℕ, ◌-◌, ◌<◌, ◌==◌, Bool, true, false, ◌&&◌, List, ◌++◌, map, refl, ap, subst, ◌∙◌, arith}
+use Rattle.std.proofs.Math.Path.{fun_ext}
+use Rattle.std.specs.Prelude.{if◌then◌else◌, nat_lt}
+use Rattle.std.proofs.lemmas.Bool.{ltb-true}
+use Rattle.std.proofs.lemmas.List.{map-append}
+use Rattle.wordset.specs.declared.links.Links.{Links as CodeLinks}
+use Rattle.arrayvec.specs.ArrayVec.{ArrayVec}
+use Rattle.wordset.specs.Words.{minus, Words, SameWords, SameLinks, one, shifted, union}
+use Rattle.wordset.specs.Lanes.{words}
+use Rattle.wordset.specs.Links.{links_of}
+use Rattle.facts.specs.Facts.{Name, Ac, Cell, same, Fact, Equation, narrowed, has_cell}
+use Rattle.facts.specs.Changes.{moved_equations, free_of, cells_of, with_set, copied, moved, assigned, smeared, smeared_set, with_name, with_equations, with_mq, with_link, with_offsets}
+use Rattle.facts.specs.Same.{Agree}
+use Rattle.facts.proofs.Numbers.{minus_lt}
+use Rattle.facts.proofs.AgreeLemmas.{agree_trans, narrowed_agree}
+use Rattle.facts.specs.declared.offsets.Offsets.{Offsets}
+use Rattle.facts.specs.declared.known.Known.{Known}
+use Rattle.facts.specs.declared.names.Equation.{Equation as CodeEquation}
+use Rattle.facts.specs.declared.known.Change.TheVariants.{Unchanged, Replaced, Counted, Stored}
+use Rattle.facts.specs.Meaning.{known_of, known_set, equation_of, offsets_of, changed, IsUnchanged, source_words}
+
+pub ac_sets : (k : Known) (set : List ℕ) (new : Words) → SameWords (words set) new → (n : Name) → SameWords (known_set (record k { ac = set }) n) (with_set Ac new (known_set k) n)
+ac_sets k set new s Ac v lt = s v lt
+ac_sets k set new s (Cell a) v lt = refl
+
+-- a new word for a cell, where its slot is free
+pub target_sets : (k : Known) (c : ℕ) (set : List ℕ) (new : Words) → IsUnchanged k.target → SameWords (words set) new → (n : Name) →
+    SameWords (known_set (record k { target = Replaced c set }) n) (with_set (Cell c) new (known_set k) n)
+target_sets k c set new u s Ac v lt = refl
+target_sets k c set new u s (Cell a) v lt = go (a == c)
+  where
+    old : Words
+    old = changed k.pointer a (source_words k.base a)
+
+    go : (b : Bool) → (let x : Words = if b then words set else old in let y : Words = if b then new else changed k.target a old in x v ≡ y v)
+    go true = s v lt
+    go false = rw u refl
+
+pub pointer_sets : (k : Known) (c : ℕ) (set : List ℕ) (new : Words) → IsUnchanged k.pointer → IsUnchanged k.target → SameWords (words set) new → (n : Name) →
+    SameWords (known_set (record k { pointer = Replaced c set; target = Unchanged }) n) (with_set (Cell c) new (known_set k) n)
+pointer_sets k c set new p u s Ac v lt = refl
+pointer_sets k c set new p u s (Cell a) v lt = go (a == c)
+  where
+    old : Words
+    old = source_words k.base a
+
+    go : (b : Bool) → (let x : Words = if b then words set else old in let y : Words = if b then new else changed k.target a (changed k.pointer a old) in x v ≡ y v)
+    go true = s v lt
+    go false = rw (u, p) refl
+
+pub assigned_ac : (k : Known) (set : List ℕ) (es : ArrayVec CodeEquation) → map equation_of es.items ≡ free_of (λ m. same m Ac) (map equation_of k.equations.items) →
+    Agree (known_of (record k { ac = set; equations = es })) (assigned Ac (words set) (known_of k))
+unfolding assigned
+assigned_ac k set es e = record { sets = ac_sets k set (words set) (λ v lt. refl); mq = λ v lt. refl; link = λ l lt. refl; equations = e; offsets = λ o lt. refl }
+
+pub assigned_cell : (k : Known) (c : ℕ) (set : List ℕ) (es : ArrayVec CodeEquation) → IsUnchanged k.target → map equation_of es.items ≡ free_of (λ m. same m (Cell c)) (map equation_of k.equations.items) →
+    Agree (known_of (record k { target = Replaced c set; equations = es })) (assigned (Cell c) (words set) (known_of k))
+unfolding assigned
+assigned_cell k c set es u e = record { sets = target_sets k c set (words set) u (λ v lt. refl); mq = λ v lt. refl; link = λ l lt. refl; equations = e; offsets = λ o lt. refl }
+
+pub moved_ac : (k : Known) (j : ℕ) (set : List ℕ) (es : ArrayVec CodeEquation) → SameWords (words set) (shifted (narrowed (known_of k) Ac) j) →
+    map equation_of es.items ≡ moved_equations Ac j (map equation_of k.equations.items) → Agree (known_of (record k { ac = set; equations = es })) (moved Ac j (known_of k))
+unfolding moved
+moved_ac k j set es s e = record { sets = ac_sets k set _ s; mq = λ v lt. refl; link = λ l lt. refl; equations = e; offsets = λ o lt. refl }
+
+pub moved_pointer : (k : Known) (c : ℕ) (set : List ℕ) (es : ArrayVec CodeEquation) → IsUnchanged k.pointer → IsUnchanged k.target → SameWords (words set) (shifted (narrowed (known_of k) (Cell c)) 1) →
+    map equation_of es.items ≡ moved_equations (Cell c) 1 (map equation_of k.equations.items) →
+    Agree (known_of (record k { pointer = Replaced c set; target = Unchanged; equations = es })) (moved (Cell c) 1 (known_of k))
+unfolding moved
+moved_pointer k c set es p u s e = record { sets = pointer_sets k c set _ p u s; mq = λ v lt. refl; link = λ l lt. refl; equations = e; offsets = λ o lt. refl }
+
+pub counted_cell : (k : Known) (c : ℕ) (set : List ℕ) (es : ArrayVec CodeEquation) → IsUnchanged k.target → map equation_of es.items ≡ moved_equations (Cell c) 1 (map equation_of k.equations.items) →
+    Agree (known_of (record k { target = Replaced c set; equations = es })) (with_name (Cell c) (words set) (moved (Cell c) 1 (known_of k)))
+unfolding moved
+counted_cell k c set es u e = record { sets = sets; mq = λ v lt. refl; link = λ l lt. refl; equations = e; offsets = λ o lt. refl }
+  where
+    sets : (n : Name) → SameWords (known_set (record k { target = Replaced c set; equations = es }) n) (with_set (Cell c) (words set) (with_set (Cell c) (shifted (narrowed (known_of k) (Cell c)) 1) (known_set k)) n)
+    sets Ac v lt = refl
+    sets (Cell a) v lt = go (a == c)
+      where
+        old : Words
+        old = changed k.pointer a (source_words k.base a)
+
+        go : (b : Bool) → (let x : Words = if b then words set else old in
+            let y : Words = if b then words set else (if b then shifted (narrowed (known_of k) (Cell c)) 1 else changed k.target a old) in x v ≡ y v)
+        go true = refl
+        go false = rw u refl
+
+pub smeared_counted : (k : Known) (cells : List ℕ) (es : ArrayVec CodeEquation) → IsUnchanged k.target → map equation_of es.items ≡ free_of (cells_of (words cells)) (map equation_of k.equations.items) →
+    Agree (known_of (record k { target = Counted cells; equations = es })) (smeared (words cells) (λ y. shifted (known_set k (Cell y)) 1) (known_of k))
+unfolding smeared
+smeared_counted k cells es u e = record { sets = sets; mq = λ v lt. refl; link = λ l lt. refl; equations = e; offsets = λ o lt. refl }
+  where
+    sets : (n : Name) → SameWords (known_set (record k { target = Counted cells; equations = es }) n) (smeared_set (words cells) (λ y. shifted (known_set k (Cell y)) 1) (known_set k) n)
+    sets Ac v lt = refl
+    sets (Cell a) v lt = rw u refl
+
+pub smeared_stored : (k : Known) (cells set : List ℕ) (es : ArrayVec CodeEquation) → IsUnchanged k.target → map equation_of es.items ≡ free_of (cells_of (words cells)) (map equation_of k.equations.items) →
+    Agree (known_of (record k { target = Stored cells set; equations = es })) (smeared (words cells) (λ y. words set) (known_of k))
+unfolding smeared
+smeared_stored k cells set es u e = record { sets = sets; mq = λ v lt. refl; link = λ l lt. refl; equations = e; offsets = λ o lt. refl }
+  where
+    sets : (n : Name) → SameWords (known_set (record k { target = Stored cells set; equations = es }) n) (smeared_set (words cells) (λ y. words set) (known_set k) n)
+    sets Ac v lt = refl
+    sets (Cell a) v lt = rw u refl
+
+-- agreement is kept by what happens to facts
+pub with_set_same : (f g : Name → Words) (s t : Words) (n : Name) → ((m : Name) → SameWords (f m) (g m)) → SameWords s t → (m : Name) → SameWords (with_set n s f m) (with_set n t g m)
+with_set_same f g s t n h e m v lt = go (same m n)
+  where
+    go : (b : Bool) → (let x : Words = if b then s else f m in let y : Words = if b then t else g m in x v ≡ y v)
+    go true = e v lt
+    go false = h m v lt
+
+pub assigned_agree : {f g : Fact} {s t : Words} (n : Name) → Agree f g → SameWords s t → Agree (assigned n s f) (assigned n t g)
+unfolding assigned
+assigned_agree {f} {g} {s} {t} n h e = record {
+  sets = with_set_same f.set g.set s t n h.sets e;
+  mq = h.mq;
+  link = h.link;
+  equations = ap (free_of (λ m. same m n)) h.equations;
+  offsets = h.offsets;
+}
+
+pub told_agree : {f g : Fact} (es : List Equation) → Agree f g → Agree (with_equations es f) (with_equations es g)
+told_agree es h = record { sets = h.sets; mq = h.mq; link = h.link; equations = ap (λ x. es ++ x) h.equations; offsets = h.offsets }
+
+pub moved_agree : {f g : Fact} (n : Name) (k : ℕ) → Agree f g → Agree (moved n k f) (moved n k g)
+unfolding moved
+moved_agree {f} {g} n k h = record {
+  sets = with_set_same f.set g.set (shifted (narrowed f n) k) (shifted (narrowed g n) k) n h.sets (λ v lt. narrowed_agree h n (minus v k) (minus_lt v k));
+  mq = h.mq;
+  link = h.link;
+  equations = ap (moved_equations n k) h.equations;
+  offsets = h.offsets;
+}
+
+pub smeared_agree : {f g : Fact} {p q : Words} {s t : ℕ → Words} → Agree f g → SameWords p q → ((y : ℕ) → SameWords (s y) (t y)) → Agree (smeared p s f) (smeared q t g)
+unfolding smeared
+smeared_agree {f} {g} {p} {q} {s} {t} h e n = record { sets = sets; mq = h.mq; link = h.link; equations = frees; offsets = h.offsets }
+  where
+    has : (a : ℕ) → has_cell p a ≡ has_cell q a
+    has a = below (nat_lt a 4096) refl
+      where
+        below : (b : Bool) → nat_lt a 4096 ≡ b → (b && p a) ≡ (b && q a)
+        below true l = e a (ltb-true a 4096 l)
+        below false l = refl
+
+    names : cells_of p ≡ cells_of q
+    names = fun_ext (λ m. name m)
+      where
+        name : (m : Name) → cells_of p m ≡ cells_of q m
+        name Ac = refl
+        name (Cell a) = has a
+
+    frees : free_of (cells_of p) f.equations ≡ free_of (cells_of q) g.equations
+    frees = ap (λ x. free_of x f.equations) names ∙ ap (free_of (cells_of q)) h.equations
+
+    sets : (m : Name) → SameWords (smeared_set p s f.set m) (smeared_set q t g.set m)
+    sets Ac v lt = h.sets Ac v lt
+    sets (Cell a) v lt = go (has_cell p a) (has_cell q a) (has a)
+      where
+        go : (b c : Bool) → b ≡ c → (let x : Words = if b then union (f.set (Cell a)) (s a) else f.set (Cell a) in let y : Words = if c then union (g.set (Cell a)) (t a) else g.set (Cell a) in x v ≡ y v)
+        go true true z = rw (h.sets (Cell a) v lt, n a v lt) refl
+        go false false z = h.sets (Cell a) v lt
+        go true false z = absurd (cc)
+        go false true z = absurd (cc)
+
+pub link_agree : {f g : Fact} {l m : Words} → Agree f g → SameLinks l m → Agree (with_link l f) (with_link m g)
+link_agree h e = record { sets = h.sets; mq = h.mq; link = e; equations = h.equations; offsets = h.offsets }
+
+pub mq_agree : {f g : Fact} {l m : Words} → Agree f g → SameWords l m → Agree (with_mq l f) (with_mq m g)
+mq_agree h e = record { sets = h.sets; mq = e; link = h.link; equations = h.equations; offsets = h.offsets }
+
+pub name_agree : {f g : Fact} {s t : Words} (n : Name) → Agree f g → SameWords s t → Agree (with_name n s f) (with_name n t g)
+name_agree {f} {g} {s} {t} n h e = record { sets = with_set_same f.set g.set s t n h.sets e; mq = h.mq; link = h.link; equations = h.equations; offsets = h.offsets }
+
+pub same_agrees : (k : Known) (es : ArrayVec CodeEquation) → es.items ≡ k.equations.items → Agree (known_of (record k { equations = es })) (known_of k)
+same_agrees k es e = record { sets = sets; mq = λ v lt. refl; link = λ l lt. refl; equations = ap (map equation_of) e; offsets = λ o lt. refl }
+  where
+    sets : (n : Name) → SameWords (known_set (record k { equations = es }) n) (known_set k n)
+    sets Ac v lt = refl
+    sets (Cell a) v lt = refl
+
+pub holding_agrees : (k : Known) (set : List ℕ) → Agree (known_of (record k { ac = set })) (with_name Ac (words set) (known_of k))
+holding_agrees k set = record { sets = ac_sets k set (words set) (λ v lt. refl); mq = λ v lt. refl; link = λ l lt. refl; equations = refl; offsets = λ o lt. refl }
+
+pub link_agrees : (k : Known) (l : CodeLinks) → Agree (known_of (record k { link = l })) (with_link (links_of l) (known_of k))
+link_agrees k l = record { sets = sets; mq = λ v lt. refl; link = λ n lt. refl; equations = refl; offsets = λ o lt. refl }
+  where
+    sets : (n : Name) → SameWords (known_set (record k { link = l }) n) (known_set k n)
+    sets Ac v lt = refl
+    sets (Cell a) v lt = refl
+
+pub mq_agrees : (k : Known) (set : List ℕ) → Agree (known_of (record k { mq = set })) (with_mq (words set) (known_of k))
+mq_agrees k set = record { sets = sets; mq = λ v lt. refl; link = λ n lt. refl; equations = refl; offsets = λ o lt. refl }
+  where
+    sets : (n : Name) → SameWords (known_set (record k { mq = set }) n) (known_set k n)
+    sets Ac v lt = refl
+    sets (Cell a) v lt = refl
+
+pub told_agrees : (k : Known) (es more : ArrayVec CodeEquation) → es.items ≡ more.items ++ k.equations.items → Agree (known_of (record k { equations = es })) (with_equations (map equation_of more.items) (known_of k))
+told_agrees k es more e = record { sets = sets; mq = λ v lt. refl; link = λ n lt. refl; equations = ap (map equation_of) e ∙ map-append equation_of more.items k.equations.items; offsets = λ o lt. refl }
+  where
+    sets : (n : Name) → SameWords (known_set (record k { equations = es }) n) (known_set k n)
+    sets Ac v lt = refl
+    sets (Cell a) v lt = refl
+
+pub deposited_agree : (f g h i : Fact) (s : Words) (y : ℕ) (es : List Equation) (zero : Words) → Agree g (assigned (Cell y) s f) → Agree h (with_equations es g) → zero ≡ one 0 →
+    Agree i (assigned Ac zero h) → Agree i (assigned Ac (one 0) (with_equations es (assigned (Cell y) s f)))
+deposited_agree f g h i s y es zero put told z done =
+    agree_trans done (assigned_agree Ac (agree_trans told (told_agree es put)) (λ v lt. ap (λ (x : Words). x v) z))
+
+pub deposited_words : {f g : Fact} {s t : Words} → Agree f g → (y : ℕ) → SameWords s t →
+    Agree (assigned Ac (one 0) (with_equations (copied y f.equations) (assigned (Cell y) s f))) (assigned Ac (one 0) (with_equations (copied y g.equations) (assigned (Cell y) t g)))
+deposited_words {f} {g} {s} {t} h y e =
+    let es : copied y f.equations ≡ copied y g.equations = ap (copied y) h.equations in
+    subst (λ xs. Agree (assigned Ac (one 0) (with_equations (copied y f.equations) (assigned (Cell y) s f))) (assigned Ac (one 0) (with_equations xs (assigned (Cell y) t g)))) es
+    (assigned_agree Ac (told_agree (copied y f.equations) (assigned_agree (Cell y) h e)) (λ v lt. refl))
+
+pub stored_words : {f g k r : Fact} {p q s t zero : Words} → Agree f g → SameWords p q → SameWords s t → Agree k (smeared p (λ y. s) f) → zero ≡ one 0 → Agree r (assigned Ac zero k) →
+    Agree r (assigned Ac (one 0) (smeared q (λ y. t) g))
+stored_words h e n put z done =
+    agree_trans done (assigned_agree Ac (agree_trans put (smeared_agree h e (λ y. n))) (λ v lt. ap (λ (x : Words). x v) z))
+
+pub later_agrees : (k : Known) (es : ArrayVec CodeEquation) (o : Offsets) → es.items ≡ k.equations.items → ((n : ℕ) → n < 8 → offsets_of o n ≡ (if n == 0 then false else offsets_of k.offsets (n - 1))) →
+    Agree (known_of (record k { equations = es; offsets = o })) (with_offsets (λ n. if n == 0 then false else (known_of k).offsets (n - 1)) (known_of k))
+later_agrees k es o e h = record { sets = sets; mq = λ v lt. refl; link = λ n lt. refl; equations = ap (map equation_of) e; offsets = h }
+  where
+    sets : (n : Name) → SameWords (known_set (record k { equations = es; offsets = o }) n) (known_set k n)
+    sets Ac v lt = refl
+    sets (Cell a) v lt = refl
+
+pub later_agree : {f g : Fact} → Agree f g → Agree (with_offsets (λ n. if n == 0 then false else f.offsets (n - 1)) f) (with_offsets (λ n. if n == 0 then false else g.offsets (n - 1)) g)
+later_agree {f} {g} h = record { sets = h.sets; mq = h.mq; link = h.link; equations = h.equations; offsets = offsets }
+  where
+    offsets : (n : ℕ) → n < 8 → (if n == 0 then false else f.offsets (n - 1)) ≡ (if n == 0 then false else g.offsets (n - 1))
+    offsets n lt = go (n == 0)
+      where
+        go : (b : Bool) → (if b then false else f.offsets (n - 1)) ≡ (if b then false else g.offsets (n - 1))
+        go true = refl
+        go false = h.offsets (n - 1) (omega arith)

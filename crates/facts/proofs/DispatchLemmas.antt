@@ -1,0 +1,133 @@
+-- What a word's kind says of its outcomes.
+use Rattle.std.proofs.Common.{◌≡◌, ℕ, ◌==◌, ◌/◌, Bool, true, false, not, ◌&&◌, ◌||◌, Option, Some, None, List, [], ◌++◌, refl, sym, ap, ◌∙◌, subst, append-nil}
+use Rattle.std.specs.Prelude.{if◌then◌else◌}
+use Rattle.std.specs.Option.{option_map}
+use Rattle.instruct.specs.declared.Profile.{Profile}
+use Rattle.instruct.specs.declared.Profile.TheVariants.{Pdp8I, Pdp8E}
+use Rattle.instruct.specs.declared.Instruction.{Instruction}
+use Rattle.instruct.specs.declared.Instruction.TheVariants.{Memory, Operate1, Operate2, Operate3, Iot, Unsupported}
+use Rattle.instruct.specs.declared.Operation.{Operation}
+use Rattle.instruct.specs.declared.devices.DeviceOperation.{DeviceOperation}
+use Rattle.instruct.specs.Bits.{has_bit, is_indirect, named_cell}
+use Rattle.instruct.specs.Operates.{MqOperate, mq_operate_of, is_halt}
+use Rattle.instruct.specs.Devices.{device_operation}
+use Rattle.instruct.specs.Instructions.{Meaning, Group1, Group2, Group3, Device, Undefined, DeviceAction, kind_of, meaning_of, instruction_of, operation_of, reference, reference_at, processor_action, device_action, device_meaning, mq_meaning, group3_meaning, operate_meaning, is_group1}
+use Rattle.instruct.proofs.KindLemmas.{reference_meaning, group1_meaning, group2_meaning, group3_meaning_of, device_meaning_of, undefined_meaning}
+use Rattle.wordset.specs.Words.{everything, one, plus}
+use Rattle.facts.specs.Facts.{Fact, Place}
+use Rattle.facts.specs.Outcomes.{Outcome, goes, operated1, operated3, all_operated2, device_outcomes, outcomes_of, outcomes_at}
+use Rattle.facts.specs.Same.{AgreeingOutcomes}
+
+pub two_agree : (a b l : List Outcome) → AgreeingOutcomes (a ++ b) l → AgreeingOutcomes (a ++ (b ++ [])) l
+two_agree a b l h = subst (λ x. AgreeingOutcomes (a ++ x) l) (sym (append-nil b)) h
+
+pub refers : (os : List Outcome) (pl : Place) (f : Fact) (at w n : ℕ) (i : Bool) (o p : Operation) → i ≡ is_indirect w → n ≡ named_cell w at → p ≡ operation_of w → p ≡ o →
+    AgreeingOutcomes os (outcomes_of pl f at (reference o i n)) → AgreeingOutcomes os (outcomes_of pl f at (reference_at (operation_of w) w at))
+refers os pl f at w n i o p ei en ep is h =
+    let same : reference o i n ≡ reference (operation_of w) (is_indirect w) (named_cell w at) =
+    ap (λ x. reference x i n) (sym is ∙ ep) ∙ ap (λ x. reference (operation_of w) x n) ei ∙ ap (λ x. reference (operation_of w) (is_indirect w) x) en in
+    subst (λ m. AgreeingOutcomes os (outcomes_of pl f at m)) same h
+
+pub halts_here : (os : List Outcome) (pl : Place) (f : Fact) (at w : ℕ) → (is_halt w && pl.declaration.stop at) ≡ true → os ≡ [] → AgreeingOutcomes os (outcomes_of pl f at (Group2 w))
+halts_here os pl f at w e n = go (is_halt w && pl.declaration.stop at) e
+  where
+    go : (b : Bool) → b ≡ true → (let l : List Outcome = if b then [] else all_operated2 at w f in AgreeingOutcomes os l)
+    go true q = rw n tt
+    go false q = absurd (cc)
+
+pub goes_further : (os : List Outcome) (pl : Place) (f : Fact) (at w : ℕ) → (is_halt w && pl.declaration.stop at) ≡ false → AgreeingOutcomes os (all_operated2 at w f) → AgreeingOutcomes os (outcomes_of pl f at (Group2 w))
+goes_further os pl f at w e h = go (is_halt w && pl.declaration.stop at) e
+  where
+    go : (b : Bool) → b ≡ false → (let l : List Outcome = if b then [] else all_operated2 at w f in AgreeingOutcomes os l)
+    go false q = h
+    go true q = absurd (cc)
+
+pub by_reference : (os : List Outcome) (pl : Place) (f : Fact) (at w : ℕ) → kind_of (meaning_of pl.declaration.profile at w) ≡ Memory → AgreeingOutcomes os (outcomes_of pl f at (reference_at (operation_of w) w at)) →
+    AgreeingOutcomes os (outcomes_at pl f at w)
+by_reference os pl f at w k h = subst (λ m. AgreeingOutcomes os (outcomes_of pl f at m)) (sym (reference_meaning pl.declaration.profile at w k)) h
+
+pub by_group1 : (os : List Outcome) (pl : Place) (f : Fact) (at w : ℕ) → kind_of (meaning_of pl.declaration.profile at w) ≡ Operate1 → AgreeingOutcomes os (goes everything f everything (one (plus at 1)) (operated1 w f)) →
+    AgreeingOutcomes os (outcomes_at pl f at w)
+by_group1 os pl f at w k h = subst (λ m. AgreeingOutcomes os (outcomes_of pl f at m)) (sym (group1_meaning pl.declaration.profile at w k)) h
+
+pub by_group2 : (os : List Outcome) (pl : Place) (f : Fact) (at w : ℕ) → kind_of (meaning_of pl.declaration.profile at w) ≡ Operate2 → AgreeingOutcomes os (outcomes_of pl f at (Group2 w)) → AgreeingOutcomes os (outcomes_at pl f at w)
+by_group2 os pl f at w k h = subst (λ m. AgreeingOutcomes os (outcomes_of pl f at m)) (sym (group2_meaning pl.declaration.profile at w k)) h
+
+pub by_group3 : (os : List Outcome) (pl : Place) (f : Fact) (at w : ℕ) → kind_of (meaning_of pl.declaration.profile at w) ≡ Operate3 →
+    ((o : MqOperate) → mq_operate_of w ≡ Some o → AgreeingOutcomes os (goes everything f everything (one (plus at 1)) (operated3 o f))) → AgreeingOutcomes os (outcomes_at pl f at w)
+by_group3 os pl f at w k h =
+    let told = group3_meaning_of pl.declaration.profile at w k in
+    subst (λ m. AgreeingOutcomes os (outcomes_of pl f at m)) (sym told.2) (h told.0 told.1)
+
+some_action : {a b : DeviceAction} → Some a ≡ Some b → a ≡ b
+some_action e = cc
+
+pub by_device : (os : List Outcome) (pl : Place) (f : Fact) (at w : ℕ) (o : DeviceOperation) → kind_of (meaning_of pl.declaration.profile at w) ≡ Iot → Some o ≡ device_operation pl.declaration.profile w →
+    AgreeingOutcomes os (device_outcomes at f (processor_action o)) → AgreeingOutcomes os (outcomes_at pl f at w)
+by_device os pl f at w o k e h =
+    let told = device_meaning_of pl.declaration.profile at w k in
+    let same : processor_action o ≡ told.0 = some_action (ap (λ x. option_map processor_action x) e ∙ told.1) in
+    subst (λ m. AgreeingOutcomes os (outcomes_of pl f at m)) (sym told.2) (subst (λ a. AgreeingOutcomes os (device_outcomes at f a)) same h)
+
+pub by_no_device : (os : List Outcome) (pl : Place) (f : Fact) (at w : ℕ) → kind_of (meaning_of pl.declaration.profile at w) ≡ Iot → None ≡ device_operation pl.declaration.profile w → AgreeingOutcomes os (outcomes_at pl f at w)
+by_no_device os pl f at w k e =
+    let told = device_meaning_of pl.declaration.profile at w k in
+    absurd (none_some (ap (λ x. option_map processor_action x) e ∙ told.1))
+  where
+    none_some : {a : DeviceAction} → None ≡ Some a → ⊥
+    none_some q = cc
+
+pub by_nothing : (os : List Outcome) (pl : Place) (f : Fact) (at w : ℕ) → kind_of (meaning_of pl.declaration.profile at w) ≡ Unsupported → os ≡ [] → AgreeingOutcomes os (outcomes_at pl f at w)
+by_nothing os pl f at w k e = subst (λ m. AgreeingOutcomes os (outcomes_of pl f at m)) (sym (undefined_meaning pl.declaration.profile at w k)) (rw e tt)
+
+-- each word of group 1 of the 8/I is one of the 8/E
+kind_if : (b : Bool) (x y p q : Meaning) → (kind_of x ≡ Operate1 → kind_of p ≡ Operate1) → (kind_of y ≡ Operate1 → kind_of q ≡ Operate1) → kind_of (if b then x else y) ≡ Operate1 → kind_of (if b then p else q) ≡ Operate1
+kind_if true x y p q h g k = h k
+kind_if false x y p q h g k = g k
+
+group1_if : (w : ℕ) (b c : Bool) → (b ≡ true → c ≡ true) → kind_of (if b then Group1 w else Undefined) ≡ Operate1 → kind_of (if c then Group1 w else Undefined) ≡ Operate1
+group1_if w true true h k = refl
+group1_if w true false h k = absurd (let e : false ≡ true = h refl in cc)
+group1_if w false c h k = absurd (let e : Unsupported ≡ Operate1 = k in cc)
+
+group1_8e : (p : Profile) (w : ℕ) → is_group1 p w ≡ true → is_group1 Pdp8E w ≡ true
+group1_8e Pdp8E w h = h
+group1_8e Pdp8I w h = go (has_bit 3 w) (has_bit 2 w) (has_bit 1 w) h
+  where
+    go : (a b c : Bool) → (if a then not b else (b || (not c || false))) ≡ true → (if a then not b else (b || (not c || true))) ≡ true
+    go true b c q = q
+    go false true c q = refl
+    go false false true q = refl
+    go false false false q = refl
+
+no_mq : (o : Option MqOperate) → kind_of (mq_meaning o) ≡ Operate1 → ⊥
+no_mq (Some o) k = let e : Operate3 ≡ Operate1 = k in cc
+no_mq None k = let e : Unsupported ≡ Operate1 = k in cc
+
+no_group3 : (p : Profile) (w : ℕ) → kind_of (group3_meaning p w) ≡ Operate1 → ⊥
+no_group3 Pdp8I w k = let e : Unsupported ≡ Operate1 = k in cc
+no_group3 Pdp8E w k = no_mq (mq_operate_of w) k
+
+no_device : (o : Option DeviceAction) → kind_of (device_meaning o) ≡ Operate1 → ⊥
+no_device (Some a) k = let e : Iot ≡ Operate1 = k in cc
+no_device None k = let e : Unsupported ≡ Operate1 = k in cc
+
+operate_8e : (p : Profile) (w : ℕ) → kind_of (operate_meaning p w) ≡ Operate1 → kind_of (operate_meaning Pdp8E w) ≡ Operate1
+operate_8e p w k =
+    kind_if (has_bit 8 w) _ _ _ _
+    (kind_if (has_bit 0 w) _ _ _ _ (λ q. absurd (no_group3 p w q)) (λ q. q))
+    (group1_if w (is_group1 p w) (is_group1 Pdp8E w) (group1_8e p w)) k
+
+pub first_group_8e : (p : Profile) (w : ℕ) → instruction_of p w ≡ Operate1 → instruction_of Pdp8E w ≡ Operate1
+unfolding instruction_of meaning_of
+first_group_8e p w k =
+    kind_if (w / 512 == 0) _ _ _ _ (λ q. q)
+    (kind_if (w / 512 == 1) _ _ _ _ (λ q. q)
+    (kind_if (w / 512 == 2) _ _ _ _ (λ q. q)
+    (kind_if (w / 512 == 3) _ _ _ _ (λ q. q)
+    (kind_if (w / 512 == 4) _ _ _ _ (λ q. q)
+    (kind_if (w / 512 == 5) _ _ _ _ (λ q. q)
+    (kind_if (w / 512 == 6) _ _ _ _ (λ q. absurd (no_device (device_action p w) q)) (operate_8e p w))))))) k
+
+pub kind_here : {p q : Profile} {r k : Instruction} (at w : ℕ) → p ≡ q → r ≡ kind_of (meaning_of p at w) → r ≡ k → kind_of (meaning_of q at w) ≡ k
+kind_here at w e h is = sym (ap (λ x. kind_of (meaning_of x at w)) e) ∙ (sym h ∙ is)

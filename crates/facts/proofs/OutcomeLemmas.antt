@@ -1,0 +1,98 @@
+-- Outcomes that agree.
+use Rattle.std.proofs.Common.{◌≡◌, ℕ, ◌+◌, ◌-◌, ◌<◌, ◌%◌, ◌==◌, Bool, true, false, not, ◌&&◌, Some, List, [], ◌∷◌, ◌++◌, refl, sym, ap, ◌∙◌, arith}
+use Rattle.std.specs.Prelude.{if◌then◌else◌}
+use Rattle.wordset.specs.Words.{plus, minus, Words, SameWords, one, everything, has_some, has_link, without, shifted, difference}
+use Rattle.facts.specs.Facts.{Ac, Cell, Fact, Place, narrowed}
+use Rattle.facts.specs.Outcomes.{Outcome, Goes, CallsTo, Returns, alive, given, goes, isz_case}
+use Rattle.facts.specs.Changes.{moved, with_name, with_offsets}
+use Rattle.facts.specs.Same.{Agree, AgreeingOutcome, AgreeingOutcomes}
+use Rattle.facts.proofs.Numbers.{minus_lt}
+use Rattle.facts.proofs.Alike.{some_same}
+use Rattle.facts.proofs.AgreeLemmas.{narrowed_agree}
+
+pub has_same : {s t : Words} → SameWords s t → has_some s ≡ has_some t
+has_same {s} {t} e = some_same 4096 s t e
+
+pub alive_agree : {p q s t : Words} {f g h i : Fact} → SameWords p q → Agree f g → SameWords s t → Agree h i → alive p f s h ≡ alive q g t i
+alive_agree {p} {q} {s} {t} {f} {g} {h} {i} ep a es b =
+    let x1 : has_some p ≡ has_some q = has_same ep in
+    let x2 : has_some (narrowed f Ac) ≡ has_some (narrowed g Ac) = has_same (narrowed_agree a Ac) in
+    let x3 : has_some (h.set Ac) ≡ has_some (i.set Ac) = has_same (b.sets Ac) in
+    let x4 : has_some h.mq ≡ has_some i.mq = has_same b.mq in
+    let x5 : has_link h.link ≡ has_link i.link = some_same 2 h.link i.link b.link in
+    let x6 : has_some s ≡ has_some t = has_same es in
+    rw (x1, x2, x3, x4, x5, x6) refl
+
+pub given_agree : (a b : Bool) (o : Outcome) (p : Outcome) → a ≡ b → AgreeingOutcome o p → AgreeingOutcomes (given a o) (given b p)
+given_agree true true o p e h = (h, tt)
+given_agree false false o p e h = tt
+given_agree true false o p e h = absurd (cc)
+given_agree false true o p e h = absurd (cc)
+
+pub goes_some : {a b : Bool} (m n : Words) (f g : Fact) → a ≡ true → a ≡ b → SameWords m n → Agree f g → AgreeingOutcomes (Goes m f ∷ []) (given b (Goes n g))
+goes_some {a} {b} m n f g t e w h = let y : b ≡ true = sym e ∙ t in rw y ((w, h), tt)
+
+pub calls_some : {a b : Bool} (m n : Words) (f g : Fact) → a ≡ true → a ≡ b → SameWords m n → Agree f g → AgreeingOutcomes (CallsTo m f ∷ []) (given b (CallsTo n g))
+calls_some {a} {b} m n f g t e w h = let y : b ≡ true = sym e ∙ t in rw y ((w, h), tt)
+
+pub returns_some : {a b : Bool} (f g : Fact) → a ≡ true → a ≡ b → Agree f g → AgreeingOutcomes (Returns f ∷ []) (given b (Returns g))
+returns_some {a} {b} f g t e h = let y : b ≡ true = sym e ∙ t in rw y (h, tt)
+
+pub given_none : {a b : Bool} (p : Outcome) → a ≡ false → a ≡ b → AgreeingOutcomes [] (given b p)
+given_none {a} {b} p t e = let y : b ≡ false = sym e ∙ t in rw y tt
+
+pub append_agree : (a b c d : List Outcome) → AgreeingOutcomes a b → AgreeingOutcomes c d → AgreeingOutcomes (a ++ c) (b ++ d)
+append_agree [] [] c d h k = k
+append_agree [] (p ∷ ps) c d h k = absurd h
+append_agree (o ∷ os) [] c d h k = absurd h
+append_agree (o ∷ os) (p ∷ ps) c d h k = (h.0, append_agree os ps c d h.1 k)
+
+pub keeps_agreeing : (a l : List Outcome) → AgreeingOutcomes a l → AgreeingOutcomes (a ++ []) l
+keeps_agreeing [] l h = h
+keeps_agreeing (o ∷ os) [] h = absurd h
+keeps_agreeing (o ∷ os) (p ∷ ps) h = (h.0, keeps_agreeing os ps h.1)
+
+pub one_at : {s : Words} {n m : ℕ} → s ≡ one n → n ≡ m → SameWords s (one m)
+one_at {s} {n} {m} e h v lt = ap (λ (x : Words). x v) e ∙ ap (λ k. v == k) h
+
+pub plus_two : (a n m : ℕ) → n ≡ (a + 1) % 4096 → m ≡ (n + 1) % 4096 → m ≡ plus a 2
+plus_two a n m h g = omega arith
+
+-- ISZ of one cell
+pub isz_variable : (pl : Place) (at : ℕ) (f : Fact) (p : Words) (y : ℕ) (a b : List Outcome) → pl.declaration.variable y ≡ true →
+    AgreeingOutcomes a (given (narrowed f (Cell y) 4095 && alive p f (one 0) (with_name (Cell y) (one 0) (moved (Cell y) 1 f))) (Goes (one (plus at 2)) (with_name (Cell y) (one 0) (moved (Cell y) 1 f)))) →
+    AgreeingOutcomes b (goes p f (without 0 (shifted (narrowed f (Cell y)) 1)) (one (plus at 1)) (with_name (Cell y) (without 0 (shifted (narrowed f (Cell y)) 1)) (moved (Cell y) 1 f))) →
+    AgreeingOutcomes (a ++ b) (isz_case pl at f p (Some y))
+isz_variable pl at f p y a b var h k = rw var (append_agree a _ b _ h k)
+
+pub isz_own : (pl : Place) (at : ℕ) (f : Fact) (p : Words) (y : ℕ) (a : List Outcome) → pl.declaration.variable y ≡ false →
+    AgreeingOutcomes a (goes p f everything (one (plus at 1)) (with_offsets (λ o. if o == 0 then false else f.offsets (o - 1)) f)) →
+    AgreeingOutcomes a (isz_case pl at f p (Some y))
+isz_own pl at f p y a var h = rw var h
+
+pub left_over : {s r zero : Words} (m : Words) (k : ℕ) → k ≡ 1 → SameWords s (shifted m k) → zero ≡ one 0 → r ≡ difference s zero → SameWords r (without 0 (shifted m 1))
+left_over {s} {r} {zero} m k e h z d v lt =
+    ap (λ (x : Words). x v) d ∙ ap (λ b. b && not (zero v)) (h v lt) ∙ ap (λ n. shifted m n v && not (zero v)) e ∙ ap (λ (x : Words). shifted m 1 v && not (x v)) z ∙ go (v == 0) (shifted m 1 v)
+  where
+    go : (b c : Bool) → (c && not b) ≡ (if b then false else c)
+    go true true = refl
+    go true false = refl
+    go false true = refl
+    go false false = refl
+
+pub shifts_agree : {a b : Words} → SameWords a b → SameWords (shifted a 1) (shifted b 1)
+shifts_agree h v lt = h (minus v 1) (minus_lt v 1)
+
+pub lit_last : 4095 < 4096
+lit_last = omega arith
+
+pub stays_test : (r : Bool) (set rest n : Words) (k : ℕ) → SameWords set n → rest ≡ without k set → k ≡ 4095 → r ≡ not (has_some rest) → not r ≡ has_some (without 4095 n)
+stays_test r set rest n k h e q t = ap not t ∙ twice (has_some rest) ∙ has_same (λ v lt. ap (λ (x : Words). x v) e ∙ ap (λ j. without j set v) q ∙ go v (v == 4095) (h v lt))
+  where
+    twice : (b : Bool) → not (not b) ≡ b
+    twice true = refl
+    twice false = refl
+
+    go : (v : ℕ) (b : Bool) → set v ≡ n v → (if b then false else set v) ≡ (if b then false else n v)
+    go v true z = refl
+    go v false z = z

@@ -1,0 +1,23 @@
+-- What a reference reaches.
+use Rattle.std.proofs.Common.{◌≡◌, ℕ, Bool, true, false}
+use Rattle.wordset.specs.Words.{Words, SameWords, one}
+use Rattle.processor.specs.Machine.{steps_pointer}
+use Rattle.facts.specs.Facts.{Cell, Fact, Place, words_in}
+use Rattle.facts.specs.Changes.{moved}
+use Rattle.facts.specs.Outcomes.{stepped, targets}
+use Rattle.facts.specs.Same.{Agree}
+
+pub step_yes : {k : Fact} (i : Bool) (c : ℕ) (f : Fact) → steps_pointer i c ≡ true → Agree k (moved (Cell c) 1 f) → Agree k (stepped i c f)
+step_yes i c f e h = rw e h
+
+pub step_no : {k : Fact} (i : Bool) (c : ℕ) (f : Fact) → steps_pointer i c ≡ false → Agree k f → Agree k (stepped i c f)
+step_no i c f e h = rw e h
+
+pub reach_stepped : {s : Words} (pl : Place) (i : Bool) (c : ℕ) (f : Fact) → steps_pointer i c ≡ true → SameWords s ((moved (Cell c) 1 f).set (Cell c)) → SameWords s (targets pl i c f)
+reach_stepped pl i c f e h = rw e h
+
+pub reach_pointer : {s : Words} (pl : Place) (i : Bool) (c : ℕ) (f : Fact) → steps_pointer i c ≡ false → i ≡ true → SameWords s (words_in pl f c) → SameWords s (targets pl i c f)
+reach_pointer pl i c f e t h = rw (e, t) h
+
+pub reach_named : {s : Words} (pl : Place) (i : Bool) (c : ℕ) (f : Fact) → steps_pointer i c ≡ false → i ≡ false → SameWords s (one c) → SameWords s (targets pl i c f)
+reach_named pl i c f e t h = rw (e, t) h

@@ -1,0 +1,63 @@
+-- What operate words make of a fact.
+use Rattle.std.proofs.Common.{◌≡◌, ℕ, Bool, true, false, ◌&&◌, Some, List, refl, sym, ap, subst, ◌∙◌, arith}
+use Rattle.std.specs.Prelude.{if◌then◌else◌, nat_le, nat_lt}
+use Rattle.std.proofs.lemmas.Bool.Decides.{nat_tests}
+use Rattle.instruct.specs.Bits.{has_bit}
+use Rattle.instruct.specs.Operates.{MqOperate, mq_operate_of}
+use Rattle.wordset.specs.Words.{Words, SameWords, SameLinks, everything, images, between, one, plus}
+use Rattle.facts.specs.Facts.{Ac, Fact, narrowed}
+use Rattle.facts.specs.Changes.{moved, assigned, with_name, with_link, with_mq}
+use Rattle.facts.specs.Outcomes.{Outcome, goes, changes_ac, related1, operated1, operated3, ac_after, link_after}
+use Rattle.facts.specs.Same.{Agree, AgreeingOutcomes}
+use Rattle.facts.proofs.AgreeLemmas.{agree_trans}
+use Rattle.facts.proofs.ChangingLemmas.{name_agree, link_agree}
+
+pub related_none : {k : Fact} (w : ℕ) (f : Fact) → changes_ac w ≡ true → Agree k (assigned Ac everything f) → Agree k (related1 w f)
+related_none {k} w f e h = go (changes_ac w) e
+  where
+    go : (b : Bool) → b ≡ true → (let r : Fact = if b then assigned Ac everything f else (if has_bit 0 w then moved Ac 1 f else f) in Agree k r)
+    go true q = h
+    go false q = absurd (cc)
+
+pub related_moved : {k : Fact} (w : ℕ) (f : Fact) → changes_ac w ≡ false → has_bit 0 w ≡ true → Agree k (moved Ac 1 f) → Agree k (related1 w f)
+related_moved {k} w f e i h = go (changes_ac w) (has_bit 0 w) e i
+  where
+    go : (b c : Bool) → b ≡ false → c ≡ true → (let r : Fact = if b then assigned Ac everything f else (if c then moved Ac 1 f else f) in Agree k r)
+    go false true p q = h
+    go false false p q = absurd (cc)
+    go true c p q = absurd (cc)
+
+pub related_kept : {k : Fact} (w : ℕ) (f : Fact) → changes_ac w ≡ false → has_bit 0 w ≡ false → Agree k f → Agree k (related1 w f)
+related_kept {k} w f e i h = go (changes_ac w) (has_bit 0 w) e i
+  where
+    go : (b c : Bool) → b ≡ false → c ≡ false → (let r : Fact = if b then assigned Ac everything f else (if c then moved Ac 1 f else f) in Agree k r)
+    go false false p q = h
+    go false true p q = absurd (cc)
+    go true c p q = absurd (cc)
+
+pub operated_agrees : {k h r : Fact} (w : ℕ) (f : Fact) (set links : Words) → Agree k (related1 w f) → Agree h (with_name Ac set k) → Agree r (with_link links h) →
+    SameWords set (images (ac_after w) (narrowed f Ac) f.link) → SameLinks links (images (link_after w) (narrowed f Ac) f.link) → Agree r (operated1 w f)
+operated_agrees w f set links a b c s l = agree_trans c (link_agree (agree_trans b (name_agree Ac a s)) l)
+
+pub bytes_same : {s : Words} (low high : ℕ) → s ≡ between low high → low ≡ 0 → high ≡ 255 → SameWords s (λ v. nat_lt v 256)
+bytes_same {s} low high e l h v lt = ap (λ (x : Words). x v) e ∙ ap (λ n. nat_le n v && nat_le v high) l ∙ ap (λ n. nat_le 0 v && nat_le v n) h ∙ below v
+  where
+    below : (n : ℕ) → (nat_le 0 n && nat_le n 255) ≡ nat_lt n 256
+    below n = grind (arith, nat_tests)
+
+some_is : {a b : MqOperate} → Some a ≡ Some b → a ≡ b
+some_is e = cc
+
+pub exchange_is : (os : List Outcome) (at w k : ℕ) (p o : MqOperate) (f : Fact) → w ≡ k → mq_operate_of k ≡ Some p → mq_operate_of w ≡ Some o →
+    AgreeingOutcomes os (goes everything f everything (one (plus at 1)) (operated3 p f)) → AgreeingOutcomes os (goes everything f everything (one (plus at 1)) (operated3 o f))
+exchange_is os at w k p o f e q r h =
+    let same : p ≡ o = some_is (sym q ∙ (ap mq_operate_of (sym e) ∙ r)) in
+    subst (λ x. AgreeingOutcomes os (goes everything f everything (one (plus at 1)) (operated3 x f))) same h
+
+same_mq : (g : Fact) (t : Words) → with_mq g.mq (assigned Ac t g) ≡ assigned Ac t g
+unfolding assigned
+same_mq g t = refl
+
+pub kept_mq : (os : List Outcome) (at : ℕ) (f : Fact) (s : Words) → AgreeingOutcomes os (goes everything f everything (one (plus at 1)) (with_mq f.mq (assigned Ac s f))) →
+    AgreeingOutcomes os (goes everything f everything (one (plus at 1)) (assigned Ac s f))
+kept_mq os at f s h = subst (λ x. AgreeingOutcomes os (goes everything f everything (one (plus at 1)) x)) (same_mq f s) h

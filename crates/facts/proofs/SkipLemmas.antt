@@ -1,0 +1,108 @@
+-- The words of group 2: the words that skip, and what the word makes of them.
+use Rattle.std.proofs.Common.{◌≡◌, ℕ, ◌<◌, ◌==◌, Bool, true, false, not, ◌&&◌, ◌||◌, List, refl, sym, ap, ◌∙◌, subst, arith}
+use Rattle.std.specs.Prelude.{if◌then◌else◌, nat_le, nat_lt}
+use Rattle.std.proofs.lemmas.Bool.Decides.{nat_tests}
+use Rattle.instruct.specs.Bits.{has_bit}
+use Rattle.instruct.specs.Operates.{any_test_holds, skips_of}
+use Rattle.wordset.specs.Words.{Words, SameWords, one, between, nothing, all_words, meet, difference, or_any}
+use Rattle.std.proofs.lemmas.Bool.{lt-ltb}
+use Rattle.facts.specs.Facts.{Ac, Fact}
+use Rattle.facts.specs.Changes.{assigned, with_name}
+use Rattle.facts.specs.Outcomes.{Outcome, given, related2}
+use Rattle.facts.specs.Same.{Agree, AgreeingOutcomes}
+
+last_word : (v : ℕ) → v < 4096 → nat_le v 4095 ≡ true
+last_word v lt = grind (arith, nat_tests)
+
+range_tests : (v low high : ℕ) (s : Words) → v < 4096 → s ≡ between low high → low ≡ 2048 → high ≡ 4095 → s v ≡ nat_le 2048 v
+range_tests v low high s lt e l h =
+    ap (λ (x : Words). x v) e ∙ ap (λ n. nat_le n v && nat_le v high) l ∙ ap (λ n. nat_le 2048 v && nat_le v n) h ∙ ap (λ b. nat_le 2048 v && b) (last_word v lt) ∙ go (nat_le 2048 v)
+  where
+    go : (b : Bool) → (b && true) ≡ b
+    go true = refl
+    go false = refl
+
+pub passing_tests : (w l v low high : ℕ) (negative zero empty all : Words) (by_sign by_words result a b c : Bool) → v < 4096 →
+    negative ≡ between low high → low ≡ 2048 → high ≡ 4095 → zero ≡ one 0 → empty ≡ nothing → all ≡ all_words →
+    a ≡ has_bit 6 w → b ≡ has_bit 5 w → c ≡ (has_bit 4 w && (l == 1)) →
+    by_sign ≡ (empty v || (a && negative v)) → by_words ≡ (by_sign || (b && zero v)) → result ≡ (by_words || (c && all v)) →
+    result ≡ any_test_holds w v l
+passing_tests w l v low high negative zero empty all by_sign by_words result a b c lt en el eh ez ee ea sa sb sc h1 h2 h3 =
+    let n : negative v ≡ nat_le 2048 v = range_tests v low high negative lt en el eh in
+    let z : zero v ≡ (v == 0) = ap (λ (x : Words). x v) ez in
+    let e : empty v ≡ false = ap (λ (x : Words). x v) ee in
+    let t : all v ≡ true = ap (λ (x : Words). x v) ea ∙ lt-ltb v 4096 lt in
+    rw (h3, h2, h1, n, z, e, t, sa, sb, sc) (go (has_bit 6 w && nat_le 2048 v) (has_bit 5 w && (v == 0)) (has_bit 4 w && (l == 1)))
+  where
+    go : (p q r : Bool) → (((false || p) || q) || (r && true)) ≡ (p || (q || r))
+    go true q r = refl
+    go false true r = refl
+    go false false true = refl
+    go false false false = refl
+
+pub part_passing : (w l v : ℕ) (skip t : Bool) (a p r : Words) → t ≡ (if has_bit 3 w then not skip else skip) → t ≡ true → r ≡ meet a p → p v ≡ any_test_holds w v l →
+    r v ≡ (a v && (if skips_of w v l then skip else not skip))
+part_passing w l v skip t a p r te is e h =
+    ap (λ (x : Words). x v) e ∙ ap (λ b. a v && b) (h ∙ go (has_bit 3 w) (any_test_holds w v l) skip (sym te ∙ is))
+  where
+    go : (r p s : Bool) → (if r then not s else s) ≡ true → p ≡ (if (if r then not p else p) then s else not s)
+    go true true true q = absurd (cc)
+    go true false true q = absurd (cc)
+    go true true false q = refl
+    go true false false q = refl
+    go false true true q = refl
+    go false false true q = refl
+    go false true false q = absurd (cc)
+    go false false false q = absurd (cc)
+
+pub part_failing : (w l v : ℕ) (skip t : Bool) (a p r : Words) → t ≡ (if has_bit 3 w then not skip else skip) → t ≡ false → r ≡ difference a p → p v ≡ any_test_holds w v l →
+    r v ≡ (a v && (if skips_of w v l then skip else not skip))
+part_failing w l v skip t a p r te is e h =
+    ap (λ (x : Words). x v) e ∙ ap (λ b. a v && not b) h ∙ ap (λ b. a v && b) (go (has_bit 3 w) (any_test_holds w v l) skip (sym te ∙ is))
+  where
+    go : (r p s : Bool) → (if r then not s else s) ≡ false → not p ≡ (if (if r then not p else p) then s else not s)
+    go true true true q = refl
+    go true false true q = refl
+    go true true false q = absurd (cc)
+    go true false false q = absurd (cc)
+    go false true true q = absurd (cc)
+    go false false true q = absurd (cc)
+    go false true false q = refl
+    go false false false q = refl
+
+pub kept_same : {s t : Words} (w : ℕ) → SameWords s t → SameWords (if has_bit 7 w then one 0 else s) (if has_bit 7 w then one 0 else t)
+kept_same {s} {t} w h v lt = go (has_bit 7 w)
+  where
+    go : (b : Bool) → (let x : Words = if b then one 0 else s in let y : Words = if b then one 0 else t in x v ≡ y v)
+    go true = refl
+    go false = h v lt
+
+pub related_ors : {k : Fact} (w : ℕ) (f : Fact) (p : Words) → has_bit 2 w ≡ true → Agree k (assigned Ac (or_any 4095 (if has_bit 7 w then one 0 else p)) f) → Agree k (related2 w p f)
+related_ors {k} w f p e h = go (has_bit 2 w) e
+  where
+    go : (b : Bool) → b ≡ true → (let r : Fact = if b then assigned Ac (or_any 4095 (if has_bit 7 w then one 0 else p)) f else (if has_bit 7 w then assigned Ac (one 0) f else with_name Ac p f) in Agree k r)
+    go true q = h
+    go false q = absurd (cc)
+
+pub related_cleared : {k : Fact} (w : ℕ) (f : Fact) (p : Words) → has_bit 2 w ≡ false → has_bit 7 w ≡ true → Agree k (assigned Ac (one 0) f) → Agree k (related2 w p f)
+related_cleared {k} w f p e i h = go (has_bit 2 w) (has_bit 7 w) e i
+  where
+    go : (b c : Bool) → b ≡ false → c ≡ true → (let r : Fact = if b then assigned Ac (or_any 4095 (if c then one 0 else p)) f else (if c then assigned Ac (one 0) f else with_name Ac p f) in Agree k r)
+    go false true q r = h
+    go false false q r = absurd (cc)
+    go true c q r = absurd (cc)
+
+pub related_left : {k : Fact} (w : ℕ) (f : Fact) (p : Words) → has_bit 2 w ≡ false → has_bit 7 w ≡ false → Agree k (with_name Ac p f) → Agree k (related2 w p f)
+related_left {k} w f p e i h = go (has_bit 2 w) (has_bit 7 w) e i
+  where
+    go : (b c : Bool) → b ≡ false → c ≡ false → (let r : Fact = if b then assigned Ac (or_any 4095 (if c then one 0 else p)) f else (if c then assigned Ac (one 0) f else with_name Ac p f) in Agree k r)
+    go false false q r = h
+    go false true q r = absurd (cc)
+    go true c q r = absurd (cc)
+
+pub chosen_agrees : (os : List Outcome) (r x y z : Bool) (o : Outcome) → r ≡ (x && y) → AgreeingOutcomes os (given (r && z) o) → AgreeingOutcomes os (given (x && (y && z)) o)
+chosen_agrees os r x y z o e h = subst (λ b. AgreeingOutcomes os (given b o)) (ap (λ b. b && z) e ∙ go x y z) h
+  where
+    go : (a b c : Bool) → ((a && b) && c) ≡ (a && (b && c))
+    go true b c = refl
+    go false b c = refl

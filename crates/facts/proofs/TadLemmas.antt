@@ -1,0 +1,39 @@
+-- What TAD makes of a fact.
+use Rattle.std.proofs.Common.{◌≡◌, ℕ, Bool, true, false, Option, Some, None, [], ◌∷◌, refl, ap, ◌∙◌}
+use Rattle.std.specs.Prelude.{if◌then◌else◌}
+use Rattle.wordset.specs.Words.{Words, SameLinks, sums, carries, toggled, only}
+use Rattle.facts.specs.Facts.{Ac, Cell, Fact, Place, narrowed}
+use Rattle.facts.specs.Changes.{moved, assigned, with_equations, with_link}
+use Rattle.facts.specs.Outcomes.{words_at, tad_word, tad_case, tad_fact}
+use Rattle.facts.specs.Same.{Agree}
+
+pub tad_related : (pl : Place) (f : Fact) (v : Words) (y a : ℕ) (w : Option ℕ) (k : Fact) → pl.declaration.variable y ≡ true →
+    Agree k (with_equations (record { left = Ac; right = Cell y; more = a } ∷ []) (assigned Ac (sums (narrowed f Ac) v) f)) → Agree k (tad_case pl f v (Some y) (Some a) w)
+tad_related pl f v y a w k var h = rw var h
+
+word_keeps : (f : Fact) (v : Words) (w : Option ℕ) → ((tad_word f v w).mq ≡ f.mq) × ((tad_word f v w).offsets ≡ f.offsets)
+unfolding moved assigned
+word_keeps f v None = (refl, refl)
+word_keeps f v (Some w) = (refl, refl)
+
+tad_keeps : (pl : Place) (f : Fact) (v : Words) (y a w : Option ℕ) → ((tad_case pl f v y a w).mq ≡ f.mq) × ((tad_case pl f v y a w).offsets ≡ f.offsets)
+unfolding assigned
+tad_keeps pl f v None a w = word_keeps f v w
+tad_keeps pl f v (Some y) None w = word_keeps f v w
+tad_keeps pl f v (Some y) (Some a) w = go (pl.declaration.variable y)
+  where
+    go : (b : Bool) → (let s : Fact = if b then with_equations (record { left = Ac; right = Cell y; more = a } ∷ []) (assigned Ac (sums (narrowed f Ac) v) f) else tad_word f v w in (s.mq ≡ f.mq) × (s.offsets ≡ f.offsets))
+    go true = (refl, refl)
+    go false = word_keeps f v w
+
+pub tad_agrees : (pl : Place) (f : Fact) (p : Words) (s r : Fact) (links : Words) → Agree s (tad_case pl f (words_at pl f p) (only p) (only (narrowed f Ac)) (only (words_at pl f p))) →
+    Agree r (with_link links s) → SameLinks links (toggled f.link (carries (narrowed f Ac) (words_at pl f p))) → Agree r (tad_fact pl f p)
+tad_agrees pl f p s r links a b e =
+    let kept = tad_keeps pl f (words_at pl f p) (only p) (only (narrowed f Ac)) (only (words_at pl f p)) in
+    record {
+      sets = λ n v lt. b.sets n v lt ∙ a.sets n v lt;
+      mq = λ v lt. b.mq v lt ∙ (a.mq v lt ∙ ap (λ (x : Words). x v) kept.0);
+      link = λ l lt. b.link l lt ∙ e l lt;
+      equations = b.equations ∙ a.equations;
+      offsets = λ o lt. b.offsets o lt ∙ (a.offsets o lt ∙ ap (λ (x : Words). x o) kept.1);
+    }

@@ -1,0 +1,9 @@
+use Rattle.std.proofs.Common.{◌∙◌, ap, map}
+use Rattle.facts.specs.Facts.{same, Ac}
+use Rattle.facts.specs.Changes.{free_of}
+use Rattle.facts.specs.Meaning.{equation_of}
+use Rattle.facts.proofs.ChangingLemmas.{assigned_ac}
+use Rattle.facts.proofs.known.Known.with_ac.Goals as goal
+
+pub returns-clause-same : goal.returns-clause-same
+returns-clause-same c = assigned_ac c.args.self.now c.args.set c.freed.result (c.freed.ensures.list ∙ ap (λ es. free_of (λ m. same m Ac) (map equation_of es)) c.deref.ensures.0)

@@ -1,0 +1,29 @@
+use Rattle.std.proofs.Common.{◌≡◌, ◌∙◌}
+use Rattle.wordset.specs.Words.{SameWords, SameLinks, one, everything, plus, sums, carries, toggled, only}
+use Rattle.wordset.specs.Lanes.{words}
+use Rattle.wordset.specs.Links.{links_of}
+use Rattle.facts.specs.Facts.{narrowed, Ac}
+use Rattle.facts.specs.Outcomes.{words_at, tad_case, tad_fact}
+use Rattle.facts.specs.Same.{Agree}
+use Rattle.facts.specs.Meaning.{known_of}
+use Rattle.facts.specs.Places.{place_of}
+use Rattle.facts.proofs.Alike.{only_same}
+use Rattle.facts.proofs.PlaceLemmas.{all_same, at_agree, sums_same, carries_same, toggled_same}
+use Rattle.facts.proofs.AgreeLemmas.{narrowed_agree}
+use Rattle.facts.proofs.TadLemmas.{tad_agrees}
+use Rattle.facts.proofs.place.Place.add.Goals as goal
+
+pub returns : goal.returns
+returns g c = λ f p h e.
+    let ac : SameWords (words c.narrowed-ac.result) (narrowed f Ac) = λ v lt. c.narrowed-ac.ensures v lt ∙ narrowed_agree h Ac v lt in
+    let seen : SameWords (words c.words_at-seen.result) (words_at (place_of c.args.self.now) f p) = λ v lt. c.words_at-seen.ensures v lt ∙ at_agree (place_of c.args.self.now) h e v lt in
+    let set : SameWords (words c.sums-sums.result.0) (sums (narrowed f Ac) (words_at (place_of c.args.self.now) f p)) = λ v lt. c.sums-sums.ensures.words v lt ∙ sums_same ac seen v lt in
+    let t : c.only.result ≡ only p = c.only.ensures ∙ only_same _ _ e in
+    let a : c.only-2.result ≡ only (narrowed f Ac) = c.only-2.ensures ∙ only_same _ _ ac in
+    let w : c.only-3.result ≡ only (words_at (place_of c.args.self.now) f p) = c.only-3.ensures ∙ only_same _ _ seen in
+    let links : SameLinks (links_of c.toggled-links.result) (toggled f.link (carries (narrowed f Ac) (words_at (place_of c.args.self.now) f p))) =
+    λ k lt. c.toggled-links.ensures k lt ∙ toggled_same h.link (λ j l. c.sums-sums.ensures.carries j l ∙ carries_same ac seen j l) k lt in
+    let sum : Agree (known_of c.after_tad-sum.result) (tad_case (place_of c.args.self.now) f (words_at (place_of c.args.self.now) f p) (only p) (only (narrowed f Ac)) (only (words_at (place_of c.args.self.now) f p))) =
+    rw (← t, ← a, ← w) (c.after_tad-sum.ensures f (words_at (place_of c.args.self.now) f p) h set) in
+    c.going.ensures p everything (one (plus c.args.at 1)) f (tad_fact (place_of c.args.self.now) f p) e h (all_same c.all.ensures) c.address_after.ensures
+    (tad_agrees (place_of c.args.self.now) f p (known_of c.after_tad-sum.result) _ (links_of c.toggled-links.result) sum c.with_link.ensures links)

@@ -1,0 +1,18 @@
+use Rattle.std.proofs.Common.{◌∙◌}
+use Rattle.wordset.specs.Words.{SameWords, one, everything, plus, ands}
+use Rattle.wordset.specs.Lanes.{words}
+use Rattle.facts.specs.Facts.{narrowed, Ac}
+use Rattle.facts.specs.Outcomes.{words_at}
+use Rattle.facts.specs.Places.{place_of}
+use Rattle.facts.proofs.PlaceLemmas.{all_same, at_agree, ands_same}
+use Rattle.facts.proofs.AgreeLemmas.{agree_trans, narrowed_agree}
+use Rattle.facts.proofs.ChangingLemmas.{assigned_agree}
+use Rattle.facts.proofs.place.Place.combine.Goals as goal
+
+pub returns : goal.returns
+returns g c = λ f p h e.
+    let ac : SameWords (words c.narrowed-ac.result) (narrowed f Ac) = λ v lt. c.narrowed-ac.ensures v lt ∙ narrowed_agree h Ac v lt in
+    let seen : SameWords (words c.words_at-seen.result) (words_at (place_of c.args.self.now) f p) = λ v lt. c.words_at-seen.ensures v lt ∙ at_agree (place_of c.args.self.now) h e v lt in
+    let new : SameWords (words c.ands.result) (ands (narrowed f Ac) (words_at (place_of c.args.self.now) f p)) = λ v lt. c.ands.ensures v lt ∙ ands_same ac seen v lt in
+    c.going.ensures p everything (one (plus c.args.at 1)) f _ e h (all_same c.all.ensures) c.address_after.ensures
+    (agree_trans c.with_ac-after.ensures.same (assigned_agree Ac h new))

@@ -1,0 +1,33 @@
+use Rattle.std.proofs.Common.{◌≡◌, ◌∙◌, sym, ap}
+use Rattle.instruct.specs.declared.Profile.{Profile}
+use Rattle.instruct.specs.declared.Instruction.{Instruction}
+use Rattle.instruct.specs.Instructions.{kind_of, meaning_of}
+use Rattle.facts.specs.Places.{place_of}
+use Rattle.facts.proofs.DispatchLemmas.{by_reference, by_group1, by_group2, by_group3, by_nothing, first_group_8e, kind_here}
+use Rattle.facts.proofs.place.Place.outcomes.Goals as goal
+
+pub operate-requires : goal.operate-requires
+operate-requires g c = first_group_8e _ _ (sym c.decode.ensures.kind ∙ c.in-Operate1.is)
+
+pub transfer-requires : goal.transfer-requires
+transfer-requires g c = kind_here c.args.at c.args.word c.profile.ensures (c.decode.ensures.meaning c.args.at) c.in-Iot.is
+
+pub returns-in-Memory : goal.returns-in-Memory
+returns-in-Memory g c = λ f h. by_reference _ (place_of c.args.self.now) f c.args.at c.args.word
+    (kind_here c.args.at c.args.word c.profile.ensures (c.decode.ensures.meaning c.args.at) c.in-Memory.is) (c.refer.ensures f h)
+
+pub returns-in-Operate1 : goal.returns-in-Operate1
+returns-in-Operate1 g c = λ f h. by_group1 _ (place_of c.args.self.now) f c.args.at c.args.word
+    (kind_here c.args.at c.args.word c.profile.ensures (c.decode.ensures.meaning c.args.at) c.in-Operate1.is) (c.one.ensures _ (c.operate.ensures f h))
+
+pub returns-in-Operate2 : goal.returns-in-Operate2
+returns-in-Operate2 g c = λ f h. by_group2 _ (place_of c.args.self.now) f c.args.at c.args.word
+    (kind_here c.args.at c.args.word c.profile.ensures (c.decode.ensures.meaning c.args.at) c.in-Operate2.is) (c.skip.ensures f h)
+
+pub returns-in-Operate3 : goal.returns-in-Operate3
+returns-in-Operate3 g c = λ f h. by_group3 _ (place_of c.args.self.now) f c.args.at c.args.word
+    (kind_here c.args.at c.args.word c.profile.ensures (c.decode.ensures.meaning c.args.at) c.in-Operate3.is) (λ o e. c.one-in-Operate3.ensures _ (c.exchange.ensures o f e h))
+
+pub returns-in-Unsupported : goal.returns-in-Unsupported
+returns-in-Unsupported g c = λ f h. by_nothing _ (place_of c.args.self.now) f c.args.at c.args.word
+    (kind_here c.args.at c.args.word c.profile.ensures (c.decode.ensures.meaning c.args.at) c.in-Unsupported.is) c.nowhere.ensures

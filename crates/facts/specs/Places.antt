@@ -1,0 +1,34 @@
+-- Places as they're kept in code, and what they mean.
+use Rattle.std.specs.Prelude.{Option, Some, None}
+use Rattle.wordset.specs.Words.{Words, nothing}
+use Rattle.wordset.specs.Lanes.{words}
+use Rattle.peripherals.specs.Loading.{image_of}
+use Rattle.declaration.specs.Declaration.{Routine}
+use Rattle.declaration.specs.Kept.{meaning}
+use Rattle.facts.specs.Facts as spec
+use Rattle.facts.specs.declared.place.Running.{Running}
+use Rattle.facts.specs.declared.place.Place.{Place}
+
+-- The routine that is meant; none is main.
+abbrev pub routine_of : Option Running → Routine
+routine_of None = None
+routine_of (Some r) = Some r.entry
+
+-- The sites of the routine; main has none.
+abbrev pub sites_of : Option Running → Words
+sites_of None = nothing
+sites_of (Some r) = words r.sites.now
+
+-- The cells that the routine may write.
+abbrev pub writes_of : Option Running → Words
+writes_of None = nothing
+writes_of (Some r) = words r.writes.now
+
+-- The place that is meant.
+abbrev pub place_of : {A : Type 0} → Place A → spec.Place
+place_of p = record {
+  image = image_of p.image.now;
+  declaration = meaning p.declaration.now;
+  routine = routine_of p.routine;
+  sites = sites_of p.routine;
+}

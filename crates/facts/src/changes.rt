@@ -1,0 +1,293 @@
+//! What happens to what is known: a word that counts up or takes a new value, one of several cells
+//! that changes.
+
+ghost use Rattle.std.specs.Prelude.{ℕ, ◌≡◌, ◌≤◌, ◌+◌, ◌-◌, ◌==◌, ◌∷◌, [], if◌then◌else◌, false, map};
+ghost use Rattle.arrayvec.specs.ArrayVec.{array_vec_len};
+ghost use Rattle.wordset.specs.Words.{one, shifted};
+ghost use Rattle.wordset.specs.Lanes.{words};
+ghost use Rattle.wordset.specs.Links.{links_of};
+ghost use Rattle.facts.specs.Facts.{Ac, Cell};
+ghost use Rattle.facts.specs.Changes.{copied, moved, assigned, smeared, with_equations, with_name, with_mq, with_link, with_offsets};
+ghost use Rattle.facts.specs.Same.{Agree};
+ghost use Rattle.facts.specs.Meaning.{equation_of, known_of, IsUnchanged};
+
+use crate::equations::{Equations, copies, copy, freed, freed_of_cells, joined, raised};
+use crate::known::{Change, Known};
+use crate::names::{Equation, Name};
+use arrayvec::ArrayVec;
+use word12::Word;
+use wordset::{Links, WordSet};
+
+/// The word 1.
+fn one() -> Word
+    ensures { result ≡ 1 }
+{
+    Word::ZERO.increment()
+}
+
+impl<'a> Known<'a> {
+    /// After the accumulator's word went up by k.
+    pub(crate) fn raised_ac(&self, k: Word) -> Known<'a>
+        ensures same { Agree (known_of result) (moved Ac k (known_of self.now)) }
+        ensures target { result.target ≡ self.now.target }
+        ensures len { array_vec_len result.equations ≤ array_vec_len self.now.equations }
+    {
+        Known {
+            base: self.base,
+            ac: self.narrowed(&Name::Accumulator).shift(k),
+            mq: self.mq,
+            link: self.link,
+            pointer: self.pointer,
+            target: self.target,
+            equations: raised(&Name::Accumulator, k, &self.equations),
+            offsets: self.offsets,
+        }
+    }
+
+    /// After a cell's word went up by one, where a pointer is stepped.
+    pub(crate) fn stepped(&self, cell: Word) -> Known<'a>
+        requires pointer { IsUnchanged self.now.pointer }
+        requires target { IsUnchanged self.now.target }
+        ensures same { Agree (known_of result) (moved (Cell cell) 1 (known_of self.now)) }
+        ensures target { IsUnchanged result.target }
+        ensures len { array_vec_len result.equations ≤ array_vec_len self.now.equations }
+    {
+        Known {
+            base: self.base,
+            ac: self.ac,
+            mq: self.mq,
+            link: self.link,
+            pointer: Change::Replaced(cell, self.narrowed(&Name::Cell(cell)).shift(one())),
+            target: Change::Unchanged,
+            equations: raised(&Name::Cell(cell), one(), &self.equations),
+            offsets: self.offsets,
+        }
+    }
+
+    /// After the accumulator took some word of a set.
+    pub(crate) fn with_ac(&self, set: WordSet) -> Known<'a>
+        ensures same { Agree (known_of result) (assigned Ac (words set) (known_of self.now)) }
+        ensures target { result.target ≡ self.now.target }
+        ensures len { array_vec_len result.equations ≤ array_vec_len self.now.equations }
+    {
+        Known {
+            base: self.base,
+            ac: set,
+            mq: self.mq,
+            link: self.link,
+            pointer: self.pointer,
+            target: self.target,
+            equations: freed(&Name::Accumulator, &self.equations),
+            offsets: self.offsets,
+        }
+    }
+
+    /// After a cell took some word of a set.
+    pub(crate) fn with_cell(&self, cell: Word, set: WordSet) -> Known<'a>
+        requires { IsUnchanged self.now.target }
+        ensures same { Agree (known_of result) (assigned (Cell cell) (words set) (known_of self.now)) }
+        ensures len { array_vec_len result.equations ≤ array_vec_len self.now.equations }
+    {
+        Known {
+            base: self.base,
+            ac: self.ac,
+            mq: self.mq,
+            link: self.link,
+            pointer: self.pointer,
+            target: Change::Replaced(cell, set),
+            equations: freed(&Name::Cell(cell), &self.equations),
+            offsets: self.offsets,
+        }
+    }
+
+    /// After one of some cells, unknown which, went up by one.
+    pub(crate) fn counted(&self, cells: &WordSet) -> Known<'a>
+        requires { IsUnchanged self.now.target }
+        ensures same { Agree (known_of result)
+            (smeared (words cells.now) (λ y. shifted ((known_of self.now).set (Cell y)) 1) (known_of self.now)) }
+        ensures len { array_vec_len result.equations ≤ array_vec_len self.now.equations }
+    {
+        Known {
+            base: self.base,
+            ac: self.ac,
+            mq: self.mq,
+            link: self.link,
+            pointer: self.pointer,
+            target: Change::Counted(*cells),
+            equations: freed_of_cells(cells, &self.equations),
+            offsets: self.offsets,
+        }
+    }
+
+    /// After one of some cells, unknown which, took some word of a set.
+    pub(crate) fn stored(&self, cells: &WordSet, set: WordSet) -> Known<'a>
+        requires { IsUnchanged self.now.target }
+        ensures same { Agree (known_of result) (smeared (words cells.now) (λ y. words set) (known_of self.now)) }
+        ensures len { array_vec_len result.equations ≤ array_vec_len self.now.equations }
+    {
+        Known {
+            base: self.base,
+            ac: self.ac,
+            mq: self.mq,
+            link: self.link,
+            pointer: self.pointer,
+            target: Change::Stored(*cells, set),
+            equations: freed_of_cells(cells, &self.equations),
+            offsets: self.offsets,
+        }
+    }
+
+    /// After a cell went up by one, where these words of it are left.
+    pub(crate) fn counted_to(&self, cell: Word, set: WordSet) -> Known<'a>
+        requires { IsUnchanged self.now.target }
+        ensures same { Agree (known_of result)
+            (with_name (Cell cell) (words set) (moved (Cell cell) 1 (known_of self.now))) }
+        ensures len { array_vec_len result.equations ≤ array_vec_len self.now.equations }
+    {
+        Known {
+            base: self.base,
+            ac: self.ac,
+            mq: self.mq,
+            link: self.link,
+            pointer: self.pointer,
+            target: Change::Replaced(cell, set),
+            equations: raised(&Name::Cell(cell), one(), &self.equations),
+            offsets: self.offsets,
+        }
+    }
+
+    /// The same.
+    pub(crate) fn same(&self) -> Known<'a>
+        ensures same { Agree (known_of result) (known_of self.now) }
+        ensures target { result.target ≡ self.now.target }
+        ensures len { array_vec_len result.equations ≤ array_vec_len self.now.equations }
+    {
+        Known {
+            base: self.base,
+            ac: self.ac,
+            mq: self.mq,
+            link: self.link,
+            pointer: self.pointer,
+            target: self.target,
+            equations: copy(&self.equations),
+            offsets: self.offsets,
+        }
+    }
+
+    /// With other words of the accumulator; its equations stay.
+    pub(crate) fn holding(self, set: WordSet) -> Known<'a>
+        ensures { Agree (known_of result) (with_name Ac (words set) (known_of self.entry)) }
+    {
+        Known {
+            base: self.base,
+            ac: set,
+            mq: self.mq,
+            link: self.link,
+            pointer: self.pointer,
+            target: self.target,
+            equations: self.equations,
+            offsets: self.offsets,
+        }
+    }
+
+    /// With other links.
+    pub(crate) fn with_link(self, links: Links) -> Known<'a>
+        ensures { Agree (known_of result) (with_link (links_of links) (known_of self.entry)) }
+    {
+        Known {
+            base: self.base,
+            ac: self.ac,
+            mq: self.mq,
+            link: links,
+            pointer: self.pointer,
+            target: self.target,
+            equations: self.equations,
+            offsets: self.offsets,
+        }
+    }
+
+    /// With other words of MQ.
+    pub(crate) fn with_mq(self, set: WordSet) -> Known<'a>
+        ensures { Agree (known_of result) (with_mq (words set) (known_of self.entry)) }
+    {
+        Known {
+            base: self.base,
+            ac: self.ac,
+            mq: set,
+            link: self.link,
+            pointer: self.pointer,
+            target: self.target,
+            equations: self.equations,
+            offsets: self.offsets,
+        }
+    }
+
+    /// After the running routine's return word went up by one.
+    pub(crate) fn returning_later(&self) -> Known<'a>
+        ensures { Agree (known_of result)
+            (with_offsets (λ o. if o == 0 then false else (known_of self.now).offsets (o - 1)) (known_of self.now)) }
+    {
+        Known {
+            base: self.base,
+            ac: self.ac,
+            mq: self.mq,
+            link: self.link,
+            pointer: self.pointer,
+            target: self.target,
+            equations: copy(&self.equations),
+            offsets: self.offsets.counted(),
+        }
+    }
+
+    /// After the accumulator's word went up by k, where these words of it are left.
+    pub(crate) fn raised_to(&self, k: Word, set: WordSet) -> Known<'a>
+        ensures { Agree (known_of result) (with_name Ac (words set) (moved Ac k (known_of self.now))) }
+    {
+        self.raised_ac(k).holding(set)
+    }
+
+    /// After the accumulator became the sum of a cell's word and another, where these words of it
+    /// are left.
+    pub(crate) fn summed(&self, cell: Word, more: Word, set: WordSet) -> Known<'a>
+        requires { array_vec_len self.now.equations ≤ 32 }
+        ensures { Agree (known_of result) (with_equations
+            (record { left = Ac; right = Cell cell; more = more } ∷ []) (assigned Ac (words set) (known_of self.now))) }
+    {
+        let mut first = ArrayVec::new();
+        first.push(Equation {
+            left: Name::Accumulator,
+            right: cell,
+            more,
+        });
+        self.with_ac(set).told(first)
+    }
+
+    /// With further equations.
+    fn told(&self, more: Equations) -> Known<'a>
+        requires { array_vec_len more + array_vec_len self.now.equations ≤ 64 }
+        ensures { Agree (known_of result) (with_equations (map equation_of more.items) (known_of self.now)) }
+    {
+        Known {
+            base: self.base,
+            ac: self.ac,
+            mq: self.mq,
+            link: self.link,
+            pointer: self.pointer,
+            target: self.target,
+            equations: joined(more, &self.equations),
+            offsets: self.offsets,
+        }
+    }
+
+    /// After the accumulator's words were put into a cell, and it was cleared.
+    pub(crate) fn deposited(&self, cell: Word, set: WordSet) -> Known<'a>
+        requires target { IsUnchanged self.now.target }
+        requires room { array_vec_len self.now.equations ≤ 32 }
+        ensures { Agree (known_of result) (assigned Ac (one 0)
+            (with_equations (copied cell (known_of self.now).equations) (assigned (Cell cell) (words set) (known_of self.now)))) }
+    {
+        let put = self.with_cell(cell, set);
+        let told = put.told(copies(cell, &self.equations));
+        told.with_ac(WordSet::one(Word::ZERO))
+    }
+}

@@ -1,0 +1,156 @@
+//! The outcomes of a word, and those of them that can come about.
+
+ghost use Rattle.std.specs.Prelude.{◌≡◌, ◌&&◌};
+ghost use Rattle.wordset.specs.Words.{Words, SameWords, has_some, has_link, everything, one, plus};
+ghost use Rattle.wordset.specs.Lanes.{words};
+ghost use Rattle.wordset.specs.Links.{links_of};
+ghost use Rattle.facts.specs.Facts.{Ac, Fact, narrowed};
+ghost use Rattle.facts.specs.Outcomes.{alive, given, goes, Goes, CallsTo, Returns};
+ghost use Rattle.facts.specs.Same.{Agree, AgreeingOutcomes};
+ghost use Rattle.facts.specs.Meaning.{known_of};
+ghost use Rattle.facts.specs.Slots.{slot};
+
+use crate::known::Known;
+use crate::names::Name;
+use word12::Word;
+use wordset::{Links, WordSet};
+
+/// What may come of a word, with what is known then.
+///
+/// Contracts see it as `outcome_of` gives it.
+#[derive(Drop)]
+pub enum Outcome<'a> {
+    /// The run goes on at one of these addresses.
+    Goes(WordSet, Known<'a>),
+    /// One of these entries is called.
+    Calls(WordSet, Known<'a>),
+    /// The running routine returns.
+    Returns(Known<'a>),
+}
+
+/// Whether a set has a word.
+pub(crate) fn has_word(set: &WordSet) -> bool
+    ensures { result ≡ has_some (words set.now) }
+{
+    !set.is_empty()
+}
+
+/// Whether a link is possible.
+fn has_link(links: Links) -> bool
+    ensures { result ≡ has_link (links_of links) }
+{
+    !links.is_empty()
+}
+
+/// Whether the equations leave a word to the accumulator.
+fn has_accumulator(known: &Known<'_>) -> bool
+    ensures { result ≡ has_some (narrowed (known_of known.now) Ac) }
+{
+    has_word(&known.narrowed(&Name::Accumulator))
+}
+
+/// Whether all are true.
+fn are_all(a: bool, b: bool, c: bool, d: bool, e: bool, f: bool) -> bool
+    ensures { result ≡ (a && (b && (c && (d && (e && f))))) }
+{
+    a && b && c && d && e && f
+}
+
+/// Whether the targets, the old accumulator, the new one, MQ, the link and the changed cell each
+/// have a word.
+fn is_alive(targets: &WordSet, before: &Known<'_>, changed: &WordSet, after: &Known<'_>) -> bool
+    ensures { result ≡ alive (words targets.now) (known_of before.now) (words changed.now) (known_of after.now) }
+{
+    let targeted = has_word(targets);
+    let held = has_accumulator(before);
+    let left = has_word(&after.ac);
+    let moved = has_word(&after.mq);
+    let linked = has_link(after.link);
+    let written = has_word(changed);
+    are_all(targeted, held, left, moved, linked, written)
+}
+
+/// The outcome that goes on at some addresses, where it can come about.
+pub(crate) fn going<'a>(
+    targets: &WordSet,
+    before: &Known<'_>,
+    changed: &WordSet,
+    next: &WordSet,
+    after: Known<'a>,
+) -> Option<Outcome<'a>>
+    ensures { (p changes nexts : Words) (f h : Fact) → SameWords (words targets.now) p → Agree (known_of before.now) f →
+        SameWords (words changed.now) changes → SameWords (words next.now) nexts → Agree (known_of after.entry) h →
+        AgreeingOutcomes (slot result) (goes p f changes nexts h) }
+{
+    if is_alive(targets, before, changed, &after) {
+        Some(Outcome::Goes(*next, after))
+    } else {
+        None
+    }
+}
+
+/// The outcome that goes on at some addresses, where it is chosen and can come about.
+pub(crate) fn going_if<'a>(
+    chosen: bool,
+    targets: &WordSet,
+    before: &Known<'_>,
+    changed: &WordSet,
+    next: &WordSet,
+    after: Known<'a>,
+) -> Option<Outcome<'a>>
+    ensures { (p changes nexts : Words) (f h : Fact) → SameWords (words targets.now) p → Agree (known_of before.now) f →
+        SameWords (words changed.now) changes → SameWords (words next.now) nexts → Agree (known_of after.entry) h →
+        AgreeingOutcomes (slot result) (given (chosen && alive p f changes h) (Goes nexts h)) }
+{
+    if chosen {
+        going(targets, before, changed, next, after)
+    } else {
+        None
+    }
+}
+
+/// The outcome that calls the targets, where it can come about.
+pub(crate) fn calling<'a>(
+    targets: &WordSet,
+    before: &Known<'_>,
+    after: Known<'a>,
+) -> Option<Outcome<'a>>
+    ensures { (p : Words) (f h : Fact) → SameWords (words targets.now) p → Agree (known_of before.now) f → Agree (known_of after.entry) h →
+        AgreeingOutcomes (slot result) (given (alive p f everything h) (CallsTo p h)) }
+{
+    if is_alive(targets, before, &WordSet::all(), &after) {
+        Some(Outcome::Calls(*targets, after))
+    } else {
+        None
+    }
+}
+
+/// The outcome that returns, where it can come about.
+pub(crate) fn returning<'a>(
+    targets: &WordSet,
+    before: &Known<'_>,
+    after: Known<'a>,
+) -> Option<Outcome<'a>>
+    ensures { (p : Words) (f h : Fact) → SameWords (words targets.now) p → Agree (known_of before.now) f → Agree (known_of after.entry) h →
+        AgreeingOutcomes (slot result) (given (alive p f everything h) (Returns h)) }
+{
+    if is_alive(targets, before, &WordSet::all(), &after) {
+        Some(Outcome::Returns(after))
+    } else {
+        None
+    }
+}
+
+/// The address so many words after another.
+pub(crate) fn address_after(at: Word) -> WordSet
+    ensures { SameWords (words result) (one (plus at 1)) }
+{
+    WordSet::one(at.increment())
+}
+
+/// The address that a skip goes to.
+pub(crate) fn address_skipped_to(at: Word) -> WordSet
+    ensures { SameWords (words result) (one (plus at 2)) }
+{
+    WordSet::one(at.increment().increment())
+}

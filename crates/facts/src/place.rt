@@ -1,0 +1,129 @@
+//! Where a fact stands: the tape, the declaration and the running routine.
+
+ghost use Rattle.std.specs.Prelude.{ℕ, ◌≡◌, ◌||◌, ◌&&◌};
+ghost use Rattle.wordset.specs.Words.{SameWords};
+ghost use Rattle.wordset.specs.Lanes.{words};
+ghost use Rattle.facts.specs.Facts.{is_routine, own_words, words_in, tape_word};
+ghost use Rattle.facts.specs.Outcomes.{words_at};
+ghost use Rattle.facts.specs.Meaning.{known_of};
+ghost use Rattle.facts.specs.Places.{place_of};
+
+use crate::entailment::word_of;
+use crate::known::Known;
+use crate::names::Name;
+use bin_tape::Image;
+use declaration::Declaration;
+use std::alloc::Allocator;
+use word12::Word;
+use wordset::WordSet;
+
+/// The routine whose body has a fact's address.
+#[derive(Clone, Copy)]
+pub struct Running<'a> {
+    /// Its entry.
+    pub entry: Word,
+    /// The addresses of the JMS words from which it may be called.
+    pub sites: &'a WordSet,
+    /// The cells that it and what it calls may write.
+    pub writes: &'a WordSet,
+}
+
+/// Where a fact stands, beside its address.
+///
+/// Contracts see it as `place_of` gives it.
+#[derive(Drop)]
+pub struct Place<'a, A: Allocator> {
+    /// The tape's words.
+    pub image: &'a Image,
+    /// The program's declaration.
+    pub declaration: &'a Declaration<A>,
+    /// The routine whose body has the address, or main.
+    pub routine: Option<Running<'a>>,
+}
+
+/// The tape's word, or all words where the tape has none.
+fn tape_words(word: Option<Word>) -> WordSet
+    ensures { SameWords (words result) (tape_word word) }
+{
+    match word {
+        None => WordSet::all(),
+        Some(word) => WordSet::one(word),
+    }
+}
+
+/// The words of a set, and those of another where it is chosen.
+pub(crate) fn union_if(chosen: bool, set: &WordSet, more: &WordSet) -> WordSet
+    ensures { (v : ℕ) → words result v ≡ (words set.now v || (chosen && words more.now v)) }
+{
+    if chosen { set.union(more) } else { *set }
+}
+
+impl<A: Allocator> Place<'_, A> {
+    /// Whether a cell is the running routine's entry.
+    pub(crate) fn is_own(&self, cell: Word) -> bool
+        ensures { result ≡ is_routine (place_of self.now).routine cell }
+    {
+        match &self.routine {
+            None => false,
+            Some(running) => cell == running.entry,
+        }
+    }
+
+    /// The sites of the running routine; main has none.
+    fn sites(&self) -> WordSet
+        ensures { words result ≡ (place_of self.now).sites }
+    {
+        match &self.routine {
+            None => WordSet::empty(),
+            Some(running) => *running.sites,
+        }
+    }
+
+    /// The words that the running routine's entry may hold: a site, one more, and an offset.
+    fn own_words(&self, known: &Known<'_>) -> WordSet
+        ensures { SameWords (words result) (own_words (place_of self.now).sites (known_of known.now)) }
+    {
+        let sites = self.sites();
+        let offsets = known.offsets();
+        let mut set = WordSet::empty();
+        for o in 0..8usize {
+            set = union_if(
+                offsets.contains(o),
+                &set,
+                &sites.shift(Word::from_index(o + 1)),
+            );
+        }
+        set
+    }
+
+    /// The words that a cell may hold: a variable's narrowed set, the running routine's own return
+    /// words, any word in another entry, else the tape's word.
+    pub(crate) fn words_in(&self, known: &Known<'_>, cell: Word) -> WordSet
+        ensures { SameWords (words result) (words_in (place_of self.now) (known_of known.now) cell) }
+    {
+        if self.declaration.is_variable(cell) {
+            return known.narrowed(&Name::Cell(cell));
+        }
+        if self.is_own(cell) {
+            return self.own_words(known);
+        }
+        if self.declaration.is_entry(cell) {
+            return WordSet::all();
+        }
+        tape_words(word_of(self.image, cell))
+    }
+
+    /// The words that some cells may hold.
+    pub(crate) fn words_at(&self, known: &Known<'_>, cells: &WordSet) -> WordSet
+        ensures { SameWords (words result)
+            (words_at (place_of self.now) (known_of known.now) (words cells.now)) }
+    {
+        let mut set = WordSet::empty();
+        let mut next = 0usize;
+        while let Some(cell) = cells.first_from(next) {
+            set = set.union(&self.words_in(known, cell));
+            next = cell.index() + 1;
+        }
+        set
+    }
+}

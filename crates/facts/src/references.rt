@@ -1,0 +1,348 @@
+//! The outcomes of the words that refer to memory.
+
+ghost use Rattle.std.specs.Prelude.{ℕ, ◌≡◌, ◌≤◌, ◌++◌, ◌||◌, ◌&&◌, true, false, Some, None};
+ghost use Rattle.arrayvec.specs.ArrayVec.{array_vec_len};
+ghost use Rattle.wordset.specs.Words.{Words, SameWords, everything, only, sums, some_below, has_some, without};
+ghost use Rattle.wordset.specs.Lanes.{words};
+ghost use Rattle.processor.specs.Machine.{steps_pointer};
+ghost use Rattle.facts.specs.Facts as said;
+ghost use Rattle.facts.specs.Facts.{Ac, Cell, narrowed};
+ghost use Rattle.facts.specs.Outcomes.{stepped, targets, alive, given, anded, tad_word, tad_case, tad, dca_case, isz_case, jmp, CallsTo};
+ghost use Rattle.facts.specs.Same.{Agree, AgreeingOutcomes};
+ghost use Rattle.facts.specs.Meaning.{known_of, IsUnchanged};
+ghost use Rattle.facts.specs.Places.{place_of};
+ghost use Rattle.facts.specs.Slots.{slot};
+
+use crate::known::Known;
+use crate::names::Name;
+use crate::outcome::{
+    Outcome, address_after, address_skipped_to, calling, going, going_if, returning,
+};
+use crate::place::Place;
+use processor::is_auto_index;
+use std::alloc::Allocator;
+use word12::Word;
+use wordset::WordSet;
+
+/// Whether a reference steps the pointer in its named cell.
+fn steps_pointer(indirect: bool, named: Word) -> bool
+    ensures { result ≡ steps_pointer indirect named }
+{
+    indirect && is_auto_index(named)
+}
+
+/// DCA: the one target takes the accumulator's words and equations, or an unknown one of several
+/// its words; then the accumulator is 0.
+pub(crate) fn deposit<'a>(at: Word, known: &Known<'a>, targets: &WordSet) -> Option<Outcome<'a>>
+    requires target { IsUnchanged known.now.target }
+    requires room { array_vec_len known.now.equations ≤ 32 }
+    ensures { (place : said.Place) (f : said.Fact) (p : Words) → Agree (known_of known.now) f → SameWords (words targets.now) p →
+        AgreeingOutcomes (slot result) (dca_case place at f p (only p)) }
+{
+    let ac = known.narrowed(&Name::Accumulator);
+    let next = address_after(at);
+    match targets.only() {
+        Some(cell) => {
+            let after = known.deposited(cell, ac);
+            going(targets, known, &ac, &next, after)
+        }
+        None => {
+            let after = known.stored(targets, ac).with_ac(WordSet::one(Word::ZERO));
+            going(targets, known, &WordSet::all(), &next, after)
+        }
+    }
+}
+
+/// ISZ of one variable: it skips where the variable was 7777, and otherwise leaves it not zero.
+pub(crate) fn count_one<'a>(
+    at: Word,
+    known: &Known<'a>,
+    targets: &WordSet,
+    cell: Word,
+) -> (Option<Outcome<'a>>, Option<Outcome<'a>>)
+    requires { IsUnchanged known.now.target }
+    ensures { (place : said.Place) (f : said.Fact) (p : Words) → place.declaration.variable cell ≡ true →
+        Agree (known_of known.now) f → SameWords (words targets.now) p →
+        AgreeingOutcomes (slot result.0 ++ slot result.1) (isz_case place at f p (Some cell)) }
+{
+    let old = known.narrowed(&Name::Cell(cell));
+    let zero = WordSet::one(Word::ZERO);
+    let more = old.shift(Word::ZERO.increment()).minus(&zero);
+    let last = Word::ZERO.complement();
+    let skips = going_if(
+        old.contains(last),
+        targets,
+        known,
+        &zero,
+        &address_skipped_to(at),
+        known.counted_to(cell, zero),
+    );
+    let goes_on = going(
+        targets,
+        known,
+        &more,
+        &address_after(at),
+        known.counted_to(cell, more),
+    );
+    (skips, goes_on)
+}
+
+/// ISZ of the running routine's own entry counts the offsets up.
+pub(crate) fn count_own<'a>(
+    at: Word,
+    known: &Known<'a>,
+    targets: &WordSet,
+    cell: Word,
+) -> Option<Outcome<'a>>
+    ensures { (place : said.Place) (f : said.Fact) (p : Words) → place.declaration.variable cell ≡ false →
+        Agree (known_of known.now) f → SameWords (words targets.now) p →
+        AgreeingOutcomes (slot result) (isz_case place at f p (Some cell)) }
+{
+    going(
+        targets,
+        known,
+        &WordSet::all(),
+        &address_after(at),
+        known.returning_later(),
+    )
+}
+
+/// Whether one of two is true.
+fn either(a: bool, b: bool) -> bool
+    ensures { result ≡ (a || b) }
+{
+    a || b
+}
+
+/// Whether a cell may hold 7777.
+fn may_wrap(known: &Known<'_>, cell: Word) -> bool
+    ensures { result ≡ narrowed (known_of known.now) (Cell cell) 4095 }
+{
+    known
+        .narrowed(&Name::Cell(cell))
+        .contains(Word::ZERO.complement())
+}
+
+/// Whether a cell may hold another word than 7777.
+fn may_stay(known: &Known<'_>, cell: Word) -> bool
+    ensures { result ≡ has_some (without 4095 (narrowed (known_of known.now) (Cell cell))) }
+{
+    let mut rest = known.narrowed(&Name::Cell(cell));
+    rest.remove(Word::ZERO.complement());
+    !rest.is_empty()
+}
+
+/// Whether some of the cells may hold 7777.
+fn may_some_wrap(known: &Known<'_>, cells: &WordSet) -> bool
+    ensures { result ≡ some_below 4096 (λ y. words cells.now y && narrowed (known_of known.now) (Cell y) 4095) }
+{
+    let mut found = false;
+    let mut next = 0usize;
+    while let Some(cell) = cells.first_from(next) {
+        found = either(found, may_wrap(known, cell));
+        next = cell.index() + 1;
+    }
+    found
+}
+
+/// Whether some of the cells may hold another word than 7777.
+fn may_some_stay(known: &Known<'_>, cells: &WordSet) -> bool
+    ensures { result ≡ some_below 4096
+        (λ y. words cells.now y && has_some (without 4095 (narrowed (known_of known.now) (Cell y)))) }
+{
+    let mut found = false;
+    let mut next = 0usize;
+    while let Some(cell) = cells.first_from(next) {
+        found = either(found, may_stay(known, cell));
+        next = cell.index() + 1;
+    }
+    found
+}
+
+/// ISZ of several variables counts an unknown one of them up.
+pub(crate) fn count_several<'a>(
+    at: Word,
+    known: &Known<'a>,
+    targets: &WordSet,
+) -> (Option<Outcome<'a>>, Option<Outcome<'a>>)
+    requires { IsUnchanged known.now.target }
+    ensures { (place : said.Place) (f : said.Fact) (p : Words) → Agree (known_of known.now) f → SameWords (words targets.now) p →
+        AgreeingOutcomes (slot result.0 ++ slot result.1) (isz_case place at f p None) }
+{
+    let all = WordSet::all();
+    let wraps = may_some_wrap(known, targets);
+    let stays = may_some_stay(known, targets);
+    let skips = going_if(
+        wraps,
+        targets,
+        known,
+        &all,
+        &address_skipped_to(at),
+        known.counted(targets),
+    );
+    let goes_on = going_if(
+        stays,
+        targets,
+        known,
+        &all,
+        &address_after(at),
+        known.counted(targets),
+    );
+    (skips, goes_on)
+}
+
+/// What is known after a sum: with one word added the accumulator's equations move by it, and
+/// otherwise they are dropped.
+fn after_sum<'a>(known: &Known<'a>, added: &Option<Word>, set: WordSet) -> Known<'a>
+    ensures { (f : said.Fact) (v : Words) → Agree (known_of known.now) f → SameWords (words set) (sums (narrowed f Ac) v) →
+        Agree (known_of result) (tad_word f v added.now) }
+{
+    match added {
+        Some(word) => known.raised_to(*word, set),
+        None => known.with_ac(set),
+    }
+}
+
+/// JMS calls each target.
+pub(crate) fn call<'a>(known: &Known<'a>, targets: &WordSet) -> Option<Outcome<'a>>
+    ensures { (f : said.Fact) (p : Words) → Agree (known_of known.now) f → SameWords (words targets.now) p →
+        AgreeingOutcomes (slot result) (given (alive p f everything f) (CallsTo p f)) }
+{
+    calling(targets, known, known.same())
+}
+
+impl<A: Allocator> Place<'_, A> {
+    /// What is known when a reference is made, and its targets: a stepped pointer counts up first.
+    pub(crate) fn reach<'a>(
+        &self,
+        indirect: bool,
+        named: Word,
+        known: &Known<'a>,
+    ) -> (Known<'a>, WordSet)
+        requires pointer { IsUnchanged known.now.pointer }
+        requires target { IsUnchanged known.now.target }
+        ensures known { (f : said.Fact) → Agree (known_of known.now) f → Agree (known_of result.0) (stepped indirect named f) }
+        ensures targets { (f : said.Fact) → Agree (known_of known.now) f →
+            SameWords (words result.1) (targets (place_of self.now) indirect named f) }
+        ensures target { IsUnchanged result.0.target }
+        ensures len { array_vec_len result.0.equations ≤ array_vec_len known.now.equations }
+    {
+        if steps_pointer(indirect, named) {
+            let after = known.stepped(named);
+            let targets = after.set(&Name::Cell(named));
+            return (after, targets);
+        }
+        if indirect {
+            return (known.same(), self.words_in(known, named));
+        }
+        (known.same(), WordSet::one(named))
+    }
+
+    /// AND: all a and v, for the words a of the accumulator and v of the targets.
+    pub(crate) fn combine<'a>(
+        &self,
+        at: Word,
+        known: &Known<'a>,
+        targets: &WordSet,
+    ) -> Option<Outcome<'a>>
+        ensures { (f : said.Fact) (p : Words) → Agree (known_of known.now) f → SameWords (words targets.now) p →
+            AgreeingOutcomes (slot result) (anded (place_of self.now) at f p) }
+    {
+        let ac = known.narrowed(&Name::Accumulator);
+        let seen = self.words_at(known, targets);
+        let after = known.with_ac(ac.ands(&seen));
+        going(targets, known, &WordSet::all(), &address_after(at), after)
+    }
+
+    /// What is known of the accumulator after TAD: of one variable to one word it is their sum.
+    fn after_tad<'a>(
+        &self,
+        known: &Known<'a>,
+        target: &Option<Word>,
+        ac: &Option<Word>,
+        added: &Option<Word>,
+        set: WordSet,
+    ) -> Known<'a>
+        requires { array_vec_len known.now.equations ≤ 32 }
+        ensures { (f : said.Fact) (v : Words) → Agree (known_of known.now) f → SameWords (words set) (sums (narrowed f Ac) v) →
+            Agree (known_of result) (tad_case (place_of self.now) f v target.now ac.now added.now) }
+    {
+        match target {
+            None => after_sum(known, added, set),
+            Some(cell) => match ac {
+                None => after_sum(known, added, set),
+                Some(word) => {
+                    if self.declaration.is_variable(*cell) {
+                        known.summed(*cell, *word, set)
+                    } else {
+                        after_sum(known, added, set)
+                    }
+                }
+            },
+        }
+    }
+
+    /// TAD: all sums, and the link complemented by the carries that occur.
+    pub(crate) fn add<'a>(
+        &self,
+        at: Word,
+        known: &Known<'a>,
+        targets: &WordSet,
+    ) -> Option<Outcome<'a>>
+        requires { array_vec_len known.now.equations ≤ 32 }
+        ensures { (f : said.Fact) (p : Words) → Agree (known_of known.now) f → SameWords (words targets.now) p →
+            AgreeingOutcomes (slot result) (tad (place_of self.now) at f p) }
+    {
+        let ac = known.narrowed(&Name::Accumulator);
+        let seen = self.words_at(known, targets);
+        let (sums, carries) = ac.sums(&seen);
+        let links = known.link.toggled(carries);
+        let sum = self.after_tad(known, &targets.only(), &ac.only(), &seen.only(), sums);
+        going(
+            targets,
+            known,
+            &WordSet::all(),
+            &address_after(at),
+            sum.with_link(links),
+        )
+    }
+
+    /// JMP goes to each target; JMP I through the running routine's own entry returns.
+    pub(crate) fn jump<'a>(
+        &self,
+        indirect: bool,
+        named: Word,
+        known: &Known<'a>,
+        targets: &WordSet,
+    ) -> Option<Outcome<'a>>
+        ensures { (f : said.Fact) (p : Words) → Agree (known_of known.now) f → SameWords (words targets.now) p →
+            AgreeingOutcomes (slot result) (jmp (place_of self.now) indirect named f p) }
+    {
+        if indirect && self.is_own(named) {
+            return returning(targets, known, known.same());
+        }
+        going(targets, known, &WordSet::all(), targets, known.same())
+    }
+
+    /// ISZ: of one variable, of the running routine's own entry, or of one of several variables.
+    pub(crate) fn count<'a>(
+        &self,
+        at: Word,
+        known: &Known<'a>,
+        targets: &WordSet,
+    ) -> (Option<Outcome<'a>>, Option<Outcome<'a>>)
+        requires { IsUnchanged known.now.target }
+        ensures { (f : said.Fact) (p : Words) → Agree (known_of known.now) f → SameWords (words targets.now) p →
+            AgreeingOutcomes (slot result.0 ++ slot result.1) (isz_case (place_of self.now) at f p (only p)) }
+    {
+        match targets.only() {
+            None => count_several(at, known, targets),
+            Some(cell) => {
+                if self.declaration.is_variable(cell) {
+                    return count_one(at, known, targets, cell);
+                }
+                (count_own(at, known, targets, cell), None)
+            }
+        }
+    }
+}

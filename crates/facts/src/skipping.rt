@@ -1,0 +1,160 @@
+//! The outcomes of the words of group 2, which skip by the accumulator and the link.
+
+ghost use Rattle.std.specs.Prelude.{ℕ, ◌≡◌, ◌<◌, ◌==◌, ◌&&◌, not, true, if◌then◌else◌};
+ghost use Rattle.wordset.specs.Words.{Words, SameWords, one};
+ghost use Rattle.wordset.specs.Lanes.{words};
+ghost use Rattle.instruct.specs.Bits.{has_bit};
+ghost use Rattle.instruct.specs.Operates.{any_test_holds, skips_of};
+ghost use Rattle.processor.specs.Machine.{next_pc};
+ghost use Rattle.facts.specs.Facts as said;
+ghost use Rattle.facts.specs.Outcomes.{related2, operated2};
+ghost use Rattle.facts.specs.Same.{Agree, AgreeingOutcomes};
+ghost use Rattle.facts.specs.Meaning.{known_of};
+ghost use Rattle.facts.specs.Slots.{slot};
+
+use crate::known::Known;
+use crate::names::Name;
+use crate::outcome::{Outcome, address_after, address_skipped_to, going_if, has_word};
+use crate::place::union_if;
+use word12::{Link, Word};
+use wordset::{Links, WordSet};
+
+/// Whether a word has SMA, the test for a negative accumulator.
+fn tests_sign(word: Word) -> bool
+    ensures { result ≡ has_bit 6 word }
+{
+    word.value() >> 6 & 1 == 1
+}
+
+/// Whether a word has SZA, the test for 0000.
+fn tests_zero(word: Word) -> bool
+    ensures { result ≡ has_bit 5 word }
+{
+    word.value() >> 5 & 1 == 1
+}
+
+/// Whether a word has SNL and the link is 1.
+fn passes_by_link(word: Word, link: Link) -> bool
+    ensures { result ≡ (has_bit 4 word && (link == 1)) }
+{
+    word.value() >> 4 & 1 == 1 && link.is_set()
+}
+
+/// Whether a word skips where none of its tests holds.
+fn is_reversed(word: Word) -> bool
+    ensures { result ≡ has_bit 3 word }
+{
+    word.value() >> 3 & 1 == 1
+}
+
+/// Whether a word has OSR.
+fn reads_switches(word: Word) -> bool
+    ensures { result ≡ has_bit 2 word }
+{
+    word.value() >> 2 & 1 == 1
+}
+
+/// Whether a word of group 2 has CLA.
+fn clears(word: Word) -> bool
+    ensures { result ≡ has_bit 7 word }
+{
+    word.value() >> 7 & 1 == 1
+}
+
+/// The words of the accumulator for which some test of a word holds.
+fn passing(word: Word, link: Link) -> WordSet
+    ensures { (v : ℕ) → v < 4096 → words result v ≡ any_test_holds word v link }
+{
+    let negative = WordSet::range(Word::from_index(0o4000), Word::from_index(0o7777));
+    let zero = WordSet::one(Word::ZERO);
+    let by_sign = union_if(tests_sign(word), &WordSet::empty(), &negative);
+    let by_words = union_if(tests_zero(word), &by_sign, &zero);
+    union_if(passes_by_link(word, link), &by_words, &WordSet::all())
+}
+
+/// Whether the words for which a test holds are those that skip, or don't.
+fn takes_passing(word: Word, skip: bool) -> bool
+    ensures { result ≡ (if has_bit 3 word then not skip else skip) }
+{
+    if is_reversed(word) { !skip } else { skip }
+}
+
+/// The words of a set that skip, or those that don't.
+fn part(word: Word, link: Link, skip: bool, ac: &WordSet) -> WordSet
+    ensures { (v : ℕ) → v < 4096 → words result v ≡ (words ac.now v && (if skips_of word v link then skip else not skip)) }
+{
+    let passing = passing(word, link);
+    if takes_passing(word, skip) {
+        return ac.meet(&passing);
+    }
+    ac.minus(&passing)
+}
+
+/// The words that CLA leaves.
+fn kept(word: Word, part: WordSet) -> WordSet
+    ensures { SameWords (words result) (if has_bit 7 word then one 0 else words part) }
+{
+    if clears(word) {
+        WordSet::one(Word::ZERO)
+    } else {
+        part
+    }
+}
+
+/// What is known after the test: CLA, then OSR, by which any bits may come in.
+fn after_test<'a>(word: Word, known: &Known<'a>, part: WordSet) -> Known<'a>
+    ensures { (f : said.Fact) (p : Words) → Agree (known_of known.now) f → SameWords (words part) p →
+        Agree (known_of result) (related2 word p f) }
+{
+    if reads_switches(word) {
+        let left = kept(word, part);
+        return known.with_ac(left.or_any(Word::from_index(0o7777)));
+    }
+    if clears(word) {
+        return known.with_ac(WordSet::one(Word::ZERO));
+    }
+    known.same().holding(part)
+}
+
+/// The next address, or the one after it.
+fn next_address(at: Word, skip: bool) -> WordSet
+    ensures { SameWords (words result) (one (next_pc at skip)) }
+{
+    if skip {
+        return address_skipped_to(at);
+    }
+    address_after(at)
+}
+
+/// Whether both are true.
+pub(crate) fn both(a: bool, b: bool) -> bool
+    ensures { result ≡ (a && b) }
+{
+    a && b
+}
+
+/// The words that skip, or those that don't, under one link; then what the word makes of them.
+pub(crate) fn branch<'a>(
+    at: Word,
+    word: Word,
+    known: &Known<'a>,
+    link: Link,
+    skip: bool,
+) -> Option<Outcome<'a>>
+    requires { link < 2 }
+    ensures { (f : said.Fact) → Agree (known_of known.now) f → AgreeingOutcomes (slot result) (operated2 at word f link skip) }
+{
+    let all = WordSet::all();
+    let ac = known.narrowed(&Name::Accumulator);
+    let part = part(word, link, skip, &ac);
+    let linked = known.link.contains(link);
+    let held = has_word(&part);
+    going_if(
+        both(linked, held),
+        &all,
+        known,
+        &all,
+        &next_address(at, skip),
+        after_test(word, known, part).with_link(Links::one(link)),
+    )
+}

@@ -18,3 +18,4 @@ pub mod ReachLemmas
 pub mod RegisterLemmas
 pub mod SkipLemmas
 pub mod DispatchLemmas
+pub mod AskedLemmas

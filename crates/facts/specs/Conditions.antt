@@ -1,5 +1,7 @@
 -- What is asked of one word at the address of a fact before its outcomes are looked at.
-use Rattle.std.specs.Prelude.{◌≡◌, ℕ, ◌<◌, ◌==◌, true, false, ◌&&◌, ◌||◌, ◌⊎◌, Some, None}
+use Rattle.std.specs.Prelude.{◌≡◌, ℕ, ◌<◌, ◌==◌, Bool, true, false, ◌&&◌, ◌||◌, ◌⊎◌, Some, None}
+use Rattle.instruct.specs.declared.Operation.{Operation}
+use Rattle.instruct.specs.declared.Operation.TheVariants as operation
 use Rattle.instruct.specs.Instructions.{Meaning, And, Tad, Isz, Dca, Jms, Jmp}
 use Rattle.wordset.specs.Words.{Words, only}
 use Rattle.declaration.specs.Declaration.{Routine, IsListed}
@@ -28,6 +30,13 @@ may_read pl f (Dca i c) a = i && (a == c)
 may_read pl f (Jms i c) a = i && (a == c)
 may_read pl f (Jmp i c) a = i && (a == c)
 may_read pl f _ a = false
+
+-- AND, TAD and ISZ read their operand.
+abbrev pub reads_operand : Operation → Bool
+reads_operand operation.And = true
+reads_operand operation.Tad = true
+reads_operand operation.Isz = true
+reads_operand _ = false
 
 -- Each cell that the word may write is a variable or an entry.
 abbrev pub WritesAreDeclared : Place → Fact → Meaning → Type 0

@@ -185,6 +185,10 @@ outcomes_of pl f at (Group3 o) = goes everything f everything (one (plus at 1)) 
 outcomes_of pl f at (Device action) = device_outcomes at f action
 outcomes_of pl f at Undefined = []
 
+-- The meaning of a word that stands at an address, on the machine that is declared.
+abbrev pub meaning_at : Place → ℕ → ℕ → Meaning
+meaning_at pl at word = meaning_of pl.declaration.profile at word
+
 -- The outcomes of a word that stands at an address.
 abbrev pub outcomes_at : Place → Fact → ℕ → ℕ → List Outcome
-outcomes_at pl f at word = outcomes_of pl f at (meaning_of pl.declaration.profile at word)
+outcomes_at pl f at word = outcomes_of pl f at (meaning_at pl at word)

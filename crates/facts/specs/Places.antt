@@ -1,10 +1,10 @@
 -- Places as they're kept in code, and what they mean.
-use Rattle.std.specs.Prelude.{Option, Some, None}
+use Rattle.std.specs.Prelude.{ℕ, List, Option, Some, None}
 use Rattle.wordset.specs.Words.{Words, nothing}
 use Rattle.wordset.specs.Lanes.{words}
 use Rattle.peripherals.specs.Loading.{image_of}
 use Rattle.declaration.specs.Declaration.{Routine}
-use Rattle.declaration.specs.Kept.{meaning}
+use Rattle.declaration.specs.Kept.{Kept, meaning}
 use Rattle.facts.specs.Facts as spec
 use Rattle.facts.specs.declared.place.Running.{Running}
 use Rattle.facts.specs.declared.place.Place.{Place}
@@ -31,4 +31,13 @@ place_of p = record {
   declaration = meaning p.declaration.now;
   routine = routine_of p.routine;
   sites = sites_of p.routine;
+}
+
+-- Main of a declared tape, with no call open.
+abbrev pub main_of : List (Option ℕ) → Kept → spec.Place
+main_of image declaration = record {
+  image = image_of image;
+  declaration = meaning declaration;
+  routine = None;
+  sites = nothing;
 }

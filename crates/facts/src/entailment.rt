@@ -6,15 +6,18 @@ ghost use Rattle.wordset.specs.Lanes.{words};
 ghost use Rattle.wordset.specs.Links.{links_of};
 ghost use Rattle.bin_tape.specs.Image.{HoldsWords};
 ghost use Rattle.peripherals.specs.Loading.{image_of};
-ghost use Rattle.facts.specs.Facts.{Place, narrowed, joined, Entails, EntailsOffsets};
+ghost use Rattle.facts.specs.Facts.{narrowed, joined, Entails, EntailsOffsets};
 ghost use Rattle.facts.specs.Starts.{HoldsOfStarts, each_below, has_each, is_always, are_always, holds_before};
 ghost use Rattle.facts.specs.Meaning.{name_of, equation_of, tracked_of, meaning};
+ghost use Rattle.facts.specs.Places.{main_of};
 ghost use Rattle.facts.specs.Showing.{MayStart, AreCells, allows_all};
 
 use crate::fact::{Fact, TrackedCell};
 use crate::known::Known;
 use crate::names::{Equation, Name};
 use bin_tape::Image;
+use declaration::Declaration;
+use std::alloc::Allocator;
 use word12::Word;
 use wordset::{Links, WordSet};
 
@@ -44,13 +47,13 @@ pub fn entails_return(call: &Fact, exit: &Fact, written: &WordSet, after: &Fact)
     Known::after_call(call, exit, written).entails(after)
 }
 
-/// Whether a fact holds of every start of a tape, whatever the accumulator, the link, MQ and the
-/// cells that aren't on the tape hold. It does so whatever is declared.
-pub fn holds_before(fact: &Fact, image: &Image) -> bool
+/// Whether a fact holds of every start of a declared tape, with no call open: whatever the
+/// accumulator, the link, MQ and the cells that aren't on the tape hold.
+pub fn holds_before<A: Allocator>(fact: &Fact, image: &Image, declaration: &Declaration<A>) -> bool
     ensures test { result ≡ holds_before (image_of image.now) (meaning fact.now) }
-    ensures starts { (place : Place) → place.image ≡ image_of image.now → place.routine ≡ None →
-        place.declaration.start < 4096 → IsTrue result ↔ HoldsOfStarts place (meaning fact.now) }
+    ensures starts { IsTrue result ↔ HoldsOfStarts (main_of image.now declaration.now) (meaning fact.now) }
 {
+    declaration.is_declared();
     look_into(*image);
     look_at(fact.cells());
     passes(fact, image)

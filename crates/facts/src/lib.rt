@@ -6,6 +6,7 @@ ghost use Rattle.facts.specs.Starts.{StartLaw};
 ghost use Rattle.facts.specs.Same.{SameLaw};
 
 mod changes;
+mod conditions;
 mod dispatch;
 mod entailment;
 mod equations;
@@ -19,6 +20,7 @@ mod references;
 mod registers;
 mod skipping;
 
+pub use conditions::reads;
 pub use dispatch::{Outcomes, outcomes};
 pub use entailment::{entails, entails_return, holds_before, narrowed};
 pub use fact::{Fact, TrackedCell};

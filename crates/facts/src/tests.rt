@@ -4,6 +4,7 @@
 
 use crate::{Equation, Fact, Name, Offsets, entails, entails_return, holds_before, narrowed};
 use bin_tape::Image;
+use declaration::Declaration;
 use std::test::Fail;
 use word12::{Link, Word};
 use wordset::{Links, WordSet};
@@ -128,22 +129,23 @@ fn a_return_brings_the_exit_and_keeps_what_is_not_written(rt: HostRuntime) -> Re
 
 #[test]
 fn only_the_tape_is_known_at_a_start(rt: HostRuntime) -> Result<(), Fail> {
+    let declared = Declaration::parse(rt.alloc(), b"start 200\nmain 200-202\n")?;
     let mut image = Image::empty();
     image.set(word(0o200)?, word(0o7300)?);
     image.set(word(0o201)?, word(0o7301)?);
     let mut fact = Fact::any();
     fact.track(word(0o200)?, range(0o7300, 0o7300)?);
     fact.relate(related(0o200, 0o201, 0o7777)?);
-    assert!(rt; holds_before(&fact, &image));
+    assert!(rt; holds_before(&fact, &image, &declared));
     // A cell that isn't on the tape may hold any word, and not 0000 alone.
     let mut unset = Fact::any();
     unset.track(word(0o202)?, WordSet::one(Word::ZERO));
-    assert!(rt; !holds_before(&unset, &image));
+    assert!(rt; !holds_before(&unset, &image, &declared));
     let mut cleared = Fact::any();
     cleared.set_mq(range(0, 0o7776)?);
-    assert!(rt; !holds_before(&cleared, &image));
+    assert!(rt; !holds_before(&cleared, &image, &declared));
     cleared.set_mq(WordSet::all());
     cleared.set_link(Links::one(Link::SET));
-    assert!(rt; !holds_before(&cleared, &image));
+    assert!(rt; !holds_before(&cleared, &image, &declared));
     Ok(())
 }

@@ -25,7 +25,7 @@ use word12::Word;
 use wordset::WordSet;
 
 /// Whether a reference steps the pointer in its named cell.
-fn steps_pointer(indirect: bool, named: Word) -> bool
+pub(crate) fn steps_pointer(indirect: bool, named: Word) -> bool
     ensures { result ≡ steps_pointer indirect named }
 {
     indirect && is_auto_index(named)
@@ -108,7 +108,7 @@ pub(crate) fn count_own<'a>(
 }
 
 /// Whether one of two is true.
-fn either(a: bool, b: bool) -> bool
+pub(crate) fn either(a: bool, b: bool) -> bool
     ensures { result ≡ (a || b) }
 {
     a || b

@@ -71,7 +71,8 @@ fn pointer_if(chosen: bool, named: Word) -> WordSet
 impl<A: Allocator> Place<'_, A> {
     /// Whether a word is a memory reference.
     fn is_reference(&self, word: Word) -> bool
-        ensures { (at : ℕ) → IsTrue result ↔ (kind_of (meaning_at (place_of self.now) at word) ≡ Memory) }
+        ensures { (at : ℕ) → IsTrue result ↔ (kind_of (meaning_at (place_of self.now) at word) ≡
+            Memory) }
     {
         matches!(
             decode(word, self.declaration.profile()),
@@ -84,7 +85,8 @@ impl<A: Allocator> Place<'_, A> {
         requires pointer { IsUnchanged known.now.pointer }
         requires target { IsUnchanged known.now.target }
         ensures { (f : said.Fact) → Agree (known_of known.now) f →
-            SameWords (words result) (may_read (place_of self.now) f (meaning_at (place_of self.now) at word)) }
+            SameWords (words result) (may_read (place_of self.now) f
+            (meaning_at (place_of self.now) at word)) }
     {
         if !self.is_reference(word) {
             return WordSet::empty();
@@ -101,7 +103,8 @@ impl<A: Allocator> Place<'_, A> {
         requires pointer { IsUnchanged known.now.pointer }
         requires target { IsUnchanged known.now.target }
         ensures { (f : said.Fact) → Agree (known_of known.now) f →
-            SameWords (words result) (may_write (place_of self.now) f (meaning_at (place_of self.now) at word)) }
+            SameWords (words result) (may_write (place_of self.now) f
+            (meaning_at (place_of self.now) at word)) }
     {
         if !self.is_reference(word) {
             return WordSet::empty();
@@ -119,7 +122,8 @@ impl<A: Allocator> Place<'_, A> {
         requires pointer { IsUnchanged known.now.pointer }
         requires target { IsUnchanged known.now.target }
         ensures { (f : said.Fact) → Agree (known_of known.now) f → (a : ℕ) → a < 4096 →
-            (words result a ≡ true) ↔ CountsItsReturn (place_of self.now) f (meaning_at (place_of self.now) at word) a }
+            (words result a ≡ true) ↔ CountsItsReturn (place_of self.now) f
+            (meaning_at (place_of self.now) at word) a }
     {
         if !self.is_reference(word) {
             return WordSet::empty();
@@ -132,7 +136,8 @@ impl<A: Allocator> Place<'_, A> {
     /// The one cell of a set, where it is chosen and is the running routine's entry.
     fn own_only(&self, chosen: bool, cells: &WordSet) -> WordSet
         ensures { (a : ℕ) → a < 4096 → (words result a ≡ true) ↔
-            ((chosen ≡ true) × ((place_of self.now).routine ≡ Some a) × (only (words cells.now) ≡ Some a)) }
+            ((chosen ≡ true) × ((place_of self.now).routine ≡ Some a) ×
+            (only (words cells.now) ≡ Some a)) }
     {
         match cells.only() {
             None => WordSet::empty(),
@@ -142,7 +147,8 @@ impl<A: Allocator> Place<'_, A> {
 
     /// The entries among some cells.
     fn entries_in(&self, cells: &WordSet) -> WordSet
-        ensures { SameWords (words result) (meet (words cells.now) (place_of self.now).declaration.entry) }
+        ensures { SameWords (words result) (meet (words cells.now)
+            (place_of self.now).declaration.entry) }
     {
         let mut found = WordSet::empty();
         let mut next = 0usize;
@@ -156,7 +162,8 @@ impl<A: Allocator> Place<'_, A> {
     /// Whether each of some cells is a variable or an entry.
     fn are_declared(&self, cells: &WordSet) -> bool
         ensures { IsTrue result ↔ ((a : ℕ) → a < 4096 → words cells.now a ≡ true →
-            ((place_of self.now).declaration.variable a ≡ true) ⊎ ((place_of self.now).declaration.entry a ≡ true)) }
+            ((place_of self.now).declaration.variable a ≡ true) ⊎
+            ((place_of self.now).declaration.entry a ≡ true)) }
     {
         let rest = cells.minus(self.declaration.variables());
         rest.is_subset(&self.entries_in(&rest))
@@ -197,7 +204,8 @@ impl<A: Allocator> Place<'_, A> {
 
     /// Whether a word is of group 2.
     fn is_group_2(&self, word: Word) -> bool
-        ensures { (at : ℕ) → IsTrue result ↔ (kind_of (meaning_at (place_of self.now) at word) ≡ Operate2) }
+        ensures { (at : ℕ) → IsTrue result ↔ (kind_of (meaning_at (place_of self.now) at word) ≡
+            Operate2) }
     {
         matches!(
             decode(word, self.declaration.profile()),
@@ -208,7 +216,8 @@ impl<A: Allocator> Place<'_, A> {
     /// Whether a word that is a HLT stands at a declared halt.
     fn halts_declared(&self, at: Word, word: Word) -> bool
         ensures { IsTrue result ↔
-            HaltsDeclared (place_of self.now).declaration (meaning_at (place_of self.now) at word) at }
+            HaltsDeclared (place_of self.now).declaration (meaning_at (place_of self.now) at word)
+            at }
     {
         if !self.is_group_2(word) {
             return true;
@@ -225,8 +234,10 @@ impl<A: Allocator> Place<'_, A> {
         requires pointer { IsUnchanged known.now.pointer }
         requires target { IsUnchanged known.now.target }
         ensures { (f : said.Fact) → Agree (known_of known.now) f → MatchOption result
-            (KeepsConditions (place_of self.now) (writes_of self.now.routine) f at (meaning_at (place_of self.now) at word))
-            (BreaksFirst (place_of self.now) (writes_of self.now.routine) f at (meaning_at (place_of self.now) at word)) }
+            (KeepsConditions (place_of self.now) (writes_of self.now.routine) f at
+            (meaning_at (place_of self.now) at word))
+            (BreaksFirst (place_of self.now) (writes_of self.now.routine) f at
+            (meaning_at (place_of self.now) at word)) }
     {
         if !self.is_supported(word) {
             return Some(Condition::V3);
@@ -253,7 +264,8 @@ impl<A: Allocator> Place<'_, A> {
 /// reference's pointer, and the operands of AND, TAD and ISZ.
 pub fn reads<A: Allocator>(fact: &Fact, at: Word, word: Word, place: &Place<'_, A>) -> WordSet
     ensures { SameWords (words result)
-        (may_read (place_of place.now) (meaning fact.now) (meaning_at (place_of place.now) at word)) }
+        (may_read (place_of place.now) (meaning fact.now)
+        (meaning_at (place_of place.now) at word)) }
 {
     let known = Known::of(fact);
     place.cells_read(at, word, &known)
@@ -268,7 +280,8 @@ pub fn post<'a, A: Allocator>(
     place: &Place<'_, A>,
 ) -> Result<Outcomes<'a>, Condition>
     ensures outcomes { IfOk result (λ given.
-        AgreeingOutcomes (slots given) (outcomes_at (place_of place.now) (meaning fact.now) at word)) }
+        AgreeingOutcomes (slots given) (outcomes_at (place_of place.now) (meaning fact.now) at
+        word)) }
     ensures kept { OnOk result (KeepsConditions (place_of place.now) (writes_of place.now.routine)
         (meaning fact.now) at (meaning_at (place_of place.now) at word)) }
     ensures broken { IfErr result (BreaksFirst (place_of place.now) (writes_of place.now.routine)

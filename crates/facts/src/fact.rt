@@ -58,6 +58,7 @@ impl Fact {
     pub fn any() -> Fact
         ensures fact { SameFact (meaning result) (with_offsets nothing unknown) }
         ensures cells { (statement_of result).cells ≡ [] }
+        ensures equations { (statement_of result).equations ≡ [] }
     {
         Fact {
             ac: WordSet::all(),

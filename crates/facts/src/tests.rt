@@ -127,25 +127,41 @@ fn a_return_brings_the_exit_and_keeps_what_is_not_written(rt: HostRuntime) -> Re
     Ok(())
 }
 
-#[test]
-fn only_the_tape_is_known_at_a_start(rt: HostRuntime) -> Result<(), Fail> {
+/// Whether a fact holds of every start of two words at 0200.
+fn holds_of_starts(rt: &HostRuntime, fact: &Fact) -> Result<bool, Fail> {
     let declared = Declaration::parse(rt.alloc(), b"start 200\nmain 200-202\n")?;
     let mut image = Image::empty();
     image.set(word(0o200)?, word(0o7300)?);
     image.set(word(0o201)?, word(0o7301)?);
+    Ok(holds_before(fact, &image, &declared))
+}
+
+/// The word at 0200, and that the next one is one more.
+fn two_words() -> Result<Fact, Fail> {
     let mut fact = Fact::any();
     fact.track(word(0o200)?, range(0o7300, 0o7300)?);
     fact.relate(related(0o200, 0o201, 0o7777)?);
-    assert!(rt; holds_before(&fact, &image, &declared));
+    Ok(fact)
+}
+
+#[test]
+fn only_the_tape_is_known_at_a_start(rt: HostRuntime) -> Result<(), Fail> {
+    let fact = two_words()?;
+    assert!(rt; holds_of_starts(&rt, &fact)?);
     // A cell that isn't on the tape may hold any word, and not 0000 alone.
     let mut unset = Fact::any();
     unset.track(word(0o202)?, WordSet::one(Word::ZERO));
-    assert!(rt; !holds_before(&unset, &image, &declared));
-    let mut cleared = Fact::any();
-    cleared.set_mq(range(0, 0o7776)?);
-    assert!(rt; !holds_before(&cleared, &image, &declared));
-    cleared.set_mq(WordSet::all());
-    cleared.set_link(Links::one(Link::SET));
-    assert!(rt; !holds_before(&cleared, &image, &declared));
+    assert!(rt; !holds_of_starts(&rt, &unset)?);
+    Ok(())
+}
+
+#[test]
+fn registers_may_be_anything_at_a_start(rt: HostRuntime) -> Result<(), Fail> {
+    let mut fact = Fact::any();
+    fact.set_mq(range(0, 0o7776)?);
+    assert!(rt; !holds_of_starts(&rt, &fact)?);
+    fact.set_mq(WordSet::all());
+    fact.set_link(Links::one(Link::SET));
+    assert!(rt; !holds_of_starts(&rt, &fact)?);
     Ok(())
 }

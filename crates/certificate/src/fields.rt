@@ -51,7 +51,8 @@ impl<'a> Fields<'a> {
 
     /// Takes a byte, if it's the next one.
     pub fn takes(&mut self, byte: u8) -> bool
-        ensures taken { result ≡ true → IsSomeAnd (left self.new) (λ rest. left self.old ≡ Some (byte ∷ rest)) }
+        ensures taken { result ≡ true → IsSomeAnd (left self.new)
+            (λ rest. left self.old ≡ Some (byte ∷ rest)) }
         ensures kept { result ≡ false → left self.new ≡ left self.old }
         ensures only { (rest : List ℕ) → left self.old ≡ Some (byte ∷ rest) →
             (result ≡ true) × (left self.new ≡ Some rest) }
@@ -90,7 +91,8 @@ impl<'a> Fields<'a> {
     /// A word of four octal digits.
     pub fn word(&mut self) -> Word
         ensures read { WasFirst self.old self.new (octal_text result) }
-        ensures only { (w : ℕ) (rest : List ℕ) → w < 4096 → left self.old ≡ Some (octal_text w ++ rest) →
+        ensures only { (w : ℕ) (rest : List ℕ) → w < 4096 → left self.old ≡
+            Some (octal_text w ++ rest) →
             (result ≡ w) × (left self.new ≡ Some rest) }
     {
         let first = self.digit();
@@ -103,7 +105,8 @@ impl<'a> Fields<'a> {
     /// Some text as it stands here.
     pub fn skip(&mut self, text: &[u8])
         ensures read { WasFirst self.old self.new text.now }
-        ensures only { (rest : List ℕ) → left self.old ≡ Some (text.now ++ rest) → left self.new ≡ Some rest }
+        ensures only { (rest : List ℕ) → left self.old ≡ Some (text.now ++ rest) → left self.new ≡
+            Some rest }
     {
         match self.rest.strip_prefix(text) {
             Some(rest) => self.rest = rest,
@@ -115,7 +118,8 @@ impl<'a> Fields<'a> {
     fn run(&mut self, from: usize) -> (Word, Word)
         ensures read { WasFirst self.old self.new (run_text result.0 result.1) }
         ensures order { IfSome (left self.new) (λ rest. (from ≤ result.0) × (result.0 ≤ result.1)) }
-        ensures only { (low high : ℕ) (rest : List ℕ) → from ≤ low → low ≤ high → high < 4096 → NoDash rest →
+        ensures only { (low high : ℕ) (rest : List ℕ) → from ≤ low → low ≤ high → high < 4096 →
+            NoDash rest →
             left self.old ≡ Some (run_text low high ++ rest) →
             (result.0 ≡ low) × (result.1 ≡ high) × (left self.new ≡ Some rest) }
     {
@@ -155,7 +159,8 @@ impl<'a> Fields<'a> {
     /// A set of words, `-` for the empty one.
     pub fn set(&mut self) -> WordSet
         ensures read { WasFirst self.old self.new (set_text (words result)) }
-        ensures only { (s : Words) (rest : List ℕ) → EndsField rest → left self.old ≡ Some (set_text s ++ rest) →
+        ensures only { (s : Words) (rest : List ℕ) → EndsField rest → left self.old ≡
+            Some (set_text s ++ rest) →
             SameWords (words result) s × (left self.new ≡ Some rest) }
     {
         if self.takes(b'-') {
@@ -180,7 +185,8 @@ impl<'a> Fields<'a> {
         requires { count ≤ 8 }
         ensures read { WasFirst self.old self.new (digits count (offsets_of result)) }
         ensures others { (v : ℕ) → count ≤ v → v < 8 → offsets_of result v ≡ false }
-        ensures only { (s : Words) (rest : List ℕ) → EndsField rest → left self.old ≡ Some (digits count s ++ rest) →
+        ensures only { (s : Words) (rest : List ℕ) → EndsField rest → left self.old ≡
+            Some (digits count s ++ rest) →
             ((v : ℕ) → v < count → offsets_of result v ≡ s v) × (left self.new ≡ Some rest) }
     {
         let mut found = Offsets::none();
@@ -210,7 +216,8 @@ impl<'a> Fields<'a> {
     /// Offsets, `-` where there are none.
     pub fn offsets(&mut self) -> Offsets
         ensures read { WasFirst self.old self.new (offsets_text (offsets_of result)) }
-        ensures only { (s : Words) (rest : List ℕ) → EndsField rest → left self.old ≡ Some (offsets_text s ++ rest) →
+        ensures only { (s : Words) (rest : List ℕ) → EndsField rest → left self.old ≡
+            Some (offsets_text s ++ rest) →
             ((o : ℕ) → o < 8 → offsets_of result o ≡ s o) × (left self.new ≡ Some rest) }
     {
         if self.takes(b'-') {
@@ -227,7 +234,8 @@ impl<'a> Fields<'a> {
     pub fn rank(&mut self) -> usize
         ensures small { result < 64 }
         ensures read { WasFirst self.old self.new (rank_text result) }
-        ensures only { (n : ℕ) (rest : List ℕ) → n < 64 → left self.old ≡ Some (rank_text n ++ rest) →
+        ensures only { (n : ℕ) (rest : List ℕ) → n < 64 → left self.old ≡
+            Some (rank_text n ++ rest) →
             (result ≡ n) × (left self.new ≡ Some rest) }
     {
         let first = self.digit();
@@ -238,7 +246,8 @@ impl<'a> Fields<'a> {
     /// `AC` or a cell's address.
     pub fn name(&mut self) -> Name
         ensures read { WasFirst self.old self.new (name_text (name_of result)) }
-        ensures only { (n : Named) (rest : List ℕ) → place_of_name n < 4097 → left self.old ≡ Some (name_text n ++ rest) →
+        ensures only { (n : Named) (rest : List ℕ) → place_of_name n < 4097 → left self.old ≡
+            Some (name_text n ++ rest) →
             (name_of result ≡ n) × (left self.new ≡ Some rest) }
     {
         if self.takes(b'A') {

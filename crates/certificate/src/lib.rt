@@ -74,8 +74,10 @@ impl<A: Allocator> Certificate<A> {
     /// went out before it.
     pub fn write<W: ByteSink>(&self, sink: &mut W) -> Result<(), WriteFault>
         requires unmarked { W.mark sink.old ≡ false }
-        ensures whole { OnOk result (Appends (W.taken sink.old) (W.taken sink.new) (text_of self.now)) }
-        ensures front { OnErr result (AppendsFront (W.taken sink.old) (W.taken sink.new) (text_of self.now)) }
+        ensures whole { OnOk result (Appends (W.taken sink.old) (W.taken sink.new)
+            (text_of self.now)) }
+        ensures front { OnErr result (AppendsFront (W.taken sink.old) (W.taken sink.new)
+            (text_of self.now)) }
         ensures marks { W.mark sink.new ≡ is_err result }
     {
         match put(sink, &self.text) {

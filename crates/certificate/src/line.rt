@@ -93,7 +93,8 @@ fn read_registers(fields: &mut Fields<'_>, version: Version) -> Registers
 
 /// The line of a routine.
 fn read_routine(version: Version, line: &[u8]) -> Option<Line>
-    ensures read { IfSome result (λ l. IsLine version (said l) × (line.now ≡ line_text version (said l))) }
+    ensures read { IfSome result (λ l. IsLine version (said l) ×
+        (line.now ≡ line_text version (said l))) }
     ensures only { (r : SaidRoutine) → IsRoutine r → line.now ≡ routine_line r →
         IsSomeAnd result (λ l. SameLine (said l) (RoutineIs r)) }
 {
@@ -120,8 +121,10 @@ fn read_routine(version: Version, line: &[u8]) -> Option<Line>
 
 /// The line of a fact.
 fn read_fact(version: Version, line: &[u8]) -> Option<Line>
-    ensures read { IfSome result (λ l. IsLine version (said l) × (line.now ≡ line_text version (said l))) }
-    ensures only { (a : ℕ) (r : SaidRegisters) (offsets : Words) → IsLine version (FactIs a r offsets) →
+    ensures read { IfSome result (λ l. IsLine version (said l) ×
+        (line.now ≡ line_text version (said l))) }
+    ensures only { (a : ℕ) (r : SaidRegisters) (offsets : Words) →
+        IsLine version (FactIs a r offsets) →
         line.now ≡ line_text version (FactIs a r offsets) →
         IsSomeAnd result (λ l. SameLine (said l) (FactIs a r offsets)) }
 {
@@ -140,9 +143,11 @@ fn read_fact(version: Version, line: &[u8]) -> Option<Line>
 
 /// The line of an exit.
 fn read_exit(version: Version, line: &[u8]) -> Option<Line>
-    ensures read { IfSome result (λ l. IsLine version (said l) × (line.now ≡ line_text version (said l))) }
+    ensures read { IfSome result (λ l. IsLine version (said l) ×
+        (line.now ≡ line_text version (said l))) }
     ensures only { (e o : ℕ) (r : SaidRegisters) → IsLine version (ExitIs e o r) →
-        line.now ≡ line_text version (ExitIs e o r) → IsSomeAnd result (λ l. SameLine (said l) (ExitIs e o r)) }
+        line.now ≡ line_text version (ExitIs e o r) →
+        IsSomeAnd result (λ l. SameLine (said l) (ExitIs e o r)) }
 {
     let mut fields = Fields::of(line);
     fields.skip(b"exit ");
@@ -159,7 +164,8 @@ fn read_exit(version: Version, line: &[u8]) -> Option<Line>
 
 /// The line of a tracked cell.
 fn read_cell(version: Version, line: &[u8]) -> Option<Line>
-    ensures read { IfSome result (λ l. IsLine version (said l) × (line.now ≡ line_text version (said l))) }
+    ensures read { IfSome result (λ l. IsLine version (said l) ×
+        (line.now ≡ line_text version (said l))) }
     ensures only { (t : Tracked) → IsTracked t → line.now ≡ cell_line t →
         IsSomeAnd result (λ l. SameLine (said l) (CellIs t)) }
 {
@@ -188,7 +194,8 @@ fn is_before(name: &Name, cell: Word) -> bool
 
 /// The line of an equation.
 fn read_equation(version: Version, line: &[u8]) -> Option<Line>
-    ensures read { IfSome result (λ l. IsLine version (said l) × (line.now ≡ line_text version (said l))) }
+    ensures read { IfSome result (λ l. IsLine version (said l) ×
+        (line.now ≡ line_text version (said l))) }
     ensures only { (e : Equal) → IsEquation e → line.now ≡ equation_line e →
         IsSomeAnd result (λ l. SameLine (said l) (EquationIs e)) }
 {
@@ -208,7 +215,8 @@ fn read_equation(version: Version, line: &[u8]) -> Option<Line>
 
 /// The line of the end.
 fn read_end(version: Version, line: &[u8]) -> Option<Line>
-    ensures read { IfSome result (λ l. IsLine version (said l) × (line.now ≡ line_text version (said l))) }
+    ensures read { IfSome result (λ l. IsLine version (said l) ×
+        (line.now ≡ line_text version (said l))) }
     ensures only { line.now ≡ codes "end" → IsSomeAnd result (λ l. SameLine (said l) End) }
 {
     let mut fields = Fields::of(line);
@@ -222,7 +230,8 @@ fn read_end(version: Version, line: &[u8]) -> Option<Line>
 
 /// What a line says, if it's one of the lines that there are. It's given without its line feed.
 pub fn read_line(version: Version, line: &[u8]) -> Option<Line>
-    ensures read { IfSome result (λ l. IsLine version (said l) × (line.now ≡ line_text version (said l))) }
+    ensures read { IfSome result (λ l. IsLine version (said l) ×
+        (line.now ≡ line_text version (said l))) }
     ensures only { (l : SaidLine) → IsLine version l → line.now ≡ line_text version l →
         IsSomeAnd result (λ m. SameLine (said m) l) }
 {

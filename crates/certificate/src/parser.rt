@@ -65,7 +65,8 @@ impl<A: Allocator> Parser<A> {
         ensures same { self.new.count ≡ self.old.count }
         ensures kept { MatchResult result
             (λ u. (self.new.text.items ≡ self.old.text.items ++ self.old.line.items ++ 10 ∷ []) ×
-            (self.new.line.items ≡ []) × (self.new.progress ≡ Some progress) × (self.new.is_long ≡ false))
+            (self.new.line.items ≡ []) × (self.new.progress ≡ Some progress) ×
+            (self.new.is_long ≡ false))
             (λ e. (e ≡ NoMemory) × (self.new.progress ≡ self.old.progress)) }
     {
         let Ok(()) = self.text.extend_from_slice(&self.line) else {
@@ -87,7 +88,8 @@ impl<A: Allocator> Parser<A> {
         ensures count { self.new.count ≡ self.old.count }
         ensures number { IfSome self.new.progress (λ g. g.number ≤ self.new.count + 2) }
         ensures seen { (bytes : List ℕ) → Seen self.old bytes → length bytes < most_bytes →
-            MatchResult result (λ u. Seen self.new (bytes ++ 10 ∷ [])) (Refuses (bytes ++ 10 ∷ [])) }
+            MatchResult result (λ u. Seen self.new (bytes ++ 10 ∷ []))
+            (Refuses (bytes ++ 10 ∷ [])) }
     {
         match version_of(&self.line) {
             Some(version) if !self.is_long => self.keep(Progress::start(version)),
@@ -103,7 +105,8 @@ impl<A: Allocator> Parser<A> {
         ensures count { self.new.count ≡ self.old.count }
         ensures number { IfSome self.new.progress (λ g. g.number ≤ self.new.count + 2) }
         ensures seen { (bytes : List ℕ) → Seen self.old bytes → length bytes < most_bytes →
-            MatchResult result (λ u. Seen self.new (bytes ++ 10 ∷ [])) (Refuses (bytes ++ 10 ∷ [])) }
+            MatchResult result (λ u. Seen self.new (bytes ++ 10 ∷ []))
+            (Refuses (bytes ++ 10 ∷ [])) }
     {
         if self.is_long {
             return Err(CertificateFault::BadLine(progress.number()));
@@ -121,7 +124,8 @@ impl<A: Allocator> Parser<A> {
         ensures small { IsSmall self.new }
         ensures count { IfOk result (λ u. self.new.count ≡ self.old.count + 1) }
         ensures seen { (bytes : List ℕ) → Seen self.old bytes → self.old.count ≡ length bytes →
-            MatchResult result (λ u. Seen self.new (bytes ++ byte ∷ [])) (Refuses (bytes ++ byte ∷ [])) }
+            MatchResult result (λ u. Seen self.new (bytes ++ byte ∷ []))
+            (Refuses (bytes ++ byte ∷ [])) }
     {
         if self.count == MOST_BYTES {
             return Err(CertificateFault::TooMany);
@@ -145,7 +149,8 @@ impl<A: Allocator> Parser<A> {
     pub fn finish(self) -> Result<Certificate<A>, CertificateFault>
         requires { IsSmall self }
         ensures { (bytes : List ℕ) → Seen self bytes → self.count ≡ length bytes →
-            MatchResult result (λ c. IsText c.version bytes × (c.text.items ≡ bytes)) (HasFault bytes) }
+            MatchResult result (λ c. IsText c.version bytes × (c.text.items ≡ bytes))
+            (HasFault bytes) }
     {
         let Parser {
             text,

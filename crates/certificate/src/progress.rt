@@ -102,14 +102,16 @@ impl Progress {
 
     /// Whether a line may stand here.
     fn may_stand(&self, line: &Line) -> bool
-        ensures { (before : List SaidLine) → Tracks self.now before → result ≡ may_stand before (said line.now) }
+        ensures { (before : List SaidLine) → Tracks self.now before → result ≡
+            may_stand before (said line.now) }
     {
         !self.ended && (!is_detail(line) || self.takes_details)
     }
 
     /// Whether there is room for a line.
     fn has_room(&self, line: &Line) -> bool
-        ensures room { (before : List SaidLine) → Tracks self.now before → IsTrue result ↔ HasRoom before (said line.now) }
+        ensures room { (before : List SaidLine) → Tracks self.now before → IsTrue result ↔
+            HasRoom before (said line.now) }
         ensures fits { result ≡ true → Fits self.now (said line.now) }
     {
         match line {
@@ -138,7 +140,8 @@ impl Progress {
         requires fits { Fits self.old (said line.now) }
         ensures version { self.new.version ≡ self.old.version }
         ensures number { self.new.number ≡ self.old.number + 1 }
-        ensures lines { (before : List SaidLine) → Tracks self.old before → Tracks self.new (said line.now ∷ before) }
+        ensures lines { (before : List SaidLine) → Tracks self.old before →
+            Tracks self.new (said line.now ∷ before) }
     {
         self.number += 1;
         match line {
@@ -160,7 +163,8 @@ impl Progress {
         requires fits { Fits self.old (said line.now) }
         ensures version { self.new.version ≡ self.old.version }
         ensures number { self.new.number ≡ self.old.number }
-        ensures lines { (before : List SaidLine) → TracksOthers self.old before → TracksOthers self.new (said line.now ∷ before) }
+        ensures lines { (before : List SaidLine) → TracksOthers self.old before →
+            TracksOthers self.new (said line.now ∷ before) }
     {
         self.next_head = place_of(line) + 1;
         self.next_detail = 0;

@@ -119,3 +119,6 @@ pub own_end : (sites : Words) (f : Fact) (code offsets : Words) (set : Words) (n
 own_end sites f code offsets set n v e s o h =
     h ∙ ap (λ m. some_below m (λ k. offsets k && code (minus v (k + 1)))) e ∙ ap (λ (x : Words). some_below 8 (λ k. offsets k && x (minus v (k + 1)))) s ∙
     ap (λ (x : Words). some_below 8 (λ k. x k && sites (minus v (k + 1)))) o
+
+pub or_both : {a b c d : Bool} → a ≡ c → b ≡ d → (a || b) ≡ (c || d)
+or_both {a} {b} {c} {d} e f = ap (λ x. x || b) e ∙ ap (λ y. c || y) f

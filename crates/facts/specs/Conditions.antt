@@ -38,6 +38,17 @@ reads_operand operation.Tad = true
 reads_operand operation.Isz = true
 reads_operand _ = false
 
+-- ISZ and DCA store where they refer to.
+abbrev pub stores : Operation → Bool
+stores operation.Isz = true
+stores operation.Dca = true
+stores _ = false
+
+-- ISZ counts up.
+abbrev pub counts : Operation → Bool
+counts operation.Isz = true
+counts _ = false
+
 -- Each cell that the word may write is a variable or an entry.
 abbrev pub WritesAreDeclared : Place → Fact → Meaning → Type 0
 WritesAreDeclared pl f m =

@@ -85,7 +85,8 @@ impl<'a> Known<'a> {
     /// After a cell took some word of a set.
     pub(crate) fn with_cell(&self, cell: Word, set: WordSet) -> Known<'a>
         requires { IsUnchanged self.now.target }
-        ensures same { Agree (known_of result) (assigned (Cell cell) (words set) (known_of self.now)) }
+        ensures same { Agree (known_of result)
+            (assigned (Cell cell) (words set) (known_of self.now)) }
         ensures len { array_vec_len result.equations ≤ array_vec_len self.now.equations }
     {
         Known {
@@ -104,7 +105,8 @@ impl<'a> Known<'a> {
     pub(crate) fn counted(&self, cells: &WordSet) -> Known<'a>
         requires { IsUnchanged self.now.target }
         ensures same { Agree (known_of result)
-            (smeared (words cells.now) (λ y. shifted ((known_of self.now).set (Cell y)) 1) (known_of self.now)) }
+            (smeared (words cells.now) (λ y. shifted ((known_of self.now).set (Cell y)) 1)
+            (known_of self.now)) }
         ensures len { array_vec_len result.equations ≤ array_vec_len self.now.equations }
     {
         Known {
@@ -122,7 +124,8 @@ impl<'a> Known<'a> {
     /// After one of some cells, unknown which, took some word of a set.
     pub(crate) fn stored(&self, cells: &WordSet, set: WordSet) -> Known<'a>
         requires { IsUnchanged self.now.target }
-        ensures same { Agree (known_of result) (smeared (words cells.now) (λ y. words set) (known_of self.now)) }
+        ensures same { Agree (known_of result)
+            (smeared (words cells.now) (λ y. words set) (known_of self.now)) }
         ensures len { array_vec_len result.equations ≤ array_vec_len self.now.equations }
     {
         Known {
@@ -225,7 +228,8 @@ impl<'a> Known<'a> {
     /// After the running routine's return word went up by one.
     pub(crate) fn returning_later(&self) -> Known<'a>
         ensures { Agree (known_of result)
-            (with_offsets (λ o. if o == 0 then false else (known_of self.now).offsets (o - 1)) (known_of self.now)) }
+            (with_offsets (λ o. if o == 0 then false else (known_of self.now).offsets (o - 1))
+            (known_of self.now)) }
     {
         Known {
             base: self.base,
@@ -241,7 +245,8 @@ impl<'a> Known<'a> {
 
     /// After the accumulator's word went up by k, where these words of it are left.
     pub(crate) fn raised_to(&self, k: Word, set: WordSet) -> Known<'a>
-        ensures { Agree (known_of result) (with_name Ac (words set) (moved Ac k (known_of self.now))) }
+        ensures { Agree (known_of result) (with_name Ac (words set)
+            (moved Ac k (known_of self.now))) }
     {
         self.raised_ac(k).holding(set)
     }
@@ -251,7 +256,8 @@ impl<'a> Known<'a> {
     pub(crate) fn summed(&self, cell: Word, more: Word, set: WordSet) -> Known<'a>
         requires { array_vec_len self.now.equations ≤ 32 }
         ensures { Agree (known_of result) (with_equations
-            (record { left = Ac; right = Cell cell; more = more } ∷ []) (assigned Ac (words set) (known_of self.now))) }
+            (record { left = Ac; right = Cell cell; more = more } ∷ [])
+            (assigned Ac (words set) (known_of self.now))) }
     {
         let mut first = ArrayVec::new();
         first.push(Equation {
@@ -265,7 +271,8 @@ impl<'a> Known<'a> {
     /// With further equations.
     fn told(&self, more: Equations) -> Known<'a>
         requires { array_vec_len more + array_vec_len self.now.equations ≤ 64 }
-        ensures { Agree (known_of result) (with_equations (map equation_of more.items) (known_of self.now)) }
+        ensures { Agree (known_of result) (with_equations (map equation_of more.items)
+            (known_of self.now)) }
     {
         Known {
             base: self.base,
@@ -284,7 +291,8 @@ impl<'a> Known<'a> {
         requires target { IsUnchanged self.now.target }
         requires room { array_vec_len self.now.equations ≤ 32 }
         ensures { Agree (known_of result) (assigned Ac (one 0)
-            (with_equations (copied cell (known_of self.now).equations) (assigned (Cell cell) (words set) (known_of self.now)))) }
+            (with_equations (copied cell (known_of self.now).equations)
+            (assigned (Cell cell) (words set) (known_of self.now)))) }
     {
         let put = self.with_cell(cell, set);
         let told = put.told(copies(cell, &self.equations));

@@ -35,14 +35,16 @@ fn nowhere<'a>() -> Outcomes<'a>
 
 /// One outcome, if it is there.
 fn one<'a>(outcome: Option<Outcome<'a>>) -> Outcomes<'a>
-    ensures { (given : List told.Outcome) → AgreeingOutcomes (slot outcome.entry) given → AgreeingOutcomes (slots result) given }
+    ensures { (given : List told.Outcome) → AgreeingOutcomes (slot outcome.entry) given →
+        AgreeingOutcomes (slots result) given }
 {
     [outcome, None, None, None]
 }
 
 /// Two outcomes, so far as they are there.
 fn two<'a>(outcomes: (Option<Outcome<'a>>, Option<Outcome<'a>>)) -> Outcomes<'a>
-    ensures { (given : List told.Outcome) → AgreeingOutcomes (slot outcomes.entry.0 ++ slot outcomes.entry.1) given →
+    ensures { (given : List told.Outcome) → AgreeingOutcomes
+        (slot outcomes.entry.0 ++ slot outcomes.entry.1) given →
         AgreeingOutcomes (slots result) given }
 {
     let (first, second) = outcomes;
@@ -51,7 +53,8 @@ fn two<'a>(outcomes: (Option<Outcome<'a>>, Option<Outcome<'a>>)) -> Outcomes<'a>
 
 /// The outcomes of a word of group 2: each link by itself, with and without a skip.
 fn branches<'a>(at: Word, word: Word, known: &Known<'a>) -> Outcomes<'a>
-    ensures { (f : said.Fact) → Agree (known_of known.now) f → AgreeingOutcomes (slots result) (all_operated2 at word f) }
+    ensures { (f : said.Fact) → Agree (known_of known.now) f →
+        AgreeingOutcomes (slots result) (all_operated2 at word f) }
 {
     [
         branch(at, word, known, Link::CLEAR, true),
@@ -68,7 +71,8 @@ impl<A: Allocator> Place<'_, A> {
         requires target { IsUnchanged known.now.target }
         requires room { array_vec_len known.now.equations ≤ 32 }
         ensures { (f : said.Fact) → Agree (known_of known.now) f →
-            AgreeingOutcomes (slots result) (outcomes_of (place_of self.now) f at (reference_at (operation_of word) word at)) }
+            AgreeingOutcomes (slots result) (outcomes_of (place_of self.now) f at
+            (reference_at (operation_of word) word at)) }
     {
         let indirect = refers_indirectly(word);
         let named = target(word, at);
@@ -97,7 +101,8 @@ impl<A: Allocator> Place<'_, A> {
     /// The outcomes of a device word.
     fn transfer<'a>(&self, at: Word, word: Word, known: &Known<'a>) -> Outcomes<'a>
         requires { kind_of (meaning_of (place_of self.now).declaration.profile at word) ≡ Iot }
-        ensures { (f : said.Fact) → Agree (known_of known.now) f → AgreeingOutcomes (slots result) (outcomes_at (place_of self.now) f at word) }
+        ensures { (f : said.Fact) → Agree (known_of known.now) f →
+            AgreeingOutcomes (slots result) (outcomes_at (place_of self.now) f at word) }
     {
         match DeviceOperation::of(word, self.declaration.profile()) {
             Some(operation) => two(transfer(at, operation, known)),
@@ -110,7 +115,8 @@ impl<A: Allocator> Place<'_, A> {
         requires pointer { IsUnchanged known.now.pointer }
         requires target { IsUnchanged known.now.target }
         requires room { array_vec_len known.now.equations ≤ 32 }
-        ensures { (f : said.Fact) → Agree (known_of known.now) f → AgreeingOutcomes (slots result) (outcomes_at (place_of self.now) f at word) }
+        ensures { (f : said.Fact) → Agree (known_of known.now) f →
+            AgreeingOutcomes (slots result) (outcomes_at (place_of self.now) f at word) }
     {
         match decode(word, self.declaration.profile()) {
             Instruction::Memory => self.refer(at, word, known),
@@ -132,7 +138,8 @@ pub fn outcomes<'a, A: Allocator>(
     word: Word,
     place: &Place<'_, A>,
 ) -> Outcomes<'a>
-    ensures { AgreeingOutcomes (slots result) (outcomes_at (place_of place.now) (meaning fact.now) at word) }
+    ensures { AgreeingOutcomes (slots result)
+        (outcomes_at (place_of place.now) (meaning fact.now) at word) }
 {
     let known = Known::of(fact);
     place.outcomes(at, word, &known)

@@ -41,7 +41,8 @@ pub fn entails(a: &Fact, b: &Fact) -> bool
 /// cells that are written in between, the caller's of all others.
 pub fn entails_return(call: &Fact, exit: &Fact, written: &WordSet, after: &Fact) -> bool
     ensures { IsTrue result ↔
-        (Entails (joined (meaning call.now) (meaning exit.now) (words written.now)) (meaning after.now) ×
+        (Entails (joined (meaning call.now) (meaning exit.now) (words written.now))
+        (meaning after.now) ×
         EntailsOffsets (meaning call.now) (meaning after.now)) }
 {
     Known::after_call(call, exit, written).entails(after)
@@ -51,7 +52,8 @@ pub fn entails_return(call: &Fact, exit: &Fact, written: &WordSet, after: &Fact)
 /// accumulator, the link, MQ and the cells that aren't on the tape hold.
 pub fn holds_before<A: Allocator>(fact: &Fact, image: &Image, declaration: &Declaration<A>) -> bool
     ensures test { result ≡ holds_before (image_of image.now) (meaning fact.now) }
-    ensures starts { IsTrue result ↔ HoldsOfStarts (main_of image.now declaration.now) (meaning fact.now) }
+    ensures starts { IsTrue result ↔ HoldsOfStarts (main_of image.now declaration.now)
+        (meaning fact.now) }
 {
     declaration.is_declared();
     look_into(*image);

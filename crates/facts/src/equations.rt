@@ -59,7 +59,8 @@ pub(crate) fn copy(equations: &[Equation]) -> Equations
 /// The equations after the word of a name went up by k.
 pub(crate) fn raised(name: &Name, k: Word, equations: &[Equation]) -> Equations
     requires { length equations.now ≤ 64 }
-    ensures list { map equation_of result.items ≡ moved_equations (name_of name.now) k (map equation_of equations.now) }
+    ensures list { map equation_of result.items ≡
+        moved_equations (name_of name.now) k (map equation_of equations.now) }
     ensures len { array_vec_len result ≤ length equations.now }
 {
     let mut list = ArrayVec::new();

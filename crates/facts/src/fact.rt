@@ -132,7 +132,8 @@ impl Fact {
 
     /// Lets the accumulator hold these words.
     pub fn set_accumulator(&mut self, set: WordSet)
-        ensures statement { statement_of self.new ≡ record (statement_of self.old) { ac = words set } }
+        ensures statement { statement_of self.new ≡
+            record (statement_of self.old) { ac = words set } }
         ensures offsets { offsets_of self.new.offsets ≡ offsets_of self.old.offsets }
     {
         self.ac = set;
@@ -140,7 +141,8 @@ impl Fact {
 
     /// Lets MQ hold these words.
     pub fn set_mq(&mut self, set: WordSet)
-        ensures statement { statement_of self.new ≡ record (statement_of self.old) { mq = words set } }
+        ensures statement { statement_of self.new ≡
+            record (statement_of self.old) { mq = words set } }
         ensures offsets { offsets_of self.new.offsets ≡ offsets_of self.old.offsets }
     {
         self.mq = set;
@@ -148,7 +150,8 @@ impl Fact {
 
     /// Lets the link be one of these.
     pub fn set_link(&mut self, links: Links)
-        ensures statement { statement_of self.new ≡ record (statement_of self.old) { link = links_of links } }
+        ensures statement { statement_of self.new ≡
+            record (statement_of self.old) { link = links_of links } }
         ensures offsets { offsets_of self.new.offsets ≡ offsets_of self.old.offsets }
     {
         self.link = links;

@@ -152,7 +152,8 @@ impl Known<'_> {
     /// The words of a set that an equation leaves to a name.
     #[tactic(auto, using(crate::proofs::EntailLemmas::back_twice))]
     fn met(&self, name: &Name, equation: &Equation, set: WordSet) -> WordSet
-        ensures { Meets (known_of self.now) (name_of name.now) (equation_of equation.now) (words set) (words result) }
+        ensures { Meets (known_of self.now) (name_of name.now) (equation_of equation.now)
+            (words set) (words result) }
     {
         let left = if is_same_name(&equation.left, name) {
             self.set(&Name::Cell(equation.right))
@@ -248,7 +249,8 @@ impl Known<'_> {
     /// Whether what is known entails a fact.
     pub fn entails(&self, fact: &Fact) -> bool
         ensures { IsTrue result ↔
-            (Entails (known_of self.now) (meaning fact.now) × EntailsOffsets (known_of self.now) (meaning fact.now)) }
+            (Entails (known_of self.now) (meaning fact.now) ×
+            EntailsOffsets (known_of self.now) (meaning fact.now)) }
     {
         if !self.entails_registers(fact) {
             return false;
@@ -300,7 +302,8 @@ impl<'a> Known<'a> {
     /// What is known after a call: of the cells that the routine writes what its exit says, and of
     /// the others what the caller knew.
     pub fn after_call(call: &'a Fact, exit: &'a Fact, written: &'a WordSet) -> Known<'a>
-        ensures { Agree (known_of result) (joined (meaning call.now) (meaning exit.now) (words written.now)) }
+        ensures { Agree (known_of result) (joined (meaning call.now) (meaning exit.now)
+            (words written.now)) }
     {
         Known {
             base: Source::Joined(call, exit, written),

@@ -20,7 +20,7 @@ mod references;
 mod registers;
 mod skipping;
 
-pub use conditions::reads;
+pub use conditions::{post, reads};
 pub use dispatch::{Outcomes, outcomes};
 pub use entailment::{entails, entails_return, holds_before, narrowed};
 pub use fact::{Fact, TrackedCell};

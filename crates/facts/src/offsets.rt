@@ -56,7 +56,8 @@ impl Offsets {
 
     /// Whether each offset is among the others.
     pub fn is_subset(self, other: Offsets) -> bool
-        ensures { IsTrue result ↔ ((o : ℕ) → o < 8 → offsets_of self o ≡ true → offsets_of other o ≡ true) }
+        ensures { IsTrue result ↔ ((o : ℕ) → o < 8 → offsets_of self o ≡ true →
+            offsets_of other o ≡ true) }
     {
         for o in 0..8usize {
             if self.known[o] && !other.known[o] {

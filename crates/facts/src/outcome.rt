@@ -59,7 +59,8 @@ fn are_all(a: bool, b: bool, c: bool, d: bool, e: bool, f: bool) -> bool
 /// Whether the targets, the old accumulator, the new one, MQ, the link and the changed cell each
 /// have a word.
 fn is_alive(targets: &WordSet, before: &Known<'_>, changed: &WordSet, after: &Known<'_>) -> bool
-    ensures { result ≡ alive (words targets.now) (known_of before.now) (words changed.now) (known_of after.now) }
+    ensures { result ≡ alive (words targets.now) (known_of before.now) (words changed.now)
+        (known_of after.now) }
 {
     let targeted = has_word(targets);
     let held = has_accumulator(before);
@@ -78,8 +79,10 @@ pub(crate) fn going<'a>(
     next: &WordSet,
     after: Known<'a>,
 ) -> Option<Outcome<'a>>
-    ensures { (p changes nexts : Words) (f h : Fact) → SameWords (words targets.now) p → Agree (known_of before.now) f →
-        SameWords (words changed.now) changes → SameWords (words next.now) nexts → Agree (known_of after.entry) h →
+    ensures { (p changes nexts : Words) (f h : Fact) → SameWords (words targets.now) p →
+        Agree (known_of before.now) f →
+        SameWords (words changed.now) changes → SameWords (words next.now) nexts →
+        Agree (known_of after.entry) h →
         AgreeingOutcomes (slot result) (goes p f changes nexts h) }
 {
     if is_alive(targets, before, changed, &after) {
@@ -98,8 +101,10 @@ pub(crate) fn going_if<'a>(
     next: &WordSet,
     after: Known<'a>,
 ) -> Option<Outcome<'a>>
-    ensures { (p changes nexts : Words) (f h : Fact) → SameWords (words targets.now) p → Agree (known_of before.now) f →
-        SameWords (words changed.now) changes → SameWords (words next.now) nexts → Agree (known_of after.entry) h →
+    ensures { (p changes nexts : Words) (f h : Fact) → SameWords (words targets.now) p →
+        Agree (known_of before.now) f →
+        SameWords (words changed.now) changes → SameWords (words next.now) nexts →
+        Agree (known_of after.entry) h →
         AgreeingOutcomes (slot result) (given (chosen && alive p f changes h) (Goes nexts h)) }
 {
     if chosen {
@@ -115,7 +120,8 @@ pub(crate) fn calling<'a>(
     before: &Known<'_>,
     after: Known<'a>,
 ) -> Option<Outcome<'a>>
-    ensures { (p : Words) (f h : Fact) → SameWords (words targets.now) p → Agree (known_of before.now) f → Agree (known_of after.entry) h →
+    ensures { (p : Words) (f h : Fact) → SameWords (words targets.now) p →
+        Agree (known_of before.now) f → Agree (known_of after.entry) h →
         AgreeingOutcomes (slot result) (given (alive p f everything h) (CallsTo p h)) }
 {
     if is_alive(targets, before, &WordSet::all(), &after) {
@@ -131,7 +137,8 @@ pub(crate) fn returning<'a>(
     before: &Known<'_>,
     after: Known<'a>,
 ) -> Option<Outcome<'a>>
-    ensures { (p : Words) (f h : Fact) → SameWords (words targets.now) p → Agree (known_of before.now) f → Agree (known_of after.entry) h →
+    ensures { (p : Words) (f h : Fact) → SameWords (words targets.now) p →
+        Agree (known_of before.now) f → Agree (known_of after.entry) h →
         AgreeingOutcomes (slot result) (given (alive p f everything h) (Returns h)) }
 {
     if is_alive(targets, before, &WordSet::all(), &after) {

@@ -81,7 +81,8 @@ impl<A: Allocator> Place<'_, A> {
 
     /// The words that the running routine's entry may hold: a site, one more, and an offset.
     fn own_words(&self, known: &Known<'_>) -> WordSet
-        ensures { SameWords (words result) (own_words (place_of self.now).sites (known_of known.now)) }
+        ensures { SameWords (words result) (own_words (place_of self.now).sites
+            (known_of known.now)) }
     {
         let sites = self.sites();
         let offsets = known.offsets();
@@ -99,7 +100,8 @@ impl<A: Allocator> Place<'_, A> {
     /// The words that a cell may hold: a variable's narrowed set, the running routine's own return
     /// words, any word in another entry, else the tape's word.
     pub(crate) fn words_in(&self, known: &Known<'_>, cell: Word) -> WordSet
-        ensures { SameWords (words result) (words_in (place_of self.now) (known_of known.now) cell) }
+        ensures { SameWords (words result) (words_in (place_of self.now) (known_of known.now)
+            cell) }
     {
         if self.declaration.is_variable(cell) {
             return known.narrowed(&Name::Cell(cell));

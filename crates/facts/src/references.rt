@@ -25,7 +25,7 @@ use word12::Word;
 use wordset::WordSet;
 
 /// Whether a reference steps the pointer in its named cell.
-fn steps_pointer(indirect: bool, named: Word) -> bool
+pub(crate) fn steps_pointer(indirect: bool, named: Word) -> bool
     ensures { result ≡ steps_pointer indirect named }
 {
     indirect && is_auto_index(named)
@@ -36,7 +36,8 @@ fn steps_pointer(indirect: bool, named: Word) -> bool
 pub(crate) fn deposit<'a>(at: Word, known: &Known<'a>, targets: &WordSet) -> Option<Outcome<'a>>
     requires target { IsUnchanged known.now.target }
     requires room { array_vec_len known.now.equations ≤ 32 }
-    ensures { (place : said.Place) (f : said.Fact) (p : Words) → Agree (known_of known.now) f → SameWords (words targets.now) p →
+    ensures { (place : said.Place) (f : said.Fact) (p : Words) → Agree (known_of known.now) f →
+        SameWords (words targets.now) p →
         AgreeingOutcomes (slot result) (dca_case place at f p (only p)) }
 {
     let ac = known.narrowed(&Name::Accumulator);
@@ -61,7 +62,8 @@ pub(crate) fn count_one<'a>(
     cell: Word,
 ) -> (Option<Outcome<'a>>, Option<Outcome<'a>>)
     requires { IsUnchanged known.now.target }
-    ensures { (place : said.Place) (f : said.Fact) (p : Words) → place.declaration.variable cell ≡ true →
+    ensures { (place : said.Place) (f : said.Fact) (p : Words) → place.declaration.variable cell ≡
+        true →
         Agree (known_of known.now) f → SameWords (words targets.now) p →
         AgreeingOutcomes (slot result.0 ++ slot result.1) (isz_case place at f p (Some cell)) }
 {
@@ -94,7 +96,8 @@ pub(crate) fn count_own<'a>(
     targets: &WordSet,
     cell: Word,
 ) -> Option<Outcome<'a>>
-    ensures { (place : said.Place) (f : said.Fact) (p : Words) → place.declaration.variable cell ≡ false →
+    ensures { (place : said.Place) (f : said.Fact) (p : Words) → place.declaration.variable cell ≡
+        false →
         Agree (known_of known.now) f → SameWords (words targets.now) p →
         AgreeingOutcomes (slot result) (isz_case place at f p (Some cell)) }
 {
@@ -108,7 +111,7 @@ pub(crate) fn count_own<'a>(
 }
 
 /// Whether one of two is true.
-fn either(a: bool, b: bool) -> bool
+pub(crate) fn either(a: bool, b: bool) -> bool
     ensures { result ≡ (a || b) }
 {
     a || b
@@ -134,7 +137,8 @@ fn may_stay(known: &Known<'_>, cell: Word) -> bool
 
 /// Whether some of the cells may hold 7777.
 fn may_some_wrap(known: &Known<'_>, cells: &WordSet) -> bool
-    ensures { result ≡ some_below 4096 (λ y. words cells.now y && narrowed (known_of known.now) (Cell y) 4095) }
+    ensures { result ≡ some_below 4096 (λ y. words cells.now y &&
+        narrowed (known_of known.now) (Cell y) 4095) }
 {
     let mut found = false;
     let mut next = 0usize;
@@ -148,7 +152,8 @@ fn may_some_wrap(known: &Known<'_>, cells: &WordSet) -> bool
 /// Whether some of the cells may hold another word than 7777.
 fn may_some_stay(known: &Known<'_>, cells: &WordSet) -> bool
     ensures { result ≡ some_below 4096
-        (λ y. words cells.now y && has_some (without 4095 (narrowed (known_of known.now) (Cell y)))) }
+        (λ y. words cells.now y && has_some (without 4095
+        (narrowed (known_of known.now) (Cell y)))) }
 {
     let mut found = false;
     let mut next = 0usize;
@@ -166,7 +171,8 @@ pub(crate) fn count_several<'a>(
     targets: &WordSet,
 ) -> (Option<Outcome<'a>>, Option<Outcome<'a>>)
     requires { IsUnchanged known.now.target }
-    ensures { (place : said.Place) (f : said.Fact) (p : Words) → Agree (known_of known.now) f → SameWords (words targets.now) p →
+    ensures { (place : said.Place) (f : said.Fact) (p : Words) → Agree (known_of known.now) f →
+        SameWords (words targets.now) p →
         AgreeingOutcomes (slot result.0 ++ slot result.1) (isz_case place at f p None) }
 {
     let all = WordSet::all();
@@ -194,7 +200,8 @@ pub(crate) fn count_several<'a>(
 /// What is known after a sum: with one word added the accumulator's equations move by it, and
 /// otherwise they are dropped.
 fn after_sum<'a>(known: &Known<'a>, added: &Option<Word>, set: WordSet) -> Known<'a>
-    ensures { (f : said.Fact) (v : Words) → Agree (known_of known.now) f → SameWords (words set) (sums (narrowed f Ac) v) →
+    ensures { (f : said.Fact) (v : Words) → Agree (known_of known.now) f →
+        SameWords (words set) (sums (narrowed f Ac) v) →
         Agree (known_of result) (tad_word f v added.now) }
 {
     match added {
@@ -205,7 +212,8 @@ fn after_sum<'a>(known: &Known<'a>, added: &Option<Word>, set: WordSet) -> Known
 
 /// JMS calls each target.
 pub(crate) fn call<'a>(known: &Known<'a>, targets: &WordSet) -> Option<Outcome<'a>>
-    ensures { (f : said.Fact) (p : Words) → Agree (known_of known.now) f → SameWords (words targets.now) p →
+    ensures { (f : said.Fact) (p : Words) → Agree (known_of known.now) f →
+        SameWords (words targets.now) p →
         AgreeingOutcomes (slot result) (given (alive p f everything f) (CallsTo p f)) }
 {
     calling(targets, known, known.same())
@@ -221,7 +229,8 @@ impl<A: Allocator> Place<'_, A> {
     ) -> (Known<'a>, WordSet)
         requires pointer { IsUnchanged known.now.pointer }
         requires target { IsUnchanged known.now.target }
-        ensures known { (f : said.Fact) → Agree (known_of known.now) f → Agree (known_of result.0) (stepped indirect named f) }
+        ensures known { (f : said.Fact) → Agree (known_of known.now) f →
+            Agree (known_of result.0) (stepped indirect named f) }
         ensures targets { (f : said.Fact) → Agree (known_of known.now) f →
             SameWords (words result.1) (targets (place_of self.now) indirect named f) }
         ensures target { IsUnchanged result.0.target }
@@ -245,7 +254,8 @@ impl<A: Allocator> Place<'_, A> {
         known: &Known<'a>,
         targets: &WordSet,
     ) -> Option<Outcome<'a>>
-        ensures { (f : said.Fact) (p : Words) → Agree (known_of known.now) f → SameWords (words targets.now) p →
+        ensures { (f : said.Fact) (p : Words) → Agree (known_of known.now) f →
+            SameWords (words targets.now) p →
             AgreeingOutcomes (slot result) (anded (place_of self.now) at f p) }
     {
         let ac = known.narrowed(&Name::Accumulator);
@@ -264,7 +274,8 @@ impl<A: Allocator> Place<'_, A> {
         set: WordSet,
     ) -> Known<'a>
         requires { array_vec_len known.now.equations ≤ 32 }
-        ensures { (f : said.Fact) (v : Words) → Agree (known_of known.now) f → SameWords (words set) (sums (narrowed f Ac) v) →
+        ensures { (f : said.Fact) (v : Words) → Agree (known_of known.now) f →
+            SameWords (words set) (sums (narrowed f Ac) v) →
             Agree (known_of result) (tad_case (place_of self.now) f v target.now ac.now added.now) }
     {
         match target {
@@ -290,7 +301,8 @@ impl<A: Allocator> Place<'_, A> {
         targets: &WordSet,
     ) -> Option<Outcome<'a>>
         requires { array_vec_len known.now.equations ≤ 32 }
-        ensures { (f : said.Fact) (p : Words) → Agree (known_of known.now) f → SameWords (words targets.now) p →
+        ensures { (f : said.Fact) (p : Words) → Agree (known_of known.now) f →
+            SameWords (words targets.now) p →
             AgreeingOutcomes (slot result) (tad (place_of self.now) at f p) }
     {
         let ac = known.narrowed(&Name::Accumulator);
@@ -315,7 +327,8 @@ impl<A: Allocator> Place<'_, A> {
         known: &Known<'a>,
         targets: &WordSet,
     ) -> Option<Outcome<'a>>
-        ensures { (f : said.Fact) (p : Words) → Agree (known_of known.now) f → SameWords (words targets.now) p →
+        ensures { (f : said.Fact) (p : Words) → Agree (known_of known.now) f →
+            SameWords (words targets.now) p →
             AgreeingOutcomes (slot result) (jmp (place_of self.now) indirect named f p) }
     {
         if indirect && self.is_own(named) {
@@ -332,8 +345,10 @@ impl<A: Allocator> Place<'_, A> {
         targets: &WordSet,
     ) -> (Option<Outcome<'a>>, Option<Outcome<'a>>)
         requires { IsUnchanged known.now.target }
-        ensures { (f : said.Fact) (p : Words) → Agree (known_of known.now) f → SameWords (words targets.now) p →
-            AgreeingOutcomes (slot result.0 ++ slot result.1) (isz_case (place_of self.now) at f p (only p)) }
+        ensures { (f : said.Fact) (p : Words) → Agree (known_of known.now) f →
+            SameWords (words targets.now) p →
+            AgreeingOutcomes (slot result.0 ++ slot result.1)
+            (isz_case (place_of self.now) at f p (only p)) }
     {
         match targets.only() {
             None => count_several(at, known, targets),

@@ -55,7 +55,8 @@ fn increments(word: Word) -> bool
 /// What is known of the accumulator's equations after a word of group 1: with IAC alone they move
 /// by one.
 fn related<'a>(word: Word, known: &Known<'a>) -> Known<'a>
-    ensures { (f : said.Fact) → Agree (known_of known.now) f → Agree (known_of result) (related1 word f) }
+    ensures { (f : said.Fact) → Agree (known_of known.now) f →
+        Agree (known_of result) (related1 word f) }
 {
     if changes_accumulator(word) {
         return known.with_ac(WordSet::all());
@@ -70,7 +71,8 @@ fn related<'a>(word: Word, known: &Known<'a>) -> Known<'a>
 pub(crate) fn operate<'a>(at: Word, word: Word, known: &Known<'a>) -> Option<Outcome<'a>>
     requires { instruction_of Pdp8E word ≡ Operate1 }
     ensures { (f : said.Fact) → Agree (known_of known.now) f →
-        AgreeingOutcomes (slot result) (goes everything f everything (one (plus at 1)) (operated1 word f)) }
+        AgreeingOutcomes (slot result) (goes everything f everything (one (plus at 1))
+        (operated1 word f)) }
 {
     let ac = known.narrowed(&Name::Accumulator);
     let (images, links) = ac.map_operate(word, known.link);
@@ -97,7 +99,8 @@ pub(crate) fn test_flag<'a>(
 
 /// A device's byte, which may be any, is or'd into the accumulator.
 pub(crate) fn or_byte<'a>(at: Word, known: &Known<'a>) -> Option<Outcome<'a>>
-    ensures { (f : said.Fact) → Agree (known_of known.now) f → AgreeingOutcomes (slot result) (device_outcomes at f Ors) }
+    ensures { (f : said.Fact) → Agree (known_of known.now) f →
+        AgreeingOutcomes (slot result) (device_outcomes at f Ors) }
 {
     let ac = known.narrowed(&Name::Accumulator);
     go_on(at, known, known.with_ac(ac.or_any(Word::from_byte(0o377))))
@@ -105,14 +108,16 @@ pub(crate) fn or_byte<'a>(at: Word, known: &Known<'a>) -> Option<Outcome<'a>>
 
 /// The accumulator is cleared.
 pub(crate) fn clear<'a>(at: Word, known: &Known<'a>) -> Option<Outcome<'a>>
-    ensures { (f : said.Fact) → Agree (known_of known.now) f → AgreeingOutcomes (slot result) (device_outcomes at f Clears) }
+    ensures { (f : said.Fact) → Agree (known_of known.now) f →
+        AgreeingOutcomes (slot result) (device_outcomes at f Clears) }
 {
     go_on(at, known, known.with_ac(WordSet::one(Word::ZERO)))
 }
 
 /// A device's byte, which may be any, is taken into the accumulator.
 pub(crate) fn take_byte<'a>(at: Word, known: &Known<'a>) -> Option<Outcome<'a>>
-    ensures { (f : said.Fact) → Agree (known_of known.now) f → AgreeingOutcomes (slot result) (device_outcomes at f Takes) }
+    ensures { (f : said.Fact) → Agree (known_of known.now) f →
+        AgreeingOutcomes (slot result) (device_outcomes at f Takes) }
 {
     let bytes = WordSet::range(Word::ZERO, Word::from_byte(0o377));
     go_on(at, known, known.with_ac(bytes))
@@ -120,23 +125,28 @@ pub(crate) fn take_byte<'a>(at: Word, known: &Known<'a>) -> Option<Outcome<'a>>
 
 /// Nothing changes.
 pub(crate) fn leave<'a>(at: Word, known: &Known<'a>) -> Option<Outcome<'a>>
-    ensures { (f : said.Fact) → Agree (known_of known.now) f → AgreeingOutcomes (slot result) (device_outcomes at f Leaves) }
+    ensures { (f : said.Fact) → Agree (known_of known.now) f →
+        AgreeingOutcomes (slot result) (device_outcomes at f Leaves) }
 {
     go_on(at, known, known.same())
 }
 
 /// The outcome after the accumulator and MQ took these words.
 fn take<'a>(at: Word, known: &Known<'a>, ac: WordSet, mq: WordSet) -> Option<Outcome<'a>>
-    ensures { (f : said.Fact) (s t : Words) → Agree (known_of known.now) f → SameWords (words ac) s → SameWords (words mq) t →
-        AgreeingOutcomes (slot result) (goes everything f everything (one (plus at 1)) (with_mq t (assigned Ac s f))) }
+    ensures { (f : said.Fact) (s t : Words) → Agree (known_of known.now) f →
+        SameWords (words ac) s → SameWords (words mq) t →
+        AgreeingOutcomes (slot result) (goes everything f everything (one (plus at 1))
+        (with_mq t (assigned Ac s f))) }
 {
     go_on(at, known, known.with_ac(ac).with_mq(mq))
 }
 
 /// A word of group 3 moves words between the accumulator and MQ.
 pub(crate) fn exchange<'a>(at: Word, word: Word, known: &Known<'a>) -> Option<Outcome<'a>>
-    ensures { (o : MqOperate) (f : said.Fact) → mq_operate_of word ≡ Some o → Agree (known_of known.now) f →
-        AgreeingOutcomes (slot result) (goes everything f everything (one (plus at 1)) (operated3 o f)) }
+    ensures { (o : MqOperate) (f : said.Fact) → mq_operate_of word ≡ Some o →
+        Agree (known_of known.now) f →
+        AgreeingOutcomes (slot result) (goes everything f everything (one (plus at 1))
+        (operated3 o f)) }
 {
     let ac = known.narrowed(&Name::Accumulator);
     let mq = known.mq;
@@ -159,7 +169,8 @@ pub(crate) fn transfer<'a>(
     known: &Known<'a>,
 ) -> (Option<Outcome<'a>>, Option<Outcome<'a>>)
     ensures { (f : said.Fact) → Agree (known_of known.now) f →
-        AgreeingOutcomes (slot result.0 ++ slot result.1) (device_outcomes at f (processor_action operation)) }
+        AgreeingOutcomes (slot result.0 ++ slot result.1)
+        (device_outcomes at f (processor_action operation)) }
 {
     match operation {
         DeviceOperation::SkipOnReaderFlag

@@ -81,7 +81,8 @@ fn takes_passing(word: Word, skip: bool) -> bool
 
 /// The words of a set that skip, or those that don't.
 fn part(word: Word, link: Link, skip: bool, ac: &WordSet) -> WordSet
-    ensures { (v : ℕ) → v < 4096 → words result v ≡ (words ac.now v && (if skips_of word v link then skip else not skip)) }
+    ensures { (v : ℕ) → v < 4096 → words result v ≡
+        (words ac.now v && (if skips_of word v link then skip else not skip)) }
 {
     let passing = passing(word, link);
     if takes_passing(word, skip) {
@@ -103,7 +104,8 @@ fn kept(word: Word, part: WordSet) -> WordSet
 
 /// What is known after the test: CLA, then OSR, by which any bits may come in.
 fn after_test<'a>(word: Word, known: &Known<'a>, part: WordSet) -> Known<'a>
-    ensures { (f : said.Fact) (p : Words) → Agree (known_of known.now) f → SameWords (words part) p →
+    ensures { (f : said.Fact) (p : Words) → Agree (known_of known.now) f →
+        SameWords (words part) p →
         Agree (known_of result) (related2 word p f) }
 {
     if reads_switches(word) {
@@ -142,7 +144,8 @@ pub(crate) fn branch<'a>(
     skip: bool,
 ) -> Option<Outcome<'a>>
     requires { link < 2 }
-    ensures { (f : said.Fact) → Agree (known_of known.now) f → AgreeingOutcomes (slot result) (operated2 at word f link skip) }
+    ensures { (f : said.Fact) → Agree (known_of known.now) f →
+        AgreeingOutcomes (slot result) (operated2 at word f link skip) }
 {
     let all = WordSet::all();
     let ac = known.narrowed(&Name::Accumulator);

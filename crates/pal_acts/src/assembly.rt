@@ -38,7 +38,8 @@ fn define<'p, A: Allocator + Copy>(
     permanent: &'p SymbolTable<A>,
     acts: &[Act<'_>],
 ) -> Result<Symbols<'p, A>, Refused>
-    ensures symbols { IfOk result (λ s. Defines permanent.now.entries 1024 (reverse acts.now) s.own.entries) }
+    ensures symbols { IfOk result (λ s. Defines permanent.now.entries 1024 (reverse acts.now)
+        s.own.entries) }
     ensures permanent { IfOk result (λ s. s.permanent.now.entries ≡ permanent.now.entries) }
     ensures refused { IfErr result (StopsBy permanent.now.entries 1024 acts.now) }
 {
@@ -61,8 +62,10 @@ fn put<'p, A: Allocator + Copy>(
     image: &mut Image,
     here: &mut Word,
 ) -> Result<(), Code>
-    ensures puts { OnOk result (Puts (known symbols.now.permanent.now.entries symbols.now.own.entries) act.entry image.old here.old image.new here.new) }
-    ensures refused { IfErr result (PutBreaks (known symbols.now.permanent.now.entries symbols.now.own.entries) act.entry here.old) }
+    ensures puts { OnOk result (Puts (known symbols.now.permanent.now.entries
+        symbols.now.own.entries) act.entry image.old here.old image.new here.new) }
+    ensures refused { IfErr result (PutBreaks
+        (known symbols.now.permanent.now.entries symbols.now.own.entries) act.entry here.old) }
 {
     match act {
         Act::Word(joins) => {
@@ -87,9 +90,12 @@ fn encode<'p, A: Allocator + Copy>(
     symbols: &Symbols<'p, A>,
     acts: &[Act<'_>],
 ) -> Result<Image, Refused>
-    ensures encodes { OnOk result (Encodes (known symbols.now.permanent.now.entries symbols.now.own.entries) (reverse acts.now)) }
-    ensures image { IfOk result (IsImage (known symbols.now.permanent.now.entries symbols.now.own.entries) (reverse acts.now)) }
-    ensures refused { IfErr result (FindsBy (known symbols.now.permanent.now.entries symbols.now.own.entries) acts.now) }
+    ensures encodes { OnOk result (Encodes (known symbols.now.permanent.now.entries
+        symbols.now.own.entries) (reverse acts.now)) }
+    ensures image { IfOk result (IsImage (known symbols.now.permanent.now.entries
+        symbols.now.own.entries) (reverse acts.now)) }
+    ensures refused { IfErr result (FindsBy (known symbols.now.permanent.now.entries
+        symbols.now.own.entries) acts.now) }
 {
     let mut image = Image::empty();
     let mut here = Word::from_index(0o200);
@@ -107,8 +113,10 @@ fn assemble_acts<'p, A: Allocator + Copy>(
     permanent: &'p SymbolTable<A>,
     acts: &[Act<'_>],
 ) -> Result<Assembled<'p, A>, Refused>
-    ensures permanent { IfOk result (λ found. found.symbols.permanent.now.entries ≡ permanent.now.entries) }
-    ensures found { IfOk result (λ found. IsSource permanent.now.entries 1024 acts.now found.symbols.own.entries found.image) }
+    ensures permanent { IfOk result (λ found. found.symbols.permanent.now.entries ≡
+        permanent.now.entries) }
+    ensures found { IfOk result (λ found. IsSource permanent.now.entries 1024 acts.now
+        found.symbols.own.entries found.image) }
     ensures refused { IfErr result (Refuses permanent.now.entries 1024 acts.now) }
 {
     let symbols = define(alloc, permanent, acts)?;
@@ -128,14 +136,19 @@ pub fn assemble<'p, A: Allocator + Copy>(
     permanent: &'p SymbolTable<A>,
     acts: &[Act<'_>],
 ) -> Result<Assembled<'p, A>, Refused>
-    ensures permanent { IfOk result (λ found. found.symbols.permanent.now.entries ≡ permanent.now.entries) }
-    ensures found { IfOk result (λ found. IsSource permanent.now.entries 1024 acts.now found.symbols.own.entries found.image) }
+    ensures permanent { IfOk result (λ found. found.symbols.permanent.now.entries ≡
+        permanent.now.entries) }
+    ensures found { IfOk result (λ found. IsSource permanent.now.entries 1024 acts.now
+        found.symbols.own.entries found.image) }
     ensures refused { IfErr result (Refuses permanent.now.entries 1024 acts.now) }
     // A source that has a meaning is answered by no fault.
-    ensures meant { (own : List (Named × ℕ)) (image : List (Option ℕ)) → IsSource permanent.now.entries 1024 acts.now own image →
-        MatchResult result (λ found. (found.symbols.own.entries ≡ own) × (found.image ≡ image)) IsSilent }
+    ensures meant { (own : List (Named × ℕ)) (image : List (Option ℕ)) →
+        IsSource permanent.now.entries 1024 acts.now own image →
+        MatchResult result (λ found. (found.symbols.own.entries ≡ own) × (found.image ≡ image))
+        IsSilent }
     // A source that has a fault is answered by no other, and by no meaning.
-    ensures faulty { (at : ℕ) (code : Coded) → IsRefused permanent.now.entries 1024 acts.now at code →
+    ensures faulty { (at : ℕ) (code : Coded) →
+        IsRefused permanent.now.entries 1024 acts.now at code →
         MatchResult result (λ found. ⊥) (TellsOnly at code) }
 {
     assemble_acts(alloc, permanent, acts)

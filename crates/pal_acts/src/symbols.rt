@@ -67,7 +67,8 @@ impl<'p, A: Allocator + Copy> Symbols<'p, A> {
     /// The value of a term at a location, if it has one.
     #[inline(always)]
     pub(crate) fn term(&self, here: Word, term: Term) -> Option<Word>
-        ensures { result ≡ term_value (known self.now.permanent.now.entries self.now.own.entries) here term }
+        ensures { result ≡ term_value (known self.now.permanent.now.entries self.now.own.entries)
+            here term }
     {
         match term {
             Term::Number(word) => Some(word),
@@ -79,7 +80,8 @@ impl<'p, A: Allocator + Copy> Symbols<'p, A> {
     /// The value of an expression at a location; none where a symbol has none.
     #[inline(always)]
     pub fn value(&self, here: Word, joins: &[Join]) -> Option<Word>
-        ensures { result ≡ value (known self.now.permanent.now.entries self.now.own.entries) here joins.now }
+        ensures { result ≡ value (known self.now.permanent.now.entries self.now.own.entries) here
+            joins.now }
     {
         let mut sum = Word::ZERO;
         for item in joins {
@@ -91,9 +93,16 @@ impl<'p, A: Allocator + Copy> Symbols<'p, A> {
     /// Gives a name a value. Where it has another, that is the fault `other`.
     #[inline(always)]
     fn give(&mut self, name: Name, value: Word, other: Code) -> Result<(), Refusal>
-        ensures sound { OnOk result (giving_fault other 1024 (length self.old.own.entries) (known self.old.permanent.now.entries self.old.own.entries name) value ≡ None) }
-        ensures given { OnOk result (self.new.own.entries ≡ giving_table self.old.own.entries name (known self.old.permanent.now.entries self.old.own.entries name) value) }
-        ensures refused { IfErr result (IsFault (length self.old.own.entries) (giving_fault other 1024 (length self.old.own.entries) (known self.old.permanent.now.entries self.old.own.entries name) value) (giving_table self.old.own.entries name (known self.old.permanent.now.entries self.old.own.entries name) value)) }
+        ensures sound { OnOk result (giving_fault other 1024 (length self.old.own.entries)
+            (known self.old.permanent.now.entries self.old.own.entries name) value ≡ None) }
+        ensures given { OnOk result (self.new.own.entries ≡
+            giving_table self.old.own.entries name
+            (known self.old.permanent.now.entries self.old.own.entries name) value) }
+        ensures refused { IfErr result (IsFault (length self.old.own.entries)
+            (giving_fault other 1024 (length self.old.own.entries)
+            (known self.old.permanent.now.entries self.old.own.entries name) value)
+            (giving_table self.old.own.entries name
+            (known self.old.permanent.now.entries self.old.own.entries name) value)) }
         ensures permanent { self.new.permanent ≡ self.old.permanent }
     {
         match self.get(name) {
@@ -118,8 +127,10 @@ impl<'p, A: Allocator + Copy> Symbols<'p, A> {
 
     /// Takes the next act, at the current location; its word is not looked at.
     pub(crate) fn act(&mut self, here: &mut Word, act: Act<'_>) -> Result<(), Refusal>
-        ensures goes { OnOk result (Goes self.old.permanent.now.entries 1024 act.entry self.old.own.entries here.old self.new.own.entries here.new) }
-        ensures refused { IfErr result (Breaks self.old.permanent.now.entries 1024 act.entry self.old.own.entries here.old) }
+        ensures goes { OnOk result (Goes self.old.permanent.now.entries 1024 act.entry
+            self.old.own.entries here.old self.new.own.entries here.new) }
+        ensures refused { IfErr result (Breaks self.old.permanent.now.entries 1024 act.entry
+            self.old.own.entries here.old) }
         ensures permanent { self.new.permanent ≡ self.old.permanent }
     {
         match act {

@@ -157,7 +157,8 @@ impl<'p, A: Allocator + Copy> Symbols<'p, A> {
     /// an address can't name the one that follows it.
     #[inline(always)]
     pub fn word(&self, here: Word, joins: &[Join]) -> Result<Word, Code>
-        ensures { result ≡ word_value (known self.now.permanent.now.entries self.now.own.entries) here joins.now }
+        ensures { result ≡ word_value (known self.now.permanent.now.entries self.now.own.entries)
+            here joins.now }
     {
         if let [first, rest @ ..] = joins
             && refers(first)

@@ -153,7 +153,8 @@ impl<A: Allocator> Deeds<A> {
     /// Keeps one thing more.
     #[inline(always)]
     pub(crate) fn keep(&mut self, place: Place, act: Act<'_>) -> Result<(), AllocError>
-        ensures { OnOk result (self.new ≡ self.old ++ placed place.part place.line (bare act.entry) ∷ []) }
+        ensures { OnOk result (self.new ≡ self.old ++
+            placed place.part place.line (bare act.entry) ∷ []) }
     {
         let (doing, expression) = split(act);
         let span = lay(&mut self.joins, expression)?;

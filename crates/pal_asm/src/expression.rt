@@ -61,7 +61,8 @@ pub(crate) fn read_expression<A: Allocator>(
     joins: &mut Vec<Join, A>,
 ) -> Result<Result<(), Code>, AllocError>
     requires { AllByRecursion (IsWithin (length source.now)) tokens.now }
-    ensures { IfOk result (λ read. read_of joins.new.items read ≡ expression (base radix) source.now tokens.now) }
+    ensures { IfOk result (λ read. read_of joins.new.items read ≡
+        expression (base radix) source.now tokens.now) }
 {
     joins.clear();
     let mut joined_by = Sign::Or;

@@ -38,7 +38,8 @@ fn keep_lines<'s, A: Allocator + Copy>(
     kept: &mut Vec<ListedLine<'s>, A>,
 ) -> Result<(), AllocError>
     requires { AllByRecursion (IsLineWithin (length front.now.bytes.now)) lines.now }
-    ensures { OnOk result (lines_in kept.new.items ≡ lines_in kept.old.items ++ text_lines front.now.number 1 front.now.bytes.now lines.now) }
+    ensures { OnOk result (lines_in kept.new.items ≡ lines_in kept.old.items ++
+        text_lines front.now.number 1 front.now.bytes.now lines.now) }
 {
     for (at, line) in lines.iter().enumerate() {
         kept.push(ListedLine {
@@ -74,7 +75,8 @@ fn add_word<A: Allocator + Copy>(
     here: &mut Word,
     found: &mut Vec<ListedWord, A>,
 ) -> Result<(), AllocError>
-    ensures { OnOk result (Adds (known symbols.now.permanent.now.entries symbols.now.own.entries) (bare_placed item.entry) here.old here.new found.old.items found.new.items) }
+    ensures { OnOk result (Adds (known symbols.now.permanent.now.entries symbols.now.own.entries)
+        (bare_placed item.entry) here.old here.new found.old.items found.new.items) }
 {
     match item.act {
         Act::Word(joins) => {
@@ -104,7 +106,8 @@ pub(crate) fn words_of<A: Allocator + Copy>(
     symbols: &Symbols<'_, A>,
     deeds: &Deeds<A>,
 ) -> Result<Vec<ListedWord, A>, AllocError>
-    ensures { IfOk result (λ found. found.items ≡ all_words (known symbols.now.permanent.now.entries symbols.now.own.entries) deeds.now) }
+    ensures { IfOk result (λ found. found.items ≡
+        all_words (known symbols.now.permanent.now.entries symbols.now.own.entries) deeds.now) }
 {
     let mut found = Vec::new(alloc);
     let mut here = Word::from_index(0o200);
@@ -156,7 +159,8 @@ fn push_words<'w, A: Allocator>(
     words: &'w [ListedWord],
 ) -> Result<&'w [ListedWord], AllocError>
     ensures rest { IfOk result (λ rest. rest.now ≡ after_those place words.now) }
-    ensures text { OnOk result (text.new.items ≡ text.old.items ++ words_text (next_at place words.now)) }
+    ensures text { OnOk result (text.new.items ≡ text.old.items ++
+        words_text (next_at place words.now)) }
 {
     let mut rest = words;
     while let [word, more @ ..] = rest {
@@ -226,7 +230,9 @@ fn push_line<'w, A: Allocator>(
     words: &'w [ListedWord],
 ) -> Result<&'w [ListedWord], AllocError>
     ensures rest { IfOk result (λ rest. rest.now ≡ after_those line.entry.place words.now) }
-    ensures text { OnOk result (text.new.items ≡ text.old.items ++ line_text (next_at line.entry.place words.now) (without_front (characters line.entry.bytes.now))) }
+    ensures text { OnOk result (text.new.items ≡ text.old.items ++
+        line_text (next_at line.entry.place words.now)
+        (without_front (characters line.entry.bytes.now))) }
 {
     let shown = from_text(line.bytes);
     match words {
@@ -250,7 +256,8 @@ fn push_lines<A: Allocator>(
     lines: &[ListedLine<'_>],
     words: &[ListedWord],
 ) -> Result<(), AllocError>
-    ensures { OnOk result (text.new.items ≡ text.old.items ++ turns_text (lines_in lines.now) words.now) }
+    ensures { OnOk result (text.new.items ≡ text.old.items ++
+        turns_text (lines_in lines.now) words.now) }
 {
     let mut rest = words;
     for line in lines {
@@ -295,7 +302,10 @@ pub(crate) fn make_listing<A: Allocator + Copy>(
     deeds: &Deeds<A>,
     symbols: &Symbols<'_, A>,
 ) -> Result<Vec<u8, A>, AllocError>
-    ensures { IfOk result (λ text. text.items ≡ turns_text (lines_of_fronts fronts.now) (all_words (known symbols.now.permanent.now.entries symbols.now.own.entries) deeds.now) ++ codes "\n" ++ symbols_text symbols.now.own.entries) }
+    ensures { IfOk result (λ text. text.items ≡
+        turns_text (lines_of_fronts fronts.now)
+        (all_words (known symbols.now.permanent.now.entries symbols.now.own.entries) deeds.now) ++
+        codes "\n" ++ symbols_text symbols.now.own.entries) }
 {
     let lines = listed_lines(alloc, fronts)?;
     let words = words_of(alloc, symbols, deeds)?;

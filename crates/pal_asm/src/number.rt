@@ -47,7 +47,8 @@ fn with_digit(base: u16, value: u16, digit: u16) -> u16
     requires base { base ≤ 10 }
     requires value { value ≤ 4096 }
     requires digit { digit < base }
-    ensures grown { result ≡ (if nat_lt (value * base + digit) 4096 then value * base + digit else 4096) }
+    ensures grown { result ≡ (if nat_lt (value * base + digit) 4096 then value * base + digit else
+        4096) }
     ensures most { result ≤ 4096 }
 {
     let next = value * base + digit;

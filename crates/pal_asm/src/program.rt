@@ -52,8 +52,10 @@ impl<A: Allocator + Copy> Program<A> {
     /// listing went out before it.
     pub fn write_listing<W: ByteSink>(&self, sink: &mut W) -> Result<(), WriteFault>
         requires unmarked { W.mark sink.old ≡ false }
-        ensures whole { OnOk result (Appends (W.taken sink.old) (W.taken sink.new) (listing_of self.now)) }
-        ensures front { OnErr result (AppendsFront (W.taken sink.old) (W.taken sink.new) (listing_of self.now)) }
+        ensures whole { OnOk result (Appends (W.taken sink.old) (W.taken sink.new)
+            (listing_of self.now)) }
+        ensures front { OnErr result (AppendsFront (W.taken sink.old) (W.taken sink.new)
+            (listing_of self.now)) }
         ensures marks { W.mark sink.new ≡ is_err result }
     {
         match put(sink, &self.listing) {
@@ -99,10 +101,13 @@ fn assemble_for<A: Allocator + Copy>(
     parts: &[&[u8]],
     profile: Profile,
 ) -> Result<Program<A>, AssembleFault>
-    ensures meaning { IfOk result (λ program. Means (permanent_symbols profile) (texts parts.now) (symbols_of program) (image_of program)) }
-    ensures listed { IfOk result (λ program. Lists (permanent_symbols profile) (texts parts.now) (symbols_of program) (listing_of program)) }
+    ensures meaning { IfOk result (λ program. Means (permanent_symbols profile) (texts parts.now)
+        (symbols_of program) (image_of program)) }
+    ensures listed { IfOk result (λ program. Lists (permanent_symbols profile) (texts parts.now)
+        (symbols_of program) (listing_of program)) }
     ensures refused { IfErr result (Refuses (permanent_symbols profile) (texts parts.now)) }
-    ensures sized { (fault : Faulty) → size_fault (texts parts.now) ≡ Some fault → result ≡ Err (AssembleFault.Source fault) }
+    ensures sized { (fault : Faulty) → size_fault (texts parts.now) ≡ Some fault → result ≡
+        Err (AssembleFault.Source fault) }
 {
     match translate_for(alloc, parts, profile) {
         Ok(translation) => match with_listing(alloc, translation) {
@@ -125,16 +130,22 @@ pub fn assemble<A: Allocator + Copy>(
     parts: &[&[u8]],
     profile: Profile,
 ) -> Result<Program<A>, AssembleFault>
-    ensures meaning { IfOk result (λ program. Means (permanent_symbols profile) (texts parts.now) (symbols_of program) (image_of program)) }
-    ensures listed { IfOk result (λ program. Lists (permanent_symbols profile) (texts parts.now) (symbols_of program) (listing_of program)) }
+    ensures meaning { IfOk result (λ program. Means (permanent_symbols profile) (texts parts.now)
+        (symbols_of program) (image_of program)) }
+    ensures listed { IfOk result (λ program. Lists (permanent_symbols profile) (texts parts.now)
+        (symbols_of program) (listing_of program)) }
     ensures refused { IfErr result (Refuses (permanent_symbols profile) (texts parts.now)) }
     // A source that has a meaning is answered by no fault.
-    ensures meant { (own : List (Named × ℕ)) (image : List (Option ℕ)) → Means (permanent_symbols profile) (texts parts.now) own image →
-        MatchResult result (λ program. (symbols_of program ≡ own) × (image_of program ≡ image)) IsSilent }
+    ensures meant { (own : List (Named × ℕ)) (image : List (Option ℕ)) →
+        Means (permanent_symbols profile) (texts parts.now) own image →
+        MatchResult result (λ program. (symbols_of program ≡ own) × (image_of program ≡ image))
+        IsSilent }
     // A source that has a fault is answered by no other, and by no meaning.
-    ensures faulty { (fault : Faulty) → IsFault (permanent_symbols profile) (texts parts.now) fault → MatchResult result (λ program. ⊥) (TellsOnly fault) }
+    ensures faulty { (fault : Faulty) → IsFault (permanent_symbols profile) (texts parts.now)
+        fault → MatchResult result (λ program. ⊥) (TellsOnly fault) }
     // What is wrong with the sizes is told without memory.
-    ensures sized { (fault : Faulty) → size_fault (texts parts.now) ≡ Some fault → result ≡ Err (AssembleFault.Source fault) }
+    ensures sized { (fault : Faulty) → size_fault (texts parts.now) ≡ Some fault → result ≡
+        Err (AssembleFault.Source fault) }
 {
     assemble_for(alloc, parts, profile)
 }

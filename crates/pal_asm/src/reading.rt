@@ -72,8 +72,10 @@ fn read_part<'s, A: Allocator + Copy>(
     fronts: &mut Vec<Front<'s>, A>,
 ) -> Result<Turn, AllocError>
     requires { length part.now.source.now ≤ 65536 }
-    ensures acts { IfOk result (Turns part.now.number radix part.now.last part.now.source.now deeds.old deeds.new) }
-    ensures lines { IfOk result (TurnsLines part.now.number part.now.source.now (lines_of_fronts fronts.old.items) (lines_of_fronts fronts.new.items)) }
+    ensures acts { IfOk result (Turns part.now.number radix part.now.last part.now.source.now
+        deeds.old deeds.new) }
+    ensures lines { IfOk result (TurnsLines part.now.number part.now.source.now
+        (lines_of_fronts fronts.old.items) (lines_of_fronts fronts.new.items)) }
 {
     let count = deeds.len();
     match keep_statements(alloc, radix, part, deeds) {
@@ -115,7 +117,8 @@ pub(crate) fn read_source<'s, A: Allocator + Copy>(
 ) -> Result<Reading<'s, A>, AllocError>
     requires { size_fault (texts parts.now) ≡ None }
     ensures acts { IfOk result (λ reading. Gives 1 Octal (texts parts.now) reading.deeds) }
-    ensures lines { IfOk result (λ reading. Shows 1 (texts parts.now) (lines_of_fronts reading.fronts.items)) }
+    ensures lines { IfOk result (λ reading. Shows 1 (texts parts.now)
+        (lines_of_fronts reading.fronts.items)) }
 {
     let mut deeds = Deeds::new(alloc);
     let mut fronts = Vec::new(alloc);

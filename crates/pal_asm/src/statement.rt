@@ -62,7 +62,8 @@ fn keep_tags<A: Allocator>(
     deeds: &mut Deeds<A>,
 ) -> Result<(), AllocError>
     requires { AllByRecursion (IsWithin (length source.now)) tokens.now }
-    ensures { OnOk result (deeds.new ≡ deeds.old ++ map (placed place.part place.line) (map (tag_act source.now) (tags tokens.now))) }
+    ensures { OnOk result (deeds.new ≡ deeds.old ++
+        map (placed place.part place.line) (map (tag_act source.now) (tags tokens.now))) }
 {
     let mut rest = tokens;
     while let [first, second, more @ ..] = rest {
@@ -96,7 +97,8 @@ fn keep_assignment<A: Allocator>(
     deeds: &mut Deeds<A>,
 ) -> Result<(), AllocError>
     requires { AllByRecursion (IsWithin (length source.now)) tokens.now }
-    ensures { OnOk result (deeds.new ≡ deeds.old ++ map (placed place.part place.line) (assign_acts source.now tokens.now joins.now)) }
+    ensures { OnOk result (deeds.new ≡ deeds.old ++
+        map (placed place.part place.line) (assign_acts source.now tokens.now joins.now)) }
 {
     match tokens {
         [] => Ok(()),
@@ -120,7 +122,9 @@ fn keep_body<A: Allocator>(
     deeds: &mut Deeds<A>,
 ) -> Result<(), AllocError>
     requires { AllByRecursion (IsWithin (length part.now.source.now)) tokens.now }
-    ensures { OnOk result (deeds.new ≡ deeds.old ++ map (placed place.part place.line) (body_acts part.now.last part.now.source.now tokens.now form joins.now)) }
+    ensures { OnOk result (deeds.new ≡ deeds.old ++
+        map (placed place.part place.line) (body_acts part.now.last part.now.source.now tokens.now
+        form joins.now)) }
 {
     match form {
         Form::Origin => deeds.keep(place, Act::Origin(joins)),
@@ -142,7 +146,9 @@ pub(crate) fn keep_statement<A: Allocator>(
     deeds: &mut Deeds<A>,
 ) -> Result<(), AllocError>
     requires { AllByRecursion (IsWithin (length part.now.source.now)) tokens.now }
-    ensures { OnOk result (deeds.new ≡ deeds.old ++ map (placed part.now.number statement.line) (statement_acts (base radix) part.now.last part.now.source.now tokens.now statement.form)) }
+    ensures { OnOk result (deeds.new ≡ deeds.old ++
+        map (placed part.now.number statement.line)
+        (statement_acts (base radix) part.now.last part.now.source.now tokens.now statement.form)) }
 {
     let place = Place {
         part: part.number,

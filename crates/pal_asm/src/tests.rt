@@ -115,7 +115,7 @@ fn is_refused<A: Allocator + Copy>(
 
 #[test]
 fn the_first_fault_is_told(rt: HostRuntime) -> Result<(), Fail> {
-    let rows: [(&[&[u8]], Code, usize, usize); 32] = [
+    let rows: [(&[&[u8]], Code, usize, usize); 12] = [
         (&[b"TAD 600"], Code::IllegalReference, 1, 1),
         (&[b"TAD Z 300"], Code::IllegalReference, 1, 1),
         (&[b"X,1\nX,2"], Code::DuplicateTag, 1, 2),
@@ -128,6 +128,16 @@ fn the_first_fault_is_told(rt: HostRuntime) -> Result<(), Fail> {
         (&[b"PAUSE$"], Code::PauseInLastPart, 1, 1),
         (&[b"1\nA,PAUSE"], Code::PauseInLastPart, 1, 2),
         (&[], Code::TooLong, 0, 0),
+    ];
+    for (parts, code, part, line) in rows {
+        assert!(rt; is_refused(rt.alloc(), Profile::Pdp8I, parts, (code, part, line)));
+    }
+    Ok(())
+}
+
+#[test]
+fn faults_are_looked_for_in_order(rt: HostRuntime) -> Result<(), Fail> {
+    let rows: [(&[&[u8]], Code, usize, usize); 20] = [
         (&[b"TAD Q", b"?"], Code::IllegalCharacter, 2, 1),
         (&[b"A=Q", b"?"], Code::Undefined, 1, 1),
         (&[b"TAD Q;A=Q"], Code::Undefined, 1, 1),
@@ -157,6 +167,11 @@ fn the_first_fault_is_told(rt: HostRuntime) -> Result<(), Fail> {
     for (parts, code, part, line) in rows {
         assert!(rt; is_refused(rt.alloc(), Profile::Pdp8I, parts, (code, part, line)));
     }
+    Ok(())
+}
+
+#[test]
+fn symbols_of_the_8e_are_permanent(rt: HostRuntime) -> Result<(), Fail> {
     assert!(rt;
         is_refused(
             rt.alloc(),

@@ -27,7 +27,8 @@ fn assemble_deeds<'p, A: Allocator + Copy>(
     permanent: &'p SymbolTable<A>,
     deeds: &Deeds<A>,
 ) -> Result<Assembled<'p, A>, AssembleFault>
-    ensures found { IfOk result (λ found. IsSource permanent.now.entries 1024 (map act_in deeds.now) found.symbols.own.entries found.image) }
+    ensures found { IfOk result (λ found. IsSource permanent.now.entries 1024
+        (map act_in deeds.now) found.symbols.own.entries found.image) }
     ensures refused { IfErr result (RefusesActs permanent.now.entries deeds.now) }
 {
     let Ok(acts) = acts_of(alloc, deeds) else {
@@ -81,7 +82,9 @@ fn translation_of<'s, A: Allocator + Copy>(
 ) -> Translation<'s, A>
     ensures image { image_in result ≡ found.entry.image }
     ensures symbols { symbols_in result ≡ found.entry.symbols.own.entries }
-    ensures listing { text_of result ≡ turns_text (lines_of_fronts reading.entry.fronts.items) (all_words (known (permanent_symbols profile) (symbols_in result)) reading.entry.deeds) ++ codes "\n" ++ symbols_text (symbols_in result) }
+    ensures listing { text_of result ≡ turns_text (lines_of_fronts reading.entry.fronts.items)
+        (all_words (known (permanent_symbols profile) (symbols_in result)) reading.entry.deeds) ++
+        codes "\n" ++ symbols_text (symbols_in result) }
 {
     let Assembled { symbols, image } = found;
     let Symbols { own, .. } = symbols;
@@ -101,8 +104,10 @@ fn translate_parts<'s, A: Allocator + Copy>(
     profile: Profile,
 ) -> Result<Translation<'s, A>, AssembleFault>
     requires { size_fault (texts parts.now) ≡ None }
-    ensures meaning { IfOk result (λ translation. Means (permanent_symbols profile) (texts parts.now) (symbols_in translation) (image_in translation)) }
-    ensures listed { IfOk result (λ translation. Lists (permanent_symbols profile) (texts parts.now) (symbols_in translation) (text_of translation)) }
+    ensures meaning { IfOk result (λ translation. Means (permanent_symbols profile)
+        (texts parts.now) (symbols_in translation) (image_in translation)) }
+    ensures listed { IfOk result (λ translation. Lists (permanent_symbols profile)
+        (texts parts.now) (symbols_in translation) (text_of translation)) }
     ensures refused { IfErr result (Refuses (permanent_symbols profile) (texts parts.now)) }
 {
     let Ok(reading) = read_source(alloc, parts) else {
@@ -123,10 +128,13 @@ pub(crate) fn translate_for<'s, A: Allocator + Copy>(
     parts: &[&'s [u8]],
     profile: Profile,
 ) -> Result<Translation<'s, A>, AssembleFault>
-    ensures meaning { IfOk result (λ translation. Means (permanent_symbols profile) (texts parts.now) (symbols_in translation) (image_in translation)) }
-    ensures listed { IfOk result (λ translation. Lists (permanent_symbols profile) (texts parts.now) (symbols_in translation) (text_of translation)) }
+    ensures meaning { IfOk result (λ translation. Means (permanent_symbols profile)
+        (texts parts.now) (symbols_in translation) (image_in translation)) }
+    ensures listed { IfOk result (λ translation. Lists (permanent_symbols profile)
+        (texts parts.now) (symbols_in translation) (text_of translation)) }
     ensures refused { IfErr result (Refuses (permanent_symbols profile) (texts parts.now)) }
-    ensures sized { (fault : Faulty) → size_fault (texts parts.now) ≡ Some fault → result ≡ Err (AssembleFault.Source fault) }
+    ensures sized { (fault : Faulty) → size_fault (texts parts.now) ≡ Some fault → result ≡
+        Err (AssembleFault.Source fault) }
 {
     match fault_of_sizes(parts) {
         Some(fault) => Err(AssembleFault::Source(fault)),
@@ -147,15 +155,20 @@ pub fn translate<'s, A: Allocator + Copy>(
     parts: &[&'s [u8]],
     profile: Profile,
 ) -> Result<Translation<'s, A>, AssembleFault>
-    ensures meaning { IfOk result (λ translation. Means (permanent_symbols profile) (texts parts.now) (symbols_in translation) (image_in translation)) }
+    ensures meaning { IfOk result (λ translation. Means (permanent_symbols profile)
+        (texts parts.now) (symbols_in translation) (image_in translation)) }
     ensures refused { IfErr result (Refuses (permanent_symbols profile) (texts parts.now)) }
     // A source that has a meaning is answered by no fault.
-    ensures meant { (own : List (Named × ℕ)) (image : List (Option ℕ)) → Means (permanent_symbols profile) (texts parts.now) own image →
-        MatchResult result (λ translation. (symbols_in translation ≡ own) × (image_in translation ≡ image)) IsSilent }
+    ensures meant { (own : List (Named × ℕ)) (image : List (Option ℕ)) →
+        Means (permanent_symbols profile) (texts parts.now) own image →
+        MatchResult result (λ translation. (symbols_in translation ≡ own) ×
+        (image_in translation ≡ image)) IsSilent }
     // A source that has a fault is answered by no other, and by no meaning.
-    ensures faulty { (fault : Faulty) → IsFault (permanent_symbols profile) (texts parts.now) fault → MatchResult result (λ translation. ⊥) (TellsOnly fault) }
+    ensures faulty { (fault : Faulty) → IsFault (permanent_symbols profile) (texts parts.now)
+        fault → MatchResult result (λ translation. ⊥) (TellsOnly fault) }
     // What is wrong with the sizes is told without memory.
-    ensures sized { (fault : Faulty) → size_fault (texts parts.now) ≡ Some fault → result ≡ Err (AssembleFault.Source fault) }
+    ensures sized { (fault : Faulty) → size_fault (texts parts.now) ≡ Some fault → result ≡
+        Err (AssembleFault.Source fault) }
 {
     translate_for(alloc, parts, profile)
 }

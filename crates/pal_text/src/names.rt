@@ -21,7 +21,8 @@ impl Hash for Name {
 
     ghost hash_input = { λ name. name.letters ∷ [] };
 
-    ghost respects_eq = { λ x y same. ap (λ letters. letters ∷ []) (same_text x.letters y.letters (sym same)) };
+    ghost respects_eq = { λ x y same.
+        ap (λ letters. letters ∷ []) (same_text x.letters y.letters (sym same)) };
 
     fn hash<H: Hasher>(&self, state: &mut H) {
         state.write(&self.letters);

@@ -60,8 +60,10 @@ impl<'s, A: Allocator + Copy> Part<'s, A> {
     /// Where memory was refused.
     pub fn lines(&self, alloc: A) -> Result<Vec<Line, A>, AllocError>
         requires { self.now.stop ≤ length self.now.source.now }
-        ensures lines { IfOk result (λ lines. lines.items ≡ all_lines (take self.now.stop self.now.source.now)) }
-        ensures within { IfOk result (λ lines. AllByRecursion (IsLineWithin (length self.now.source.now)) lines.items) }
+        ensures lines { IfOk result (λ lines. lines.items ≡
+            all_lines (take self.now.stop self.now.source.now)) }
+        ensures within { IfOk result (λ lines. AllByRecursion
+            (IsLineWithin (length self.now.source.now)) lines.items) }
     {
         lines_of(alloc, &self.source[..self.stop])
     }
@@ -83,8 +85,10 @@ fn keep<A: Allocator>(
     own: &[Token],
     found: &Found,
 ) -> Result<(), AllocError>
-    ensures tokens { OnOk result (tokens.new.items ≡ tokens.old.items ++ own.now ++ found.now.mark ∷ []) }
-    ensures statements { OnOk result (statements.new.items ≡ statements.old.items ++ found.now.statement ∷ []) }
+    ensures tokens { OnOk result (tokens.new.items ≡ tokens.old.items ++ own.now ++
+        found.now.mark ∷ []) }
+    ensures statements { OnOk result (statements.new.items ≡ statements.old.items ++
+        found.now.statement ∷ []) }
 {
     tokens.extend_from_slice(own)?;
     tokens.push(found.mark)?;
@@ -96,11 +100,16 @@ fn keep<A: Allocator>(
 fn read_part<'s, A: Allocator + Copy>(alloc: A, source: &'s [u8]) -> Result<Part<'s, A>, TextFault>
     requires { length source.now ≤ 65536 }
     ensures source { IfOk result (λ part. part.source.now ≡ source.now) }
-    ensures part { IfOk result (λ part. IsPart source.now (part_tokens source.now) part.statements.items (all_lines (take part.stop source.now)) part.ending) }
-    ensures tokens { IfOk result (λ part. part.tokens.items ≡ take (past 0 part.statements.items) (part_tokens source.now)) }
-    ensures placed { IfOk result (λ part. AllByRecursion (IsPlaced part.tokens.items) part.statements.items) }
+    ensures part { IfOk result (λ part. IsPart source.now (part_tokens source.now)
+        part.statements.items (all_lines (take part.stop source.now)) part.ending) }
+    ensures tokens { IfOk result (λ part. part.tokens.items ≡
+        take (past 0 part.statements.items) (part_tokens source.now)) }
+    ensures placed { IfOk result (λ part. AllByRecursion (IsPlaced part.tokens.items)
+        part.statements.items) }
     ensures stop { IfOk result (λ part. part.stop ≤ length source.now) }
-    ensures closes { IfOk result (λ part. Stand (part_tokens source.now) (length source.now) (pieces 0 0 (part_tokens source.now)) part.statements.items (closed part.ending part.stop)) }
+    ensures closes { IfOk result (λ part. Stand (part_tokens source.now) (length source.now)
+        (pieces 0 0 (part_tokens source.now)) part.statements.items
+        (closed part.ending part.stop)) }
     ensures fault { IfErr result (IsFault (part_tokens source.now)) }
 {
     let mut reader = Reader::new(alloc, source);
@@ -141,18 +150,31 @@ pub fn statements<'s, A: Allocator + Copy>(
     source: &'s [u8],
 ) -> Result<Part<'s, A>, TextFault>
     ensures source { IfOk result (λ part. part.source.now ≡ source.now) }
-    ensures part { IfOk result (λ part. IsPart source.now (part_tokens source.now) part.statements.items (all_lines (take part.stop source.now)) part.ending) }
-    ensures tokens { IfOk result (λ part. part.tokens.items ≡ take (past 0 part.statements.items) (part_tokens source.now)) }
+    ensures part { IfOk result (λ part. IsPart source.now (part_tokens source.now)
+        part.statements.items (all_lines (take part.stop source.now)) part.ending) }
+    ensures tokens { IfOk result (λ part. part.tokens.items ≡
+        take (past 0 part.statements.items) (part_tokens source.now)) }
     ensures stop { IfOk result (λ part. part.stop ≤ length source.now) }
-    ensures closes { IfOk result (λ part. Stand (part_tokens source.now) (length source.now) (pieces 0 0 (part_tokens source.now)) part.statements.items (closed part.ending part.stop)) }
-    ensures in_order { IfOk result (λ part. IsOrdered (length source.now) (reverse part.tokens.items)) }
-    ensures within { IfOk result (λ part. AllByRecursion (IsWithin (length source.now)) part.tokens.items) }
-    ensures placed { IfOk result (λ part. AllByRecursion (IsPlaced part.tokens.items) part.statements.items) }
-    ensures lines_within { IfOk result (λ part. AllByRecursion (IsLineWithin (length source.now)) (all_lines (take part.stop source.now))) }
+    ensures closes { IfOk result (λ part. Stand (part_tokens source.now) (length source.now)
+        (pieces 0 0 (part_tokens source.now)) part.statements.items
+        (closed part.ending part.stop)) }
+    ensures in_order { IfOk result (λ part. IsOrdered (length source.now)
+        (reverse part.tokens.items)) }
+    ensures within { IfOk result (λ part. AllByRecursion (IsWithin (length source.now))
+        part.tokens.items) }
+    ensures placed { IfOk result (λ part. AllByRecursion (IsPlaced part.tokens.items)
+        part.statements.items) }
+    ensures lines_within { IfOk result (λ part. AllByRecursion (IsLineWithin (length source.now))
+        (all_lines (take part.stop source.now))) }
     ensures too_long { (result ≡ Err TextFault.TooLong) ↔ (65536 < length source.now) }
-    ensures part_told { (tokens : List Tokened) (told : List Stated) (lines : List Lined) (ending : Ended) → IsPart source.now tokens told lines ending → MatchResult result (λ part. Agrees (part_tokens source.now) part.statements.items (all_lines (take part.stop source.now)) part.ending tokens told lines ending) IsSilent }
-    ensures illegal_told { (line : ℕ) → IsIllegal source.now line → MatchResult result (λ _. ⊥) (TellsOnly line) }
-    ensures illegal { (line : ℕ) → result ≡ Err (TextFault.Illegal line) → IsIllegal source.now line }
+    ensures part_told { (tokens : List Tokened) (told : List Stated) (lines : List Lined)
+        (ending : Ended) → IsPart source.now tokens told lines ending →
+        MatchResult result (λ part. Agrees (part_tokens source.now) part.statements.items
+        (all_lines (take part.stop source.now)) part.ending tokens told lines ending) IsSilent }
+    ensures illegal_told { (line : ℕ) → IsIllegal source.now line →
+        MatchResult result (λ _. ⊥) (TellsOnly line) }
+    ensures illegal { (line : ℕ) → result ≡ Err (TextFault.Illegal line) →
+        IsIllegal source.now line }
 {
     if source.len() > LONGEST {
         return Err(TextFault::TooLong);

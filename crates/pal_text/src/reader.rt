@@ -43,8 +43,10 @@ fn read_statement<A: Allocator>(
     requires place { IsPlaceIn source.now place.now }
     requires count { count ≡ length (tokens (front source.now place.now.at)) }
     requires empty { own.old.items ≡ [] }
-    ensures found { IfOk result (λ step. IsNext source.now count step.found own.new.items (step.found.statement.last + 1)) }
-    ensures standing { IfOk result (λ step. IsStanding source.now (step.found.statement.last + 1) step.next) }
+    ensures found { IfOk result (λ step. IsNext source.now count step.found own.new.items
+        (step.found.statement.last + 1)) }
+    ensures standing { IfOk result (λ step. IsStanding source.now (step.found.statement.last + 1)
+        step.next) }
     ensures within { OnOk result (AllByRecursion (IsWithin (length source.now)) own.new.items) }
     ensures small { IfOk result (λ step. step.found.statement.last ≤ 65536) }
     ensures fault { IfErr result (BreaksNext source.now count) }
@@ -94,12 +96,17 @@ impl<'s, A: Allocator + Copy> Model for Reader<'s, A> {
 
     ghost Value = { Progress };
 
-    ghost view = { λ reader. record { source = reader.source.now; count = reader.count; own = reader.tokens.items } };
+    ghost view = { λ reader. record {
+      source = reader.source.now;
+      count = reader.count;
+      own = reader.tokens.items;
+    } };
 
     ghost use Rattle.pal_text.specs.Scan.{IsStanding};
 
     // The next statement begins after as many tokens as were counted.
-    ghost invariant = { λ reader. (length reader.source.now ≤ 65536) × IsStanding reader.source.now reader.count reader.place };
+    ghost invariant = { λ reader. (length reader.source.now ≤ 65536) ×
+        IsStanding reader.source.now reader.count reader.place };
 }
 
 impl<'s, A: Allocator + Copy> Reader<'s, A> {
@@ -139,9 +146,11 @@ impl<'s, A: Allocator + Copy> Reader<'s, A> {
     /// memory was refused. The next read then begins at the same statement.
     pub fn read_next(&mut self) -> Result<Option<Found>, TextFault>
         ensures source { self.new.source ≡ self.old.source }
-        ensures found { IfOk result (λ found. Finds self.old.source self.old.count found self.new.own self.new.count) }
+        ensures found { IfOk result (λ found. Finds self.old.source self.old.count found
+            self.new.own self.new.count) }
         ensures ended { result ≡ Ok None → (self.new.count ≡ self.old.count) × (self.new.own ≡ []) }
-        ensures within { OnOk result (AllByRecursion (IsWithin (length self.old.source)) self.new.own) }
+        ensures within { OnOk result (AllByRecursion (IsWithin (length self.old.source))
+            self.new.own) }
         ensures fault { IfErr result (BreaksNext self.old.source self.old.count) }
         ensures stays { IfErr result (λ _. self.new.count ≡ self.old.count) }
         ensures cleared { IfErr result (λ _. self.new.own ≡ []) }

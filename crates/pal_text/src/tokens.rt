@@ -130,7 +130,8 @@ fn join(last: Token, next: Token) -> Option<Token>
 
 /// Adds a character.
 pub(crate) fn add<A: Allocator>(out: &mut Vec<Token, A>, next: Token) -> Result<(), AllocError>
-    ensures { OnOk result ((ts : List Tokened) → out.old.items ≡ reverse ts → out.new.items ≡ reverse (added next ts)) }
+    ensures { OnOk result ((ts : List Tokened) → out.old.items ≡ reverse ts → out.new.items ≡
+        reverse (added next ts)) }
 {
     let count = out.len();
     if count == 0 {

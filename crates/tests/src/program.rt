@@ -110,6 +110,11 @@ fn words_are_carried_out(rt: HostRuntime) -> Result<(), Fail> {
         assert_eq!(rt; end.printed.as_slice(), printed.as_bytes(), "{words}");
         assert!(rt; end.told.is_empty(), "{words}");
     }
+    Ok(())
+}
+
+#[test]
+fn help_is_printed(rt: HostRuntime) -> Result<(), Fail> {
     for words in [
         "pdp8 help",
         "pdp8 --help",

@@ -147,7 +147,8 @@ fn sources_of<'a, A: Allocator>(
     bytes: &'a [u8],
     parts: &[Given],
 ) -> Result<Vec<MemorySource<'a>, A>, AllocError>
-    ensures { IfOk result (λ sources. AllByRecursion (λ source. source.failed ≡ false) sources.items) }
+    ensures { IfOk result (λ sources. AllByRecursion (λ source. source.failed ≡ false)
+        sources.items) }
 {
     let mut sources = Vec::new(alloc);
     for (length, reads) in parts {

@@ -1,0 +1,15 @@
+use Rattle.std.proofs.Common.{◌≤◌, ◌-◌, ◌==◌}
+use Rattle.std.specs.Prelude.{◌&&◌}
+use Rattle.wordset.specs.Words.{SameWords, some_below}
+use Rattle.wordset.specs.Lanes.{words}
+use Rattle.facts.specs.Places.{place_of}
+use Rattle.facts.proofs.place.Place.entries_in.Given as goal
+
+abbrev pub invariant-loop-cell : goal.invariant-loop-cell
+invariant-loop-cell g l = record {
+  inside : l.next ≤ 4096;
+  so_far : SameWords (words l.found) (λ v. some_below l.next (λ a. words l.cells a && ((place_of l.self).declaration.entry a && (v == a))));
+}
+
+abbrev pub decreases-loop-cell : goal.decreases-loop-cell
+decreases-loop-cell g l = 4096 - l.next

@@ -8,7 +8,7 @@ JOBS ?= $(shell awk -v n="$$(nproc)" '/^MemAvailable/ { m = int($$2 / 3000000); 
 
 # Proves the libraries below the program, side by side, and the program, builds it and runs it on the stored tape.
 run:
-	@echo "Proving pdp8 and all below it, $(JOBS) crates at a time. From nothing this takes some 15 minutes on four processors,"
+	@echo "Proving pdp8 and all below it, $(JOBS) crates at a time. From nothing this takes some ten minutes on four processors,"
 	@echo "and seconds where nothing has changed. Each crate's lines come when it is done; make try proves nothing and is quick."
 	cd crates/pdp8 && rt all check --jobs $(JOBS)
 	cd crates/pdp8 && rt run < stdin

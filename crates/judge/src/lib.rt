@@ -3,6 +3,10 @@
 
 ghost use Rattle.judge.specs.Headline.{ProgramsAreSafe, UnlistedReadsAreFree};
 
+mod claims;
+mod spot;
+
+pub use claims::{Claims, Routine};
 pub use facts::Condition;
 
 /// The headline: whenever every condition holds of a tape's words, a declaration and a certificate,

@@ -3,11 +3,9 @@ use Rattle.std.proofs.Common.{◌≡◌, ℕ, ◌+◌, Bool, Option, List, ◌++
 use Rattle.std.specs.Prelude.{slice_get, is_none, IsTrue}
 use Rattle.peripherals.specs.declared.Event.{Event}
 use Rattle.peripherals.specs.declared.Event.TheVariants.{Step as Instruct, Key, PrinterDone, ReaderDone, PunchDone, Switches, Continue}
-use Rattle.peripherals.specs.Devices.{WorldState, word_at_pc}
+use Rattle.peripherals.specs.Devices.{WorldState}
 use Rattle.peripherals.specs.Seen.{puts_out}
-use Rattle.peripherals.specs.World.{prints, punches}
 use Rattle.declaration.specs.Declaration.{Declaration}
-use Rattle.policy.specs.Calls.{Calls}
 use Rattle.policy.specs.Runs.{DeclaredEvents, HappensDeclared, calls_by}
 use Rattle.policy.specs.Watching.{LeadsTo, StepPutsOut}
 use Rattle.policy.proofs.WatchLemmas.{run_more}

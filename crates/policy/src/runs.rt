@@ -1,6 +1,7 @@
 //! Declared runs: the world to which a list of events leads from the declared start.
 
 ghost use Rattle.std.specs.Prelude.{◌≡◌, IsTrue, IfOk, OnOk, OnErr};
+ghost use Rattle.peripherals.specs.Events.{IsLoaded};
 ghost use Rattle.peripherals.specs.Loading.{image_of};
 ghost use Rattle.peripherals.specs.Seen.{puts_out};
 ghost use Rattle.peripherals.specs.World.{view, profile_of};
@@ -87,6 +88,9 @@ pub fn run_declared<A: Allocator + Copy, D: Allocator>(
 ) -> Result<World<A>, NoMemory>
     ensures run { let d = meaning declaration.now in IfOk result (λ world.
         LeadsTo d events.now (begun (image_of image.now) d start.now) (view world)) }
+    // It begins in a world into which the tape is loaded.
+    ensures loaded { let d = meaning declaration.now in
+        IsLoaded (image_of image.now) d.start (begun (image_of image.now) d start.now) }
     // Only a step that prints or punches can be refused.
     ensures only_output { let d = meaning declaration.now in OnErr result
         (StepPutsOut d events.now (begun (image_of image.now) d start.now)) }

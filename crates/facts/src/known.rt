@@ -299,8 +299,8 @@ impl<'a> Known<'a> {
         }
     }
 
-    /// What is known at a routine's first address, where it is called with this fact: the return word
-    /// isn't counted up.
+    /// What is known at a routine's first address, where it is called with this fact: the return
+    /// word isn't counted up.
     pub fn entering(fact: &'a Fact) -> Known<'a>
         ensures { Agree (known_of result) (with_offsets (one 0) (meaning fact.now)) }
     {

@@ -12,8 +12,11 @@ use Rattle.peripherals.specs.declared.event_text.EventsFault.TheVariants as even
 use Rattle.declaration.specs.Text.{Fails as FailsAsDeclaration, most_bytes as most_declaration_bytes}
 use Rattle.declaration.specs.declared.DeclarationFault.{DeclarationFault}
 use Rattle.declaration.specs.declared.DeclarationFault.TheVariants as declaration_fault
+use Rattle.certificate.specs.Faults.{HasFault, most_bytes as most_certificate_bytes}
+use Rattle.certificate.specs.declared.CertificateFault.{CertificateFault}
+use Rattle.certificate.specs.declared.CertificateFault.TheVariants as certificate_fault
 use Rattle.commands.specs.declared.status.Fault.{Fault}
-use Rattle.commands.specs.declared.status.Fault.TheVariants.{Tape, Declared, Events, Device}
+use Rattle.commands.specs.declared.status.Fault.TheVariants.{Tape, Declared, Certificate, Events, Device}
 use Rattle.commands.specs.declared.status.Fault.TheVariants as fault
 use Rattle.commands.specs.declared.status.DeviceFault.TheVariants.{Read, Write}
 use Rattle.commands.specs.Inputs.{Input, IsGoodTape, IsGoodDeclaration, FailsInTape, FailsInText}
@@ -56,6 +59,10 @@ abbrev pub fault_of_declaration : DeclarationFault → Fault
 fault_of_declaration declaration_fault.NoMemory = fault.NoMemory
 fault_of_declaration fault = Declared fault
 
+abbrev pub fault_of_certificate : CertificateFault → Fault
+fault_of_certificate certificate_fault.NoMemory = fault.NoMemory
+fault_of_certificate fault = Certificate fault
+
 -- The text has this fault; a want of memory is none.
 abbrev pub IsEventsFault : List ℕ → EventsFault → Type 0
 IsEventsFault text events_fault.NoMemory = ⊥
@@ -85,6 +92,13 @@ IsDeclarationInputFault text (Device Read) = FailsInText most_declaration_bytes 
 IsDeclarationInputFault text fault.NoMemory = Unit {0}
 IsDeclarationInputFault text _ = ⊥
 
+-- The same of a certificate.
+abbrev pub IsCertificateInputFault : Input → Fault → Type 0
+IsCertificateInputFault text (Certificate fault) = IfSome text.had (λ bytes. HasFault bytes fault)
+IsCertificateInputFault text (Device Read) = FailsInText most_certificate_bytes text
+IsCertificateInputFault text fault.NoMemory = Unit {0}
+IsCertificateInputFault text _ = ⊥
+
 -- The inputs are good, and a write failed or memory was refused.
 abbrev pub IsRunFault : Fault → Type 0
 IsRunFault (Device Write) = Unit {0}
@@ -105,3 +119,9 @@ abbrev pub IsWatchFault : Input → Input → Input → Fault → Type 0
 IsWatchFault tape text list fault =
     IsTapeInputFault tape fault ⊎ (IsGoodTape tape.had × (IsDeclarationInputFault text fault
     ⊎ (IsGoodDeclaration text.had × (IsEventsInputFault list fault ⊎ IsRunFault fault))))
+
+-- The same with a certificate in place of the events.
+abbrev pub IsCheckFault : Input → Input → Input → Fault → Type 0
+IsCheckFault tape text certificate fault =
+    IsTapeInputFault tape fault ⊎ (IsGoodTape tape.had × (IsDeclarationInputFault text fault
+    ⊎ (IsGoodDeclaration text.had × (IsCertificateInputFault certificate fault ⊎ IsRunFault fault))))

@@ -7,6 +7,8 @@ use Rattle.peripherals.specs.declared.Event.{Event}
 use Rattle.peripherals.specs.EventText.{Spells}
 use Rattle.declaration.specs.Declaration.{Declaration}
 use Rattle.declaration.specs.Text.{Declares}
+use Rattle.certificate.specs.Spelling.{Lines, text}
+use Rattle.certificate.specs.Reading.{AreLines}
 
 -- The frames are a tape with this image, whose trailer is within the limit of what is looked at.
 abbrev pub HasImage : Option (List ℕ) → List (Option ℕ) → Type 0
@@ -19,6 +21,15 @@ HasEvents text events = IfSome text (λ bytes. Spells bytes events)
 -- The text has this declaration.
 abbrev pub HasDeclaration : Option (List ℕ) → Declaration → Type 0
 HasDeclaration text declaration = IfSome text (λ bytes. Declares bytes declaration)
+
+-- The bytes are the text of a certificate with these lines.
+pub record IsTextOf (bytes : List ℕ) (lines : Lines) : Type 0 where
+  pub lines_are : AreLines lines
+  pub text_is : bytes ≡ text lines
+
+-- The text is that of a certificate with these lines.
+abbrev pub HasCertificate : Option (List ℕ) → Lines → Type 0
+HasCertificate certificate lines = IfSome certificate (λ bytes. IsTextOf bytes lines)
 
 -- The frames are a tape.
 pub record IsGoodTape (frames : Option (List ℕ)) : Type 0 where

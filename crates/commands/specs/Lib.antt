@@ -9,5 +9,6 @@ pub mod Course
 pub mod Running
 pub mod Dumping
 pub mod WatchText
+pub mod CheckText
 pub mod SourceTexts
 pub mod AssembleText

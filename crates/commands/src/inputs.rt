@@ -2,11 +2,13 @@
 
 ghost use Rattle.std.specs.Prelude.{◌≡◌, false, IfOk, IfErr};
 ghost use Rattle.declaration.specs.Kept.{meaning};
-ghost use Rattle.commands.specs.Faults.{IsTapeInputFault, IsDeclarationInputFault, IsEventsInputFault, fails_to_read};
-ghost use Rattle.commands.specs.Inputs.{HasImage, HasDeclaration, HasEvents, input};
+ghost use Rattle.certificate.specs.Kept.{meaning as lines_of};
+ghost use Rattle.commands.specs.Faults.{IsTapeInputFault, IsCertificateInputFault, IsDeclarationInputFault, IsEventsInputFault, fails_to_read};
+ghost use Rattle.commands.specs.Inputs.{HasImage, HasCertificate, HasDeclaration, HasEvents, input};
 
 use crate::status::Fault;
 use bin_tape::{Image, read_from};
+use certificate::Certificate;
 use declaration::Declaration;
 use peripherals::{Event, events};
 use std::alloc::Allocator;
@@ -18,6 +20,9 @@ const MOST_DECLARATION: usize = 16_385;
 
 /// The same of a text of events.
 const MOST_EVENTS: usize = 65_537;
+
+/// The same of a certificate.
+const MOST_CERTIFICATE: usize = 1_048_577;
 
 /// Reads a tape.
 pub(crate) fn tape_from<R: ByteSource>(source: &mut R) -> Result<Image, Fault>
@@ -47,6 +52,24 @@ pub(crate) fn declaration_from<A: Allocator + Copy, R: ByteSource>(
     let text = read_at_most(alloc, source, MOST_DECLARATION)?;
     match Declaration::parse(alloc, &text) {
         Ok(declaration) => Ok(declaration),
+        Err(fault) => Err(Fault::from(fault)),
+    }
+}
+
+/// Reads a certificate.
+pub(crate) fn certificate_from<A: Allocator + Copy, R: ByteSource>(
+    alloc: A,
+    source: &mut R,
+) -> Result<Certificate<A>, Fault>
+    requires { R.mark source.old ≡ false }
+    ensures claims { IfOk result (λ c. HasCertificate (R.remaining source.old) (lines_of c)) }
+    ensures faults { IfErr result (IsCertificateInputFault
+        (input (R.mark source.new) (R.remaining source.old) (R.remaining source.new))) }
+    ensures marks { R.mark source.new ≡ fails_to_read result }
+{
+    let text = read_at_most(alloc, source, MOST_CERTIFICATE)?;
+    match Certificate::parse(alloc, &text) {
+        Ok(certificate) => Ok(certificate),
         Err(fault) => Err(Fault::from(fault)),
     }
 }

@@ -2,6 +2,7 @@
 #![tactic(auto)]
 
 pub mod assembling;
+pub mod checking;
 pub mod follow;
 mod inputs;
 pub mod running;

@@ -3,10 +3,11 @@
 ghost use Rattle.std.specs.Prelude.{◌≡◌, ◌≤◌};
 ghost use Rattle.commands.specs.declared.status.Fault.TheVariants.{Device, NoMemory};
 ghost use Rattle.commands.specs.declared.status.DeviceFault.TheVariants.{Write};
-ghost use Rattle.commands.specs.Faults.{fault_of_declaration, fault_of_events, fault_of_input, fault_of_tape};
+ghost use Rattle.commands.specs.Faults.{fault_of_certificate, fault_of_declaration, fault_of_events, fault_of_input, fault_of_tape};
 ghost use Rattle.commands.specs.Statuses.{code_of, status_of_fault};
 
 use bin_tape::TapeFault;
+use certificate::CertificateFault;
 use declaration::DeclarationFault;
 use pal_asm::PalFault;
 use peripherals::{EventsFault, NoMemory};
@@ -65,6 +66,9 @@ pub enum Fault {
     /// The declaration is refused.
     #[error("pdp8: declaration: {0}")]
     Declared(DeclarationFault),
+    /// The certificate's text is refused.
+    #[error("pdp8: certificate: {0}")]
+    Certificate(CertificateFault),
     /// The text of events is refused.
     #[error("pdp8: events: {0}")]
     Events(EventsFault),
@@ -86,6 +90,7 @@ impl Fault {
             | Fault::EmptyImage
             | Fault::Source(_)
             | Fault::Declared(_)
+            | Fault::Certificate(_)
             | Fault::Events(_) => Status::Refused,
             Fault::Device(_) => Status::Device,
             Fault::NoMemory => Status::Memory,
@@ -125,6 +130,18 @@ impl From<DeclarationFault> for Fault {
         match fault {
             DeclarationFault::NoMemory => Fault::NoMemory,
             _ => Fault::Declared(fault),
+        }
+    }
+}
+
+impl From<CertificateFault> for Fault {
+    ghost from_gives = { λ fault result. result ≡ fault_of_certificate fault };
+
+    /// A want of memory is not the text's fault.
+    fn from(fault: CertificateFault) -> Fault {
+        match fault {
+            CertificateFault::NoMemory => Fault::NoMemory,
+            _ => Fault::Certificate(fault),
         }
     }
 }

@@ -2,5 +2,8 @@ pub mod Fine
 pub mod Frames
 pub mod Induction
 pub mod Legal
-pub mod Worlds
+pub mod LineLemmas
+pub mod OrderLemmas
 pub mod Unlisted
+pub mod WordLemmas
+pub mod Worlds

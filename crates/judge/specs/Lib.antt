@@ -1,3 +1,5 @@
+pub mod Asked
 pub mod Conditions
 pub mod Headline
+pub mod Judged
 pub mod Spots

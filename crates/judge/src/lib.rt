@@ -4,10 +4,15 @@
 ghost use Rattle.judge.specs.Headline.{ProgramsAreSafe, UnlistedReadsAreFree};
 
 mod claims;
+mod judging;
+mod lines;
 mod spot;
+mod stand_in;
+mod words;
 
 pub use claims::{Claims, Routine};
 pub use facts::Condition;
+pub use judging::{Refusal, judge};
 
 /// The headline: whenever every condition holds of a tape's words, a declaration and a certificate,
 /// then in every run from the declared start, whatever unset memory, the accumulator, the link and

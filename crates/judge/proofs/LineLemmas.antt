@@ -46,6 +46,7 @@ counts_nowhere j a e only h p = go (in_routine j a e only p).1
   where
     none : some_below 8 (fact_at j a).offsets ≡ false
     none = some_none_of 8 (fact_at j a).offsets h
+
     go : some_below 8 (fact_at j a).offsets ≡ true → ⊥
     go s = true_false (sym s ∙ none)
 

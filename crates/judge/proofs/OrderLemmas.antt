@@ -44,7 +44,7 @@ at_line j v a l asked = subst (λ b. IsAskedAs b j a) l.later asked
 -- all conditions hold
 pub is_valid : (j : Case) → StartsWell j j.declaration.start → ((a : ℕ) → a < 4096 → HoldsBetween j 1 15 a) → IsValid j
 is_valid j s h v a asked = elim (start_or_later v) [
-  inl e ↦ at_start j v a s e asked
+  | inl e ↦ at_start j v a s e asked
   | inr l ↦ h a (at_line j v a l asked).0 v l.low l.high
 ]
 
@@ -55,7 +55,7 @@ order_of v a l = ap (λ b. if b then 0 else 16 * a + place_among v) l.later
 earlier : (j : Case) (a b : ℕ) (v u : Condition) → ((c : ℕ) → c < a → HoldsBetween j 1 15 c) → FailsFirst j 1 a v → IsLater u → place_among v < 15 →
     16 * b + place_among u < 16 * a + place_among v → HoldsAt j u b
 earlier j a b v u h f l high lt = elim (cases_order b a) [
-  inl e ↦ (let q : place_among u < place_among v = omega arith in subst (λ c. HoldsAt j u c) (sym e) (f.before u l.low q))
+  | inl e ↦ (let q : place_among u < place_among v = omega arith in subst (λ c. HoldsAt j u c) (sym e) (f.before u l.low q))
   | inr o ↦ elim o [ inl less ↦ h b less u l.low l.high | inr more ↦ absurd (let low : 1 ≤ place_among u = l.low in omega arith) ]
 ]
 
@@ -66,7 +66,7 @@ first_at j v a s lt h f =
       asked = subst (λ b. IsAskedAs b j a) (sym l.later) (lt, f.line);
       fails = f.first.fails;
       before = λ u b asked less. elim (start_or_later u) [
-        inl e ↦ at_start j u b s e asked
+        | inl e ↦ at_start j u b s e asked
         | inr k ↦ (let q : 16 * b + place_among u < 16 * a + place_among v = subst (λ n. n < 16 * a + place_among v) (order_of u b k) (subst (λ n. order u b < n) (order_of v a l) less) in
             earlier j a b v u h f.first k l.high q)
       ];

@@ -111,7 +111,11 @@ impl<A: Allocator, C: Claims> Case<'_, A, C> {
             Owner::Main => if is_empty { Some(Body::Main) } else { None },
             Owner::Routine(entry) => match self.claims.routine(entry) {
                 None => None,
-                Some(routine) => if is_empty { None } else { Some(Body::Of(entry, routine)) },
+                Some(routine) => if is_empty {
+                    None
+                } else {
+                    Some(Body::Of(entry, routine))
+                },
             },
         }
     }

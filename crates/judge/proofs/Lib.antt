@@ -2,5 +2,8 @@ pub mod Fine
 pub mod Frames
 pub mod Induction
 pub mod Legal
+pub mod EachLemmas
+pub mod LandingLemmas
+pub mod SpotLemmas
 pub mod Worlds
 pub mod Unlisted

@@ -4,6 +4,7 @@
 ghost use Rattle.judge.specs.Headline.{ProgramsAreSafe, UnlistedReadsAreFree};
 
 mod claims;
+mod landing;
 mod spot;
 
 pub use claims::{Claims, Routine};

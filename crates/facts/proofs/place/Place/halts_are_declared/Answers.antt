@@ -3,7 +3,7 @@ use Rattle.std.proofs.Common.{◌∙◌, ap}
 use Rattle.std.specs.Prelude.{◌||◌}
 use Rattle.facts.proofs.AskedLemmas.{no_reference, halts_nowhere, halts_not, halts_at}
 use Rattle.facts.proofs.PlaceLemmas.{or_both}
-use Rattle.facts.proofs.place.Place.halts_declared.Goals as goal
+use Rattle.facts.proofs.place.Place.halts_are_declared.Goals as goal
 
 pub returns-then-not-is_group_2 : goal.returns-then-not-is_group_2
 returns-then-not-is_group_2 g c = halts_nowhere (place_of c.args.self.now) c.args.at c.args.word (no_reference c.if-not-is_group_2.true (c.is_group_2.ensures c.args.at))

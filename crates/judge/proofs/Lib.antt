@@ -1,3 +1,4 @@
+pub mod CallLemmas
 pub mod Fine
 pub mod Frames
 pub mod Induction

@@ -10,7 +10,7 @@ use Rattle.facts.specs.declared.Condition.TheVariants.{V4}
 use Rattle.certificate.specs.Certificate.{Certificate}
 use Rattle.judge.specs.declared.spot.Spot.{Spot}
 use Rattle.judge.specs.Conditions.{place_in, fact_at, OutcomeLands, EachOutcome}
-use Rattle.judge.specs.Spots.{IsSpot, case_of, routine_at, HoldsOf}
+use Rattle.judge.specs.Spots.{IsSpot, case_of, routine_at, HoldsHere}
 use Rattle.judge.proofs.LandingLemmas.{outcomes_alike}
 
 -- What is said of the place and fact that a spot has is said of those that are meant.
@@ -23,8 +23,8 @@ meant claims s p spot h =
 
 pub all_land : {A C : Type 0} (claims : C → Certificate) (s : Spot A C) (word : ℕ) (os : List Outcome) (t : Bool) → IsSpot claims s →
     AgreeingOutcomes os (outcomes_at (kept.place_of s.place) (meaning s.fact.now) s.at word) →
-    IsTrue t ↔ EachOutcome (OutcomeLands (case_of claims s) (routine_at s)) os → IsTrue t ↔ HoldsOf claims V4 s word
+    IsTrue t ↔ EachOutcome (OutcomeLands (case_of claims s) (routine_at s)) os → IsTrue t ↔ HoldsHere claims s V4 word
 all_land claims s word os t spot agree told =
-    let alike : EachOutcome (OutcomeLands (case_of claims s) (routine_at s)) os ↔ HoldsOf claims V4 s word =
+    let alike : EachOutcome (OutcomeLands (case_of claims s) (routine_at s)) os ↔ HoldsHere claims s V4 word =
         outcomes_alike (case_of claims s) (routine_at s) os _ (meant claims s (λ pl f. AgreeingOutcomes os (outcomes_at pl f s.at word)) spot agree) in
     (λ q. alike.0 (told.0 q), λ h. told.1 (alike.1 h))

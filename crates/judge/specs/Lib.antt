@@ -1,3 +1,4 @@
+pub mod Callees
 pub mod Conditions
 pub mod Headline
 pub mod Spots

@@ -30,7 +30,7 @@ pub record IsSpot {A C : Type 0} (claims : C → Certificate) (s : Spot A C) : T
   pub sites : kept.sites_of s.place.routine ≡ sites_of (claims s.claims.now) (routine_at s)
   pub writes : kept.writes_of s.place.routine ≡ writes_of (claims s.claims.now) (routine_at s)
 
--- What a condition asks of a word that stands there.
-abbrev pub HoldsOf : {A C : Type 0} → (C → Certificate) → Condition → Spot A C → ℕ → Type 0
-HoldsOf claims v s word =
-    HoldsFor (case_of claims s) v (routine_at s) s.at (meaning_of (case_of claims s).declaration.profile s.at word)
+-- What a condition asks there of a word.
+abbrev pub HoldsHere : {A C : Type 0} → (C → Certificate) → Spot A C → Condition → ℕ → Type 0
+HoldsHere claims s v w =
+    HoldsFor (case_of claims s) v (routine_at s) s.at (meaning_of (case_of claims s).declaration.profile s.at w)

@@ -8,7 +8,7 @@ ghost use Rattle.facts.specs.Meaning.{known_of};
 ghost use Rattle.facts.specs.Slots.{outcome_of, slot, slots};
 ghost use Rattle.facts.specs.declared.Condition.TheVariants.{V4};
 ghost use Rattle.judge.specs.Conditions.{LandsAt, OutcomeLands, EachOutcome};
-ghost use Rattle.judge.specs.Spots.{IsSpot, case_of, routine_at, HoldsOf};
+ghost use Rattle.judge.specs.Spots.{IsSpot, case_of, routine_at, HoldsHere};
 
 use crate::claims::Claims;
 use crate::spot::Spot;
@@ -19,7 +19,7 @@ use wordset::WordSet;
 
 impl<A: Allocator, C: Claims> Spot<'_, A, C> {
     /// The routine whose body has the address; none is main.
-    fn owner(&self) -> Option<Word>
+    pub(crate) fn owner(&self) -> Option<Word>
         ensures { result ≡ routine_at self.now }
     {
         match &self.place.routine {
@@ -109,7 +109,7 @@ impl<A: Allocator, C: Claims> Spot<'_, A, C> {
     /// Whether each outcome of a word that goes on lands wherever it goes.
     pub(crate) fn outcomes_land(&self, word: Word) -> bool
         requires { IsSpot C.claims self.now }
-        ensures { IsTrue result ↔ HoldsOf C.claims V4 self.now word }
+        ensures { IsTrue result ↔ HoldsHere C.claims self.now V4 word }
     {
         self.each_lands(&outcomes(self.fact, self.at, word, &self.place))
     }

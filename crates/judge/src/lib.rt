@@ -3,6 +3,7 @@
 
 ghost use Rattle.judge.specs.Headline.{ProgramsAreSafe, UnlistedReadsAreFree};
 
+mod calls;
 mod claims;
 mod landing;
 mod spot;

@@ -8,7 +8,7 @@ use Rattle.instruct.specs.declared.Operation.{Operation}
 use Rattle.instruct.specs.declared.Operation.TheVariants as operation
 use Rattle.instruct.specs.Operates.{is_halt}
 use Rattle.instruct.specs.Bits.{is_indirect, named_cell}
-use Rattle.instruct.specs.Instructions.{Meaning, And, Tad, Isz, Dca, Jms, Jmp, Group1, Group2, Group3, Device, Undefined, kind_of, meaning_of, operation_of, reference, reference_at}
+use Rattle.instruct.specs.Instructions.{Meaning, And, Tad, Isz, Dca, Jms, Jmp, Group1, Group2, Group3, Device, Undefined, kind_of, operation_of, reference, reference_at}
 use Rattle.instruct.proofs.KindLemmas.{reference_meaning, group2_meaning}
 use Rattle.wordset.specs.Words.{Words, SameWords, IsWithin, nothing, one, union, meet, difference, only, some_below}
 use Rattle.wordset.proofs.Tests.{some_none_of}

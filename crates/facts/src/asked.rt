@@ -119,8 +119,8 @@ impl<A: Allocator> Place<'_, A> {
         self.keeps_entries(&written, &counted)
     }
 
-    /// Whether each cell that a word may write is one that the running routine may write: one of its
-    /// written set or its own entry; in main any.
+    /// Whether each cell that a word may write is one that the running routine may write: one of
+    /// its written set or its own entry; in main any.
     pub fn writes_are_listed(&self, fact: &Fact, at: Word, word: Word) -> bool
         ensures { IsTrue result ↔ WritesAreListed (place_of self.now) (writes_of self.now.routine)
             (meaning fact.now) (meaning_at (place_of self.now) at word) }
@@ -189,8 +189,8 @@ impl<A: Allocator> Place<'_, A> {
         }
     }
 
-    /// The first of the conditions on one word that it breaks, if it breaks one: V3, V5, V14, V6 and
-    /// V13, in this order.
+    /// The first of the conditions on one word that it breaks, if it breaks one: V3, V5, V14, V6
+    /// and V13, in this order.
     fn first_broken(&self, fact: &Fact, at: Word, word: Word) -> Option<Condition>
         ensures { MatchOption result
             (KeepsConditions (place_of self.now) (writes_of self.now.routine) (meaning fact.now) at

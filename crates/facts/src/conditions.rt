@@ -94,8 +94,8 @@ impl<A: Allocator> Place<'_, A> {
         union_if(reads_operand(word), &pointer_if(indirect, named), &targets)
     }
 
-    /// The cells that a word may write, a stepped pointer among them; save the one that a JMS itself
-    /// writes.
+    /// The cells that a word may write, a stepped pointer among them; save the one that a JMS
+    /// itself writes.
     pub(crate) fn cells_written(&self, at: Word, word: Word, known: &Known<'_>) -> WordSet
         requires pointer { IsUnchanged known.now.pointer }
         requires target { IsUnchanged known.now.target }
@@ -174,8 +174,8 @@ impl<A: Allocator> Place<'_, A> {
         self.entries_in(cells).is_subset(counted)
     }
 
-    /// Whether the running routine may write each of some cells: those of its written set and its own
-    /// entry; in main all.
+    /// Whether the running routine may write each of some cells: those of its written set and its
+    /// own entry; in main all.
     pub(crate) fn may_write(&self, cells: &WordSet) -> bool
         ensures { IsTrue result ↔ ((a : ℕ) → a < 4096 → words cells.now a ≡ true →
             MayWrite (writes_of self.now.routine) (place_of self.now).routine a) }

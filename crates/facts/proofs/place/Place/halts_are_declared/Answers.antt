@@ -1,6 +1,5 @@
 use Rattle.facts.specs.Places.{place_of}
-use Rattle.std.proofs.Common.{◌∙◌, ap}
-use Rattle.std.specs.Prelude.{◌||◌}
+use Rattle.std.proofs.Common.{◌∙◌}
 use Rattle.facts.proofs.AskedLemmas.{no_reference, halts_nowhere, halts_not, halts_at}
 use Rattle.facts.proofs.PlaceLemmas.{or_both}
 use Rattle.facts.proofs.place.Place.halts_are_declared.Goals as goal

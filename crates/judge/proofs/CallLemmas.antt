@@ -13,7 +13,7 @@ use Rattle.facts.specs.Places as kept
 use Rattle.facts.specs.declared.place.Running.{Running}
 use Rattle.certificate.specs.Certificate.{Certificate, writes_of}
 use Rattle.judge.specs.Conditions.{Case, fact_at, place_in, EachTarget, KeepsPointer, CoversCallee, MayReturn, ReturnsWell, LandsAt}
-use Rattle.judge.specs.Callees.{LandsBy, ReturnsThrough}
+use Rattle.judge.specs.Callees.{LandsBy, ReturnsBy, ReturnsThrough}
 
 -- Each of the cells that a word may call is each target of a JMS.
 pub each_target : (j : Case) (r : Routine) (a : ℕ) (m : Meaning) (p : ℕ → Type 0) (set : Words) (t : Bool) → SameWords set (called (place_in j r) (fact_at j a) m) →
@@ -108,6 +108,13 @@ returns_claimed j e o k {f} {call} {exit} b t same declared is there fact said a
 
     from_all : {x y : Fact} → Entails x (with_offsets everything y) → Entails x y
     from_all en = record { sets = en.sets; mq = en.mq; link = en.link; equations = en.equations }
+
+-- A return by an offset that the fact lacks, or has.
+pub returns_lacking : (j : Case) (a c o : ℕ) (b : Bool) → b ≡ (fact_at j a).offsets o → b ≡ false → IsTrue true ↔ ReturnsBy j a c o
+returns_lacking j a c o b same lacks = (λ q has. absurd (true≢false (sym has ∙ (sym same ∙ lacks))), λ r. refl)
+
+pub returns_having : (j : Case) (a c o : ℕ) (b t : Bool) → b ≡ (fact_at j a).offsets o → b ≡ true → IsTrue t ↔ MayReturn j c (fact_at j a) o → IsTrue t ↔ ReturnsBy j a c o
+returns_having j a c o b t same has told = (λ q h. told.0 q, λ r. told.1 (r (sym same ∙ has)))
 
 -- A word that returns through no entry.
 pub returns_none : (j : Case) (r : Routine) (a : ℕ) (m : Meaning) → None ≡ returned_through j.declaration m → IsTrue true ↔ ReturnsWell j r a m

@@ -29,7 +29,10 @@ LandsBy j r a e o =
     j.certificate.has_exit e o ≡ true →
     LandsAt j r (plus (a + 1) o) (joined (fact_at j a) (j.certificate.exit e o) (j.certificate.writes e))
 
+-- If the fact has the offset, the routine of the entry may return by it.
+abbrev pub ReturnsBy : Case → ℕ → ℕ → ℕ → Type 0
+ReturnsBy j a c o = (fact_at j a).offsets o ≡ true → MayReturn j c (fact_at j a) o
+
 -- The return is the entry's routine's own, and each offset that the fact has passes.
 abbrev pub ReturnsThrough : Case → Routine → ℕ → ℕ → Type 0
-ReturnsThrough j r a c =
-    (r ≡ Some c) × ((o : ℕ) → o < 8 → (fact_at j a).offsets o ≡ true → MayReturn j c (fact_at j a) o)
+ReturnsThrough j r a c = (r ≡ Some c) × ((o : ℕ) → o < 8 → ReturnsBy j a c o)

@@ -5,7 +5,7 @@ ghost use Rattle.wordset.specs.Lanes.{words};
 ghost use Rattle.instruct.specs.Instructions.{meaning_of};
 ghost use Rattle.facts.specs.declared.Condition.TheVariants.{V7, V8, V9, V10, V11, V12};
 ghost use Rattle.judge.specs.Conditions.{MayCall, MayReturn, CoversCallee, LandsAfter, EachTarget, fact_at};
-ghost use Rattle.judge.specs.Callees.{HoldsOfCallee, IsBelow, LandsBy, ReturnsThrough};
+ghost use Rattle.judge.specs.Callees.{HoldsOfCallee, IsBelow, LandsBy, ReturnsBy, ReturnsThrough};
 ghost use Rattle.judge.specs.Spots.{IsSpot, case_of, routine_at, HoldsHere};
 
 use crate::claims::{Claims, Routine};
@@ -190,7 +190,7 @@ impl<A: Allocator, C: Claims> Spot<'_, A, C> {
         ensures { IsTrue result ↔
             HoldsOfCallee (case_of C.claims self.now) V10 (routine_at self.now) self.now.at entry }
     {
-        let known = Known::of(self.fact);
+        let known = Known::entering(self.fact);
         self.lands(&Some(entry), entry.increment(), &known)
     }
 
@@ -233,13 +233,25 @@ impl<A: Allocator, C: Claims> Spot<'_, A, C> {
         if !self.is_own(entry) {
             return false;
         }
-        let offsets = self.fact.offsets();
         for offset in 0..8usize {
-            if offsets.contains(offset) && !self.may_return(entry, offset) {
+            if !self.returns_by(entry, offset) {
                 return false;
             }
         }
         true
+    }
+
+    /// Whether the routine of an entry may return by an offset, if the fact has that.
+    fn returns_by(&self, entry: Word, offset: usize) -> bool
+        requires spot { IsSpot C.claims self.now }
+        requires offset { offset < 8 }
+        ensures { IsTrue result ↔
+            ReturnsBy (case_of C.claims self.now) self.now.at entry offset }
+    {
+        if !self.fact.offsets().contains(offset) {
+            return true;
+        }
+        self.may_return(entry, offset)
     }
 
     /// Whether an entry is the routine's.

@@ -1,11 +1,11 @@
 -- What is asked of calls and returns, from what the code found.
 use Rattle.std.proofs.Common.{◌≡◌, ℕ, ◌+◌, ◌%◌, ◌<◌, Bool, true, false, ◌&&◌, Option, Some, None, refl, sym, ap, ◌∙◌, subst, arith}
 use Rattle.std.specs.Prelude.{IsTrue, ◌↔◌, if◌then◌else◌}
-use Rattle.std.proofs.lemmas.Bool.{false≢true, true≢false, and_parts}
+use Rattle.std.proofs.lemmas.Bool.{false≢true, true≢false}
 use Rattle.instruct.specs.Instructions.{Meaning, And, Tad, Isz, Dca, Jms, Jmp, Group1, Group2, Group3, Device, Undefined}
 use Rattle.wordset.specs.Words.{Words, SameWords, IsWithin, everything, plus}
 use Rattle.wordset.specs.Lanes.{words}
-use Rattle.declaration.specs.Declaration.{Routine, Declaration}
+use Rattle.declaration.specs.Declaration.{Routine}
 use Rattle.facts.specs.Facts.{Fact, Entails, EntailsOffsets, joined}
 use Rattle.facts.specs.Changes.{with_offsets}
 use Rattle.facts.specs.Conditions.{called, calls_through_index, returned_through}

@@ -1,5 +1,5 @@
 -- Going through a set: each of its words passes, or one of them doesn't.
-use Rattle.std.proofs.Common.{◌≡◌, ℕ, ◌+◌, ◌<◌, ◌≤◌, Bool, true, false, sym, ◌∙◌, subst, inl, inr, arith}
+use Rattle.std.proofs.Common.{◌≡◌, ℕ, ◌+◌, ◌<◌, Bool, true, false, sym, ◌∙◌, subst, inl, inr, arith}
 use Rattle.std.specs.Prelude.{IsTrue, ◌↔◌}
 use Rattle.std.proofs.lemmas.Bool.{cases_lt, cases_eq, true≢false, false≢true}
 use Rattle.wordset.specs.Words.{Words, IsFirstFrom, HasNoneFrom}
@@ -16,9 +16,9 @@ pub one_more : (p : ℕ → Type 0) (set : Words) {from w : ℕ} (i : ℕ) → I
 one_more p set {from} {w} i first same passes before a lt is = elim (cases_lt a from) [
   | inl h ↦ before a h is
   | inr h ↦ elim (cases_eq a w) [
-      | inl e ↦ subst p (sym e) passes
-      | inr n ↦ (let less : a < w = omega arith in absurd (true≢false (sym is ∙ first.before a h less)))
-    ]
+    | inl e ↦ subst p (sym e) passes
+    | inr n ↦ (let less : a < w = omega arith in absurd (true≢false (sym is ∙ first.before a h less)))
+  ]
 ]
 
 -- No word is left.

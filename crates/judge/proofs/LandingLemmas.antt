@@ -18,7 +18,7 @@ pub lands_some : (j : Case) (r : Routine) (a : ℕ) {k f g : Fact} (t b : Bool) 
     (IsTrue t ↔ (Entails k g × EntailsOffsets k g)) → Agree k f → IsTrue t ↔ LandsAt j r a f
 lands_some j r a {k} {f} {g} t b inner body there same entails agree =
     let here : IsTrue t ↔ (Entails f (fact_at j a) × EntailsOffsets f (fact_at j a)) =
-        entails_agree t agree (subst (λ x. IsTrue t ↔ (Entails k x × EntailsOffsets k x)) same entails) in (
+    entails_agree t agree (subst (λ x. IsTrue t ↔ (Entails k x × EntailsOffsets k x)) same entails) in (
       λ q. record { there = sym there; inside = sym body ∙ inner; entails = (here.0 q).0; offsets = (here.0 q).1 },
       λ l. here.1 (l.entails, l.offsets),
     )

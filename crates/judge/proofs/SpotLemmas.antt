@@ -18,7 +18,7 @@ pub meant : {A C : Type 0} (claims : C → Certificate) (s : Spot A C) (p : Plac
     p (kept.place_of s.place) (meaning s.fact.now) → p (place_in (case_of claims s) (routine_at s)) (fact_at (case_of claims s) s.at)
 meant claims s p spot h =
     let same : kept.place_of s.place ≡ place_in (case_of claims s) (routine_at s) =
-        ap (λ sites. record { image = (case_of claims s).image; declaration = (case_of claims s).declaration; routine = routine_at s; sites = sites }) spot.sites in
+    ap (λ sites. record { image = (case_of claims s).image; declaration = (case_of claims s).declaration; routine = routine_at s; sites = sites }) spot.sites in
     subst (λ pl. p pl (fact_at (case_of claims s) s.at)) same (subst (λ f. p (kept.place_of s.place) f) spot.fact h)
 
 pub all_land : {A C : Type 0} (claims : C → Certificate) (s : Spot A C) (word : ℕ) (os : List Outcome) (t : Bool) → IsSpot claims s →
@@ -26,5 +26,5 @@ pub all_land : {A C : Type 0} (claims : C → Certificate) (s : Spot A C) (word 
     IsTrue t ↔ EachOutcome (OutcomeLands (case_of claims s) (routine_at s)) os → IsTrue t ↔ HoldsHere claims s V4 word
 all_land claims s word os t spot agree told =
     let alike : EachOutcome (OutcomeLands (case_of claims s) (routine_at s)) os ↔ HoldsHere claims s V4 word =
-        outcomes_alike (case_of claims s) (routine_at s) os _ (meant claims s (λ pl f. AgreeingOutcomes os (outcomes_at pl f s.at word)) spot agree) in
+    outcomes_alike (case_of claims s) (routine_at s) os _ (meant claims s (λ pl f. AgreeingOutcomes os (outcomes_at pl f s.at word)) spot agree) in
     (λ q. alike.0 (told.0 q), λ h. told.1 (alike.1 h))

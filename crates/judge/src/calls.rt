@@ -27,7 +27,7 @@ impl<A: Allocator, C: Claims> Spot<'_, A, C> {
         if self.place.steps_call_pointer(self.at, word) {
             return false;
         }
-        self.callees_pass(&Condition::V7, word)
+        self.callees_pass(Condition::V7, word)
     }
 
     /// Whether the routine, if it isn't main, covers all that a word calls.
@@ -35,7 +35,7 @@ impl<A: Allocator, C: Claims> Spot<'_, A, C> {
         requires { IsSpot C.claims self.now }
         ensures { IsTrue result ↔ HoldsHere C.claims self.now V8 word }
     {
-        self.callees_pass(&Condition::V8, word)
+        self.callees_pass(Condition::V8, word)
     }
 
     /// Whether the address is a site of all that a word calls.
@@ -43,7 +43,7 @@ impl<A: Allocator, C: Claims> Spot<'_, A, C> {
         requires { IsSpot C.claims self.now }
         ensures { IsTrue result ↔ HoldsHere C.claims self.now V9 word }
     {
-        self.callees_pass(&Condition::V9, word)
+        self.callees_pass(Condition::V9, word)
     }
 
     /// Whether the fact lands at the first address of all that a word calls.
@@ -51,7 +51,7 @@ impl<A: Allocator, C: Claims> Spot<'_, A, C> {
         requires { IsSpot C.claims self.now }
         ensures { IsTrue result ↔ HoldsHere C.claims self.now V10 word }
     {
-        self.callees_pass(&Condition::V10, word)
+        self.callees_pass(Condition::V10, word)
     }
 
     /// Whether the run lands after each return of all that a word calls.
@@ -59,7 +59,7 @@ impl<A: Allocator, C: Claims> Spot<'_, A, C> {
         requires { IsSpot C.claims self.now }
         ensures { IsTrue result ↔ HoldsHere C.claims self.now V11 word }
     {
-        self.callees_pass(&Condition::V11, word)
+        self.callees_pass(Condition::V11, word)
     }
 
     /// Whether a word that returns does so from its own routine, at declared offsets whose exits are
@@ -75,12 +75,12 @@ impl<A: Allocator, C: Claims> Spot<'_, A, C> {
     }
 
     /// Whether a condition on calls holds of each callee of a word.
-    fn callees_pass(&self, condition: &Condition, word: Word) -> bool
+    fn callees_pass(&self, condition: Condition, word: Word) -> bool
         requires { IsSpot C.claims self.now }
         ensures { IsTrue result ↔
             EachTarget (case_of C.claims self.now) (routine_at self.now) self.now.at
             (meaning_of (case_of C.claims self.now).declaration.profile self.now.at word)
-            (HoldsOfCallee (case_of C.claims self.now) condition.now (routine_at self.now)
+            (HoldsOfCallee (case_of C.claims self.now) condition (routine_at self.now)
             self.now.at) }
     {
         let callees = self.place.calls(self.fact, self.at, word);
@@ -95,10 +95,10 @@ impl<A: Allocator, C: Claims> Spot<'_, A, C> {
     }
 
     /// Whether a condition on calls holds of a callee.
-    fn callee_passes(&self, condition: &Condition, entry: Word) -> bool
+    fn callee_passes(&self, condition: Condition, entry: Word) -> bool
         requires { IsSpot C.claims self.now }
         ensures { IsTrue result ↔
-            HoldsOfCallee (case_of C.claims self.now) condition.now (routine_at self.now)
+            HoldsOfCallee (case_of C.claims self.now) condition (routine_at self.now)
             self.now.at entry }
     {
         match condition {

@@ -15,21 +15,21 @@ returns-then-not-callee_passes g c =
     let j = case_of g.C.Claims.claims c.args.self.now in
     let r = routine_at c.args.self.now in
     let m = meaning_of j.declaration.profile c.args.self.now.at c.args.word in
-    each_target j r c.args.self.now.at m (HoldsOfCallee j c.args.condition.now r c.args.self.now.at) (words c.calls-callees.result) _
+    each_target j r c.args.self.now.at m (HoldsOfCallee j c.args.condition r c.args.self.now.at) (words c.calls-callees.result) _
     (meant g.C.Claims.claims c.args.self.now (λ pl f. SameWords (words c.calls-callees.result) (called pl f m)) c.requires c.calls-callees.ensures)
-    (one_fails (HoldsOfCallee j c.args.condition.now r c.args.self.now.at) (words c.calls-callees.result) _ c.in-Some.ensures c.if-not-callee_passes.true c.callee_passes.ensures.1)
+    (one_fails (HoldsOfCallee j c.args.condition r c.args.self.now.at) (words c.calls-callees.result) _ c.in-Some.ensures c.if-not-callee_passes.true c.callee_passes.ensures.1)
 
 pub loop-entry-preserved : goal.loop-entry-preserved
 loop-entry-preserved g c =
     let j = case_of g.C.Claims.claims c.args.self.now in
     let r = routine_at c.args.self.now in
-    one_more (HoldsOfCallee j c.args.condition.now r c.args.self.now.at) (words c.calls-callees.result) _ c.in-Some.ensures c.index-next.ensures.same (c.callee_passes.ensures.0 c.if-not-callee_passes.false) c.loop-entry.invariant
+    one_more (HoldsOfCallee j c.args.condition r c.args.self.now.at) (words c.calls-callees.result) _ c.in-Some.ensures c.index-next.ensures.same (c.callee_passes.ensures.0 c.if-not-callee_passes.false) c.loop-entry.invariant
 
 pub returns : goal.returns
 returns g c =
     let j = case_of g.C.Claims.claims c.args.self.now in
     let r = routine_at c.args.self.now in
     let m = meaning_of j.declaration.profile c.args.self.now.at c.args.word in
-    each_target j r c.args.self.now.at m (HoldsOfCallee j c.args.condition.now r c.args.self.now.at) (words c.calls-callees.result) _
+    each_target j r c.args.self.now.at m (HoldsOfCallee j c.args.condition r c.args.self.now.at) (words c.calls-callees.result) _
     (meant g.C.Claims.claims c.args.self.now (λ pl f. SameWords (words c.calls-callees.result) (called pl f m)) c.requires c.calls-callees.ensures)
-    (λ q. all_pass (HoldsOfCallee j c.args.condition.now r c.args.self.now.at) (words c.calls-callees.result) c.in_default.ensures c.loop-entry.invariant, λ each. refl)
+    (λ q. all_pass (HoldsOfCallee j c.args.condition r c.args.self.now.at) (words c.calls-callees.result) c.in_default.ensures c.loop-entry.invariant, λ each. refl)

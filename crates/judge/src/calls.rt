@@ -15,7 +15,8 @@ use std::alloc::Allocator;
 use word12::Word;
 use wordset::WordSet;
 
-/// The last address from which a call may return by each of the eight offsets.
+/// The last address from which a call may return by each of the eight offsets without going past
+/// 7777.
 const LAST_SITE: usize = 0o7767;
 
 impl<A: Allocator, C: Claims> Spot<'_, A, C> {
@@ -62,8 +63,8 @@ impl<A: Allocator, C: Claims> Spot<'_, A, C> {
         self.callees_pass(Condition::V11, word)
     }
 
-    /// Whether a word that returns does so from its own routine, at declared offsets whose exits are
-    /// entailed.
+    /// Whether a word that returns does so from its own routine, at declared offsets whose exits
+    /// are entailed.
     pub(crate) fn returns_well(&self, word: Word) -> bool
         requires { IsSpot C.claims self.now }
         ensures { IsTrue result ↔ HoldsHere C.claims self.now V12 word }
@@ -153,8 +154,8 @@ impl<A: Allocator, C: Claims> Spot<'_, A, C> {
         }
     }
 
-    /// Whether the routine, if it isn't main, has an entry and what its routine writes in its written
-    /// set, and isn't written there itself.
+    /// Whether the routine, if it isn't main, has an entry and what the entry's routine writes in
+    /// its written set, and isn't written there itself.
     fn covers(&self, entry: Word) -> bool
         requires { IsSpot C.claims self.now }
         ensures { IsTrue result ↔
@@ -184,7 +185,8 @@ impl<A: Allocator, C: Claims> Spot<'_, A, C> {
         self.claimed(entry).sites.contains(self.at)
     }
 
-    /// Whether the fact lands at the first address after an entry, with no count of the return word.
+    /// Whether the fact lands at the first address after an entry, with the return word not counted
+    /// up.
     fn enters(&self, entry: Word) -> bool
         requires { IsSpot C.claims self.now }
         ensures { IsTrue result ↔

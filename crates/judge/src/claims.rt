@@ -28,8 +28,8 @@ pub trait Claims {
     /// The certificate that is meant.
     ghost claims: { Self → Certificate };
 
-    /// What is claimed of the routine of an entry, if it is listed. Of another nothing is claimed: its
-    /// rank is 0, it has no sites and writes nothing.
+    /// What is claimed of the routine of an entry, if it is listed. One that isn't has rank 0, no
+    /// sites and no written set.
     fn routine(&self, entry: Word) -> Option<Routine>
         ensures listed { is_some result ≡ (claims self.now).listed entry }
         ensures rank { IfSome result (λ r. r.rank ≡ (claims self.now).rank entry) }

@@ -1,4 +1,5 @@
 pub mod Asked
+pub mod Callees
 pub mod Conditions
 pub mod Headline
 pub mod Judged

@@ -3,11 +3,12 @@
 
 ghost use Rattle.judge.specs.Headline.{ProgramsAreSafe, UnlistedReadsAreFree};
 
+mod calls;
 mod claims;
 mod judging;
+mod landing;
 mod lines;
 mod spot;
-mod stand_in;
 mod words;
 
 pub use claims::{Claims, Routine};

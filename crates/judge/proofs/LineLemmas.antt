@@ -1,5 +1,5 @@
 -- Whether the lines at an address are where they may be, from what is asked of them.
-use Rattle.std.proofs.Common.{◌≡◌, ℕ, ◌<◌, ◌≤◌, Bool, true, false, ◌⊎◌, Option, Some, None, Ok, Err, refl, sym, ap, ◌∙◌, subst, inl, inr, arith}
+use Rattle.std.proofs.Common.{◌≡◌, ℕ, ◌<◌, ◌≤◌, Bool, true, false, not, ◌⊎◌, Option, Some, None, Ok, Err, refl, sym, ap, ◌∙◌, subst, inl, inr, arith}
 use Rattle.std.specs.Prelude.{IsTrue, ◌↔◌, MatchResult, Result}
 use Rattle.std.specs.Option.{option_map}
 use Rattle.wordset.specs.Words.{Words, some_below}
@@ -27,8 +27,8 @@ pub nowhere : (j : Case) (a : ℕ) → ((r : Routine) → j.declaration.body r a
 nowhere j a none (inl p) = true_false (sym p.0 ∙ none None)
 nowhere j a none (inr p) = true_false (sym p.1 ∙ none (Some p.0))
 
-pub counts_in_main : (j : Case) (a : ℕ) → IsOnly j a None → (((o : ℕ) → o < 8 → (fact_at j a).offsets o ≡ false) → ⊥) → IsPlaced j a → ⊥
-counts_in_main j a only h (inl p) = h p.1
+pub counts_in_main : (j : Case) (a : ℕ) → IsOnly j a None → some_below 8 (fact_at j a).offsets ≡ true → IsPlaced j a → ⊥
+counts_in_main j a only h (inl p) = true_false (sym h ∙ some_none_of 8 (fact_at j a).offsets p.1)
 counts_in_main j a only h (inr p) = let e : Some None ≡ Some (Some p.0) = only (Some p.0) p.1 in cc
 
 -- in a routine's body
@@ -41,28 +41,17 @@ in_routine j a e only (inr p) =
 pub is_unlisted : (j : Case) (a e : ℕ) → IsOnly j a (Some e) → j.certificate.listed e ≡ false → IsPlaced j a → ⊥
 is_unlisted j a e only h p = true_false (sym (in_routine j a e only p).0 ∙ h)
 
-pub counts_nowhere : (j : Case) (a e : ℕ) → IsOnly j a (Some e) → ((o : ℕ) → o < 8 → (fact_at j a).offsets o ≡ false) → IsPlaced j a → ⊥
-counts_nowhere j a e only h p = go (in_routine j a e only p).1
-  where
-    none : some_below 8 (fact_at j a).offsets ≡ false
-    none = some_none_of 8 (fact_at j a).offsets h
-
-    go : some_below 8 (fact_at j a).offsets ≡ true → ⊥
-    go s = true_false (sym s ∙ none)
+pub counts_nowhere : (j : Case) (a e : ℕ) → IsOnly j a (Some e) → some_below 8 (fact_at j a).offsets ≡ false → IsPlaced j a → ⊥
+counts_nowhere j a e only h p = true_false (sym (in_routine j a e only p).1 ∙ h)
 
 -- some offset, where not all are missing
-pub some_offset : (s : Words) → (((o : ℕ) → o < 8 → s o ≡ false) → ⊥) → some_below 8 s ≡ true
-some_offset s h = go (some_below 8 s) refl
+pub not_empty : (s t : Words) (b : Bool) → s ≡ t → (IsTrue b ↔ ((o : ℕ) → o < 8 → s o ≡ false)) → not b ≡ some_below 8 t
+not_empty s t true e h = sym (some_none_of 8 t (λ o lt. sym (ap (λ (u : Words). u o) e) ∙ h.0 refl o lt))
+not_empty s t false e h = sym (go (some_below 8 t) refl)
   where
-    go : (b : Bool) → some_below 8 s ≡ b → some_below 8 s ≡ true
-    go true e = e
-    go false e = absurd (h (none_of_some 8 s e))
-
-pub is_empty_iff : (s t : Words) (b : Bool) → s ≡ t → (IsTrue b ↔ ((o : ℕ) → o < 8 → s o ≡ false)) → IsTrue b ↔ ((o : ℕ) → o < 8 → t o ≡ false)
-is_empty_iff s t b e h = (
-  λ q o lt. sym (ap (λ (u : Words). u o) e) ∙ h.0 q o lt,
-  λ n. h.1 (λ o lt. ap (λ (u : Words). u o) e ∙ n o lt),
-)
+    go : (b : Bool) → some_below 8 t ≡ b → some_below 8 t ≡ true
+    go true q = q
+    go false q = absurd (true_false (sym (h.1 (λ o lt. ap (λ (u : Words). u o) e ∙ none_of_some 8 t q o lt))))
 
 -- all lines at an address
 pub lines_placed : (j : Case) (a : ℕ) → RoutinesArePlaced j a → (j.certificate.has_fact a ≡ true → IsPlaced j a) → LinesArePlaced j a

@@ -6,8 +6,7 @@ use Rattle.std.proofs.lemmas.Bool.{false≢true, leb-true, le-leb}
 use Rattle.instruct.specs.Instructions.{meaning_of}
 use Rattle.wordset.specs.Words.{Words, SameWords, how_many}
 use Rattle.declaration.specs.Declaration.{Routine, IsDeclared}
-use Rattle.certificate.specs.Certificate.{sites_of}
-use Rattle.facts.specs.Facts.{Fact, Place, possible}
+use Rattle.facts.specs.Facts.{possible}
 use Rattle.facts.specs.declared.Condition.{Condition}
 use Rattle.facts.specs.declared.Condition.TheVariants.{V1, V2, V3}
 use Rattle.judge.specs.Conditions.{Case, HoldsAt, HoldsFor, HoldsForEach, HasFewWords, IsIn, fact_at, place_in, place_among}
@@ -80,15 +79,3 @@ too_many j v a h = not_true (λ holds. false≢true (h (holds_few j v a holds)))
 
 pub holds_iff : (j : Case) (v : Condition) (a : ℕ) (b : Bool) → 2 ≤ place_among v → (asks_few v ≡ true → HasFewWords j a) → (IsTrue b ↔ HoldsForEach j v a) → IsTrue b ↔ HoldsAt j v a
 holds_iff j v a b le few h = (λ t. holds_from j v a le few (h.0 t), λ holds. h.1 (holds_each j v a le holds))
-
--- what is decided of a place and a fact is decided of the same
-pub same_iff : (P : Place → Fact → Type 0) (p q : Place) (f g : Fact) (b : Bool) → p ≡ q → f ≡ g → (IsTrue b ↔ P p f) → IsTrue b ↔ P q g
-same_iff P p q f g b e d h = (
-  λ t. subst (λ k. P q k) d (subst (λ k. P k f) e (h.0 t)),
-  λ x. h.1 (subst (λ k. P k f) (sym e) (subst (λ k. P q k) (sym d) x)),
-)
-
--- the place of a routine, with its sites as they are claimed
-pub same_place : (j : Case) (r : Routine) (s : Words) → s ≡ sites_of j.certificate r →
-    (let p : Place = record { image = j.image; declaration = j.declaration; routine = r; sites = s } in p ≡ place_in j r)
-same_place j r s e = let P : Words → Place = λ t. record { image = j.image; declaration = j.declaration; routine = r; sites = t } in ap P e

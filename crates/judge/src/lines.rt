@@ -51,6 +51,13 @@ impl Body {
     }
 }
 
+/// Whether a fact has an offset.
+fn has_offset(fact: &Fact) -> bool
+    ensures { result ≡ some_below 8 (meaning fact.now).offsets }
+{
+    !fact.offsets().is_empty()
+}
+
 impl<A: Allocator, C: Claims> Case<'_, A, C> {
     /// Whether there is a fact at the start, and it holds of every start.
     pub(crate) fn starts_well(&self) -> bool
@@ -103,20 +110,18 @@ impl<A: Allocator, C: Claims> Case<'_, A, C> {
             (IsPlaced (case_kept C.claims self.now) at → ⊥)
             (λ body. IsBody (case_kept C.claims self.now) at body) }
     {
-        let Some(owner) = self.declaration.owner_of(at) else {
-            return None;
-        };
-        let is_empty = fact.offsets().is_empty();
+        let owner = self.declaration.owner_of(at)?;
+        let counts = has_offset(fact);
         match owner {
-            Owner::Main => if is_empty { Some(Body::Main) } else { None },
-            Owner::Routine(entry) => match self.claims.routine(entry) {
-                None => None,
-                Some(routine) => if is_empty {
-                    None
-                } else {
+            Owner::Main => if counts { None } else { Some(Body::Main) },
+            Owner::Routine(entry) => {
+                let routine = self.claims.routine(entry)?;
+                if counts {
                     Some(Body::Of(entry, routine))
-                },
-            },
+                } else {
+                    None
+                }
+            }
         }
     }
 

@@ -1,3 +1,6 @@
+pub mod Asked
+pub mod Callees
 pub mod Conditions
 pub mod Headline
+pub mod Judged
 pub mod Spots

@@ -1,7 +1,7 @@
 //! What the checker asks of a certificate.
 
-ghost use Rattle.std.specs.Prelude.{ℕ, ◌≡◌, ◌<◌, true, is_some, IfSome};
-ghost use Rattle.wordset.specs.Words.{everything};
+ghost use Rattle.std.specs.Prelude.{ℕ, ◌≡◌, ◌<◌, true, is_some, IfSome, IfNone};
+ghost use Rattle.wordset.specs.Words.{everything, nothing};
 ghost use Rattle.wordset.specs.Lanes.{words};
 ghost use Rattle.facts.specs.Changes.{with_offsets};
 ghost use Rattle.facts.specs.Meaning.{meaning};
@@ -28,12 +28,16 @@ pub trait Claims {
     /// The certificate that is meant.
     ghost claims: { Self → Certificate };
 
-    /// What is claimed of the routine of an entry, if it is listed.
+    /// What is claimed of the routine of an entry, if it is listed. One that isn't has rank 0, no
+    /// sites and no written set.
     fn routine(&self, entry: Word) -> Option<Routine>
         ensures listed { is_some result ≡ (claims self.now).listed entry }
         ensures rank { IfSome result (λ r. r.rank ≡ (claims self.now).rank entry) }
         ensures sites { IfSome result (λ r. words r.sites ≡ (claims self.now).sites entry) }
-        ensures writes { IfSome result (λ r. words r.writes ≡ (claims self.now).writes entry) };
+        ensures writes { IfSome result (λ r. words r.writes ≡ (claims self.now).writes entry) }
+        ensures no_rank { IfNone result ((claims self.now).rank entry ≡ 0) }
+        ensures no_sites { IfNone result ((claims self.now).sites entry ≡ nothing) }
+        ensures no_writes { IfNone result ((claims self.now).writes entry ≡ nothing) };
 
     /// The fact at an address, if there is one.
     fn fact(&self, at: Word) -> Option<Fact>

@@ -1,5 +1,5 @@
-use Rattle.certificate.proofs.GatherLemmas.{text_of_gathered}
+use Rattle.certificate.proofs.FormLemmas.{gathered_formed}
 use Rattle.certificate.proofs.Certificate.is_certificate.Goals as goal
 
 pub returns : goal.returns
-returns c = ?
+returns g c = rw (← c.self.view_is) (gathered_formed _ _ c.self.invariant.order)

@@ -8,3 +8,5 @@ pub mod ParserLemmas
 pub mod LengthLemmas
 pub mod GatherLemmas
 pub mod FormLemmas
+pub mod FoundLemmas
+pub mod DetailLemmas

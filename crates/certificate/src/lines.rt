@@ -47,10 +47,12 @@ impl<A: Allocator> KeptLines<A> {
         ensures { (before : List SaidLine) → Keeps self.old before →
             OnOk result (Keeps self.new (said line.now ∷ before)) }
     {
-        if !is_detail(line) {
-            self.places.push(place_of(line))?;
-            self.starts.push(self.lines.len())?;
+        if is_detail(line) {
+            self.lines.push(*line)?;
+            return Ok(());
         }
+        self.places.push(place_of(line))?;
+        self.starts.push(self.lines.len())?;
         self.lines.push(*line)?;
         Ok(())
     }
@@ -62,10 +64,7 @@ impl<A: Allocator> KeptLines<A> {
         ensures { map said result.now ≡ from_place place (all_said self.now) }
     {
         match self.places.binary_search(&place) {
-            Ok(at) => {
-                let start = self.starts[at];
-                &self.lines[start..]
-            }
+            Ok(at) => self.lines.split_at(self.starts[at]).1,
             Err(_) => &[],
         }
     }

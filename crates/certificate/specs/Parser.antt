@@ -20,7 +20,7 @@ pub record Reached {A : Type 0} (p : Progress) (text : List ℕ) (kept : KeptLin
   pub order : AreInOrder p.version before
   pub tracks : Tracks p before
   pub is : text ≡ front p.version before
-  pub kept : Keeps kept before
+  pub keeps : Keeps kept before
 
 -- The whole lines that were read.
 abbrev pub HasRead : {A : Type 0} → Option Progress → List ℕ → KeptLines A → Type 0

@@ -5,11 +5,8 @@ ghost use Rattle.std.specs.Prelude.{IfSome, false};
 ghost use Rattle.certificate.specs.declared.Version.{Version as Spelled};
 ghost use Rattle.certificate.specs.declared.CertificateFault.TheVariants.{NoMemory};
 ghost use Rattle.certificate.specs.Spelling.{version_text};
-ghost use Rattle.certificate.specs.Faults.{most_bytes, HasFault, IsText};
-ghost use Rattle.certificate.specs.Kept.{meaning};
-ghost use Rattle.certificate.specs.Spelling.{text};
-ghost use Rattle.certificate.specs.Reading.{AreLines};
-ghost use Rattle.certificate.specs.Parser.{Seen, IsSmall, Refuses, IsParsed};
+ghost use Rattle.certificate.specs.Faults.{most_bytes, HasFault};
+ghost use Rattle.certificate.specs.Parser.{HasRead, Seen, IsSmall, Refuses, IsParsed};
 
 use crate::lines::KeptLines;
 use crate::progress::Progress;
@@ -161,7 +158,8 @@ impl<A: Allocator> Parser<A> {
 
     /// The certificate, where the bytes are a whole one.
     pub fn finish(self) -> Result<Certificate<A>, CertificateFault>
-        requires { IsSmall self }
+        requires small { IsSmall self }
+        requires read { HasRead self.progress self.text.items self.kept }
         ensures { (bytes : List ℕ) → Seen self bytes → self.count ≡ length bytes →
             MatchResult result (IsParsed bytes) (HasFault bytes) }
     {

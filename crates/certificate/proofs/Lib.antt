@@ -10,3 +10,4 @@ pub mod GatherLemmas
 pub mod FormLemmas
 pub mod FoundLemmas
 pub mod DetailLemmas
+pub mod ReaderLemmas

@@ -269,13 +269,10 @@ pub parsed : {X : Type 0} (r : Result X CertificateFault) (P : List ℕ → X �
     MatchResult r (P (take i bytes)) (HasFault (take i bytes)) → MatchResult r (P bytes) (HasFault bytes)
 parsed r P bytes i a b h = subst (λ (x : List ℕ). MatchResult r (P x) (HasFault x)) (all_taken i bytes a b) h
 
-pub if_first : {X : Type 0} (r : Result X CertificateFault) (P O : X → Type 0) (Q : CertificateFault → Type 0) → MatchResult r (λ x. P x × O x) Q → IfOk r P
-if_first (Ok x) P O Q h = h.0
-if_first (Err f) P O Q h = tt
-
-pub if_second : {X : Type 0} (r : Result X CertificateFault) (P O : X → Type 0) (Q : CertificateFault → Type 0) → MatchResult r (λ x. P x × O x) Q → IfOk r O
-if_second (Ok x) P O Q h = h.1
-if_second (Err f) P O Q h = tt
+pub if_ok : {X : Type 0} (r : Result X CertificateFault) (P O : X → Type 0) (Q : CertificateFault → Type 0) → ((x : X) → P x → O x) →
+    MatchResult r P Q → IfOk r O
+if_ok (Ok x) P O Q to h = to x h
+if_ok (Err f) P O Q to h = tt
 
 pub if_refused : {X : Type 0} (r : Result X CertificateFault) (P : X → Type 0) (bytes : List ℕ) → MatchResult r P (HasFault bytes) →
     IfErr r (λ f. (f ≡ faults.NoMemory) ⊎ HasFault bytes f)

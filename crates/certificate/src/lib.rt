@@ -162,10 +162,11 @@ impl<A: Allocator> Certificate<A> {
         ensures offsets { IfSome result (λ f. (o : ℕ) → o < 8 →
             (fact_meaning f).offsets o ≡ true) }
     {
+        let kept = &self.kept;
         if offset >= 8 {
             return None;
         }
-        first_exit(self.kept.from(8192 + 8 * entry.index() + offset))
+        first_exit(kept.from(8192 + 8 * entry.index() + offset))
     }
 }
 

@@ -39,7 +39,7 @@ fn place_of_equation(equation: &Equation) -> usize
 }
 
 /// The place of a line in the order.
-fn place_of(line: &Line) -> usize
+pub fn place_of(line: &Line) -> usize
     ensures same { result ≡ place (said line.now) }
     ensures small { result < 2 ^ 26 }
 {
@@ -54,7 +54,7 @@ fn place_of(line: &Line) -> usize
 }
 
 /// Whether a line says more of the fact or exit before it.
-fn is_detail(line: &Line) -> bool
+pub fn is_detail(line: &Line) -> bool
     ensures { result ≡ is_detail (said line.now) }
 {
     matches!(line, Line::Cell(_) | Line::Equation(_))

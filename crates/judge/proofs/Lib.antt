@@ -11,3 +11,5 @@ pub mod SpotLemmas
 pub mod Unlisted
 pub mod WordLemmas
 pub mod Worlds
+pub mod ClaimsLemmas
+pub mod VerdictLemmas

@@ -4,3 +4,4 @@ pub mod Conditions
 pub mod Headline
 pub mod Judged
 pub mod Spots
+pub mod Certifying

@@ -8,8 +8,9 @@ ghost use Rattle.judge.specs.Conditions.{MayCall, MayReturn, CoversCallee, Lands
 ghost use Rattle.judge.specs.Callees.{HoldsOfCallee, IsBelow, LandsBy, ReturnsBy, ReturnsThrough};
 ghost use Rattle.judge.specs.Spots.{IsSpot, case_of, routine_at, HoldsHere};
 
-use crate::claims::{Claims, Routine};
+use crate::claims::Claims;
 use crate::spot::Spot;
+use certificate::Routine;
 use facts::{Condition, Known, entails};
 use std::alloc::Allocator;
 use word12::Word;

@@ -7,9 +7,10 @@ ghost use Rattle.facts.specs.Places.{routine_of, sites_of, writes_of};
 ghost use Rattle.judge.specs.Conditions.{StartsWell, IsPlaced, fact_at};
 ghost use Rattle.judge.specs.Asked.{case_kept, names_routine, RoutinesArePlaced, routine_with, sites_with, writes_with, IsBody, HoldsBetween, FailsAtLine};
 
-use crate::claims::{Claims, Routine};
+use crate::claims::Claims;
 use crate::spot::Spot;
 use bin_tape::Image;
+use certificate::Routine;
 use declaration::{Declaration, Owner};
 use facts::{Condition, Fact, Running, holds_before};
 use std::alloc::Allocator;

@@ -1,7 +1,6 @@
 -- Whether the lines at an address are where they may be, from what is asked of them.
-use Rattle.std.proofs.Common.{◌≡◌, ℕ, ◌<◌, ◌≤◌, Bool, true, false, not, ◌⊎◌, Option, Some, None, Ok, Err, refl, sym, ap, ◌∙◌, subst, inl, inr, arith}
+use Rattle.std.proofs.Common.{◌≡◌, ℕ, ◌<◌, Bool, true, false, not, Some, None, Ok, Err, refl, sym, ap, ◌∙◌, subst, inl, inr, arith}
 use Rattle.std.specs.Prelude.{IsTrue, ◌↔◌, MatchResult, Result}
-use Rattle.std.specs.Option.{option_map}
 use Rattle.wordset.specs.Words.{Words, some_below}
 use Rattle.wordset.proofs.Tests.{or_left, or_right, true_false, none_of_some, some_none_of}
 use Rattle.facts.specs.Facts.{Fact}

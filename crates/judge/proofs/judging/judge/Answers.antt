@@ -1,4 +1,4 @@
-use Rattle.std.proofs.Common.{◌≡◌, ◌<◌, ℕ, ◌∙◌, sym, subst, arith, below_more}
+use Rattle.std.proofs.Common.{◌∙◌, sym, subst, arith, below_more}
 use Rattle.std.proofs.lemmas.Bool.{true≢false}
 use Rattle.judge.specs.Conditions.{Case, IsFirst, IsValid}
 use Rattle.judge.specs.Asked.{HoldsBetween, FailsAtLine}

@@ -1,4 +1,4 @@
-use Rattle.std.proofs.Common.{◌≡◌, ◌∙◌, true, false, None, inl, ap, sym, refl}
+use Rattle.std.proofs.Common.{◌≡◌, ◌∙◌, true, None, inl, ap, sym, refl}
 use Rattle.wordset.specs.Words.{some_below}
 use Rattle.wordset.proofs.Tests.{none_of_some}
 use Rattle.facts.specs.Facts.{Fact}

@@ -1,4 +1,4 @@
-use Rattle.std.proofs.Common.{◌≡◌, sym}
+use Rattle.std.proofs.Common.{sym}
 use Rattle.judge.specs.Asked.{case_kept}
 use Rattle.judge.proofs.LineLemmas.{with_lines, lines_placed}
 use Rattle.judge.proofs.lines.Case.check_at.Goals as goal

@@ -1,16 +1,16 @@
 -- Lines that are kept, and are found by their places.
 use Rattle.std.proofs.Common.{◌≡◌, ◌≢◌, ℕ, ◌+◌, ◌<◌, ◌≤◌, ◌==◌, Bool, true, false, List, [], ◌∷◌, ◌++◌, length, get_or, drop, Result, Ok, Err, nat_cmp, zero, suc, refl, ap, ◌∙◌, sym, inl, inr, arith, append-nil}
-use Rattle.std.specs.Prelude.{◌*◌, if◌then◌else◌, map, IfOk, IfErr, MatchResult}
+use Rattle.std.specs.Prelude.{◌*◌, if◌then◌else◌, map, MatchResult}
 use Rattle.std.proofs.lemmas.Bool.{eq-eqb, cases_lt}
 use Rattle.std.proofs.lemmas.Bool.Decides.{eqb_tells}
 use Rattle.std.proofs.lemmas.List.Sorted.{searched}
 use Rattle.std.specs.List.Sorted.{IsBinarySearchResult}
-use Rattle.std.proofs.lemmas.List.{get_or_default, map_push, map-append, length-map}
+use Rattle.std.proofs.lemmas.List.{get_or_default, map_push, length-map}
 use Rattle.std.specs.List.{drop-map}
 use Rattle.certificate.specs.declared.Version.{Version}
 use Rattle.certificate.specs.declared.line.Line.{Line as ReadLine}
 use Rattle.certificate.specs.declared.lines.KeptLines.{KeptLines}
-use Rattle.certificate.specs.Reading.{RiseFrom, place_of_equation}
+use Rattle.certificate.specs.Reading.{RiseFrom}
 use Rattle.certificate.specs.Line.{Line, RoutineIs, FactIs, ExitIs, CellIs, EquationIs, End}
 use Rattle.certificate.specs.Order.{is_detail, heads, place, next_place, AreInOrder}
 use Rattle.certificate.specs.Meaning.{said}

@@ -1,14 +1,13 @@
 -- The lines of a certificate in order: what they say together has just these lines, and is of its form.
-use Rattle.std.proofs.Common.{◌≡◌, ℕ, ◌+◌, ◌*◌, ◌<◌, ◌≤◌, Bool, true, false, List, [], ◌∷◌, ◌++◌, length, refl, ap, ◌∙◌, sym, arith, append_assoc, append-nil}
+use Rattle.std.proofs.Common.{◌≡◌, ◌+◌, ◌<◌, ◌≤◌, Bool, true, false, List, [], ◌∷◌, ◌++◌, refl, ap, ◌∙◌, sym, arith, append_assoc, append-nil}
 use Rattle.std.specs.Prelude.{not, ◌&&◌, ◌||◌, map, flat_map}
 use Rattle.facts.specs.Facts.{Equation}
 use Rattle.facts.specs.Statements.{TrackedCell}
 use Rattle.certificate.specs.declared.Version.{Version}
-use Rattle.certificate.specs.Spelling.{RoutineLine, FactLine, ExitLine, Lines, version_text, text}
-use Rattle.certificate.specs.Reading.{RiseFrom, place_of_equation, Each, IsTracked, IsEquation, IsStatement, IsRoutine, IsFactLine, IsExit, AreLines}
-use Rattle.certificate.specs.Line.{Registers, Line, RoutineIs, FactIs, ExitIs, CellIs, EquationIs, End, IsLine, IsRegisters, line_text, lines_of_fact, lines_of_exit, lines_of, ended, all_ended}
-use Rattle.certificate.specs.Order.{any, how_many, is_end, has_details, is_routine, is_cell, is_equation, heads, details_of_last, place, next_place, may_stand, IsNext, AreInOrder, front}
-use Rattle.certificate.specs.Gathered.{cells_under, equations_under, stated, routines_of, facts_of, exits_of, gathered}
+use Rattle.certificate.specs.Spelling.{RoutineLine, FactLine, ExitLine, version_text, text}
+use Rattle.certificate.specs.Line.{Line, RoutineIs, FactIs, ExitIs, CellIs, EquationIs, End, IsLine, line_text, lines_of_fact, lines_of_exit, lines_of, ended, all_ended}
+use Rattle.certificate.specs.Order.{any, is_end, has_details, heads, details_of_last, next_place, IsNext, AreInOrder, front}
+use Rattle.certificate.specs.Gathered.{cells_under, equations_under, routines_of, facts_of, exits_of, gathered}
 use Rattle.certificate.specs.Found.{newest_first}
 use Rattle.certificate.proofs.TextLemmas.{text_law}
 

@@ -109,7 +109,7 @@ set_out v before (EquationIs q ∷ ls) a f e =
     let i : ls ≡ whole_of ls = set_out v (EquationIs q ∷ before) ls (f.0, f.1, a) f.2 e in
     let j : ls ≡ whole [] (equations_under ls) (routines_of ls) (facts_of ls) (exits_of ls) = rw n at i in
     let k : EquationIs q ∷ ls ≡ whole [] (q ∷ equations_under ls) (routines_of ls) (facts_of ls) (exits_of ls) =
-        ap (λ (x : List Line). EquationIs q ∷ x) j in
+    ap (λ (x : List Line). EquationIs q ∷ x) j in
     rw n k
 set_out v before (RoutineIs r ∷ ls) a f e =
     let n = no_details v (RoutineIs r ∷ before) ls f.2 (none (any has_details before) refl) in

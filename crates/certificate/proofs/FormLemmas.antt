@@ -1,12 +1,10 @@
 -- What lines in order say together is of its form, rises and keeps the limits.
 use Rattle.std.proofs.Common.{◌≡◌, ℕ, ◌+◌, ◌*◌, ◌<◌, ◌≤◌, List, [], ◌∷◌, length, refl, arith}
 use Rattle.std.specs.Prelude.{map}
-use Rattle.facts.specs.Facts.{Equation}
-use Rattle.facts.specs.Statements.{TrackedCell}
 use Rattle.certificate.specs.declared.Version.{Version}
 use Rattle.certificate.specs.Reading.{RiseFrom, place_of_equation, Each, IsTracked, IsEquation, IsStatement, IsRoutine, IsFactLine, IsExit, AreLines}
-use Rattle.certificate.specs.Line.{Registers, Line, RoutineIs, FactIs, ExitIs, CellIs, EquationIs, End, IsLine, IsRegisters}
-use Rattle.certificate.specs.Order.{how_many, is_routine, is_cell, is_equation, heads, details_of_last, place, next_place, AreInOrder}
+use Rattle.certificate.specs.Line.{Registers, Line, RoutineIs, FactIs, ExitIs, CellIs, EquationIs, End, IsRegisters}
+use Rattle.certificate.specs.Order.{how_many, is_routine, is_cell, is_equation, heads, details_of_last, next_place, AreInOrder}
 use Rattle.certificate.specs.Gathered.{cells_under, equations_under, stated, routines_of, facts_of, exits_of, gathered}
 use Rattle.certificate.specs.Found.{newest_first}
 use Rattle.certificate.proofs.GatherLemmas.{Follow, follows}
@@ -24,9 +22,10 @@ cells_tracked v before (End ∷ ls) f = tt
 cells_rise : (v : Version) (before ls : List Line) (low : ℕ) → Follow v before ls → low ≤ next_place (details_of_last before) →
     RiseFrom low (map (λ c. c.address) (cells_under ls))
 cells_rise v before [] low f h = tt
-cells_rise v before (CellIs c ∷ ls) low f h =
-    (let o : next_place (details_of_last before) ≤ c.address = f.1.order in omega arith,
-     cells_rise v (CellIs c ∷ before) ls (c.address + 1) f.2 (omega arith))
+cells_rise v before (CellIs c ∷ ls) low f h = (
+  let o : next_place (details_of_last before) ≤ c.address = f.1.order in omega arith,
+  cells_rise v (CellIs c ∷ before) ls (c.address + 1) f.2 (omega arith),
+)
 cells_rise v before (EquationIs q ∷ ls) low f h =
     cells_rise v (EquationIs q ∷ before) ls low f.2
     (let o : next_place (details_of_last before) ≤ 4096 + place_of_equation q = f.1.order in omega arith)
@@ -41,10 +40,10 @@ few_cells v before [] f h = omega arith
 few_cells v before (CellIs c ∷ ls) f h =
     let o : how_many is_cell (details_of_last before) < 64 = f.1.room in
     let i : how_many is_cell (details_of_last (CellIs c ∷ before)) + length (cells_under ls) ≤ 64 =
-        few_cells v (CellIs c ∷ before) ls f.2 (omega arith) in omega arith
+    few_cells v (CellIs c ∷ before) ls f.2 (omega arith) in omega arith
 few_cells v before (EquationIs q ∷ ls) f h =
     let i : how_many is_cell (details_of_last (EquationIs q ∷ before)) + length (cells_under ls) ≤ 64 =
-        few_cells v (EquationIs q ∷ before) ls f.2 (omega arith) in omega arith
+    few_cells v (EquationIs q ∷ before) ls f.2 (omega arith) in omega arith
 few_cells v before (RoutineIs r ∷ ls) f h = omega arith
 few_cells v before (FactIs a r m ∷ ls) f h = omega arith
 few_cells v before (ExitIs x o r ∷ ls) f h = omega arith
@@ -67,9 +66,10 @@ equations_rise v before [] low f h = tt
 equations_rise v before (CellIs c ∷ ls) low f h =
     equations_rise v (CellIs c ∷ before) ls low f.2
     (λ p g. h p (let o : next_place (details_of_last before) ≤ c.address = f.1.order in omega arith))
-equations_rise v before (EquationIs q ∷ ls) low f h =
-    (h (place_of_equation q) f.1.order,
-     equations_rise v (EquationIs q ∷ before) ls (place_of_equation q + 1) f.2 (λ p g. omega arith))
+equations_rise v before (EquationIs q ∷ ls) low f h = (
+  h (place_of_equation q) f.1.order,
+  equations_rise v (EquationIs q ∷ before) ls (place_of_equation q + 1) f.2 (λ p g. omega arith),
+)
 equations_rise v before (RoutineIs r ∷ ls) low f h = tt
 equations_rise v before (FactIs a r m ∷ ls) low f h = tt
 equations_rise v before (ExitIs x o r ∷ ls) low f h = tt
@@ -80,11 +80,11 @@ few_equations : (v : Version) (before ls : List Line) → Follow v before ls →
 few_equations v before [] f h = omega arith
 few_equations v before (CellIs c ∷ ls) f h =
     let i : how_many is_equation (details_of_last (CellIs c ∷ before)) + length (equations_under ls) ≤ 32 =
-        few_equations v (CellIs c ∷ before) ls f.2 (omega arith) in omega arith
+    few_equations v (CellIs c ∷ before) ls f.2 (omega arith) in omega arith
 few_equations v before (EquationIs q ∷ ls) f h =
     let o : how_many is_equation (details_of_last before) < 32 = f.1.room in
     let i : how_many is_equation (details_of_last (EquationIs q ∷ before)) + length (equations_under ls) ≤ 32 =
-        few_equations v (EquationIs q ∷ before) ls f.2 (omega arith) in omega arith
+    few_equations v (EquationIs q ∷ before) ls f.2 (omega arith) in omega arith
 few_equations v before (RoutineIs r ∷ ls) f h = omega arith
 few_equations v before (FactIs a r m ∷ ls) f h = omega arith
 few_equations v before (ExitIs x o r ∷ ls) f h = omega arith
@@ -120,9 +120,10 @@ routines_formed v before (End ∷ ls) f = routines_formed v (End ∷ before) ls 
 routines_rise : (v : Version) (before ls : List Line) (low : ℕ) → Follow v before ls → low ≤ next_place (heads before) →
     RiseFrom low (map (λ r. r.entry) (routines_of ls))
 routines_rise v before [] low f h = tt
-routines_rise v before (RoutineIs r ∷ ls) low f h =
-    (let o : next_place (heads before) ≤ r.entry = f.1.order in omega arith,
-     routines_rise v (RoutineIs r ∷ before) ls (r.entry + 1) f.2 (omega arith))
+routines_rise v before (RoutineIs r ∷ ls) low f h = (
+  let o : next_place (heads before) ≤ r.entry = f.1.order in omega arith,
+  routines_rise v (RoutineIs r ∷ before) ls (r.entry + 1) f.2 (omega arith),
+)
 routines_rise v before (FactIs a r m ∷ ls) low f h =
     routines_rise v (FactIs a r m ∷ before) ls low f.2 (let o : next_place (heads before) ≤ 4096 + a = f.1.order in omega arith)
 routines_rise v before (ExitIs x o r ∷ ls) low f h =
@@ -138,29 +139,30 @@ few_routines v before [] f h = omega arith
 few_routines v before (RoutineIs r ∷ ls) f h =
     let o : how_many is_routine before < 64 = f.1.room in
     let i : how_many is_routine (RoutineIs r ∷ before) + length (routines_of ls) ≤ 64 =
-        few_routines v (RoutineIs r ∷ before) ls f.2 (omega arith) in omega arith
+    few_routines v (RoutineIs r ∷ before) ls f.2 (omega arith) in omega arith
 few_routines v before (FactIs a r m ∷ ls) f h =
     let i : how_many is_routine (FactIs a r m ∷ before) + length (routines_of ls) ≤ 64 =
-        few_routines v (FactIs a r m ∷ before) ls f.2 (omega arith) in omega arith
+    few_routines v (FactIs a r m ∷ before) ls f.2 (omega arith) in omega arith
 few_routines v before (ExitIs x o r ∷ ls) f h =
     let i : how_many is_routine (ExitIs x o r ∷ before) + length (routines_of ls) ≤ 64 =
-        few_routines v (ExitIs x o r ∷ before) ls f.2 (omega arith) in omega arith
+    few_routines v (ExitIs x o r ∷ before) ls f.2 (omega arith) in omega arith
 few_routines v before (CellIs c ∷ ls) f h =
     let i : how_many is_routine (CellIs c ∷ before) + length (routines_of ls) ≤ 64 =
-        few_routines v (CellIs c ∷ before) ls f.2 (omega arith) in omega arith
+    few_routines v (CellIs c ∷ before) ls f.2 (omega arith) in omega arith
 few_routines v before (EquationIs q ∷ ls) f h =
     let i : how_many is_routine (EquationIs q ∷ before) + length (routines_of ls) ≤ 64 =
-        few_routines v (EquationIs q ∷ before) ls f.2 (omega arith) in omega arith
+    few_routines v (EquationIs q ∷ before) ls f.2 (omega arith) in omega arith
 few_routines v before (End ∷ ls) f h =
     let i : how_many is_routine (End ∷ before) + length (routines_of ls) ≤ 64 =
-        few_routines v (End ∷ before) ls f.2 (omega arith) in omega arith
+    few_routines v (End ∷ before) ls f.2 (omega arith) in omega arith
 
 -- The facts.
 facts_formed : (v : Version) (before ls : List Line) → Follow v before ls → Each (IsFactLine v) (facts_of ls)
 facts_formed v before [] f = tt
-facts_formed v before (FactIs a r m ∷ ls) f =
-    (record { address = f.0.0; statement = statement_formed v (FactIs a r m ∷ before) ls r f.0.1 f.2 refl },
-     facts_formed v (FactIs a r m ∷ before) ls f.2)
+facts_formed v before (FactIs a r m ∷ ls) f = (
+  record { address = f.0.0; statement = statement_formed v (FactIs a r m ∷ before) ls r f.0.1 f.2 refl },
+  facts_formed v (FactIs a r m ∷ before) ls f.2,
+)
 facts_formed v before (RoutineIs r ∷ ls) f = facts_formed v (RoutineIs r ∷ before) ls f.2
 facts_formed v before (ExitIs x o r ∷ ls) f = facts_formed v (ExitIs x o r ∷ before) ls f.2
 facts_formed v before (CellIs c ∷ ls) f = facts_formed v (CellIs c ∷ before) ls f.2
@@ -185,9 +187,10 @@ facts_rise v before (End ∷ ls) low f h =
 -- The exits.
 exits_formed : (v : Version) (before ls : List Line) → Follow v before ls → Each (IsExit v) (exits_of ls)
 exits_formed v before [] f = tt
-exits_formed v before (ExitIs x o r ∷ ls) f =
-    (record { entry = f.0.0; offset = f.0.1; statement = statement_formed v (ExitIs x o r ∷ before) ls r f.0.2 f.2 refl },
-     exits_formed v (ExitIs x o r ∷ before) ls f.2)
+exits_formed v before (ExitIs x o r ∷ ls) f = (
+  record { entry = f.0.0; offset = f.0.1; statement = statement_formed v (ExitIs x o r ∷ before) ls r f.0.2 f.2 refl },
+  exits_formed v (ExitIs x o r ∷ before) ls f.2,
+)
 exits_formed v before (RoutineIs r ∷ ls) f = exits_formed v (RoutineIs r ∷ before) ls f.2
 exits_formed v before (FactIs a r m ∷ ls) f = exits_formed v (FactIs a r m ∷ before) ls f.2
 exits_formed v before (CellIs c ∷ ls) f = exits_formed v (CellIs c ∷ before) ls f.2

@@ -1,16 +1,16 @@
 -- Lines that are kept, and are found by their places.
 use Rattle.std.proofs.Common.{◌≡◌, ◌≢◌, ℕ, ◌+◌, ◌<◌, ◌≤◌, ◌==◌, Bool, true, false, List, [], ◌∷◌, ◌++◌, length, get_or, drop, Result, Ok, Err, nat_cmp, zero, suc, refl, ap, ◌∙◌, sym, inl, inr, arith, append-nil}
-use Rattle.std.specs.Prelude.{◌*◌, if◌then◌else◌, map, IfOk, IfErr, MatchResult}
+use Rattle.std.specs.Prelude.{◌*◌, if◌then◌else◌, map, MatchResult}
 use Rattle.std.proofs.lemmas.Bool.{eq-eqb, cases_lt}
 use Rattle.std.proofs.lemmas.Bool.Decides.{eqb_tells}
 use Rattle.std.proofs.lemmas.List.Sorted.{searched}
 use Rattle.std.specs.List.Sorted.{IsBinarySearchResult}
-use Rattle.std.proofs.lemmas.List.{get_or_default, map_push, map-append, length-map}
+use Rattle.std.proofs.lemmas.List.{get_or_default, map_push, length-map}
 use Rattle.std.specs.List.{drop-map}
 use Rattle.certificate.specs.declared.Version.{Version}
 use Rattle.certificate.specs.declared.line.Line.{Line as ReadLine}
 use Rattle.certificate.specs.declared.lines.KeptLines.{KeptLines}
-use Rattle.certificate.specs.Reading.{RiseFrom, place_of_equation}
+use Rattle.certificate.specs.Reading.{RiseFrom}
 use Rattle.certificate.specs.Line.{Line, RoutineIs, FactIs, ExitIs, CellIs, EquationIs, End}
 use Rattle.certificate.specs.Order.{is_detail, heads, place, next_place, AreInOrder}
 use Rattle.certificate.specs.Meaning.{said}
@@ -148,7 +148,7 @@ pub found : {A : Type 0} (k : KeptLines A) (i p : ℕ) → IsIndexed k → RiseF
     get_or k.places.items i 0 ≡ p → IsFound k p (get_or k.starts.items i 0)
 found k i p h rise b e =
     let g : StandsAt 0 (all_said k) (get_or (starts 0 (all_said k)) i 0) (from_place p (all_said k)) =
-        stands (all_said k) 0 p i 0 (rw h.places at rise) (rw h.places at b) (rw h.places at e) in
+    stands (all_said k) 0 p i 0 (rw h.places at rise) (rw h.places at b) (rw h.places at e) in
     let c : get_or k.starts.items i 0 ≡ g.count = rw h.starts (let z = g.is in omega arith) in
     rw c (record {
       within = (let z : length (all_said k) ≡ length k.lines.items = length-map k.lines.items said in let w = g.within in omega arith);
@@ -185,18 +185,22 @@ places_rise : (v : Version) (before ls : List Line) (low : ℕ) → Follow v bef
 places_rise v before [] low f h = tt
 places_rise v before (CellIs c ∷ ls) low f h = places_rise v (CellIs c ∷ before) ls low f.2 h
 places_rise v before (EquationIs q ∷ ls) low f h = places_rise v (EquationIs q ∷ before) ls low f.2 h
-places_rise v before (RoutineIs r ∷ ls) low f h =
-    (let o : next_place (heads before) ≤ r.entry = f.1.order in omega arith,
-     places_rise v (RoutineIs r ∷ before) ls (r.entry + 1) f.2 (omega arith))
-places_rise v before (FactIs a r m ∷ ls) low f h =
-    (let o : next_place (heads before) ≤ 4096 + a = f.1.order in omega arith,
-     places_rise v (FactIs a r m ∷ before) ls (4096 + a + 1) f.2 (omega arith))
-places_rise v before (ExitIs x o r ∷ ls) low f h =
-    (let o : next_place (heads before) ≤ 8192 + (8 * x + o) = f.1.order in omega arith,
-     places_rise v (ExitIs x o r ∷ before) ls (8192 + (8 * x + o) + 1) f.2 (omega arith))
-places_rise v before (End ∷ ls) low f h =
-    (let o : next_place (heads before) ≤ 40960 = f.1.order in omega arith,
-     places_rise v (End ∷ before) ls (40960 + 1) f.2 (omega arith))
+places_rise v before (RoutineIs r ∷ ls) low f h = (
+  let o : next_place (heads before) ≤ r.entry = f.1.order in omega arith,
+  places_rise v (RoutineIs r ∷ before) ls (r.entry + 1) f.2 (omega arith),
+)
+places_rise v before (FactIs a r m ∷ ls) low f h = (
+  let o : next_place (heads before) ≤ 4096 + a = f.1.order in omega arith,
+  places_rise v (FactIs a r m ∷ before) ls (4096 + a + 1) f.2 (omega arith),
+)
+places_rise v before (ExitIs x o r ∷ ls) low f h = (
+  let o : next_place (heads before) ≤ 8192 + (8 * x + o) = f.1.order in omega arith,
+  places_rise v (ExitIs x o r ∷ before) ls (8192 + (8 * x + o) + 1) f.2 (omega arith),
+)
+places_rise v before (End ∷ ls) low f h = (
+  let o : next_place (heads before) ≤ 40960 = f.1.order in omega arith,
+  places_rise v (End ∷ before) ls (40960 + 1) f.2 (omega arith),
+)
 
 pub places_of_order : {A : Type 0} (v : Version) (k : KeptLines A) → IsIndexed k → AreInOrder v (newest_first [] (all_said k)) →
     RiseFrom 0 k.places.items
@@ -208,7 +212,7 @@ pub sought : {A : Type 0} (k : KeptLines A) (xs : List ℕ) (p i d : ℕ) (r : R
     (i < length k.starts.items) × IsFound k p (get_or k.starts.items i d)
 sought k xs p i d r same is found_by h rise =
     let m : MatchResult r (λ i. (i < length xs) × (get_or xs i 0 ≡ p)) (λ i. (i ≤ length xs) × ((k : ℕ) → k < i → get_or xs k 0 < p) × ((k : ℕ) → i ≤ k → k < length xs → p < get_or xs k 0)) =
-        searched xs p r found_by (rising xs (rw same rise)) in
+    searched xs p r found_by (rising xs (rw same rise)) in
     let n : (i < length xs) × (get_or xs i 0 ≡ p) = rw is at m in
     let b : i < length k.places.items = rw same at n.0 in
     let e : get_or k.places.items i 0 ≡ p = rw same at n.1 in
@@ -219,7 +223,7 @@ pub sought_none : {A : Type 0} (k : KeptLines A) (xs : List ℕ) (p i : ℕ) (r 
     IsBinarySearchResult (λ y. nat_cmp y p) xs r → IsIndexed k → RiseFrom 0 k.places.items → from_place p (all_said k) ≡ []
 sought_none k xs p i r same is found_by h rise =
     let m : MatchResult r (λ i. (i < length xs) × (get_or xs i 0 ≡ p)) (λ i. (i ≤ length xs) × ((k : ℕ) → k < i → get_or xs k 0 < p) × ((k : ℕ) → i ≤ k → k < length xs → p < get_or xs k 0)) =
-        searched xs p r found_by (rising xs (rw same rise)) in
+    searched xs p r found_by (rising xs (rw same rise)) in
     let n : (i ≤ length xs) × ((k : ℕ) → k < i → get_or xs k 0 < p) × ((k : ℕ) → i ≤ k → k < length xs → p < get_or xs k 0) = rw is at m in
     not_found k p h (λ j b e. elim (cases_lt j i) [
       | inl a ↦ (let z : get_or xs j 0 < p = n.1 j a in let w : get_or xs j 0 ≡ p = rw same e in omega arith)

@@ -1,14 +1,13 @@
 -- The lines of a certificate in order: what they say together has just these lines, and is of its form.
-use Rattle.std.proofs.Common.{◌≡◌, ℕ, ◌+◌, ◌*◌, ◌<◌, ◌≤◌, Bool, true, false, List, [], ◌∷◌, ◌++◌, length, refl, ap, ◌∙◌, sym, arith, append_assoc, append-nil}
+use Rattle.std.proofs.Common.{◌≡◌, ◌+◌, ◌<◌, ◌≤◌, Bool, true, false, List, [], ◌∷◌, ◌++◌, refl, ap, ◌∙◌, sym, arith, append_assoc, append-nil}
 use Rattle.std.specs.Prelude.{not, ◌&&◌, ◌||◌, map, flat_map}
 use Rattle.facts.specs.Facts.{Equation}
 use Rattle.facts.specs.Statements.{TrackedCell}
 use Rattle.certificate.specs.declared.Version.{Version}
-use Rattle.certificate.specs.Spelling.{RoutineLine, FactLine, ExitLine, Lines, version_text, text}
-use Rattle.certificate.specs.Reading.{RiseFrom, place_of_equation, Each, IsTracked, IsEquation, IsStatement, IsRoutine, IsFactLine, IsExit, AreLines}
-use Rattle.certificate.specs.Line.{Registers, Line, RoutineIs, FactIs, ExitIs, CellIs, EquationIs, End, IsLine, IsRegisters, line_text, lines_of_fact, lines_of_exit, lines_of, ended, all_ended}
-use Rattle.certificate.specs.Order.{any, how_many, is_end, has_details, is_routine, is_cell, is_equation, heads, details_of_last, place, next_place, may_stand, IsNext, AreInOrder, front}
-use Rattle.certificate.specs.Gathered.{cells_under, equations_under, stated, routines_of, facts_of, exits_of, gathered}
+use Rattle.certificate.specs.Spelling.{RoutineLine, FactLine, ExitLine, version_text, text}
+use Rattle.certificate.specs.Line.{Line, RoutineIs, FactIs, ExitIs, CellIs, EquationIs, End, IsLine, line_text, lines_of_fact, lines_of_exit, lines_of, ended, all_ended}
+use Rattle.certificate.specs.Order.{any, is_end, has_details, heads, details_of_last, next_place, IsNext, AreInOrder, front}
+use Rattle.certificate.specs.Gathered.{cells_under, equations_under, routines_of, facts_of, exits_of, gathered}
 use Rattle.certificate.specs.Found.{newest_first}
 use Rattle.certificate.proofs.TextLemmas.{text_law}
 
@@ -110,7 +109,7 @@ set_out v before (EquationIs q ∷ ls) a f e =
     let i : ls ≡ whole_of ls = set_out v (EquationIs q ∷ before) ls (f.0, f.1, a) f.2 e in
     let j : ls ≡ whole [] (equations_under ls) (routines_of ls) (facts_of ls) (exits_of ls) = rw n at i in
     let k : EquationIs q ∷ ls ≡ whole [] (q ∷ equations_under ls) (routines_of ls) (facts_of ls) (exits_of ls) =
-        ap (λ (x : List Line). EquationIs q ∷ x) j in
+    ap (λ (x : List Line). EquationIs q ∷ x) j in
     rw n k
 set_out v before (RoutineIs r ∷ ls) a f e =
     let n = no_details v (RoutineIs r ∷ before) ls f.2 (none (any has_details before) refl) in

@@ -4,7 +4,7 @@ use Rattle.facts.specs.Facts.{Equation}
 use Rattle.facts.specs.Statements.{TrackedCell, Statement}
 use Rattle.certificate.specs.declared.Version.{Version}
 use Rattle.certificate.specs.Spelling.{RoutineLine, FactLine, ExitLine, Lines}
-use Rattle.certificate.specs.Line.{Registers, Line, RoutineIs, FactIs, ExitIs, CellIs, EquationIs, End}
+use Rattle.certificate.specs.Line.{Registers, Line, RoutineIs, FactIs, ExitIs, CellIs, EquationIs}
 
 -- The tracked cells of a fact or an exit, by the lines after its own.
 abbrev pub cells_under : List Line → List TrackedCell

@@ -18,6 +18,7 @@ ghost use Rattle.certificate.specs.Line.{TextLaw};
 
 use crate::lines::{KeptLines, first_exit, first_fact, first_routine};
 use crate::parser::Parser;
+use crate::progress::{FIRST_EXIT, FIRST_FACT};
 use facts::Fact;
 use std::alloc::Allocator;
 use std::marker::Model;
@@ -150,7 +151,7 @@ impl<A: Allocator> Certificate<A> {
         ensures there { is_some result ≡ (claims self.now).has_fact at }
         ensures fact { IfSome result (λ f. fact_meaning f ≡ (claims self.now).fact at) }
     {
-        first_fact(self.kept.from(4096 + at.index()))
+        first_fact(self.kept.from(FIRST_FACT + at.index()))
     }
 
     /// What holds when the routine of an entry returns by an offset, if that is said; it has all
@@ -166,7 +167,7 @@ impl<A: Allocator> Certificate<A> {
         if offset >= 8 {
             return None;
         }
-        first_exit(kept.from(8192 + 8 * entry.index() + offset))
+        first_exit(kept.from(FIRST_EXIT + 8 * entry.index() + offset))
     }
 }
 
@@ -207,3 +208,6 @@ pub fn sample_law()
 pub fn text_law()
     ensures { TextLaw }
 {}
+
+#[cfg(test)]
+mod tests;

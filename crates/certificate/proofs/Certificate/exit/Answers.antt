@@ -25,13 +25,13 @@ returns-then-offset-ge8-clause-there g c =
 pub returns-clause-there : goal.returns-clause-there
 returns-clause-there g c =
     let f = exit_claims c.self.inside.version c.self.inside.text.items c.self.inside.kept c.index.result c.args.offset (8192 + 8 * c.index.result + c.args.offset)
-        c.from.result.now c.self.invariant c.index.ensures.small c.if-offset-ge8.false (omega arith) c.from.ensures in
+    c.from.result.now c.self.invariant c.index.ensures.small c.if-offset-ge8.false (omega arith) c.from.ensures in
     rw (← c.self.view_is, ← c.index.ensures.same) (c.first_exit.ensures.there ∙ f.0)
 
 pub returns-clause-fact : goal.returns-clause-fact
 returns-clause-fact g c =
     let f = exit_claims c.self.inside.version c.self.inside.text.items c.self.inside.kept c.index.result c.args.offset (8192 + 8 * c.index.result + c.args.offset)
-        c.from.result.now c.self.invariant c.index.ensures.small c.if-offset-ge8.false (omega arith) c.from.ensures in
+    c.from.result.now c.self.invariant c.index.ensures.small c.if-offset-ge8.false (omega arith) c.from.ensures in
     rw (← c.self.view_is, ← c.index.ensures.same)
     (told c.first_exit.result (λ x. with_offsets everything (meaning x) ≡ first_exit (map said c.from.result.now))
     (λ x. with_offsets everything (meaning x) ≡ exit_in (exits_of (all_said c.self.inside.kept)) c.index.result c.args.offset)

@@ -1,4 +1,4 @@
-use Rattle.std.proofs.Common.{◌≡◌, ◌+◌, ◌∷◌, map, drop}
+use Rattle.std.proofs.Common.{◌+◌, map, drop}
 use Rattle.facts.specs.Meaning.{statement_of, tracked_of, equation_of}
 use Rattle.certificate.specs.declared.line.Line.TheVariants as kept
 use Rattle.certificate.specs.Meaning.{said}

@@ -1,6 +1,5 @@
 use Rattle.std.proofs.Common.{refl, sym, ap, ◌∙◌, []}
 use Rattle.std.specs.Prelude.{◌∷◌, ◌++◌}
-use Rattle.certificate.specs.declared.lines.KeptLines.{KeptLines}
 use Rattle.certificate.proofs.FoundLemmas.{detail_kept, head_kept}
 use Rattle.certificate.proofs.lines.KeptLines.keep.Goals as goal
 

@@ -6,3 +6,8 @@ pub mod DigitLemmas
 pub mod LineLemmas
 pub mod ParserLemmas
 pub mod LengthLemmas
+pub mod GatherLemmas
+pub mod FormLemmas
+pub mod FoundLemmas
+pub mod DetailLemmas
+pub mod ReaderLemmas

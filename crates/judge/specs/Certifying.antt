@@ -7,19 +7,20 @@ use Rattle.declaration.specs.Kept as declared
 use Rattle.declaration.specs.Text.{Declares, Fails}
 use Rattle.declaration.specs.Declaration.{Declaration}
 use Rattle.declaration.specs.declared.DeclarationFault.TheVariants as declaration
-use Rattle.certificate.specs.Spelling.{Lines, text}
-use Rattle.certificate.specs.Reading.{AreLines, certificate_of}
+use Rattle.certificate.specs.Spelling.{text}
+use Rattle.certificate.specs.Reading.{AreLines}
+use Rattle.certificate.specs.Kept as certified
 use Rattle.certificate.specs.Faults.{HasFault}
 use Rattle.processor.specs.Runs.{Image}
 use Rattle.judge.specs.Conditions.{Case, IsFirst}
-use Rattle.judge.specs.declared.certify.CertifyFault.{CertifyFault}
-use Rattle.judge.specs.declared.certify.CertifyFault.TheVariants as fault
+use Rattle.judge.specs.declared.verdict.CertifyFault.{CertifyFault}
+use Rattle.judge.specs.declared.verdict.CertifyFault.TheVariants as fault
 
--- The words of a tape, a declaration and the lines of a certificate, as they were read.
+-- The words of a tape, a declaration and a certificate, as they are kept.
 pub record Parts : Type 0 where
   pub image : List (Option ℕ)
   pub declaration : declared.Kept
-  pub certificate : Lines
+  pub certificate : certified.Kept
 
 -- The tape's words as a map.
 abbrev pub words_of : Parts → Image
@@ -31,7 +32,7 @@ declaration_of p = declared.meaning p.declaration
 
 -- What the conditions are asked of.
 abbrev pub case_of : Parts → Case
-case_of p = record { image = words_of p; declaration = declaration_of p; certificate = certificate_of p.certificate }
+case_of p = record { image = words_of p; declaration = declaration_of p; certificate = certified.claims p.certificate }
 
 -- The bytes are a tape, of which at most 65,536 frames are read, with these words.
 abbrev pub IsTapeOf : List ℕ → List (Option ℕ) → Type 0
@@ -39,10 +40,10 @@ IsTapeOf tape image = IsTape (take 65536 tape) image
 
 -- The bytes are a tape, the text of a declaration and the text of a certificate, and say this.
 pub record AreRead (tape declaration certificate : List ℕ) (p : Parts) : Type 0 where
-  pub tape : IsTapeOf tape p.image
-  pub declaration : Declares declaration (declaration_of p)
-  pub lines : AreLines p.certificate
-  pub certificate : certificate ≡ text p.certificate
+  pub is_tape : IsTapeOf tape p.image
+  pub declares : Declares declaration (declaration_of p)
+  pub are_lines : AreLines (certified.meaning p.certificate)
+  pub is_text : certificate ≡ text (certified.meaning p.certificate)
 
 -- The bytes are a tape; they declare something.
 abbrev pub IsSomeTape : List ℕ → Type 0

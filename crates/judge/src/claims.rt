@@ -1,39 +1,33 @@
 //! What the checker asks of a certificate.
 
-ghost use Rattle.std.specs.Prelude.{ℕ, ◌≡◌, ◌<◌, true, is_some, IfSome};
-ghost use Rattle.wordset.specs.Words.{everything};
+ghost use Rattle.std.specs.Prelude.{ℕ, ◌≡◌, ◌<◌, true, is_some, IfSome, IfNone};
+ghost use Rattle.wordset.specs.Words.{everything, nothing};
 ghost use Rattle.wordset.specs.Lanes.{words};
 ghost use Rattle.facts.specs.Changes.{with_offsets};
 ghost use Rattle.facts.specs.Meaning.{meaning};
-ghost use Rattle.certificate.specs.Certificate.{Certificate};
+ghost use Rattle.certificate.specs.Certificate as said;
+ghost use Rattle.certificate.specs.Kept.{claims};
 
+use certificate::{Certificate, Routine};
 use facts::Fact;
+use std::alloc::Allocator;
 use word12::Word;
-use wordset::WordSet;
-
-/// What is claimed of a routine: its rank, the addresses of the JMS words that call it, and the
-/// cells that it and its callees may write.
-#[derive(Clone, Copy)]
-pub struct Routine {
-    /// Its rank, below 64.
-    pub rank: usize,
-    /// The addresses of the JMS words that call it.
-    pub sites: WordSet,
-    /// The cells that it and its callees may write.
-    pub writes: WordSet,
-}
 
 /// What is claimed of a program: its routines, facts at addresses, and what holds at returns.
 pub trait Claims {
     /// The certificate that is meant.
-    ghost claims: { Self → Certificate };
+    ghost claims: { Self → said.Certificate };
 
-    /// What is claimed of the routine of an entry, if it is listed.
+    /// What is claimed of the routine of an entry, if it is listed. One that isn't has rank 0, no
+    /// sites and no written set.
     fn routine(&self, entry: Word) -> Option<Routine>
         ensures listed { is_some result ≡ (claims self.now).listed entry }
         ensures rank { IfSome result (λ r. r.rank ≡ (claims self.now).rank entry) }
         ensures sites { IfSome result (λ r. words r.sites ≡ (claims self.now).sites entry) }
-        ensures writes { IfSome result (λ r. words r.writes ≡ (claims self.now).writes entry) };
+        ensures writes { IfSome result (λ r. words r.writes ≡ (claims self.now).writes entry) }
+        ensures no_rank { IfNone result ((claims self.now).rank entry ≡ 0) }
+        ensures no_sites { IfNone result ((claims self.now).sites entry ≡ nothing) }
+        ensures no_writes { IfNone result ((claims self.now).writes entry ≡ nothing) };
 
     /// The fact at an address, if there is one.
     fn fact(&self, at: Word) -> Option<Fact>
@@ -48,4 +42,20 @@ pub trait Claims {
             (λ f. with_offsets everything (meaning f) ≡ (claims self.now).exit entry offset) }
         ensures offsets { IfSome result
             (λ f. (o : ℕ) → o < 8 → (meaning f).offsets o ≡ true) };
+}
+
+impl<A: Allocator> Claims for Certificate<A> {
+    ghost claims = { claims };
+
+    fn routine(&self, entry: Word) -> Option<Routine> {
+        self.routine(entry)
+    }
+
+    fn fact(&self, at: Word) -> Option<Fact> {
+        self.fact(at)
+    }
+
+    fn exit(&self, entry: Word, offset: usize) -> Option<Fact> {
+        self.exit(entry, offset)
+    }
 }

@@ -57,12 +57,21 @@ fn without(alloc: Global, lines: &[&str], number: usize) -> Result<Vec<u8>, Allo
 }
 
 /// Lines with another in place of the one of a number, counted from 1.
-fn changed(alloc: Global, lines: &[&str], number: usize, other: &str) -> Result<Vec<u8>, AllocError> {
+fn changed(
+    alloc: Global,
+    lines: &[&str],
+    number: usize,
+    other: &str,
+) -> Result<Vec<u8>, AllocError> {
     let mut text = Vec::new(alloc);
     let mut count = 0usize;
     for line in lines {
         count = count.wrapping_add(1);
-        let bytes = if count == number { other.as_bytes() } else { line.as_bytes() };
+        let bytes = if count == number {
+            other.as_bytes()
+        } else {
+            line.as_bytes()
+        };
         text.extend_from_slice(bytes)?;
         text.push(b'\n')?;
     }
@@ -106,13 +115,22 @@ fn a_certified_program_runs(rt: HostRuntime) -> Result<(), Fail> {
         events[3 * round + 2] = Event::PunchDone;
     }
     let start = Start::zero();
-    let told = watch(rt.alloc(), certified.image(), certified.declaration(), &start, &events)?;
+    let told = watch(
+        rt.alloc(),
+        certified.image(),
+        certified.declaration(),
+        &start,
+        &events,
+    )?;
     assert_eq!(rt; told, Watched::Clean);
     for count in 0..10 {
         let heap = Refusing::new(rt.alloc(), count);
         if let Ok(world) = certified.run(&heap, &start, &events) {
             assert_eq!(rt; world.halted_at(), Some(word(0o212)));
-            assert_eq!(rt; world.printed(), &[0o000, 0o310, 0o305, 0o314, 0o314, 0o317]);
+            assert_eq!(rt;
+                world.printed(),
+                [0o000, 0o310, 0o305, 0o314, 0o314, 0o317].as_slice()
+            );
             assert!(rt; count > 0 && !heap.has_refused());
             return Ok(());
         }
@@ -170,17 +188,37 @@ fn a_word_taken_from_a_set_is_missed(rt: HostRuntime) -> Result<(), Fail> {
         (3, "fact 0200 ac 0000-7776 link 01 offsets -", "V1 at 0200"),
         (12, "cell 0010 0224-0227", "V4 at 0211"),
         (13, "cell 0224 7773-7776", "V4 at 0211"),
-        (15, "fact 0207 ac 0305,0310,0314 link 0 offsets -", "V4 at 0206"),
+        (
+            15,
+            "fact 0207 ac 0305,0310,0314 link 0 offsets -",
+            "V4 at 0206",
+        ),
         (16, "cell 0010 0225-0230", "V4 at 0206"),
         (17, "cell 0224 7773-7776", "V4 at 0206"),
         (20, "cell 0010 0225-0230", "V11 at 0207"),
         (21, "cell 0224 7773-7776", "V11 at 0207"),
         (24, "cell 0010 0225-0230", "yes"),
         (25, "cell 0224 7774-7776", "V4 at 0210"),
-        (29, "fact 0215 ac 0305,0310,0314 link 0 offsets 0", "V10 at 0207"),
-        (30, "fact 0216 ac 0305,0310,0314 link 0 offsets 0", "V4 at 0215"),
-        (31, "fact 0217 ac 0305,0310,0314 link 0 offsets 0", "V4 at 0215"),
-        (32, "fact 0220 ac 0305,0310,0314 link 0 offsets 0", "V4 at 0217"),
+        (
+            29,
+            "fact 0215 ac 0305,0310,0314 link 0 offsets 0",
+            "V10 at 0207",
+        ),
+        (
+            30,
+            "fact 0216 ac 0305,0310,0314 link 0 offsets 0",
+            "V4 at 0215",
+        ),
+        (
+            31,
+            "fact 0217 ac 0305,0310,0314 link 0 offsets 0",
+            "V4 at 0215",
+        ),
+        (
+            32,
+            "fact 0220 ac 0305,0310,0314 link 0 offsets 0",
+            "V4 at 0217",
+        ),
     ] {
         let text = changed(rt.alloc(), HELLO.as_slice(), number, line)?;
         let said = verdict(rt.alloc(), tape.bytes(), DECLARED, &text)?;
@@ -464,11 +502,18 @@ const WITH_MQ: [&str; 7] = [
 
 #[test]
 fn mq_is_followed_on_the_8e(rt: HostRuntime) -> Result<(), Fail> {
-    let tape = tape(rt.alloc(), &[(0o200, &[0o7621, 0o7001, 0o7421, 0o7501, 0o7402])])?;
+    let tape = tape(
+        rt.alloc(),
+        &[(0o200, &[0o7621, 0o7001, 0o7421, 0o7501, 0o7402])],
+    )?;
     let declared = b"profile 8e\nstart 0200\nmain 0200-0204\nstop 0204\n";
     for (number, line, wanted) in [
         (1, "PDP8-CERTIFICATE 2", "yes"),
-        (6, "fact 0204 ac 0001 mq 0000 link 01 offsets -", "V4 at 0203"),
+        (
+            6,
+            "fact 0204 ac 0001 mq 0000 link 01 offsets -",
+            "V4 at 0203",
+        ),
         (
             2,
             "fact 0200 ac 0000-7777 mq 0000-7776 link 01 offsets -",

@@ -87,7 +87,10 @@ fn a_declared_run_has_a_world(rt: HostRuntime) -> Result<(), Fail> {
         let ended = run_declared(&heap, &tape, &declaration, &Start::zero(), &rounds());
         if let Ok(world) = ended {
             assert_eq!(rt; world.halted_at(), Some(word(0o212)));
-            assert_eq!(rt; world.printed(), &[0o000, 0o310, 0o305, 0o314, 0o314, 0o317]);
+            assert_eq!(rt;
+                world.printed(),
+                [0o000, 0o310, 0o305, 0o314, 0o314, 0o317].as_slice()
+            );
             assert!(rt; count > 0 && !heap.has_refused());
             return Ok(());
         }

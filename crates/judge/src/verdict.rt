@@ -7,7 +7,7 @@ ghost use Rattle.policy.specs.Watching.{IsClean, LeadsTo, StepPutsOut, begun};
 ghost use Rattle.judge.specs.Conditions.{IsValid};
 ghost use Rattle.judge.specs.Certifying.{AreRead, IsRefused, case_of, declaration_of, words_of};
 
-use crate::order::{Refusal, judge};
+use crate::judging::{Refusal, judge};
 use bin_tape::{Image, TapeFault, read_tape};
 use certificate::{Certificate, CertificateFault};
 use declaration::{Declaration, DeclarationFault};

@@ -15,7 +15,7 @@ use Rattle.commands.specs.Faults.{IsEventsFault, IsEventsInputFault, IsDeclarati
 use Rattle.commands.specs.Inputs.{HasEvents, HasDeclaration, input}
 
 -- bytes that were read up to one more than a limit: all there are, or more than the limit
-all_or_more : (P : List ℕ → Type 0) (had : Option (List ℕ)) (text : List ℕ) (most : ℕ) → IfSome had (λ bytes. text ≡ take (most + 1) bytes) →
+pub all_or_more : (P : List ℕ → Type 0) (had : Option (List ℕ)) (text : List ℕ) (most : ℕ) → IfSome had (λ bytes. text ≡ take (most + 1) bytes) →
     P text → ((bytes : List ℕ) → most < length text → most < length bytes → P text → P bytes) → IfSome had P
 all_or_more P None text most is holds long = tt
 all_or_more P (Some bytes) text most is holds long = elim (cases_lt most (length bytes)) [

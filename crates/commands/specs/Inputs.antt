@@ -7,7 +7,8 @@ use Rattle.peripherals.specs.declared.Event.{Event}
 use Rattle.peripherals.specs.EventText.{Spells}
 use Rattle.declaration.specs.Declaration.{Declaration}
 use Rattle.declaration.specs.Text.{Declares}
-use Rattle.certificate.specs.Spelling.{Lines, text}
+use Rattle.certificate.specs.Spelling.{Lines}
+use Rattle.certificate.specs.Spelling as certificate
 use Rattle.certificate.specs.Reading.{AreLines}
 
 -- The frames are a tape with this image, whose trailer is within the limit of what is looked at.
@@ -25,7 +26,7 @@ HasDeclaration text declaration = IfSome text (λ bytes. Declares bytes declarat
 -- The bytes are the text of a certificate with these lines.
 pub record IsTextOf (bytes : List ℕ) (lines : Lines) : Type 0 where
   pub lines_are : AreLines lines
-  pub text_is : bytes ≡ text lines
+  pub text_is : bytes ≡ certificate.text lines
 
 -- The text is that of a certificate with these lines.
 abbrev pub HasCertificate : Option (List ℕ) → Lines → Type 0

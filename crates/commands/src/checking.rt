@@ -59,6 +59,7 @@ fn no_line<A: Allocator>(alloc: A, refusal: Refusal) -> Result<Vec<u8, A>, Alloc
 fn cells_of_bodies<D: Allocator>(declaration: &Declaration<D>) -> WordSet
     ensures { SameWords (words result) (in_bodies (meaning declaration.now)) }
 {
+    declaration.is_declared();
     let mut cells = *declaration.main();
     for routine in declaration.routines() {
         cells = cells.union(routine.body());
@@ -135,20 +136,20 @@ fn yes_line<A: Allocator, D: Allocator>(
 fn verdict_line<A: Allocator, D: Allocator>(
     alloc: A,
     declaration: &Declaration<D>,
-    verdict: Result<(), Refusal>,
+    verdict: &Result<(), Refusal>,
 ) -> Result<Vec<u8, A>, AllocError>
     ensures { IfOk result (λ text.
-        text.items ≡ verdict_text (meaning declaration.now) verdict) }
+        text.items ≡ verdict_text (meaning declaration.now) verdict.now) }
 {
     match verdict {
         Ok(()) => yes_line(alloc, declaration),
-        Err(refusal) => no_line(alloc, refusal),
+        Err(refusal) => no_line(alloc, *refusal),
     }
 }
 
 /// A program that isn't certified is refused.
-fn verdict_status(verdict: Result<(), Refusal>) -> Status
-    ensures { result ≡ verdict_status verdict }
+fn verdict_status(verdict: &Result<(), Refusal>) -> Status
+    ensures { result ≡ verdict_status verdict.now }
 {
     match verdict {
         Ok(()) => Status::Done,
@@ -213,7 +214,7 @@ pub fn check<A: Allocator + Copy, R: ByteSource, D: ByteSource, C: ByteSource, W
     let promised = declaration_from(alloc, declaration)?;
     let claims = certificate_from(alloc, certificate)?;
     let verdict = judge(&image, &promised, &claims);
-    let text = verdict_line(alloc, &promised, verdict)?;
+    let text = verdict_line(alloc, &promised, &verdict)?;
     put(out, &text)?;
-    Ok(verdict_status(verdict))
+    Ok(verdict_status(&verdict))
 }

@@ -1,0 +1,152 @@
+-- What `check` reads and counts.
+use Rattle.std.proofs.Common.{ℕ, ◌≡◌, ◌+◌, ◌<◌, ◌≤◌, ◌==◌, ◌&&◌, ◌||◌, ◌⊎◌, ◌∷◌, [], ◌++◌, Bool, true, false, List, Option, Some, None, length, take, drop, refl, sym, ◌∙◌, ap, subst, arith, inl, inr, append_assoc, length-append}
+use Rattle.std.specs.Prelude.{IfSome}
+use Rattle.std.specs.List.{list_any}
+use Rattle.std.proofs.lemmas.Bool.{cases_lt, true≢false}
+use Rattle.std.proofs.lemmas.List.{length-take-le, take_all, take-append-drop, take-append-le}
+use Rattle.wordset.specs.Words.{some_below}
+use Rattle.wordset.specs.Lanes.{words}
+use Rattle.wordset.proofs.Tests.{some_from, some_to}
+use Rattle.declaration.specs.declared.Routine.{Routine}
+use Rattle.declaration.specs.Kept.{bodies, entries}
+use Rattle.certificate.specs.declared.CertificateFault.{CertificateFault}
+use Rattle.certificate.specs.declared.CertificateFault.TheVariants as faults
+use Rattle.certificate.specs.declared.Version.{Version}
+use Rattle.certificate.specs.Spelling.{Lines, text}
+use Rattle.certificate.specs.Reading.{AreLines}
+use Rattle.certificate.specs.Line.{Line}
+use Rattle.certificate.specs.Order.{front}
+use Rattle.certificate.specs.Faults.{most_bytes, NoFeed, HasLine, HasFaultyLine, HasRest, HasFault, IsText}
+use Rattle.commands.specs.Faults.{IsCertificateInputFault, fault_of_certificate}
+use Rattle.commands.specs.Inputs.{HasCertificate, IsTextOf, input}
+use Rattle.commands.proofs.InputLemmas.{all_or_more}
+
+pub has_certificate : (had : Option (List ℕ)) (bytes : List ℕ) (c : Lines) (v : Version) → IfSome had (λ all. bytes ≡ take 1048577 all) →
+    AreLines c → bytes ≡ text c → IsText v bytes → HasCertificate had c
+has_certificate had bytes c v is lines same whole =
+    all_or_more (λ all. IsTextOf all c) had bytes 1048576 is (record { lines_are = lines; text_is = same })
+    (λ all long more s. absurd (let short = whole.few in omega (arith, short, long)))
+
+-- a faulty line stays one whatever follows
+line_more : (bytes more whole line : List ℕ) → HasLine bytes whole line → HasLine (bytes ++ more) whole line
+line_more bytes more whole line h = record {
+  rest = h.rest ++ more;
+  split = ap (λ (b : List ℕ). b ++ more) h.split ∙ append_assoc (whole ++ line) (10 ∷ h.rest) more;
+  feed = h.feed;
+  within = h.within;
+}
+
+faulty_more : (bytes more : List ℕ) (n : ℕ) (F : Version → List Line → List ℕ → Type 0) → HasFaultyLine bytes n F → HasFaultyLine (bytes ++ more) n F
+faulty_more bytes more n F h = record {
+  version = h.version;
+  before = h.before;
+  order = h.order;
+  number = h.number;
+  line = h.line;
+  place = line_more bytes more (front h.version h.before) h.line h.place;
+  faulty = h.faulty;
+}
+
+-- the fault of more bytes than are looked at is that of whatever begins with them
+fault_more : (bytes more : List ℕ) (fault : CertificateFault) → most_bytes < length bytes → HasFault bytes fault → HasFault (bytes ++ more) fault
+fault_more bytes more faults.Version long (inl h) = inl (h.0, line_more bytes more [] h.0 h.1, h.2)
+fault_more bytes more faults.Version long (inr h) = absurd (let short = h.1 in omega (arith, short, long))
+fault_more bytes more (faults.BadLine n) long (inl h) = inl (faulty_more bytes more n _ h)
+fault_more bytes more (faults.BadLine n) long (inr h) = absurd (let short = h.few in omega (arith, short, long))
+fault_more bytes more (faults.Order n) long h = faulty_more bytes more n _ h
+fault_more bytes more faults.TooMany long (inl h) = inl (h.0, faulty_more bytes more h.0 _ h.1)
+fault_more bytes more faults.TooMany long (inr h) =
+    let same : take most_bytes (bytes ++ more) ≡ take most_bytes bytes = take-append-le most_bytes bytes more (omega (arith, long)) in
+    inr (omega (arith, long, length-append bytes more), subst (λ (front : List ℕ). NoFeed front ⊎ HasRest front) (sym same) h.1)
+fault_more bytes more faults.NoMemory long h = absurd h
+
+of_all : (had : Option (List ℕ)) (bytes : List ℕ) (fault : CertificateFault) → IfSome had (λ all. bytes ≡ take 1048577 all) → HasFault bytes fault → IfSome had (λ all. HasFault all fault)
+of_all None bytes fault is h = tt
+of_all (Some all) bytes fault is h = elim (cases_lt 1048576 (length all)) [
+  | inl more ↦ (let taken : length (take 1048577 all) ≡ 1048577 = length-take-le 1048577 all (omega arith) in
+      let same : length bytes ≡ length (take 1048577 all) = ap length is in
+      subst (λ (b : List ℕ). HasFault b fault) (ap (λ (front : List ℕ). front ++ drop 1048577 all) is ∙ take-append-drop 1048577 all)
+      (fault_more bytes (drop 1048577 all) fault (omega (arith, taken, same)) h))
+  | inr fits ↦ subst (λ (b : List ℕ). HasFault b fault) (is ∙ take_all 1048577 all (omega arith)) h
+]
+
+known : (fault : CertificateFault) (had : Option (List ℕ)) (bytes : List ℕ) → (fault ≡ faults.NoMemory → ⊥) → IfSome had (λ all. bytes ≡ take 1048577 all) →
+    (fault ≡ faults.NoMemory) ⊎ HasFault bytes fault → IfSome had (λ all. HasFault all fault)
+known fault had bytes other is (inl e) = absurd (other e)
+known fault had bytes other is (inr h) = of_all had bytes fault is h
+
+pub certificate_fault_is : (fault : CertificateFault) (failed : Bool) (had left : Option (List ℕ)) (bytes : List ℕ) → IfSome had (λ all. bytes ≡ take 1048577 all) →
+    (fault ≡ faults.NoMemory) ⊎ HasFault bytes fault → IsCertificateInputFault (input failed had left) (fault_of_certificate fault)
+certificate_fault_is faults.NoMemory failed had left bytes is h = tt
+certificate_fault_is faults.Version failed had left bytes is h = known faults.Version had bytes (λ e. cc) is h
+certificate_fault_is (faults.BadLine n) failed had left bytes is h = known (faults.BadLine n) had bytes (λ e. cc) is h
+certificate_fault_is (faults.Order n) failed had left bytes is h = known (faults.Order n) had bytes (λ e. cc) is h
+certificate_fault_is faults.TooMany failed had left bytes is h = known faults.TooMany had bytes (λ e. cc) is h
+
+-- some body has the cell
+abbrev pub any_body : List Routine → ℕ → Bool
+any_body rs a = list_any (λ r. words r.body a) rs
+
+or_left : (a b : Bool) → a ≡ true → (a || b) ≡ true
+or_left true b e = refl
+or_left false b e = absurd (true≢false (sym e))
+
+or_right : (a b : Bool) → b ≡ true → (a || b) ≡ true
+or_right true b e = refl
+or_right false b e = e
+
+self_eq : (n : ℕ) → (n == n) ≡ true
+self_eq n = grind (arith, nat_tests)
+
+both : (a b : Bool) → a ≡ true → b ≡ true → (a && b) ≡ true
+both true b e f = f
+both false b e f = absurd (true≢false (sym e))
+
+second : (a b : Bool) → (a && b) ≡ true → b ≡ true
+second true b e = e
+second false b e = absurd (true≢false (sym e))
+
+-- a routine whose body has the cell
+pub record HasBody (rs : List Routine) (a : ℕ) : Type 0 where
+  pub entry : ℕ
+  pub is_entry : entries rs entry ≡ true
+  pub in_body : bodies rs entry a ≡ true
+
+body_here : (r : Routine) (rs : List Routine) (a : ℕ) (here : Bool) → words r.body a ≡ here → (any_body rs a ≡ true → HasBody rs a) →
+    (here || any_body rs a) ≡ true → HasBody (r ∷ rs) a
+body_here r rs a true is rest h = record {
+  entry = r.entry;
+  is_entry = or_left (r.entry == r.entry) _ (self_eq r.entry);
+  in_body = or_left (r.entry == r.entry && words r.body a) _ (both (r.entry == r.entry) (words r.body a) (self_eq r.entry) is);
+}
+body_here r rs a false is rest h =
+    let more = rest h in
+    record {
+      entry = more.entry;
+      is_entry = or_right (r.entry == more.entry) _ more.is_entry;
+      in_body = or_right (r.entry == more.entry && words r.body a) _ more.in_body;
+    }
+
+body_of_any : (rs : List Routine) (a : ℕ) → any_body rs a ≡ true → HasBody rs a
+body_of_any [] a h = absurd (true≢false (sym h))
+body_of_any (r ∷ rs) a h = body_here r rs a (words r.body a) refl (λ more. body_of_any rs a more) h
+
+any_here : (e b rest any : Bool) → (rest ≡ true → any ≡ true) → ((e && b) || rest) ≡ true → (b || any) ≡ true
+any_here e true rest any more h = refl
+any_here true false rest any more h = more h
+any_here false false rest any more h = more h
+
+any_of_body : (rs : List Routine) (e a : ℕ) → bodies rs e a ≡ true → any_body rs a ≡ true
+any_of_body [] e a h = absurd (true≢false (sym h))
+any_of_body (r ∷ rs) e a h = any_here (r.entry == e) (words r.body a) (bodies rs e a) (any_body rs a) (λ more. any_of_body rs e a more) h
+
+one_truth : (a b : Bool) → (a ≡ true → b ≡ true) → (b ≡ true → a ≡ true) → a ≡ b
+one_truth true b f g = sym (f refl)
+one_truth false true f g = g refl
+one_truth false false f g = refl
+
+pub any_body_is : (rs : List Routine) (a : ℕ) → ((e : ℕ) → entries rs e ≡ true → e < 4096) → any_body rs a ≡ some_below 4096 (λ e. bodies rs e a)
+any_body_is rs a small =
+    one_truth (any_body rs a) (some_below 4096 (λ e. bodies rs e a))
+    (λ h. let found = body_of_any rs a h in some_from 4096 (λ e. bodies rs e a) found.entry (small found.entry found.is_entry) found.in_body)
+    (λ h. let found = some_to 4096 (λ e. bodies rs e a) h in any_of_body rs found.0 a found.2)

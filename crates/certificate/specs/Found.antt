@@ -14,7 +14,7 @@ use Rattle.certificate.specs.Order.{is_detail, place, heads, any, is_end, AreInO
 use Rattle.certificate.specs.Meaning.{said}
 use Rattle.certificate.specs.Gathered.{cells_under, equations_under, stated}
 
--- These lines in the other order, before lines.
+-- Lines in the other order, so that the newest is the first, and then those that came before them.
 abbrev pub newest_first : List Line → List Line → List Line
 newest_first before [] = before
 newest_first before (l ∷ ls) = newest_first (l ∷ before) ls
@@ -50,10 +50,11 @@ pub record IsWhole {A : Type 0} (v : Version) (text : List ℕ) (k : KeptLines A
   pub is : text ≡ front v (newest_first [] (all_said k))
   pub indexed : IsIndexed k
 
--- There is room in a fact for the cells and equations after the first line.
+-- There is room in a fact for the cells and equations at the front.
 abbrev pub FitUnder : List Line → Type 0
 FitUnder ls = (length (cells_under ls) ≤ 64) × (length (equations_under ls) ≤ 32)
 
+-- There is room for those after the first line, where it's that of a fact or an exit.
 abbrev pub FitUnderFirst : List Line → Type 0
 FitUnderFirst [] = Unit {0}
 FitUnderFirst (FactIs a r offsets ∷ ls) = FitUnder ls

@@ -193,7 +193,7 @@ pub enum CertificateFault {
     /// than 64 cells or 32 equations.
     #[error("TooMany")]
     TooMany,
-    /// A growth of the text was refused.
+    /// A growth of what is kept of the text was refused.
     #[error("NoMemory")]
     NoMemory,
 }

@@ -1,13 +1,12 @@
 //! The lines of a certificate as they are kept, and what is found in them.
 
 ghost use Rattle.std.specs.Prelude.{ℕ, ◌≡◌, ◌+◌, ◌<◌, ◌≤◌, List, [], ◌∷◌, ◌++◌, length, map, OnOk, IfSome, is_some, true};
-ghost use Rattle.wordset.specs.Lanes.{words};
 ghost use Rattle.facts.specs.Meaning.{statement_of, offsets_of, meaning as fact_meaning};
 ghost use Rattle.facts.specs.Statements.{fact_of};
 ghost use Rattle.facts.specs.Changes.{with_offsets};
 ghost use Rattle.wordset.specs.Words.{everything};
 ghost use Rattle.certificate.specs.Spelling.{RoutineLine as SaidRoutine};
-ghost use Rattle.certificate.specs.Reading.{RiseFrom, rank_in, sites_in, writes_in};
+ghost use Rattle.certificate.specs.Reading.{RiseFrom};
 ghost use Rattle.certificate.specs.Line.{Line as SaidLine};
 ghost use Rattle.certificate.specs.Gathered.{cells_under, equations_under, stated};
 ghost use Rattle.certificate.specs.Meaning.{said, registers_of};
@@ -57,7 +56,7 @@ impl<A: Allocator> KeptLines<A> {
         Ok(())
     }
 
-    /// The lines from the one of a place on, or none.
+    /// The lines from the one of a place on, or none where no line has it.
     pub fn from(&self, place: usize) -> &[Line]
         requires indexed { IsIndexed self.now }
         requires order { RiseFrom 0 self.now.places.items }

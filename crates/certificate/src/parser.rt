@@ -20,8 +20,8 @@ const MOST_BYTES: usize = 1_048_576;
 /// No line of a certificate has more bytes.
 const MOST_OF_A_LINE: usize = 32_768;
 
-/// A certificate's text as far as it was taken: the whole lines, what they say, and for those that
-/// follow, and the bytes of the line since then, of which there may be too many.
+/// A certificate's text as far as it was taken: the whole lines, what they say and what that means
+/// for those that follow, and the bytes of the line since then, of which there may be too many.
 #[derive(Drop)]
 pub struct Parser<A: Allocator> {
     text: Vec<u8, A>,

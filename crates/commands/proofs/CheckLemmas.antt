@@ -1,11 +1,16 @@
 -- What `check` reads and counts.
 use Rattle.std.proofs.Common.{ℕ, ◌≡◌, ◌+◌, ◌<◌, ◌≤◌, ◌==◌, ◌&&◌, ◌||◌, ◌⊎◌, ◌∷◌, [], ◌++◌, Bool, true, false, List, Option, Some, None, length, take, drop, refl, sym, ◌∙◌, ap, subst, arith, inl, inr, append_assoc, length-append}
-use Rattle.std.specs.Prelude.{IfSome}
+use Rattle.std.specs.Prelude.{IfSome, OnOk, MatchResult, Result, Ok, Err}
 use Rattle.std.specs.List.{list_any}
-use Rattle.std.proofs.lemmas.Bool.{cases_lt, true≢false}
+use Rattle.std.proofs.lemmas.Bool.{cases_lt, true≢false, eq-eqb}
 use Rattle.std.proofs.lemmas.List.{length-take-le, take_all, take-append-drop, take-append-le}
-use Rattle.wordset.specs.Words.{some_below}
+use Rattle.wordset.specs.Words.{Words, SameWords, some_below, how_many}
+use Rattle.policy.specs.Runs.{IsSafe}
+use Rattle.judge.specs.Conditions.{Case, IsValid, IsFirst}
+use Rattle.judge.specs.declared.judging.Refusal.{Refusal}
+use Rattle.commands.specs.CheckText.{counted, IsVerdict}
 use Rattle.wordset.specs.Lanes.{words}
+use Rattle.wordset.proofs.Counts.{how_many_same}
 use Rattle.wordset.proofs.Tests.{some_from, some_to}
 use Rattle.declaration.specs.declared.Routine.{Routine}
 use Rattle.declaration.specs.Kept.{bodies, entries}
@@ -96,7 +101,7 @@ or_right true b e = refl
 or_right false b e = e
 
 self_eq : (n : ℕ) → (n == n) ≡ true
-self_eq n = grind (arith, nat_tests)
+self_eq n = eq-eqb n n refl
 
 both : (a b : Bool) → a ≡ true → b ≡ true → (a && b) ≡ true
 both true b e f = f
@@ -149,4 +154,26 @@ pub any_body_is : (rs : List Routine) (a : ℕ) → ((e : ℕ) → entries rs e 
 any_body_is rs a small =
     one_truth (any_body rs a) (some_below 4096 (λ e. bodies rs e a))
     (λ h. let found = body_of_any rs a h in some_from 4096 (λ e. bodies rs e a) found.entry (small found.entry found.is_entry) found.in_body)
-    (λ h. let found = some_to 4096 (λ e. bodies rs e a) h in any_of_body rs found.0 a found.2)
+    (λ h. let found = some_to 4096 (λ e. bodies rs e a) h in any_of_body rs found.at a found.holds)
+
+-- sets that agree have as many words
+pub counted_same : (s t : Words) (name : List ℕ) → SameWords s t → counted s name ≡ counted t name
+counted_same s t name same = rw (how_many_same 4096 s t same) refl
+
+pub all_bodies : (main : List ℕ) (rs : List Routine) (cells : List ℕ) (n : ℕ) (left : List Routine) → ((e : ℕ) → entries rs e ≡ true → e < 4096) → left ≡ [] →
+    ((a : ℕ) → a < 4096 → (words cells a || any_body left a) ≡ (words main a || any_body rs a)) →
+    (a : ℕ) → a < 4096 → words cells a ≡ (words main a || some_below 4096 (λ e. bodies rs e a))
+all_bodies main rs cells n left small none kept a less =
+    let is : (words cells a || any_body left a) ≡ (words main a || any_body rs a) = kept a less in
+    let bare : (words cells a || false) ≡ (words main a || any_body rs a) = rw none at is in
+    sym (or_false (words cells a)) ∙ bare ∙ ap (λ (b : Bool). words main a || b) (any_body_is rs a small)
+  where
+    or_false : (b : Bool) → (b || false) ≡ b
+    or_false true = refl
+    or_false false = refl
+
+-- what the judge answers is the verdict
+pub verdict_is : (j : Case) (verdict : Result (Unit {0}) Refusal) → MatchResult verdict (λ _. IsValid j) (λ r. IsFirst j r.condition r.address) →
+    OnOk verdict (IsSafe j.image j.declaration) → IsVerdict j verdict
+verdict_is j (Ok u) exact safe = record { valid = exact; safe = safe }
+verdict_is j (Err r) exact safe = exact

@@ -6,3 +6,4 @@ pub mod WatchLemmas
 pub mod PartLemmas
 pub mod RunLemmas
 pub mod AssembleLemmas
+pub mod CheckLemmas

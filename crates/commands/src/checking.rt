@@ -99,6 +99,67 @@ fn push_count<A: Allocator>(
     text.extend_from_slice(name)
 }
 
+/// Adds how many cells are in bodies.
+fn push_bodies<A: Allocator, D: Allocator>(
+    text: &mut Vec<u8, A>,
+    declaration: &Declaration<D>,
+) -> Result<(), AllocError>
+    ensures { OnOk result (text.new.items ≡ text.old.items
+        ++ counted (in_bodies (meaning declaration.now)) (codes " body cells, ")) }
+{
+    push_count(text, &cells_of_bodies(declaration), b" body cells, ")
+}
+
+/// Adds how many cells are variables.
+fn push_variables<A: Allocator, D: Allocator>(
+    text: &mut Vec<u8, A>,
+    declaration: &Declaration<D>,
+) -> Result<(), AllocError>
+    ensures { OnOk result (text.new.items ≡ text.old.items
+        ++ counted (meaning declaration.now).variable (codes " variable cells, ")) }
+{
+    push_count(text, declaration.variables(), b" variable cells, ")
+}
+
+/// Adds how many entries there are.
+fn push_entries<A: Allocator, D: Allocator>(
+    text: &mut Vec<u8, A>,
+    declaration: &Declaration<D>,
+) -> Result<(), AllocError>
+    ensures { OnOk result (text.new.items ≡ text.old.items
+        ++ counted (meaning declaration.now).entry (codes " entries, ")) }
+{
+    push_count(text, &entries_of(declaration), b" entries, ")
+}
+
+/// Adds how many declared halts there are.
+fn push_halts<A: Allocator, D: Allocator>(
+    text: &mut Vec<u8, A>,
+    declaration: &Declaration<D>,
+) -> Result<(), AllocError>
+    ensures { OnOk result (text.new.items ≡ text.old.items
+        ++ counted (is_halt (meaning declaration.now)) (codes " halts")) }
+{
+    push_count(text, &halts_of(declaration), b" halts")
+}
+
+/// Adds how many cells are in bodies, how many are variables, how many entries there are and how many
+/// declared halts.
+fn push_counts<A: Allocator, D: Allocator>(
+    text: &mut Vec<u8, A>,
+    declaration: &Declaration<D>,
+) -> Result<(), AllocError>
+    ensures { let d = meaning declaration.now in OnOk result (text.new.items ≡ text.old.items
+        ++ counted (in_bodies d) (codes " body cells, ")
+        ++ counted d.variable (codes " variable cells, ")
+        ++ counted d.entry (codes " entries, ") ++ counted (is_halt d) (codes " halts")) }
+{
+    push_bodies(text, declaration)?;
+    push_variables(text, declaration)?;
+    push_entries(text, declaration)?;
+    push_halts(text, declaration)
+}
+
 /// Adds how many cells may be read, where they are listed.
 fn push_reads<A: Allocator, D: Allocator>(
     text: &mut Vec<u8, A>,
@@ -123,10 +184,7 @@ fn yes_line<A: Allocator, D: Allocator>(
 {
     let mut text = Vec::new(alloc);
     text.extend_from_slice(b"yes: ")?;
-    push_count(&mut text, &cells_of_bodies(declaration), b" body cells, ")?;
-    push_count(&mut text, declaration.variables(), b" variable cells, ")?;
-    push_count(&mut text, &entries_of(declaration), b" entries, ")?;
-    push_count(&mut text, &halts_of(declaration), b" halts")?;
+    push_counts(&mut text, declaration)?;
     push_reads(&mut text, declaration)?;
     text.extend_from_slice(b"\n")?;
     Ok(text)

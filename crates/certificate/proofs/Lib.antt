@@ -6,3 +6,4 @@ pub mod DigitLemmas
 pub mod LineLemmas
 pub mod ParserLemmas
 pub mod LengthLemmas
+pub mod OneFieldLemmas

@@ -7,3 +7,4 @@ pub mod LineLemmas
 pub mod ParserLemmas
 pub mod LengthLemmas
 pub mod OneFieldLemmas
+pub mod OneLineLemmas

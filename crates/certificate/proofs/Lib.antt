@@ -8,3 +8,5 @@ pub mod ParserLemmas
 pub mod LengthLemmas
 pub mod OneFieldLemmas
 pub mod OneLineLemmas
+pub mod OneTextLemmas
+pub mod TextOrderLemmas

@@ -10,3 +10,4 @@ pub mod Progress
 pub mod Faults
 pub mod Parser
 pub mod Kept
+pub mod Exact

@@ -9,6 +9,7 @@ ghost use Rattle.certificate.specs.Faults.{IsText, HasFault};
 ghost use Rattle.certificate.specs.Kept.{version_of, text_of};
 ghost use Rattle.certificate.specs.Sample.{SampleLaw};
 ghost use Rattle.certificate.specs.Line.{TextLaw};
+ghost use Rattle.certificate.specs.Exact.{SpellingLaw};
 
 use crate::parser::Parser;
 use std::alloc::Allocator;
@@ -123,4 +124,10 @@ pub fn sample_law()
 /// of the end, in this order, each with a line feed.
 pub fn text_law()
     ensures { TextLaw }
+{}
+
+/// A line has one meaning, and a certificate's text too: lines of one text say the same, and so do
+/// certificates of one text.
+pub fn spelling_law()
+    ensures { SpellingLaw }
 {}

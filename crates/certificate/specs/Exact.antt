@@ -1,0 +1,60 @@
+-- One spelling has one meaning: which certificates say the same, and what holds of the texts that they have.
+use Rattle.std.specs.Prelude.{◌≡◌, ℕ, ◌<◌, ◌≤◌, List, [], ◌∷◌, length}
+use Rattle.wordset.specs.Words.{SameWords, SameLinks}
+use Rattle.facts.specs.Statements.{TrackedCell, Statement}
+use Rattle.certificate.specs.declared.Version.{Version}
+use Rattle.certificate.specs.declared.CertificateFault.{CertificateFault}
+use Rattle.certificate.specs.Spelling.{RoutineLine, FactLine, ExitLine, Lines, text}
+use Rattle.certificate.specs.Reading.{AreLines}
+use Rattle.certificate.specs.Line.{Line, IsLine, line_text, SameLine}
+use Rattle.certificate.specs.Faults.{most_bytes, IsText, HasFault}
+
+-- The lists are equally long, and each of the one is related to that at the same place of the other.
+abbrev pub Alike : {A : Type 0} → (A → A → Type 0) → List A → List A → Type 0
+Alike same [] [] = Unit {0}
+Alike same (x ∷ xs) (y ∷ ys) = same x y × Alike same xs ys
+Alike same _ _ = ⊥
+
+-- The two routines have the same numbers, sites and written words.
+pub record SameRoutine (a b : RoutineLine) : Type 0 where
+  pub entry : a.entry ≡ b.entry
+  pub rank : a.rank ≡ b.rank
+  pub sites : SameWords a.sites b.sites
+  pub writes : SameWords a.writes b.writes
+
+-- The two cells are one cell with the same words.
+pub record SameCell (a b : TrackedCell) : Type 0 where
+  pub address : a.address ≡ b.address
+  pub set : SameWords a.set b.set
+
+-- The two statements have the same words and links, the same cells and equations.
+pub record SameStatement (a b : Statement) : Type 0 where
+  pub ac : SameWords a.ac b.ac
+  pub mq : SameWords a.mq b.mq
+  pub link : SameLinks a.link b.link
+  pub cells : Alike SameCell a.cells b.cells
+  pub equations : a.equations ≡ b.equations
+
+-- The two facts stand at one address and say the same.
+pub record SameFact (a b : FactLine) : Type 0 where
+  pub address : a.address ≡ b.address
+  pub statement : SameStatement a.statement b.statement
+  pub offsets : (o : ℕ) → o < 8 → a.offsets o ≡ b.offsets o
+
+-- The two exits are of one entry and offset and say the same.
+pub record SameExit (a b : ExitLine) : Type 0 where
+  pub entry : a.entry ≡ b.entry
+  pub offset : a.offset ≡ b.offset
+  pub statement : SameStatement a.statement b.statement
+
+-- The two certificates say the same line by line.
+pub record SameLines (c d : Lines) : Type 0 where
+  pub version : c.version ≡ d.version
+  pub routines : Alike SameRoutine c.routines d.routines
+  pub facts : Alike SameFact c.facts d.facts
+  pub exits : Alike SameExit c.exits d.exits
+
+-- A text is that of one line, and of one certificate.
+pub record SpellingLaw : Type 0 where
+  pub line : (v : Version) (l m : Line) → IsLine v l → IsLine v m → line_text v l ≡ line_text v m → SameLine l m
+  pub lines : (c d : Lines) → AreLines c → AreLines d → text c ≡ text d → SameLines c d

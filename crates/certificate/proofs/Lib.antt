@@ -10,3 +10,4 @@ pub mod OneFieldLemmas
 pub mod OneLineLemmas
 pub mod OneTextLemmas
 pub mod TextOrderLemmas
+pub mod OneFaultLemmas

@@ -155,9 +155,9 @@ rest_one (suc k) n s t x y most same a b dx dy e = elim (next_run s n a) [
         let g : rest t n ≡ comma t q.low ++ run_text q.low q.high ++ rest t (q.high + 2) = run_rest t n q.low q.high q.run in
         let c : comma s r.low ≡ comma t q.low = comma_one s t n r.low r.high q.low q.high same r.run q.run in
         let i : comma s r.low ++ run_text r.low r.high ++ rest s (r.high + 2) ++ x ≡
-            comma t q.low ++ run_text q.low q.high ++ rest t (q.high + 2) ++ y = rw (f, g) at e in
+        comma t q.low ++ run_text q.low q.high ++ rest t (q.high + 2) ++ y = rw (f, g) at e in
         let j : comma t q.low ++ (run_text r.low r.high ++ (rest s (r.high + 2) ++ x)) ≡
-            comma t q.low ++ (run_text q.low q.high ++ (rest t (q.high + 2) ++ y)) = simp append_assoc at (rw c at i) in
+        comma t q.low ++ (run_text q.low q.high ++ (rest t (q.high + 2) ++ y)) = simp append_assoc at (rw c at i) in
         run_one r.low r.high q.low q.high _ _ r.run.order q.run.order r.run.small q.run.small
         (no_dash s n r.low r.high x r.run dx) (no_dash t n q.low q.high y q.run dy) (append_cancel_left (comma t q.low) _ _ j)
 
@@ -202,10 +202,13 @@ digits_from_one (suc k) n s t x y dx dy e = elim (by_digit s n) [
     m = rw (from_more k n s, from_more k n t) at e
 
     both : s n ≡ t n → ((v : ℕ) → n + 1 ≤ v → v < n + 1 + k → s v ≡ t v) × (x ≡ y) → ((v : ℕ) → n ≤ v → v < n + suc k → s v ≡ t v) × (x ≡ y)
-    both h p = (λ v a b. elim (cases_lt n v) [
-      | inl w ↦ p.0 v (omega arith) (omega arith)
-      | inr w ↦ (let z : v ≡ n = omega arith in rw z h)
-    ], p.1)
+    both h p = (
+      λ v a b. elim (cases_lt n v) [
+        | inl w ↦ p.0 v (omega arith) (omega arith)
+        | inr w ↦ (let z : v ≡ n = omega arith in rw z h)
+      ],
+      p.1,
+    )
 
 all_from_of : (c : ℕ) (s : Words) → digits c s ≡ digits_from c 0 s
 all_from_of c s =

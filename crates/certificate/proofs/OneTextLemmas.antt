@@ -29,7 +29,7 @@ lines_one v [] (m ∷ ms) f g e = absurd (none_left v m ms e)
 lines_one v (l ∷ ls) [] f g e = absurd (none_left v l ls (sym e))
 lines_one v (l ∷ ls) (m ∷ ms) f g e =
     let p = first_one (line_text v l) (line_text v m) (all_ended v ls) (all_ended v ms) (line_feed v l) (line_feed v m)
-        (seam (line_text v l) (all_ended v ls) ∙ (e ∙ sym (seam (line_text v m) (all_ended v ms)))) in
+    (seam (line_text v l) (all_ended v ls) ∙ (e ∙ sym (seam (line_text v m) (all_ended v ms)))) in
     (line_one v l m f.0 g.0 p.0, lines_one v ls ms f.1 g.1 p.1)
 
 -- The first of the lines is so.
@@ -64,7 +64,7 @@ is_exit : Line → Bool
 is_exit (ExitIs e o r) = true
 is_exit _ = false
 
-routine_kept : (l m : Line) → SameLine l m → is_routine l ≡ is_routine m
+pub routine_kept : (l m : Line) → SameLine l m → is_routine l ≡ is_routine m
 routine_kept (RoutineIs r) (RoutineIs s) h = refl
 routine_kept (FactIs a r m) (FactIs b s n) h = refl
 routine_kept (ExitIs a m r) (ExitIs b n s) h = refl
@@ -73,7 +73,7 @@ routine_kept (EquationIs a) (EquationIs b) h = refl
 routine_kept End End h = refl
 routine_kept l m h = absurd h
 
-cell_kept : (l m : Line) → SameLine l m → is_cell l ≡ is_cell m
+pub cell_kept : (l m : Line) → SameLine l m → is_cell l ≡ is_cell m
 cell_kept (RoutineIs r) (RoutineIs s) h = refl
 cell_kept (FactIs a r m) (FactIs b s n) h = refl
 cell_kept (ExitIs a m r) (ExitIs b n s) h = refl
@@ -82,7 +82,7 @@ cell_kept (EquationIs a) (EquationIs b) h = refl
 cell_kept End End h = refl
 cell_kept l m h = absurd h
 
-equation_kept : (l m : Line) → SameLine l m → is_equation l ≡ is_equation m
+pub equation_kept : (l m : Line) → SameLine l m → is_equation l ≡ is_equation m
 equation_kept (RoutineIs r) (RoutineIs s) h = refl
 equation_kept (FactIs a r m) (FactIs b s n) h = refl
 equation_kept (ExitIs a m r) (ExitIs b n s) h = refl
@@ -141,11 +141,11 @@ details_apart : (s t : Statement) (us ws : List Line) → first is_detail us ≡
     Alike SameCell s.cells t.cells × (s.equations ≡ t.equations) × Alike SameLine us ws
 details_apart s t us ws f g h =
     let k : Alike SameLine (map CellIs s.cells ++ (map EquationIs s.equations ++ us)) (map CellIs t.cells ++ (map EquationIs t.equations ++ ws)) =
-        subst (λ (x : List Line). Alike SameLine x (map CellIs t.cells ++ (map EquationIs t.equations ++ ws)))
-        (append_assoc (map CellIs s.cells) (map EquationIs s.equations) us)
-        (subst (λ (x : List Line). Alike SameLine (details s ++ us) x) (append_assoc (map CellIs t.cells) (map EquationIs t.equations) ws) h) in
+    subst (λ (x : List Line). Alike SameLine x (map CellIs t.cells ++ (map EquationIs t.equations ++ ws)))
+    (append_assoc (map CellIs s.cells) (map EquationIs s.equations) us)
+    (subst (λ (x : List Line). Alike SameLine (details s ++ us) x) (append_assoc (map CellIs t.cells) (map EquationIs t.equations) ws) h) in
     let p = apart CellIs is_cell SameCell cells_kind s.cells t.cells (map EquationIs s.equations ++ us) (map EquationIs t.equations ++ ws)
-        (no_cell_after s.equations us f) (no_cell_after t.equations ws g) k in
+    (no_cell_after s.equations us f) (no_cell_after t.equations ws g) k in
     let q = apart EquationIs is_equation (λ a b. a ≡ b) equations_kind s.equations t.equations us ws (no_equation us f) (no_equation ws g) p.1 in
     (p.0, all_equal s.equations t.equations q.0, q.1)
 
@@ -175,11 +175,11 @@ heads_apart line statement test Same k (x ∷ xs) [] us [] d1 d2 f g h = absurd 
 heads_apart line statement test Same k (x ∷ xs) [] us (w ∷ ws) d1 d2 f g h = absurd (true≢false (sym (k.is x) ∙ (k.kept (line x) w h.0 ∙ g)))
 heads_apart {A} line statement test Same k (x ∷ xs) (y ∷ ys) us ws d1 d2 f g h =
     let m : Alike SameLine (details (statement x) ++ (flat_map (λ a. line a ∷ details (statement a)) xs ++ us))
-        (details (statement y) ++ (flat_map (λ a. line a ∷ details (statement a)) ys ++ ws)) =
-        subst (λ (z : List Line). Alike SameLine z (details (statement y) ++ (flat_map (λ a. line a ∷ details (statement a)) ys ++ ws)))
-        (append_assoc (details (statement x)) (flat_map (λ a. line a ∷ details (statement a)) xs) us)
-        (subst (λ (z : List Line). Alike SameLine (details (statement x) ++ flat_map (λ a. line a ∷ details (statement a)) xs ++ us) z)
-        (append_assoc (details (statement y)) (flat_map (λ a. line a ∷ details (statement a)) ys) ws) h.1) in
+    (details (statement y) ++ (flat_map (λ a. line a ∷ details (statement a)) ys ++ ws)) =
+    subst (λ (z : List Line). Alike SameLine z (details (statement y) ++ (flat_map (λ a. line a ∷ details (statement a)) ys ++ ws)))
+    (append_assoc (details (statement x)) (flat_map (λ a. line a ∷ details (statement a)) xs) us)
+    (subst (λ (z : List Line). Alike SameLine (details (statement x) ++ flat_map (λ a. line a ∷ details (statement a)) xs ++ us) z)
+    (append_assoc (details (statement y)) (flat_map (λ a. line a ∷ details (statement a)) ys) ws) h.1) in
     let p = details_apart (statement x) (statement y) _ _ (no_detail xs us d1) (no_detail ys ws d2) m in
     let q = heads_apart line statement test Same k xs ys us ws d1 d2 f g p.2 in
     ((k.same x y h.0 p.0 p.1, q.0), q.1)
@@ -249,11 +249,11 @@ unfolding first is_fact is_exit
 same_lines rs ss fs gs es xs h =
     let p = apart RoutineIs is_routine SameRoutine routines_kind rs ss _ _ (after_routines fs es) (after_routines gs xs) h in
     let q = heads_apart (λ f. FactIs f.address (registers_of f.statement) f.offsets) (λ f. f.statement) is_fact SameFact facts_kind fs gs
-        (flat_map lines_of_exit es ++ End ∷ []) (flat_map lines_of_exit xs ++ End ∷ [])
-        (after_facts is_detail (λ x. refl) refl es) (after_facts is_detail (λ x. refl) refl xs)
-        (after_facts is_fact (λ x. refl) refl es) (after_facts is_fact (λ x. refl) refl xs) p.1 in
+    (flat_map lines_of_exit es ++ End ∷ []) (flat_map lines_of_exit xs ++ End ∷ [])
+    (after_facts is_detail (λ x. refl) refl es) (after_facts is_detail (λ x. refl) refl xs)
+    (after_facts is_fact (λ x. refl) refl es) (after_facts is_fact (λ x. refl) refl xs) p.1 in
     let r = heads_apart (λ x. ExitIs x.entry x.offset (registers_of x.statement)) (λ x. x.statement) is_exit SameExit exits_kind es xs
-        (End ∷ []) (End ∷ []) refl refl refl refl q.1 in
+    (End ∷ []) (End ∷ []) refl refl refl refl q.1 in
     (p.0, q.0, r.0)
 
 grouped : (a b c d : List Line) → a ++ b ++ c ++ d ≡ a ++ (b ++ (c ++ d))
@@ -262,7 +262,7 @@ grouped a b c d = append_assoc (a ++ b) c d ∙ append_assoc a b (c ++ d)
 last : {a b : List ℕ} → a ≡ b → get_or a 17 0 ≡ get_or b 17 0
 last e = ap (λ (x : List ℕ). get_or x 17 0) e
 
-version_one : (v w : Version) → version_text v ≡ version_text w → v ≡ w
+pub version_one : (v w : Version) → version_text v ≡ version_text w → v ≡ w
 version_one One One e = refl
 version_one One Two e = absurd (let z : 49 ≡ 50 = last e in omega arith)
 version_one Two One e = absurd (let z : 50 ≡ 49 = last e in omega arith)
@@ -271,18 +271,18 @@ version_one Two Two e = refl
 text_one : (c d : Lines) → AreLines c → AreLines d → text c ≡ text d → SameLines c d
 text_one c d f g e =
     let a : version_text c.version ++ 10 ∷ all_ended c.version (lines_of c) ≡ version_text d.version ++ 10 ∷ all_ended d.version (lines_of d) =
-        seam (version_text c.version) (all_ended c.version (lines_of c)) ∙ (sym (text_law.lines c) ∙ (e ∙ (text_law.lines d ∙
-        sym (seam (version_text d.version) (all_ended d.version (lines_of d)))))) in
+    seam (version_text c.version) (all_ended c.version (lines_of c)) ∙ (sym (text_law.lines c) ∙ (e ∙ (text_law.lines d ∙
+    sym (seam (version_text d.version) (all_ended d.version (lines_of d)))))) in
     let p = first_one (version_text c.version) (version_text d.version) _ _ (version_feed c.version) (version_feed d.version) a in
     let v : c.version ≡ d.version = version_one c.version d.version p.0 in
     let same = lines_one c.version (lines_of c) (lines_of d) (text_law.form c f)
-        (subst (λ (v : Version). Each (IsLine v) (lines_of d)) (sym v) (text_law.form d g))
-        (p.1 ∙ ap (λ (v : Version). all_ended v (lines_of d)) (sym v)) in
+    (subst (λ (v : Version). Each (IsLine v) (lines_of d)) (sym v) (text_law.form d g))
+    (p.1 ∙ ap (λ (v : Version). all_ended v (lines_of d)) (sym v)) in
     let q = same_lines c.routines d.routines c.facts d.facts c.exits d.exits
-        (subst (λ (x : List Line). Alike SameLine x (map RoutineIs d.routines ++ (flat_map lines_of_fact d.facts ++ (flat_map lines_of_exit d.exits ++ End ∷ []))))
-        (grouped (map RoutineIs c.routines) (flat_map lines_of_fact c.facts) (flat_map lines_of_exit c.exits) (End ∷ []))
-        (subst (λ (x : List Line). Alike SameLine (lines_of c) x)
-        (grouped (map RoutineIs d.routines) (flat_map lines_of_fact d.facts) (flat_map lines_of_exit d.exits) (End ∷ [])) same)) in
+    (subst (λ (x : List Line). Alike SameLine x (map RoutineIs d.routines ++ (flat_map lines_of_fact d.facts ++ (flat_map lines_of_exit d.exits ++ End ∷ []))))
+    (grouped (map RoutineIs c.routines) (flat_map lines_of_fact c.facts) (flat_map lines_of_exit c.exits) (End ∷ []))
+    (subst (λ (x : List Line). Alike SameLine (lines_of c) x)
+    (grouped (map RoutineIs d.routines) (flat_map lines_of_fact d.facts) (flat_map lines_of_exit d.exits) (End ∷ [])) same)) in
     record { version = v; routines = q.0; facts = q.1; exits = q.2 }
 
 pub spelling_law : SpellingLaw

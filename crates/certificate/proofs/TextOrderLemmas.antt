@@ -9,6 +9,7 @@ use Rattle.certificate.specs.Reading.{RiseFrom, place_of_name, place_of_equation
 use Rattle.certificate.specs.Line.{Line, RoutineIs, FactIs, ExitIs, CellIs, EquationIs, End, IsLine, IsRegisters, line_text, registers_of, details, lines_of_fact, lines_of_exit, lines_of, ended, all_ended}
 use Rattle.certificate.specs.Order.{is_end, has_details, any, how_many, is_routine, is_cell, is_equation, heads, details_of_last, next_place, IsNext, AreInOrder, front}
 use Rattle.certificate.specs.Faults.{most_bytes, IsText}
+use Rattle.certificate.specs.Exact.{ReadingLaw}
 use Rattle.certificate.proofs.TextLemmas.{text_law}
 
 -- Lines after others, newest first.
@@ -16,7 +17,7 @@ abbrev pub onto : List Line → List Line → List Line
 onto before [] = before
 onto before (l ∷ ls) = onto (l ∷ before) ls
 
-onto_both : (before ls ms : List Line) → onto before (ls ++ ms) ≡ onto (onto before ls) ms
+pub onto_both : (before ls ms : List Line) → onto before (ls ++ ms) ≡ onto (onto before ls) ms
 onto_both before [] ms = refl
 onto_both before (l ∷ ls) ms = onto_both (l ∷ before) ls ms
 
@@ -85,8 +86,8 @@ details_after v head s before h order no_end has is none =
     let few : length s.cells ≤ 64 = h.few_cells in
     let few2 : length s.equations ≤ 32 = h.few_equations in
     let p = cells_after v head s.cells before 0
-        (record { order = order; no_end = no_end; has = has; head_is = is; next = omega arith })
-        (omega arith) (omega arith) zero_equations h.cells h.cells_rise in
+    (record { order = order; no_end = no_end; has = has; head_is = is; next = omega arith })
+    (omega arith) (omega arith) zero_equations h.cells h.cells_rise in
     let under : Under v head 4096 (onto before (map CellIs s.cells)) = p.0 in
     let still : how_many is_equation (details_of_last (onto before (map CellIs s.cells))) ≡ 0 = p.1 in
     let low : next_place (details_of_last (onto before (map CellIs s.cells))) ≤ 4096 = under.next in
@@ -109,8 +110,8 @@ facts_after v (f ∷ fs) before n h low each rise =
     let line : Line = FactIs f.address (registers_of f.statement) f.offsets in
     let next : IsNext v before (FactIs f.address (registers_of f.statement) f.offsets) = record { stands = rw h.no_end refl; order = omega arith; room = tt } in
     let p : Sofar v (4096 + f.address + 1) (onto before (lines_of_fact f)) =
-        details_after v (4096 + f.address + 1) f.statement (FactIs f.address (registers_of f.statement) f.offsets ∷ before) each.0.statement
-        ((each.0.address, registers_form v f.statement each.0.statement), next, h.order) h.no_end refl refl refl in
+    details_after v (4096 + f.address + 1) f.statement (FactIs f.address (registers_of f.statement) f.offsets ∷ before) each.0.statement
+    ((each.0.address, registers_form v f.statement each.0.statement), next, h.order) h.no_end refl refl refl in
     subst (Sofar v 8192) (sym (onto_both before (lines_of_fact f) (flat_map lines_of_fact fs)))
     (facts_after v fs (onto before (lines_of_fact f)) (f.address + 1) (weaker v _ 8192 _ (omega arith) p)
     (weaker v _ (4096 + (f.address + 1)) _ (omega arith) p).next each.1 rise.1)
@@ -124,8 +125,8 @@ exits_after v (e ∷ es) before n h low each rise =
     let reached : n ≤ 8 * e.entry + e.offset = rise.0 in
     let next : IsNext v before (ExitIs e.entry e.offset (registers_of e.statement)) = record { stands = rw h.no_end refl; order = omega arith; room = tt } in
     let p : Sofar v (8192 + (8 * e.entry + e.offset) + 1) (onto before (lines_of_exit e)) =
-        details_after v (8192 + (8 * e.entry + e.offset) + 1) e.statement (ExitIs e.entry e.offset (registers_of e.statement) ∷ before) each.0.statement
-        ((each.0.entry, each.0.offset, registers_form v e.statement each.0.statement), next, h.order) h.no_end refl refl refl in
+    details_after v (8192 + (8 * e.entry + e.offset) + 1) e.statement (ExitIs e.entry e.offset (registers_of e.statement) ∷ before) each.0.statement
+    ((each.0.entry, each.0.offset, registers_form v e.statement each.0.statement), next, h.order) h.no_end refl refl refl in
     subst (Sofar v 40960) (sym (onto_both before (lines_of_exit e) (flat_map lines_of_exit es)))
     (exits_after v es (onto before (lines_of_exit e)) (8 * e.entry + e.offset + 1) (weaker v _ 40960 _ (omega arith) p)
     (weaker v _ (8192 + (8 * e.entry + e.offset + 1)) _ (omega arith) p).next each.1 rise.1)
@@ -135,10 +136,10 @@ all_after : (v : Version) (rs : List RoutineLine) (fs : List FactLine) (es : Lis
 all_after v rs fs es h =
     let few : length rs ≤ 64 = h.few_routines in
     let a : Sofar v 4096 (onto [] (map RoutineIs rs)) = routines_after v rs [] 0 (record { order = tt; no_end = refl; next = omega arith })
-        (omega arith) (omega arith) h.routines h.routines_rise in
+    (omega arith) (omega arith) h.routines h.routines_rise in
     let b : Sofar v 8192 (onto (onto [] (map RoutineIs rs)) (flat_map lines_of_fact fs)) =
-        facts_after v fs (onto [] (map RoutineIs rs)) 0 (weaker v 4096 8192 _ (omega arith) a)
-        (weaker v 4096 (4096 + 0) _ (omega arith) a).next h.facts h.facts_rise in
+    facts_after v fs (onto [] (map RoutineIs rs)) 0 (weaker v 4096 8192 _ (omega arith) a)
+    (weaker v 4096 (4096 + 0) _ (omega arith) a).next h.facts h.facts_rise in
     exits_after v es (onto (onto [] (map RoutineIs rs)) (flat_map lines_of_fact fs)) 0 (weaker v 8192 40960 _ (omega arith) b)
     (weaker v 8192 (8192 + 0) _ (omega arith) b).next h.exits h.exits_rise
 
@@ -147,9 +148,15 @@ text_of_lines c h few =
     let v : Version = c.version in
     let ls : List Line = onto (onto (onto [] (map RoutineIs c.routines)) (flat_map lines_of_fact c.facts)) (flat_map lines_of_exit c.exits) in
     let s : Sofar c.version 40960 (onto (onto (onto [] (map RoutineIs c.routines)) (flat_map lines_of_fact c.facts)) (flat_map lines_of_exit c.exits)) =
-        all_after c.version c.routines c.facts c.exits (record {
-          routines = h.routines; routines_rise = h.routines_rise; few_routines = h.few_routines;
-          facts = h.facts; facts_rise = h.facts_rise; exits = h.exits; exits_rise = h.exits_rise }) in
+    all_after c.version c.routines c.facts c.exits (record {
+      routines = h.routines;
+      routines_rise = h.routines_rise;
+      few_routines = h.few_routines;
+      facts = h.facts;
+      facts_rise = h.facts_rise;
+      exits = h.exits;
+      exits_rise = h.exits_rise;
+    }) in
     let next : IsNext c.version ls End = record { stands = rw s.no_end refl; order = s.next; room = tt } in
     record {
       lines = End ∷ ls;
@@ -166,3 +173,6 @@ text_of_lines c h few =
         ap (λ (x : List Line). End ∷ x) (
         onto_both [] (map RoutineIs c.routines ++ flat_map lines_of_fact c.facts) (flat_map lines_of_exit c.exits) ∙
         ap (λ (x : List Line). onto x (flat_map lines_of_exit c.exits)) (onto_both [] (map RoutineIs c.routines) (flat_map lines_of_fact c.facts)))
+
+pub reading_law : ReadingLaw
+reading_law = record { text = text_of_lines }

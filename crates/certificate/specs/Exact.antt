@@ -58,3 +58,12 @@ pub record SameLines (c d : Lines) : Type 0 where
 pub record SpellingLaw : Type 0 where
   pub line : (v : Version) (l m : Line) → IsLine v l → IsLine v m → line_text v l ≡ line_text v m → SameLine l m
   pub lines : (c d : Lines) → AreLines c → AreLines d → text c ≡ text d → SameLines c d
+
+-- The text of a certificate is lines in order, unless it's longer than what is read of a text.
+pub record ReadingLaw : Type 0 where
+  pub text : (c : Lines) → AreLines c → length (text c) ≤ most_bytes → IsText c.version (text c)
+
+-- A text of lines in order has no fault, and no text has two.
+pub record FaultLaw : Type 0 where
+  pub none : (v : Version) (bytes : List ℕ) (fault : CertificateFault) → IsText v bytes → HasFault bytes fault → ⊥
+  pub one : (bytes : List ℕ) (f g : CertificateFault) → HasFault bytes f → HasFault bytes g → f ≡ g

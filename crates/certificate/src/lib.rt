@@ -9,7 +9,7 @@ ghost use Rattle.certificate.specs.Faults.{IsText, HasFault};
 ghost use Rattle.certificate.specs.Kept.{version_of, text_of};
 ghost use Rattle.certificate.specs.Sample.{SampleLaw};
 ghost use Rattle.certificate.specs.Line.{TextLaw};
-ghost use Rattle.certificate.specs.Exact.{SpellingLaw};
+ghost use Rattle.certificate.specs.Exact.{SpellingLaw, ReadingLaw, FaultLaw};
 
 use crate::parser::Parser;
 use std::alloc::Allocator;
@@ -130,4 +130,15 @@ pub fn text_law()
 /// certificates of one text.
 pub fn spelling_law()
     ensures { SpellingLaw }
+{}
+
+/// The text of a certificate's lines is a text of lines in order, unless it's longer than what is
+/// read.
+pub fn reading_law()
+    ensures { ReadingLaw }
+{}
+
+/// A certificate's text has no fault, and no text has two.
+pub fn fault_law()
+    ensures { FaultLaw }
 {}

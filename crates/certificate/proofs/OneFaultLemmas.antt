@@ -1,6 +1,6 @@
 -- Two ways to read one text go through the same lines.
-use Rattle.std.proofs.Common.{◌≡◌, ◌≢◌, ◌⊎◌, ℕ, zero, suc, ◌+◌, ◌-◌, ◌*◌, ◌<◌, ◌≤◌, Bool, true, false, List, [], ◌∷◌, ◌++◌, length, refl, ap, ◌∙◌, sym, subst, inl, inr, arith, append_assoc, append-nil, length-append}
-use Rattle.std.specs.Prelude.{not, ◌&&◌, ◌||◌, if◌then◌else◌, take}
+use Rattle.std.proofs.Common.{◌≡◌, ◌⊎◌, ℕ, suc, ◌+◌, ◌-◌, ◌<◌, ◌≤◌, Bool, true, false, List, [], ◌∷◌, ◌++◌, length, refl, ap, ◌∙◌, sym, subst, inl, inr, arith, append_assoc, append-nil, length-append}
+use Rattle.std.specs.Prelude.{if◌then◌else◌, take}
 use Rattle.std.proofs.lemmas.Bool.{true≢false, false≢true}
 use Rattle.certificate.specs.declared.Version.{Version}
 use Rattle.certificate.specs.declared.Version.TheVariants.{One, Two}
@@ -8,8 +8,8 @@ use Rattle.certificate.specs.declared.CertificateFault.{CertificateFault}
 use Rattle.certificate.specs.declared.CertificateFault.TheVariants as faults
 use Rattle.certificate.specs.Spelling.{version_text}
 use Rattle.certificate.specs.Reading.{place_of_equation}
-use Rattle.certificate.specs.Line.{Line, RoutineIs, FactIs, ExitIs, CellIs, EquationIs, End, IsLine, line_text, SameRegisters, SameLine, ended, all_ended}
-use Rattle.certificate.specs.Order.{is_detail, has_details, is_end, any, how_many, may_stand, heads, details_of_last, place, next_place, fellows, InOrder, is_routine, is_cell, is_equation, HasRoom, Spells, IsNext, AreInOrder, front, IsBad, IsMisplaced, IsOneTooMany}
+use Rattle.certificate.specs.Line.{Line, RoutineIs, FactIs, ExitIs, CellIs, EquationIs, End, IsLine, line_text, SameLine, ended, all_ended}
+use Rattle.certificate.specs.Order.{is_detail, has_details, is_end, any, how_many, may_stand, heads, details_of_last, place, next_place, fellows, InOrder, is_routine, is_cell, is_equation, HasRoom, IsNext, AreInOrder, front, IsBad, IsMisplaced, IsOneTooMany}
 use Rattle.certificate.specs.Faults.{most_bytes, NoFeed, IsText, HasLine, HasFaultyLine, HasNoVersion, HasRest, IsCut, IsTooLong, HasFault}
 use Rattle.certificate.specs.Exact.{Alike, FaultLaw}
 use Rattle.certificate.proofs.TextLemmas.{seam}

@@ -1,17 +1,17 @@
 -- What is written of a field tells what it says and what comes after it.
-use Rattle.std.proofs.Common.{◌≡◌, ◌⊎◌, ℕ, zero, suc, ◌+◌, ◌-◌, ◌*◌, ◌/◌, ◌%◌, ◌<◌, ◌≤◌, ◌==◌, Bool, true, false, List, [], ◌∷◌, ◌++◌, refl, ap, ◌∙◌, sym, inl, inr, arith, append_assoc}
+use Rattle.std.proofs.Common.{◌≡◌, ℕ, zero, suc, ◌+◌, ◌/◌, ◌%◌, ◌<◌, ◌≤◌, ◌==◌, Bool, true, false, List, [], ◌∷◌, ◌++◌, refl, ap, ◌∙◌, sym, inl, inr, arith, append_assoc}
 use Rattle.std.specs.Prelude.{codes}
-use Rattle.std.proofs.lemmas.Bool.{true≢false, eq-eqb, ne_eqb, cases_lt}
+use Rattle.std.proofs.lemmas.Bool.{eq-eqb, ne_eqb, cases_lt}
 use Rattle.std.proofs.lemmas.List.{append_cancel_left}
 use Rattle.word12.specs.Words.{octal_text}
-use Rattle.wordset.specs.Words.{Words, SameWords, SameLinks, some_below, has_some}
+use Rattle.wordset.specs.Words.{Words, SameWords, some_below}
 use Rattle.wordset.proofs.Tests.{IsSome, some_to, some_from, some_none_of, none_of_some}
 use Rattle.facts.specs.Facts.{Name, Ac, Cell}
-use Rattle.certificate.specs.Spelling.{marks, digits, set_text, offsets_text, name_text}
+use Rattle.certificate.specs.Spelling.{digits, set_text, offsets_text, name_text}
 use Rattle.certificate.specs.Reading.{place_of_name}
 use Rattle.certificate.specs.Line.{rank_text}
 use Rattle.certificate.specs.Fields.{run_text, NoDash, EndsField}
-use Rattle.certificate.proofs.SetLemmas.{rest, comma, Run, None_from, whole_rest, none_rest, run_rest, StartsAt, starts_after, gap_after, Next, next_run}
+use Rattle.certificate.proofs.SetLemmas.{rest, comma, Run, whole_rest, none_rest, run_rest, StartsAt, starts_after, gap_after, Next, next_run}
 use Rattle.certificate.proofs.RunLemmas.{SameBelow, first_digit, no_dash, by_words, empty_text, full_text}
 use Rattle.certificate.proofs.DigitLemmas.{digit_at, digits_from, digits_none, digits_split, from_more, from_none, other_digit, by_digit, digit_first, all_from, some_same, no_offsets, some_offsets, by_offsets}
 

@@ -11,3 +11,4 @@ pub mod OneLineLemmas
 pub mod OneTextLemmas
 pub mod TextOrderLemmas
 pub mod OneFaultLemmas
+pub mod GatherLemmas

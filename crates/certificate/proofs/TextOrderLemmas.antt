@@ -9,7 +9,6 @@ use Rattle.certificate.specs.Reading.{RiseFrom, place_of_equation, Each, IsTrack
 use Rattle.certificate.specs.Line.{Line, RoutineIs, FactIs, ExitIs, CellIs, EquationIs, End, IsRegisters, line_text, registers_of, details, lines_of_fact, lines_of_exit, lines_of, ended, all_ended}
 use Rattle.certificate.specs.Order.{is_end, has_details, any, how_many, is_routine, is_cell, is_equation, heads, details_of_last, next_place, IsNext, AreInOrder, front}
 use Rattle.certificate.specs.Faults.{most_bytes, IsText}
-use Rattle.certificate.specs.Exact.{ReadingLaw}
 use Rattle.certificate.proofs.TextLemmas.{text_law}
 
 -- Lines after others, newest first.
@@ -173,6 +172,3 @@ text_of_lines c h few =
         ap (λ (x : List Line). End ∷ x) (
         onto_both [] (map RoutineIs c.routines ++ flat_map lines_of_fact c.facts) (flat_map lines_of_exit c.exits) ∙
         ap (λ (x : List Line). onto x (flat_map lines_of_exit c.exits)) (onto_both [] (map RoutineIs c.routines) (flat_map lines_of_fact c.facts)))
-
-pub reading_law : ReadingLaw
-reading_law = record { text = text_of_lines }

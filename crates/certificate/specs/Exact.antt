@@ -59,9 +59,18 @@ pub record SpellingLaw : Type 0 where
   pub line : (v : Version) (l m : Line) → IsLine v l → IsLine v m → line_text v l ≡ line_text v m → SameLine l m
   pub lines : (c d : Lines) → AreLines c → AreLines d → text c ≡ text d → SameLines c d
 
--- The text of a certificate is lines in order, unless it's longer than what is read of a text.
+-- The bytes are the text of a certificate of this version.
+pub record IsSpelled (v : Version) (bytes : List ℕ) : Type 0 where
+  pub lines : Lines
+  pub form : AreLines lines
+  pub version : lines.version ≡ v
+  pub text : bytes ≡ text lines
+
+-- The text of a certificate is a text of lines in order, unless it's longer than what is read; and there is no other such
+-- text.
 pub record ReadingLaw : Type 0 where
   pub text : (c : Lines) → AreLines c → length (text c) ≤ most_bytes → IsText c.version (text c)
+  pub lines : (v : Version) (bytes : List ℕ) → IsText v bytes → IsSpelled v bytes
 
 -- A text of lines in order has no fault, and no text has two.
 pub record FaultLaw : Type 0 where

@@ -133,7 +133,7 @@ pub fn spelling_law()
 {}
 
 /// The text of a certificate's lines is a text of lines in order, unless it's longer than what is
-/// read.
+/// read, and each text of lines in order is a certificate's.
 pub fn reading_law()
     ensures { ReadingLaw }
 {}

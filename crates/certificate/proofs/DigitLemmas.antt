@@ -41,7 +41,7 @@ pub from_more : (k n : ℕ) (s : Words) → digits_from (suc k) n s ≡ digit_at
 unfolding digits_from
 from_more k n s = refl
 
-digits_same : (n : ℕ) (s t : Words) → ((v : ℕ) → v < n → s v ≡ t v) → digits n s ≡ digits n t
+pub digits_same : (n : ℕ) (s t : Words) → ((v : ℕ) → v < n → s v ≡ t v) → digits n s ≡ digits n t
 unfolding digits
 digits_same zero s t h = refl
 digits_same (suc n) s t h =

@@ -12,3 +12,4 @@ pub mod OneTextLemmas
 pub mod TextOrderLemmas
 pub mod OneFaultLemmas
 pub mod GatherLemmas
+pub mod SameTextLemmas

@@ -10,7 +10,7 @@ use Rattle.certificate.specs.Spelling.{RoutineLine, FactLine, ExitLine, Lines, v
 use Rattle.certificate.specs.Reading.{Each, AreLines}
 use Rattle.certificate.specs.Line.{Line, RoutineIs, FactIs, ExitIs, CellIs, EquationIs, End, IsLine, line_text, SameRegisters, SameLine, registers_of, details, lines_of_fact, lines_of_exit, lines_of, all_ended}
 use Rattle.certificate.specs.Order.{is_detail, is_cell, is_equation, is_routine}
-use Rattle.certificate.specs.Exact.{Alike, SameRoutine, SameCell, SameStatement, SameFact, SameExit, SameLines, SpellingLaw}
+use Rattle.certificate.specs.Exact.{Alike, SameRoutine, SameCell, SameStatement, SameFact, SameExit, SameLines}
 use Rattle.certificate.proofs.TextLemmas.{text_law, seam}
 use Rattle.certificate.proofs.OneLineLemmas.{line_one, line_feed, version_feed, first_one}
 
@@ -268,7 +268,7 @@ version_one One Two e = absurd (let z : 49 ≡ 50 = last e in omega arith)
 version_one Two One e = absurd (let z : 50 ≡ 49 = last e in omega arith)
 version_one Two Two e = refl
 
-text_one : (c d : Lines) → AreLines c → AreLines d → text c ≡ text d → SameLines c d
+pub text_one : (c d : Lines) → AreLines c → AreLines d → text c ≡ text d → SameLines c d
 text_one c d f g e =
     let a : version_text c.version ++ 10 ∷ all_ended c.version (lines_of c) ≡ version_text d.version ++ 10 ∷ all_ended d.version (lines_of d) =
     seam (version_text c.version) (all_ended c.version (lines_of c)) ∙ (sym (text_law.lines c) ∙ (e ∙ (text_law.lines d ∙
@@ -284,6 +284,3 @@ text_one c d f g e =
     (subst (λ (x : List Line). Alike SameLine (lines_of c) x)
     (grouped (map RoutineIs d.routines) (flat_map lines_of_fact d.facts) (flat_map lines_of_exit d.exits) (End ∷ [])) same)) in
     record { version = v; routines = q.0; facts = q.1; exits = q.2 }
-
-pub spelling_law : SpellingLaw
-spelling_law = record { line = line_one; lines = text_one }

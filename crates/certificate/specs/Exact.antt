@@ -54,10 +54,11 @@ pub record SameLines (c d : Lines) : Type 0 where
   pub facts : Alike SameFact c.facts d.facts
   pub exits : Alike SameExit c.exits d.exits
 
--- A text is that of one line, and of one certificate.
+-- A text is that of one line, and of one certificate, which has no other text.
 pub record SpellingLaw : Type 0 where
   pub line : (v : Version) (l m : Line) → IsLine v l → IsLine v m → line_text v l ≡ line_text v m → SameLine l m
   pub lines : (c d : Lines) → AreLines c → AreLines d → text c ≡ text d → SameLines c d
+  pub text : (c d : Lines) → SameLines c d → text c ≡ text d
 
 -- The bytes are the text of a certificate of this version.
 pub record IsSpelled (v : Version) (bytes : List ℕ) : Type 0 where

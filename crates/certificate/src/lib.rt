@@ -126,8 +126,8 @@ pub fn text_law()
     ensures { TextLaw }
 {}
 
-/// A line has one meaning, and a certificate's text too: lines of one text say the same, and so do
-/// certificates of one text.
+/// A text has one meaning: lines of one text say the same, and certificates have one text exactly
+/// where they say the same.
 pub fn spelling_law()
     ensures { SpellingLaw }
 {}

@@ -1,4 +1,4 @@
-use Rattle.certificate.proofs.OneTextLemmas.{spelling_law}
+use Rattle.certificate.proofs.SameTextLemmas.{spelling_law}
 use Rattle.certificate.proofs.spelling_law.Goals as goal
 
 pub returns : goal.returns

@@ -56,7 +56,8 @@ pub record SameLines (c d : Lines) : Type 0 where
 
 -- A text is that of one line, and of one certificate, which has no other text.
 pub record SpellingLaw : Type 0 where
-  pub line : (v : Version) (l m : Line) → IsLine v l → IsLine v m → line_text v l ≡ line_text v m → SameLine l m
+  pub line : (v : Version) (l m : Line) → IsLine v l → IsLine v m →
+      line_text v l ≡ line_text v m → SameLine l m
   pub lines : (c d : Lines) → AreLines c → AreLines d → text c ≡ text d → SameLines c d
   pub text : (c d : Lines) → SameLines c d → text c ≡ text d
 
@@ -75,5 +76,6 @@ pub record ReadingLaw : Type 0 where
 
 -- A text of lines in order has no fault, and no text has two.
 pub record FaultLaw : Type 0 where
-  pub none : (v : Version) (bytes : List ℕ) (fault : CertificateFault) → IsText v bytes → HasFault bytes fault → ⊥
+  pub none : (v : Version) (bytes : List ℕ) (fault : CertificateFault) →
+      IsText v bytes → HasFault bytes fault → ⊥
   pub one : (bytes : List ℕ) (f g : CertificateFault) → HasFault bytes f → HasFault bytes g → f ≡ g

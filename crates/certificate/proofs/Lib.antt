@@ -13,3 +13,4 @@ pub mod TextOrderLemmas
 pub mod OneFaultLemmas
 pub mod GatherLemmas
 pub mod SameTextLemmas
+pub mod SameMeaningLemmas

@@ -10,7 +10,7 @@ use Rattle.certificate.specs.Spelling.{RoutineLine, FactLine, ExitLine, Lines, v
 use Rattle.certificate.specs.Reading.{Each, AreLines}
 use Rattle.certificate.specs.Line.{Line, RoutineIs, FactIs, ExitIs, CellIs, EquationIs, End, IsLine, line_text, SameRegisters, SameLine, registers_of, details, lines_of_fact, lines_of_exit, lines_of, all_ended}
 use Rattle.certificate.specs.Order.{is_detail, is_cell, is_equation, is_routine}
-use Rattle.certificate.specs.Exact.{Alike, SameRoutine, SameCell, SameStatement, SameFact, SameExit, SameLines}
+use Rattle.certificate.specs.Exact.{Alike, SameRoutineLine, SameCell, SameStatement, SameFactLine, SameExitLine, SameLines}
 use Rattle.certificate.proofs.TextLemmas.{text_law, seam}
 use Rattle.certificate.proofs.OneLineLemmas.{line_one, line_feed, version_feed, first_one}
 
@@ -91,7 +91,7 @@ equation_kept (EquationIs a) (EquationIs b) h = refl
 equation_kept End End h = refl
 equation_kept l m h = absurd h
 
-routines_kind : Kind RoutineIs is_routine SameRoutine
+routines_kind : Kind RoutineIs is_routine SameRoutineLine
 routines_kind = record {
   is = λ a. refl;
   same = λ a b h. record { entry = h.0; rank = h.1; sites = h.2; writes = h.3 };
@@ -209,7 +209,7 @@ exit_kept (EquationIs a) (EquationIs b) h = refl
 exit_kept End End h = refl
 exit_kept l m h = absurd h
 
-facts_kind : Heads (λ f. FactIs f.address (registers_of f.statement) f.offsets) (λ f. f.statement) is_fact SameFact
+facts_kind : Heads (λ f. FactIs f.address (registers_of f.statement) f.offsets) (λ f. f.statement) is_fact SameFactLine
 unfolding is_fact
 facts_kind = record {
   is = λ f. refl;
@@ -218,7 +218,7 @@ facts_kind = record {
   kept = fact_kept;
 }
 
-exits_kind : Heads (λ x. ExitIs x.entry x.offset (registers_of x.statement)) (λ x. x.statement) is_exit SameExit
+exits_kind : Heads (λ x. ExitIs x.entry x.offset (registers_of x.statement)) (λ x. x.statement) is_exit SameExitLine
 unfolding is_exit
 exits_kind = record {
   is = λ x. refl;
@@ -244,15 +244,15 @@ after_routines (f ∷ fs) es = refl
 same_lines : (rs ss : List RoutineLine) (fs gs : List FactLine) (es xs : List ExitLine) →
     Alike SameLine (map RoutineIs rs ++ (flat_map lines_of_fact fs ++ (flat_map lines_of_exit es ++ End ∷ [])))
     (map RoutineIs ss ++ (flat_map lines_of_fact gs ++ (flat_map lines_of_exit xs ++ End ∷ []))) →
-    Alike SameRoutine rs ss × Alike SameFact fs gs × Alike SameExit es xs
+    Alike SameRoutineLine rs ss × Alike SameFactLine fs gs × Alike SameExitLine es xs
 unfolding first is_fact is_exit
 same_lines rs ss fs gs es xs h =
-    let p = apart RoutineIs is_routine SameRoutine routines_kind rs ss _ _ (after_routines fs es) (after_routines gs xs) h in
-    let q = heads_apart (λ f. FactIs f.address (registers_of f.statement) f.offsets) (λ f. f.statement) is_fact SameFact facts_kind fs gs
+    let p = apart RoutineIs is_routine SameRoutineLine routines_kind rs ss _ _ (after_routines fs es) (after_routines gs xs) h in
+    let q = heads_apart (λ f. FactIs f.address (registers_of f.statement) f.offsets) (λ f. f.statement) is_fact SameFactLine facts_kind fs gs
     (flat_map lines_of_exit es ++ End ∷ []) (flat_map lines_of_exit xs ++ End ∷ [])
     (after_facts is_detail (λ x. refl) refl es) (after_facts is_detail (λ x. refl) refl xs)
     (after_facts is_fact (λ x. refl) refl es) (after_facts is_fact (λ x. refl) refl xs) p.1 in
-    let r = heads_apart (λ x. ExitIs x.entry x.offset (registers_of x.statement)) (λ x. x.statement) is_exit SameExit exits_kind es xs
+    let r = heads_apart (λ x. ExitIs x.entry x.offset (registers_of x.statement)) (λ x. x.statement) is_exit SameExitLine exits_kind es xs
     (End ∷ []) (End ∷ []) refl refl refl refl q.1 in
     (p.0, q.0, r.0)
 

@@ -9,7 +9,7 @@ use Rattle.facts.specs.Statements.{TrackedCell, Statement}
 use Rattle.certificate.specs.declared.Version.{Version}
 use Rattle.certificate.specs.declared.Version.TheVariants.{One, Two}
 use Rattle.certificate.specs.Spelling.{RoutineLine, FactLine, ExitLine, Lines, begins, ends, mark, marks, set_text, digits, offsets_text, cell_text, equation_text, mq_text, registers_text, details_text, routine_text, fact_text, exit_text, version_text, text}
-use Rattle.certificate.specs.Exact.{Alike, SameRoutine, SameCell, SameStatement, SameFact, SameExit, SameLines, SpellingLaw}
+use Rattle.certificate.specs.Exact.{Alike, SameRoutineLine, SameCell, SameStatement, SameFactLine, SameExitLine, SameLines, SpellingLaw}
 use Rattle.certificate.proofs.DigitLemmas.{digits_same, some_same}
 use Rattle.certificate.proofs.OneLineLemmas.{line_one}
 use Rattle.certificate.proofs.OneTextLemmas.{text_one}
@@ -84,7 +84,7 @@ details_same : (s t : Statement) → SameStatement s t → details_text s ≡ de
 details_same s t e =
     joined (all_same SameCell cell_text cell_text cell_same s.cells t.cells e.cells) (ap (λ (es : List Equation). flat_map equation_text es) e.equations)
 
-routine_same : (r s : RoutineLine) → SameRoutine r s → routine_text r ≡ routine_text s
+routine_same : (r s : RoutineLine) → SameRoutineLine r s → routine_text r ≡ routine_text s
 routine_same r s e =
     go (octal_text r.entry) (octal_text s.entry) (48 + r.rank / 8) (48 + s.rank / 8) (48 + r.rank % 8) (48 + s.rank % 8)
     (set_text r.sites) (set_text s.sites) (set_text r.writes) (set_text s.writes)
@@ -96,7 +96,7 @@ routine_same r s e =
         codes "routine " ++ b ++ codes " rank " ++ j ∷ l ∷ (codes " sites " ++ d ++ codes " writes " ++ g ++ 10 ∷ [])
     go a b i j k l c d f g p q r s t = rw (p, q, r, s, t) refl
 
-fact_same : (v : Version) (f g : FactLine) → SameFact f g → fact_text v f ≡ fact_text v g
+fact_same : (v : Version) (f g : FactLine) → SameFactLine f g → fact_text v f ≡ fact_text v g
 fact_same v f g e =
     go (octal_text f.address) (octal_text g.address) (registers_text v f.statement) (registers_text v g.statement)
     (offsets_text f.offsets) (offsets_text g.offsets) (details_text f.statement) (details_text g.statement)
@@ -107,7 +107,7 @@ fact_same v f g e =
         codes "fact " ++ a ++ c ++ codes " offsets " ++ e ++ 10 ∷ g ≡ codes "fact " ++ b ++ d ++ codes " offsets " ++ f ++ 10 ∷ h
     go a b c d e f g h p q r s = rw (p, q, r, s) refl
 
-exit_same : (v : Version) (x y : ExitLine) → SameExit x y → exit_text v x ≡ exit_text v y
+exit_same : (v : Version) (x y : ExitLine) → SameExitLine x y → exit_text v x ≡ exit_text v y
 exit_same v x y e =
     go (octal_text x.entry) (octal_text y.entry) x.offset y.offset (registers_text v x.statement) (registers_text v y.statement)
     (details_text x.statement) (details_text y.statement)
@@ -123,10 +123,10 @@ same_text c d e =
     (flat_map (fact_text c.version) c.facts) (flat_map (fact_text d.version) d.facts)
     (flat_map (exit_text c.version) c.exits) (flat_map (exit_text d.version) d.exits)
     (ap version_text e.version)
-    (all_same SameRoutine routine_text routine_text routine_same c.routines d.routines e.routines)
-    (all_same SameFact (fact_text c.version) (fact_text c.version) (fact_same c.version) c.facts d.facts e.facts ∙
+    (all_same SameRoutineLine routine_text routine_text routine_same c.routines d.routines e.routines)
+    (all_same SameFactLine (fact_text c.version) (fact_text c.version) (fact_same c.version) c.facts d.facts e.facts ∙
     ap (λ (v : Version). flat_map (fact_text v) d.facts) e.version)
-    (all_same SameExit (exit_text c.version) (exit_text c.version) (exit_same c.version) c.exits d.exits e.exits ∙
+    (all_same SameExitLine (exit_text c.version) (exit_text c.version) (exit_same c.version) c.exits d.exits e.exits ∙
     ap (λ (v : Version). flat_map (exit_text v) d.exits) e.version)
   where
     go : (a b c d e f g h : List ℕ) → a ≡ b → c ≡ d → e ≡ f → g ≡ h →

@@ -2,10 +2,12 @@
 use Rattle.std.specs.Prelude.{◌≡◌, ℕ, ◌<◌, ◌≤◌, List, [], ◌∷◌, length}
 use Rattle.wordset.specs.Words.{SameWords, SameLinks}
 use Rattle.facts.specs.Statements.{TrackedCell, Statement}
+use Rattle.facts.specs.Same.{Agree}
 use Rattle.certificate.specs.declared.Version.{Version}
 use Rattle.certificate.specs.declared.CertificateFault.{CertificateFault}
 use Rattle.certificate.specs.Spelling.{RoutineLine, FactLine, ExitLine, Lines, text}
-use Rattle.certificate.specs.Reading.{AreLines}
+use Rattle.certificate.specs.Certificate.{Certificate}
+use Rattle.certificate.specs.Reading.{AreLines, certificate_of}
 use Rattle.certificate.specs.Line.{Line, IsLine, line_text, SameLine}
 use Rattle.certificate.specs.Faults.{most_bytes, IsText, HasFault}
 
@@ -16,7 +18,7 @@ Alike same (x ∷ xs) (y ∷ ys) = same x y × Alike same xs ys
 Alike same _ _ = ⊥
 
 -- The two routines have the same numbers, sites and written words.
-pub record SameRoutine (a b : RoutineLine) : Type 0 where
+pub record SameRoutineLine (a b : RoutineLine) : Type 0 where
   pub entry : a.entry ≡ b.entry
   pub rank : a.rank ≡ b.rank
   pub sites : SameWords a.sites b.sites
@@ -36,13 +38,13 @@ pub record SameStatement (a b : Statement) : Type 0 where
   pub equations : a.equations ≡ b.equations
 
 -- The two facts stand at one address and say the same.
-pub record SameFact (a b : FactLine) : Type 0 where
+pub record SameFactLine (a b : FactLine) : Type 0 where
   pub address : a.address ≡ b.address
   pub statement : SameStatement a.statement b.statement
   pub offsets : (o : ℕ) → o < 8 → a.offsets o ≡ b.offsets o
 
 -- The two exits are of one entry and offset and say the same.
-pub record SameExit (a b : ExitLine) : Type 0 where
+pub record SameExitLine (a b : ExitLine) : Type 0 where
   pub entry : a.entry ≡ b.entry
   pub offset : a.offset ≡ b.offset
   pub statement : SameStatement a.statement b.statement
@@ -50,9 +52,9 @@ pub record SameExit (a b : ExitLine) : Type 0 where
 -- The two certificates say the same line by line.
 pub record SameLines (c d : Lines) : Type 0 where
   pub version : c.version ≡ d.version
-  pub routines : Alike SameRoutine c.routines d.routines
-  pub facts : Alike SameFact c.facts d.facts
-  pub exits : Alike SameExit c.exits d.exits
+  pub routines : Alike SameRoutineLine c.routines d.routines
+  pub facts : Alike SameFactLine c.facts d.facts
+  pub exits : Alike SameExitLine c.exits d.exits
 
 -- A text is that of one line, and of one certificate, which has no other text.
 pub record SpellingLaw : Type 0 where
@@ -60,6 +62,21 @@ pub record SpellingLaw : Type 0 where
       line_text v l ≡ line_text v m → SameLine l m
   pub lines : (c d : Lines) → AreLines c → AreLines d → text c ≡ text d → SameLines c d
   pub text : (c d : Lines) → SameLines c d → text c ≡ text d
+
+-- The two certificates claim the same of each routine, address and exit: sets agree on words, and facts agree.
+pub record SameCertificate (c d : Certificate) : Type 0 where
+  pub listed : (e : ℕ) → c.listed e ≡ d.listed e
+  pub rank : (e : ℕ) → c.rank e ≡ d.rank e
+  pub sites : (e : ℕ) → SameWords (c.sites e) (d.sites e)
+  pub writes : (e : ℕ) → SameWords (c.writes e) (d.writes e)
+  pub has_fact : (a : ℕ) → c.has_fact a ≡ d.has_fact a
+  pub fact : (a : ℕ) → Agree (c.fact a) (d.fact a)
+  pub has_exit : (e o : ℕ) → c.has_exit e o ≡ d.has_exit e o
+  pub exit : (e o : ℕ) → Agree (c.exit e o) (d.exit e o)
+
+-- Certificates that say the same line by line claim the same.
+abbrev pub MeaningLaw : Type 0
+MeaningLaw = (c d : Lines) → SameLines c d → SameCertificate (certificate_of c) (certificate_of d)
 
 -- The bytes are the text of a certificate of this version.
 pub record IsSpelled (v : Version) (bytes : List ℕ) : Type 0 where

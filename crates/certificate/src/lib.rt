@@ -9,7 +9,7 @@ ghost use Rattle.certificate.specs.Faults.{IsText, HasFault};
 ghost use Rattle.certificate.specs.Kept.{version_of, text_of};
 ghost use Rattle.certificate.specs.Sample.{SampleLaw};
 ghost use Rattle.certificate.specs.Line.{TextLaw};
-ghost use Rattle.certificate.specs.Exact.{SpellingLaw, ReadingLaw, FaultLaw};
+ghost use Rattle.certificate.specs.Exact.{SpellingLaw, MeaningLaw, ReadingLaw, FaultLaw};
 
 use crate::parser::Parser;
 use std::alloc::Allocator;
@@ -130,6 +130,11 @@ pub fn text_law()
 /// where they say the same.
 pub fn spelling_law()
     ensures { SpellingLaw }
+{}
+
+/// Certificates that say the same line by line claim the same of each routine, address and exit.
+pub fn meaning_law()
+    ensures { MeaningLaw }
 {}
 
 /// The text of a certificate's lines is a text of lines in order, unless it's longer than what is

@@ -11,6 +11,6 @@ pub mod OneLineLemmas
 pub mod OneTextLemmas
 pub mod TextOrderLemmas
 pub mod OneFaultLemmas
-pub mod GatherLemmas
+pub mod FromOrderLemmas
 pub mod SameTextLemmas
 pub mod SameMeaningLemmas

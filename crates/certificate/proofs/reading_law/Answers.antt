@@ -1,4 +1,4 @@
-use Rattle.certificate.proofs.GatherLemmas.{reading_law}
+use Rattle.certificate.proofs.FromOrderLemmas.{reading_law}
 use Rattle.certificate.proofs.reading_law.Goals as goal
 
 pub returns : goal.returns

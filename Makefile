@@ -6,11 +6,13 @@ JOBS ?= $(shell awk -v n="$$(nproc)" '/^MemAvailable/ { m = int($$2 / 3000000); 
 
 .PHONY: run try test install bench fmt
 
-# Proves the libraries below the program, side by side, and the program, builds it and runs it on the stored tape.
+# Proves the libraries below the command line side by side, then the command line and the program, which are one after
+# another and so get all the processors; builds the program and runs it on the stored tape.
 run:
-	@echo "Proving pdp8 and all below it, $(JOBS) crates at a time. From nothing this takes some ten minutes on four processors,"
-	@echo "and seconds where nothing has changed. Each crate's lines come when it is done; make try proves nothing and is quick."
-	cd crates/pdp8 && rt all check --jobs $(JOBS)
+	@echo "Proving pdp8 and all below it with $(JOBS) jobs. From nothing this takes some 15 minutes on four processors, and"
+	@echo "seconds where nothing has changed. Each crate's lines come when it is done; make try proves nothing and is quick."
+	cd crates/commands && rt all check --jobs $(JOBS)
+	cd crates/workbench && rt check --jobs $(JOBS)
 	cd crates/pdp8 && rt run < stdin
 
 # Runs the program on the stored tape without any proof, in less than a minute.

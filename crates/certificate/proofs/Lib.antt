@@ -14,3 +14,8 @@ pub mod OneFaultLemmas
 pub mod FromOrderLemmas
 pub mod SameTextLemmas
 pub mod SameMeaningLemmas
+pub mod GatherLemmas
+pub mod FormLemmas
+pub mod FoundLemmas
+pub mod DetailLemmas
+pub mod ReaderLemmas

@@ -10,14 +10,18 @@ use Rattle.certificate.specs.declared.CertificateFault.{CertificateFault}
 use Rattle.certificate.specs.declared.CertificateFault.TheVariants as faults
 use Rattle.certificate.specs.declared.progress.Progress.{Progress}
 use Rattle.certificate.specs.declared.line.Line.{Line as ReadLine}
+use Rattle.certificate.specs.declared.lines.KeptLines.{KeptLines}
 use Rattle.certificate.specs.Spelling.{version_text}
 use Rattle.certificate.specs.Line.{Line, line_text}
 use Rattle.certificate.specs.Order.{any, is_end, AreInOrder, front, IsBad, IsMisplaced, IsOneTooMany}
 use Rattle.certificate.specs.Progress.{Tracks, Takes}
 use Rattle.certificate.specs.Meaning.{said}
+use Rattle.certificate.specs.Found.{newest_first, all_said, Keeps, IsWhole}
 use Rattle.certificate.specs.Faults.{most_bytes, NoFeed, HasLine, HasFaultyLine, HasRest, IsCut, HasFault}
 use Rattle.certificate.proofs.LengthLemmas.{line_short}
-use Rattle.certificate.specs.Parser.{Reached, HasRead, Parts, Refuses}
+use Rattle.certificate.proofs.GatherLemmas.{text_of_gathered}
+use Rattle.certificate.proofs.FormLemmas.{gathered_formed}
+use Rattle.certificate.specs.Parser.{Reached, HasRead, Parts, Refuses, IsParsed}
 
 long_bad : (v : Version) (before : List Line) (bytes : List ℕ) → 32768 < length bytes → IsBad v before bytes
 long_bad v before bytes h l spells stands =
@@ -37,10 +41,10 @@ kept_number (Ok u) text line new_text new_line old new long p n k h g = let e : 
 kept_number (Err f) text line new_text new_line old new long p n k h g = let e : new ≡ old = k.1 in rw e h
 
 -- After a line was kept.
-kept_parts : (text line new_text new_line bytes : List ℕ) (new : Option Progress) (long : Bool) (p : Progress) →
+kept_parts : {A : Type 0} (new_kept : KeptLines A) (text line new_text new_line bytes : List ℕ) (new : Option Progress) (long : Bool) (p : Progress) →
     bytes ≡ text ++ line → new_text ≡ text ++ line ++ 10 ∷ [] → new_line ≡ [] → new ≡ Some p → long ≡ false →
-    Reached p new_text → Parts new_text new new_line long (bytes ++ 10 ∷ [])
-kept_parts text line new_text new_line bytes new long p e a b c d h = record {
+    Reached p new_text new_kept → Parts new_text new_kept new new_line long (bytes ++ 10 ∷ [])
+kept_parts new_kept text line new_text new_line bytes new long p e a b c d h = record {
   tail = [];
   split = rw (e, a) (sym (append-nil (text ++ line ++ 10 ∷ [])));
   read = rw c h;
@@ -51,20 +55,20 @@ kept_parts text line new_text new_line bytes new long p e a b c d h = record {
 }
 
 -- The line so far, where it isn't too long.
-line_split : (text line bytes : List ℕ) (progress : Option Progress) → (h : Parts text progress line false bytes) → bytes ≡ text ++ line
-line_split text line bytes progress h = rw (h.same refl) h.split
+line_split : {A : Type 0} (kept : KeptLines A) (text line bytes : List ℕ) (progress : Option Progress) → (h : Parts text kept progress line false bytes) → bytes ≡ text ++ line
+line_split kept text line bytes progress h = rw (h.same refl) h.split
 
-line_feed : (text line bytes : List ℕ) (progress : Option Progress) → (h : Parts text progress line false bytes) → NoFeed line
-line_feed text line bytes progress h = rw (h.same refl) h.feed
+line_feed : {A : Type 0} (kept : KeptLines A) (text line bytes : List ℕ) (progress : Option Progress) → (h : Parts text kept progress line false bytes) → NoFeed line
+line_feed kept text line bytes progress h = rw (h.same refl) h.feed
 
 -- The first line.
-pub first_kept : (r : Result Unit CertificateFault) (text line new_text new_line bytes : List ℕ) (new : Option Progress) (long : Bool) (p : Progress) (v : Version) →
-    Parts text None line false bytes → line ≡ version_text v → p.version ≡ v → Tracks p [] → Kept r text line None new_text new_line new long p →
-    MatchResult r (λ u. Parts new_text new new_line long (bytes ++ 10 ∷ [])) (Refuses (bytes ++ 10 ∷ []))
-first_kept (Err f) text line new_text new_line bytes new long p v h e w t k = inl k.0
-first_kept (Ok u) text line new_text new_line bytes new long p v h e w t k =
-    kept_parts text line new_text new_line bytes new long p (line_split text line bytes None h) k.0 k.1 k.2 k.3
-    (record { before = []; order = tt; tracks = t; is = (let z : text ≡ [] = h.read in k.0 ∙ rw (z, e, w) refl) })
+pub first_kept : {A : Type 0} (kept new_kept : KeptLines A) (r : Result Unit CertificateFault) (text line new_text new_line bytes : List ℕ) (new : Option Progress) (long : Bool) (p : Progress) (v : Version) →
+    Parts text kept None line false bytes → line ≡ version_text v → p.version ≡ v → Tracks p [] → Kept r text line None new_text new_line new long p →
+    new_kept ≡ kept → MatchResult r (λ u. Parts new_text new_kept new new_line long (bytes ++ 10 ∷ [])) (Refuses (bytes ++ 10 ∷ []))
+first_kept kept new_kept (Err f) text line new_text new_line bytes new long p v h e w t k same = inl k.0
+first_kept kept new_kept (Ok u) text line new_text new_line bytes new long p v h e w t k same =
+    kept_parts new_kept text line new_text new_line bytes new long p (line_split kept text line bytes None h) k.0 k.1 k.2 k.3
+    (record { before = []; order = tt; tracks = t; keeps = rw same h.read.1; is = (let z : text ≡ [] = h.read.0 in k.0 ∙ rw (z, e, w) refl) })
 
 -- A line at the end of what was seen.
 has_line : (text tail bytes whole rest : List ℕ) → bytes ≡ text ++ tail → text ≡ whole → NoFeed tail → length bytes < most_bytes →
@@ -76,9 +80,9 @@ has_line text tail bytes whole rest e f feed small = record {
   within = rw (← f) (let z : length bytes ≡ length (text ++ tail) = ap length e in omega (arith, length-append text tail));
 }
 
-other_line : (text line bytes : List ℕ) (long : Bool) (v : Version) → (h : Parts text None line long bytes) →
+other_line : {A : Type 0} (kept : KeptLines A) (text line bytes : List ℕ) (long : Bool) (v : Version) → (h : Parts text kept None line long bytes) →
     (long ≡ false → line ≡ version_text v → ⊥) → h.tail ≡ version_text v → ⊥
-other_line text line bytes long v h none e = go long refl
+other_line kept text line bytes long v h none e = go long refl
   where
     length_of : (v : Version) → length (version_text v) ≡ 18
     length_of One = refl
@@ -91,22 +95,23 @@ other_line text line bytes long v h none e = go long refl
         let b : length h.tail ≡ length (version_text v) = ap length e in
         let c : length (version_text v) ≡ 18 = length_of v in omega arith
 
-pub first_refused : (text line bytes : List ℕ) (long : Bool) → Parts text None line long bytes → length bytes < most_bytes →
+pub first_refused : {A : Type 0} (kept : KeptLines A) (text line bytes : List ℕ) (long : Bool) → Parts text kept None line long bytes → length bytes < most_bytes →
     ((v : Version) → long ≡ false → line ≡ version_text v → ⊥) → Refuses (bytes ++ 10 ∷ []) faults.Version
-first_refused text line bytes long h small none =
-    inr (λ rest. inl (h.tail, has_line text h.tail bytes [] rest h.split h.read h.feed small, λ v. other_line text line bytes long v h (none v)))
+first_refused kept text line bytes long h small none =
+    inr (λ rest. inl (h.tail, has_line text h.tail bytes [] rest h.split h.read.0 h.feed small, λ v. other_line kept text line bytes long v h (none v)))
 
 -- A further line.
-pub next_kept : (r : Result Unit CertificateFault) (text line new_text new_line bytes : List ℕ) (old new : Option Progress) (long : Bool)
-    (p q : Progress) (l : ReadLine) → old ≡ Some p → Parts text old line false bytes → q.version ≡ p.version →
+pub next_kept : {A : Type 0} (kept mid new_kept : KeptLines A) (r : Result Unit CertificateFault) (text line new_text new_line bytes : List ℕ) (old new : Option Progress) (long : Bool)
+    (p q : Progress) (l : ReadLine) → old ≡ Some p → Parts text kept old line false bytes → q.version ≡ p.version →
     ((before : List Line) → Tracks p before → Takes p.version before line q (Ok l)) → Kept r text line old new_text new_line new long q →
-    MatchResult r (λ u. Parts new_text new new_line long (bytes ++ 10 ∷ [])) (Refuses (bytes ++ 10 ∷ []))
-next_kept (Err f) text line new_text new_line bytes old new long p q l is h w t k = inl k.0
-next_kept (Ok u) text line new_text new_line bytes old new long p q l is h w t k =
-    kept_parts text line new_text new_line bytes new long q (line_split text line bytes old h) k.0 k.1 k.2 k.3
-    (made (let z : HasRead (Some p) text = rw is at h.read in z))
+    ((before : List Line) → Keeps kept before → Keeps mid (said l ∷ before)) → new_kept ≡ mid →
+    MatchResult r (λ u. Parts new_text new_kept new new_line long (bytes ++ 10 ∷ [])) (Refuses (bytes ++ 10 ∷ []))
+next_kept kept mid new_kept (Err f) text line new_text new_line bytes old new long p q l is h w t k more same = inl k.0
+next_kept kept mid new_kept (Ok u) text line new_text new_line bytes old new long p q l is h w t k more same =
+    kept_parts new_kept text line new_text new_line bytes new long q (line_split kept text line bytes old h) k.0 k.1 k.2 k.3
+    (made (let z : HasRead (Some p) text kept = rw is at h.read in z))
   where
-    made : Reached p text → Reached q new_text
+    made : Reached p text kept → Reached q new_text new_kept
     made g =
         let n = t g.before g.tracks in
         let e : line ≡ line_text p.version (said l) = n.0.spells.1 in
@@ -114,14 +119,15 @@ next_kept (Ok u) text line new_text new_line bytes old new long p q l is h w t k
           before = said l ∷ g.before;
           order = subst (λ (v : Version). AreInOrder v (said l ∷ g.before)) (sym w) (n.0.spells.0, n.0.next, g.order);
           tracks = n.1;
+          keeps = rw same (more g.before g.keeps);
           is = subst (λ (v : Version). new_text ≡ front v (said l ∷ g.before)) (sym w)
               (k.0 ∙ rw (g.is, e) (append_assoc (front p.version g.before) (line_text p.version (said l)) (10 ∷ [])));
         }
 
-faulty : (p : Progress) (text line bytes rest : List ℕ) (n : ℕ) (IsFaulty : Version → List Line → List ℕ → Type 0) → (g : Reached p text) →
+faulty : {A : Type 0} (kept : KeptLines A) (p : Progress) (text line bytes rest : List ℕ) (n : ℕ) (IsFaulty : Version → List Line → List ℕ → Type 0) → (g : Reached p text kept) →
     bytes ≡ text ++ line → NoFeed line → length bytes < most_bytes → n ≡ length g.before + 2 → IsFaulty p.version g.before line →
     HasFaultyLine (bytes ++ 10 ∷ [] ++ rest) n IsFaulty
-faulty p text line bytes rest n IsFaulty g e feed small number bad = record {
+faulty kept p text line bytes rest n IsFaulty g e feed small number bad = record {
   version = p.version;
   before = g.before;
   order = g.order;
@@ -131,44 +137,44 @@ faulty p text line bytes rest n IsFaulty g e feed small number bad = record {
   faulty = bad;
 }
 
-pub next_refused : (text line bytes : List ℕ) (old : Option Progress) (p q : Progress) (f : CertificateFault) → old ≡ Some p →
-    Parts text old line false bytes → length bytes < most_bytes →
+pub next_refused : {A : Type 0} (kept : KeptLines A) (text line bytes : List ℕ) (old : Option Progress) (p q : Progress) (f : CertificateFault) → old ≡ Some p →
+    Parts text kept old line false bytes → length bytes < most_bytes →
     ((before : List Line) → Tracks p before → Takes p.version before line q (Err f)) → Refuses (bytes ++ 10 ∷ []) f
-next_refused text line bytes old p q f is h small t = go f t
+next_refused kept text line bytes old p q f is h small t = go f t
   where
     e : bytes ≡ text ++ line
-    e = line_split text line bytes old h
+    e = line_split kept text line bytes old h
 
     feed : NoFeed line
-    feed = line_feed text line bytes old h
+    feed = line_feed kept text line bytes old h
 
-    g : Reached p text
-    g = let z : HasRead (Some p) text = rw is at h.read in z
+    g : Reached p text kept
+    g = let z : HasRead (Some p) text kept = rw is at h.read in z
 
     go : (f : CertificateFault) → ((before : List Line) → Tracks p before → Takes p.version before line q (Err f)) → Refuses (bytes ++ 10 ∷ []) f
-    go (faults.BadLine n) t = let b = t g.before g.tracks in inr (λ rest. inl (faulty p text line bytes rest n IsBad g e feed small b.0 b.1))
-    go (faults.Order n) t = let b = t g.before g.tracks in inr (λ rest. faulty p text line bytes rest n IsMisplaced g e feed small b.0 b.1)
-    go faults.TooMany t = inr (λ rest. inl (length g.before + 2, faulty p text line bytes rest (length g.before + 2) IsOneTooMany g e feed small refl (t g.before g.tracks)))
+    go (faults.BadLine n) t = let b = t g.before g.tracks in inr (λ rest. inl (faulty kept p text line bytes rest n IsBad g e feed small b.0 b.1))
+    go (faults.Order n) t = let b = t g.before g.tracks in inr (λ rest. faulty kept p text line bytes rest n IsMisplaced g e feed small b.0 b.1)
+    go faults.TooMany t = inr (λ rest. inl (length g.before + 2, faulty kept p text line bytes rest (length g.before + 2) IsOneTooMany g e feed small refl (t g.before g.tracks)))
     go faults.Version t = absurd (t g.before g.tracks)
     go faults.NoMemory t = absurd (t g.before g.tracks)
 
 -- A line that is too long.
-pub long_refused : (text line bytes : List ℕ) (old : Option Progress) (p : Progress) (long : Bool) (n : ℕ) → old ≡ Some p → long ≡ true →
-    Parts text old line long bytes → length bytes < most_bytes → n ≡ p.number → Refuses (bytes ++ 10 ∷ []) (faults.BadLine n)
-long_refused text line bytes old p long n is e h small number =
-    inr (λ rest. inl (faulty p text h.tail bytes rest n IsBad g h.split h.feed small (number ∙ g.tracks.number) (long_bad p.version g.before h.tail (h.long e))))
+pub long_refused : {A : Type 0} (kept : KeptLines A) (text line bytes : List ℕ) (old : Option Progress) (p : Progress) (long : Bool) (n : ℕ) → old ≡ Some p → long ≡ true →
+    Parts text kept old line long bytes → length bytes < most_bytes → n ≡ p.number → Refuses (bytes ++ 10 ∷ []) (faults.BadLine n)
+long_refused kept text line bytes old p long n is e h small number =
+    inr (λ rest. inl (faulty kept p text h.tail bytes rest n IsBad g h.split h.feed small (number ∙ g.tracks.number) (long_bad p.version g.before h.tail (h.long e))))
   where
-    g : Reached p text
-    g = let z : HasRead (Some p) text = rw is at h.read in z
+    g : Reached p text kept
+    g = let z : HasRead (Some p) text kept = rw is at h.read in z
 
 -- A byte more.
 no_feed : (xs : List ℕ) (b : ℕ) → NoFeed xs → b ≢ 10 → NoFeed (xs ++ b ∷ [])
 no_feed [] b h n = (n, tt)
 no_feed (x ∷ xs) b h n = (h.0, no_feed xs b h.1 n)
 
-pub pushed : (text line new_line bytes : List ℕ) (progress : Option Progress) (long : Bool) (b : ℕ) → Parts text progress line long bytes →
-    b ≢ 10 → length line < 32768 → new_line ≡ line ++ b ∷ [] → Parts text progress new_line long (bytes ++ b ∷ [])
-pushed text line new_line bytes progress long b h n small e = record {
+pub pushed : {A : Type 0} (kept : KeptLines A) (text line new_line bytes : List ℕ) (progress : Option Progress) (long : Bool) (b : ℕ) → Parts text kept progress line long bytes →
+    b ≢ 10 → length line < 32768 → new_line ≡ line ++ b ∷ [] → Parts text kept progress new_line long (bytes ++ b ∷ [])
+pushed kept text line new_line bytes progress long b h n small e = record {
   tail = h.tail ++ b ∷ [];
   split = ap (λ (x : List ℕ). x ++ b ∷ []) h.split ∙ append_assoc text h.tail (b ∷ []);
   read = h.read;
@@ -178,9 +184,9 @@ pushed text line new_line bytes progress long b h n small e = record {
   full = λ q. absurd (let z : 32768 ≤ length line = h.full q in omega arith);
 }
 
-pub passed : (text line bytes : List ℕ) (progress : Option Progress) (long : Bool) (b : ℕ) → Parts text progress line long bytes →
-    b ≢ 10 → 32768 ≤ length line → Parts text progress line true (bytes ++ b ∷ [])
-passed text line bytes progress long b h n full = record {
+pub passed : {A : Type 0} (kept : KeptLines A) (text line bytes : List ℕ) (progress : Option Progress) (long : Bool) (b : ℕ) → Parts text kept progress line long bytes →
+    b ≢ 10 → 32768 ≤ length line → Parts text kept progress line true (bytes ++ b ∷ [])
+passed kept text line bytes progress long b h n full = record {
   tail = h.tail ++ b ∷ [];
   split = ap (λ (x : List ℕ). x ++ b ∷ []) h.split ∙ append_assoc text h.tail (b ∷ []);
   read = h.read;
@@ -195,9 +201,9 @@ passed text line bytes progress long b h n full = record {
     longer false q = let z : length line ≡ length h.tail = ap length (h.same q) in omega (arith, length-append h.tail (b ∷ []))
 
 -- A byte past the most.
-pub one_too_many : (text line bytes : List ℕ) (progress : Option Progress) (long : Bool) (b count : ℕ) → Parts text progress line long bytes →
+pub one_too_many : {A : Type 0} (kept : KeptLines A) (text line bytes : List ℕ) (progress : Option Progress) (long : Bool) (b count : ℕ) → Parts text kept progress line long bytes →
     count ≡ most_bytes → count ≡ length bytes → Refuses (bytes ++ b ∷ []) faults.TooMany
-one_too_many text line bytes progress long b count h most e =
+one_too_many kept text line bytes progress long b count h most e =
     let n : length bytes ≡ most_bytes = sym e ∙ most in
     inr (λ rest. inr (
       (let z : length (bytes ++ b ∷ [] ++ rest) ≡ length bytes + 1 + length rest =
@@ -208,8 +214,8 @@ one_too_many text line bytes progress long b count h most e =
           rw t (whole progress h)),
     ))
   where
-    whole : (o : Option Progress) → Parts text o line long bytes → NoFeed bytes ⊎ HasRest bytes
-    whole None h = inl (let z : text ≡ [] = h.read in let w : bytes ≡ h.tail = h.split ∙ rw z refl in rw w h.feed)
+    whole : (o : Option Progress) → Parts text kept o line long bytes → NoFeed bytes ⊎ HasRest bytes
+    whole None h = inl (let z : text ≡ [] = h.read.0 in let w : bytes ≡ h.tail = h.split ∙ rw z refl in rw w h.feed)
     whole (Some p) h = inr (record {
       version = p.version;
       before = h.read.before;
@@ -229,10 +235,10 @@ has_place n most e h = elim (cases_lt n most) [
 ]
 
 -- The bytes end without the end, or with something after it.
-pub cut : (text line bytes : List ℕ) (long : Bool) (o : Option Progress) (p : Progress) (n : ℕ) → o ≡ Some p → Parts text o line long bytes →
+pub cut : {A : Type 0} (kept : KeptLines A) (text line bytes : List ℕ) (long : Bool) (o : Option Progress) (p : Progress) (n : ℕ) → o ≡ Some p → Parts text kept o line long bytes →
     length bytes ≤ most_bytes → n ≡ p.number →
     ((before : List Line) → Tracks p before → any is_end before ≡ true → long ≡ false → line ≡ [] → ⊥) → IsCut bytes n
-cut text line bytes long o p n is h few number lacks = record {
+cut kept text line bytes long o p n is h few number lacks = record {
   lines = record {
     version = p.version;
     before = g.before;
@@ -246,8 +252,8 @@ cut text line bytes long o p n is h few number lacks = record {
   lacks = λ ended none. go long refl none (λ q e. lacks g.before g.tracks ended q e);
 }
   where
-    g : Reached p text
-    g = let z : HasRead (Some p) text = rw is at h.read in z
+    g : Reached p text kept
+    g = let z : HasRead (Some p) text kept = rw is at h.read in z
 
     go : (c : Bool) → long ≡ c → h.tail ≡ [] → (long ≡ false → line ≡ [] → ⊥) → ⊥
     go false q none lacks = lacks q (h.same q ∙ none)
@@ -263,13 +269,10 @@ pub parsed : {X : Type 0} (r : Result X CertificateFault) (P : List ℕ → X �
     MatchResult r (P (take i bytes)) (HasFault (take i bytes)) → MatchResult r (P bytes) (HasFault bytes)
 parsed r P bytes i a b h = subst (λ (x : List ℕ). MatchResult r (P x) (HasFault x)) (all_taken i bytes a b) h
 
-pub if_first : {X : Type 0} (r : Result X CertificateFault) (P O : X → Type 0) (Q : CertificateFault → Type 0) → MatchResult r (λ x. P x × O x) Q → IfOk r P
-if_first (Ok x) P O Q h = h.0
-if_first (Err f) P O Q h = tt
-
-pub if_second : {X : Type 0} (r : Result X CertificateFault) (P O : X → Type 0) (Q : CertificateFault → Type 0) → MatchResult r (λ x. P x × O x) Q → IfOk r O
-if_second (Ok x) P O Q h = h.1
-if_second (Err f) P O Q h = tt
+pub if_ok : {X : Type 0} (r : Result X CertificateFault) (P O : X → Type 0) (Q : CertificateFault → Type 0) → ((x : X) → P x → O x) →
+    MatchResult r P Q → IfOk r O
+if_ok (Ok x) P O Q to h = to x h
+if_ok (Err f) P O Q to h = tt
 
 pub if_refused : {X : Type 0} (r : Result X CertificateFault) (P : X → Type 0) (bytes : List ℕ) → MatchResult r P (HasFault bytes) →
     IfErr r (λ f. (f ≡ faults.NoMemory) ⊎ HasFault bytes f)
@@ -292,3 +295,36 @@ count_taken bytes i count h e = e ∙ sym (length-take-le i bytes h)
 
 pub not_empty : (line : List ℕ) → false ≡ (length line == 0) → line ≡ [] → ⊥
 not_empty line e f = true≢false (sym (eq-eqb (length line) 0 (ap length f)) ∙ sym e)
+
+-- The certificate that is kept.
+pub whole_kept : {A : Type 0} (kept : KeptLines A) (text : List ℕ) (o : Option Progress) (p : Progress) (v : Version) → v ≡ p.version → o ≡ Some p →
+    HasRead o text kept → ((before : List Line) → Tracks p before → any is_end before ≡ true) → IsWhole v text kept
+whole_kept kept text o p v same is h ended =
+    let g : Reached p text kept = let z : HasRead (Some p) text kept = rw is at h in z in
+    record {
+      order = rw (same, g.keeps.lines) g.order;
+      ended = rw g.keeps.lines (ended g.before g.tracks);
+      is = rw (same, g.keeps.lines) g.is;
+      indexed = g.keeps.indexed;
+    }
+
+pub whole_parsed : {A : Type 0} (kept : KeptLines A) (text line bytes : List ℕ) (o : Option Progress) (long : Bool) (v : Version) →
+    IsWhole v text kept → Parts text kept o line long bytes → long ≡ false → line ≡ [] → length bytes ≤ most_bytes →
+    IsParsed bytes (record { version = v; lines = kept.lines.items })
+whole_parsed kept text line bytes o long v w h short none few =
+    let all : bytes ≡ text = h.split ∙ (ap (λ (x : List ℕ). text ++ x) (sym (h.same short) ∙ none) ∙ append-nil text) in
+    record {
+      found = all ∙ (w.is ∙ sym (text_of_gathered v (all_said kept) w.order w.ended));
+      lines = gathered_formed v (all_said kept) w.order;
+      is_text = record {
+        lines = newest_first [] (all_said kept);
+        order = w.order;
+        ended = w.ended;
+        text = all ∙ w.is;
+        few = few;
+      };
+    }
+
+pub is_empty : (line : List ℕ) → true ≡ (length line == 0) → line ≡ []
+is_empty [] e = refl
+is_empty (b ∷ line) e = absurd (let z : length (b ∷ line) ≡ 0 = eqb-true (length (b ∷ line)) 0 (sym e) in omega arith)

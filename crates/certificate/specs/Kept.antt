@@ -1,12 +1,22 @@
--- How a certificate is kept.
-use Rattle.std.specs.Prelude.{ℕ, List}
+-- How a certificate is kept, and what it says.
+use Rattle.std.specs.Prelude.{List, map}
 use Rattle.certificate.specs.declared.Version.{Version}
-use Rattle.certificate.specs.declared.Certificate.{Certificate}
+use Rattle.certificate.specs.declared.line.Line.{Line}
+use Rattle.certificate.specs.Spelling.{Lines}
+use Rattle.certificate.specs.Certificate.{Certificate}
+use Rattle.certificate.specs.Reading.{certificate_of}
+use Rattle.certificate.specs.Meaning.{said}
+use Rattle.certificate.specs.Gathered.{gathered}
 
--- The version of a certificate's text.
-abbrev pub version_of : {A : Type 0} → Certificate A → Version
-version_of c = c.version
+-- A certificate as it's kept: the version of its text, and the lines after the first one.
+pub record Kept : Type 0 where
+  pub version : Version
+  pub lines : List Line
 
--- The text of a certificate.
-abbrev pub text_of : {A : Type 0} → Certificate A → List ℕ
-text_of c = c.text.items
+-- What it says line by line.
+abbrev pub meaning : Kept → Lines
+meaning c = gathered c.version (map said c.lines)
+
+-- What it claims.
+abbrev pub claims : Kept → Certificate
+claims c = certificate_of (meaning c)

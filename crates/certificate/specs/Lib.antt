@@ -9,5 +9,7 @@ pub mod Order
 pub mod Progress
 pub mod Faults
 pub mod Parser
+pub mod Gathered
+pub mod Found
 pub mod Kept
 pub mod Exact

@@ -1,4 +1,4 @@
--- What the lines that were read say; it serves private contracts.
+-- What the lines say that were read.
 use Rattle.wordset.specs.Lanes.{words}
 use Rattle.wordset.specs.Links.{links_of}
 use Rattle.facts.specs.Meaning.{tracked_of, equation_of, offsets_of}

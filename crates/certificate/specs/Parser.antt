@@ -4,36 +4,42 @@ use Rattle.certificate.specs.declared.CertificateFault.{CertificateFault}
 use Rattle.certificate.specs.declared.CertificateFault.TheVariants.{NoMemory}
 use Rattle.certificate.specs.declared.progress.Progress.{Progress}
 use Rattle.certificate.specs.declared.parser.Parser.{Parser}
+use Rattle.certificate.specs.declared.lines.KeptLines.{KeptLines}
+use Rattle.certificate.specs.Spelling.{text}
+use Rattle.certificate.specs.Reading.{AreLines}
 use Rattle.certificate.specs.Line.{Line}
 use Rattle.certificate.specs.Order.{AreInOrder, front}
 use Rattle.certificate.specs.Progress.{Tracks}
-use Rattle.certificate.specs.Faults.{NoFeed, HasFault, most_bytes}
+use Rattle.certificate.specs.Faults.{NoFeed, HasFault, IsText, most_bytes}
+use Rattle.certificate.specs.Found.{Keeps}
+use Rattle.certificate.specs.Kept.{Kept, meaning}
 
 -- Lines in order of which the text is this and what is kept is that.
-pub record Reached (p : Progress) (text : List ℕ) : Type 0 where
+pub record Reached {A : Type 0} (p : Progress) (text : List ℕ) (kept : KeptLines A) : Type 0 where
   pub before : List Line
   pub order : AreInOrder p.version before
   pub tracks : Tracks p before
   pub is : text ≡ front p.version before
+  pub keeps : Keeps kept before
 
 -- The whole lines that were read.
-abbrev pub HasRead : Option Progress → List ℕ → Type 0
-HasRead None text = text ≡ []
-HasRead (Some p) text = Reached p text
+abbrev pub HasRead : {A : Type 0} → Option Progress → List ℕ → KeptLines A → Type 0
+HasRead None text kept = (text ≡ []) × Keeps kept []
+HasRead (Some p) text kept = Reached p text kept
 
 -- The bytes are whole lines that were read, whose text is kept, and a line so far, whose bytes are kept unless there are
 -- too many.
-pub record Parts (text : List ℕ) (progress : Option Progress) (line : List ℕ) (is_long : Bool) (bytes : List ℕ) : Type 0 where
+pub record Parts {A : Type 0} (text : List ℕ) (kept : KeptLines A) (progress : Option Progress) (line : List ℕ) (is_long : Bool) (bytes : List ℕ) : Type 0 where
   pub tail : List ℕ
   pub split : bytes ≡ text ++ tail
-  pub read : HasRead progress text
+  pub read : HasRead progress text kept
   pub feed : NoFeed tail
   pub same : is_long ≡ false → line ≡ tail
   pub long : is_long ≡ true → 32768 < length tail
   pub full : is_long ≡ true → 32768 ≤ length line
 
 abbrev pub Seen : {A : Type 0} → Parser A → List ℕ → Type 0
-Seen p bytes = Parts p.text.items p.progress p.line.items p.is_long bytes
+Seen p bytes = Parts p.text.items p.kept p.progress p.line.items p.is_long bytes
 
 -- No more bytes than may be read, and no more lines than bytes.
 pub record IsSmall {A : Type 0} (p : Parser A) : Type 0 where
@@ -43,3 +49,9 @@ pub record IsSmall {A : Type 0} (p : Parser A) : Type 0 where
 -- Memory was wanting, or whatever follows the bytes, the text has this fault.
 abbrev pub Refuses : List ℕ → CertificateFault → Type 0
 Refuses bytes fault = (fault ≡ NoMemory) ⊎ ((rest : List ℕ) → HasFault (bytes ++ rest) fault)
+
+-- The certificate is that of the bytes.
+pub record IsParsed (bytes : List ℕ) (c : Kept) : Type 0 where
+  pub found : bytes ≡ text (meaning c)
+  pub lines : AreLines (meaning c)
+  pub is_text : IsText (meaning c).version bytes

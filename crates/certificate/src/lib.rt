@@ -1,23 +1,36 @@
 //! Certificates: the claims about a program that a checker tests, and their spelling as text.
 #![tactic(auto)]
 
-ghost use Rattle.std.specs.Prelude.{◌≡◌, ◌⊎◌, false, is_err, IfOk, IfErr, OnOk, OnErr};
+ghost use Rattle.std.specs.Prelude.{ℕ, ◌≡◌, ◌<◌, ◌⊎◌, true, false, is_some, is_err, IfSome, IfOk, IfErr, OnOk, OnErr};
 ghost use Rattle.std.specs.Io.KnownBytes.{Appends};
 ghost use Rattle.streams.specs.Bytes.{AppendsFront};
 ghost use Rattle.certificate.specs.declared.CertificateFault.TheVariants.{NoMemory};
 ghost use Rattle.certificate.specs.Faults.{IsText, HasFault};
-ghost use Rattle.certificate.specs.Kept.{version_of, text_of};
+ghost use Rattle.wordset.specs.Words.{everything};
+ghost use Rattle.wordset.specs.Lanes.{words};
+ghost use Rattle.facts.specs.Changes.{with_offsets};
+ghost use Rattle.facts.specs.Meaning.{meaning as fact_meaning};
+ghost use Rattle.certificate.specs.Spelling.{text};
+ghost use Rattle.certificate.specs.Reading.{AreLines};
+ghost use Rattle.certificate.specs.Kept.{meaning, claims};
 ghost use Rattle.certificate.specs.Sample.{SampleLaw};
 ghost use Rattle.certificate.specs.Line.{TextLaw};
 ghost use Rattle.certificate.specs.Exact.{SpellingLaw, MeaningLaw, ReadingLaw, FaultLaw};
 
+use crate::lines::{KeptLines, first_exit, first_fact, first_routine};
 use crate::parser::Parser;
+use crate::progress::{FIRST_EXIT, FIRST_FACT};
+use facts::Fact;
 use std::alloc::Allocator;
+use std::marker::Model;
 use streams::{ByteSink, put};
 use thiserror::Error;
+use word12::Word;
+use wordset::WordSet;
 
 mod fields;
 mod line;
+mod lines;
 mod parser;
 mod progress;
 
@@ -30,14 +43,41 @@ pub enum Version {
     Two,
 }
 
-/// What is claimed of a program, so that a checker can test it: its text, and the version of that.
+/// What is claimed of a routine: its rank below 64, the addresses of the JMS words that call it, and
+/// the cells that it and its callees may write.
+#[derive(Clone, Copy, PartialEq, Eq, Debug)]
+pub struct Routine {
+    /// Its rank.
+    pub rank: usize,
+    /// The addresses of the JMS words that call it.
+    pub sites: WordSet,
+    /// The cells that it and its callees may write.
+    pub writes: WordSet,
+}
+
+/// What is claimed of a program, so that a checker can test it.
+///
+/// Contracts see its lines as `meaning` gives them, and what they claim as `claims` gives it.
 #[derive(Drop)]
 pub struct Certificate<A: Allocator> {
     version: Version,
     text: Vec<u8, A>,
+    kept: KeptLines<A>,
 }
 
-impl<A: Allocator> Certificate<A> {
+impl<A: Allocator> Model for Certificate<A> {
+    ghost use Rattle.certificate.specs.Kept.{Kept};
+    ghost use Rattle.certificate.specs.Found.{IsWhole};
+
+    ghost Value = { Kept };
+
+    ghost view = { λ c. record { version = c.version; lines = c.kept.lines.items } };
+
+    // The text is that of the lines, which are whole.
+    ghost invariant = { λ c. IsWhole c.version c.text.items c.kept };
+}
+
+impl<A: Allocator + Copy> Certificate<A> {
     /// The certificate of a text.
     ///
     /// # Errors
@@ -47,8 +87,9 @@ impl<A: Allocator> Certificate<A> {
     /// is `TooMany` where no line before has a fault, and one that ends without its end is `BadLine`
     /// with the number of the line that is lacking.
     pub fn parse(alloc: A, bytes: &[u8]) -> Result<Certificate<A>, CertificateFault>
-        ensures found { IfOk result (λ c. IsText (version_of c) bytes.now) }
-        ensures text { IfOk result (λ c. text_of c ≡ bytes.now) }
+        ensures found { IfOk result (λ c. bytes.now ≡ text (meaning c)) }
+        ensures lines { IfOk result (λ c. AreLines (meaning c)) }
+        ensures text { IfOk result (λ c. IsText (meaning c).version bytes.now) }
         ensures refused { IfErr result (λ fault. (fault ≡ NoMemory) ⊎ HasFault bytes.now fault) }
     {
         let mut parser = Parser::new(alloc);
@@ -59,10 +100,19 @@ impl<A: Allocator> Certificate<A> {
         }
         parser.finish()
     }
+}
+
+impl<A: Allocator> Certificate<A> {
+    /// Shows that what a certificate says is of its form, which proofs about a borrowed one need.
+    pub fn is_certificate(&self)
+        ensures { AreLines (meaning self.now) }
+    {
+        let _version = &self.version;
+    }
 
     /// The version of its text.
     pub fn version(&self) -> Version
-        ensures { result ≡ version_of self.now }
+        ensures { result ≡ (meaning self.now).version }
     {
         self.version
     }
@@ -76,15 +126,49 @@ impl<A: Allocator> Certificate<A> {
     pub fn write<W: ByteSink>(&self, sink: &mut W) -> Result<(), WriteFault>
         requires unmarked { W.mark sink.old ≡ false }
         ensures whole { OnOk result (Appends (W.taken sink.old) (W.taken sink.new)
-            (text_of self.now)) }
+            (text (meaning self.now))) }
         ensures front { OnErr result (AppendsFront (W.taken sink.old) (W.taken sink.new)
-            (text_of self.now)) }
+            (text (meaning self.now))) }
         ensures marks { W.mark sink.new ≡ is_err result }
     {
         match put(sink, &self.text) {
             Ok(()) => Ok(()),
             Err(_) => Err(WriteFault),
         }
+    }
+
+    /// What is claimed of the routine of an entry, if it's listed.
+    pub fn routine(&self, entry: Word) -> Option<Routine>
+        ensures listed { is_some result ≡ (claims self.now).listed entry }
+        ensures rank { IfSome result (λ r. r.rank ≡ (claims self.now).rank entry) }
+        ensures sites { IfSome result (λ r. words r.sites ≡ (claims self.now).sites entry) }
+        ensures writes { IfSome result (λ r. words r.writes ≡ (claims self.now).writes entry) }
+    {
+        first_routine(self.kept.from(entry.index()))
+    }
+
+    /// The fact at an address, if there is one.
+    pub fn fact(&self, at: Word) -> Option<Fact>
+        ensures there { is_some result ≡ (claims self.now).has_fact at }
+        ensures fact { IfSome result (λ f. fact_meaning f ≡ (claims self.now).fact at) }
+    {
+        first_fact(self.kept.from(FIRST_FACT + at.index()))
+    }
+
+    /// What holds when the routine of an entry returns by an offset, if that is said; it has all
+    /// offsets, since an exit doesn't speak of them.
+    pub fn exit(&self, entry: Word, offset: usize) -> Option<Fact>
+        ensures there { is_some result ≡ (claims self.now).has_exit entry offset }
+        ensures fact { IfSome result (λ f. with_offsets everything (fact_meaning f) ≡
+            (claims self.now).exit entry offset) }
+        ensures offsets { IfSome result (λ f. (o : ℕ) → o < 8 →
+            (fact_meaning f).offsets o ≡ true) }
+    {
+        let kept = &self.kept;
+        if offset >= 8 {
+            return None;
+        }
+        first_exit(kept.from(FIRST_EXIT + 8 * entry.index() + offset))
     }
 }
 
@@ -110,7 +194,7 @@ pub enum CertificateFault {
     /// than 64 cells or 32 equations.
     #[error("TooMany")]
     TooMany,
-    /// A growth of the text was refused.
+    /// A growth of what is kept of the text was refused.
     #[error("NoMemory")]
     NoMemory,
 }
@@ -147,3 +231,6 @@ pub fn reading_law()
 pub fn fault_law()
     ensures { FaultLaw }
 {}
+
+#[cfg(test)]
+mod tests;

@@ -5,9 +5,10 @@ ghost use Rattle.std.specs.Prelude.{IfSome, false};
 ghost use Rattle.certificate.specs.declared.Version.{Version as Spelled};
 ghost use Rattle.certificate.specs.declared.CertificateFault.TheVariants.{NoMemory};
 ghost use Rattle.certificate.specs.Spelling.{version_text};
-ghost use Rattle.certificate.specs.Faults.{most_bytes, HasFault, IsText};
-ghost use Rattle.certificate.specs.Parser.{Seen, IsSmall, Refuses};
+ghost use Rattle.certificate.specs.Faults.{most_bytes, HasFault};
+ghost use Rattle.certificate.specs.Parser.{HasRead, Seen, IsSmall, Refuses, IsParsed};
 
+use crate::lines::KeptLines;
 use crate::progress::Progress;
 use crate::{Certificate, CertificateFault, Version};
 use arrayvec::ArrayVec;
@@ -19,11 +20,12 @@ const MOST_BYTES: usize = 1_048_576;
 /// No line of a certificate has more bytes.
 const MOST_OF_A_LINE: usize = 32_768;
 
-/// A certificate's text as far as it was taken: the whole lines, what they say for those that
-/// follow, and the bytes of the line since then, of which there may be too many.
+/// A certificate's text as far as it was taken: the whole lines, what they say and what that means
+/// for those that follow, and the bytes of the line since then, of which there may be too many.
 #[derive(Drop)]
 pub struct Parser<A: Allocator> {
     text: Vec<u8, A>,
+    kept: KeptLines<A>,
     progress: Option<Progress>,
     line: ArrayVec<u8, MOST_OF_A_LINE>,
     is_long: bool,
@@ -44,7 +46,7 @@ fn version_of(line: &[u8]) -> Option<Version>
     None
 }
 
-impl<A: Allocator> Parser<A> {
+impl<A: Allocator + Copy> Parser<A> {
     /// Before the first byte.
     pub fn new(alloc: A) -> Parser<A>
         ensures seen { Seen result [] }
@@ -53,16 +55,20 @@ impl<A: Allocator> Parser<A> {
     {
         Parser {
             text: Vec::new(alloc),
+            kept: KeptLines::new(alloc),
             progress: None,
             line: ArrayVec::new(),
             is_long: false,
             count: 0,
         }
     }
+}
 
-    /// Keeps the line and what it says.
+impl<A: Allocator> Parser<A> {
+    /// Keeps the text of the line and what it says for those that follow.
     fn keep(&mut self, progress: Progress) -> Result<(), CertificateFault>
         ensures same { self.new.count ≡ self.old.count }
+        ensures lines { self.new.kept ≡ self.old.kept }
         ensures kept { MatchResult result
             (λ u. (self.new.text.items ≡ self.old.text.items ++ self.old.line.items ++ 10 ∷ []) ×
             (self.new.line.items ≡ []) × (self.new.progress ≡ Some progress) ×
@@ -113,7 +119,12 @@ impl<A: Allocator> Parser<A> {
         }
         let mut next = progress;
         match next.accept(&self.line) {
-            Ok(_) => self.keep(next),
+            Ok(line) => {
+                let Ok(()) = self.kept.keep(&line) else {
+                    return Err(CertificateFault::NoMemory);
+                };
+                self.keep(next)
+            }
             Err(fault) => Err(fault),
         }
     }
@@ -147,13 +158,14 @@ impl<A: Allocator> Parser<A> {
 
     /// The certificate, where the bytes are a whole one.
     pub fn finish(self) -> Result<Certificate<A>, CertificateFault>
-        requires { IsSmall self }
+        requires small { IsSmall self }
+        requires read { HasRead self.progress self.text.items self.kept }
         ensures { (bytes : List ℕ) → Seen self bytes → self.count ≡ length bytes →
-            MatchResult result (λ c. IsText c.version bytes × (c.text.items ≡ bytes))
-            (HasFault bytes) }
+            MatchResult result (IsParsed bytes) (HasFault bytes) }
     {
         let Parser {
             text,
+            kept,
             progress,
             line,
             is_long,
@@ -171,6 +183,7 @@ impl<A: Allocator> Parser<A> {
         Ok(Certificate {
             version: progress.version(),
             text,
+            kept,
         })
     }
 }

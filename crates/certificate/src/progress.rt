@@ -12,6 +12,12 @@ use crate::line::{Line, read_line};
 use crate::{CertificateFault, Version};
 use facts::{Equation, Name};
 
+/// The place of a fact at 0000; those of routines are their entries.
+pub const FIRST_FACT: usize = 4096;
+
+/// The place of an exit of 0000 by the offset 0.
+pub const FIRST_EXIT: usize = 8192;
+
 /// What is kept of the lines that were read.
 #[derive(Clone, Copy)]
 pub struct Progress {
@@ -39,14 +45,14 @@ fn place_of_equation(equation: &Equation) -> usize
 }
 
 /// The place of a line in the order.
-fn place_of(line: &Line) -> usize
+pub fn place_of(line: &Line) -> usize
     ensures same { result ≡ place (said line.now) }
     ensures small { result < 2 ^ 26 }
 {
     match line {
         Line::Routine(routine) => routine.entry.index(),
-        Line::Fact(address, _, _) => 4096 + address.index(),
-        Line::Exit(entry, offset, _) => 8192 + 8 * entry.index() + usize::from(*offset),
+        Line::Fact(address, _, _) => FIRST_FACT + address.index(),
+        Line::Exit(entry, offset, _) => { FIRST_EXIT + 8 * entry.index() + usize::from(*offset) }
         Line::Cell(tracked) => tracked.cell.index(),
         Line::Equation(equation) => 4096 + place_of_equation(equation),
         Line::End => 40960,
@@ -54,7 +60,7 @@ fn place_of(line: &Line) -> usize
 }
 
 /// Whether a line says more of the fact or exit before it.
-fn is_detail(line: &Line) -> bool
+pub fn is_detail(line: &Line) -> bool
     ensures { result ≡ is_detail (said line.now) }
 {
     matches!(line, Line::Cell(_) | Line::Equation(_))

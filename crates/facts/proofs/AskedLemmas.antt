@@ -8,7 +8,7 @@ use Rattle.instruct.specs.declared.Operation.{Operation}
 use Rattle.instruct.specs.declared.Operation.TheVariants as operation
 use Rattle.instruct.specs.Operates.{is_halt}
 use Rattle.instruct.specs.Bits.{is_indirect, named_cell}
-use Rattle.instruct.specs.Instructions.{Meaning, And, Tad, Isz, Dca, Jms, Jmp, Group1, Group2, Group3, Device, Undefined, kind_of, meaning_of, operation_of, reference, reference_at}
+use Rattle.instruct.specs.Instructions.{Meaning, And, Tad, Isz, Dca, Jms, Jmp, Group1, Group2, Group3, Device, Undefined, kind_of, operation_of, reference, reference_at}
 use Rattle.instruct.proofs.KindLemmas.{reference_meaning, group2_meaning}
 use Rattle.wordset.specs.Words.{Words, SameWords, IsWithin, nothing, one, union, meet, difference, only, some_below}
 use Rattle.wordset.proofs.Tests.{some_none_of}
@@ -49,7 +49,7 @@ read_other pl f (Group3 o) a h = refl
 read_other pl f (Device d) a h = refl
 read_other pl f Undefined a h = refl
 
-false_true : false ≡ true → ⊥
+pub false_true : false ≡ true → ⊥
 false_true e = cc
 
 pub no_reference : {r : Bool} {k : Type 0} → r ≡ false → (IsTrue r ↔ k) → k → ⊥
@@ -91,7 +91,7 @@ write_other pl f Undefined a h = refl
 pub writes_nothing : (s : Words) (pl : Place) (f : Fact) (at w : ℕ) → s ≡ nothing → (kind_of (meaning_at pl at w) ≡ Memory → ⊥) → SameWords s (may_write pl f (meaning_at pl at w))
 writes_nothing s pl f at w e h v lt = ap (λ (x : Words). x v) e ∙ sym (write_other pl f (meaning_at pl at w) v h)
 
-refers_to : (pl : Place) (at w n : ℕ) (i : Bool) → kind_of (meaning_at pl at w) ≡ Memory → i ≡ is_indirect w → n ≡ named_cell w at → reference (operation_of w) i n ≡ meaning_at pl at w
+pub refers_to : (pl : Place) (at w n : ℕ) (i : Bool) → kind_of (meaning_at pl at w) ≡ Memory → i ≡ is_indirect w → n ≡ named_cell w at → reference (operation_of w) i n ≡ meaning_at pl at w
 refers_to pl at w n i k ei en =
     ap (λ x. reference (operation_of w) x n) ei ∙ ap (λ x. reference (operation_of w) (is_indirect w) x) en ∙ sym (reference_meaning pl.declaration.profile at w k)
 
@@ -248,7 +248,7 @@ listed_iff r cells listed writes entry e el en h =
     ]
 
 -- the conditions on one word
-over : (s t : Words) (P : ℕ → Type 0) → SameWords s t → ((a : ℕ) → a < 4096 → s a ≡ true → P a) ↔ ((a : ℕ) → a < 4096 → t a ≡ true → P a)
+pub over : (s t : Words) (P : ℕ → Type 0) → SameWords s t → ((a : ℕ) → a < 4096 → s a ≡ true → P a) ↔ ((a : ℕ) → a < 4096 → t a ≡ true → P a)
 over s t P e = (λ q a lt h. q a lt (e a lt ∙ h), λ q a lt h. q a lt (sym (e a lt) ∙ h))
 
 pub declared_here : (r : Bool) (s : Words) (pl : Place) (f : Fact) (m : Meaning) → (IsTrue r ↔ ((a : ℕ) → a < 4096 → s a ≡ true → (pl.declaration.variable a ≡ true) ⊎ (pl.declaration.entry a ≡ true))) →

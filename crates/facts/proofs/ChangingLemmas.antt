@@ -1,5 +1,5 @@
 -- What happens to what is known.
-use Rattle.std.proofs.Common.{◌≡◌, ℕ, ◌-◌, ◌<◌, ◌==◌, Bool, true, false, ◌&&◌, List, ◌++◌, map, refl, ap, subst, ◌∙◌, arith}
+use Rattle.std.proofs.Common.{◌≡◌, ℕ, ◌-◌, ◌<◌, ◌==◌, Bool, true, false, ◌&&◌, ◌||◌, List, ◌++◌, map, refl, ap, subst, ◌∙◌, arith}
 use Rattle.std.proofs.Math.Path.{fun_ext}
 use Rattle.std.specs.Prelude.{if◌then◌else◌, nat_lt}
 use Rattle.std.proofs.lemmas.Bool.{ltb-true}
@@ -199,6 +199,17 @@ mq_agrees k set = record { sets = sets; mq = λ v lt. refl; link = λ n lt. refl
     sets : (n : Name) → SameWords (known_set (record k { mq = set }) n) (known_set k n)
     sets Ac v lt = refl
     sets (Cell a) v lt = refl
+
+pub offsets_agree : (k : Known) (o : Offsets) → Agree (known_of (record k { offsets = o })) (with_offsets (offsets_of o) (known_of k))
+offsets_agree k o = record { sets = sets; mq = λ v lt. refl; link = λ n lt. refl; equations = refl; offsets = λ n lt. refl }
+  where
+    sets : (n : Name) → SameWords (known_set (record k { offsets = o }) n) (known_set k n)
+    sets Ac v lt = refl
+    sets (Cell a) v lt = refl
+
+pub entered_agrees : {k f g : Fact} {o none : Words} → Agree k (with_offsets o f) → Agree f g → ((n : ℕ) → n < 8 → o n ≡ (none n || (n == 0))) → ((n : ℕ) → n < 8 → none n ≡ false) → Agree k (with_offsets (one 0) g)
+entered_agrees h a e q =
+    agree_trans h (record { sets = a.sets; mq = a.mq; link = a.link; equations = a.equations; offsets = λ n lt. e n lt ∙ ap (λ b. b || (n == 0)) (q n lt) })
 
 pub told_agrees : (k : Known) (es more : ArrayVec CodeEquation) → es.items ≡ more.items ++ k.equations.items → Agree (known_of (record k { equations = es })) (with_equations (map equation_of more.items) (known_of k))
 told_agrees k es more e = record { sets = sets; mq = λ v lt. refl; link = λ n lt. refl; equations = ap (map equation_of) e ∙ map-append equation_of more.items k.equations.items; offsets = λ o lt. refl }

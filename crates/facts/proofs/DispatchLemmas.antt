@@ -11,7 +11,7 @@ use Rattle.instruct.specs.declared.devices.DeviceOperation.{DeviceOperation}
 use Rattle.instruct.specs.Bits.{has_bit, is_indirect, named_cell}
 use Rattle.instruct.specs.Operates.{MqOperate, mq_operate_of, is_halt}
 use Rattle.instruct.specs.Devices.{device_operation}
-use Rattle.instruct.specs.Instructions.{Meaning, Group1, Group2, Group3, Device, Undefined, DeviceAction, kind_of, meaning_of, instruction_of, operation_of, reference, reference_at, processor_action, device_action, device_meaning, mq_meaning, group3_meaning, operate_meaning, is_group1}
+use Rattle.instruct.specs.Instructions.{Meaning, Group1, Group2, Undefined, DeviceAction, kind_of, meaning_of, instruction_of, operation_of, reference, reference_at, processor_action, device_action, device_meaning, mq_meaning, group3_meaning, operate_meaning, is_group1}
 use Rattle.instruct.proofs.KindLemmas.{reference_meaning, group1_meaning, group2_meaning, group3_meaning_of, device_meaning_of, undefined_meaning}
 use Rattle.wordset.specs.Words.{everything, one, plus}
 use Rattle.facts.specs.Facts.{Fact, Place}

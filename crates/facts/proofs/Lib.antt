@@ -19,3 +19,4 @@ pub mod RegisterLemmas
 pub mod SkipLemmas
 pub mod DispatchLemmas
 pub mod AskedLemmas
+pub mod CallLemmas

@@ -1,10 +1,11 @@
 -- What is asked of one word at the address of a fact before its outcomes are looked at.
-use Rattle.std.specs.Prelude.{◌≡◌, ℕ, ◌<◌, ◌==◌, Bool, true, false, ◌&&◌, ◌||◌, ◌⊎◌, Some, None}
+use Rattle.std.specs.Prelude.{◌≡◌, ℕ, ◌<◌, ◌==◌, Bool, true, false, ◌&&◌, ◌||◌, ◌⊎◌, if◌then◌else◌, Option, Some, None}
 use Rattle.instruct.specs.declared.Operation.{Operation}
 use Rattle.instruct.specs.declared.Operation.TheVariants as operation
 use Rattle.instruct.specs.Instructions.{Meaning, And, Tad, Isz, Dca, Jms, Jmp}
 use Rattle.wordset.specs.Words.{Words, only}
-use Rattle.declaration.specs.Declaration.{Routine, IsListed}
+use Rattle.processor.specs.Machine.{steps_pointer}
+use Rattle.declaration.specs.Declaration.{Routine, Declaration, IsListed}
 use Rattle.policy.specs.Rules.{pointer_of, IsSupported, HaltsDeclared}
 use Rattle.facts.specs.Facts.{Fact, Place}
 use Rattle.facts.specs.Outcomes.{targets}
@@ -48,6 +49,31 @@ stores _ = false
 abbrev pub counts : Operation → Bool
 counts operation.Isz = true
 counts _ = false
+
+-- JMS calls.
+abbrev pub calls : Operation → Bool
+calls operation.Jms = true
+calls _ = false
+
+-- JMP jumps.
+abbrev pub jumps : Operation → Bool
+jumps operation.Jmp = true
+jumps _ = false
+
+-- The cells that a JMS may call.
+abbrev pub called : Place → Fact → Meaning → Words
+called pl f (Jms i c) a = targets pl i c f a
+called pl f _ a = false
+
+-- A JMS through an auto-index cell, which it steps first.
+abbrev pub calls_through_index : Meaning → Bool
+calls_through_index (Jms i c) = steps_pointer i c
+calls_through_index _ = false
+
+-- The entry through which a JMP I returns.
+abbrev pub returned_through : Declaration → Meaning → Option ℕ
+returned_through d (Jmp i c) = if i && d.entry c then Some c else None
+returned_through d _ = None
 
 -- Each cell that the word may write is a variable or an entry.
 abbrev pub WritesAreDeclared : Place → Fact → Meaning → Type 0

@@ -9,11 +9,12 @@ ghost use Rattle.wordset.specs.Links.{links_of};
 ghost use Rattle.facts.specs.Facts.{Ac, Cell};
 ghost use Rattle.facts.specs.Changes.{copied, moved, assigned, smeared, with_equations, with_name, with_mq, with_link, with_offsets};
 ghost use Rattle.facts.specs.Same.{Agree};
-ghost use Rattle.facts.specs.Meaning.{equation_of, known_of, IsUnchanged};
+ghost use Rattle.facts.specs.Meaning.{equation_of, offsets_of, known_of, IsUnchanged};
 
 use crate::equations::{Equations, copies, copy, freed, freed_of_cells, joined, raised};
 use crate::known::{Change, Known};
 use crate::names::{Equation, Name};
+use crate::offsets::Offsets;
 use arrayvec::ArrayVec;
 use word12::Word;
 use wordset::{Links, WordSet};
@@ -222,6 +223,23 @@ impl<'a> Known<'a> {
             target: self.target,
             equations: self.equations,
             offsets: self.offsets,
+        }
+    }
+
+    /// With other offsets.
+    pub(crate) fn with_offsets(self, offsets: Offsets) -> Known<'a>
+        ensures { Agree (known_of result)
+            (with_offsets (offsets_of offsets) (known_of self.entry)) }
+    {
+        Known {
+            base: self.base,
+            ac: self.ac,
+            mq: self.mq,
+            link: self.link,
+            pointer: self.pointer,
+            target: self.target,
+            equations: self.equations,
+            offsets,
         }
     }
 

@@ -1,28 +1,25 @@
-//! What is asked of one word at the address of a fact before its outcomes are looked at, and the
-//! cells that it may read.
+//! The cells that one word at the address of a fact may read or write, and what is asked of them.
 
-ghost use Rattle.std.specs.Prelude.{ℕ, ◌≡◌, ◌<◌, ◌==◌, ◌&&◌, ◌↔◌, ◌⊎◌, IsTrue, Some, true, MatchOption, IfOk, OnOk, IfErr};
+ghost use Rattle.std.specs.Prelude.{ℕ, ◌≡◌, ◌<◌, ◌==◌, ◌&&◌, ◌||◌, ◌↔◌, ◌⊎◌, IsTrue, Some, true};
 ghost use Rattle.wordset.specs.Words.{SameWords, meet, only};
 ghost use Rattle.wordset.specs.Lanes.{words};
-ghost use Rattle.instruct.specs.declared.Instruction.TheVariants.{Memory, Operate2};
+ghost use Rattle.instruct.specs.declared.Instruction.TheVariants.{Memory};
 ghost use Rattle.instruct.specs.Instructions.{kind_of, operation_of};
+ghost use Rattle.declaration.specs.Declaration.{IsListed};
 ghost use Rattle.facts.specs.Facts as said;
-ghost use Rattle.facts.specs.Outcomes.{meaning_at, outcomes_at};
-ghost use Rattle.facts.specs.Conditions.{may_read, may_write, reads_operand, stores, counts, CountsItsReturn, MayWrite, KeepsConditions, BreaksFirst};
-ghost use Rattle.policy.specs.Rules.{IsSupported, HaltsDeclared};
-ghost use Rattle.facts.specs.Same.{Agree, AgreeingOutcomes};
+ghost use Rattle.facts.specs.Facts.{is_routine};
+ghost use Rattle.facts.specs.Outcomes.{meaning_at};
+ghost use Rattle.facts.specs.Conditions.{may_read, may_write, reads_operand, stores, counts, CountsItsReturn, MayWrite};
+ghost use Rattle.facts.specs.Same.{Agree};
 ghost use Rattle.facts.specs.Meaning.{known_of, meaning, IsUnchanged};
 ghost use Rattle.facts.specs.Places.{place_of, writes_of};
-ghost use Rattle.facts.specs.Slots.{slots};
 
-use crate::Condition;
-use crate::dispatch::{Outcomes, outcomes};
 use crate::fact::Fact;
 use crate::known::Known;
 use crate::place::{Place, union_if};
-use crate::references::{either, steps_pointer};
+use crate::references::steps_pointer;
 use crate::skipping::both;
-use instruct::{Instruction, Operation, decode, halts, refers_indirectly, target};
+use instruct::{Instruction, Operation, decode, refers_indirectly, target};
 use std::alloc::Allocator;
 use word12::Word;
 use wordset::WordSet;
@@ -70,7 +67,7 @@ fn pointer_if(chosen: bool, named: Word) -> WordSet
 
 impl<A: Allocator> Place<'_, A> {
     /// Whether a word is a memory reference.
-    fn is_reference(&self, word: Word) -> bool
+    pub(crate) fn is_reference(&self, word: Word) -> bool
         ensures { (at : ℕ) → IsTrue result ↔ (kind_of (meaning_at (place_of self.now) at word) ≡
             Memory) }
     {
@@ -81,7 +78,7 @@ impl<A: Allocator> Place<'_, A> {
     }
 
     /// The cells that a word may read.
-    fn cells_read(&self, at: Word, word: Word, known: &Known<'_>) -> WordSet
+    pub(crate) fn cells_read(&self, at: Word, word: Word, known: &Known<'_>) -> WordSet
         requires pointer { IsUnchanged known.now.pointer }
         requires target { IsUnchanged known.now.target }
         ensures { (f : said.Fact) → Agree (known_of known.now) f →
@@ -97,9 +94,9 @@ impl<A: Allocator> Place<'_, A> {
         union_if(reads_operand(word), &pointer_if(indirect, named), &targets)
     }
 
-    /// The cells that a word may write, a stepped pointer among them; save the one that a JMS itself
-    /// writes.
-    fn cells_written(&self, at: Word, word: Word, known: &Known<'_>) -> WordSet
+    /// The cells that a word may write, a stepped pointer among them; save the one that a JMS
+    /// itself writes.
+    pub(crate) fn cells_written(&self, at: Word, word: Word, known: &Known<'_>) -> WordSet
         requires pointer { IsUnchanged known.now.pointer }
         requires target { IsUnchanged known.now.target }
         ensures { (f : said.Fact) → Agree (known_of known.now) f →
@@ -118,7 +115,7 @@ impl<A: Allocator> Place<'_, A> {
 
     /// The cell in which ISZ counts the running routine's return word up: the routine's own entry
     /// alone, where the word isn't seven up already.
-    fn cell_counted(&self, at: Word, word: Word, known: &Known<'_>) -> WordSet
+    pub(crate) fn cell_counted(&self, at: Word, word: Word, known: &Known<'_>) -> WordSet
         requires pointer { IsUnchanged known.now.pointer }
         requires target { IsUnchanged known.now.target }
         ensures { (f : said.Fact) → Agree (known_of known.now) f → (a : ℕ) → a < 4096 →
@@ -160,7 +157,7 @@ impl<A: Allocator> Place<'_, A> {
     }
 
     /// Whether each of some cells is a variable or an entry.
-    fn are_declared(&self, cells: &WordSet) -> bool
+    pub(crate) fn are_declared(&self, cells: &WordSet) -> bool
         ensures { IsTrue result ↔ ((a : ℕ) → a < 4096 → words cells.now a ≡ true →
             ((place_of self.now).declaration.variable a ≡ true) ⊎
             ((place_of self.now).declaration.entry a ≡ true)) }
@@ -170,16 +167,16 @@ impl<A: Allocator> Place<'_, A> {
     }
 
     /// Whether none of some cells is an entry, save for those of another set.
-    fn keeps_entries(&self, cells: &WordSet, counted: &WordSet) -> bool
+    pub(crate) fn keeps_entries(&self, cells: &WordSet, counted: &WordSet) -> bool
         ensures { IsTrue result ↔ ((a : ℕ) → a < 4096 → words cells.now a ≡ true →
             (place_of self.now).declaration.entry a ≡ true → words counted.now a ≡ true) }
     {
         self.entries_in(cells).is_subset(counted)
     }
 
-    /// Whether the running routine may write each of some cells: those of its written set and its own
-    /// entry; in main all.
-    fn may_write(&self, cells: &WordSet) -> bool
+    /// Whether the running routine may write each of some cells: those of its written set and its
+    /// own entry; in main all.
+    pub(crate) fn may_write(&self, cells: &WordSet) -> bool
         ensures { IsTrue result ↔ ((a : ℕ) → a < 4096 → words cells.now a ≡ true →
             MayWrite (writes_of self.now.routine) (place_of self.now).routine a) }
     {
@@ -192,71 +189,28 @@ impl<A: Allocator> Place<'_, A> {
         }
     }
 
-    /// Whether a word has a meaning on the machine that is declared.
-    fn is_supported(&self, word: Word) -> bool
-        ensures { (at : ℕ) → IsTrue result ↔ IsSupported (meaning_at (place_of self.now) at word) }
+    /// The cells of a set, and the running routine's own entry.
+    fn with_own(&self, cells: &WordSet) -> WordSet
+        ensures { (a : ℕ) → words result a ≡
+            (words cells.now a || is_routine (place_of self.now).routine a) }
     {
-        !matches!(
-            decode(word, self.declaration.profile()),
-            Instruction::Unsupported
-        )
+        match &self.routine {
+            None => *cells,
+            Some(running) => cells.union(&WordSet::one(running.entry)),
+        }
     }
 
-    /// Whether a word is of group 2.
-    fn is_group_2(&self, word: Word) -> bool
-        ensures { (at : ℕ) → IsTrue result ↔ (kind_of (meaning_at (place_of self.now) at word) ≡
-            Operate2) }
+    /// Whether each of some cells is on the list of reads, if there is one, or is the running
+    /// routine's own entry.
+    pub(crate) fn are_listed(&self, cells: &WordSet) -> bool
+        ensures { IsTrue result ↔ ((a : ℕ) → a < 4096 → words cells.now a ≡ true →
+            IsListed (place_of self.now).declaration.reads a ⊎
+            ((place_of self.now).routine ≡ Some a)) }
     {
-        matches!(
-            decode(word, self.declaration.profile()),
-            Instruction::Operate2
-        )
-    }
-
-    /// Whether a word that is a HLT stands at a declared halt.
-    fn halts_declared(&self, at: Word, word: Word) -> bool
-        ensures { IsTrue result ↔
-            HaltsDeclared (place_of self.now).declaration (meaning_at (place_of self.now) at word)
-            at }
-    {
-        if !self.is_group_2(word) {
-            return true;
+        match self.declaration.reads() {
+            None => true,
+            Some(listed) => cells.is_subset(&self.with_own(listed)),
         }
-        if !halts(word) {
-            return true;
-        }
-        either(self.declaration.is_stop(at), self.declaration.is_pause(at))
-    }
-
-    /// The first of the conditions on one word that it breaks, if it breaks one: V3, V5, V14, V6 and
-    /// V13, in this order.
-    fn first_broken(&self, at: Word, word: Word, known: &Known<'_>) -> Option<Condition>
-        requires pointer { IsUnchanged known.now.pointer }
-        requires target { IsUnchanged known.now.target }
-        ensures { (f : said.Fact) → Agree (known_of known.now) f → MatchOption result
-            (KeepsConditions (place_of self.now) (writes_of self.now.routine) f at
-            (meaning_at (place_of self.now) at word))
-            (BreaksFirst (place_of self.now) (writes_of self.now.routine) f at
-            (meaning_at (place_of self.now) at word)) }
-    {
-        if !self.is_supported(word) {
-            return Some(Condition::V3);
-        }
-        let written = self.cells_written(at, word, known);
-        if !self.are_declared(&written) {
-            return Some(Condition::V5);
-        }
-        let counted = self.cell_counted(at, word, known);
-        if !self.keeps_entries(&written, &counted) {
-            return Some(Condition::V14);
-        }
-        if !self.may_write(&written) {
-            return Some(Condition::V6);
-        }
-        if !self.halts_declared(at, word) {
-            return Some(Condition::V13);
-        }
-        None
     }
 }
 
@@ -269,27 +223,4 @@ pub fn reads<A: Allocator>(fact: &Fact, at: Word, word: Word, place: &Place<'_, 
 {
     let known = Known::of(fact);
     place.cells_read(at, word, &known)
-}
-
-/// The outcomes of a word at the address of a fact, or the first condition on one word that it
-/// breaks: V3, V5, V14, V6 and V13, in this order.
-pub fn post<'a, A: Allocator>(
-    fact: &'a Fact,
-    at: Word,
-    word: Word,
-    place: &Place<'_, A>,
-) -> Result<Outcomes<'a>, Condition>
-    ensures outcomes { IfOk result (λ given.
-        AgreeingOutcomes (slots given) (outcomes_at (place_of place.now) (meaning fact.now) at
-        word)) }
-    ensures kept { OnOk result (KeepsConditions (place_of place.now) (writes_of place.now.routine)
-        (meaning fact.now) at (meaning_at (place_of place.now) at word)) }
-    ensures broken { IfErr result (BreaksFirst (place_of place.now) (writes_of place.now.routine)
-        (meaning fact.now) at (meaning_at (place_of place.now) at word)) }
-{
-    let known = Known::of(fact);
-    match place.first_broken(at, word, &known) {
-        Some(condition) => Err(condition),
-        None => Ok(outcomes(fact, at, word, place)),
-    }
 }

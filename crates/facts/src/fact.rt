@@ -43,7 +43,7 @@ impl Default for TrackedCell {
 /// hold any word.
 ///
 /// Contracts see its parts as `statement_of` gives them, and the fact as `meaning` gives it.
-#[derive(Drop)]
+#[derive(Clone, Drop)]
 pub struct Fact {
     ac: WordSet,
     mq: WordSet,
@@ -162,13 +162,15 @@ impl Fact {
     pub fn set_offsets(&mut self, offsets: Offsets)
         ensures fact { meaning self.new ≡ with_offsets (offsets_of offsets) (meaning self.old) }
         ensures statement { statement_of self.new ≡ statement_of self.old }
+        ensures offsets { offsets_of self.new.offsets ≡ offsets_of offsets }
     {
         self.offsets = offsets;
     }
 
     /// Whether 64 cells are tracked.
     pub fn is_full_of_cells(&self) -> bool
-        ensures { IsTrue result ↔ (length (statement_of self.now).cells ≡ 64) }
+        ensures full { IsTrue result ↔ (length (statement_of self.now).cells ≡ 64) }
+        ensures few { length (statement_of self.now).cells ≤ 64 }
     {
         self.cells.is_full()
     }
@@ -186,7 +188,8 @@ impl Fact {
 
     /// Whether there are 32 equations.
     pub fn is_full_of_equations(&self) -> bool
-        ensures { IsTrue result ↔ (length (statement_of self.now).equations ≡ 32) }
+        ensures full { IsTrue result ↔ (length (statement_of self.now).equations ≡ 32) }
+        ensures few { length (statement_of self.now).equations ≤ 32 }
     {
         self.equations.is_full()
     }

@@ -5,11 +5,11 @@
 
 ghost use Rattle.std.specs.Prelude.{ℕ, ◌≡◌, ◌<◌, ◌≤◌, ◌↔◌, ◌+◌, length, map, IsTrue};
 ghost use Rattle.arrayvec.specs.ArrayVec.{array_vec_len};
-ghost use Rattle.wordset.specs.Words.{SameWords, plus, shifted};
+ghost use Rattle.wordset.specs.Words.{SameWords, one, plus, shifted};
 ghost use Rattle.wordset.specs.Lanes.{words};
 ghost use Rattle.wordset.specs.Links.{links_of};
 ghost use Rattle.facts.specs.Facts.{Ac, Cell, narrowed, Among, Knows, KnowsAll, Entails, EntailsOffsets, joined};
-ghost use Rattle.facts.specs.Changes.{moved, assigned, smeared, with_equations, with_name, with_mq, with_link};
+ghost use Rattle.facts.specs.Changes.{moved, assigned, smeared, with_equations, with_name, with_mq, with_link, with_offsets};
 ghost use Rattle.facts.specs.Same.{Agree};
 ghost use Rattle.facts.specs.Meaning.{name_of, equation_of, offsets_of, meaning, source_words, changed, known_of, tracked_of, Meets, IsUnchanged};
 ghost use Rattle.facts.specs.Showing.{Shows, EachWithin, EntailsRegisters};
@@ -297,6 +297,16 @@ impl<'a> Known<'a> {
             equations: copy(fact.equations()),
             offsets: fact.offsets(),
         }
+    }
+
+    /// What is known at a routine's first address, where it is called with this fact: the return
+    /// word isn't counted up.
+    pub fn entering(fact: &'a Fact) -> Known<'a>
+        ensures { Agree (known_of result) (with_offsets (one 0) (meaning fact.now)) }
+    {
+        let mut offsets = Offsets::none();
+        offsets.insert(0);
+        Known::of(fact).with_offsets(offsets)
     }
 
     /// What is known after a call: of the cells that the routine writes what its exit says, and of

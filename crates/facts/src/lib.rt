@@ -5,6 +5,7 @@ ghost use Rattle.facts.specs.Law.{StepLaw};
 ghost use Rattle.facts.specs.Starts.{StartLaw};
 ghost use Rattle.facts.specs.Same.{SameLaw};
 
+mod asked;
 mod changes;
 mod conditions;
 mod dispatch;
@@ -20,7 +21,8 @@ mod references;
 mod registers;
 mod skipping;
 
-pub use conditions::{post, reads};
+pub use asked::post;
+pub use conditions::reads;
 pub use dispatch::{Outcomes, outcomes};
 pub use entailment::{entails, entails_return, holds_before, narrowed};
 pub use fact::{Fact, TrackedCell};

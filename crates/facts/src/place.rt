@@ -42,7 +42,7 @@ pub struct Place<'a, A: Allocator> {
 }
 
 /// The tape's word, or all words where the tape has none.
-fn tape_words(word: Option<Word>) -> WordSet
+pub(crate) fn tape_words(word: Option<Word>) -> WordSet
     ensures { SameWords (words result) (tape_word word) }
 {
     match word {

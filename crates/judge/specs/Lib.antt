@@ -1,2 +1,7 @@
+pub mod Asked
+pub mod Callees
 pub mod Conditions
 pub mod Headline
+pub mod Judged
+pub mod Spots
+pub mod Certifying

@@ -3,7 +3,20 @@
 
 ghost use Rattle.judge.specs.Headline.{ProgramsAreSafe, UnlistedReadsAreFree};
 
+mod calls;
+mod claims;
+mod judging;
+mod landing;
+mod lines;
+mod spot;
+mod verdict;
+mod words;
+
+pub use certificate::Routine;
+pub use claims::Claims;
 pub use facts::Condition;
+pub use judging::{Refusal, judge};
+pub use verdict::{Certified, CertifyFault, certify};
 
 /// The headline: whenever every condition holds of a tape's words, a declaration and a certificate,
 /// then in every run from the declared start, whatever unset memory, the accumulator, the link and

@@ -4,3 +4,4 @@ pub mod LegalLemmas
 pub mod CodeLemmas
 pub mod WatchLemmas
 pub mod TellLemmas
+pub mod RunLemmas

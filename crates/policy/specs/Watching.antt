@@ -1,5 +1,5 @@
 -- What a watched run says of a program: each step is legal, or a first one breaks a rule.
-use Rattle.std.specs.Prelude.{◌≡◌, ℕ, ◌<◌, Some, None, List, [], take, slice_get}
+use Rattle.std.specs.Prelude.{◌≡◌, ℕ, ◌<◌, true, Some, None, List, [], take, slice_get}
 use Rattle.processor.specs.Machine.{State, instruction}
 use Rattle.processor.specs.Runs.{Image}
 use Rattle.peripherals.specs.declared.Event.{Event}
@@ -7,6 +7,7 @@ use Rattle.peripherals.specs.declared.Event.TheVariants.{Step as Instruct}
 use Rattle.peripherals.specs.declared.Start.{Start}
 use Rattle.peripherals.specs.Devices.{WorldState}
 use Rattle.peripherals.specs.Loading.{loaded}
+use Rattle.peripherals.specs.Seen.{puts_out}
 use Rattle.policy.specs.declared.rules.Rule.{Rule}
 use Rattle.policy.specs.declared.watcher.Watched.{Watched}
 use Rattle.policy.specs.declared.watcher.Watched.TheVariants.{Clean, Broken}
@@ -74,3 +75,15 @@ Tells image d events w (Broken n r) = BreaksAt image d events w n r
 -- The world in which a declared run begins: the tape's words lie over what the machine holds.
 abbrev pub begun : Image → Declaration → Start → WorldState
 begun image d start = loaded image d.start start
+
+-- These events lead a declared run from w, with no call open, to x.
+abbrev pub LeadsTo : Declaration → List Event → WorldState → WorldState → Type 0
+LeadsTo d events w x = (ks : Calls) × DeclaredEvents d events w [] x ks
+
+-- An enabled step of the declared run from w prints or punches.
+pub record StepPutsOut (d : Declaration) (events : List Event) (w : WorldState) : Type 0 where
+  pub place : ℕ
+  pub world : WorldState
+  pub calls : Calls
+  pub tries : TriesAt d events w place world calls
+  pub puts : puts_out world Instruct ≡ true

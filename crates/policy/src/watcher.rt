@@ -15,11 +15,12 @@ ghost use Rattle.declaration.specs.Kept.{meaning};
 ghost use Rattle.policy.specs.OpenCalls.{open_calls, machine_of, calls_of};
 ghost use Rattle.policy.specs.Decided.{is_call, followed, IsCall};
 ghost use Rattle.policy.specs.Watching.{IsClean, BreaksAt, Tells, begun};
-ghost use Rattle.policy.specs.WatchedSteps.{Watches, TakesMemory, GrowsAt, Grows, Passes, waits, LegalStepTakesMemory};
+ghost use Rattle.policy.specs.WatchedSteps.{Watches, TakesMemory, GrowsAt, Grows, Passes, LegalStepTakesMemory};
 
 use crate::actions::{Action, Reference, next_action};
 use crate::legality::{Call, broken_rule, is_return};
 use crate::rules::Rule;
+use crate::runs::waits;
 use bin_tape::Image;
 use declaration::Declaration;
 use instruct::Operation;
@@ -155,16 +156,6 @@ impl<A: Allocator> Watcher<A> {
         }
     }
 
-    /// Whether the machine is halted, and not at a pause.
-    fn waits<D: Allocator>(&self, declaration: &Declaration<D>) -> bool
-        ensures { result ≡ waits (meaning declaration.now) (machine_of self.now).halted_at }
-    {
-        match self.world.halted_at() {
-            None => false,
-            Some(at) => !declaration.is_pause(at),
-        }
-    }
-
     /// Takes one event: it happens as in a declared run, or it's a step that breaks a rule.
     fn follow<D: Allocator>(
         &mut self,
@@ -187,7 +178,7 @@ impl<A: Allocator> Watcher<A> {
                 }
             }
             Event::Continue => {
-                if self.waits(declaration) {
+                if waits(&self.world, declaration) {
                     Ok(None)
                 } else {
                     self.pass(declaration, event)

@@ -9,7 +9,7 @@ use testing::Refusing;
 use testing::memory::MemorySink;
 
 /// A certificate of the program that prints HELLO.
-const HELLO: [&str; 35] = [
+pub(crate) const HELLO: [&str; 35] = [
     "PDP8-CERTIFICATE 1",
     "routine 0214 rank 00 sites 0207 writes -",
     "fact 0200 ac 0000-7777 link 01 offsets -",

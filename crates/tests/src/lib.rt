@@ -6,6 +6,8 @@
 #[cfg(test)]
 mod certificates;
 #[cfg(test)]
+mod certified;
+#[cfg(test)]
 mod desk;
 #[cfg(test)]
 mod instructions;

@@ -3,7 +3,7 @@
 use bin_tape::Image;
 use declaration::Declaration;
 use peripherals::{Event, NoMemory, Start};
-use policy::{Rule, Watched, watch};
+use policy::{Rule, Watched, run_declared, watch};
 use std::test::Fail;
 use testing::Refusing;
 use word12::Word;
@@ -74,6 +74,45 @@ fn shown(
 ) -> Result<Watched, Fail> {
     let declaration = Declaration::parse(rt.alloc(), declared)?;
     Ok(watch(rt.alloc(), image, &declaration, &Start::zero(), events)?)
+}
+
+#[test]
+fn a_declared_run_has_a_world(rt: HostRuntime) -> Result<(), Fail> {
+    let declared = b"start 0200\nmain 0200-0213\nsub 0214 body 0215-0221 returns 0\n\
+        var 0010 0224\npause 0212\n";
+    let declaration = Declaration::parse(rt.alloc(), declared)?;
+    for count in 0..10 {
+        let heap = Refusing::new(rt.alloc(), count);
+        let tape = image(&HELLO);
+        let ended = run_declared(&heap, &tape, &declaration, &Start::zero(), &rounds());
+        if let Ok(world) = ended {
+            assert_eq!(rt; world.halted_at(), Some(word(0o212)));
+            assert_eq!(rt;
+                world.printed(),
+                [0o000, 0o310, 0o305, 0o314, 0o314, 0o317].as_slice()
+            );
+            assert!(rt; count > 0 && !heap.has_refused());
+            return Ok(());
+        }
+        assert!(rt; heap.has_refused());
+    }
+    assert!(rt; false);
+    Ok(())
+}
+
+#[test]
+fn a_declared_run_goes_on_at_a_pause_alone(rt: HostRuntime) -> Result<(), Fail> {
+    let events = [Event::Step, Event::Continue, Event::Step];
+    let tape = image(&[0o7402, 0o7402]);
+    for (declared, at) in [
+        (b"start 200\nmain 200-201\nstop 200".as_slice(), 0o200),
+        (b"start 200\nmain 200-201\npause 200", 0o201),
+    ] {
+        let declaration = Declaration::parse(rt.alloc(), declared)?;
+        let world = run_declared(rt.alloc(), &tape, &declaration, &Start::zero(), &events)?;
+        assert_eq!(rt; world.halted_at(), Some(word(at)));
+    }
+    Ok(())
 }
 
 #[test]

@@ -1,4 +1,4 @@
-use Rattle.std.proofs.Common.{◌≡◌, ◌∙◌, sym, ap}
+use Rattle.std.proofs.Common.{◌∙◌, sym, ap}
 use Rattle.std.specs.Prelude.{if◌then◌else◌}
 use Rattle.instruct.specs.Bits.{has_bit}
 use Rattle.wordset.specs.Words.{Words, SameWords, one, or_any}

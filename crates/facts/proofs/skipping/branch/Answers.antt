@@ -6,7 +6,7 @@ use Rattle.wordset.specs.Lanes.{words}
 use Rattle.processor.specs.Machine.{next_pc}
 use Rattle.facts.specs.Facts.{narrowed, Ac}
 use Rattle.facts.specs.Changes.{with_link}
-use Rattle.facts.specs.Outcomes.{part2, related2, alive, Goes}
+use Rattle.facts.specs.Outcomes.{part2, related2}
 use Rattle.facts.specs.Same.{Agree}
 use Rattle.facts.specs.Meaning.{known_of}
 use Rattle.facts.proofs.PlaceLemmas.{all_same, and_both}

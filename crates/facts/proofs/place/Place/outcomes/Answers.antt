@@ -1,7 +1,4 @@
-use Rattle.std.proofs.Common.{◌≡◌, ◌∙◌, sym, ap}
-use Rattle.instruct.specs.declared.Profile.{Profile}
-use Rattle.instruct.specs.declared.Instruction.{Instruction}
-use Rattle.instruct.specs.Instructions.{kind_of, meaning_of}
+use Rattle.std.proofs.Common.{◌∙◌, sym}
 use Rattle.facts.specs.Places.{place_of}
 use Rattle.facts.proofs.DispatchLemmas.{by_reference, by_group1, by_group2, by_group3, by_nothing, first_group_8e, kind_here}
 use Rattle.facts.proofs.place.Place.outcomes.Goals as goal

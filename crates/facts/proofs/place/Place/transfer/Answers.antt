@@ -1,4 +1,4 @@
-use Rattle.std.proofs.Common.{◌≡◌, ◌∙◌, sym, ap, subst, Some, None}
+use Rattle.std.proofs.Common.{◌≡◌, ◌∙◌, ap, Some, None}
 use Rattle.instruct.specs.Devices.{device_operation}
 use Rattle.facts.specs.Places.{place_of}
 use Rattle.facts.proofs.DispatchLemmas.{by_device, by_no_device}

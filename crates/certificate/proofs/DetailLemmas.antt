@@ -1,0 +1,51 @@
+-- The cells and equations at the front of lines, added to a statement one by one.
+use Rattle.std.proofs.Common.{◌≡◌, ℕ, ◌+◌, ◌<◌, ◌≤◌, List, [], ◌∷◌, ◌++◌, false, map, get_or, drop, add-one, drop-cons, length, refl, ap, arith, append_assoc, append-nil, length-append}
+use Rattle.facts.specs.Facts.{Equation}
+use Rattle.facts.specs.Statements.{TrackedCell, Statement}
+use Rattle.certificate.specs.Line.{Line, RoutineIs, FactIs, ExitIs, CellIs, EquationIs, End}
+use Rattle.certificate.specs.Order.{is_detail}
+use Rattle.certificate.specs.declared.line.Line.{Line as ReadLine}
+use Rattle.certificate.specs.Meaning.{said}
+use Rattle.certificate.specs.Gathered.{cells_under, equations_under}
+use Rattle.certificate.specs.Found.{with_details}
+
+-- A cell and an equation more.
+pub cell_added : (s : Statement) (t : TrackedCell) (ls : List Line) →
+    with_details (record s { cells = s.cells ++ t ∷ [] }) ls ≡ with_details s (CellIs t ∷ ls)
+cell_added s t ls = rw (append_assoc s.cells (t ∷ []) (cells_under ls)) refl
+
+pub equation_added : (s : Statement) (e : Equation) (ls : List Line) →
+    with_details (record s { equations = s.equations ++ e ∷ [] }) ls ≡ with_details s (EquationIs e ∷ ls)
+equation_added s e ls = rw (append_assoc s.equations (e ∷ []) (equations_under ls)) refl
+
+-- There is room for them.
+pub room_for_cell : (s whole : Statement) (t : TrackedCell) (ls all : List Line) → with_details s (CellIs t ∷ ls) ≡ with_details whole all →
+    length whole.cells + length (cells_under all) ≤ 64 → length s.cells < 64
+room_for_cell s whole t ls all e h =
+    let a : length (s.cells ++ t ∷ cells_under ls) ≡ length (whole.cells ++ cells_under all) = ap (λ (w : Statement). length w.cells) e in
+    omega (arith, length-append s.cells (t ∷ cells_under ls), length-append whole.cells (cells_under all))
+
+pub room_for_equation : (s whole : Statement) (q : Equation) (ls all : List Line) → with_details s (EquationIs q ∷ ls) ≡ with_details whole all →
+    length whole.equations + length (equations_under all) ≤ 32 → length s.equations < 32
+room_for_equation s whole q ls all e h =
+    let a : length (s.equations ++ q ∷ equations_under ls) ≡ length (whole.equations ++ equations_under all) = ap (λ (w : Statement). length w.equations) e in
+    omega (arith, length-append s.equations (q ∷ equations_under ls), length-append whole.equations (equations_under all))
+
+-- Nothing more.
+pub none_added : (s : Statement) → with_details s [] ≡ s
+none_added s = rw (append-nil s.cells, append-nil s.equations) refl
+
+pub none_under : (s : Statement) (l : Line) (ls : List Line) → is_detail l ≡ false → with_details s (l ∷ ls) ≡ s
+none_under s (RoutineIs r) ls e = rw (append-nil s.cells, append-nil s.equations) refl
+none_under s (FactIs a r m) ls e = rw (append-nil s.cells, append-nil s.equations) refl
+none_under s (ExitIs x o r) ls e = rw (append-nil s.cells, append-nil s.equations) refl
+none_under s (CellIs c) ls e = absurd (cc)
+none_under s (EquationIs q) ls e = absurd (cc)
+none_under s End ls e = rw (append-nil s.cells, append-nil s.equations) refl
+
+-- The line at an index, and those after it.
+pub next_line : (lines : List ReadLine) (i : ℕ) (l m : ReadLine) → l ≡ get_or lines i l → l ≡ m → i < length lines →
+    map said (drop i lines) ≡ said m ∷ map said (drop (i + 1) lines)
+next_line lines i l m at is h =
+    let e : drop i lines ≡ get_or lines i l ∷ drop (i + 1) lines = rw (add-one, drop-cons lines i l) refl in
+    rw (e, ← at, is) refl

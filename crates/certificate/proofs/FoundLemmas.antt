@@ -1,0 +1,231 @@
+-- Lines that are kept, and are found by their places.
+use Rattle.std.proofs.Common.{◌≡◌, ◌≢◌, ℕ, ◌+◌, ◌<◌, ◌≤◌, ◌==◌, Bool, true, false, List, [], ◌∷◌, ◌++◌, length, get_or, drop, Result, Ok, Err, nat_cmp, zero, suc, refl, ap, ◌∙◌, sym, inl, inr, arith, append-nil}
+use Rattle.std.specs.Prelude.{◌*◌, if◌then◌else◌, map, MatchResult}
+use Rattle.std.proofs.lemmas.Bool.{eq-eqb, cases_lt}
+use Rattle.std.proofs.lemmas.Bool.Decides.{eqb_tells}
+use Rattle.std.proofs.lemmas.List.Sorted.{searched}
+use Rattle.std.specs.List.Sorted.{IsBinarySearchResult}
+use Rattle.std.proofs.lemmas.List.{get_or_default, map_push, length-map}
+use Rattle.std.specs.List.{drop-map}
+use Rattle.certificate.specs.declared.Version.{Version}
+use Rattle.certificate.specs.declared.line.Line.{Line as ReadLine}
+use Rattle.certificate.specs.declared.lines.KeptLines.{KeptLines}
+use Rattle.certificate.specs.Reading.{RiseFrom}
+use Rattle.certificate.specs.Line.{Line, RoutineIs, FactIs, ExitIs, CellIs, EquationIs, End}
+use Rattle.certificate.specs.Order.{is_detail, heads, place, next_place, AreInOrder}
+use Rattle.certificate.specs.Meaning.{said}
+use Rattle.certificate.specs.Found.{newest_first, starts, from_place, all_said, IsIndexed, Keeps}
+use Rattle.certificate.proofs.GatherLemmas.{Follow, follows}
+
+reversed_more : (before ls : List Line) (l : Line) → newest_first before (ls ++ l ∷ []) ≡ l ∷ newest_first before ls
+reversed_more before [] l = refl
+reversed_more before (m ∷ ls) l = reversed_more (m ∷ before) ls l
+
+heads_more : (ls ms : List Line) → heads (ls ++ ms) ≡ heads ls ++ heads ms
+heads_more [] ms = refl
+heads_more (l ∷ ls) ms = pick (is_detail l) (heads (ls ++ ms)) (heads ls) (heads ms) (heads_more ls ms)
+  where
+    pick : (b : Bool) (xs ys zs : List Line) → xs ≡ ys ++ zs → (if b then xs else l ∷ xs) ≡ (if b then ys else l ∷ ys) ++ zs
+    pick true xs ys zs e = e
+    pick false xs ys zs e = ap (λ (x : List Line). l ∷ x) e
+
+starts_more : (n m : ℕ) (ls : List Line) (l : Line) → m ≡ n + length ls →
+    starts n (ls ++ l ∷ []) ≡ starts n ls ++ (if is_detail l then [] else m ∷ [])
+starts_more n m [] l e = let z : n ≡ m = omega arith in rw z refl
+starts_more n m (k ∷ ls) l e =
+    pick (is_detail k) (starts (n + 1) (ls ++ l ∷ [])) (starts (n + 1) ls) (if is_detail l then [] else m ∷ [])
+    (starts_more (n + 1) m ls l (omega arith))
+  where
+    pick : (b : Bool) (xs ys zs : List ℕ) → xs ≡ ys ++ zs → (if b then xs else n ∷ xs) ≡ (if b then ys else n ∷ ys) ++ zs
+    pick true xs ys zs e = e
+    pick false xs ys zs e = ap (λ (x : List ℕ). n ∷ x) e
+
+starts_count : (n : ℕ) (ls : List Line) → length (starts n ls) ≡ length (map place (heads ls))
+starts_count n [] = refl
+starts_count n (l ∷ ls) = pick (is_detail l) (starts_count (n + 1) ls)
+  where
+    pick : (b : Bool) → length (starts (n + 1) ls) ≡ length (map place (heads ls)) →
+        length (if b then starts (n + 1) ls else n ∷ starts (n + 1) ls) ≡ length (map place (if b then heads ls else l ∷ heads ls))
+    pick true e = e
+    pick false e = omega arith
+
+all_more : {A : Type 0} (k new : KeptLines A) (line : ReadLine) → new.lines.items ≡ k.lines.items ++ line ∷ [] →
+    all_said new ≡ all_said k ++ said line ∷ []
+all_more k new line e = ap (λ (x : List ReadLine). map said x) e ∙ map_push said k.lines.items line
+
+lines_more : {A : Type 0} (k new : KeptLines A) (line : ReadLine) (before : List Line) → new.lines.items ≡ k.lines.items ++ line ∷ [] →
+    Keeps k before → newest_first [] (all_said new) ≡ said line ∷ before
+lines_more k new line before e h =
+    ap (λ (x : List Line). newest_first [] x) (all_more k new line e) ∙
+    (reversed_more [] (all_said k) (said line) ∙ ap (λ (x : List Line). said line ∷ x) h.lines)
+
+-- A detail was kept.
+pub detail_kept : {A : Type 0} (k new : KeptLines A) (line : ReadLine) (before : List Line) → is_detail (said line) ≡ true →
+    new.lines.items ≡ k.lines.items ++ line ∷ [] → new.places.items ≡ k.places.items → new.starts.items ≡ k.starts.items →
+    Keeps k before → Keeps new (said line ∷ before)
+detail_kept k new line before d e p s h = record {
+  lines = lines_more k new line before e h;
+  indexed = record {
+    places = p ∙ (h.indexed.places ∙ rw (all_more k new line e, heads_more (all_said k) (said line ∷ []), d, append-nil) refl);
+    starts = s ∙ (h.indexed.starts ∙ rw (all_more k new line e, starts_more 0 (length (all_said k)) (all_said k) (said line) (omega arith), d, append-nil) refl);
+  };
+}
+
+-- Another line was kept.
+pub head_kept : {A : Type 0} (k new : KeptLines A) (line : ReadLine) (before : List Line) → is_detail (said line) ≡ false →
+    new.lines.items ≡ k.lines.items ++ line ∷ [] → new.places.items ≡ k.places.items ++ place (said line) ∷ [] →
+    new.starts.items ≡ k.starts.items ++ length k.lines.items ∷ [] → Keeps k before → Keeps new (said line ∷ before)
+head_kept k new line before d e p s h = record {
+  lines = lines_more k new line before e h;
+  indexed = record {
+    places = p ∙ rw (h.indexed.places, all_more k new line e, heads_more (all_said k) (said line ∷ []), d) (sym (map_push place (heads (all_said k)) (said line)));
+    starts = s ∙ rw (h.indexed.starts, all_more k new line e, starts_more 0 (length k.lines.items) (all_said k) (said line) (count k), d) refl;
+  };
+}
+  where
+    count : {A : Type 0} (k : KeptLines A) → length k.lines.items ≡ 0 + length (all_said k)
+    count k = let z : length (all_said k) ≡ length k.lines.items = length-map k.lines.items said in omega arith
+
+-- Places that rise.
+rise_from : (xs : List ℕ) (low j : ℕ) → RiseFrom low xs → j < length xs → low ≤ get_or xs j 0
+rise_from [] low j h g = absurd (omega arith)
+rise_from (x ∷ xs) low zero h g = h.0
+rise_from (x ∷ xs) low (suc j) h g =
+    let a : low ≤ x = h.0 in let b : x + 1 ≤ get_or xs j 0 = rise_from xs (x + 1) j h.1 (omega arith) in omega arith
+
+rise_all : (xs : List ℕ) (low i j : ℕ) → RiseFrom low xs → i ≤ j → j < length xs → get_or xs i 0 ≤ get_or xs j 0
+rise_all [] low i j h g b = absurd (omega arith)
+rise_all (x ∷ xs) low zero zero h g b = omega arith
+rise_all (x ∷ xs) low zero (suc j) h g b = let c : x + 1 ≤ get_or xs j 0 = rise_from xs (x + 1) j h.1 (omega arith) in omega arith
+rise_all (x ∷ xs) low (suc i) zero h g b = absurd (omega arith)
+rise_all (x ∷ xs) low (suc i) (suc j) h g b = rise_all xs (x + 1) i j h.1 (omega arith) (omega arith)
+
+pub rising : (xs : List ℕ) → RiseFrom 0 xs → (i j : ℕ) → i ≤ j → j < length xs → get_or xs i 0 ≤ get_or xs j 0
+rising xs h i j = rise_all xs 0 i j h
+
+-- Counted on from n, at s stand lines.
+record StandsAt (n : ℕ) (ls : List Line) (s : ℕ) (wanted : List Line) : Type 0 where
+  pub count : ℕ
+  pub is : s ≡ n + count
+  pub within : count ≤ length ls
+  pub rest : drop count ls ≡ wanted
+
+-- The place at i is p, and there the wanted lines stand.
+abbrev Stands : ℕ → List Line → ℕ → List ℕ → List ℕ → List Line → Type 0
+Stands n ls p places at wanted =
+    (i low : ℕ) → RiseFrom low places → i < length places → get_or places i 0 ≡ p → StandsAt n ls (get_or at i 0) wanted
+
+stands : (ls : List Line) (n p : ℕ) → Stands n ls p (map place (heads ls)) (starts n ls) (from_place p ls)
+stands [] n p i low h b e = absurd (omega arith)
+stands (l ∷ ls) n p i low h b e = go (stands ls (n + 1) p) (is_detail l) i low h b e
+  where
+    later : (s : ℕ) (rest : List Line) → StandsAt (n + 1) ls s rest → StandsAt n (l ∷ ls) s rest
+    later s rest g = record {
+      count = suc g.count;
+      is = (let z = g.is in omega arith);
+      within = (let z = g.within in omega arith);
+      rest = g.rest;
+    }
+
+    go : Stands (n + 1) ls p (map place (heads ls)) (starts (n + 1) ls) (from_place p ls) → (d : Bool) →
+        Stands n (l ∷ ls) p (map place (if d then heads ls else l ∷ heads ls)) (if d then starts (n + 1) ls else n ∷ starts (n + 1) ls)
+        (if d then from_place p ls else (if place l == p then l ∷ ls else from_place p ls))
+    go s true i low h b e = later _ _ (s i low h b e)
+    go s false zero low h b e = rw (eq-eqb (place l) p e) (record { count = 0; is = omega arith; within = omega arith; rest = refl })
+    go s false (suc j) low h b e =
+        let g : place l + 1 ≤ get_or (map place (heads ls)) j 0 = rise_from (map place (heads ls)) (place l + 1) j h.1 (omega arith) in
+        elim (eqb_tells (place l) p) [
+          | inl t ↦ absurd (let z : place l ≡ p = t.1 in omega arith)
+          | inr t ↦ rw t.0 (later _ _ (s j (place l + 1) h.1 (omega arith) e))
+        ]
+
+-- What stands at a place that was found.
+pub record IsFound {A : Type 0} (k : KeptLines A) (p s : ℕ) : Type 0 where
+  pub within : s ≤ length k.lines.items
+  pub rest : map said (drop s k.lines.items) ≡ from_place p (all_said k)
+
+pub found : {A : Type 0} (k : KeptLines A) (i p : ℕ) → IsIndexed k → RiseFrom 0 k.places.items → i < length k.places.items →
+    get_or k.places.items i 0 ≡ p → IsFound k p (get_or k.starts.items i 0)
+found k i p h rise b e =
+    let g : StandsAt 0 (all_said k) (get_or (starts 0 (all_said k)) i 0) (from_place p (all_said k)) =
+    stands (all_said k) 0 p i 0 (rw h.places at rise) (rw h.places at b) (rw h.places at e) in
+    let c : get_or k.starts.items i 0 ≡ g.count = rw h.starts (let z = g.is in omega arith) in
+    rw c (record {
+      within = (let z : length (all_said k) ≡ length k.lines.items = length-map k.lines.items said in let w = g.within in omega arith);
+      rest = sym (drop-map said g.count k.lines.items) ∙ g.rest;
+    })
+
+nowhere : (ls : List Line) (p : ℕ) → ((i : ℕ) → i < length (map place (heads ls)) → get_or (map place (heads ls)) i 0 ≢ p) → from_place p ls ≡ []
+nowhere [] p none = refl
+nowhere (l ∷ ls) p none = go (nowhere ls p) (is_detail l) none
+  where
+    go : (((i : ℕ) → i < length (map place (heads ls)) → get_or (map place (heads ls)) i 0 ≢ p) → from_place p ls ≡ []) → (d : Bool) →
+        ((i : ℕ) → i < length (map place (if d then heads ls else l ∷ heads ls)) →
+        get_or (map place (if d then heads ls else l ∷ heads ls)) i 0 ≢ p) →
+        (if d then from_place p ls else (if place l == p then l ∷ ls else from_place p ls)) ≡ []
+    go s true none = s none
+    go s false none = elim (eqb_tells (place l) p) [
+      | inl t ↦ absurd (none 0 (omega arith) t.1)
+      | inr t ↦ rw t.0 (s (λ i b. none (suc i) (omega arith)))
+    ]
+
+pub in_range : {A : Type 0} (k : KeptLines A) (i : ℕ) → IsIndexed k → i < length k.places.items → i < length k.starts.items
+in_range k i h b =
+    let s : length k.starts.items ≡ length (starts 0 (all_said k)) = ap length h.starts in
+    let p : length k.places.items ≡ length (map place (heads (all_said k))) = ap length h.places in
+    let c : length (starts 0 (all_said k)) ≡ length (map place (heads (all_said k))) = starts_count 0 (all_said k) in omega arith
+
+pub not_found : {A : Type 0} (k : KeptLines A) (p : ℕ) → IsIndexed k →
+    ((i : ℕ) → i < length k.places.items → get_or k.places.items i 0 ≢ p) → from_place p (all_said k) ≡ []
+not_found k p h none = nowhere (all_said k) p (λ i b e. none i (rw h.places b) (rw h.places e))
+
+-- The places of lines in order rise.
+places_rise : (v : Version) (before ls : List Line) (low : ℕ) → Follow v before ls → low ≤ next_place (heads before) →
+    RiseFrom low (map place (heads ls))
+places_rise v before [] low f h = tt
+places_rise v before (CellIs c ∷ ls) low f h = places_rise v (CellIs c ∷ before) ls low f.2 h
+places_rise v before (EquationIs q ∷ ls) low f h = places_rise v (EquationIs q ∷ before) ls low f.2 h
+places_rise v before (RoutineIs r ∷ ls) low f h = (
+  let o : next_place (heads before) ≤ r.entry = f.1.order in omega arith,
+  places_rise v (RoutineIs r ∷ before) ls (r.entry + 1) f.2 (omega arith),
+)
+places_rise v before (FactIs a r m ∷ ls) low f h = (
+  let o : next_place (heads before) ≤ 4096 + a = f.1.order in omega arith,
+  places_rise v (FactIs a r m ∷ before) ls (4096 + a + 1) f.2 (omega arith),
+)
+places_rise v before (ExitIs x o r ∷ ls) low f h = (
+  let o : next_place (heads before) ≤ 8192 + (8 * x + o) = f.1.order in omega arith,
+  places_rise v (ExitIs x o r ∷ before) ls (8192 + (8 * x + o) + 1) f.2 (omega arith),
+)
+places_rise v before (End ∷ ls) low f h = (
+  let o : next_place (heads before) ≤ 40960 = f.1.order in omega arith,
+  places_rise v (End ∷ before) ls (40960 + 1) f.2 (omega arith),
+)
+
+pub places_of_order : {A : Type 0} (v : Version) (k : KeptLines A) → IsIndexed k → AreInOrder v (newest_first [] (all_said k)) →
+    RiseFrom 0 k.places.items
+places_of_order v k h o = rw h.places (places_rise v [] (all_said k) 0 (follows v [] (all_said k) o) (omega arith))
+
+-- What a search among the places answers.
+pub sought : {A : Type 0} (k : KeptLines A) (xs : List ℕ) (p i d : ℕ) (r : Result ℕ ℕ) → xs ≡ k.places.items → r ≡ Ok i →
+    IsBinarySearchResult (λ y. nat_cmp y p) xs r → IsIndexed k → RiseFrom 0 k.places.items →
+    (i < length k.starts.items) × IsFound k p (get_or k.starts.items i d)
+sought k xs p i d r same is found_by h rise =
+    let m : MatchResult r (λ i. (i < length xs) × (get_or xs i 0 ≡ p)) (λ i. (i ≤ length xs) × ((k : ℕ) → k < i → get_or xs k 0 < p) × ((k : ℕ) → i ≤ k → k < length xs → p < get_or xs k 0)) =
+    searched xs p r found_by (rising xs (rw same rise)) in
+    let n : (i < length xs) × (get_or xs i 0 ≡ p) = rw is at m in
+    let b : i < length k.places.items = rw same at n.0 in
+    let e : get_or k.places.items i 0 ≡ p = rw same at n.1 in
+    let c : i < length k.starts.items = in_range k i h b in
+    (c, rw (get_or_default k.starts.items i d 0 c) (found k i p h rise b e))
+
+pub sought_none : {A : Type 0} (k : KeptLines A) (xs : List ℕ) (p i : ℕ) (r : Result ℕ ℕ) → xs ≡ k.places.items → r ≡ Err i →
+    IsBinarySearchResult (λ y. nat_cmp y p) xs r → IsIndexed k → RiseFrom 0 k.places.items → from_place p (all_said k) ≡ []
+sought_none k xs p i r same is found_by h rise =
+    let m : MatchResult r (λ i. (i < length xs) × (get_or xs i 0 ≡ p)) (λ i. (i ≤ length xs) × ((k : ℕ) → k < i → get_or xs k 0 < p) × ((k : ℕ) → i ≤ k → k < length xs → p < get_or xs k 0)) =
+    searched xs p r found_by (rising xs (rw same rise)) in
+    let n : (i ≤ length xs) × ((k : ℕ) → k < i → get_or xs k 0 < p) × ((k : ℕ) → i ≤ k → k < length xs → p < get_or xs k 0) = rw is at m in
+    not_found k p h (λ j b e. elim (cases_lt j i) [
+      | inl a ↦ (let z : get_or xs j 0 < p = n.1 j a in let w : get_or xs j 0 ≡ p = rw same e in omega arith)
+      | inr a ↦ (let z : p < get_or xs j 0 = n.2 j a (rw same b) in let w : get_or xs j 0 ≡ p = rw same e in omega arith)
+    ])

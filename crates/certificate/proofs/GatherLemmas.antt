@@ -1,0 +1,188 @@
+-- The lines of a certificate in order: what they say together has just these lines, and is of its form.
+use Rattle.std.proofs.Common.{◌≡◌, ◌+◌, ◌<◌, ◌≤◌, Bool, true, false, List, [], ◌∷◌, ◌++◌, refl, ap, ◌∙◌, sym, arith, append_assoc, append-nil}
+use Rattle.std.specs.Prelude.{not, ◌&&◌, ◌||◌, map, flat_map}
+use Rattle.facts.specs.Facts.{Equation}
+use Rattle.facts.specs.Statements.{TrackedCell}
+use Rattle.certificate.specs.declared.Version.{Version}
+use Rattle.certificate.specs.Spelling.{RoutineLine, FactLine, ExitLine, version_text, text}
+use Rattle.certificate.specs.Line.{Line, RoutineIs, FactIs, ExitIs, CellIs, EquationIs, End, IsLine, line_text, lines_of_fact, lines_of_exit, lines_of, ended, all_ended}
+use Rattle.certificate.specs.Order.{any, is_end, has_details, heads, details_of_last, next_place, IsNext, AreInOrder, front}
+use Rattle.certificate.specs.Gathered.{cells_under, equations_under, routines_of, facts_of, exits_of, gathered}
+use Rattle.certificate.specs.Found.{newest_first}
+use Rattle.certificate.proofs.TextLemmas.{text_law}
+
+-- Each of the lines may come after those before it; these have the newest first.
+abbrev pub Follow : Version → List Line → List Line → Type 0
+Follow v before [] = Unit {0}
+Follow v before (l ∷ ls) = IsLine v l × IsNext v before l × Follow v (l ∷ before) ls
+
+earlier : (v : Version) (before ls : List Line) → AreInOrder v (newest_first before ls) → AreInOrder v before
+earlier v before [] h = h
+earlier v before (l ∷ ls) h = (earlier v (l ∷ before) ls h).2
+
+pub follows : (v : Version) (before ls : List Line) → AreInOrder v (newest_first before ls) → Follow v before ls
+follows v before [] h = tt
+follows v before (l ∷ ls) h = let e = earlier v (l ∷ before) ls h in (e.0, e.1, follows v (l ∷ before) ls h)
+
+-- After a fact or an exit only greater places come.
+past_routines : (v : Version) (before : List Line) → AreInOrder v before → any has_details before ≡ true → 4096 < next_place (heads before)
+past_routines v [] h e = absurd (cc)
+past_routines v (RoutineIs r ∷ ls) h e =
+    let i : 4096 < next_place (heads ls) = past_routines v ls h.2 e in
+    let o : next_place (heads ls) ≤ r.entry = h.1.order in let b : r.entry < 4096 = h.0.entry in omega arith
+past_routines v (FactIs a r m ∷ ls) h e = omega arith
+past_routines v (ExitIs x o r ∷ ls) h e = omega arith
+past_routines v (CellIs c ∷ ls) h e = past_routines v ls h.2 e
+past_routines v (EquationIs q ∷ ls) h e = past_routines v ls h.2 e
+past_routines v (End ∷ ls) h e = omega arith
+
+no_routines : (v : Version) (before ls : List Line) → Follow v before ls → 4096 ≤ next_place (heads before) → routines_of ls ≡ []
+no_routines v before [] f h = refl
+no_routines v before (RoutineIs r ∷ ls) f h =
+    absurd (let o : next_place (heads before) ≤ r.entry = f.1.order in let b : r.entry < 4096 = f.0.entry in omega arith)
+no_routines v before (FactIs a r m ∷ ls) f h = no_routines v (FactIs a r m ∷ before) ls f.2 (omega arith)
+no_routines v before (ExitIs x o r ∷ ls) f h = no_routines v (ExitIs x o r ∷ before) ls f.2 (omega arith)
+no_routines v before (CellIs c ∷ ls) f h = no_routines v (CellIs c ∷ before) ls f.2 h
+no_routines v before (EquationIs q ∷ ls) f h = no_routines v (EquationIs q ∷ before) ls f.2 h
+no_routines v before (End ∷ ls) f h = no_routines v (End ∷ before) ls f.2 (omega arith)
+
+no_facts : (v : Version) (before ls : List Line) → Follow v before ls → 8192 ≤ next_place (heads before) → facts_of ls ≡ []
+no_facts v before [] f h = refl
+no_facts v before (RoutineIs r ∷ ls) f h =
+    absurd (let o : next_place (heads before) ≤ r.entry = f.1.order in let b : r.entry < 4096 = f.0.entry in omega arith)
+no_facts v before (FactIs a r m ∷ ls) f h =
+    absurd (let o : next_place (heads before) ≤ 4096 + a = f.1.order in let b : a < 4096 = f.0.0 in omega arith)
+no_facts v before (ExitIs x o r ∷ ls) f h = no_facts v (ExitIs x o r ∷ before) ls f.2 (omega arith)
+no_facts v before (CellIs c ∷ ls) f h = no_facts v (CellIs c ∷ before) ls f.2 h
+no_facts v before (EquationIs q ∷ ls) f h = no_facts v (EquationIs q ∷ before) ls f.2 h
+no_facts v before (End ∷ ls) f h = no_facts v (End ∷ before) ls f.2 (omega arith)
+
+not_both : (a b : Bool) → b ≡ false → (a && b) ≡ true → ⊥
+not_both true true n e = absurd (cc)
+not_both true false n e = absurd (cc)
+not_both false b n e = absurd (cc)
+
+no_details : (v : Version) (before ls : List Line) → Follow v before ls → any has_details before ≡ false →
+    (cells_under ls ≡ []) × (equations_under ls ≡ [])
+no_details v before [] f n = (refl, refl)
+no_details v before (CellIs c ∷ ls) f n = absurd (not_both _ _ n f.1.stands)
+no_details v before (EquationIs q ∷ ls) f n = absurd (not_both _ _ n f.1.stands)
+no_details v before (RoutineIs r ∷ ls) f n = (refl, refl)
+no_details v before (FactIs a r m ∷ ls) f n = (refl, refl)
+no_details v before (ExitIs x o r ∷ ls) f n = (refl, refl)
+no_details v before (End ∷ ls) f n = (refl, refl)
+
+no_cells : (v : Version) (before ls : List Line) → Follow v before ls → 4096 ≤ next_place (details_of_last before) → cells_under ls ≡ []
+no_cells v before [] f h = refl
+no_cells v before (CellIs c ∷ ls) f h =
+    absurd (let o : next_place (details_of_last before) ≤ c.address = f.1.order in let b : c.address < 4096 = f.0.address in omega arith)
+no_cells v before (EquationIs q ∷ ls) f h = no_cells v (EquationIs q ∷ before) ls f.2 (omega arith)
+no_cells v before (RoutineIs r ∷ ls) f h = refl
+no_cells v before (FactIs a r m ∷ ls) f h = refl
+no_cells v before (ExitIs x o r ∷ ls) f h = refl
+no_cells v before (End ∷ ls) f h = refl
+
+nothing_after : (v : Version) (before ls : List Line) → Follow v before ls → any is_end before ≡ true → ls ≡ []
+nothing_after v before [] f e = refl
+nothing_after v before (l ∷ ls) f e = absurd (none (any is_end before) _ e f.1.stands)
+  where
+    none : (a b : Bool) → a ≡ true → (not a && b) ≡ true → ⊥
+    none true b e h = absurd (cc)
+    none false b e h = absurd (cc)
+
+-- The lines of a certificate after some of its cells and equations.
+abbrev whole : List TrackedCell → List Equation → List RoutineLine → List FactLine → List ExitLine → List Line
+whole cs es rs fs xs =
+    map CellIs cs ++ (map EquationIs es ++ (map RoutineIs rs ++ (flat_map lines_of_fact fs ++ (flat_map lines_of_exit xs ++ End ∷ []))))
+
+abbrev whole_of : List Line → List Line
+whole_of ls = whole (cells_under ls) (equations_under ls) (routines_of ls) (facts_of ls) (exits_of ls)
+
+-- Lines that end are just those of what they say.
+set_out : (v : Version) (before ls : List Line) → AreInOrder v before → Follow v before ls → any is_end ls ≡ true → ls ≡ whole_of ls
+set_out v before [] a f e = absurd (cc)
+set_out v before (End ∷ ls) a f e = let n : ls ≡ [] = nothing_after v (End ∷ before) ls f.2 refl in rw n refl
+set_out v before (CellIs c ∷ ls) a f e =
+    ap (λ (x : List Line). CellIs c ∷ x) (set_out v (CellIs c ∷ before) ls (f.0, f.1, a) f.2 e)
+set_out v before (EquationIs q ∷ ls) a f e =
+    let n : cells_under ls ≡ [] = no_cells v (EquationIs q ∷ before) ls f.2 (omega arith) in
+    let i : ls ≡ whole_of ls = set_out v (EquationIs q ∷ before) ls (f.0, f.1, a) f.2 e in
+    let j : ls ≡ whole [] (equations_under ls) (routines_of ls) (facts_of ls) (exits_of ls) = rw n at i in
+    let k : EquationIs q ∷ ls ≡ whole [] (q ∷ equations_under ls) (routines_of ls) (facts_of ls) (exits_of ls) =
+    ap (λ (x : List Line). EquationIs q ∷ x) j in
+    rw n k
+set_out v before (RoutineIs r ∷ ls) a f e =
+    let n = no_details v (RoutineIs r ∷ before) ls f.2 (none (any has_details before) refl) in
+    let i : ls ≡ whole_of ls = set_out v (RoutineIs r ∷ before) ls (f.0, f.1, a) f.2 e in
+    let j : ls ≡ whole [] [] (routines_of ls) (facts_of ls) (exits_of ls) = rw (n.0, n.1) at i in
+    ap (λ (x : List Line). RoutineIs r ∷ x) j
+  where
+    none : (b : Bool) → any has_details before ≡ b → any has_details before ≡ false
+    none false q = q
+    none true q = absurd (
+        let i : 4096 < next_place (heads before) = past_routines v before a q in
+        let o : next_place (heads before) ≤ r.entry = f.1.order in let b : r.entry < 4096 = f.0.entry in omega arith)
+set_out v before (FactIs x r m ∷ ls) a f e =
+    let n : routines_of ls ≡ [] = no_routines v (FactIs x r m ∷ before) ls f.2 (omega arith) in
+    let i : ls ≡ whole_of ls = set_out v (FactIs x r m ∷ before) ls (f.0, f.1, a) f.2 e in
+    let j : ls ≡ whole (cells_under ls) (equations_under ls) [] (facts_of ls) (exits_of ls) = rw n at i in
+    let k : FactIs x r m ∷ ls ≡ whole_of (FactIs x r m ∷ ls) = rw n (ap (λ (y : List Line). FactIs x r m ∷ y) (j ∙ regrouped)) in k
+  where
+    regrouped : map CellIs (cells_under ls) ++ (map EquationIs (equations_under ls) ++
+        (flat_map lines_of_fact (facts_of ls) ++ (flat_map lines_of_exit (exits_of ls) ++ End ∷ []))) ≡
+        map CellIs (cells_under ls) ++ map EquationIs (equations_under ls) ++ flat_map lines_of_fact (facts_of ls) ++
+        (flat_map lines_of_exit (exits_of ls) ++ End ∷ [])
+    regrouped = simp append_assoc
+set_out v before (ExitIs x o r ∷ ls) a f e =
+    let n : routines_of ls ≡ [] = no_routines v (ExitIs x o r ∷ before) ls f.2 (omega arith) in
+    let g : facts_of ls ≡ [] = no_facts v (ExitIs x o r ∷ before) ls f.2 (omega arith) in
+    let i : ls ≡ whole_of ls = set_out v (ExitIs x o r ∷ before) ls (f.0, f.1, a) f.2 e in
+    let j : ls ≡ whole (cells_under ls) (equations_under ls) [] [] (exits_of ls) = rw (n, g) at i in
+    let k : ExitIs x o r ∷ ls ≡ whole_of (ExitIs x o r ∷ ls) = rw (n, g) (ap (λ (y : List Line). ExitIs x o r ∷ y) (j ∙ regrouped)) in k
+  where
+    regrouped : map CellIs (cells_under ls) ++ (map EquationIs (equations_under ls) ++
+        (flat_map lines_of_exit (exits_of ls) ++ End ∷ [])) ≡
+        map CellIs (cells_under ls) ++ map EquationIs (equations_under ls) ++ flat_map lines_of_exit (exits_of ls) ++ End ∷ []
+    regrouped = simp append_assoc
+
+any_reversed : (before ls : List Line) → any is_end (newest_first before ls) ≡ (any is_end ls || any is_end before)
+any_reversed before [] = refl
+any_reversed before (l ∷ ls) = any_reversed (l ∷ before) ls ∙ turned (any is_end ls) (is_end l) (any is_end before)
+  where
+    turned : (a b c : Bool) → (a || (b || c)) ≡ ((b || a) || c)
+    turned true true c = refl
+    turned true false c = refl
+    turned false true c = refl
+    turned false false c = refl
+
+front_reversed : (v : Version) (before ls : List Line) → front v (newest_first before ls) ≡ front v before ++ all_ended v ls
+front_reversed v before [] = sym (append-nil (front v before))
+front_reversed v before (l ∷ ls) =
+    front_reversed v (l ∷ before) ls ∙ append_assoc (front v before) (ended (line_text v l)) (all_ended v ls)
+
+-- The text of what the lines say is theirs.
+pub text_of_gathered : (v : Version) (ls : List Line) → AreInOrder v (newest_first [] ls) → any is_end (newest_first [] ls) ≡ true →
+    text (gathered v ls) ≡ front v (newest_first [] ls)
+text_of_gathered v ls h e =
+    text_law.lines (gathered v ls) ∙
+    (ap (λ (x : List Line). ended (version_text v) ++ all_ended v x) (sym same) ∙ sym (front_reversed v [] ls))
+  where
+    f : Follow v [] ls
+    f = follows v [] ls h
+
+    ends : any is_end ls ≡ true
+    ends = last (any is_end ls) (sym (any_reversed [] ls) ∙ e)
+      where
+        last : (a : Bool) → (a || false) ≡ true → a ≡ true
+        last true q = refl
+        last false q = q
+
+    same : ls ≡ lines_of (gathered v ls)
+    same =
+        let n = no_details v [] ls f refl in
+        let i : ls ≡ whole_of ls = set_out v [] ls tt f ends in
+        let j : ls ≡ whole [] [] (routines_of ls) (facts_of ls) (exits_of ls) = rw (n.0, n.1) at i in
+        j ∙ grouped (map RoutineIs (routines_of ls)) (flat_map lines_of_fact (facts_of ls)) (flat_map lines_of_exit (exits_of ls)) (End ∷ [])
+      where
+        grouped : (a b c d : List Line) → a ++ (b ++ (c ++ d)) ≡ a ++ b ++ c ++ d
+        grouped a b c d = simp append_assoc

@@ -1,0 +1,180 @@
+-- What the lines at a place say is what the certificate claims.
+use Rattle.std.proofs.Common.{◌≡◌, ℕ, ◌+◌, ◌*◌, ◌<◌, ◌≤◌, ◌==◌, Bool, true, false, List, [], ◌∷◌, refl, ◌∙◌, sym, inl, inr, arith}
+use Rattle.std.specs.Prelude.{if◌then◌else◌, map, Option, Some, None, IfSome}
+use Rattle.std.proofs.lemmas.Bool.Decides.{eqb_tells}
+use Rattle.certificate.specs.declared.Version.{Version}
+use Rattle.certificate.specs.declared.line.Line.{Line as ReadLine}
+use Rattle.certificate.specs.declared.lines.KeptLines.{KeptLines}
+use Rattle.certificate.specs.Spelling.{ExitLine, text}
+use Rattle.certificate.specs.Reading.{Each, IsFactLine, IsExit, has_routine, has_fact_in, fact_in, has_exit_in, exit_in}
+use Rattle.certificate.specs.Line.{Line, RoutineIs, FactIs, ExitIs, CellIs, EquationIs, End, IsLine}
+use Rattle.certificate.specs.Meaning.{said}
+use Rattle.certificate.specs.Gathered.{routines_of, facts_of, exits_of, gathered}
+use Rattle.certificate.specs.Found.{from_place, all_said, IsWhole, FitUnderFirst, begins_routine, begins_fact, begins_exit, first_fact, first_exit, SaysFirst}
+use Rattle.certificate.proofs.GatherLemmas.{Follow, follows, text_of_gathered}
+use Rattle.certificate.proofs.FormLemmas.{gathered_formed}
+
+each_formed : (v : Version) (before ls : List Line) → Follow v before ls → Each (IsLine v) ls
+each_formed v before [] f = tt
+each_formed v before (l ∷ ls) f = (f.0, each_formed v (l ∷ before) ls f.2)
+
+-- The one test is true exactly where the other is.
+tests_alike : (a b c d : ℕ) → (a ≡ b → c ≡ d) → (c ≡ d → a ≡ b) → (a == b) ≡ (c == d)
+tests_alike a b c d to from = elim (eqb_tells a b) [
+  | inl t ↦ elim (eqb_tells c d) [ inl u ↦ rw (t.0, u.0) refl | inr u ↦ absurd (u.1 (to t.1)) ]
+  | inr t ↦ elim (eqb_tells c d) [ inl u ↦ absurd (t.1 (from u.1)) | inr u ↦ rw (t.0, u.0) refl ]
+]
+
+-- Numbers that differ.
+untrue : (a b : ℕ) → (a ≡ b → ⊥) → (a == b) ≡ false
+untrue a b n = elim (eqb_tells a b) [ inl t ↦ absurd (n t.1) | inr t ↦ t.0 ]
+
+routines_found : (v : Version) (ls : List Line) (e : ℕ) → Each (IsLine v) ls → e < 4096 →
+    (has_routine (routines_of ls) e ≡ begins_routine (from_place e ls)) × SaysFirst (routines_of ls) e (from_place e ls)
+routines_found v [] e h b = (refl, tt)
+routines_found v (RoutineIs r ∷ ls) e h b = elim (eqb_tells r.entry e) [
+  | inl t ↦ rw t.0 (refl, record { rank = rw t.0 refl; sites = rw t.0 refl; writes = rw t.0 refl })
+  | inr t ↦ go t.0 (routines_found v ls e h.1 b)
+]
+  where
+    go : (r.entry == e) ≡ false →
+        (has_routine (routines_of ls) e ≡ begins_routine (from_place e ls)) × SaysFirst (routines_of ls) e (from_place e ls) →
+        (has_routine (routines_of (RoutineIs r ∷ ls)) e ≡ begins_routine (from_place e (RoutineIs r ∷ ls))) ×
+        SaysFirst (routines_of (RoutineIs r ∷ ls)) e (from_place e (RoutineIs r ∷ ls))
+    go f g = rw f (g.0, later (from_place e ls) g.1)
+      where
+        later : (rest : List Line) → SaysFirst (routines_of ls) e rest → SaysFirst (r ∷ routines_of ls) e rest
+        later [] s = tt
+        later (RoutineIs q ∷ rest) s = record { rank = rw f s.rank; sites = rw f s.sites; writes = rw f s.writes }
+        later (FactIs a q m ∷ rest) s = tt
+        later (ExitIs x o q ∷ rest) s = tt
+        later (CellIs c ∷ rest) s = tt
+        later (EquationIs q ∷ rest) s = tt
+        later (End ∷ rest) s = tt
+routines_found v (FactIs a r m ∷ ls) e h b = rw (untrue (4096 + a) e (λ q. omega arith)) (routines_found v ls e h.1 b)
+routines_found v (ExitIs x o r ∷ ls) e h b = rw (untrue (8192 + (8 * x + o)) e (λ q. omega arith)) (routines_found v ls e h.1 b)
+routines_found v (CellIs c ∷ ls) e h b = routines_found v ls e h.1 b
+routines_found v (EquationIs q ∷ ls) e h b = routines_found v ls e h.1 b
+routines_found v (End ∷ ls) e h b = rw (untrue 40960 e (λ q. omega arith)) (routines_found v ls e h.1 b)
+
+facts_found : (v : Version) (ls : List Line) (a : ℕ) → Each (IsLine v) ls → a < 4096 →
+    (has_fact_in (facts_of ls) a ≡ begins_fact (from_place (4096 + a) ls)) × (fact_in (facts_of ls) a ≡ first_fact (from_place (4096 + a) ls))
+facts_found v [] a h b = (refl, refl)
+facts_found v (RoutineIs r ∷ ls) a h b =
+    rw (untrue r.entry (4096 + a) (λ q. let z : r.entry < 4096 = h.0.entry in omega arith)) (facts_found v ls a h.1 b)
+facts_found v (FactIs x r m ∷ ls) a h b =
+    rw (tests_alike (4096 + x) (4096 + a) x a (λ q. omega arith) (λ q. omega arith)) (elim (eqb_tells x a) [
+      | inl t ↦ rw t.0 (refl, refl)
+      | inr t ↦ rw t.0 (facts_found v ls a h.1 b)
+    ])
+facts_found v (ExitIs x o r ∷ ls) a h b = rw (untrue (8192 + (8 * x + o)) (4096 + a) (λ q. omega arith)) (facts_found v ls a h.1 b)
+facts_found v (CellIs c ∷ ls) a h b = facts_found v ls a h.1 b
+facts_found v (EquationIs q ∷ ls) a h b = facts_found v ls a h.1 b
+facts_found v (End ∷ ls) a h b = rw (untrue 40960 (4096 + a) (λ q. omega arith)) (facts_found v ls a h.1 b)
+
+-- The test of an exit is that of its place.
+exit_test : (x o e p : ℕ) → o < 8 → p < 8 → (8192 + (8 * x + o) == 8192 + (8 * e + p)) ≡ (if x == e then o == p else false)
+exit_test x o e p h g = elim (eqb_tells x e) [
+  | inl t ↦ rw t.0 (tests_alike (8192 + (8 * x + o)) (8192 + (8 * e + p)) o p
+      (λ q. let z : x ≡ e = t.1 in omega arith) (λ q. let z : x ≡ e = t.1 in omega arith))
+  | inr t ↦ rw t.0 (untrue (8192 + (8 * x + o)) (8192 + (8 * e + p)) (λ q. t.1 (omega arith)))
+]
+
+exits_found : (v : Version) (ls : List Line) (e p : ℕ) → Each (IsLine v) ls → e < 4096 → p < 8 →
+    (has_exit_in (exits_of ls) e p ≡ begins_exit (from_place (8192 + (8 * e + p)) ls)) ×
+    (exit_in (exits_of ls) e p ≡ first_exit (from_place (8192 + (8 * e + p)) ls))
+exits_found v [] e p h b g = (refl, refl)
+exits_found v (RoutineIs r ∷ ls) e p h b g =
+    rw (untrue r.entry (8192 + (8 * e + p)) (λ q. let z : r.entry < 4096 = h.0.entry in omega arith)) (exits_found v ls e p h.1 b g)
+exits_found v (FactIs x r m ∷ ls) e p h b g =
+    rw (untrue (4096 + x) (8192 + (8 * e + p)) (λ q. let z : x < 4096 = h.0.0 in omega arith)) (exits_found v ls e p h.1 b g)
+exits_found v (ExitIs x o r ∷ ls) e p h b g =
+    rw (exit_test x o e p h.0.1 g) (go (if x == e then o == p else false) (exits_found v ls e p h.1 b g))
+  where
+    go : (d : Bool) → (has_exit_in (exits_of ls) e p ≡ begins_exit (from_place (8192 + (8 * e + p)) ls)) ×
+        (exit_in (exits_of ls) e p ≡ first_exit (from_place (8192 + (8 * e + p)) ls)) →
+        ((if d then true else has_exit_in (exits_of ls) e p) ≡
+        begins_exit (if d then ExitIs x o r ∷ ls else from_place (8192 + (8 * e + p)) ls)) ×
+        ((if d then first_exit (ExitIs x o r ∷ ls) else exit_in (exits_of ls) e p) ≡
+        first_exit (if d then ExitIs x o r ∷ ls else from_place (8192 + (8 * e + p)) ls))
+    go true i = (refl, refl)
+    go false i = i
+exits_found v (CellIs c ∷ ls) e p h b g = exits_found v ls e p h.1 b g
+exits_found v (EquationIs q ∷ ls) e p h b g = exits_found v ls e p h.1 b g
+exits_found v (End ∷ ls) e p h b g = rw (untrue 40960 (8192 + (8 * e + p)) (λ q. omega arith)) (exits_found v ls e p h.1 b g)
+
+-- No exit is by an offset past 7.
+no_exit : (v : Version) (xs : List ExitLine) (e p : ℕ) → Each (IsExit v) xs → 8 ≤ p → has_exit_in xs e p ≡ false
+no_exit v [] e p h g = refl
+no_exit v (x ∷ xs) e p h g =
+    rw (untrue x.offset p (λ q. let z : x.offset < 8 = h.0.offset in omega arith)) (go (x.entry == e) (no_exit v xs e p h.1 g))
+  where
+    go : (d : Bool) → has_exit_in xs e p ≡ false → (if (if d then false else false) then true else has_exit_in xs e p) ≡ false
+    go true i = i
+    go false i = i
+
+fits_first : (v : Version) (ls : List Line) (p : ℕ) → Each (IsFactLine v) (facts_of ls) → Each (IsExit v) (exits_of ls) →
+    FitUnderFirst (from_place p ls)
+fits_first v [] p f x = tt
+fits_first v (RoutineIs r ∷ ls) p f x = go (r.entry == p) (fits_first v ls p f x)
+  where
+    go : (d : Bool) → FitUnderFirst (from_place p ls) → FitUnderFirst (if d then RoutineIs r ∷ ls else from_place p ls)
+    go true i = tt
+    go false i = i
+fits_first v (FactIs a r m ∷ ls) p f x = go (4096 + a == p) (fits_first v ls p f.1 x)
+  where
+    go : (d : Bool) → FitUnderFirst (from_place p ls) → FitUnderFirst (if d then FactIs a r m ∷ ls else from_place p ls)
+    go true i = (f.0.statement.few_cells, f.0.statement.few_equations)
+    go false i = i
+fits_first v (ExitIs e o r ∷ ls) p f x = go (8192 + (8 * e + o) == p) (fits_first v ls p f x.1)
+  where
+    go : (d : Bool) → FitUnderFirst (from_place p ls) → FitUnderFirst (if d then ExitIs e o r ∷ ls else from_place p ls)
+    go true i = (x.0.statement.few_cells, x.0.statement.few_equations)
+    go false i = i
+fits_first v (CellIs c ∷ ls) p f x = fits_first v ls p f x
+fits_first v (EquationIs q ∷ ls) p f x = fits_first v ls p f x
+fits_first v (End ∷ ls) p f x = go (40960 == p) (fits_first v ls p f x)
+  where
+    go : (d : Bool) → FitUnderFirst (from_place p ls) → FitUnderFirst (if d then End ∷ ls else from_place p ls)
+    go true i = tt
+    go false i = i
+
+-- What follows for an answer.
+pub told : {X : Type 0} (o : Option X) (P Q : X → Type 0) → ((x : X) → P x → Q x) → IfSome o P → IfSome o Q
+told (Some x) P Q to h = to x h
+told None P Q to h = tt
+
+-- The lines that are kept of a certificate.
+formed : {A : Type 0} (v : Version) (text : List ℕ) (k : KeptLines A) → IsWhole v text k → Each (IsLine v) (all_said k)
+formed v text k w = each_formed v [] (all_said k) (follows v [] (all_said k) w.order)
+
+pub routine_claims : {A : Type 0} (v : Version) (text : List ℕ) (k : KeptLines A) (e : ℕ) (ls : List ReadLine) → IsWhole v text k → e < 4096 →
+    map said ls ≡ from_place e (all_said k) →
+    (begins_routine (map said ls) ≡ has_routine (routines_of (all_said k)) e) × SaysFirst (routines_of (all_said k)) e (map said ls)
+routine_claims v text k e ls w b at =
+    let f = routines_found v (all_said k) e (formed v text k w) b in rw at (sym f.0, f.1)
+
+pub fact_claims : {A : Type 0} (v : Version) (text : List ℕ) (k : KeptLines A) (a : ℕ) (ls : List ReadLine) → IsWhole v text k → a < 4096 →
+    map said ls ≡ from_place (4096 + a) (all_said k) →
+    (begins_fact (map said ls) ≡ has_fact_in (facts_of (all_said k)) a) × (first_fact (map said ls) ≡ fact_in (facts_of (all_said k)) a)
+fact_claims v text k a ls w b at =
+    let f = facts_found v (all_said k) a (formed v text k w) b in rw at (sym f.0, sym f.1)
+
+pub exit_claims : {A : Type 0} (v : Version) (text : List ℕ) (k : KeptLines A) (e o p : ℕ) (ls : List ReadLine) → IsWhole v text k → e < 4096 → o < 8 →
+    p ≡ 8192 + (8 * e + o) → map said ls ≡ from_place p (all_said k) →
+    (begins_exit (map said ls) ≡ has_exit_in (exits_of (all_said k)) e o) × (first_exit (map said ls) ≡ exit_in (exits_of (all_said k)) e o)
+exit_claims v text k e o p ls w b g same at =
+    let f = exits_found v (all_said k) e o (formed v text k w) b g in rw (at, same) (sym f.0, sym f.1)
+
+pub no_claim : {A : Type 0} (v : Version) (text : List ℕ) (k : KeptLines A) (e o : ℕ) → IsWhole v text k → 8 ≤ o →
+    has_exit_in (exits_of (all_said k)) e o ≡ false
+no_claim v text k e o w g = no_exit v (exits_of (all_said k)) e o (gathered_formed v (all_said k) w.order).exits g
+
+pub fits : {A : Type 0} (v : Version) (text : List ℕ) (k : KeptLines A) (p : ℕ) (ls : List ReadLine) → IsWhole v text k →
+    map said ls ≡ from_place p (all_said k) → FitUnderFirst (map said ls)
+fits v text k p ls w at =
+    let f = gathered_formed v (all_said k) w.order in rw at (fits_first v (all_said k) p f.facts f.exits)
+
+-- The text that is kept is that of what is said.
+pub text_kept : {A : Type 0} (v : Version) (kept : List ℕ) (k : KeptLines A) → IsWhole v kept k → text (gathered v (all_said k)) ≡ kept
+text_kept v kept k w = text_of_gathered v (all_said k) w.order w.ended ∙ sym w.is

@@ -1,0 +1,111 @@
+-- How a line is found by its place, and what stands there; it serves private contracts.
+use Rattle.std.specs.Prelude.{◌≡◌, ℕ, ◌+◌, ◌≤◌, ◌==◌, Bool, true, false, if◌then◌else◌, List, [], ◌∷◌, ◌++◌, length, map}
+use Rattle.facts.specs.Facts.{Fact}
+use Rattle.wordset.specs.Words.{everything}
+use Rattle.facts.specs.Statements.{Statement, fact_of, unknown}
+use Rattle.wordset.specs.Lanes.{words}
+use Rattle.certificate.specs.declared.Version.{Version}
+use Rattle.certificate.specs.declared.Routine.{Routine}
+use Rattle.certificate.specs.declared.lines.KeptLines.{KeptLines}
+use Rattle.certificate.specs.Spelling.{RoutineLine}
+use Rattle.certificate.specs.Reading.{rank_in, sites_in, writes_in}
+use Rattle.certificate.specs.Line.{Line, RoutineIs, FactIs, ExitIs}
+use Rattle.certificate.specs.Order.{is_detail, place, heads, any, is_end, AreInOrder, front}
+use Rattle.certificate.specs.Meaning.{said}
+use Rattle.certificate.specs.Gathered.{cells_under, equations_under, stated}
+
+-- Lines in the other order, so that the newest is the first, and then those that came before them.
+abbrev pub newest_first : List Line → List Line → List Line
+newest_first before [] = before
+newest_first before (l ∷ ls) = newest_first (l ∷ before) ls
+
+-- Where the lines stand that aren't details, counted on from a number.
+abbrev pub starts : ℕ → List Line → List ℕ
+starts n [] = []
+starts n (l ∷ ls) = if is_detail l then starts (n + 1) ls else n ∷ starts (n + 1) ls
+
+-- The lines from the first one on that has the place and isn't a detail.
+abbrev pub from_place : ℕ → List Line → List Line
+from_place p [] = []
+from_place p (l ∷ ls) = if is_detail l then from_place p ls else (if place l == p then l ∷ ls else from_place p ls)
+
+-- The lines that are kept.
+abbrev pub all_said : {A : Type 0} → KeptLines A → List Line
+all_said k = map said k.lines.items
+
+-- The lists of places and of where they stand are those of the lines.
+pub record IsIndexed {A : Type 0} (k : KeptLines A) : Type 0 where
+  pub places : k.places.items ≡ map place (heads (all_said k))
+  pub starts : k.starts.items ≡ starts 0 (all_said k)
+
+-- These lines are kept, of which the newest is the first.
+pub record Keeps {A : Type 0} (k : KeptLines A) (before : List Line) : Type 0 where
+  pub lines : newest_first [] (all_said k) ≡ before
+  pub indexed : IsIndexed k
+
+-- The lines that are kept are those of a text, and whole.
+pub record IsWhole {A : Type 0} (v : Version) (text : List ℕ) (k : KeptLines A) : Type 0 where
+  pub order : AreInOrder v (newest_first [] (all_said k))
+  pub ended : any is_end (newest_first [] (all_said k)) ≡ true
+  pub is : text ≡ front v (newest_first [] (all_said k))
+  pub indexed : IsIndexed k
+
+-- There is room in a fact for the cells and equations at the front.
+abbrev pub FitUnder : List Line → Type 0
+FitUnder ls = (length (cells_under ls) ≤ 64) × (length (equations_under ls) ≤ 32)
+
+-- There is room for those after the first line, where it's that of a fact or an exit.
+abbrev pub FitUnderFirst : List Line → Type 0
+FitUnderFirst [] = Unit {0}
+FitUnderFirst (FactIs a r offsets ∷ ls) = FitUnder ls
+FitUnderFirst (ExitIs e o r ∷ ls) = FitUnder ls
+FitUnderFirst (_ ∷ ls) = Unit {0}
+
+-- A statement with the cells and equations at the front after its own.
+abbrev pub with_details : Statement → List Line → Statement
+with_details s ls = record s { cells = s.cells ++ cells_under ls; equations = s.equations ++ equations_under ls }
+
+-- The first line is that of a routine, of a fact or of an exit.
+abbrev pub begins_routine : List Line → Bool
+begins_routine [] = false
+begins_routine (RoutineIs r ∷ ls) = true
+begins_routine (_ ∷ ls) = false
+
+abbrev pub begins_fact : List Line → Bool
+begins_fact [] = false
+begins_fact (FactIs a r offsets ∷ ls) = true
+begins_fact (_ ∷ ls) = false
+
+abbrev pub begins_exit : List Line → Bool
+begins_exit [] = false
+begins_exit (ExitIs e o r ∷ ls) = true
+begins_exit (_ ∷ ls) = false
+
+-- The fact at the front.
+abbrev pub first_fact : List Line → Fact
+first_fact [] = unknown
+first_fact (FactIs a r offsets ∷ ls) = fact_of (stated r ls) offsets
+first_fact (_ ∷ ls) = unknown
+
+-- The exit's fact at the front.
+abbrev pub first_exit : List Line → Fact
+first_exit [] = unknown
+first_exit (ExitIs e o r ∷ ls) = fact_of (stated r ls) everything
+first_exit (_ ∷ ls) = unknown
+
+-- A routine that is given is what the routines say of an entry.
+pub record IsRoutineOf (rs : List RoutineLine) (e : ℕ) (r : Routine) : Type 0 where
+  pub rank : r.rank ≡ rank_in rs e
+  pub sites : words r.sites ≡ sites_in rs e
+  pub writes : words r.writes ≡ writes_in rs e
+
+-- What the routines say of an entry is what the first line says, if it's a routine's.
+pub record SaysOf (rs : List RoutineLine) (e : ℕ) (r : RoutineLine) : Type 0 where
+  pub rank : rank_in rs e ≡ r.rank
+  pub sites : sites_in rs e ≡ r.sites
+  pub writes : writes_in rs e ≡ r.writes
+
+abbrev pub SaysFirst : List RoutineLine → ℕ → List Line → Type 0
+SaysFirst rs e [] = Unit {0}
+SaysFirst rs e (RoutineIs r ∷ ls) = SaysOf rs e r
+SaysFirst rs e (_ ∷ ls) = Unit {0}

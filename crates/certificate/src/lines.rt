@@ -1,0 +1,151 @@
+//! The lines of a certificate as they are kept, and what is found in them.
+
+ghost use Rattle.std.specs.Prelude.{ℕ, ◌≡◌, ◌+◌, ◌<◌, ◌≤◌, List, [], ◌∷◌, ◌++◌, length, map, OnOk, IfSome, is_some, true};
+ghost use Rattle.facts.specs.Meaning.{statement_of, offsets_of, meaning as fact_meaning};
+ghost use Rattle.facts.specs.Statements.{fact_of};
+ghost use Rattle.facts.specs.Changes.{with_offsets};
+ghost use Rattle.wordset.specs.Words.{everything};
+ghost use Rattle.certificate.specs.Spelling.{RoutineLine as SaidRoutine};
+ghost use Rattle.certificate.specs.Reading.{RiseFrom};
+ghost use Rattle.certificate.specs.Line.{Line as SaidLine};
+ghost use Rattle.certificate.specs.Gathered.{cells_under, equations_under, stated};
+ghost use Rattle.certificate.specs.Meaning.{said, registers_of};
+ghost use Rattle.certificate.specs.Found.{from_place, all_said, Keeps, IsIndexed, FitUnder, FitUnderFirst, with_details, IsRoutineOf, begins_routine, begins_fact, begins_exit, first_fact, first_exit, SaysFirst};
+
+use crate::Routine;
+use crate::line::{Line, Registers};
+use crate::progress::{is_detail, place_of};
+use facts::{Fact, Offsets};
+use std::alloc::{AllocError, Allocator};
+
+/// Lines in their order. Those that aren't details of another one have rising places, so that they
+/// are found by them.
+#[derive(Drop)]
+pub struct KeptLines<A: Allocator> {
+    lines: Vec<Line, A>,
+    places: Vec<usize, A>,
+    starts: Vec<usize, A>,
+}
+
+impl<A: Allocator + Copy> KeptLines<A> {
+    /// No line.
+    pub fn new(alloc: A) -> KeptLines<A>
+        ensures { Keeps result [] }
+    {
+        KeptLines {
+            lines: Vec::new(alloc),
+            places: Vec::new(alloc),
+            starts: Vec::new(alloc),
+        }
+    }
+}
+
+impl<A: Allocator> KeptLines<A> {
+    /// Keeps a line more.
+    pub fn keep(&mut self, line: &Line) -> Result<(), AllocError>
+        ensures { (before : List SaidLine) → Keeps self.old before →
+            OnOk result (Keeps self.new (said line.now ∷ before)) }
+    {
+        if is_detail(line) {
+            self.lines.push(*line)?;
+            return Ok(());
+        }
+        self.places.push(place_of(line))?;
+        self.starts.push(self.lines.len())?;
+        self.lines.push(*line)?;
+        Ok(())
+    }
+
+    /// The lines from the one of a place on, or none where no line has it.
+    pub fn from(&self, place: usize) -> &[Line]
+        requires indexed { IsIndexed self.now }
+        requires order { RiseFrom 0 self.now.places.items }
+        ensures { map said result.now ≡ from_place place (all_said self.now) }
+    {
+        match self.places.binary_search(&place) {
+            Ok(at) => self.lines.split_at(self.starts[at]).1,
+            Err(_) => &[],
+        }
+    }
+}
+
+/// Adds the cells and equations at the front to a fact.
+fn add_details(fact: &mut Fact, lines: &[Line])
+    requires cells { length (statement_of fact.old).cells +
+        length (cells_under (map said lines.now)) ≤ 64 }
+    requires equations { length (statement_of fact.old).equations +
+        length (equations_under (map said lines.now)) ≤ 32 }
+    ensures statement { statement_of fact.new ≡
+        with_details (statement_of fact.old) (map said lines.now) }
+    ensures offsets { offsets_of fact.new.offsets ≡ offsets_of fact.old.offsets }
+{
+    for line in lines {
+        match line {
+            Line::Cell(tracked) => fact.track(tracked.cell, tracked.set),
+            Line::Equation(equation) => fact.relate(*equation),
+            _ => return,
+        }
+    }
+}
+
+/// The fact that registers, offsets and the details at the front make.
+fn fact_from(registers: &Registers, offsets: Offsets, lines: &[Line]) -> Fact
+    requires fit { FitUnder (map said lines.now) }
+    ensures { fact_meaning result ≡
+        fact_of (stated (registers_of registers.now) (map said lines.now)) (offsets_of offsets) }
+{
+    let mut fact = Fact::any();
+    fact.set_accumulator(registers.accumulator);
+    fact.set_mq(registers.mq);
+    fact.set_link(registers.link);
+    fact.set_offsets(offsets);
+    add_details(&mut fact, lines);
+    fact
+}
+
+/// What the first line says of a routine, if it does.
+pub fn first_routine(lines: &[Line]) -> Option<Routine>
+    ensures there { is_some result ≡ begins_routine (map said lines.now) }
+    ensures says { (rs : List SaidRoutine) (e : ℕ) → SaysFirst rs e (map said lines.now) →
+        IfSome result (λ r. IsRoutineOf rs e r) }
+{
+    match lines.first() {
+        Some(Line::Routine(routine)) => Some(Routine {
+            rank: routine.rank,
+            sites: routine.sites,
+            writes: routine.writes,
+        }),
+        _ => None,
+    }
+}
+
+/// The fact of the first line, if it's a fact's.
+pub fn first_fact(lines: &[Line]) -> Option<Fact>
+    requires fit { FitUnderFirst (map said lines.now) }
+    ensures there { is_some result ≡ begins_fact (map said lines.now) }
+    ensures fact { IfSome result (λ f. fact_meaning f ≡ first_fact (map said lines.now)) }
+{
+    match lines.split_first() {
+        Some((Line::Fact(_, registers, offsets), details)) => {
+            Some(fact_from(registers, *offsets, details))
+        }
+        _ => None,
+    }
+}
+
+/// The fact of the first line, if it's an exit's, with all offsets.
+pub fn first_exit(lines: &[Line]) -> Option<Fact>
+    requires fit { FitUnderFirst (map said lines.now) }
+    ensures there { is_some result ≡ begins_exit (map said lines.now) }
+    ensures fact { IfSome result (λ f. with_offsets everything (fact_meaning f) ≡
+        first_exit (map said lines.now)) }
+    ensures offsets { IfSome result (λ f. (o : ℕ) → o < 8 →
+        (fact_meaning f).offsets o ≡ true) }
+{
+    match lines.split_first() {
+        Some((Line::Exit(_, _, registers), details)) => {
+            Some(fact_from(registers, Offsets::all(), details))
+        }
+        _ => None,
+    }
+}

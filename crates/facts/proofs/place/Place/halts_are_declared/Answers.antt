@@ -1,0 +1,15 @@
+use Rattle.facts.specs.Places.{place_of}
+use Rattle.std.proofs.Common.{◌∙◌}
+use Rattle.facts.proofs.AskedLemmas.{no_reference, halts_nowhere, halts_not, halts_at}
+use Rattle.facts.proofs.PlaceLemmas.{or_both}
+use Rattle.facts.proofs.place.Place.halts_are_declared.Goals as goal
+
+pub returns-then-not-is_group_2 : goal.returns-then-not-is_group_2
+returns-then-not-is_group_2 g c = halts_nowhere (place_of c.args.self.now) c.args.at c.args.word (no_reference c.if-not-is_group_2.true (c.is_group_2.ensures c.args.at))
+
+pub returns-then-not-halts : goal.returns-then-not-halts
+returns-then-not-halts g c = halts_not _ (place_of c.args.self.now) c.args.at c.args.word ((c.is_group_2.ensures c.args.at).0 c.if-not-is_group_2.false) c.halts.ensures c.if-not-halts.true
+
+pub returns : goal.returns
+returns g c = halts_at _ _ (place_of c.args.self.now) c.args.at c.args.word ((c.is_group_2.ensures c.args.at).0 c.if-not-is_group_2.false) c.halts.ensures c.if-not-halts.false
+    (c.either.ensures ∙ or_both c.is_stop.ensures c.is_pause.ensures)

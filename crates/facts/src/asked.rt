@@ -1,0 +1,240 @@
+//! What is asked of one word at the address of a fact, each condition by itself.
+
+ghost use Rattle.std.specs.Prelude.{ℕ, ◌≡◌, ◌↔◌, IsTrue, MatchOption, IfOk, OnOk, IfErr};
+ghost use Rattle.wordset.specs.Words.{SameWords};
+ghost use Rattle.wordset.specs.Lanes.{words};
+ghost use Rattle.instruct.specs.declared.Instruction.TheVariants.{Operate2};
+ghost use Rattle.instruct.specs.Instructions.{kind_of, operation_of};
+ghost use Rattle.policy.specs.Rules.{IsSupported, HaltsDeclared};
+ghost use Rattle.facts.specs.Facts.{possible};
+ghost use Rattle.facts.specs.Outcomes.{meaning_at, outcomes_at};
+ghost use Rattle.facts.specs.Same.{AgreeingOutcomes};
+ghost use Rattle.facts.specs.Conditions.{KeepsConditions, BreaksFirst, WritesAreDeclared, EntriesAreKept, WritesAreListed, ReadsAreListed, calls, jumps, called, calls_through_index, returned_through};
+ghost use Rattle.facts.specs.Meaning.{meaning};
+ghost use Rattle.facts.specs.Places.{place_of, writes_of};
+ghost use Rattle.facts.specs.Slots.{slots};
+
+use crate::Condition;
+use crate::dispatch::{Outcomes, outcomes};
+use crate::entailment::{narrowed, word_of};
+use crate::fact::Fact;
+use crate::known::Known;
+use crate::names::Name;
+use crate::place::{Place, tape_words};
+use crate::references::{either, steps_pointer};
+use crate::skipping::both;
+use instruct::{Instruction, Operation, decode, halts, refers_indirectly, target};
+use std::alloc::Allocator;
+use word12::Word;
+use wordset::WordSet;
+
+/// Whether a memory reference is JMS.
+fn is_jms(word: Word) -> bool
+    ensures { result ≡ calls (operation_of word) }
+{
+    match Operation::of(word) {
+        Operation::Jms => true,
+        Operation::And | Operation::Tad | Operation::Isz | Operation::Dca | Operation::Jmp => false,
+    }
+}
+
+/// Whether a memory reference is JMP.
+fn is_jmp(word: Word) -> bool
+    ensures { result ≡ jumps (operation_of word) }
+{
+    match Operation::of(word) {
+        Operation::Jmp => true,
+        Operation::And | Operation::Tad | Operation::Isz | Operation::Dca | Operation::Jms => false,
+    }
+}
+
+impl<A: Allocator> Place<'_, A> {
+    /// The words that are possible at the address of a fact: a variable's narrowed set, else the
+    /// tape's word.
+    pub fn possible_words(&self, fact: &Fact, at: Word) -> WordSet
+        ensures { SameWords (words result) (possible (place_of self.now) (meaning fact.now) at) }
+    {
+        if self.declaration.is_variable(at) {
+            return narrowed(fact, &Name::Cell(at));
+        }
+        tape_words(word_of(self.image, at))
+    }
+
+    /// Whether a word has a meaning on the machine that is declared.
+    pub fn is_supported(&self, word: Word) -> bool
+        ensures { (at : ℕ) → IsTrue result ↔ IsSupported (meaning_at (place_of self.now) at word) }
+    {
+        !matches!(
+            decode(word, self.declaration.profile()),
+            Instruction::Unsupported
+        )
+    }
+
+    /// Whether a word is of group 2.
+    fn is_group_2(&self, word: Word) -> bool
+        ensures { (at : ℕ) → IsTrue result ↔ (kind_of (meaning_at (place_of self.now) at word) ≡
+            Operate2) }
+    {
+        matches!(
+            decode(word, self.declaration.profile()),
+            Instruction::Operate2
+        )
+    }
+
+    /// Whether a word stands at a declared halt if it is a HLT.
+    pub fn halts_are_declared(&self, at: Word, word: Word) -> bool
+        ensures { IsTrue result ↔
+            HaltsDeclared (place_of self.now).declaration (meaning_at (place_of self.now) at word)
+            at }
+    {
+        if !self.is_group_2(word) {
+            return true;
+        }
+        if !halts(word) {
+            return true;
+        }
+        either(self.declaration.is_stop(at), self.declaration.is_pause(at))
+    }
+
+    /// Whether each cell that a word may write is a variable or an entry. The one that a JMS itself
+    /// writes doesn't count, here and below.
+    pub fn writes_are_declared(&self, fact: &Fact, at: Word, word: Word) -> bool
+        ensures { IsTrue result ↔ WritesAreDeclared (place_of self.now) (meaning fact.now)
+            (meaning_at (place_of self.now) at word) }
+    {
+        let known = Known::of(fact);
+        let written = self.cells_written(at, word, &known);
+        self.are_declared(&written)
+    }
+
+    /// Whether no cell that a word may write is an entry, save that ISZ may count the running
+    /// routine's own, as its only target, where that isn't seven up already.
+    pub fn entries_are_kept(&self, fact: &Fact, at: Word, word: Word) -> bool
+        ensures { IsTrue result ↔ EntriesAreKept (place_of self.now) (meaning fact.now)
+            (meaning_at (place_of self.now) at word) }
+    {
+        let known = Known::of(fact);
+        let written = self.cells_written(at, word, &known);
+        let counted = self.cell_counted(at, word, &known);
+        self.keeps_entries(&written, &counted)
+    }
+
+    /// Whether each cell that a word may write is one that the running routine may write: one of
+    /// its written set or its own entry; in main any.
+    pub fn writes_are_listed(&self, fact: &Fact, at: Word, word: Word) -> bool
+        ensures { IsTrue result ↔ WritesAreListed (place_of self.now) (writes_of self.now.routine)
+            (meaning fact.now) (meaning_at (place_of self.now) at word) }
+    {
+        let known = Known::of(fact);
+        let written = self.cells_written(at, word, &known);
+        self.may_write(&written)
+    }
+
+    /// Whether each cell that a word may read is on the list of reads, if there is one, or is the
+    /// running routine's own entry.
+    pub fn reads_are_listed(&self, fact: &Fact, at: Word, word: Word) -> bool
+        ensures { IsTrue result ↔ ReadsAreListed (place_of self.now) (meaning fact.now)
+            (meaning_at (place_of self.now) at word) }
+    {
+        let known = Known::of(fact);
+        let read = self.cells_read(at, word, &known);
+        self.are_listed(&read)
+    }
+
+    /// The cells that a word may call: the targets of a JMS; else none.
+    pub fn calls(&self, fact: &Fact, at: Word, word: Word) -> WordSet
+        ensures { SameWords (words result) (called (place_of self.now) (meaning fact.now)
+            (meaning_at (place_of self.now) at word)) }
+    {
+        if !self.is_reference(word) {
+            return WordSet::empty();
+        }
+        if !is_jms(word) {
+            return WordSet::empty();
+        }
+        let known = Known::of(fact);
+        let (_seen, targets) = self.reach(refers_indirectly(word), target(word, at), &known);
+        targets
+    }
+
+    /// Whether a word is a JMS through an auto-index cell, which it steps first.
+    pub fn steps_call_pointer(&self, at: Word, word: Word) -> bool
+        ensures { result ≡ calls_through_index (meaning_at (place_of self.now) at word) }
+    {
+        if !self.is_reference(word) {
+            return false;
+        }
+        if !is_jms(word) {
+            return false;
+        }
+        steps_pointer(refers_indirectly(word), target(word, at))
+    }
+
+    /// The entry through which a word returns: that of a JMP I through one.
+    pub fn returned_entry(&self, at: Word, word: Word) -> Option<Word>
+        ensures { result ≡ returned_through (place_of self.now).declaration
+            (meaning_at (place_of self.now) at word) }
+    {
+        if !self.is_reference(word) {
+            return None;
+        }
+        if !is_jmp(word) {
+            return None;
+        }
+        let named = target(word, at);
+        if both(refers_indirectly(word), self.declaration.is_entry(named)) {
+            Some(named)
+        } else {
+            None
+        }
+    }
+
+    /// The first of the conditions on one word that it breaks, if it breaks one: V3, V5, V14, V6
+    /// and V13, in this order.
+    fn first_broken(&self, fact: &Fact, at: Word, word: Word) -> Option<Condition>
+        ensures { MatchOption result
+            (KeepsConditions (place_of self.now) (writes_of self.now.routine) (meaning fact.now) at
+            (meaning_at (place_of self.now) at word))
+            (BreaksFirst (place_of self.now) (writes_of self.now.routine) (meaning fact.now) at
+            (meaning_at (place_of self.now) at word)) }
+    {
+        if !self.is_supported(word) {
+            return Some(Condition::V3);
+        }
+        if !self.writes_are_declared(fact, at, word) {
+            return Some(Condition::V5);
+        }
+        if !self.entries_are_kept(fact, at, word) {
+            return Some(Condition::V14);
+        }
+        if !self.writes_are_listed(fact, at, word) {
+            return Some(Condition::V6);
+        }
+        if !self.halts_are_declared(at, word) {
+            return Some(Condition::V13);
+        }
+        None
+    }
+}
+
+/// The outcomes of a word at the address of a fact, or the first condition on one word that it
+/// breaks: V3, V5, V14, V6 and V13, in this order.
+pub fn post<'a, A: Allocator>(
+    fact: &'a Fact,
+    at: Word,
+    word: Word,
+    place: &Place<'_, A>,
+) -> Result<Outcomes<'a>, Condition>
+    ensures outcomes { IfOk result (λ given.
+        AgreeingOutcomes (slots given) (outcomes_at (place_of place.now) (meaning fact.now) at
+        word)) }
+    ensures kept { OnOk result (KeepsConditions (place_of place.now) (writes_of place.now.routine)
+        (meaning fact.now) at (meaning_at (place_of place.now) at word)) }
+    ensures broken { IfErr result (BreaksFirst (place_of place.now) (writes_of place.now.routine)
+        (meaning fact.now) at (meaning_at (place_of place.now) at word)) }
+{
+    match place.first_broken(fact, at, word) {
+        Some(condition) => Err(condition),
+        None => Ok(outcomes(fact, at, word, place)),
+    }
+}

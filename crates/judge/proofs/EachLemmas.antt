@@ -1,0 +1,29 @@
+-- Going through a set: each of its words passes, or one of them doesn't.
+use Rattle.std.proofs.Common.{◌≡◌, ℕ, ◌+◌, ◌<◌, Bool, true, false, sym, ◌∙◌, subst, inl, inr, arith}
+use Rattle.std.specs.Prelude.{IsTrue, ◌↔◌}
+use Rattle.std.proofs.lemmas.Bool.{cases_lt, cases_eq, true≢false, false≢true}
+use Rattle.wordset.specs.Words.{Words, IsFirstFrom, HasNoneFrom}
+
+-- A word of the set fails.
+pub one_fails : (p : ℕ → Type 0) (set : Words) {from w : ℕ} (t : Bool) → IsFirstFrom from set w → t ≡ false → (p w → IsTrue t) → IsTrue false ↔ ((a : ℕ) → a < 4096 → set a ≡ true → p a)
+one_fails p set {from} {w} t first fails told = (
+  λ q. absurd (false≢true q),
+  λ each. absurd (true≢false (sym (told (each w first.small first.within)) ∙ fails)),
+)
+
+-- The next word of the set passes.
+pub one_more : (p : ℕ → Type 0) (set : Words) {from w : ℕ} (i : ℕ) → IsFirstFrom from set w → i ≡ w → p w → ((a : ℕ) → a < from → set a ≡ true → p a) → (a : ℕ) → a < i + 1 → set a ≡ true → p a
+one_more p set {from} {w} i first same passes before a lt is = elim (cases_lt a from) [
+  | inl h ↦ before a h is
+  | inr h ↦ elim (cases_eq a w) [
+    | inl e ↦ subst p (sym e) passes
+    | inr n ↦ (let less : a < w = omega arith in absurd (true≢false (sym is ∙ first.before a h less)))
+  ]
+]
+
+-- No word is left.
+pub all_pass : (p : ℕ → Type 0) (set : Words) {from : ℕ} → HasNoneFrom from set → ((a : ℕ) → a < from → set a ≡ true → p a) → (a : ℕ) → a < 4096 → set a ≡ true → p a
+all_pass p set {from} none before a lt is = elim (cases_lt a from) [
+  | inl h ↦ before a h is
+  | inr h ↦ absurd (true≢false (sym is ∙ none a h lt))
+]

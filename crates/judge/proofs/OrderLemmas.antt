@@ -1,0 +1,81 @@
+-- The order of the conditions, and what holds when those at all addresses do.
+use Rattle.std.proofs.Common.{◌≡◌, ℕ, ◌+◌, ◌*◌, ◌<◌, ◌≤◌, false, ◌⊎◌, refl, sym, ap, subst, inl, inr, arith, lit≤, lit<}
+use Rattle.std.specs.Prelude.{if◌then◌else◌}
+use Rattle.std.proofs.lemmas.Bool.{cases_order}
+use Rattle.facts.specs.declared.Condition.{Condition}
+use Rattle.facts.specs.declared.Condition.TheVariants.{V1, V2}
+use Rattle.judge.specs.Conditions.{Case, HoldsAt, StartsWell, IsLine, IsAsked, IsAskedAs, IsValid, IsFirst, is_first_condition, place_among, order}
+use Rattle.judge.specs.Asked.{HoldsBetween, FailsFirst, FailsAtLine}
+
+-- a condition is the one on the start, or it has a later place
+pub record IsLater (v : Condition) : Type 0 where
+  pub later : is_first_condition v ≡ false
+  pub low : 1 ≤ place_among v
+  pub high : place_among v < 15
+
+start_or_later : (v : Condition) → (v ≡ V1) ⊎ IsLater v
+start_or_later V1 = inl refl
+start_or_later _ = inr (record { later = refl; low = lit≤ tt; high = lit< tt })
+
+is_later : (v : Condition) → 1 ≤ place_among v → IsLater v
+is_later V1 le = absurd (omega arith)
+is_later _ le = record { later = refl; low = lit≤ tt; high = lit< tt }
+
+second_or_later : (v : Condition) → 1 ≤ place_among v → (v ≡ V2) ⊎ (2 ≤ place_among v)
+second_or_later V1 le = absurd (omega arith)
+second_or_later V2 le = inl refl
+second_or_later _ le = inr (lit≤ tt)
+
+-- the conditions on words come after the one on lines
+pub after_lines : (j : Case) (n a : ℕ) → HoldsAt j V2 a → HoldsBetween j 2 n a → HoldsBetween j 1 n a
+after_lines j n a two h v le lt =
+    elim (second_or_later v le) [ inl e ↦ subst (λ u. HoldsAt j u a) (sym e) two | inr l ↦ h v l lt ]
+
+-- the condition on the start, where it is asked
+at_start : (j : Case) (v : Condition) (a : ℕ) → StartsWell j j.declaration.start → v ≡ V1 → IsAsked j v a → HoldsAt j v a
+at_start j v a s e =
+    let P : Condition → Type 0 = λ u. IsAsked j u a → HoldsAt j u a in
+    let here : a ≡ j.declaration.start → StartsWell j a = λ q. subst (λ b. StartsWell j b) (sym q) s in
+    subst P (sym e) here
+
+at_line : (j : Case) (v : Condition) (a : ℕ) → IsLater v → IsAsked j v a → (a < 4096) × IsLine j a
+at_line j v a l asked = subst (λ b. IsAskedAs b j a) l.later asked
+
+-- all conditions hold
+pub is_valid : (j : Case) → StartsWell j j.declaration.start → ((a : ℕ) → a < 4096 → HoldsBetween j 1 15 a) → IsValid j
+is_valid j s h v a asked = elim (start_or_later v) [
+  | inl e ↦ at_start j v a s e asked
+  | inr l ↦ h a (at_line j v a l asked).0 v l.low l.high
+]
+
+order_of : (v : Condition) (a : ℕ) → IsLater v → order v a ≡ 16 * a + place_among v
+order_of v a l = ap (λ b. if b then 0 else 16 * a + place_among v) l.later
+
+-- the first that fails, at an address of a line
+earlier : (j : Case) (a b : ℕ) (v u : Condition) → ((c : ℕ) → c < a → HoldsBetween j 1 15 c) → FailsFirst j 1 a v → IsLater u → place_among v < 15 →
+    16 * b + place_among u < 16 * a + place_among v → HoldsAt j u b
+earlier j a b v u h f l high lt = elim (cases_order b a) [
+  | inl e ↦ (let q : place_among u < place_among v = omega arith in subst (λ c. HoldsAt j u c) (sym e) (f.before u l.low q))
+  | inr o ↦ elim o [ inl less ↦ h b less u l.low l.high | inr more ↦ absurd (let low : 1 ≤ place_among u = l.low in omega arith) ]
+]
+
+pub first_at : (j : Case) (v : Condition) (a : ℕ) → StartsWell j j.declaration.start → a < 4096 → ((b : ℕ) → b < a → HoldsBetween j 1 15 b) → FailsAtLine j a v → IsFirst j v a
+first_at j v a s lt h f =
+    let l : IsLater v = is_later v f.first.past in
+    record {
+      asked = subst (λ b. IsAskedAs b j a) (sym l.later) (lt, f.line);
+      fails = f.first.fails;
+      before = λ u b asked less. elim (start_or_later u) [
+        | inl e ↦ at_start j u b s e asked
+        | inr k ↦ (let q : 16 * b + place_among u < 16 * a + place_among v = subst (λ n. n < 16 * a + place_among v) (order_of u b k) (subst (λ n. order u b < n) (order_of v a l) less) in
+            earlier j a b v u h f.first k l.high q)
+      ];
+    }
+
+-- the condition on the start is asked before all others
+pub first_at_start : (j : Case) → (StartsWell j j.declaration.start → ⊥) → IsFirst j V1 j.declaration.start
+first_at_start j h = record {
+  asked = refl;
+  fails = h;
+  before = λ u b asked less. absurd (omega arith);
+}

@@ -1,0 +1,62 @@
+-- What is certified, and why something isn't.
+use Rattle.std.specs.Prelude.{◌≡◌, ◌≢◌, ℕ, ◌⊎◌, Option, List, take}
+use Rattle.bin_tape.specs.Tape.{IsTape}
+use Rattle.bin_tape.specs.Refuses.{Refuses}
+use Rattle.peripherals.specs.Loading.{image_of}
+use Rattle.declaration.specs.Kept as declared
+use Rattle.declaration.specs.Text.{Declares, Fails}
+use Rattle.declaration.specs.Declaration.{Declaration}
+use Rattle.declaration.specs.declared.DeclarationFault.TheVariants as declaration
+use Rattle.certificate.specs.Spelling.{text}
+use Rattle.certificate.specs.Reading.{AreLines}
+use Rattle.certificate.specs.Kept as certified
+use Rattle.certificate.specs.Faults.{HasFault}
+use Rattle.processor.specs.Runs.{Image}
+use Rattle.judge.specs.Conditions.{Case, IsFirst}
+use Rattle.judge.specs.declared.verdict.CertifyFault.{CertifyFault}
+use Rattle.judge.specs.declared.verdict.CertifyFault.TheVariants as fault
+
+-- The words of a tape, a declaration and a certificate, as they are kept.
+pub record Parts : Type 0 where
+  pub image : List (Option ℕ)
+  pub declaration : declared.Kept
+  pub certificate : certified.Kept
+
+-- The tape's words as a map.
+abbrev pub words_of : Parts → Image
+words_of p = image_of p.image
+
+-- The declaration that is meant.
+abbrev pub declaration_of : Parts → Declaration
+declaration_of p = declared.meaning p.declaration
+
+-- What the conditions are asked of.
+abbrev pub case_of : Parts → Case
+case_of p = record { image = words_of p; declaration = declaration_of p; certificate = certified.claims p.certificate }
+
+-- The bytes are a tape, of which at most 65,536 frames are read, with these words.
+abbrev pub IsTapeOf : List ℕ → List (Option ℕ) → Type 0
+IsTapeOf tape image = IsTape (take 65536 tape) image
+
+-- The bytes are a tape, the text of a declaration and the text of a certificate, and say this.
+pub record AreRead (tape declaration certificate : List ℕ) (p : Parts) : Type 0 where
+  pub is_tape : IsTapeOf tape p.image
+  pub declares : Declares declaration (declaration_of p)
+  pub are_lines : AreLines (certified.meaning p.certificate)
+  pub is_text : certificate ≡ text (certified.meaning p.certificate)
+
+-- The bytes are a tape; they declare something.
+abbrev pub IsSomeTape : List ℕ → Type 0
+IsSomeTape tape = (image : List (Option ℕ)) × IsTapeOf tape image
+
+abbrev pub DeclaresSomething : List ℕ → Type 0
+DeclaresSomething text = (d : Declaration) × Declares text d
+
+-- The parts are looked at in the order tape, declaration, certificate, conditions; the first that isn't good refuses, with
+-- its fault. Memory may be wanting for the declaration's list of routines and for the certificate.
+abbrev pub IsRefused : (tape declaration certificate : List ℕ) → CertifyFault → Type 0
+IsRefused t d c (fault.Tape f) = Refuses 65536 t f
+IsRefused t d c (fault.Declaration f) = IsSomeTape t × Fails d f × (f ≢ declaration.NoMemory)
+IsRefused t d c (fault.Certificate f) = IsSomeTape t × DeclaresSomething d × HasFault c f
+IsRefused t d c (fault.Refused r) = (p : Parts) × AreRead t d c p × IsFirst (case_of p) r.condition r.address
+IsRefused t d c fault.NoMemory = IsSomeTape t × (Fails d declaration.NoMemory ⊎ DeclaresSomething d)

@@ -1,0 +1,61 @@
+//! What the checker asks of a certificate.
+
+ghost use Rattle.std.specs.Prelude.{ℕ, ◌≡◌, ◌<◌, true, is_some, IfSome, IfNone};
+ghost use Rattle.wordset.specs.Words.{everything, nothing};
+ghost use Rattle.wordset.specs.Lanes.{words};
+ghost use Rattle.facts.specs.Changes.{with_offsets};
+ghost use Rattle.facts.specs.Meaning.{meaning};
+ghost use Rattle.certificate.specs.Certificate as said;
+ghost use Rattle.certificate.specs.Kept.{claims};
+
+use certificate::{Certificate, Routine};
+use facts::Fact;
+use std::alloc::Allocator;
+use word12::Word;
+
+/// What is claimed of a program: its routines, facts at addresses, and what holds at returns.
+pub trait Claims {
+    /// The certificate that is meant.
+    ghost claims: { Self → said.Certificate };
+
+    /// What is claimed of the routine of an entry, if it is listed. One that isn't has rank 0, no
+    /// sites and no written set.
+    fn routine(&self, entry: Word) -> Option<Routine>
+        ensures listed { is_some result ≡ (claims self.now).listed entry }
+        ensures rank { IfSome result (λ r. r.rank ≡ (claims self.now).rank entry) }
+        ensures sites { IfSome result (λ r. words r.sites ≡ (claims self.now).sites entry) }
+        ensures writes { IfSome result (λ r. words r.writes ≡ (claims self.now).writes entry) }
+        ensures no_rank { IfNone result ((claims self.now).rank entry ≡ 0) }
+        ensures no_sites { IfNone result ((claims self.now).sites entry ≡ nothing) }
+        ensures no_writes { IfNone result ((claims self.now).writes entry ≡ nothing) };
+
+    /// The fact at an address, if there is one.
+    fn fact(&self, at: Word) -> Option<Fact>
+        ensures there { is_some result ≡ (claims self.now).has_fact at }
+        ensures fact { IfSome result (λ f. meaning f ≡ (claims self.now).fact at) };
+
+    /// What holds when the routine of an entry returns by an offset, if that is claimed. It has all
+    /// offsets, since nothing is asked of them.
+    fn exit(&self, entry: Word, offset: usize) -> Option<Fact>
+        ensures there { is_some result ≡ (claims self.now).has_exit entry offset }
+        ensures fact { IfSome result
+            (λ f. with_offsets everything (meaning f) ≡ (claims self.now).exit entry offset) }
+        ensures offsets { IfSome result
+            (λ f. (o : ℕ) → o < 8 → (meaning f).offsets o ≡ true) };
+}
+
+impl<A: Allocator> Claims for Certificate<A> {
+    ghost claims = { claims };
+
+    fn routine(&self, entry: Word) -> Option<Routine> {
+        self.routine(entry)
+    }
+
+    fn fact(&self, at: Word) -> Option<Fact> {
+        self.fact(at)
+    }
+
+    fn exit(&self, entry: Word, offset: usize) -> Option<Fact> {
+        self.exit(entry, offset)
+    }
+}

@@ -1,0 +1,68 @@
+//! The judgement: every condition holds, or one fails before all others.
+
+ghost use Rattle.std.specs.Prelude.{◌≡◌, MatchResult, OnOk};
+ghost use Rattle.peripherals.specs.Loading.{image_of};
+ghost use Rattle.declaration.specs.Kept.{meaning};
+ghost use Rattle.policy.specs.Runs.{IsSafe};
+ghost use Rattle.judge.specs.Judged.{judged};
+ghost use Rattle.judge.specs.Conditions.{IsValid, IsFirst};
+
+use crate::claims::Claims;
+use crate::lines::Case;
+use bin_tape::Image;
+use declaration::Declaration;
+use facts::Condition;
+use std::alloc::Allocator;
+use thiserror::Error;
+use word12::Word;
+
+/// Why a certificate is refused: the first condition that fails, and where.
+#[derive(Clone, Copy, PartialEq, Eq, Debug, Error)]
+#[error("{condition:?} at {address}")]
+pub struct Refusal {
+    /// The condition that fails.
+    pub condition: Condition,
+    /// The address at which it was asked.
+    pub address: Word,
+}
+
+/// Judges what is claimed of a tape's words under a declaration: `Ok` where every condition holds,
+/// and then the program keeps its declaration in every declared run.
+///
+/// # Errors
+///
+/// The first condition that fails, and its address: first the one on the start is asked, then at
+/// each address that a routine, fact or exit line has, by rising address, the others in the order
+/// V2, V3, V5, V14, V6, V13, V7, V8, V9, V10, V12, V11, V4, V15. A refusal says that the claims
+/// don't show the program safe, not that it is unsafe.
+///
+/// No memory is taken: it can't run out.
+pub fn judge<A: Allocator, C: Claims>(
+    image: &Image,
+    declaration: &Declaration<A>,
+    claims: &C,
+) -> Result<(), Refusal>
+    ensures exact { let j = judged image.now declaration.now (C.claims claims.now) in
+        MatchResult result (λ _. IsValid j) (λ r. IsFirst j r.condition r.address) }
+    ensures safe { OnOk result (IsSafe (image_of image.now) (meaning declaration.now)) }
+{
+    declaration.is_declared();
+    let case = Case {
+        image,
+        declaration,
+        claims,
+    };
+    if !case.starts_well() {
+        return Err(Refusal {
+            condition: Condition::V1,
+            address: declaration.start(),
+        });
+    }
+    for at in 0..4096usize {
+        let address = Word::from_index(at);
+        if let Err(condition) = case.check_at(address) {
+            return Err(Refusal { condition, address });
+        }
+    }
+    Ok(())
+}

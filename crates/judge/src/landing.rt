@@ -1,0 +1,116 @@
+//! Where a run goes on after a word: whether there is a fact in the body that is entailed there.
+
+ghost use Rattle.std.specs.Prelude.{ℕ, ◌≡◌, ◌<◌, ◌↔◌, true, IsTrue};
+ghost use Rattle.wordset.specs.Lanes.{words};
+ghost use Rattle.facts.specs.Facts as said;
+ghost use Rattle.facts.specs.Same.{Agree};
+ghost use Rattle.facts.specs.Meaning.{known_of};
+ghost use Rattle.facts.specs.Slots.{outcome_of, slot, slots};
+ghost use Rattle.facts.specs.declared.Condition.TheVariants.{V4};
+ghost use Rattle.judge.specs.Conditions.{LandsAt, OutcomeLands, EachOutcome};
+ghost use Rattle.judge.specs.Spots.{IsSpot, case_of, routine_at, HoldsHere};
+
+use crate::claims::Claims;
+use crate::spot::Spot;
+use facts::{Known, Outcome, outcomes};
+use std::alloc::Allocator;
+use word12::Word;
+use wordset::WordSet;
+
+impl<A: Allocator, C: Claims> Spot<'_, A, C> {
+    /// The routine whose body has the address; none is main.
+    pub(crate) fn owner(&self) -> Option<Word>
+        ensures { result ≡ routine_at self.now }
+    {
+        match &self.place.routine {
+            None => None,
+            Some(running) => Some(running.entry),
+        }
+    }
+
+    /// Whether a routine's body has an address.
+    fn is_inside(&self, owner: &Option<Word>, at: Word) -> bool
+        ensures { result ≡ (case_of C.claims self.now).declaration.body owner.now at }
+    {
+        match owner {
+            None => self.place.declaration.in_main(at),
+            Some(entry) => self.place.declaration.in_body(*entry, at),
+        }
+    }
+
+    /// Whether there is a fact at an address of a routine's body, and what is known entails it.
+    pub(crate) fn lands(&self, owner: &Option<Word>, at: Word, known: &Known<'_>) -> bool
+        ensures { (f : said.Fact) → Agree (known_of known.now) f →
+            IsTrue result ↔ LandsAt (case_of C.claims self.now) owner.now at f }
+    {
+        if !self.is_inside(owner, at) {
+            return false;
+        }
+        match self.claims.fact(at) {
+            None => false,
+            Some(fact) => known.entails(&fact),
+        }
+    }
+
+    /// Whether what is known lands in the same body at each of some addresses.
+    fn lands_at_each(&self, addresses: &WordSet, known: &Known<'_>) -> bool
+        ensures { IsTrue result ↔ ((a : ℕ) → a < 4096 → words addresses.now a ≡ true →
+            LandsAt (case_of C.claims self.now) (routine_at self.now) a (known_of known.now)) }
+    {
+        let owner = self.owner();
+        let mut next = 0usize;
+        while let Some(at) = addresses.first_from(next) {
+            if !self.lands(&owner, at, known) {
+                return false;
+            }
+            next = at.index() + 1;
+        }
+        true
+    }
+
+    /// Whether an outcome that goes on lands wherever it goes.
+    fn outcome_lands(&self, outcome: &Outcome<'_>) -> bool
+        ensures { IsTrue result ↔
+            OutcomeLands (case_of C.claims self.now) (routine_at self.now)
+            (outcome_of outcome.now) }
+    {
+        match outcome {
+            Outcome::Goes(addresses, known) => self.lands_at_each(addresses, known),
+            Outcome::Calls(_, _) | Outcome::Returns(_) => true,
+        }
+    }
+
+    /// Whether an outcome lands, if it is there.
+    fn slot_lands(&self, outcome: &Option<Outcome<'_>>) -> bool
+        ensures { IsTrue result ↔
+            EachOutcome (OutcomeLands (case_of C.claims self.now) (routine_at self.now))
+            (slot outcome.now) }
+    {
+        match outcome {
+            None => true,
+            Some(outcome) => self.outcome_lands(outcome),
+        }
+    }
+
+    /// Whether each of some outcomes lands, so far as they are there.
+    fn each_lands(&self, outcomes: &[Option<Outcome<'_>>]) -> bool
+        ensures { IsTrue result ↔
+            EachOutcome (OutcomeLands (case_of C.claims self.now) (routine_at self.now))
+            (slots outcomes.now) }
+    {
+        for outcome in outcomes {
+            if !self.slot_lands(outcome) {
+                return false;
+            }
+        }
+        true
+    }
+
+    /// Whether each outcome of a word that goes on lands wherever it goes.
+    pub(crate) fn outcomes_land(&self, word: Word) -> bool
+        requires { IsSpot C.claims self.now }
+        ensures { IsTrue result ↔ HoldsHere C.claims self.now V4 word }
+    {
+        self.each_lands(&outcomes(self.fact, self.at, word, &self.place))
+    }
+}

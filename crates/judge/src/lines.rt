@@ -1,0 +1,146 @@
+//! The lines of a certificate at an address, and whether they are where they may be.
+
+ghost use Rattle.std.specs.Prelude.{◌≡◌, ◌↔◌, IsTrue, MatchOption, MatchResult};
+ghost use Rattle.wordset.specs.Words.{some_below};
+ghost use Rattle.facts.specs.Meaning.{meaning};
+ghost use Rattle.facts.specs.Places.{routine_of, sites_of, writes_of};
+ghost use Rattle.judge.specs.Conditions.{StartsWell, IsPlaced, fact_at};
+ghost use Rattle.judge.specs.Asked.{case_kept, names_routine, RoutinesArePlaced, routine_with, sites_with, writes_with, IsBody, HoldsBetween, FailsAtLine};
+
+use crate::claims::Claims;
+use crate::spot::Spot;
+use bin_tape::Image;
+use certificate::Routine;
+use declaration::{Declaration, Owner};
+use facts::{Condition, Fact, Running, holds_before};
+use std::alloc::Allocator;
+use word12::Word;
+
+/// What is judged: a tape's words, a declaration and what is claimed.
+///
+/// Contracts see it as `case_kept` gives it.
+#[derive(Drop)]
+pub(crate) struct Case<'a, A: Allocator, C: Claims> {
+    pub(crate) image: &'a Image,
+    pub(crate) declaration: &'a Declaration<A>,
+    pub(crate) claims: &'a C,
+}
+
+/// The body that has the address of a fact: main's, or that of the routine of an entry, with what is
+/// claimed of it.
+#[derive(Clone, Copy)]
+pub(crate) enum Body {
+    Main,
+    Of(Word, Routine),
+}
+
+impl Body {
+    /// The routine, if it isn't main's.
+    pub(crate) fn running(&self) -> Option<Running<'_>>
+        ensures routine { routine_of result ≡ routine_with self.now }
+        ensures sites { sites_of result ≡ sites_with self.now }
+        ensures writes { writes_of result ≡ writes_with self.now }
+    {
+        match self {
+            Body::Main => None,
+            Body::Of(entry, routine) => Some(Running {
+                entry: *entry,
+                sites: &routine.sites,
+                writes: &routine.writes,
+            }),
+        }
+    }
+}
+
+/// Whether a fact has an offset.
+fn has_offset(fact: &Fact) -> bool
+    ensures { result ≡ some_below 8 (meaning fact.now).offsets }
+{
+    !fact.offsets().is_empty()
+}
+
+impl<A: Allocator, C: Claims> Case<'_, A, C> {
+    /// Whether there is a fact at the start, and it holds of every start.
+    pub(crate) fn starts_well(&self) -> bool
+        ensures { IsTrue result ↔ StartsWell (case_kept C.claims self.now)
+            (case_kept C.claims self.now).declaration.start }
+    {
+        match self.claims.fact(self.declaration.start()) {
+            None => false,
+            Some(fact) => holds_before(&fact, self.image, self.declaration),
+        }
+    }
+
+    /// Whether an exit line has an address.
+    fn has_exit(&self, at: Word) -> bool
+        ensures { result ≡ some_below 8 ((case_kept C.claims self.now).certificate.has_exit at) }
+    {
+        for offset in 0..8usize {
+            if self.claims.exit(at, offset).is_some() {
+                return true;
+            }
+        }
+        false
+    }
+
+    /// Whether the routine and exit lines at an address are where they may be: at an entry.
+    fn routines_are_placed(&self, at: Word) -> bool
+        ensures { IsTrue result ↔ RoutinesArePlaced (case_kept C.claims self.now) at }
+    {
+        if !self.names_routine(at) {
+            return true;
+        }
+        self.declaration.is_entry(at)
+    }
+
+    /// Whether a routine or exit line has an address.
+    fn names_routine(&self, at: Word) -> bool
+        ensures { result ≡ names_routine (case_kept C.claims self.now).certificate at }
+    {
+        if self.claims.routine(at).is_some() {
+            return true;
+        }
+        self.has_exit(at)
+    }
+
+    /// The body that has the address of a fact, if that is where the fact may be: in main's with no
+    /// offset, or in a listed routine's with one.
+    fn body_of(&self, at: Word, fact: &Fact) -> Option<Body>
+        requires { meaning fact.now ≡ fact_at (case_kept C.claims self.now) at }
+        ensures { MatchOption result
+            (IsPlaced (case_kept C.claims self.now) at → ⊥)
+            (λ body. IsBody (case_kept C.claims self.now) at body) }
+    {
+        let owner = self.declaration.owner_of(at)?;
+        let counts = has_offset(fact);
+        match owner {
+            Owner::Main => if counts { None } else { Some(Body::Main) },
+            Owner::Routine(entry) => {
+                let routine = self.claims.routine(entry)?;
+                if counts {
+                    Some(Body::Of(entry, routine))
+                } else {
+                    None
+                }
+            }
+        }
+    }
+
+    /// The first condition that fails at an address, if one does.
+    pub(crate) fn check_at(&self, at: Word) -> Result<(), Condition>
+        ensures { MatchResult result
+            (λ _. HoldsBetween (case_kept C.claims self.now) 1 15 at)
+            (λ v. FailsAtLine (case_kept C.claims self.now) at v) }
+    {
+        if !self.routines_are_placed(at) {
+            return Err(Condition::V2);
+        }
+        let Some(fact) = self.claims.fact(at) else {
+            return Ok(());
+        };
+        let Some(body) = self.body_of(at, &fact) else {
+            return Err(Condition::V2);
+        };
+        Spot::of(self.image, self.declaration, self.claims, &body, at, &fact).check()
+    }
+}

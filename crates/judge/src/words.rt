@@ -1,0 +1,189 @@
+//! What the conditions at one address ask of its possible words.
+
+ghost use Rattle.std.specs.Prelude.{◌≡◌, ◌<◌, ◌≤◌, ◌↔◌, IsTrue, MatchResult, true};
+ghost use Rattle.wordset.specs.Words.{SameWords};
+ghost use Rattle.wordset.specs.Lanes.{words};
+ghost use Rattle.facts.specs.declared.Condition.TheVariants.{V3, V5, V6, V13, V14, V15};
+ghost use Rattle.judge.specs.Conditions.{HoldsAt, HoldsForEach, HasFewWords, place_among};
+ghost use Rattle.judge.specs.Spots.{IsSpot, HoldsHere, case_of};
+ghost use Rattle.judge.specs.Asked.{HoldsBetween, FailsFirst, asks_few, possible_at};
+
+use crate::claims::Claims;
+use crate::spot::Spot;
+use facts::Condition;
+use std::alloc::Allocator;
+use word12::Word;
+use wordset::WordSet;
+
+/// The most words that may be possible at one address.
+const MOST_WORDS: usize = 64;
+
+/// The condition at a place among those that are asked of words at one address.
+fn nth(place: usize) -> Condition
+    requires low { 2 ≤ place }
+    requires high { place < 15 }
+    ensures { place_among result ≡ place }
+{
+    match place {
+        2 => Condition::V3,
+        3 => Condition::V5,
+        4 => Condition::V14,
+        5 => Condition::V6,
+        6 => Condition::V13,
+        7 => Condition::V7,
+        8 => Condition::V8,
+        9 => Condition::V9,
+        10 => Condition::V10,
+        11 => Condition::V12,
+        12 => Condition::V11,
+        13 => Condition::V4,
+        _ => Condition::V15,
+    }
+}
+
+/// Whether a condition asks for few words.
+fn asks_few(condition: Condition) -> bool
+    ensures { result ≡ asks_few condition }
+{
+    matches!(condition, Condition::V3)
+}
+
+impl<A: Allocator, C: Claims> Spot<'_, A, C> {
+    /// The first condition on words that fails here, if one does.
+    pub(crate) fn check(&self) -> Result<(), Condition>
+        requires { IsSpot C.claims self.now }
+        ensures { MatchResult result
+            (λ _. HoldsBetween (case_of C.claims self.now) 2 15 self.now.at)
+            (λ v. FailsFirst (case_of C.claims self.now) 2 self.now.at v) }
+    {
+        let possible = self.possible_words();
+        for place in 2..15usize {
+            let condition = nth(place);
+            if !self.holds(condition, &possible) {
+                return Err(condition);
+            }
+        }
+        Ok(())
+    }
+
+    /// The words that are possible here.
+    fn possible_words(&self) -> WordSet
+        requires { IsSpot C.claims self.now }
+        ensures { SameWords (words result) (possible_at C.claims self.now) }
+    {
+        self.place.possible_words(self.fact, self.at)
+    }
+
+    /// Whether a condition holds here.
+    fn holds(&self, condition: Condition, possible: &WordSet) -> bool
+        requires spot { IsSpot C.claims self.now }
+        requires possible { SameWords (words possible.now) (possible_at C.claims self.now) }
+        requires past { 2 ≤ place_among condition }
+        ensures { IsTrue result ↔ HoldsAt (case_of C.claims self.now) condition self.now.at }
+    {
+        if !self.are_few(condition, possible) {
+            return false;
+        }
+        self.holds_for_each(condition, possible)
+    }
+
+    /// Whether few enough words are possible here, where a condition asks for few.
+    fn are_few(&self, condition: Condition, possible: &WordSet) -> bool
+        requires spot { IsSpot C.claims self.now }
+        requires possible { SameWords (words possible.now) (possible_at C.claims self.now) }
+        ensures { IsTrue result ↔
+            (asks_few condition ≡ true → HasFewWords (case_of C.claims self.now) self.now.at) }
+    {
+        if !asks_few(condition) {
+            return true;
+        }
+        self.place.declaration.is_declared();
+        possible.count() <= MOST_WORDS
+    }
+
+    /// Whether a condition holds of each word that is possible here.
+    fn holds_for_each(&self, condition: Condition, possible: &WordSet) -> bool
+        requires spot { IsSpot C.claims self.now }
+        requires possible { SameWords (words possible.now) (possible_at C.claims self.now) }
+        ensures { IsTrue result ↔ HoldsForEach (case_of C.claims self.now) condition self.now.at }
+    {
+        self.place.declaration.is_declared();
+        let mut next = 0usize;
+        while let Some(word) = possible.first_from(next) {
+            if !self.holds_for(condition, word) {
+                return false;
+            }
+            next = word.index() + 1;
+        }
+        true
+    }
+
+    /// Whether a condition holds of a word here.
+    fn holds_for(&self, condition: Condition, word: Word) -> bool
+        requires { IsSpot C.claims self.now }
+        ensures { IsTrue result ↔ HoldsHere C.claims self.now condition word }
+    {
+        match condition {
+            Condition::V1 | Condition::V2 => true,
+            Condition::V3 => self.is_supported(word),
+            Condition::V4 => self.outcomes_land(word),
+            Condition::V5 => self.writes_are_declared(word),
+            Condition::V6 => self.writes_are_listed(word),
+            Condition::V7 => self.may_call(word),
+            Condition::V8 => self.covers_callees(word),
+            Condition::V9 => self.calls_from_sites(word),
+            Condition::V10 => self.enters_callees(word),
+            Condition::V11 => self.lands_after_calls(word),
+            Condition::V12 => self.returns_well(word),
+            Condition::V13 => self.halts_are_declared(word),
+            Condition::V14 => self.entries_are_kept(word),
+            Condition::V15 => self.reads_are_listed(word),
+        }
+    }
+
+    /// Whether a word has a meaning on the machine that is declared.
+    fn is_supported(&self, word: Word) -> bool
+        ensures { IsTrue result ↔ HoldsHere C.claims self.now V3 word }
+    {
+        self.place.is_supported(word)
+    }
+
+    /// Whether each cell that a word may write is a variable or an entry.
+    fn writes_are_declared(&self, word: Word) -> bool
+        requires { IsSpot C.claims self.now }
+        ensures { IsTrue result ↔ HoldsHere C.claims self.now V5 word }
+    {
+        self.place.writes_are_declared(self.fact, self.at, word)
+    }
+
+    /// Whether a word writes no entry, save where ISZ counts the routine's own.
+    fn entries_are_kept(&self, word: Word) -> bool
+        requires { IsSpot C.claims self.now }
+        ensures { IsTrue result ↔ HoldsHere C.claims self.now V14 word }
+    {
+        self.place.entries_are_kept(self.fact, self.at, word)
+    }
+
+    /// Whether each cell that a word may write is one that the routine may write.
+    fn writes_are_listed(&self, word: Word) -> bool
+        requires { IsSpot C.claims self.now }
+        ensures { IsTrue result ↔ HoldsHere C.claims self.now V6 word }
+    {
+        self.place.writes_are_listed(self.fact, self.at, word)
+    }
+
+    /// Whether a word stands at a declared halt if it is a HLT.
+    fn halts_are_declared(&self, word: Word) -> bool
+        ensures { IsTrue result ↔ HoldsHere C.claims self.now V13 word }
+    {
+        self.place.halts_are_declared(self.at, word)
+    }
+
+    /// Whether each cell that a word may read is on the list of reads, if there is one.
+    fn reads_are_listed(&self, word: Word) -> bool
+        requires { IsSpot C.claims self.now }
+        ensures { IsTrue result ↔ HoldsHere C.claims self.now V15 word }
+    {
+        self.place.reads_are_listed(self.fact, self.at, word)
+    }
+}

@@ -1,0 +1,531 @@
+//! Certified programs: which tapes, declarations and certificates get a yes, and what refuses the
+//! others.
+
+use crate::certificates::HELLO;
+use bin_tape::{Image, write_tape};
+use judge::certify;
+use peripherals::{Event, Start};
+use policy::{Watched, watch};
+use std::alloc::{AllocError, Global};
+use std::test::Fail;
+use testing::Refusing;
+use testing::memory::MemorySink;
+use word12::Word;
+
+/// The words of the program that prints HELLO, from 0200 on.
+const PROGRAM: [u16; 26] = [
+    0o7300, 0o6046, 0o1222, 0o3010, 0o1223, 0o3224, 0o1410, 0o4214, 0o2224, 0o5206, 0o7402, 0o5200,
+    0o0000, 0o6041, 0o5215, 0o6046, 0o7200, 0o5614, 0o0224, 0o7773, 0o0000, 0o0310, 0o0305, 0o0314,
+    0o0314, 0o0317,
+];
+
+/// Its declaration.
+const DECLARED: &[u8] = b"start 0200\nmain 0200-0213\nsub 0214 body 0215-0221 returns 0\n\
+    var 0010 0224\npause 0212\n";
+
+fn word(value: u16) -> Word {
+    Word::new(value).unwrap_or(Word::ZERO)
+}
+
+/// The tape of words that stand in runs from these addresses on.
+fn tape(alloc: Global, runs: &[(u16, &[u16])]) -> Result<MemorySink<Global>, Fail> {
+    let mut image = Image::empty();
+    for (start, words) in runs {
+        let mut at = word(*start);
+        for value in *words {
+            image.set(at, word(*value));
+            at = at.increment();
+        }
+    }
+    let mut sink = MemorySink::new(alloc, 65_536);
+    write_tape(&image, &mut sink)?;
+    Ok(sink)
+}
+
+/// Lines with their line feeds, but for the one of a number, counted from 1.
+fn without(alloc: Global, lines: &[&str], number: usize) -> Result<Vec<u8>, AllocError> {
+    let mut text = Vec::new(alloc);
+    let mut count = 0usize;
+    for line in lines {
+        count = count.wrapping_add(1);
+        if count != number {
+            text.extend_from_slice(line.as_bytes())?;
+            text.push(b'\n')?;
+        }
+    }
+    Ok(text)
+}
+
+/// Lines with another in place of the one of a number, counted from 1.
+fn changed(
+    alloc: Global,
+    lines: &[&str],
+    number: usize,
+    other: &str,
+) -> Result<Vec<u8>, AllocError> {
+    let mut text = Vec::new(alloc);
+    let mut count = 0usize;
+    for line in lines {
+        count = count.wrapping_add(1);
+        let bytes = if count == number {
+            other.as_bytes()
+        } else {
+            line.as_bytes()
+        };
+        text.extend_from_slice(bytes)?;
+        text.push(b'\n')?;
+    }
+    Ok(text)
+}
+
+/// What is said of a tape, a declaration and a certificate: yes, or the fault.
+fn verdict(
+    alloc: Global,
+    tape: &[u8],
+    declaration: &[u8],
+    certificate: &[u8],
+) -> Result<String<Global>, AllocError> {
+    match certify(alloc, tape, declaration, certificate) {
+        Ok(_) => format!(in alloc; "yes"),
+        Err(fault) => format!(in alloc; "{fault}"),
+    }
+}
+
+#[test]
+fn hello_is_certified(rt: HostRuntime) -> Result<(), Fail> {
+    let tape = tape(rt.alloc(), &[(0o200, &PROGRAM)])?;
+    let text = without(rt.alloc(), HELLO.as_slice(), 0)?;
+    let wide = b"start 0200\nmain 0200-0213\nsub 0214 body 0215-0221 returns 0\n\
+        var 0000-0177 0224\npause 0212\n";
+    for declared in [DECLARED, wide] {
+        let said = verdict(rt.alloc(), tape.bytes(), declared, &text)?;
+        assert_eq!(rt; said.as_str(), "yes");
+    }
+    Ok(())
+}
+
+#[test]
+fn a_certified_program_runs(rt: HostRuntime) -> Result<(), Fail> {
+    let tape = tape(rt.alloc(), &[(0o200, &PROGRAM)])?;
+    let text = without(rt.alloc(), HELLO.as_slice(), 0)?;
+    let certified = certify(rt.alloc(), tape.bytes(), DECLARED, &text)?;
+    let mut events = [Event::Step; 138];
+    for round in 0..46 {
+        events[3 * round + 1] = Event::PrinterDone;
+        events[3 * round + 2] = Event::PunchDone;
+    }
+    let start = Start::zero();
+    let told = watch(
+        rt.alloc(),
+        certified.image(),
+        certified.declaration(),
+        &start,
+        &events,
+    )?;
+    assert_eq!(rt; told, Watched::Clean);
+    for count in 0..10 {
+        let heap = Refusing::new(rt.alloc(), count);
+        if let Ok(world) = certified.run(&heap, &start, &events) {
+            assert_eq!(rt; world.halted_at(), Some(word(0o212)));
+            assert_eq!(rt;
+                world.printed(),
+                [0o000, 0o310, 0o305, 0o314, 0o314, 0o317].as_slice()
+            );
+            assert!(rt; count > 0 && !heap.has_refused());
+            return Ok(());
+        }
+        assert!(rt; heap.has_refused());
+    }
+    assert!(rt; false);
+    Ok(())
+}
+
+#[test]
+fn a_line_left_out_is_missed(rt: HostRuntime) -> Result<(), Fail> {
+    let tape = tape(rt.alloc(), &[(0o200, &PROGRAM)])?;
+    let rows: [(&[usize], &str); 26] = [
+        (&[1], "certificate: Version"),
+        (&[2], "V7 at 0207"),
+        (&[3], "V1 at 0200"),
+        (&[4], "V4 at 0200"),
+        (&[5], "V4 at 0201"),
+        (&[6, 7], "V4 at 0202"),
+        (&[8], "V4 at 0204"),
+        (&[9], "certificate: Order 9"),
+        (&[10], "V4 at 0205"),
+        (&[11], "certificate: Order 11"),
+        (&[12, 13, 16, 17, 20, 21, 24], "yes"),
+        (&[14], "V4 at 0206"),
+        (&[15], "certificate: Order 15"),
+        (&[18], "V11 at 0207"),
+        (&[19], "certificate: Order 19"),
+        (&[22], "V4 at 0210"),
+        (&[23], "certificate: Order 23"),
+        (&[25, 26], "V4 at 0211"),
+        (&[27], "V4 at 0210"),
+        (&[28], "V4 at 0212"),
+        (&[29], "V10 at 0207"),
+        (&[30, 31], "V4 at 0215"),
+        (&[32], "V4 at 0217"),
+        (&[33], "V4 at 0220"),
+        (&[34], "V12 at 0221"),
+        (&[35], "certificate: BadLine 35"),
+    ];
+    for (numbers, wanted) in rows {
+        for number in numbers {
+            let text = without(rt.alloc(), HELLO.as_slice(), *number)?;
+            let said = verdict(rt.alloc(), tape.bytes(), DECLARED, &text)?;
+            assert_eq!(rt; said.as_str(), wanted, "line {number}");
+        }
+    }
+    Ok(())
+}
+
+#[test]
+fn a_word_taken_from_a_set_is_missed(rt: HostRuntime) -> Result<(), Fail> {
+    let tape = tape(rt.alloc(), &[(0o200, &PROGRAM)])?;
+    for (number, line, wanted) in [
+        (3, "fact 0200 ac 0000-7776 link 01 offsets -", "V1 at 0200"),
+        (12, "cell 0010 0224-0227", "V4 at 0211"),
+        (13, "cell 0224 7773-7776", "V4 at 0211"),
+        (
+            15,
+            "fact 0207 ac 0305,0310,0314 link 0 offsets -",
+            "V4 at 0206",
+        ),
+        (16, "cell 0010 0225-0230", "V4 at 0206"),
+        (17, "cell 0224 7773-7776", "V4 at 0206"),
+        (20, "cell 0010 0225-0230", "V11 at 0207"),
+        (21, "cell 0224 7773-7776", "V11 at 0207"),
+        (24, "cell 0010 0225-0230", "yes"),
+        (25, "cell 0224 7774-7776", "V4 at 0210"),
+        (
+            29,
+            "fact 0215 ac 0305,0310,0314 link 0 offsets 0",
+            "V10 at 0207",
+        ),
+        (
+            30,
+            "fact 0216 ac 0305,0310,0314 link 0 offsets 0",
+            "V4 at 0215",
+        ),
+        (
+            31,
+            "fact 0217 ac 0305,0310,0314 link 0 offsets 0",
+            "V4 at 0215",
+        ),
+        (
+            32,
+            "fact 0220 ac 0305,0310,0314 link 0 offsets 0",
+            "V4 at 0217",
+        ),
+    ] {
+        let text = changed(rt.alloc(), HELLO.as_slice(), number, line)?;
+        let said = verdict(rt.alloc(), tape.bytes(), DECLARED, &text)?;
+        assert_eq!(rt; said.as_str(), wanted, "line {number}");
+    }
+    Ok(())
+}
+
+#[test]
+fn changes_of_a_certificate_are_seen(rt: HostRuntime) -> Result<(), Fail> {
+    let tape = tape(rt.alloc(), &[(0o200, &PROGRAM)])?;
+    for (number, line, wanted) in [
+        (1, "PDP8-CERTIFICATE 2", "certificate: BadLine 3"),
+        (1, "PDP8-CERTIFICATE 3", "certificate: Version"),
+        (2, "routine 0214 rank 00 sites - writes -", "V9 at 0207"),
+        (2, "routine 0214 rank 05 sites 0207 writes -", "yes"),
+        (13, "cell 0224 7774-7777", "V4 at 0205"),
+    ] {
+        let text = changed(rt.alloc(), HELLO.as_slice(), number, line)?;
+        let said = verdict(rt.alloc(), tape.bytes(), DECLARED, &text)?;
+        assert_eq!(rt; said.as_str(), wanted, "line {number}");
+    }
+    Ok(())
+}
+
+#[test]
+fn declarations_of_hello_are_judged(rt: HostRuntime) -> Result<(), Fail> {
+    let tape = tape(rt.alloc(), &[(0o200, &PROGRAM)])?;
+    let text = without(rt.alloc(), HELLO.as_slice(), 0)?;
+    for (declared, wanted) in [
+        (
+            "start 0200\nmain 0200-0213 0215-0221\nvar 0010 0224\npause 0212\n",
+            "V7 at 0207",
+        ),
+        (
+            "start 0200\nmain 0200-0213\nsub 0214 body 0215-0221 returns 0\nvar 0010 0224\n",
+            "V13 at 0212",
+        ),
+        ("main 9\n", "declaration: BadLine 1"),
+    ] {
+        let said = verdict(rt.alloc(), tape.bytes(), declared.as_bytes(), &text)?;
+        assert_eq!(rt; said.as_str(), wanted);
+    }
+    for (reads, wanted) in [
+        ("read 0010 0222-0231\n", "yes"),
+        ("read 0010 0222-0230\n", "V15 at 0206"),
+        ("read\n", "V15 at 0202"),
+        ("profile 8e\n", "yes"),
+    ] {
+        let declared = format!(in rt.alloc();
+            "start 0200\nmain 0200-0213\nsub 0214 body 0215-0221 returns 0\nvar 0010 0224\npause 0212\n{reads}"
+        )?;
+        let said = verdict(rt.alloc(), tape.bytes(), declared.as_bytes(), &text)?;
+        assert_eq!(rt; said.as_str(), wanted);
+    }
+    Ok(())
+}
+
+#[test]
+fn an_empty_tape_is_refused_first(rt: HostRuntime) -> Result<(), Fail> {
+    for declared in [DECLARED, b"main 9"] {
+        let said = verdict(rt.alloc(), &[], declared, b"")?;
+        assert_eq!(rt; said.as_str(), "tape: NoWord");
+    }
+    Ok(())
+}
+
+/// A program whose next word is computed, and its certificate.
+const COMPUTED: [&str; 11] = [
+    "PDP8-CERTIFICATE 1",
+    "fact 0200 ac 0000-7777 link 01 offsets -",
+    "fact 0201 ac 0000-7777 link 01 offsets -",
+    "fact 0202 ac 0000 link 01 offsets -",
+    "fact 0203 ac 0000-0001 link 01 offsets -",
+    "fact 0204 ac 5206-5207 link 01 offsets -",
+    "fact 0205 ac 0000 link 01 offsets -",
+    "cell 0205 5206-5207",
+    "fact 0206 ac 0000 link 01 offsets -",
+    "fact 0207 ac 0000 link 01 offsets -",
+    "end",
+];
+
+#[test]
+fn computed_words_are_bounded(rt: HostRuntime) -> Result<(), Fail> {
+    let words = [
+        0o7604, 0o7640, 0o1211, 0o1212, 0o3205, 0o0000, 0o7402, 0o7402,
+    ];
+    let tape = tape(rt.alloc(), &[(0o200, &words), (0o211, &[0o0001, 0o5206])])?;
+    let declared = b"start 0200\nmain 0200-0207\nvar 0205\nstop 0206 0207\n";
+    for (number, wanted) in [
+        (0, "yes"),
+        (1, "certificate: Version"),
+        (2, "V1 at 0200"),
+        (3, "V4 at 0200"),
+        (4, "V4 at 0201"),
+        (5, "V4 at 0201"),
+        (6, "V4 at 0203"),
+        (7, "V4 at 0203"),
+        (8, "V3 at 0205"),
+        (9, "V4 at 0205"),
+        (10, "V4 at 0205"),
+        (11, "certificate: BadLine 11"),
+    ] {
+        let text = without(rt.alloc(), COMPUTED.as_slice(), number)?;
+        let said = verdict(rt.alloc(), tape.bytes(), declared, &text)?;
+        assert_eq!(rt; said.as_str(), wanted, "line {number}");
+    }
+    for (number, line, wanted) in [
+        (5, "fact 0203 ac 0000 link 01 offsets -", "V4 at 0202"),
+        (6, "fact 0204 ac 5206 link 01 offsets -", "V4 at 0203"),
+        (8, "cell 0205 5206", "V4 at 0204"),
+        (8, "cell 0205 0000-7777", "V3 at 0205"),
+    ] {
+        let text = changed(rt.alloc(), COMPUTED.as_slice(), number, line)?;
+        let said = verdict(rt.alloc(), tape.bytes(), declared, &text)?;
+        assert_eq!(rt; said.as_str(), wanted, "line {number}");
+    }
+    Ok(())
+}
+
+/// A routine that takes the word after its call, and returns past it.
+const ARGUMENT: [&str; 10] = [
+    "PDP8-CERTIFICATE 1",
+    "routine 0210 rank 00 sites 0201 writes -",
+    "fact 0200 ac 0000-7777 link 01 offsets -",
+    "fact 0201 ac 0000 link 0 offsets -",
+    "fact 0203 ac 0005 link 0 offsets -",
+    "fact 0211 ac 0000 link 0 offsets 0",
+    "fact 0212 ac 0005 link 0 offsets 0",
+    "fact 0213 ac 0005 link 0 offsets 1",
+    "exit 0210 1 ac 0005 link 0",
+    "end",
+];
+
+#[test]
+fn a_routine_returns_past_its_argument(rt: HostRuntime) -> Result<(), Fail> {
+    let tape = tape(
+        rt.alloc(),
+        &[
+            (0o200, &[0o7300, 0o4210, 0o0005, 0o7402]),
+            (0o210, &[0o0000, 0o1610, 0o2210, 0o5610]),
+        ],
+    )?;
+    let text = without(rt.alloc(), ARGUMENT.as_slice(), 0)?;
+    for (offsets, reads, wanted) in [
+        ("1", "", "yes"),
+        ("0", "", "V12 at 0213"),
+        ("1", "read 0202\n", "yes"),
+        ("1", "read 0203\n", "V15 at 0211"),
+    ] {
+        let declared = format!(in rt.alloc();
+            "start 0200\nmain 0200-0201 0203\nsub 0210 body 0211-0213 returns {offsets}\nstop 0203\n{reads}"
+        )?;
+        let said = verdict(rt.alloc(), tape.bytes(), declared.as_bytes(), &text)?;
+        assert_eq!(rt; said.as_str(), wanted);
+    }
+    Ok(())
+}
+
+/// Two routines that call one another, with facts and exits that allow everything.
+const NESTED: [&str; 14] = [
+    "PDP8-CERTIFICATE 1",
+    "routine 0210 rank 01 sites 0200,0224 writes 0220",
+    "routine 0220 rank 00 sites 0211 writes -",
+    "fact 0200 ac 0000-7777 link 01 offsets -",
+    "fact 0201 ac 0000-7777 link 01 offsets -",
+    "fact 0211 ac 0000-7777 link 01 offsets 0",
+    "fact 0212 ac 0000-7777 link 01 offsets 0",
+    "fact 0221 ac 0000-7777 link 01 offsets 0",
+    "fact 0222 ac 0000-7777 link 01 offsets 0",
+    "fact 0223 ac 0000-7777 link 01 offsets 0",
+    "fact 0224 ac 0000-7777 link 01 offsets 0",
+    "fact 0225 ac 0000-7777 link 01 offsets 0",
+    "exit 0210 0 ac 0000-7777 link 01",
+    "exit 0220 0 ac 0000-7777 link 01",
+];
+
+#[test]
+fn routines_call_those_of_lower_rank(rt: HostRuntime) -> Result<(), Fail> {
+    let tape = tape(
+        rt.alloc(),
+        &[
+            (0o200, &[0o4210, 0o7402]),
+            (0o210, &[0o0000, 0o4220, 0o5610]),
+            (0o220, &[0o0000, 0o6031, 0o5620, 0o6032, 0o4210, 0o5620]),
+        ],
+    )?;
+    let declared = b"start 0200\nmain 0200-0201\nsub 0210 body 0211-0212 returns 0\n\
+        sub 0220 body 0221-0225 returns 0\nstop 0201\n";
+    for (first, second, wanted) in [
+        ("01", "00", "V7 at 0224"),
+        ("00", "01", "V7 at 0211"),
+        ("00", "00", "V7 at 0211"),
+    ] {
+        let mut lines = NESTED;
+        let one = format!(in rt.alloc(); "routine 0210 rank {first} sites 0200,0224 writes 0220")?;
+        let other = format!(in rt.alloc(); "routine 0220 rank {second} sites 0211 writes -")?;
+        lines[1] = one.as_str();
+        lines[2] = other.as_str();
+        let mut text = without(rt.alloc(), lines.as_slice(), 0)?;
+        text.extend_from_slice(b"end\n")?;
+        let said = verdict(rt.alloc(), tape.bytes(), declared, &text)?;
+        assert_eq!(rt; said.as_str(), wanted);
+    }
+    Ok(())
+}
+
+#[test]
+fn pointers_stay_among_the_variables(rt: HostRuntime) -> Result<(), Fail> {
+    let words = [
+        0o7200, 0o1207, 0o3010, 0o3410, 0o2210, 0o5203, 0o7402, 0o0277, 0o7773,
+    ];
+    let bounded = tape(rt.alloc(), &[(0o200, &words)])?;
+    let said = verdict(
+        rt.alloc(),
+        bounded.bytes(),
+        b"start 0200\nmain 0200-0206\nvar 0010 0210 0300-0303\nstop 0206\n",
+        b"PDP8-CERTIFICATE 1\n\
+        fact 0200 ac 0000-7777 link 01 offsets -\n\
+        fact 0201 ac 0000 link 01 offsets -\n\
+        fact 0202 ac 0277 link 01 offsets -\n\
+        fact 0203 ac 0000 link 01 offsets -\n\
+        cell 0010 0277-0303\n\
+        fact 0204 ac 0000 link 01 offsets -\n\
+        fact 0205 ac 0000 link 01 offsets -\n\
+        fact 0206 ac 0000 link 01 offsets -\n\
+        end\n",
+    )?;
+    assert_eq!(rt; said.as_str(), "V5 at 0203");
+    let unset = tape(rt.alloc(), &[(0o200, &[0o7200, 0o3700, 0o7402])])?;
+    let said = verdict(
+        rt.alloc(),
+        unset.bytes(),
+        b"start 0200\nmain 0200-0202\nvar 0000\nstop 0202\n",
+        b"PDP8-CERTIFICATE 1\n\
+        fact 0200 ac 0000-7777 link 01 offsets -\n\
+        fact 0201 ac 0000 link 01 offsets -\n\
+        fact 0202 ac 0000 link 01 offsets -\n\
+        end\n",
+    )?;
+    assert_eq!(rt; said.as_str(), "V5 at 0201");
+    Ok(())
+}
+
+#[test]
+fn no_call_comes_from_the_last_cells(rt: HostRuntime) -> Result<(), Fail> {
+    let tape = tape(
+        rt.alloc(),
+        &[
+            (0o0000, &[0o7402]),
+            (0o0020, &[0o0000, 0o5420]),
+            (0o7777, &[0o4020]),
+        ],
+    )?;
+    let said = verdict(
+        rt.alloc(),
+        tape.bytes(),
+        b"start 7777\nmain 7777 0000\nsub 0020 body 0021 returns 0\nstop 0000\n",
+        b"PDP8-CERTIFICATE 1\n\
+        routine 0020 rank 00 sites 7777 writes -\n\
+        fact 0000 ac 0000-7777 link 01 offsets -\n\
+        fact 0021 ac 0000-7777 link 01 offsets 0\n\
+        fact 7777 ac 0000-7777 link 01 offsets -\n\
+        exit 0020 0 ac 0000-7777 link 01\n\
+        end\n",
+    )?;
+    assert_eq!(rt; said.as_str(), "V9 at 7777");
+    Ok(())
+}
+
+/// Facts of a program for the PDP-8/E.
+const WITH_MQ: [&str; 7] = [
+    "PDP8-CERTIFICATE 2",
+    "fact 0200 ac 0000-7777 mq 0000-7777 link 01 offsets -",
+    "fact 0201 ac 0000 mq 0000 link 01 offsets -",
+    "fact 0202 ac 0001 mq 0000 link 01 offsets -",
+    "fact 0203 ac 0000 mq 0001 link 01 offsets -",
+    "fact 0204 ac 0001 mq 0001 link 01 offsets -",
+    "end",
+];
+
+#[test]
+fn mq_is_followed_on_the_8e(rt: HostRuntime) -> Result<(), Fail> {
+    let tape = tape(
+        rt.alloc(),
+        &[(0o200, &[0o7621, 0o7001, 0o7421, 0o7501, 0o7402])],
+    )?;
+    let declared = b"profile 8e\nstart 0200\nmain 0200-0204\nstop 0204\n";
+    for (number, line, wanted) in [
+        (1, "PDP8-CERTIFICATE 2", "yes"),
+        (
+            6,
+            "fact 0204 ac 0001 mq 0000 link 01 offsets -",
+            "V4 at 0203",
+        ),
+        (
+            2,
+            "fact 0200 ac 0000-7777 mq 0000-7776 link 01 offsets -",
+            "V1 at 0200",
+        ),
+    ] {
+        let text = changed(rt.alloc(), WITH_MQ.as_slice(), number, line)?;
+        let said = verdict(rt.alloc(), tape.bytes(), declared, &text)?;
+        assert_eq!(rt; said.as_str(), wanted);
+    }
+    let text = without(rt.alloc(), WITH_MQ.as_slice(), 0)?;
+    let said = verdict(rt.alloc(), tape.bytes(), &declared[11..], &text)?;
+    assert_eq!(rt; said.as_str(), "V3 at 0200");
+    Ok(())
+}

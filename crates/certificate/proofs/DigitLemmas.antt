@@ -16,7 +16,7 @@ unfoldable pub digits_from : ℕ → ℕ → Words → List ℕ
 digits_from zero n s = []
 digits_from (suc k) n s = digit_at s n ++ digits_from k (n + 1) s
 
-digits_split : (k n : ℕ) (s : Words) → digits (k + n) s ≡ digits n s ++ digits_from k n s
+pub digits_split : (k n : ℕ) (s : Words) → digits (k + n) s ≡ digits n s ++ digits_from k n s
 unfolding digits digits_from
 digits_split zero n s = let e : 0 + n ≡ n = omega arith in rw e (sym (append-nil (digits n s)))
 digits_split (suc k) n s =
@@ -25,7 +25,7 @@ digits_split (suc k) n s =
     ap (λ m. digits m s) e ∙ (digits_split k (suc n) s ∙ (append_assoc (digits n s) (digit_at s n) (digits_from k (suc n) s) ∙
     ap (λ m. digits n s ++ (digit_at s n ++ digits_from k m s)) (sym f)))
 
-digits_none : (s : Words) → digits 0 s ≡ []
+pub digits_none : (s : Words) → digits 0 s ≡ []
 unfolding digits
 digits_none s = refl
 
@@ -33,15 +33,15 @@ digits_more : (n : ℕ) (s : Words) → digits (n + 1) s ≡ digits n s ++ digit
 unfolding digits
 digits_more n s = let e : n + 1 ≡ suc n = omega arith in rw e refl
 
-from_none : (n : ℕ) (s : Words) → digits_from 0 n s ≡ []
+pub from_none : (n : ℕ) (s : Words) → digits_from 0 n s ≡ []
 unfolding digits_from
 from_none n s = refl
 
-from_more : (k n : ℕ) (s : Words) → digits_from (suc k) n s ≡ digit_at s n ++ digits_from k (n + 1) s
+pub from_more : (k n : ℕ) (s : Words) → digits_from (suc k) n s ≡ digit_at s n ++ digits_from k (n + 1) s
 unfolding digits_from
 from_more k n s = refl
 
-digits_same : (n : ℕ) (s t : Words) → ((v : ℕ) → v < n → s v ≡ t v) → digits n s ≡ digits n t
+pub digits_same : (n : ℕ) (s t : Words) → ((v : ℕ) → v < n → s v ≡ t v) → digits n s ≡ digits n t
 unfolding digits
 digits_same zero s t h = refl
 digits_same (suc n) s t h =
@@ -49,7 +49,7 @@ digits_same (suc n) s t h =
     let f : s n ≡ t n = h n (omega arith) in rw (e, f) refl
 
 -- A digit before n isn't next.
-other_digit : (k n m : ℕ) (s : Words) (tail r : List ℕ) → EndsField tail → m < n → digits_from k n s ++ tail ≡ (48 + m) ∷ r → ⊥
+pub other_digit : (k n m : ℕ) (s : Words) (tail r : List ℕ) → EndsField tail → m < n → digits_from k n s ++ tail ≡ (48 + m) ∷ r → ⊥
 unfolding digits_from
 other_digit zero n m s [] r ends h e = absurd (cc)
 other_digit zero n m s (c ∷ cs) r ends h e = let z : c ≡ 48 + m = cc in omega arith
@@ -105,7 +105,7 @@ without_digit c n s h e =
     let f : digit_at s n ≡ [] = rw e refl in
     ap (λ k. digits_from k n s) z ∙ (from_more (c - (n + 1)) n s ∙ ap (λ (x : List ℕ). x ++ digits_from (c - (n + 1)) (n + 1) s) f)
 
-by_digit : (s : Words) (n : ℕ) → (s n ≡ true) ⊎ (s n ≡ false)
+pub by_digit : (s : Words) (n : ℕ) → (s n ≡ true) ⊎ (s n ≡ false)
 by_digit s n = go (s n)
   where
     go : (b : Bool) → (b ≡ true) ⊎ (b ≡ false)
@@ -229,7 +229,7 @@ no_offsets t none = rw (some_none_of 8 t none) refl
 pub some_offsets : (t : Words) → some_below 8 t ≡ true → offsets_text t ≡ digits 8 t
 some_offsets t e = rw e refl
 
-by_offsets : (s : Words) → (some_below 8 s ≡ true) ⊎ ((v : ℕ) → v < 8 → s v ≡ false)
+pub by_offsets : (s : Words) → (some_below 8 s ≡ true) ⊎ ((v : ℕ) → v < 8 → s v ≡ false)
 by_offsets s = go (some_below 8 s) refl
   where
     go : (b : Bool) → some_below 8 s ≡ b → (some_below 8 s ≡ true) ⊎ ((v : ℕ) → v < 8 → s v ≡ false)
@@ -237,7 +237,7 @@ by_offsets s = go (some_below 8 s) refl
     go false e = inr (none_of_some 8 s e)
 
 -- Digits don't begin with a dash.
-digit_first : (k n : ℕ) (s : Words) (tail r : List ℕ) → EndsField tail → digits_from k n s ++ tail ≡ 45 ∷ r → ⊥
+pub digit_first : (k n : ℕ) (s : Words) (tail r : List ℕ) → EndsField tail → digits_from k n s ++ tail ≡ 45 ∷ r → ⊥
 unfolding digits_from
 digit_first zero n s [] r ends e = absurd (cc)
 digit_first zero n s (c ∷ cs) r ends e = let z : c ≡ 45 = cc in omega arith
@@ -248,7 +248,7 @@ digit_first (suc k) n s tail r ends e = go (s n) refl (digit_first k (n + 1) s t
         let z : 48 + n ≡ 45 = cc in omega arith)
     go false q more = more (rw q at e)
 
-all_from : (s : Words) → digits 8 s ≡ digits_from 8 0 s
+pub all_from : (s : Words) → digits 8 s ≡ digits_from 8 0 s
 all_from s = digits_split 8 0 s ∙ ap (λ (x : List ℕ). x ++ digits_from 8 0 s) (digits_none s)
 
 -- What a call that reads offsets says.

@@ -6,6 +6,14 @@ pub mod DigitLemmas
 pub mod LineLemmas
 pub mod ParserLemmas
 pub mod LengthLemmas
+pub mod OneFieldLemmas
+pub mod OneLineLemmas
+pub mod OneTextLemmas
+pub mod TextOrderLemmas
+pub mod OneFaultLemmas
+pub mod FromOrderLemmas
+pub mod SameTextLemmas
+pub mod SameMeaningLemmas
 pub mod GatherLemmas
 pub mod FormLemmas
 pub mod FoundLemmas

@@ -57,10 +57,10 @@ pub record RunRead (from : ℕ) (old now : Option (List ℕ)) (low high : ℕ) :
   pub only : (l h : ℕ) (r : List ℕ) → from ≤ l → l ≤ h → h < 4096 → NoDash r → old ≡ Some (run_text l h ++ r) →
       (low ≡ l) × (high ≡ h) × (now ≡ Some r)
 
-no_comma : (s : Words) (low : ℕ) → ((v : ℕ) → v < low → s v ≡ false) → comma s low ≡ []
+pub no_comma : (s : Words) (low : ℕ) → ((v : ℕ) → v < low → s v ≡ false) → comma s low ≡ []
 no_comma s low none = rw (some_none_of low s none) refl
 
-a_comma : (s : Words) (low : ℕ) → some_below low s ≡ true → comma s low ≡ 44 ∷ []
+pub a_comma : (s : Words) (low : ℕ) → some_below low s ≡ true → comma s low ≡ 44 ∷ []
 a_comma s low e = rw e refl
 
 -- At the beginning.
@@ -102,7 +102,7 @@ some_of : (s t : Words) (n low : ℕ) → SameBelow n s t → n ≤ low → low 
 some_of s t n low same h small w = some_from low s w.at (let p : w.at < n = w.small in omega arith) (same w.at w.small (let p : w.at < n = w.small in omega arith) ∙ w.holds)
 
 -- Before a further run there is a comma.
-comma_rest : (s t : Words) (n low high : ℕ) → SameBelow n s t → IsSome n t → Run s n low high →
+pub comma_rest : (s t : Words) (n low high : ℕ) → SameBelow n s t → IsSome n t → Run s n low high →
     rest s n ≡ 44 ∷ (run_text low high ++ rest s (high + 2))
 comma_rest s t n low high same some run =
     let f : rest s n ≡ comma s low ++ run_text low high ++ rest s (high + 2) = run_rest s n low high run in
@@ -229,7 +229,7 @@ at_some : {X : Type 0} (P : X → Type 0) (o : Option X) (x : X) → IfSome o P 
 at_some P None x h e = absurd (cc)
 at_some P (Some y) x h e = let z : y ≡ x = cc in subst P z h
 
-no_dash : (s : Words) (n low high : ℕ) (tail : List ℕ) → Run s n low high → EndsField tail → NoDash (rest s (high + 2) ++ tail)
+pub no_dash : (s : Words) (n low high : ℕ) (tail : List ℕ) → Run s n low high → EndsField tail → NoDash (rest s (high + 2) ++ tail)
 no_dash s n low high tail run ends = elim (next_run s (high + 2) (starts_after s n low high run)) [
   | inl none ↦ (let e : rest s (high + 2) ≡ [] = none_rest s (high + 2) none in rw e (ended tail ends))
   | inr r ↦ (let e : rest s (high + 2) ≡ 44 ∷ (run_text r.low r.high ++ rest s (r.high + 2)) =
@@ -382,10 +382,10 @@ pub ending : (old now next : Option (List ℕ)) (t : Words) (n : ℕ) → AfterR
     ((r : List ℕ) → now ≡ Some (44 ∷ r) → (false ≡ true) × (next ≡ Some r)) → SetRead old next t
 ending old now next t n h same none = rw same (at_end old now t n h (λ r e. false≢true (none r e).0))
 
-empty_text : (t : Words) → ((v : ℕ) → v < 4096 → t v ≡ false) → set_text t ≡ 45 ∷ []
+pub empty_text : (t : Words) → ((v : ℕ) → v < 4096 → t v ≡ false) → set_text t ≡ 45 ∷ []
 empty_text t none = rw (some_none_of 4096 t none) refl
 
-full_text : (t : Words) → has_some t ≡ true → set_text t ≡ marks 4096 t
+pub full_text : (t : Words) → has_some t ≡ true → set_text t ≡ marks 4096 t
 full_text t e = rw e refl
 
 -- What a call that reads a set says.
@@ -394,7 +394,7 @@ pub record FieldRead (old now : Option (List ℕ)) (t : Words) : Type 0 where
   pub only : (s : Words) (tail : List ℕ) → EndsField tail → old ≡ Some (set_text s ++ tail) → SameWords t s × (now ≡ Some tail)
 
 -- A set is empty, or has a word.
-by_words : (s : Words) → (has_some s ≡ true) ⊎ ((v : ℕ) → v < 4096 → s v ≡ false)
+pub by_words : (s : Words) → (has_some s ≡ true) ⊎ ((v : ℕ) → v < 4096 → s v ≡ false)
 by_words s = go (has_some s) refl
   where
     go : (b : Bool) → has_some s ≡ b → (has_some s ≡ true) ⊎ ((v : ℕ) → v < 4096 → s v ≡ false)

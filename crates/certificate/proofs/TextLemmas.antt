@@ -11,7 +11,7 @@ use Rattle.certificate.specs.Reading.{Each, IsTracked, IsEquation, IsStatement, 
 use Rattle.certificate.specs.Line.{Line, RoutineIs, FactIs, ExitIs, CellIs, EquationIs, End, IsLine, IsRegisters, line_text, words_text, registers_of, details, lines_of_fact, lines_of_exit, lines_of, ended, all_ended, TextLaw}
 
 -- Equal fronts and equal rests.
-joined : {a b c d : List ℕ} → a ≡ b → c ≡ d → a ++ c ≡ b ++ d
+pub joined : {a b c d : List ℕ} → a ≡ b → c ≡ d → a ++ c ≡ b ++ d
 joined p q = cc
 
 cells_ended : (v : Version) (cs : List TrackedCell) → flat_map cell_text cs ≡ all_ended v (map CellIs cs)
@@ -22,7 +22,7 @@ equations_ended : (v : Version) (es : List Equation) → flat_map equation_text 
 equations_ended v [] = refl
 equations_ended v (e ∷ es) = ap (λ (rest : List ℕ). equation_text e ++ rest) (equations_ended v es)
 
-both_ended : (v : Version) (ls ms : List Line) → all_ended v (ls ++ ms) ≡ all_ended v ls ++ all_ended v ms
+pub both_ended : (v : Version) (ls ms : List Line) → all_ended v (ls ++ ms) ≡ all_ended v ls ++ all_ended v ms
 both_ended v ls ms = flat_map-append (λ l. ended (line_text v l)) ls ms
 
 details_ended : (v : Version) (s : Statement) → details_text s ≡ all_ended v (details s)
@@ -36,7 +36,7 @@ routines_ended : (v : Version) (rs : List RoutineLine) → flat_map routine_text
 routines_ended v [] = refl
 routines_ended v (r ∷ rs) = joined (routine_ended v r) (routines_ended v rs)
 
-seam : (a b : List ℕ) → a ++ 10 ∷ b ≡ ended a ++ b
+pub seam : (a b : List ℕ) → a ++ 10 ∷ b ≡ ended a ++ b
 seam a b = sym (append_assoc a (10 ∷ []) b)
 
 fact_ended : (v : Version) (f : FactLine) → fact_text v f ≡ all_ended v (lines_of_fact f)

@@ -12,3 +12,4 @@ pub mod Parser
 pub mod Gathered
 pub mod Found
 pub mod Kept
+pub mod Exact

@@ -15,6 +15,7 @@ ghost use Rattle.certificate.specs.Reading.{AreLines};
 ghost use Rattle.certificate.specs.Kept.{meaning, claims};
 ghost use Rattle.certificate.specs.Sample.{SampleLaw};
 ghost use Rattle.certificate.specs.Line.{TextLaw};
+ghost use Rattle.certificate.specs.Exact.{SpellingLaw, MeaningLaw, ReadingLaw, FaultLaw};
 
 use crate::lines::{KeptLines, first_exit, first_fact, first_routine};
 use crate::parser::Parser;
@@ -207,6 +208,28 @@ pub fn sample_law()
 /// of the end, in this order, each with a line feed.
 pub fn text_law()
     ensures { TextLaw }
+{}
+
+/// A text has one meaning: lines of one text say the same, and certificates have one text exactly
+/// where they say the same.
+pub fn spelling_law()
+    ensures { SpellingLaw }
+{}
+
+/// Certificates that say the same line by line claim the same of each routine, address and exit.
+pub fn meaning_law()
+    ensures { MeaningLaw }
+{}
+
+/// The text of a certificate's lines is a text of lines in order, unless it's longer than what is
+/// read, and each text of lines in order is a certificate's.
+pub fn reading_law()
+    ensures { ReadingLaw }
+{}
+
+/// A certificate's text has no fault, and no text has two.
+pub fn fault_law()
+    ensures { FaultLaw }
 {}
 
 #[cfg(test)]

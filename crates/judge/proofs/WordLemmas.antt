@@ -1,37 +1,19 @@
 -- What holds of each possible word at an address.
-use Rattle.std.proofs.Common.{◌≡◌, ℕ, ◌<◌, ◌≤◌, Bool, true, false, refl, sym, ◌∙◌, subst, zero, suc, arith}
+use Rattle.std.proofs.Common.{◌≡◌, ℕ, ◌<◌, ◌≤◌, Bool, true, refl, sym, ◌∙◌, subst, zero, suc, arith}
 use Rattle.std.specs.Prelude.{IsTrue, ◌↔◌}
 use Rattle.std.proofs.Math.Dec.{leb}
-use Rattle.std.proofs.lemmas.Bool.{false≢true, leb-true, le-leb}
-use Rattle.instruct.specs.Instructions.{meaning_of}
+use Rattle.std.proofs.lemmas.Bool.{leb-true, le-leb}
 use Rattle.wordset.specs.Words.{Words, SameWords, how_many}
 use Rattle.declaration.specs.Declaration.{Routine, IsDeclared}
 use Rattle.facts.specs.Facts.{possible}
 use Rattle.facts.specs.declared.Condition.{Condition}
 use Rattle.facts.specs.declared.Condition.TheVariants.{V1, V2, V3}
-use Rattle.judge.specs.Conditions.{Case, HoldsAt, HoldsFor, HoldsForEach, HasFewWords, IsIn, fact_at, place_in, place_among}
+use Rattle.judge.specs.Conditions.{Case, HoldsAt, HoldsForEach, HasFewWords, IsIn, fact_at, place_in, place_among}
 use Rattle.judge.specs.Asked.{asks_few}
-
-pub not_true : {A : Type 0} → (A → ⊥) → IsTrue false ↔ A
-not_true h = (λ t. absurd (false≢true t), λ a. absurd (h a))
 
 -- a fact stands in one body alone
 same_body : (j : Case) (a : ℕ) (r q : Routine) → IsDeclared j.declaration → IsIn j r a → IsIn j q a → r ≡ q
 same_body j a r q d here there = d.bodies_apart a r q here.body there.body
-
--- of each word
-pub each_word : (j : Case) (v : Condition) (a : ℕ) (r : Routine) (s : Words) → IsDeclared j.declaration → IsIn j r a → SameWords s (possible (place_in j r) (fact_at j a) a) →
-    ((w : ℕ) → w < 4096 → s w ≡ true → HoldsFor j v r a (meaning_of j.declaration.profile a w)) → HoldsForEach j v a
-each_word j v a r s d here same h q w there lt p =
-    let e : q ≡ r = same_body j a q r d there here in
-    let P : Routine → Type 0 = λ k. HoldsFor j v k a (meaning_of j.declaration.profile a w) in
-    let p2 : possible (place_in j r) (fact_at j a) a w ≡ true = subst (λ k. possible (place_in j k) (fact_at j a) a w ≡ true) e p in
-    subst P (sym e) (h w lt (same w lt ∙ p2))
-
--- a word that is possible and breaks the condition
-pub some_word : (j : Case) (v : Condition) (a : ℕ) (r : Routine) (s : Words) (w : ℕ) → IsIn j r a → SameWords s (possible (place_in j r) (fact_at j a) a) → w < 4096 → s w ≡ true →
-    (HoldsFor j v r a (meaning_of j.declaration.profile a w) → ⊥) → HoldsForEach j v a → ⊥
-some_word j v a r s w here same lt p h each = h (each r w here lt (sym (same w lt) ∙ p))
 
 -- how many words
 many_same : (n : ℕ) (s t : Words) → ((v : ℕ) → v < n → s v ≡ t v) → how_many n s ≡ how_many n t
@@ -69,13 +51,6 @@ holds_each j V1 a le h = absurd (omega arith)
 holds_each j V2 a le h = absurd (omega arith)
 holds_each j V3 a le h = h.1
 holds_each j _ a le h = h
-
-pub holds_few : (j : Case) (v : Condition) (a : ℕ) → HoldsAt j v a → asks_few v ≡ true → HasFewWords j a
-holds_few j V3 a h e = h.0
-holds_few j _ a h e = absurd (false≢true e)
-
-pub too_many : (j : Case) (v : Condition) (a : ℕ) → ((asks_few v ≡ true → HasFewWords j a) → IsTrue false) → IsTrue false ↔ HoldsAt j v a
-too_many j v a h = not_true (λ holds. false≢true (h (holds_few j v a holds)))
 
 pub holds_iff : (j : Case) (v : Condition) (a : ℕ) (b : Bool) → 2 ≤ place_among v → (asks_few v ≡ true → HasFewWords j a) → (IsTrue b ↔ HoldsForEach j v a) → IsTrue b ↔ HoldsAt j v a
 holds_iff j v a b le few h = (λ t. holds_from j v a le few (h.0 t), λ holds. h.1 (holds_each j v a le holds))

@@ -31,12 +31,12 @@ pub struct Refusal {
 ///
 /// # Errors
 ///
-/// The first condition that fails, and its address: first the one on the start is asked, then at
-/// each address that a routine, fact or exit line has, by rising address, the others in the order
-/// V2, V3, V5, V14, V6, V13, V7, V8, V9, V10, V12, V11, V4, V15. A refusal says that the claims
-/// don't show the program safe, not that it is unsafe.
+/// The first condition that fails, and where. V1 is asked first, at the start; then, by rising
+/// address, at each address that a routine, fact or exit line has, the others in the order V2, V3,
+/// V5, V14, V6, V13, V7, V8, V9, V10, V12, V11, V4, V15. A refusal says that the claims don't show
+/// the program safe, not that it is unsafe.
 ///
-/// No memory is taken: it can't run out.
+/// No memory is taken, so none can be refused.
 pub fn judge<A: Allocator, C: Claims>(
     image: &Image,
     declaration: &Declaration<A>,

@@ -26,8 +26,8 @@ pub(crate) struct Case<'a, A: Allocator, C: Claims> {
     pub(crate) claims: &'a C,
 }
 
-/// The body that has the address of a fact: main's, or that of the routine of an entry, with what is
-/// claimed of it.
+/// The body that has the address of a fact: main's, or that of the routine of an entry, with what
+/// is claimed of it.
 #[derive(Clone, Copy)]
 pub(crate) enum Body {
     Main,

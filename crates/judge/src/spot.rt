@@ -33,7 +33,8 @@ impl<'a, A: Allocator, C: Claims> Spot<'a, A, C> {
         at: Word,
         fact: &'a Fact,
     ) -> Spot<'a, A, C>
-        requires body { IsBody (judged image.now declaration.now (C.claims claims.now)) at body.now }
+        requires body { IsBody (judged image.now declaration.now (C.claims claims.now)) at
+            body.now }
         requires there { (C.claims claims.now).has_fact at ≡ true }
         requires fact { meaning fact.now ≡ (C.claims claims.now).fact at }
         ensures spot { IsSpot C.claims result }

@@ -1,0 +1,5 @@
+use Rattle.certificate.proofs.OneFaultLemmas.{fault_law}
+use Rattle.certificate.proofs.fault_law.Goals as goal
+
+pub returns : goal.returns
+returns c = fault_law

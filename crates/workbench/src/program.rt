@@ -6,6 +6,7 @@ use crate::files::{open_input, open_inputs, open_output};
 use crate::words::{Refused, Request, parse_words};
 use clap::Error;
 use commands::assembling::{assemble, list};
+use commands::checking::check;
 use commands::running::{RunOptions, dump, run, run_events};
 use commands::status::{DeviceFault, Fault, Status};
 use commands::watching::watch;
@@ -135,6 +136,11 @@ fn answer<R: Files + Input + Print>(
             declaration,
             events,
         } => watch_from(rt, alloc, tape, declaration, events),
+        Request::Check {
+            tape,
+            declaration,
+            certificate,
+        } => check_from(rt, alloc, tape, declaration, certificate),
     }
 }
 
@@ -164,6 +170,21 @@ fn watch_from<R: Files + Input + Print>(
     let mut list = open_input(rt, events)?;
     let mut out = Writes::new(io::writer(rt));
     watch(alloc, &mut frames, &mut text, &mut list, &mut out)
+}
+
+/// Checks the certificate of a file.
+fn check_from<R: Files + Input + Print>(
+    rt: &R,
+    alloc: Global,
+    tape: &str,
+    declaration: &str,
+    certificate: &str,
+) -> Result<Status, Fault> {
+    let mut frames = open_input(rt, tape)?;
+    let mut text = open_input(rt, declaration)?;
+    let mut claims = open_input(rt, certificate)?;
+    let mut out = Writes::new(io::writer(rt));
+    check(alloc, &mut frames, &mut text, &mut claims, &mut out)
 }
 
 /// Runs a tape, in rounds or by the events of a file.

@@ -49,6 +49,15 @@ pub enum Request<'a> {
         /// Whose permanent symbols there are.
         profile: Profile,
     },
+    /// To check a certificate.
+    Check {
+        /// The name of the tape's file.
+        tape: &'a str,
+        /// The name of the declaration's file.
+        declaration: &'a str,
+        /// The name of the certificate's file.
+        certificate: &'a str,
+    },
     /// To watch a run.
     Watch {
         /// The name of the tape's file.
@@ -171,17 +180,31 @@ fn list_command<'a>(alloc: Global) -> Result<Command<'a>, AllocError> {
         .arg(profile_word(alloc))
 }
 
-fn watch_command<'a>(alloc: Global) -> Result<Command<'a>, AllocError> {
-    let declaration = Arg::new(alloc, "DECLARATION")
+fn declaration_word<'a>(alloc: Global) -> Arg<'a> {
+    Arg::new(alloc, "DECLARATION")
         .required(true)
-        .help("the declaration, or - for standard input");
+        .help("the declaration, or - for standard input")
+}
+
+fn check_command<'a>(alloc: Global) -> Result<Command<'a>, AllocError> {
+    let certificate = Arg::new(alloc, "CERTIFICATE")
+        .required(true)
+        .help("the certificate, or - for standard input");
+    Command::new(alloc, "check")
+        .about("Writes whether a certificate shows that no run breaks its declaration")
+        .arg(tape_word(alloc))?
+        .arg(declaration_word(alloc))?
+        .arg(certificate)
+}
+
+fn watch_command<'a>(alloc: Global) -> Result<Command<'a>, AllocError> {
     let events = Arg::new(alloc, "EVENTS")
         .required(true)
         .help("the events that happen, or - for standard input");
     Command::new(alloc, "watch")
         .about("Writes whether a run keeps its declaration, or where it first breaks which rule")
         .arg(tape_word(alloc))?
-        .arg(declaration)?
+        .arg(declaration_word(alloc))?
         .arg(events)
 }
 
@@ -193,7 +216,8 @@ fn command<'a>(alloc: Global) -> Result<Command<'a>, AllocError> {
         .subcommand(dump_command(alloc)?)?
         .subcommand(assemble_command(alloc)?)?
         .subcommand(list_command(alloc)?)?
-        .subcommand(watch_command(alloc)?)
+        .subcommand(watch_command(alloc)?)?
+        .subcommand(check_command(alloc)?)
 }
 
 /// The number that decimal digits spell, if it is one from 1 to 1,000,000. There is no sign.
@@ -289,6 +313,19 @@ fn watch_request<'a>(found: &ArgMatches<'a>) -> Result<Request<'a>, Refused> {
     })
 }
 
+fn check_request<'a>(found: &ArgMatches<'a>) -> Result<Request<'a>, Refused> {
+    let inputs = ["TAPE", "DECLARATION", "CERTIFICATE"].map(|name| found.get_str(name).unwrap_or("-"));
+    let [tape, declaration, certificate] = inputs;
+    if share_standard_input(&inputs) {
+        return Err(Refused::BothStandardInput);
+    }
+    Ok(Request::Check {
+        tape,
+        declaration,
+        certificate,
+    })
+}
+
 /// Reads the program's words, its own name among them.
 pub fn parse_words<'a, S: AsStr>(alloc: Global, words: &'a [S]) -> Result<Request<'a>, Refused> {
     let matches = command(alloc)?.try_get_matches_from(words)?;
@@ -300,6 +337,7 @@ pub fn parse_words<'a, S: AsStr>(alloc: Global, words: &'a [S]) -> Result<Reques
         Some(("assemble", found)) => assemble_request(alloc, found),
         Some(("list", found)) => list_request(alloc, found),
         Some(("watch", found)) => watch_request(found),
+        Some(("check", found)) => check_request(found),
         Some((_, found)) => run_request(found),
         None => Err(Refused::Memory),
     }

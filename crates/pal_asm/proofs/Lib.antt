@@ -13,3 +13,4 @@ pub mod Fronts
 pub mod Climbs
 pub mod Merged
 pub mod Ordered
+pub mod OneListing

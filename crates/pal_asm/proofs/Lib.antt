@@ -14,3 +14,6 @@ pub mod Climbs
 pub mod Merged
 pub mod Ordered
 pub mod OneListing
+pub mod Lined
+pub mod StandsOn
+pub mod Listed

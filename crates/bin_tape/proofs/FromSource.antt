@@ -1,9 +1,11 @@
 -- What the answer of a source says in the words of the grammar.
-use Rattle.std.proofs.Common.{◌≡◌, ◌∙◌, sym, ap, refl, ℕ, ◌≤◌, List, length, take, Bool, false, true≢false, ◌⊎◌, inl, inr}
+use Rattle.std.proofs.Common.{◌≡◌, ◌∙◌, sym, ap, refl, arith, ℕ, ◌≤◌, List, length, take, Bool, false, true≢false, ◌⊎◌, inl, inr}
 use Rattle.std.specs.Prelude.{Option, Some, None, Result, Ok, Err, IfOk, IfErr, IfSome, nat_lt}
 use Rattle.bin_tape.specs.declared.fault.TapeFault.{TapeFault}
 use Rattle.bin_tape.specs.declared.fault.TapeFault.TheVariants.{TooLong, NoWord, NoOrigin, BadFrame, WrongField, Truncated, NoChecksum, Checksum, ReadFault}
 use Rattle.bin_tape.specs.Tape.{IsTape}
+use Rattle.bin_tape.specs.Written.{IsWrittenTape}
+use Rattle.bin_tape.proofs.Lengths.{written_within}
 use Rattle.bin_tape.specs.Refuses.{Refuses, IsUnfinished}
 use Rattle.bin_tape.specs.Reading.{Progress, Between, Second, Skipping, Ended, Faulty, reads, Answers}
 use Rattle.bin_tape.specs.Holds.{IsOpen}
@@ -63,6 +65,13 @@ module _ (old new : Option (List ℕ)) where
       go : (old : Option (List ℕ)) → Serves old new r → IfSome old (λ bytes. (image : List (Option ℕ)) → IsTape (take 65536 bytes) image → mark ≡ false → r ≡ Ok image)
       go None s = tt
       go (Some bytes) s = λ image h e. only_tape 65536 bytes r (unfailed bytes r s.given (sym m ∙ e) s.answer) image h
+
+  pub serves_written : (r : Answer) (mark : Bool) → mark ≡ failed_to_read r → Serves old new r → IfSome old (λ bytes. (image : List (Option ℕ)) → IsWrittenTape bytes image → mark ≡ false → r ≡ Ok image)
+  serves_written r mark m s = go old s
+    where
+      go : (old : Option (List ℕ)) → Serves old new r → IfSome old (λ bytes. (image : List (Option ℕ)) → IsWrittenTape bytes image → mark ≡ false → r ≡ Ok image)
+      go None s = tt
+      go (Some bytes) s = λ image h e. only_tape 65536 bytes r (unfailed bytes r s.given (sym m ∙ e) s.answer) image (written_within 65536 bytes image (omega arith) h)
 
   pub serves_refused : (r : Answer) → Serves old new r → failed_to_read r ≡ false → IfErr r (λ fault. IfSome old (λ bytes. Refuses 65536 bytes fault))
   serves_refused (Ok image) s e = tt

@@ -8,3 +8,4 @@ pub mod FromSource
 pub mod GoesOn
 pub mod WordFrames
 pub mod ReadBack
+pub mod Lengths

@@ -48,7 +48,7 @@ sum-word_frames [] = refl
 sum-word_frames (w ∷ before) = sum-append (word_frames before) (frames w) ∙ omega (arith, sum-word_frames before)
 
 -- words have frames
-frames_length : (w : TapeWord) → length (frames w) ≡ 2
+pub frames_length : (w : TapeWord) → length (frames w) ≡ 2
 frames_length (Origin v) = refl
 frames_length (Data v) = refl
 

@@ -1,5 +1,5 @@
 -- An image as a map.
-use Rattle.std.specs.Prelude.{◌≡◌, ◌<◌, ℕ, List, Option, None, slice_get, unwrap_or, length}
+use Rattle.std.specs.Prelude.{◌≡◌, ◌≢◌, ◌<◌, ℕ, List, Option, None, slice_get, unwrap_or, length}
 use Rattle.std.specs.Option.{ForSome}
 
 -- The word at an address, if there is one. Contracts see an image as the list of its 4096 cells.
@@ -14,3 +14,7 @@ pub record HoldsWords (image : List (Option ℕ)) : Type 0 where
 -- No address has a word.
 abbrev pub IsEmptyImage : List (Option ℕ) → Type 0
 IsEmptyImage image = (a : ℕ) → a < 4096 → word_at image a ≡ None
+
+-- Every address has a word.
+abbrev pub IsFullImage : List (Option ℕ) → Type 0
+IsFullImage image = (a : ℕ) → a < 4096 → word_at image a ≢ None

@@ -1,10 +1,10 @@
 -- The tape that is written of an image.
-use Rattle.std.specs.Prelude.{ℕ, zero, suc, ◌%◌, if◌then◌else◌, Bool, true, List, [], ◌∷◌, ◌++◌, Option, Some, None, is_none, replicate, false, Result, Ok, Err}
+use Rattle.std.specs.Prelude.{◌≡◌, ℕ, zero, suc, ◌%◌, if◌then◌else◌, Bool, true, List, [], ◌∷◌, ◌++◌, Option, Some, None, is_none, replicate, false, Result, Ok, Err}
 use Rattle.bin_tape.specs.declared.word.TapeWord.{TapeWord}
 use Rattle.bin_tape.specs.declared.word.TapeWord.TheVariants.{Origin, Data}
 use Rattle.bin_tape.specs.declared.fault.WriteTapeFault.{WriteTapeFault}
 use Rattle.bin_tape.specs.declared.fault.WriteTapeFault.TheVariants.{EmptyImage, WriteFault}
-use Rattle.bin_tape.specs.Image.{word_at}
+use Rattle.bin_tape.specs.Image.{word_at, HoldsWords, IsEmptyImage}
 use Rattle.bin_tape.specs.Tape.{frames, checksum}
 
 -- A run of consecutive addresses begins at 0000, and where the address before has no word.
@@ -34,6 +34,12 @@ written_words ws = replicate 16 128 ++ word_frames ws ++ frames (Data (checksum 
 -- The tape of an image: the words of all 4096 addresses.
 unfoldable pub written_tape : List (Option ℕ) → List ℕ
 written_tape image = written_words (words_below image 4096)
+
+-- These frames are the tape that is written of this image, which has a word.
+pub record IsWrittenTape (tape : List ℕ) (image : List (Option ℕ)) : Type 0 where
+  pub holds : HoldsWords image
+  pub has_word : IsEmptyImage image → ⊥
+  pub is : tape ≡ written_tape image
 
 -- A write failed.
 abbrev pub failed_to_write : Result Unit WriteTapeFault → Bool

@@ -2,6 +2,7 @@
 
 ghost use Rattle.std.specs.Prelude.{◌≡◌, ◌≤◌, List, Option, ℕ, length, take, nat_lt, IfOk, IfErr, IfSome, Ok, Err, false};
 ghost use Rattle.bin_tape.specs.Tape.{IsTape};
+ghost use Rattle.bin_tape.specs.Written.{IsWrittenTape};
 ghost use Rattle.bin_tape.specs.Refuses.{Refuses, IsUnfinished};
 ghost use Rattle.streams.specs.Bytes.{Gave};
 ghost use Rattle.bin_tape.specs.Serving.{IsPrompt, failed_to_read};
@@ -50,6 +51,9 @@ pub fn read_tape(frames: &[u8]) -> Result<Image, TapeFault>
     // Each such tape is read.
     ensures only { (image : List (Option ℕ)) →
         IsTape (take 65536 frames.now) image → result ≡ Ok image }
+    // So the tape that is written of an image is read, as that image.
+    ensures written { (image : List (Option ℕ)) →
+        IsWrittenTape frames.now image → result ≡ Ok image }
     // A fault comes where it is the tape's,
     ensures refused { IfErr result (Refuses 65536 frames.now) }
     // and whichever is the tape's comes.
@@ -106,6 +110,9 @@ pub fn read_from<R: ByteSource>(source: &mut R) -> Result<Image, TapeFault>
     // Each such tape is read, unless a read fails.
     ensures only { IfSome (R.remaining source.old) (λ bytes. (image : List (Option ℕ)) →
         IsTape (take 65536 bytes) image → R.mark source.new ≡ false → result ≡ Ok image) }
+    // So the tape that is written of an image is read, as that image.
+    ensures written { IfSome (R.remaining source.old) (λ bytes. (image : List (Option ℕ)) →
+        IsWrittenTape bytes image → R.mark source.new ≡ false → result ≡ Ok image) }
     // Where no read failed, a fault comes where it is that of the source's bytes,
     ensures refused { R.mark source.new ≡ false → IfErr result (λ fault.
         IfSome (R.remaining source.old) (λ bytes. Refuses 65536 bytes fault)) }

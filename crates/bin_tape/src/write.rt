@@ -19,8 +19,9 @@ use word12::Word;
 /// How many frames 0200 stand before the first word, and after the checksum.
 const LEADER: usize = 16;
 
-/// How many frames a tape has at most: four for each address, the checksum and both leaders.
-const ROOM: usize = 4 * 4096 + 2 + 2 * LEADER;
+/// How many frames a tape has at most: those of 4096 words and one origin, the checksum and both
+/// leaders. Where runs are more, words are fewer.
+const ROOM: usize = 2 * 4097 + 2 + 2 * LEADER;
 
 /// The frames of a tape, gathered before they go out.
 #[derive(Drop)]
@@ -36,7 +37,7 @@ impl Model for Frames {
 
     ghost view = { λ frames. take frames.count frames.bytes };
 
-    ghost invariant = { λ frames. frames.count ≤ 16418 };
+    ghost invariant = { λ frames. frames.count ≤ 8228 };
 }
 
 impl Frames {
@@ -56,7 +57,7 @@ impl Frames {
     }
 
     fn push(&mut self, frame: u8)
-        requires { length self.old < 16418 }
+        requires { length self.old < 8228 }
         ensures { self.new ≡ self.old ++ frame ∷ [] }
     {
         self.bytes[self.count] = frame;
@@ -64,7 +65,7 @@ impl Frames {
     }
 
     fn push_word(&mut self, word: TapeWord)
-        requires { length self.old + 2 ≤ 16418 }
+        requires { length self.old + 2 ≤ 8228 }
         ensures { self.new ≡ self.old ++ frames word }
     {
         let [first, second] = word.frames();
@@ -73,7 +74,7 @@ impl Frames {
     }
 
     fn push_leader(&mut self)
-        requires { length self.old + 16 ≤ 16418 }
+        requires { length self.old + 16 ≤ 8228 }
         ensures { self.new ≡ self.old ++ replicate 16 128 }
     {
         for _ in 0..LEADER {
@@ -84,9 +85,8 @@ impl Frames {
     /// The words that an address brings: its word, after an origin where a run begins.
     #[tactic(auto, unfolding(crate::specs::Written::word_frames))]
     fn push_cell(&mut self, address: Word, begins: bool, cell: Option<Word>)
-        requires { length self.old + 4 ≤ 16418 }
-        ensures words { self.new ≡ self.old ++ word_frames (cell_words address begins cell) }
-        ensures fits { length self.new ≤ length self.old + 4 }
+        requires { length self.old + 4 ≤ 8228 }
+        ensures { self.new ≡ self.old ++ word_frames (cell_words address begins cell) }
     {
         let Some(word) = cell else {
             return;
@@ -99,9 +99,9 @@ impl Frames {
 
     /// The words of an image, with an origin where a run of consecutive addresses begins.
     fn push_image(&mut self, image: &Image)
-        requires { length self.old + 16384 ≤ 16418 }
+        requires { length self.old ≤ 16 }
         ensures words { self.new ≡ self.old ++ word_frames (words_below image.now 4096) }
-        ensures fits { length self.new ≤ length self.old + 16384 }
+        ensures fits { length self.new ≤ length self.old + 8194 }
     {
         let mut begins = true;
         for at in 0..4096usize {

@@ -13,3 +13,7 @@ pub mod Fronts
 pub mod Climbs
 pub mod Merged
 pub mod Ordered
+pub mod OneListing
+pub mod Lined
+pub mod StandsOn
+pub mod Listed

@@ -46,13 +46,13 @@ one_some : {X : Type 0} (o : Option X) (x y : X) → o ≡ Some x → o ≡ Some
 one_some o x y e f = let both : Some x ≡ Some y = sym e ∙ f in cc
 
 module _ (perm : List (Name × ℕ)) (parts : List (List ℕ)) where
-  means_one : (s u : List (Name × ℕ)) (i j : List (Option ℕ)) → Means perm parts s i → Means perm parts u j → (s ≡ u) × (i ≡ j)
+  pub means_one : (s u : List (Name × ℕ)) (i j : List (Option ℕ)) → Means perm parts s i → Means perm parts u j → (s ≡ u) × (i ≡ j)
   means_one s u i j h k =
       let e : h.acts ≡ k.acts = gives_one 1 Octal parts h.acts k.acts h.gives k.gives in
       let P : List PlacedAct → Type 0 = λ l. IsSource perm 1024 (map act_in l) s i in
       one_source perm 1024 (map act_in k.acts) s u i j (subst P e h.is_source) k.is_source
 
-  means_sound : (s : List (Name × ℕ)) (i : List (Option ℕ)) (fault : PalFault) → Means perm parts s i → IsFault perm parts fault → ⊥
+  pub means_sound : (s : List (Name × ℕ)) (i : List (Option ℕ)) (fault : PalFault) → Means perm parts s i → IsFault perm parts fault → ⊥
   means_sound s i fault h (inl k) = none_some (size_fault parts) fault h.sizes k
   means_sound s i fault h (inr k) =
       let e : h.acts ≡ k.acts = gives_one 1 Octal parts h.acts k.acts h.gives k.gives in
@@ -69,7 +69,7 @@ module _ (perm : List (Name × ℕ)) (parts : List (List ℕ)) where
       let lines_are : f.line ≡ g.line = h.line ∙ ap line_in bad ∙ sym k.line in
       λ i. record { code = e.1 i; part = parts_are i; line = lines_are i }
 
-  faults_one : (f g : PalFault) → IsFault perm parts f → IsFault perm parts g → f ≡ g
+  pub faults_one : (f g : PalFault) → IsFault perm parts f → IsFault perm parts g → f ≡ g
   faults_one f g (inl h) (inl k) = one_some (size_fault parts) f g h k
   faults_one f g (inl h) (inr k) = absurd (none_some (size_fault parts) f k.sizes h)
   faults_one f g (inr h) (inl k) = absurd (none_some (size_fault parts) g h.sizes k)

@@ -5,3 +5,4 @@ pub mod Sources
 pub mod Listings
 pub mod Kept
 pub mod Programs
+pub mod Laws

@@ -9,6 +9,7 @@ mod deed;
 mod expression;
 pub mod fault;
 mod front;
+pub mod laws;
 mod listing;
 pub mod number;
 pub mod program;

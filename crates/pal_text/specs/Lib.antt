@@ -10,3 +10,4 @@ pub mod Order
 pub mod Progress
 pub mod Readers
 pub mod Scan
+pub mod ReadParts

@@ -4,7 +4,7 @@ ghost use Rattle.std.specs.Prelude.{◌≡◌, ◌↔◌, ◌≤◌, ◌<◌, �
 ghost use Rattle.std.specs.List.{AllByRecursion};
 ghost use Rattle.pal_text.specs.Order.{IsOrdered, IsPlaced, IsLineWithin};
 ghost use Rattle.pal_text.specs.Names.{IsWithin, bytes_of, part_tokens};
-ghost use Rattle.pal_text.specs.Lines.{all_lines};
+ghost use Rattle.pal_text.specs.ReadParts.{tokens_in, lines_in};
 ghost use Rattle.pal_text.specs.Statements.{closed, pieces, IsFault, Stand};
 ghost use Rattle.pal_text.specs.Parts.{IsPart, IsIllegal, Agrees, IsSilent, TellsOnly, past};
 ghost use Rattle.pal_text.specs.declared.tokens.Token.{Token as Tokened};
@@ -60,8 +60,7 @@ impl<'s, A: Allocator + Copy> Part<'s, A> {
     /// Where memory was refused.
     pub fn lines(&self, alloc: A) -> Result<Vec<Line, A>, AllocError>
         requires { self.now.stop ≤ length self.now.source.now }
-        ensures lines { IfOk result (λ lines. lines.items ≡
-            all_lines (take self.now.stop self.now.source.now)) }
+        ensures lines { IfOk result (λ lines. lines.items ≡ lines_in self.now) }
         ensures within { IfOk result (λ lines. AllByRecursion
             (IsLineWithin (length self.now.source.now)) lines.items) }
     {
@@ -100,10 +99,10 @@ fn keep<A: Allocator>(
 fn read_part<'s, A: Allocator + Copy>(alloc: A, source: &'s [u8]) -> Result<Part<'s, A>, TextFault>
     requires { length source.now ≤ 65536 }
     ensures source { IfOk result (λ part. part.source.now ≡ source.now) }
-    ensures part { IfOk result (λ part. IsPart source.now (part_tokens source.now)
-        part.statements.items (all_lines (take part.stop source.now)) part.ending) }
+    ensures part { IfOk result (λ part. IsPart source.now (tokens_in part) part.statements.items
+        (lines_in part) part.ending) }
     ensures tokens { IfOk result (λ part. part.tokens.items ≡
-        take (past 0 part.statements.items) (part_tokens source.now)) }
+        take (past 0 part.statements.items) (tokens_in part)) }
     ensures placed { IfOk result (λ part. AllByRecursion (IsPlaced part.tokens.items)
         part.statements.items) }
     ensures stop { IfOk result (λ part. part.stop ≤ length source.now) }
@@ -150,10 +149,10 @@ pub fn statements<'s, A: Allocator + Copy>(
     source: &'s [u8],
 ) -> Result<Part<'s, A>, TextFault>
     ensures source { IfOk result (λ part. part.source.now ≡ source.now) }
-    ensures part { IfOk result (λ part. IsPart source.now (part_tokens source.now)
-        part.statements.items (all_lines (take part.stop source.now)) part.ending) }
+    ensures part { IfOk result (λ part. IsPart source.now (tokens_in part) part.statements.items
+        (lines_in part) part.ending) }
     ensures tokens { IfOk result (λ part. part.tokens.items ≡
-        take (past 0 part.statements.items) (part_tokens source.now)) }
+        take (past 0 part.statements.items) (tokens_in part)) }
     ensures stop { IfOk result (λ part. part.stop ≤ length source.now) }
     ensures closes { IfOk result (λ part. Stand (part_tokens source.now) (length source.now)
         (pieces 0 0 (part_tokens source.now)) part.statements.items
@@ -165,12 +164,12 @@ pub fn statements<'s, A: Allocator + Copy>(
     ensures placed { IfOk result (λ part. AllByRecursion (IsPlaced part.tokens.items)
         part.statements.items) }
     ensures lines_within { IfOk result (λ part. AllByRecursion (IsLineWithin (length source.now))
-        (all_lines (take part.stop source.now))) }
+        (lines_in part)) }
     ensures too_long { (result ≡ Err TextFault.TooLong) ↔ (65536 < length source.now) }
     ensures part_told { (tokens : List Tokened) (told : List Stated) (lines : List Lined)
         (ending : Ended) → IsPart source.now tokens told lines ending →
-        MatchResult result (λ part. Agrees (part_tokens source.now) part.statements.items
-        (all_lines (take part.stop source.now)) part.ending tokens told lines ending) IsSilent }
+        MatchResult result (λ part. Agrees (tokens_in part) part.statements.items (lines_in part)
+        part.ending tokens told lines ending) IsSilent }
     ensures illegal_told { (line : ℕ) → IsIllegal source.now line →
         MatchResult result (λ _. ⊥) (TellsOnly line) }
     ensures illegal { (line : ℕ) → result ≡ Err (TextFault.Illegal line) →

@@ -1,5 +1,5 @@
 use Rattle.std.proofs.Common.{sym, ◌∙◌}
-use Rattle.bin_tape.proofs.FromSource.{serves_tape, serves_only, serves_refused, serves_exact, serves_unanswered, serves_limit, serves_prompt}
+use Rattle.bin_tape.proofs.FromSource.{serves_tape, serves_only, serves_written, serves_refused, serves_exact, serves_unanswered, serves_limit, serves_prompt}
 use Rattle.bin_tape.proofs.read.read_from.Goals as goal
 
 pub returns : goal.returns
@@ -9,6 +9,7 @@ returns g c =
     record {
       tape = serves_tape _ _ c.read_source.result served;
       only = serves_only _ _ c.read_source.result _ marked served;
+      written = serves_written _ _ c.read_source.result _ marked served;
       refused = λ unmarked. serves_refused _ _ c.read_source.result served (sym marked ∙ unmarked);
       exact = serves_exact _ _ c.read_source.result _ marked served;
       failed = marked;

@@ -1,8 +1,9 @@
-//! Assembles, runs and watches the programs of `examples/`, and compares what is written with the
+//! Assembles, runs, watches and checks the programs of `examples/`, and compares what is written with the
 //! files beside them, which other programs made.
 #![tactic(auto)]
 
 use commands::assembling::assemble;
+use commands::checking::check;
 use commands::running::{RunOptions, run_events};
 use commands::watching::watch;
 use instruct::Profile;
@@ -98,12 +99,37 @@ fn watches<R: Files + AllocGlobal>(
     Ok(out.bytes() == file(rt, name, expected)?.as_slice())
 }
 
+/// Whether the verdict on the program's certificate is what it should be.
+fn checks<R: Files + AllocGlobal>(
+    rt: &R,
+    name: &str,
+    source: &str,
+    expected: &str,
+    profile: Profile,
+) -> anyhow::Result<bool> {
+    let tape = tape_of(rt, name, source, profile)?;
+    let declaration = file(rt, name, ".declaration")?;
+    let certificate = file(rt, name, ".certificate")?;
+    let mut out = MemorySink::new(rt.alloc(), ROOM);
+    check(
+        rt.alloc(),
+        &mut MemorySource::new(tape.bytes()),
+        &mut MemorySource::new(&declaration),
+        &mut MemorySource::new(&certificate),
+        &mut out,
+    )?;
+    Ok(out.bytes() == file(rt, name, expected)?.as_slice())
+}
+
 fn main(rt: HostRuntime) -> anyhow::Result<()> {
     for (name, profile) in PROGRAMS.iter() {
         let run = runs(&rt, name, *profile)?;
         let clean = watches(&rt, name, ".pal", ".watch", *profile)?;
         let broken = watches(&rt, name, "-broken.pal", "-broken.watch", *profile)?;
+        let yes = checks(&rt, name, ".pal", ".check", *profile)?;
+        let no = checks(&rt, name, "-broken.pal", "-broken.check", *profile)?;
         println!(&rt; "{name}: run {run}, watched {clean}, broken variant watched {broken}")?;
+        println!(&rt; "{name}: checked {yes}, broken variant checked {no}")?;
     }
     Ok(())
 }

@@ -3,13 +3,16 @@
 
 use crate::certificates::HELLO;
 use bin_tape::{Image, write_tape};
+use certificate::CertificateFault;
+use commands::checking::check;
+use commands::status::{DeviceFault, Fault, Status};
 use judge::certify;
 use peripherals::{Event, Start};
 use policy::{Watched, watch};
 use std::alloc::{AllocError, Global};
 use std::test::Fail;
 use testing::Refusing;
-use testing::memory::MemorySink;
+use testing::memory::{MemorySink, MemorySource};
 use word12::Word;
 
 /// The words of the program that prints HELLO, from 0200 on.
@@ -527,5 +530,82 @@ fn mq_is_followed_on_the_8e(rt: HostRuntime) -> Result<(), Fail> {
     let text = without(rt.alloc(), WITH_MQ.as_slice(), 0)?;
     let said = verdict(rt.alloc(), tape.bytes(), &declared[11..], &text)?;
     assert_eq!(rt; said.as_str(), "V3 at 0200");
+    Ok(())
+}
+
+#[test]
+fn a_verdict_is_a_line(rt: HostRuntime) -> Result<(), Fail> {
+    let tape = tape(rt.alloc(), &[(0o200, &PROGRAM)])?;
+    let text = without(rt.alloc(), HELLO.as_slice(), 0)?;
+    for (reads, status, line) in [
+        (
+            "",
+            Status::Done,
+            "yes: 17 body cells, 2 variable cells, 1 entries, 1 halts\n",
+        ),
+        (
+            "read 0010 0222-0231\n",
+            Status::Done,
+            "yes: 17 body cells, 2 variable cells, 1 entries, 1 halts, 9 read cells\n",
+        ),
+        ("read 0010 0222-0230\n", Status::Refused, "no: V15 at 0206\n"),
+    ] {
+        let declared = format!(in rt.alloc();
+            "start 0200\nmain 0200-0213\nsub 0214 body 0215-0221 returns 0\nvar 0010 0224\npause 0212\n{reads}"
+        )?;
+        let mut out = MemorySink::new(rt.alloc(), 1000);
+        let ended = check(
+            rt.alloc(),
+            &mut MemorySource::new(tape.bytes()),
+            &mut MemorySource::new(declared.as_bytes()).in_pieces(7),
+            &mut MemorySource::new(&text).in_pieces(500),
+            &mut out,
+        );
+        assert_eq!(rt; ended, Ok(status));
+        assert_eq!(rt; out.bytes(), line.as_bytes());
+    }
+    Ok(())
+}
+
+#[test]
+fn a_verdict_that_is_cut_is_a_prefix(rt: HostRuntime) -> Result<(), Fail> {
+    let tape = tape(rt.alloc(), &[(0o200, &PROGRAM)])?;
+    let text = without(rt.alloc(), HELLO.as_slice(), 0)?;
+    for room in [0usize, 1, 20] {
+        let mut out = MemorySink::new(rt.alloc(), room);
+        let ended = check(
+            rt.alloc(),
+            &mut MemorySource::new(tape.bytes()),
+            &mut MemorySource::new(DECLARED),
+            &mut MemorySource::new(&text),
+            &mut out,
+        );
+        assert_eq!(rt; ended, Err(Fault::Device(DeviceFault::Write)));
+        assert_eq!(rt; out.bytes(), &b"yes: 17 body cells, 2"[..room]);
+    }
+    Ok(())
+}
+
+#[test]
+fn the_certificate_is_read_last(rt: HostRuntime) -> Result<(), Fail> {
+    let tape = tape(rt.alloc(), &[(0o200, &PROGRAM)])?;
+    let mut out = MemorySink::new(rt.alloc(), 1000);
+    let ended = check(
+        rt.alloc(),
+        &mut MemorySource::new(tape.bytes()),
+        &mut MemorySource::new(DECLARED),
+        &mut MemorySource::new(b"PDP8-CERTIFICATE 1\nend"),
+        &mut out,
+    );
+    assert_eq!(rt; ended, Err(Fault::Certificate(CertificateFault::BadLine(2))));
+    let ended = check(
+        rt.alloc(),
+        &mut MemorySource::new(tape.bytes()),
+        &mut MemorySource::new(DECLARED),
+        &mut MemorySource::new(b"PDP8").failing_after(0),
+        &mut out,
+    );
+    assert_eq!(rt; ended, Err(Fault::Device(DeviceFault::Read)));
+    assert_eq!(rt; out.bytes(), b"".as_slice());
     Ok(())
 }

@@ -16,6 +16,7 @@ fn bad_words_are_told(rt: HostRuntime) -> Result<(), Fail> {
         ("pdp8 assemble out.bin", missing),
         ("pdp8 list", missing),
         ("pdp8 watch halt.bin halt.dcl", missing),
+        ("pdp8 check halt.bin halt.dcl", missing),
         ("pdp8 run a b", "error: unexpected argument 'b' found"),
         ("pdp8 dump a b", "error: unexpected argument 'b' found"),
         ("pdp8 watch a b c d", "error: unexpected argument 'd' found"),
@@ -64,6 +65,7 @@ fn bad_values_are_told(rt: HostRuntime) -> Result<(), Fail> {
         ("pdp8 watch - - c", shared),
         ("pdp8 watch - b -", shared),
         ("pdp8 watch a - -", shared),
+        ("pdp8 check - b -", shared),
         ("pdp8 list - a -", shared),
         ("pdp8 assemble - - -", shared),
     ] {
@@ -103,6 +105,16 @@ fn words_are_carried_out(rt: HostRuntime) -> Result<(), Fail> {
             "pdp8 watch halt.bin wild.dcl step.ev",
             Status::Refused,
             "broken: event 0 rule 5\n",
+        ),
+        (
+            "pdp8 check halt.bin halt.dcl halt.cert",
+            Status::Done,
+            "yes: 1 body cells, 0 variable cells, 0 entries, 1 halts\n",
+        ),
+        (
+            "pdp8 check halt.bin wild.dcl halt.cert",
+            Status::Refused,
+            "no: V13 at 0200\n",
         ),
     ] {
         let end = run_program(rt.alloc(), words);
@@ -152,6 +164,10 @@ fn files_are_opened_in_order_before_any_is_read(rt: HostRuntime) -> Result<(), F
         ("pdp8 watch bad.bin absent bad.ev", "bad.bin absent "),
         (
             "pdp8 watch bad.bin bad.dcl absent",
+            "bad.bin bad.dcl absent ",
+        ),
+        (
+            "pdp8 check bad.bin bad.dcl absent",
             "bad.bin bad.dcl absent ",
         ),
         ("pdp8 assemble o.bin absent bad.pal", "o.bin absent "),

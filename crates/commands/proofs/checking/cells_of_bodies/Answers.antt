@@ -1,6 +1,5 @@
-use Rattle.std.proofs.Common.{◌≡◌, [], drop, arith}
+use Rattle.std.proofs.Common.{drop, arith}
 use Rattle.std.proofs.lemmas.List.{drop_all}
-use Rattle.declaration.specs.declared.Routine.{Routine}
 use Rattle.commands.proofs.CheckLemmas.{all_bodies}
 use Rattle.commands.proofs.checking.cells_of_bodies.Goals as goal
 

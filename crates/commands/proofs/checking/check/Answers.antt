@@ -1,9 +1,9 @@
-use Rattle.std.proofs.Common.{rules, ◌≡◌, refl}
+use Rattle.std.proofs.Common.{rules, refl}
 use Rattle.std.specs.Io.KnownBytes.{Appends}
 use Rattle.streams.specs.Bytes.{AppendsFront}
 use Rattle.declaration.specs.Kept.{meaning}
 use Rattle.certificate.specs.Kept.{meaning as lines_of}
-use Rattle.commands.specs.CheckText.{IsVerdict, checked_case, verdict_status, verdict_text}
+use Rattle.commands.specs.CheckText.{checked_case, verdict_status, verdict_text}
 use Rattle.commands.proofs.CheckLemmas.{verdict_is}
 use Rattle.commands.proofs.checking.check.Goals as goal
 

@@ -1,8 +1,9 @@
 """Compares the facts of crates/facts with those in tests/reference on words, facts and places by chance: the first
 condition that a word breaks, its outcomes, the facts that these and a return entail, and what holds of every start.
 
-usage: facts.py make FOLDER COUNT SEED writes files of cases to FOLDER; facts.py compare PRINTED COUNT SEED compares what
-the program of tests/facts/cases.rattle printed of them, in the file PRINTED, each after a line with its file's name.
+usage: facts.py make FOLDER COUNT SEED        writes files of cases to FOLDER
+       facts.py compare PRINTED COUNT SEED    compares what the program of tests/facts/cases.rattle printed of them, in the
+                                              file PRINTED, the cases of each file after a line with its name
 """
 import random
 import sys
@@ -22,6 +23,7 @@ VARIABLES = [0o10, 0o11, 0o210, 0o211, *range(0o300, 0o306)]
 CELLS = [0o10, 0o11, 0o210, 0o211, 0o250, 0o300, 0o301, 0o302, 0o303, 0o304, 0o305]
 MAIN, BODY = set(range(0o200, 0o230)), set(range(0o251, 0o260))
 MASK = (1 << 64) - 1
+WAYS = ("goes", "calls", "returns ")
 
 
 def declaration(profile, reads):
@@ -100,7 +102,8 @@ class Chance:
                 equations.add((x, y, (left - right + (self.share(0.1) and 1)) % 4096))
         link = fact.link if self.share(0.97) else frozenset(self.one([{0}, {1}]))
         offsets = fact.offsets | {self.numbers.randrange(8)} if self.share(0.9) else frozenset({0})
-        return Fact(seen(AC), more(fact.mq) if self.share(0.96) else self.set(), link, known, frozenset(equations), offsets)
+        mq = more(fact.mq) if self.share(0.96) else self.set()
+        return Fact(seen(AC), mq, link, known, frozenset(equations), offsets)
 
     def word(self, entry):
         if entry is not None and self.share(0.15):
@@ -190,7 +193,8 @@ class Case:
         lines = [f"returned {said(entailed)} started {said(started)}"]
         certificate = check.Certificate(routines={ENTRY: check.Routine(1, self.sites, self.writes)})
         judge = check.Judge(self.image, self.declared, certificate)
-        lines.append(f"reads {hash_of(self.reads())} {said(judge.holds(15, self.fact, self.at, self.word, self.place))}")
+        listed = judge.holds(15, self.fact, self.at, self.word, self.place)
+        lines.append(f"reads {hash_of(self.reads())} {said(listed)}")
         lines.append(f"possible {hash_of(possible(self.fact, self.at, self.place))}")
         if self.breaks():
             return lines + [f"breaks {self.breaks()}"]
@@ -250,8 +254,8 @@ def spelled_fact(fact):
 
 def read(lines):
     """Printed lines of a case, with the outcomes in order and each one's equations as a set."""
-    fixed = [line for line in lines if line.split()[0] not in ("goes", "calls", "returns")]
-    outcomes = [line.split(" = ") for line in lines if line.split()[0] in ("goes", "calls", "returns")]
+    fixed = [line for line in lines if not line.startswith(WAYS)]
+    outcomes = [line.split(" = ") for line in lines if line.startswith(WAYS)]
     return fixed + sorted(" = ".join([first, *sorted(set(rest))]) for first, *rest in outcomes)
 
 
@@ -260,6 +264,14 @@ def files(count, seed):
     for number, first in enumerate(range(0, count, IN_FILE)):
         chance = Chance(f"{seed} {number}")
         yield f"{number:03}", [Case(chance) for _ in range(min(IN_FILE, count - first))]
+
+
+def kinds_of(lines):
+    """What the lines of a case have, for counting."""
+    ways = [line.split() for line in lines if line.startswith(WAYS)]
+    kinds = {way[0] for way in ways} | {"entailed" for way in ways if way[6] == "true"}
+    kinds |= {line for line in lines if line.startswith("breaks")}
+    return kinds | {kind for kind in ("returned true", "started true") if kind in lines[0]}
 
 
 def parts(printed):
@@ -284,19 +296,15 @@ def main(task, path, count, seed):
             sys.exit(f"{name}: {len(printed)} answers to {len(cases)} cases")
         for case, lines in zip(cases, printed):
             expected, got = case.expected(), read(lines.splitlines())
-            for kind in {line.split()[0] + " " + (line.split()[1] if line.startswith("breaks") else "") for line in got}:
+            for kind in kinds_of(got):
                 kinds[kind] = kinds.get(kind, 0) + 1
-            for kind in ("entailed", "returned true", "started true"):
-                hit = any(kind in line for line in got) if " " in kind else any(
-                    line.split()[6] == "true" for line in got if line.split()[0] in ("goes", "calls", "returns"))
-                kinds[kind] = kinds.get(kind, 0) + hit
             if expected != got:
                 differing += 1
                 if differing <= 5:
                     print(f"{name}: word {case.word:04o} at {case.at:04o}\n  case {case.spelled()}"
                           f"  expected {expected}\n  got      {got}")
     if task == "compare":
-        counts = ", ".join(f"{kind.strip()} {number}" for kind, number in sorted(kinds.items()))
+        counts = ", ".join(f"{kind} {number}" for kind, number in sorted(kinds.items()))
         print(f"{count} cases, {differing} differ; {counts}")
         sys.exit(differing > 0)
 

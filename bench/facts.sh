@@ -1,6 +1,6 @@
 #!/bin/bash
 # Times one outcome of a word and whether it entails a fact: with two tracked cells and two equations, and with 64 and
-# 32. Prints for each the least processor time of seven runs. Other work on the machine slows a run down and never speeds
+# 32; then the same in plain Rust (rustc -O). Prints for each the least processor time of seven runs. Other work on the machine slows a run down and never speeds
 # it up.
 # usage: bench/facts.sh [THOUSANDS]
 set -euo pipefail
@@ -11,6 +11,8 @@ trap 'rm -r "$work"' EXIT
 # Building runs the program once, whose lines are left out.
 (cd "$top/crates/speed" && rt run >"$work/built" 2>&1) || { cat "$work/built"; exit 1; }
 program=$top/crates/speed/out/speed
+few=$((thousands / 20 + 1))
+rustc -O -o "$work/plain" "$top/bench/facts/plain.rs"
 
 # Seconds of processor time that a command takes; what it writes goes to a file.
 TIMEFORMAT=%U
@@ -18,7 +20,9 @@ seconds() { { time "${@:2}" >"$1" 2>&1 </dev/null; } 2>&1; }
 
 for _ in 1 2 3 4 5 6 7; do
     echo "facts $thousands $(seconds "$work/facts" "$program" facts "$thousands")"
-    echo "facts64 $((thousands / 20 + 1)) $(seconds "$work/facts64" "$program" facts64 $((thousands / 20 + 1)))"
+    echo "facts64 $few $(seconds "$work/facts64" "$program" facts64 "$few")"
+    echo "plain $thousands $(seconds "$work/said" "$work/plain" 1 "$thousands")"
+    echo "plain64 $few $(seconds "$work/said" "$work/plain" 32 "$few")"
 done >"$work/times"
 cat "$work/facts" "$work/facts64"
 awk '

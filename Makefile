@@ -31,7 +31,7 @@ test:
 install: run
 	install -D -m 755 crates/pdp8/out/pdp8 $(PREFIX)/bin/pdp8
 
-# Times the machine, the tapes, the sets, the assembler and the watcher; needs Debian's simh and palbart.
+# Times the machine, the tapes, the sets, the assembler, the watcher and the facts; needs Debian's simh and palbart.
 bench:
 	bench/run.sh
 	bench/tapes.sh
@@ -39,6 +39,7 @@ bench:
 	bench/wordset.sh
 	bench/assembler.sh
 	bench/watch.sh
+	bench/facts.sh
 
 # Lays out the sources.
 fmt:

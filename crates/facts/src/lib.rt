@@ -90,4 +90,8 @@ pub fn same_law()
 {}
 
 #[cfg(test)]
+mod asked_tests;
+#[cfg(test)]
+mod outcome_tests;
+#[cfg(test)]
 mod tests;

@@ -107,6 +107,47 @@ fn one_cell_and_the_equation_give_the_other(rt: HostRuntime) -> Result<(), Fail>
 }
 
 #[test]
+fn each_part_must_follow(rt: HostRuntime) -> Result<(), Fail> {
+    let hello = after_a_letter()?;
+    let mut linked = after_a_letter()?;
+    linked.set_link(Links::both());
+    assert!(rt; entails(&hello, &linked) && !entails(&linked, &hello));
+    let mut low = after_a_letter()?;
+    low.set_mq(range(0, 3)?);
+    assert!(rt; entails(&low, &hello) && !entails(&hello, &low));
+    let mut counted = after_a_letter()?;
+    let mut offsets = Offsets::none();
+    offsets.insert(7);
+    counted.set_offsets(offsets);
+    assert!(rt; entails(&hello, &counted) && !entails(&counted, &hello));
+    let mut free = after_a_letter()?;
+    free.set_accumulator(range(0, 1)?);
+    assert!(rt; entails(&hello, &free) && !entails(&free, &hello));
+    Ok(())
+}
+
+/// The fact that 0300 is so much more than 0301, and nothing else.
+fn more(more: u16) -> Result<Fact, Fail> {
+    let mut fact = Fact::any();
+    fact.relate(related(0o300, 0o301, more)?);
+    Ok(fact)
+}
+
+#[test]
+fn each_equation_must_follow(rt: HostRuntime) -> Result<(), Fail> {
+    let mut single = Fact::any();
+    single.track(word(0o300)?, range(6, 6)?);
+    single.track(word(0o301)?, range(5, 5)?);
+    let next = more(1)?;
+    let same = more(0)?;
+    assert!(rt; entails(&single, &next));
+    assert!(rt; !entails(&single, &same));
+    assert!(rt; entails(&next, &next));
+    assert!(rt; !entails(&next, &same));
+    Ok(())
+}
+
+#[test]
 fn a_return_brings_the_exit_and_keeps_what_is_not_written(rt: HostRuntime) -> Result<(), Fail> {
     let hello = after_a_letter()?;
     let mut call = after_a_letter()?;

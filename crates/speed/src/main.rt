@@ -2,11 +2,16 @@
 //!
 //! `speed cpu ROUNDS` runs a loop of ISZ and JMP on the processor alone, `world ROUNDS` runs
 //! it by events, a round being 33,558,529 instructions; `tapes TIMES` writes the fullest image and
-//! reads it back; these print what came out, and no times. `tape` writes the tape of that image to standard
-//! output. Without words it does a little of the first three.
+//! reads it back; `facts TIMES` works out the outcome of a TAD a thousand times so often, and asks whether
+//! it entails a fact, with two tracked cells, and `facts64 TIMES` with 64 and 32 equations; these print
+//! what came out, and no times. `tape` writes the tape of that image to standard output. Without words
+//! it does a little of the first three.
 #![tactic(auto)]
 
+mod knowing;
+
 use bin_tape::{Image, read_tape, write_tape};
+use declaration::Declaration;
 use instruct::Profile;
 use peripherals::{Event, Panel, Seen, Start, World};
 use processor::{Cpu, Outcome};
@@ -146,6 +151,18 @@ fn put_tape<R: Print>(rt: &R) -> anyhow::Result<()> {
     Ok(())
 }
 
+/// Works out outcomes of facts with so many pairs of tracked cells, and prints how many entail the
+/// fact that is wanted.
+fn time_facts<R: Print + AllocGlobal>(rt: &R, pairs: usize, times: u16) -> anyhow::Result<()> {
+    let declared = Declaration::parse(rt.alloc(), b"start 200\nmain 200\nvar 10-110\n")?;
+    let image = Image::empty();
+    let (fact, next) = (knowing::before(pairs), knowing::after(pairs));
+    let rounds = u32::from(times).wrapping_mul(1000);
+    let hits = knowing::entailed(&image, &declared, &fact, &next, rounds);
+    println!(rt; "facts pairs {pairs} outcomes {rounds} entailed {hits}")?;
+    Ok(())
+}
+
 fn main(rt: HostRuntime) -> anyhow::Result<()> {
     let words = env::args(&rt)?.collect::<Vec<String>>(rt.alloc())?;
     let number = match words.get(2) {
@@ -156,6 +173,8 @@ fn main(rt: HostRuntime) -> anyhow::Result<()> {
         Some("cpu") => time_processor(&rt, number),
         Some("world") => time_world(&rt, number),
         Some("tapes") => time_tapes(&rt, number),
+        Some("facts") => time_facts(&rt, 1, number),
+        Some("facts64") => time_facts(&rt, 32, number),
         Some("tape") => put_tape(&rt),
         _ => {
             time_processor(&rt, number)?;

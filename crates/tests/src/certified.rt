@@ -548,7 +548,11 @@ fn a_verdict_is_a_line(rt: HostRuntime) -> Result<(), Fail> {
             Status::Done,
             "yes: 17 body cells, 2 variable cells, 1 entries, 1 halts, 9 read cells\n",
         ),
-        ("read 0010 0222-0230\n", Status::Refused, "no: V15 at 0206\n"),
+        (
+            "read 0010 0222-0230\n",
+            Status::Refused,
+            "no: V15 at 0206\n",
+        ),
     ] {
         let declared = format!(in rt.alloc();
             "start 0200\nmain 0200-0213\nsub 0214 body 0215-0221 returns 0\nvar 0010 0224\npause 0212\n{reads}"
@@ -597,7 +601,10 @@ fn the_certificate_is_read_last(rt: HostRuntime) -> Result<(), Fail> {
         &mut MemorySource::new(b"PDP8-CERTIFICATE 1\nend"),
         &mut out,
     );
-    assert_eq!(rt; ended, Err(Fault::Certificate(CertificateFault::BadLine(2))));
+    assert_eq!(rt;
+        ended,
+        Err(Fault::Certificate(CertificateFault::BadLine(2)))
+    );
     let ended = check(
         rt.alloc(),
         &mut MemorySource::new(tape.bytes()),

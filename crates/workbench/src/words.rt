@@ -314,7 +314,9 @@ fn watch_request<'a>(found: &ArgMatches<'a>) -> Result<Request<'a>, Refused> {
 }
 
 fn check_request<'a>(found: &ArgMatches<'a>) -> Result<Request<'a>, Refused> {
-    let inputs = ["TAPE", "DECLARATION", "CERTIFICATE"].map(|name| found.get_str(name).unwrap_or("-"));
+    let inputs = ["TAPE", "DECLARATION", "CERTIFICATE"].map(|name| found
+        .get_str(name)
+        .unwrap_or("-"));
     let [tape, declaration, certificate] = inputs;
     if share_standard_input(&inputs) {
         return Err(Refused::BothStandardInput);

@@ -1,0 +1,85 @@
+//! Guesses at why a program is safe: facts at its addresses, which `judge` then tests.
+#![tactic(auto)]
+
+ghost use Rattle.std.specs.Prelude.{◌≡◌, ◌≤◌, IfErr};
+ghost use Rattle.analyser.specs.Counts.{IsSpentUp};
+
+mod table;
+mod joining;
+mod kept;
+mod program;
+mod search;
+mod turns;
+
+pub use table::Guess;
+pub use turns::Turns;
+
+use crate::program::Program;
+use crate::search::Search;
+use bin_tape::Image;
+use declaration::Declaration;
+use std::alloc::Allocator;
+use thiserror::Error;
+use word12::Word;
+
+/// The turns that `guess` allows.
+const MOST_TURNS: u32 = 2_000_000;
+
+/// Why no guess is made.
+#[derive(Clone, Copy, PartialEq, Eq, Debug, Error)]
+pub enum GuessFault {
+    /// All turns are spent.
+    #[error("TurnsSpent")]
+    TurnsSpent,
+    /// At this address an instruction was met that the checker would refuse.
+    #[error("Stuck {0}")]
+    Stuck(Word),
+    /// A growth of the table was refused.
+    #[error("NoMemory")]
+    NoMemory,
+}
+
+/// Looks for facts, exits and written sets that show a tape's words safe under a declaration. What
+/// is found is to be judged: nothing is promised of it.
+///
+/// # Errors
+///
+/// `TurnsSpent` with all turns spent, `Stuck` at an instruction that the checker would refuse, and
+/// `NoMemory`.
+pub fn guess_within<A: Allocator + Copy, D: Allocator>(
+    alloc: A,
+    image: &Image,
+    declaration: &Declaration<D>,
+    turns: &mut Turns,
+) -> Result<Guess<A>, GuessFault>
+    ensures limit { turns.new.limit ≡ turns.old.limit }
+    ensures rises { turns.old.spent ≤ turns.new.spent }
+    ensures within { turns.new.spent ≤ turns.new.limit }
+    ensures spent { IfErr result (IsSpentUp turns.new) }
+{
+    let program = Program::of(image, declaration);
+    let mut search = Search::new(alloc)?;
+    match search.run(&program, turns) {
+        Ok(()) => {}
+        Err(GuessFault::Stuck(_)) => search.run_again(&program, turns)?,
+        Err(fault) => return Err(fault),
+    }
+    search.finish(&program)
+}
+
+/// Looks for a guess within 2,000,000 turns.
+///
+/// # Errors
+///
+/// As `guess_within`.
+pub fn guess<A: Allocator + Copy, D: Allocator>(
+    alloc: A,
+    image: &Image,
+    declaration: &Declaration<D>,
+) -> Result<Guess<A>, GuessFault> {
+    let mut turns = Turns::new(MOST_TURNS);
+    guess_within(alloc, image, declaration, &mut turns)
+}
+
+#[cfg(test)]
+mod tests;

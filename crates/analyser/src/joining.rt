@@ -1,7 +1,7 @@
 //! What a fact and something else that is known say both.
 
-use crate::GuessFault;
 use crate::kept::{Kept, Line, left_to};
+use crate::turns::Halt;
 use facts::{Equation, Known, Name, Offsets};
 use std::alloc::Allocator;
 use word12::Word;
@@ -147,7 +147,7 @@ impl<A: Allocator + Copy> Kept<A> {
         alloc: A,
         known: &Known<'_>,
         counted: &WordSet,
-    ) -> Result<Kept<A>, GuessFault> {
+    ) -> Result<Kept<A>, Halt> {
         let mut kept = Kept::bare(alloc, known);
         let ac = self.ac.union(&kept.ac);
         kept.growths = self.growths;
@@ -171,7 +171,7 @@ impl<A: Allocator + Copy> Kept<A> {
         cells: &[Line],
         known: &Known<'_>,
         counted: &WordSet,
-    ) -> Result<(), GuessFault> {
+    ) -> Result<(), Halt> {
         for line in cells {
             let cell = line.tracked.cell;
             let old = line.tracked.set;
@@ -188,11 +188,7 @@ impl<A: Allocator + Copy> Kept<A> {
     }
 
     /// Adds those equations that are known.
-    fn join_equations(
-        &mut self,
-        equations: &[Equation],
-        known: &Known<'_>,
-    ) -> Result<(), GuessFault> {
+    fn join_equations(&mut self, equations: &[Equation], known: &Known<'_>) -> Result<(), Halt> {
         for equation in equations {
             if says(known, equation) {
                 self.relate(*equation)?;
@@ -202,11 +198,13 @@ impl<A: Allocator + Copy> Kept<A> {
     }
 
     /// Adds those equations that are known now and that the words before fulfil, where those moved.
-    fn add_shown(&mut self, old: &Kept<A>, known: &Known<'_>) -> Result<(), GuessFault> {
+    fn add_shown(&mut self, old: &Kept<A>, known: &Known<'_>) -> Result<(), Halt> {
         for equation in known.equations() {
             let left = old.set(&equation.left).only();
             let right = old.set(&Name::Cell(equation.right)).only();
-            if fulfils(left, right, equation.more) && known.narrowed(&equation.left).only() != left {
+            if fulfils(left, right, equation.more)
+                && known.narrowed(&equation.left).only() != left
+            {
                 self.relate(*equation)?;
             }
         }
@@ -214,7 +212,7 @@ impl<A: Allocator + Copy> Kept<A> {
     }
 
     /// Adds the equations between names that moved by the same.
-    fn add_kept(&mut self, old: &Kept<A>, alloc: A, known: &Known<'_>) -> Result<(), GuessFault> {
+    fn add_kept(&mut self, old: &Kept<A>, alloc: A, known: &Known<'_>) -> Result<(), Halt> {
         let moved = old.moved(alloc, known)?;
         for left in &moved {
             self.add_kept_of(left, &moved)?;
@@ -223,7 +221,7 @@ impl<A: Allocator + Copy> Kept<A> {
     }
 
     /// Adds the equations between one name that moved and others that moved by the same.
-    fn add_kept_of(&mut self, left: &Moved, moved: &[Moved]) -> Result<(), GuessFault> {
+    fn add_kept_of(&mut self, left: &Moved, moved: &[Moved]) -> Result<(), Halt> {
         for right in moved {
             if let Some(equation) = kept_between(left, right) {
                 self.relate(equation)?;
@@ -233,7 +231,7 @@ impl<A: Allocator + Copy> Kept<A> {
     }
 
     /// The names that had one word and have another now.
-    fn moved(&self, alloc: A, known: &Known<'_>) -> Result<Vec<Moved, A>, GuessFault> {
+    fn moved(&self, alloc: A, known: &Known<'_>) -> Result<Vec<Moved, A>, Halt> {
         let mut moved = Vec::new(alloc);
         add_moved(&mut moved, Name::Accumulator, &self.ac, known)?;
         for line in &self.cells {
@@ -250,7 +248,7 @@ fn add_moved<A: Allocator>(
     name: Name,
     old: &WordSet,
     known: &Known<'_>,
-) -> Result<(), GuessFault> {
+) -> Result<(), Halt> {
     let Some(before) = old.only() else {
         return Ok(());
     };
@@ -260,8 +258,12 @@ fn add_moved<A: Allocator>(
     if before == after {
         return Ok(());
     }
-    let Ok(()) = moved.push(Moved { name, before, after }) else {
-        return Err(GuessFault::NoMemory);
+    let Ok(()) = moved.push(Moved {
+        name,
+        before,
+        after,
+    }) else {
+        return Err(Halt::NoMemory);
     };
     Ok(())
 }

@@ -1,6 +1,10 @@
 //! Facts as they are kept: only as long as what they say.
 
-use crate::GuessFault;
+ghost use Rattle.std.specs.Prelude.{◌≡◌, ◌≤◌, ◌+◌, ◌++◌, length, map, is_some, IfSome};
+ghost use Rattle.facts.specs.Meaning.{meaning, statement_of, offsets_of, equation_of};
+ghost use Rattle.analyser.specs.Claimed.{cell_of, fact_kept, has_room};
+
+use crate::turns::Halt;
 use facts::{Equation, Fact, Known, Name, Offsets, TrackedCell};
 use std::alloc::Allocator;
 use word12::Word;
@@ -75,11 +79,7 @@ impl<A: Allocator + Copy> Kept<A> {
     }
 
     /// What is known, of the tracked cells alone.
-    pub(crate) fn of(
-        alloc: A,
-        tracked: &WordSet,
-        known: &Known<'_>,
-    ) -> Result<Kept<A>, GuessFault> {
+    pub(crate) fn of(alloc: A, tracked: &WordSet, known: &Known<'_>) -> Result<Kept<A>, Halt> {
         let mut kept = Kept::bare(alloc, known);
         kept.take_cells(tracked, known)?;
         kept.take_equations(tracked, known)?;
@@ -87,7 +87,7 @@ impl<A: Allocator + Copy> Kept<A> {
     }
 
     /// Adds what is known of the tracked cells.
-    fn take_cells(&mut self, tracked: &WordSet, known: &Known<'_>) -> Result<(), GuessFault> {
+    fn take_cells(&mut self, tracked: &WordSet, known: &Known<'_>) -> Result<(), Halt> {
         let mut next = 0usize;
         while let Some(cell) = tracked.first_from(next) {
             self.track(cell, left_to(known, &Name::Cell(cell)), 0)?;
@@ -97,12 +97,7 @@ impl<A: Allocator + Copy> Kept<A> {
     }
 
     /// Adds the words of a cell, if they say something.
-    pub(crate) fn track(
-        &mut self,
-        cell: Word,
-        set: WordSet,
-        growths: u32,
-    ) -> Result<(), GuessFault> {
+    pub(crate) fn track(&mut self, cell: Word, set: WordSet, growths: u32) -> Result<(), Halt> {
         if set.is_all() {
             return Ok(());
         }
@@ -114,13 +109,13 @@ impl<A: Allocator + Copy> Kept<A> {
             growths,
         };
         let Ok(()) = self.cells.push(line) else {
-            return Err(GuessFault::NoMemory);
+            return Err(Halt::NoMemory);
         };
         Ok(())
     }
 
     /// Adds the equations between tracked cells.
-    fn take_equations(&mut self, tracked: &WordSet, known: &Known<'_>) -> Result<(), GuessFault> {
+    fn take_equations(&mut self, tracked: &WordSet, known: &Known<'_>) -> Result<(), Halt> {
         for equation in known.equations() {
             if speaks_of(tracked, equation) {
                 self.relate(*equation)?;
@@ -130,7 +125,7 @@ impl<A: Allocator + Copy> Kept<A> {
     }
 
     /// Adds an equation, if there is room and none for its two names.
-    pub(crate) fn relate(&mut self, equation: Equation) -> Result<(), GuessFault> {
+    pub(crate) fn relate(&mut self, equation: Equation) -> Result<(), Halt> {
         if self.equations.len() >= MOST_EQUATIONS {
             return Ok(());
         }
@@ -138,7 +133,7 @@ impl<A: Allocator + Copy> Kept<A> {
             return Ok(());
         }
         let Ok(()) = self.equations.push(equation) else {
-            return Err(GuessFault::NoMemory);
+            return Err(Halt::NoMemory);
         };
         Ok(())
     }
@@ -154,7 +149,7 @@ impl<A: Allocator + Copy> Kept<A> {
     }
 
     /// The part that speaks of the accumulator and of written cells.
-    pub(crate) fn written(&self, alloc: A, cells: &WordSet) -> Result<Kept<A>, GuessFault> {
+    pub(crate) fn written(&self, alloc: A, cells: &WordSet) -> Result<Kept<A>, Halt> {
         let mut kept = Kept {
             ac: self.ac,
             mq: self.mq,
@@ -174,11 +169,7 @@ impl<A: Allocator + Copy> Kept<A> {
     }
 
     /// Adds those equations that speak of the accumulator or of written cells.
-    fn take_touching(
-        &mut self,
-        cells: &WordSet,
-        equations: &[Equation],
-    ) -> Result<(), GuessFault> {
+    fn take_touching(&mut self, cells: &WordSet, equations: &[Equation]) -> Result<(), Halt> {
         for equation in equations {
             if touches(cells, equation) {
                 self.relate(*equation)?;
@@ -208,7 +199,10 @@ impl<A: Allocator> Kept<A> {
     }
 
     /// The fact.
-    pub(crate) fn fact(&self) -> Option<Fact> {
+    pub(crate) fn fact(&self) -> Option<Fact>
+        ensures there { is_some result ≡ has_room self.now }
+        ensures fact { IfSome result (λ f. meaning f ≡ fact_kept self.now) }
+    {
         if self.cells.len() > MOST_CELLS {
             return None;
         }
@@ -227,14 +221,26 @@ impl<A: Allocator> Kept<A> {
 }
 
 /// Tracks some cells more.
-fn track_all(fact: &mut Fact, cells: &[Line]) {
+fn track_all(fact: &mut Fact, cells: &[Line])
+    requires { length (statement_of fact.old).cells + length cells.now ≤ 64 }
+    ensures statement { statement_of fact.new ≡ record (statement_of fact.old) {
+      cells = (statement_of fact.old).cells ++ map cell_of cells.now;
+    } }
+    ensures offsets { offsets_of fact.new.offsets ≡ offsets_of fact.old.offsets }
+{
     for line in cells {
         fact.track(line.tracked.cell, line.tracked.set);
     }
 }
 
 /// Adds some equations.
-fn relate_all(fact: &mut Fact, equations: &[Equation]) {
+fn relate_all(fact: &mut Fact, equations: &[Equation])
+    requires { length (statement_of fact.old).equations + length equations.now ≤ 32 }
+    ensures statement { statement_of fact.new ≡ record (statement_of fact.old) {
+      equations = (statement_of fact.old).equations ++ map equation_of equations.now;
+    } }
+    ensures offsets { offsets_of fact.new.offsets ≡ offsets_of fact.old.offsets }
+{
     for equation in equations {
         fact.relate(*equation);
     }

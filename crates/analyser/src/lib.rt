@@ -4,22 +4,21 @@
 ghost use Rattle.std.specs.Prelude.{◌≡◌, ◌≤◌, IfErr};
 ghost use Rattle.analyser.specs.Counts.{IsSpentUp};
 
-mod table;
 mod joining;
 mod kept;
 mod program;
 mod search;
+mod table;
 mod turns;
-
-pub use table::Guess;
-pub use turns::Turns;
 
 use crate::program::Program;
 use crate::search::Search;
 use bin_tape::Image;
 use declaration::Declaration;
 use std::alloc::Allocator;
+pub use table::Guess;
 use thiserror::Error;
+pub use turns::Turns;
 use word12::Word;
 
 /// The turns that `guess` allows.
@@ -57,14 +56,16 @@ pub fn guess_within<A: Allocator + Copy, D: Allocator>(
     ensures within { turns.new.spent ≤ turns.new.limit }
     ensures spent { IfErr result (IsSpentUp turns.new) }
 {
+    turns.are_within();
     let program = Program::of(image, declaration);
-    let mut search = Search::new(alloc)?;
-    match search.run(&program, turns) {
-        Ok(()) => {}
-        Err(GuessFault::Stuck(_)) => search.run_again(&program, turns)?,
-        Err(fault) => return Err(fault),
+    let Ok(mut search) = Search::new(alloc) else {
+        return Err(GuessFault::NoMemory);
+    };
+    search.run_twice(&program, turns)?;
+    match search.finish(&program) {
+        Ok(guess) => Ok(guess),
+        Err(halt) => Err(halt.fault()),
     }
-    search.finish(&program)
 }
 
 /// Looks for a guess within 2,000,000 turns.

@@ -1,6 +1,6 @@
 //! What is analysed: a tape's words and a declaration.
 
-use crate::GuessFault;
+use crate::turns::Halt;
 use bin_tape::Image;
 use declaration::{Declaration, Owner};
 use facts::{Fact, Place, Running};
@@ -154,11 +154,7 @@ fn counted<D: Allocator>(image: &Image, declaration: &Declaration<D>) -> WordSet
 }
 
 /// The tape's word at an address of a body.
-fn code_at<D: Allocator>(
-    image: &Image,
-    declaration: &Declaration<D>,
-    at: Word,
-) -> Option<Word> {
+fn code_at<D: Allocator>(image: &Image, declaration: &Declaration<D>, at: Word) -> Option<Word> {
     if declaration.owner_of(at).is_none() {
         return None;
     }
@@ -185,9 +181,9 @@ impl<D: Allocator> Program<'_, D> {
     }
 
     /// The owner of an address.
-    pub(crate) fn owner(&self, at: Word) -> Result<Owner, GuessFault> {
+    pub(crate) fn owner(&self, at: Word) -> Result<Owner, Halt> {
         match self.declaration.owner_of(at) {
-            None => Err(GuessFault::Stuck(at)),
+            None => Err(Halt::Stuck(at)),
             Some(owner) => Ok(owner),
         }
     }

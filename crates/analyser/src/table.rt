@@ -1,7 +1,10 @@
 //! A guess: facts at addresses, and what is claimed of routines.
 
-use crate::GuessFault;
+ghost use Rattle.std.specs.Prelude.{◌≡◌, option_map};
+ghost use Rattle.analyser.specs.Claimed.{kept_at, row_at, exit_in};
+
 use crate::kept::Kept;
+use crate::turns::Halt;
 use facts::{Fact, Offsets};
 use judge::{Claims, Routine};
 use std::alloc::Allocator;
@@ -23,11 +26,11 @@ pub struct Guess<A: Allocator> {
 }
 
 /// So many places with nothing.
-fn nothing<T: Drop, A: Allocator>(alloc: A, count: usize) -> Result<Vec<Option<T>, A>, GuessFault> {
+fn nothing<T: Drop, A: Allocator>(alloc: A, count: usize) -> Result<Vec<Option<T>, A>, Halt> {
     let mut places = Vec::new(alloc);
     for _place in 0..count {
         let Ok(()) = places.push(None) else {
-            return Err(GuessFault::NoMemory);
+            return Err(Halt::NoMemory);
         };
     }
     Ok(places)
@@ -35,7 +38,7 @@ fn nothing<T: Drop, A: Allocator>(alloc: A, count: usize) -> Result<Vec<Option<T
 
 impl<A: Allocator + Copy> Guess<A> {
     /// Nothing is claimed.
-    pub(crate) fn new(alloc: A) -> Result<Guess<A>, GuessFault> {
+    pub(crate) fn new(alloc: A) -> Result<Guess<A>, Halt> {
         Ok(Guess {
             facts: nothing(alloc, 4096)?,
             routines: nothing(alloc, 4096)?,
@@ -43,7 +46,7 @@ impl<A: Allocator + Copy> Guess<A> {
     }
 
     /// Lists the routine of an entry, with nothing known of it, if it isn't listed.
-    pub(crate) fn list(&mut self, alloc: A, entry: Word) -> Result<(), GuessFault> {
+    pub(crate) fn list(&mut self, alloc: A, entry: Word) -> Result<(), Halt> {
         if self.row(entry).is_some() {
             return Ok(());
         }
@@ -62,7 +65,9 @@ impl<A: Allocator + Copy> Guess<A> {
 
 impl<A: Allocator> Guess<A> {
     /// What is kept at an address.
-    pub(crate) fn kept(&self, at: Word) -> Option<&Kept<A>> {
+    pub(crate) fn kept(&self, at: Word) -> Option<&Kept<A>>
+        ensures { option_map (λ k. k.now) result ≡ kept_at self.now at }
+    {
         match self.facts.get(at.index()) {
             None => None,
             Some(place) => place.as_ref(),
@@ -70,7 +75,9 @@ impl<A: Allocator> Guess<A> {
     }
 
     /// What is kept of the routine of an entry.
-    pub(crate) fn row(&self, entry: Word) -> Option<&Row<A>> {
+    pub(crate) fn row(&self, entry: Word) -> Option<&Row<A>>
+        ensures { option_map (λ r. r.now) result ≡ row_at self.now entry }
+    {
         match self.routines.get(entry.index()) {
             None => None,
             Some(place) => place.as_ref(),
@@ -78,7 +85,9 @@ impl<A: Allocator> Guess<A> {
     }
 
     /// What is kept of a return.
-    pub(crate) fn kept_exit(&self, entry: Word, offset: usize) -> Option<&Kept<A>> {
+    pub(crate) fn kept_exit(&self, entry: Word, offset: usize) -> Option<&Kept<A>>
+        ensures { option_map (λ k. k.now) result ≡ exit_in (row_at self.now entry) offset }
+    {
         match self.row(entry) {
             None => None,
             Some(row) => match row.exits.get(offset) {

@@ -1,5 +1,5 @@
 -- The certificate that is meant by a table of facts, routines and exits.
-use Rattle.std.specs.Prelude.{ℕ, Bool, true, false, ◌≤◌, ◌&&◌, nat_le, if◌then◌else◌, length, map, Option, Some, None, is_some, slice_index_or}
+use Rattle.std.specs.Prelude.{ℕ, ◌<◌, Bool, true, false, ◌≤◌, ◌&&◌, nat_le, if◌then◌else◌, length, map, Option, Some, None, is_some, slice_index_or}
 use Rattle.wordset.specs.Words.{Words, nothing, everything}
 use Rattle.wordset.specs.Lanes.{words}
 use Rattle.wordset.specs.Links.{links_of}
@@ -83,3 +83,7 @@ claims_of g = record {
   has_exit = λ e o. is_there (exit_in (row_at g e) o);
   exit = λ e o. with_offsets everything (fact_there (exit_in (row_at g e) o));
 }
+
+-- Each rank is below 64, as the text of a certificate wants it.
+abbrev pub HasSmallRanks : Certificate → Type 0
+HasSmallRanks c = (e : ℕ) → e < 4096 → c.rank e < 64

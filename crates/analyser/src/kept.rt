@@ -1,6 +1,6 @@
 //! Facts as they are kept: only as long as what they say.
 
-ghost use Rattle.std.specs.Prelude.{◌≡◌, ◌≤◌, ◌+◌, ◌++◌, length, map, is_some, IfSome};
+ghost use Rattle.std.specs.Prelude.{◌≡◌, ◌<◌, ◌≤◌, ◌+◌, ◌^◌, ◌++◌, length, map, is_some, IfSome};
 ghost use Rattle.facts.specs.Meaning.{meaning, statement_of, offsets_of, equation_of};
 ghost use Rattle.analyser.specs.Claimed.{cell_of, fact_kept, has_room};
 
@@ -62,6 +62,31 @@ fn speaks_of(cells: &WordSet, equation: &Equation) -> bool {
 /// Whether an equation speaks of the accumulator or a cell of a set.
 fn touches(cells: &WordSet, equation: &Equation) -> bool {
     is_among(cells, &equation.left) || cells.contains(equation.right)
+}
+
+/// The place of an equation among those of a fact.
+fn place_of(equation: &Equation) -> usize
+    ensures { result < 2 ^ 25 }
+{
+    let left = match equation.left {
+        Name::Accumulator => 0,
+        Name::Cell(cell) => cell.index() + 1,
+    };
+    4097 * left + equation.right.index() + 1
+}
+
+/// The first of some equations in their order, from a place on.
+fn first_from(equations: &[Equation], from: usize) -> Option<Equation> {
+    let mut first: Option<Equation> = None;
+    let mut end = usize::MAX;
+    for equation in equations {
+        let place = place_of(equation);
+        if from <= place && place < end {
+            first = Some(*equation);
+            end = place;
+        }
+    }
+    first
 }
 
 impl<A: Allocator + Copy> Kept<A> {
@@ -148,7 +173,7 @@ impl<A: Allocator + Copy> Kept<A> {
         false
     }
 
-    /// The part that speaks of the accumulator and of written cells.
+    /// The part that speaks of the accumulator and of written cells, its equations in rising order.
     pub(crate) fn written(&self, alloc: A, cells: &WordSet) -> Result<Kept<A>, Halt> {
         let mut kept = Kept {
             ac: self.ac,
@@ -168,12 +193,17 @@ impl<A: Allocator + Copy> Kept<A> {
         Ok(kept)
     }
 
-    /// Adds those equations that speak of the accumulator or of written cells.
+    /// Adds those equations that speak of the accumulator or of written cells, in rising order.
     fn take_touching(&mut self, cells: &WordSet, equations: &[Equation]) -> Result<(), Halt> {
-        for equation in equations {
-            if touches(cells, equation) {
-                self.relate(*equation)?;
+        let mut next = 0usize;
+        for _turn in 0..MOST_EQUATIONS {
+            let Some(equation) = first_from(equations, next) else {
+                return Ok(());
+            };
+            if touches(cells, &equation) {
+                self.relate(equation)?;
             }
+            next = place_of(&equation) + 1;
         }
         Ok(())
     }

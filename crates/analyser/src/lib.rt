@@ -1,7 +1,8 @@
 //! Guesses at why a program is safe: facts at its addresses, which `judge` then tests.
 #![tactic(auto)]
 
-ghost use Rattle.std.specs.Prelude.{◌≡◌, ◌≤◌, IfErr};
+ghost use Rattle.std.specs.Prelude.{◌≡◌, ◌≤◌, IfErr, IfOk};
+ghost use Rattle.analyser.specs.Claimed.{claims_of, HasSmallRanks};
 ghost use Rattle.analyser.specs.Counts.{IsSpentUp};
 
 mod joining;
@@ -51,6 +52,7 @@ pub fn guess_within<A: Allocator + Copy, D: Allocator>(
     declaration: &Declaration<D>,
     turns: &mut Turns,
 ) -> Result<Guess<A>, GuessFault>
+    ensures form { IfOk result (λ g. HasSmallRanks (claims_of g)) }
     ensures limit { turns.new.limit ≡ turns.old.limit }
     ensures rises { turns.old.spent ≤ turns.new.spent }
     ensures within { turns.new.spent ≤ turns.new.limit }
@@ -77,7 +79,9 @@ pub fn guess<A: Allocator + Copy, D: Allocator>(
     alloc: A,
     image: &Image,
     declaration: &Declaration<D>,
-) -> Result<Guess<A>, GuessFault> {
+) -> Result<Guess<A>, GuessFault>
+    ensures form { IfOk result (λ g. HasSmallRanks (claims_of g)) }
+{
     let mut turns = Turns::new(MOST_TURNS);
     guess_within(alloc, image, declaration, &mut turns)
 }

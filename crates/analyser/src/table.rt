@@ -1,7 +1,7 @@
 //! A guess: facts at addresses, and what is claimed of routines.
 
-ghost use Rattle.std.specs.Prelude.{◌≡◌, option_map};
-ghost use Rattle.analyser.specs.Claimed.{kept_at, row_at, exit_in};
+ghost use Rattle.std.specs.Prelude.{◌≡◌, true, option_map};
+ghost use Rattle.analyser.specs.Claimed.{kept_at, row_at, exit_in, rank_in, claims_of, HasSmallRanks};
 
 use crate::kept::Kept;
 use crate::turns::Halt;
@@ -120,6 +120,28 @@ impl<A: Allocator> Guess<A> {
         }
     }
 
+    /// The rank of the routine of an entry; 0 where it isn't listed.
+    pub(crate) fn rank(&self, entry: Word) -> usize
+        ensures { result ≡ rank_in (row_at self.now entry) }
+    {
+        match self.row(entry) {
+            None => 0,
+            Some(row) => row.routine.rank,
+        }
+    }
+
+    /// Whether each rank is below 64.
+    pub(crate) fn has_small_ranks(&self) -> bool
+        ensures { result ≡ true → HasSmallRanks (claims_of self.now) }
+    {
+        for index in 0..4096usize {
+            if self.rank(Word::from_index(index)) >= 64 {
+                return false;
+            }
+        }
+        true
+    }
+
     /// Forgets all facts and exits.
     pub(crate) fn forget(&mut self) {
         for place in &mut self.facts {
@@ -136,8 +158,6 @@ impl<A: Allocator> Guess<A> {
 }
 
 impl<A: Allocator> Claims for Guess<A> {
-    ghost use Rattle.analyser.specs.Claimed.{claims_of};
-
     ghost claims = { claims_of };
 
     fn routine(&self, entry: Word) -> Option<Routine> {

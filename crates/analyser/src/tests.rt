@@ -3,8 +3,9 @@
 use crate::{GuessFault, Turns, guess, guess_within};
 use bin_tape::Image;
 use declaration::Declaration;
-use judge::judge;
+use judge::{Claims, judge};
 use std::test::Fail;
+use testing::Refusing;
 use word12::Word;
 
 /// The words of a program that prints HELLO, from 0200 on.
@@ -94,5 +95,57 @@ fn turns_are_spent(rt: HostRuntime) -> Result<(), Fail> {
     let found = guess_within(rt.alloc(), &image(&HELLO), &declaration, &mut turns);
     assert_eq!(rt; found.err(), Some(GuessFault::TurnsSpent));
     assert_eq!(rt; turns.spent(), 1);
+    Ok(())
+}
+
+#[test]
+fn a_refusal_of_memory_is_told(rt: HostRuntime) -> Result<(), Fail> {
+    let declaration = Declaration::parse(rt.alloc(), HELLO_DECLARED)?;
+    for count in [0, 1, 2, 5, 20] {
+        let heap = Refusing::new(rt.alloc(), count);
+        let found = guess(&heap, &image(&HELLO), &declaration);
+        assert_eq!(rt; found.err(), Some(GuessFault::NoMemory));
+    }
+    Ok(())
+}
+
+#[test]
+fn faults_are_told_in_words(rt: HostRuntime) -> Result<(), Fail> {
+    assert_eq!(rt;
+        GuessFault::TurnsSpent.to_string(rt.alloc())?.as_str(),
+        "TurnsSpent"
+    );
+    assert_eq!(rt;
+        GuessFault::Stuck(word(0o201))
+            .to_string(rt.alloc())?
+            .as_str(),
+        "Stuck 0201"
+    );
+    assert_eq!(rt;
+        GuessFault::NoMemory.to_string(rt.alloc())?.as_str(),
+        "NoMemory"
+    );
+    Ok(())
+}
+
+#[test]
+fn claims_are_read_in_rising_order(rt: HostRuntime) -> Result<(), Fail> {
+    let declaration = Declaration::parse(rt.alloc(), HELLO_DECLARED)?;
+    let mut turns = Turns::new(100);
+    let found = guess_within(rt.alloc(), &image(&HELLO), &declaration, &mut turns)?;
+    assert!(rt; turns.spent() < turns.limit());
+    let mut facts = 0;
+    for index in 0..4096usize {
+        if found.fact(Word::from_index(index)).is_some() {
+            facts += 1;
+        }
+    }
+    assert_eq!(rt; facts, 17);
+    assert!(rt;
+        found
+            .routine(word(0o214))
+            .is_some_and(|routine| routine.rank == 0)
+    );
+    assert!(rt; found.exit(word(0o214), 0).is_some() && found.exit(word(0o214), 1).is_none());
     Ok(())
 }

@@ -1,5 +1,5 @@
 -- The certificate that is meant by a table of facts, routines and exits.
-use Rattle.std.specs.Prelude.{ℕ, ◌<◌, Bool, true, false, ◌≤◌, ◌&&◌, nat_le, if◌then◌else◌, length, map, Option, Some, None, is_some, slice_index_or}
+use Rattle.std.specs.Prelude.{ℕ, ◌<◌, Bool, true, false, ◌≤◌, ◌&&◌, nat_le, if◌then◌else◌, length, map, Option, Some, None, is_some, IfSome, slice_index_or}
 use Rattle.wordset.specs.Words.{Words, nothing, everything}
 use Rattle.wordset.specs.Lanes.{words}
 use Rattle.wordset.specs.Links.{links_of}
@@ -9,6 +9,8 @@ use Rattle.facts.specs.Statements as said
 use Rattle.facts.specs.Statements.{Statement, fact_of, unknown}
 use Rattle.facts.specs.Meaning.{equation_of, tracked_of, offsets_of}
 use Rattle.certificate.specs.Certificate.{Certificate}
+use Rattle.certificate.specs.declared.Version.TheVariants.{Two}
+use Rattle.certificate.specs.Reading.{IsStatement}
 use Rattle.analyser.specs.declared.kept.Line.{Line}
 use Rattle.analyser.specs.declared.kept.Kept.{Kept}
 use Rattle.analyser.specs.declared.table.Row.{Row}
@@ -87,3 +89,13 @@ claims_of g = record {
 -- Each rank is below 64, as the text of a certificate wants it.
 abbrev pub HasSmallRanks : Certificate → Type 0
 HasSmallRanks c = (e : ℕ) → e < 4096 → c.rank e < 64
+
+-- What is said of something that is there is of the form that a text of version 2 wants.
+abbrev pub IsSaidWell : {A : Type 0} → Option (Kept A) → Type 0
+IsSaidWell k = IfSome k (λ k. IsStatement Two (said_of k))
+
+-- Ranks, facts and exits are of the form that the text of a certificate wants.
+pub record IsInForm {A : Type 0} (g : Guess A) : Type 0 where
+  pub ranks : HasSmallRanks (claims_of g)
+  pub facts : (a : ℕ) → a < 4096 → IsSaidWell (kept_at g a)
+  pub exits : (e o : ℕ) → e < 4096 → o < 8 → IsSaidWell (exit_in (row_at g e) o)

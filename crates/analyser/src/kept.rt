@@ -2,6 +2,7 @@
 
 ghost use Rattle.std.specs.Prelude.{◌≡◌, ◌<◌, ◌≤◌, ◌+◌, ◌^◌, ◌++◌, length, map, is_some, IfSome};
 ghost use Rattle.facts.specs.Meaning.{meaning, statement_of, offsets_of, equation_of};
+ghost use Rattle.certificate.specs.Reading.{place_of_equation};
 ghost use Rattle.analyser.specs.Claimed.{cell_of, fact_kept, has_room};
 
 use crate::turns::Halt;
@@ -11,7 +12,7 @@ use word12::Word;
 use wordset::{Links, WordSet};
 
 /// The most cells of a fact.
-const MOST_CELLS: usize = 64;
+pub(crate) const MOST_CELLS: usize = 64;
 
 /// The most equations of a fact.
 pub(crate) const MOST_EQUATIONS: usize = 32;
@@ -65,8 +66,9 @@ fn touches(cells: &WordSet, equation: &Equation) -> bool {
 }
 
 /// The place of an equation among those of a fact.
-fn place_of(equation: &Equation) -> usize
-    ensures { result < 2 ^ 25 }
+pub(crate) fn place_of(equation: &Equation) -> usize
+    ensures same { result ≡ place_of_equation (equation_of equation.now) }
+    ensures small { result < 2 ^ 25 }
 {
     let left = match equation.left {
         Name::Accumulator => 0,

@@ -2,9 +2,10 @@
 #![tactic(auto)]
 
 ghost use Rattle.std.specs.Prelude.{◌≡◌, ◌≤◌, IfErr, IfOk};
-ghost use Rattle.analyser.specs.Claimed.{claims_of, HasSmallRanks};
+ghost use Rattle.analyser.specs.Claimed.{IsInForm};
 ghost use Rattle.analyser.specs.Counts.{IsSpentUp};
 
+mod form;
 mod joining;
 mod kept;
 mod program;
@@ -52,7 +53,7 @@ pub fn guess_within<A: Allocator + Copy, D: Allocator>(
     declaration: &Declaration<D>,
     turns: &mut Turns,
 ) -> Result<Guess<A>, GuessFault>
-    ensures form { IfOk result (λ g. HasSmallRanks (claims_of g)) }
+    ensures form { IfOk result IsInForm }
     ensures limit { turns.new.limit ≡ turns.old.limit }
     ensures rises { turns.old.spent ≤ turns.new.spent }
     ensures within { turns.new.spent ≤ turns.new.limit }
@@ -80,7 +81,7 @@ pub fn guess<A: Allocator + Copy, D: Allocator>(
     image: &Image,
     declaration: &Declaration<D>,
 ) -> Result<Guess<A>, GuessFault>
-    ensures form { IfOk result (λ g. HasSmallRanks (claims_of g)) }
+    ensures form { IfOk result IsInForm }
 {
     let mut turns = Turns::new(MOST_TURNS);
     guess_within(alloc, image, declaration, &mut turns)

@@ -45,8 +45,8 @@ pub enum GuessFault {
 ///
 /// # Errors
 ///
-/// `TurnsSpent` with all turns spent, `Stuck` at an instruction that the checker would refuse, and
-/// `NoMemory`.
+/// `TurnsSpent` with all turns spent, `Stuck` at an instruction that the checker would refuse or at
+/// an entry whose routine calls itself by way of others, and `NoMemory`.
 pub fn guess_within<A: Allocator + Copy, D: Allocator>(
     alloc: A,
     image: &Image,

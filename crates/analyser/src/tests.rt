@@ -134,10 +134,10 @@ fn claims_are_read_in_rising_order(rt: HostRuntime) -> Result<(), Fail> {
     let mut turns = Turns::new(100);
     let found = guess_within(rt.alloc(), &image(&HELLO), &declaration, &mut turns)?;
     assert!(rt; turns.spent() < turns.limit());
-    let mut facts = 0;
+    let mut facts = 0usize;
     for index in 0..4096usize {
         if found.fact(Word::from_index(index)).is_some() {
-            facts += 1;
+            facts = facts.saturating_add(1);
         }
     }
     assert_eq!(rt; facts, 17);

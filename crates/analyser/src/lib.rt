@@ -1,0 +1,91 @@
+//! Guesses at why a program is safe: facts at its addresses, which `judge` then tests.
+#![tactic(auto)]
+
+ghost use Rattle.std.specs.Prelude.{◌≡◌, ◌≤◌, IfErr, IfOk};
+ghost use Rattle.analyser.specs.Claimed.{IsInForm};
+ghost use Rattle.analyser.specs.Counts.{IsSpentUp};
+
+mod form;
+mod joining;
+mod kept;
+mod program;
+mod search;
+mod table;
+mod turns;
+
+use crate::program::Program;
+use crate::search::Search;
+use bin_tape::Image;
+use declaration::Declaration;
+use std::alloc::Allocator;
+pub use table::Guess;
+use thiserror::Error;
+pub use turns::Turns;
+use word12::Word;
+
+/// The turns that `guess` allows.
+const MOST_TURNS: u32 = 2_000_000;
+
+/// Why no guess is made.
+#[derive(Clone, Copy, PartialEq, Eq, Debug, Error)]
+pub enum GuessFault {
+    /// All turns are spent.
+    #[error("TurnsSpent")]
+    TurnsSpent,
+    /// At this address an instruction was met that the checker would refuse.
+    #[error("Stuck {0}")]
+    Stuck(Word),
+    /// A growth of the table was refused.
+    #[error("NoMemory")]
+    NoMemory,
+}
+
+/// Looks for facts, exits and written sets that show a tape's words safe under a declaration. What
+/// is found is to be judged: nothing is promised of it.
+///
+/// # Errors
+///
+/// `TurnsSpent` with all turns spent, `Stuck` at an instruction that the checker would refuse or at
+/// an entry whose routine calls itself by way of others, and `NoMemory`.
+pub fn guess_within<A: Allocator + Copy, D: Allocator>(
+    alloc: A,
+    image: &Image,
+    declaration: &Declaration<D>,
+    turns: &mut Turns,
+) -> Result<Guess<A>, GuessFault>
+    ensures form { IfOk result IsInForm }
+    ensures limit { turns.new.limit ≡ turns.old.limit }
+    ensures rises { turns.old.spent ≤ turns.new.spent }
+    ensures within { turns.new.spent ≤ turns.new.limit }
+    ensures spent { IfErr result (IsSpentUp turns.new) }
+{
+    turns.are_within();
+    let program = Program::of(image, declaration);
+    let Ok(mut search) = Search::new(alloc) else {
+        return Err(GuessFault::NoMemory);
+    };
+    search.run_twice(&program, turns)?;
+    match search.finish(&program) {
+        Ok(guess) => Ok(guess),
+        Err(halt) => Err(halt.fault()),
+    }
+}
+
+/// Looks for a guess within 2,000,000 turns.
+///
+/// # Errors
+///
+/// As `guess_within`.
+pub fn guess<A: Allocator + Copy, D: Allocator>(
+    alloc: A,
+    image: &Image,
+    declaration: &Declaration<D>,
+) -> Result<Guess<A>, GuessFault>
+    ensures form { IfOk result IsInForm }
+{
+    let mut turns = Turns::new(MOST_TURNS);
+    guess_within(alloc, image, declaration, &mut turns)
+}
+
+#[cfg(test)]
+mod tests;

@@ -1,0 +1,235 @@
+//! What is analysed: a tape's words and a declaration.
+
+use crate::turns::Halt;
+use bin_tape::Image;
+use declaration::{Declaration, Owner};
+use facts::{Fact, Place, Running};
+use instruct::{refers_indirectly, target};
+use judge::Routine;
+use std::alloc::Allocator;
+use word12::Word;
+use wordset::WordSet;
+
+/// The most cells that are tracked.
+const MOST_TRACKED: usize = 64;
+
+/// What is analysed, the cells that facts speak of, and those that ISZ counts by name.
+#[derive(Drop)]
+pub(crate) struct Program<'a, D: Allocator> {
+    pub(crate) image: &'a Image,
+    pub(crate) declaration: &'a Declaration<D>,
+    pub(crate) tracked: WordSet,
+    pub(crate) counted: WordSet,
+}
+
+/// The body that has an address: main's, or that of the routine of an entry, with what is known of
+/// its calls.
+#[derive(Clone, Copy)]
+pub(crate) enum Body {
+    Main,
+    Of(Word, Routine),
+}
+
+/// A fact at an address of a body.
+#[derive(Drop)]
+pub(crate) struct Visit {
+    pub(crate) at: Word,
+    pub(crate) fact: Fact,
+    pub(crate) body: Body,
+}
+
+impl Body {
+    /// The routine, if it isn't main's.
+    fn running(&self) -> Option<Running<'_>> {
+        match self {
+            Body::Main => None,
+            Body::Of(entry, routine) => Some(Running {
+                entry: *entry,
+                sites: &routine.sites,
+                writes: &routine.writes,
+            }),
+        }
+    }
+}
+
+/// Where a fact of a body stands.
+pub(crate) fn place_in<'a, D: Allocator>(
+    image: &'a Image,
+    declaration: &'a Declaration<D>,
+    body: &'a Body,
+) -> Place<'a, D> {
+    let routine = body.running();
+    Place {
+        image,
+        declaration,
+        routine,
+    }
+}
+
+/// Whether a word is a memory reference.
+fn is_reference(word: Word) -> bool {
+    word.index() < 0o6000
+}
+
+/// Whether a memory reference is ISZ or DCA.
+fn stores(word: Word) -> bool {
+    let operation = word.index() / 0o1000;
+    operation == 2 || operation == 3
+}
+
+/// The JMS that refers to the same cells as a word.
+fn as_call(word: Word) -> Word {
+    Word::from_index(0o4000 + word.index() % 0o1000)
+}
+
+/// Adds a cell to the tracked ones, if there is room.
+fn add_cell(cells: &mut WordSet, cell: Word) {
+    if cells.count() < MOST_TRACKED {
+        cells.insert(cell);
+    }
+}
+
+impl<'a, D: Allocator> Program<'a, D> {
+    /// A tape's words and a declaration. The cells that facts speak of are the variables that
+    /// instructions name, then those in bodies, then those on the tape; at most 64.
+    pub(crate) fn of(image: &'a Image, declaration: &'a Declaration<D>) -> Program<'a, D> {
+        let mut tracked = WordSet::empty();
+        add_named(&mut tracked, image, declaration);
+        add_code(&mut tracked, declaration);
+        add_loaded(&mut tracked, image, declaration);
+        Program {
+            image,
+            declaration,
+            tracked,
+            counted: counted(image, declaration),
+        }
+    }
+}
+
+/// Adds the variables that the instructions of bodies name.
+fn add_named<D: Allocator>(cells: &mut WordSet, image: &Image, declaration: &Declaration<D>) {
+    for index in 0..4096usize {
+        let at = Word::from_index(index);
+        if let Some(word) = code_at(image, declaration, at) {
+            let named = target(word, at);
+            if is_reference(word) && declaration.is_variable(named) {
+                add_cell(cells, named);
+            }
+        }
+    }
+}
+
+/// Adds the variables in bodies.
+fn add_code<D: Allocator>(cells: &mut WordSet, declaration: &Declaration<D>) {
+    for index in 0..4096usize {
+        let at = Word::from_index(index);
+        if declaration.is_variable(at) && declaration.owner_of(at).is_some() {
+            add_cell(cells, at);
+        }
+    }
+}
+
+/// Adds the variables that the tape has words for.
+fn add_loaded<D: Allocator>(cells: &mut WordSet, image: &Image, declaration: &Declaration<D>) {
+    for index in 0..4096usize {
+        let at = Word::from_index(index);
+        if declaration.is_variable(at) && image.get(at).is_some() {
+            add_cell(cells, at);
+        }
+    }
+}
+
+/// The cells that ISZ counts by name.
+fn counted<D: Allocator>(image: &Image, declaration: &Declaration<D>) -> WordSet {
+    let mut cells = WordSet::empty();
+    for index in 0..4096usize {
+        let at = Word::from_index(index);
+        if let Some(word) = code_at(image, declaration, at) {
+            if word.index() / 0o1000 == 2 && !refers_indirectly(word) {
+                cells.insert(target(word, at));
+            }
+        }
+    }
+    cells
+}
+
+/// The tape's word at an address of a body.
+fn code_at<D: Allocator>(image: &Image, declaration: &Declaration<D>, at: Word) -> Option<Word> {
+    if declaration.owner_of(at).is_none() {
+        return None;
+    }
+    image.get(at)
+}
+
+impl<D: Allocator> Program<'_, D> {
+    /// Whether an address is in a body.
+    pub(crate) fn has(&self, body: &Body, at: Word) -> bool {
+        match body {
+            Body::Main => self.declaration.in_main(at),
+            Body::Of(entry, _) => self.declaration.in_body(*entry, at),
+        }
+    }
+
+    /// The cells of the body of an entry.
+    pub(crate) fn body_of(&self, entry: Word) -> WordSet {
+        for routine in self.declaration.routines() {
+            if routine.entry() == entry {
+                return *routine.body();
+            }
+        }
+        WordSet::empty()
+    }
+
+    /// The owner of an address.
+    pub(crate) fn owner(&self, at: Word) -> Result<Owner, Halt> {
+        match self.declaration.owner_of(at) {
+            None => Err(Halt::Stuck(at)),
+            Some(owner) => Ok(owner),
+        }
+    }
+
+    /// The words that are possible where a fact stands.
+    pub(crate) fn possible(&self, visit: &Visit) -> WordSet {
+        place_in(self.image, self.declaration, &visit.body).possible_words(&visit.fact, visit.at)
+    }
+
+    /// Whether a word's reads are listed, and it calls through no auto-index cell.
+    pub(crate) fn may_stand(&self, visit: &Visit, word: Word) -> bool {
+        let place = place_in(self.image, self.declaration, &visit.body);
+        if place.steps_call_pointer(visit.at, word) {
+            return false;
+        }
+        place.reads_are_listed(&visit.fact, visit.at, word)
+    }
+
+    /// The cells that a word may write, save the one that a JMS itself writes.
+    pub(crate) fn written(&self, visit: &Visit, word: Word) -> WordSet {
+        if !is_reference(word) {
+            return WordSet::empty();
+        }
+        let mut cells = if stores(word) {
+            self.targets(visit, word)
+        } else {
+            WordSet::empty()
+        };
+        let named = target(word, visit.at);
+        if refers_indirectly(word) && named.index() / 8 == 1 {
+            cells.insert(named);
+        }
+        cells
+    }
+
+    /// The cells that a memory reference refers to.
+    fn targets(&self, visit: &Visit, word: Word) -> WordSet {
+        place_in(self.image, self.declaration, &visit.body).calls(
+            &visit.fact,
+            visit.at,
+            as_call(word),
+        )
+    }
+
+    /// The entry through which a word returns.
+    pub(crate) fn returned_entry(&self, visit: &Visit, word: Word) -> Option<Word> {
+        place_in(self.image, self.declaration, &visit.body).returned_entry(visit.at, word)
+    }
+}

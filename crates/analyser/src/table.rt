@@ -1,0 +1,188 @@
+//! A guess: facts at addresses, and what is claimed of routines.
+
+ghost use Rattle.std.specs.Prelude.{◌≡◌, true, option_map};
+ghost use Rattle.analyser.specs.Claimed.{kept_at, row_at, exit_in, rank_in, claims_of, HasSmallRanks};
+
+use crate::kept::Kept;
+use crate::turns::Halt;
+use facts::{Fact, Offsets};
+use judge::{Claims, Routine};
+use std::alloc::Allocator;
+use word12::Word;
+use wordset::WordSet;
+
+/// What is claimed of a routine, and what holds at its returns, by offset.
+#[derive(Drop)]
+pub(crate) struct Row<A: Allocator> {
+    pub(crate) routine: Routine,
+    pub(crate) exits: Vec<Option<Kept<A>>, A>,
+}
+
+/// What may show a program safe: facts, routines and exits, which `judge` tests.
+#[derive(Drop)]
+pub struct Guess<A: Allocator> {
+    facts: Vec<Option<Kept<A>>, A>,
+    routines: Vec<Option<Row<A>>, A>,
+}
+
+/// So many places with nothing.
+fn nothing<T: Drop, A: Allocator>(alloc: A, count: usize) -> Result<Vec<Option<T>, A>, Halt> {
+    let mut places = Vec::new(alloc);
+    for _place in 0..count {
+        let Ok(()) = places.push(None) else {
+            return Err(Halt::NoMemory);
+        };
+    }
+    Ok(places)
+}
+
+impl<A: Allocator + Copy> Guess<A> {
+    /// Nothing is claimed.
+    pub(crate) fn new(alloc: A) -> Result<Guess<A>, Halt> {
+        Ok(Guess {
+            facts: nothing(alloc, 4096)?,
+            routines: nothing(alloc, 4096)?,
+        })
+    }
+
+    /// Lists the routine of an entry, with nothing known of it, if it isn't listed.
+    pub(crate) fn list(&mut self, alloc: A, entry: Word) -> Result<(), Halt> {
+        if self.row(entry).is_some() {
+            return Ok(());
+        }
+        let exits = nothing(alloc, 8)?;
+        let routine = Routine {
+            rank: 0,
+            sites: WordSet::empty(),
+            writes: WordSet::empty(),
+        };
+        if let Some(place) = self.routines.get_mut(entry.index()) {
+            *place = Some(Row { routine, exits });
+        }
+        Ok(())
+    }
+}
+
+impl<A: Allocator> Guess<A> {
+    /// What is kept at an address.
+    pub(crate) fn kept(&self, at: Word) -> Option<&Kept<A>>
+        ensures { option_map (λ k. k.now) result ≡ kept_at self.now at }
+    {
+        match self.facts.get(at.index()) {
+            None => None,
+            Some(place) => place.as_ref(),
+        }
+    }
+
+    /// What is kept of the routine of an entry.
+    pub(crate) fn row(&self, entry: Word) -> Option<&Row<A>>
+        ensures { option_map (λ r. r.now) result ≡ row_at self.now entry }
+    {
+        match self.routines.get(entry.index()) {
+            None => None,
+            Some(place) => place.as_ref(),
+        }
+    }
+
+    /// What is kept of a return.
+    pub(crate) fn kept_exit(&self, entry: Word, offset: usize) -> Option<&Kept<A>>
+        ensures { option_map (λ k. k.now) result ≡ exit_in (row_at self.now entry) offset }
+    {
+        match self.row(entry) {
+            None => None,
+            Some(row) => match row.exits.get(offset) {
+                None => None,
+                Some(place) => place.as_ref(),
+            },
+        }
+    }
+
+    /// Keeps a fact at an address.
+    pub(crate) fn keep(&mut self, at: Word, kept: Kept<A>) {
+        if let Some(place) = self.facts.get_mut(at.index()) {
+            *place = Some(kept);
+        }
+    }
+
+    /// Keeps what holds at a return.
+    pub(crate) fn keep_exit(&mut self, entry: Word, offset: usize, kept: Kept<A>) {
+        if let Some(Some(row)) = self.routines.get_mut(entry.index()) {
+            if let Some(place) = row.exits.get_mut(offset) {
+                *place = Some(kept);
+            }
+        }
+    }
+
+    /// Claims something else of a routine.
+    pub(crate) fn set_routine(&mut self, entry: Word, routine: Routine) {
+        if let Some(Some(row)) = self.routines.get_mut(entry.index()) {
+            row.routine = routine;
+        }
+    }
+
+    /// The rank of the routine of an entry; 0 where it isn't listed.
+    pub(crate) fn rank(&self, entry: Word) -> usize
+        ensures { result ≡ rank_in (row_at self.now entry) }
+    {
+        match self.row(entry) {
+            None => 0,
+            Some(row) => row.routine.rank,
+        }
+    }
+
+    /// Whether each rank is below 64.
+    pub(crate) fn has_small_ranks(&self) -> bool
+        ensures { result ≡ true → HasSmallRanks (claims_of self.now) }
+    {
+        for index in 0..4096usize {
+            if self.rank(Word::from_index(index)) >= 64 {
+                return false;
+            }
+        }
+        true
+    }
+
+    /// Forgets all facts and exits.
+    pub(crate) fn forget(&mut self) {
+        for place in &mut self.facts {
+            *place = None;
+        }
+        for place in &mut self.routines {
+            if let Some(row) = place {
+                for exit in &mut row.exits {
+                    *exit = None;
+                }
+            }
+        }
+    }
+}
+
+impl<A: Allocator> Claims for Guess<A> {
+    ghost claims = { claims_of };
+
+    fn routine(&self, entry: Word) -> Option<Routine> {
+        match self.row(entry) {
+            None => None,
+            Some(row) => Some(row.routine),
+        }
+    }
+
+    fn fact(&self, at: Word) -> Option<Fact> {
+        match self.kept(at) {
+            None => None,
+            Some(kept) => kept.fact(),
+        }
+    }
+
+    fn exit(&self, entry: Word, offset: usize) -> Option<Fact> {
+        let Some(kept) = self.kept_exit(entry, offset) else {
+            return None;
+        };
+        let Some(fact) = kept.fact() else {
+            return None;
+        };
+        let mut exit = fact;
+        exit.set_offsets(Offsets::all());
+        Some(exit)
+    }
+}

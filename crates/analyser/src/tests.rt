@@ -1,0 +1,151 @@
+//! Guesses for small programs, which the judge accepts.
+
+use crate::{GuessFault, Turns, guess, guess_within};
+use bin_tape::Image;
+use declaration::Declaration;
+use judge::{Claims, judge};
+use std::test::Fail;
+use testing::Refusing;
+use word12::Word;
+
+/// The words of a program that prints HELLO, from 0200 on.
+const HELLO: [u16; 26] = [
+    0o7300, 0o6046, 0o1222, 0o3010, 0o1223, 0o3224, 0o1410, 0o4214, 0o2224, 0o5206, 0o7402, 0o5200,
+    0o0000, 0o6041, 0o5215, 0o6046, 0o7200, 0o5614, 0o0224, 0o7773, 0o0000, 0o0310, 0o0305, 0o0314,
+    0o0314, 0o0317,
+];
+
+const HELLO_DECLARED: &[u8] = b"start 0200\nmain 0200-0213\nsub 0214 body 0215-0221 returns 0\n\
+    var 0010 0224\npause 0212\n";
+
+fn word(value: u16) -> Word {
+    Word::new(value).unwrap_or(Word::ZERO)
+}
+
+/// Puts words that follow each other on an image.
+fn put(image: &mut Image, at: u16, words: &[u16]) {
+    let mut address = word(at);
+    for value in words {
+        image.set(address, word(*value));
+        address = address.increment();
+    }
+}
+
+fn image(words: &[u16]) -> Image {
+    let mut image = Image::empty();
+    put(&mut image, 0o0200, words);
+    image
+}
+
+/// Whether a guess for a program is found that the judge accepts.
+fn is_certified(rt: &HostRuntime, image: &Image, declared: &[u8]) -> Result<bool, Fail> {
+    let declaration = Declaration::parse(rt.alloc(), declared)?;
+    let found = guess(rt.alloc(), image, &declaration)?;
+    Ok(judge(image, &declaration, &found).is_ok())
+}
+
+#[test]
+fn hello_is_certified(rt: HostRuntime) -> Result<(), Fail> {
+    assert!(rt; is_certified(&rt, &image(&HELLO), HELLO_DECLARED)?);
+    Ok(())
+}
+
+#[test]
+fn an_argument_is_certified(rt: HostRuntime) -> Result<(), Fail> {
+    let mut tape = image(&[0o7300, 0o4210, 0o0005, 0o7402]);
+    put(&mut tape, 0o0210, &[0o0000, 0o1610, 0o2210, 0o5610]);
+    let declared = b"start 0200\nmain 0200-0203\nsub 0210 body 0211-0213 returns 1\nstop 0203\n";
+    assert!(rt; is_certified(&rt, &tape, declared)?);
+    Ok(())
+}
+
+#[test]
+fn code_that_is_written_is_certified(rt: HostRuntime) -> Result<(), Fail> {
+    let mut tape = image(&[
+        0o7604, 0o7640, 0o1211, 0o1212, 0o3205, 0o0000, 0o7402, 0o7402,
+    ]);
+    put(&mut tape, 0o0211, &[0o0001, 0o5206]);
+    let declared = b"start 0200\nmain 0200-0207\nvar 0205\nstop 0206 0207\n";
+    assert!(rt; is_certified(&rt, &tape, declared)?);
+    Ok(())
+}
+
+#[test]
+fn an_8e_is_certified(rt: HostRuntime) -> Result<(), Fail> {
+    let tape = image(&[0o7621, 0o7001, 0o7421, 0o7501, 0o7402]);
+    let declared = b"start 0200\nmain 0200-0204\nstop 0204\nprofile 8e\n";
+    assert!(rt; is_certified(&rt, &tape, declared)?);
+    Ok(())
+}
+
+#[test]
+fn a_wild_write_is_stuck(rt: HostRuntime) -> Result<(), Fail> {
+    let tape = image(&[0o7200, 0o3700, 0o7402]);
+    let declared = b"start 0200\nmain 0200-0202\nvar 0000\nstop 0202\n";
+    let declaration = Declaration::parse(rt.alloc(), declared)?;
+    let found = guess(rt.alloc(), &tape, &declaration);
+    assert_eq!(rt; found.err(), Some(GuessFault::Stuck(word(0o201))));
+    Ok(())
+}
+
+#[test]
+fn turns_are_spent(rt: HostRuntime) -> Result<(), Fail> {
+    let declaration = Declaration::parse(rt.alloc(), HELLO_DECLARED)?;
+    let mut turns = Turns::new(1);
+    let found = guess_within(rt.alloc(), &image(&HELLO), &declaration, &mut turns);
+    assert_eq!(rt; found.err(), Some(GuessFault::TurnsSpent));
+    assert_eq!(rt; turns.spent(), 1);
+    Ok(())
+}
+
+#[test]
+fn a_refusal_of_memory_is_told(rt: HostRuntime) -> Result<(), Fail> {
+    let declaration = Declaration::parse(rt.alloc(), HELLO_DECLARED)?;
+    for count in [0, 1, 2, 5, 20] {
+        let heap = Refusing::new(rt.alloc(), count);
+        let found = guess(&heap, &image(&HELLO), &declaration);
+        assert_eq!(rt; found.err(), Some(GuessFault::NoMemory));
+    }
+    Ok(())
+}
+
+#[test]
+fn faults_are_told_in_words(rt: HostRuntime) -> Result<(), Fail> {
+    assert_eq!(rt;
+        GuessFault::TurnsSpent.to_string(rt.alloc())?.as_str(),
+        "TurnsSpent"
+    );
+    assert_eq!(rt;
+        GuessFault::Stuck(word(0o201))
+            .to_string(rt.alloc())?
+            .as_str(),
+        "Stuck 0201"
+    );
+    assert_eq!(rt;
+        GuessFault::NoMemory.to_string(rt.alloc())?.as_str(),
+        "NoMemory"
+    );
+    Ok(())
+}
+
+#[test]
+fn claims_are_read_in_rising_order(rt: HostRuntime) -> Result<(), Fail> {
+    let declaration = Declaration::parse(rt.alloc(), HELLO_DECLARED)?;
+    let mut turns = Turns::new(100);
+    let found = guess_within(rt.alloc(), &image(&HELLO), &declaration, &mut turns)?;
+    assert!(rt; turns.spent() < turns.limit());
+    let mut facts = 0usize;
+    for index in 0..4096usize {
+        if found.fact(Word::from_index(index)).is_some() {
+            facts = facts.saturating_add(1);
+        }
+    }
+    assert_eq!(rt; facts, 17);
+    assert!(rt;
+        found
+            .routine(word(0o214))
+            .is_some_and(|routine| routine.rank == 0)
+    );
+    assert!(rt; found.exit(word(0o214), 0).is_some() && found.exit(word(0o214), 1).is_none());
+    Ok(())
+}

@@ -41,12 +41,13 @@ pub enum GuessFault {
 }
 
 /// Looks for facts, exits and written sets that show a tape's words safe under a declaration. What
-/// is found is to be judged: nothing is promised of it.
+/// is found is to be judged: it is of its form, and that the judge accepts it isn't promised.
 ///
 /// # Errors
 ///
 /// `TurnsSpent` with all turns spent, `Stuck` at an instruction that the checker would refuse or at
-/// an entry whose routine calls itself by way of others, and `NoMemory`.
+/// an entry whose routine calls itself by way of others (and at the start, should a fact found not be
+/// of its form), and `NoMemory`.
 pub fn guess_within<A: Allocator + Copy, D: Allocator>(
     alloc: A,
     image: &Image,

@@ -9,10 +9,16 @@ use Rattle.certificate.specs.declared.Routine.{Routine}
 use Rattle.certificate.specs.declared.lines.KeptLines.{KeptLines}
 use Rattle.certificate.specs.Spelling.{RoutineLine}
 use Rattle.certificate.specs.Reading.{rank_in, sites_in, writes_in}
-use Rattle.certificate.specs.Line.{Line, RoutineIs, FactIs, ExitIs}
-use Rattle.certificate.specs.Order.{is_detail, place, heads, any, is_end, AreInOrder, front}
+use Rattle.certificate.specs.Line.{Line, RoutineIs, FactIs, ExitIs, End}
+use Rattle.certificate.specs.Order.{is_detail, place, heads, any, is_end, AreInOrder}
 use Rattle.certificate.specs.Meaning.{said}
 use Rattle.certificate.specs.Gathered.{cells_under, equations_under, stated}
+
+-- Lines of which the newest is the first, without the end.
+abbrev pub unended : List Line → List Line
+unended [] = []
+unended (End ∷ ls) = ls
+unended (l ∷ ls) = l ∷ ls
 
 -- Lines in the other order, so that the newest is the first, and then those that came before them.
 abbrev pub newest_first : List Line → List Line → List Line
@@ -43,11 +49,10 @@ pub record Keeps {A : Type 0} (k : KeptLines A) (before : List Line) : Type 0 wh
   pub lines : newest_first [] (all_said k) ≡ before
   pub indexed : IsIndexed k
 
--- The lines that are kept are those of a text, and whole.
-pub record IsWhole {A : Type 0} (v : Version) (text : List ℕ) (k : KeptLines A) : Type 0 where
+-- The lines that are kept are in order, and the end isn't among them.
+pub record IsWhole {A : Type 0} (v : Version) (k : KeptLines A) : Type 0 where
   pub order : AreInOrder v (newest_first [] (all_said k))
-  pub ended : any is_end (newest_first [] (all_said k)) ≡ true
-  pub is : text ≡ front v (newest_first [] (all_said k))
+  pub no_end : any is_end (newest_first [] (all_said k)) ≡ false
   pub indexed : IsIndexed k
 
 -- There is room in a fact for the cells and equations at the front.

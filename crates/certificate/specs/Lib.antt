@@ -13,3 +13,5 @@ pub mod Gathered
 pub mod Found
 pub mod Kept
 pub mod Exact
+pub mod Spelled
+pub mod Made

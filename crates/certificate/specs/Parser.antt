@@ -11,7 +11,7 @@ use Rattle.certificate.specs.Line.{Line}
 use Rattle.certificate.specs.Order.{AreInOrder, front}
 use Rattle.certificate.specs.Progress.{Tracks}
 use Rattle.certificate.specs.Faults.{NoFeed, HasFault, IsText, most_bytes}
-use Rattle.certificate.specs.Found.{Keeps}
+use Rattle.certificate.specs.Found.{Keeps, unended}
 use Rattle.certificate.specs.Kept.{Kept, meaning}
 
 -- Lines in order of which the text is this and what is kept is that.
@@ -20,7 +20,7 @@ pub record Reached {A : Type 0} (p : Progress) (text : List ℕ) (kept : KeptLin
   pub order : AreInOrder p.version before
   pub tracks : Tracks p before
   pub is : text ≡ front p.version before
-  pub keeps : Keeps kept before
+  pub keeps : Keeps kept (unended before)
 
 -- The whole lines that were read.
 abbrev pub HasRead : {A : Type 0} → Option Progress → List ℕ → KeptLines A → Type 0

@@ -20,10 +20,11 @@ ghost use Rattle.certificate.specs.Exact.{SpellingLaw, MeaningLaw, ReadingLaw, F
 use crate::lines::{KeptLines, first_exit, first_fact, first_routine};
 use crate::parser::Parser;
 use crate::progress::{FIRST_EXIT, FIRST_FACT};
+use crate::spelled::put_text;
 use facts::Fact;
 use std::alloc::Allocator;
 use std::marker::Model;
-use streams::{ByteSink, put};
+use streams::ByteSink;
 use thiserror::Error;
 use word12::Word;
 use wordset::WordSet;
@@ -31,8 +32,12 @@ use wordset::WordSet;
 mod fields;
 mod line;
 mod lines;
+mod makers;
 mod parser;
 mod progress;
+mod spelled;
+
+pub use crate::makers::NoMemory;
 
 /// The version of a certificate's text.
 #[derive(Clone, Copy, PartialEq, Eq, Debug)]
@@ -61,7 +66,6 @@ pub struct Routine {
 #[derive(Drop)]
 pub struct Certificate<A: Allocator> {
     version: Version,
-    text: Vec<u8, A>,
     kept: KeptLines<A>,
 }
 
@@ -73,8 +77,8 @@ impl<A: Allocator> Model for Certificate<A> {
 
     ghost view = { λ c. record { version = c.version; lines = c.kept.lines.items } };
 
-    // The text is that of the lines, which are whole.
-    ghost invariant = { λ c. IsWhole c.version c.text.items c.kept };
+    // The lines are in order.
+    ghost invariant = { λ c. IsWhole c.version c.kept };
 }
 
 impl<A: Allocator + Copy> Certificate<A> {
@@ -131,7 +135,7 @@ impl<A: Allocator> Certificate<A> {
             (text (meaning self.now))) }
         ensures marks { W.mark sink.new ≡ is_err result }
     {
-        match put(sink, &self.text) {
+        match put_text(sink, self.version, self.kept.lines()) {
             Ok(()) => Ok(()),
             Err(_) => Err(WriteFault),
         }

@@ -1,21 +1,24 @@
 //! The lines of a certificate as they are kept, and what is found in them.
 
 ghost use Rattle.std.specs.Prelude.{ℕ, ◌≡◌, ◌+◌, ◌<◌, ◌≤◌, List, [], ◌∷◌, ◌++◌, length, map, OnOk, IfSome, is_some, true};
-ghost use Rattle.facts.specs.Meaning.{statement_of, offsets_of, meaning as fact_meaning};
+ghost use Rattle.std.specs.Prelude.{is_ok, take, if◌then◌else◌};
+ghost use Rattle.facts.specs.Meaning.{statement_of, offsets_of, tracked_of, equation_of, meaning as fact_meaning};
 ghost use Rattle.facts.specs.Statements.{fact_of};
 ghost use Rattle.facts.specs.Changes.{with_offsets};
 ghost use Rattle.wordset.specs.Words.{everything};
 ghost use Rattle.certificate.specs.Spelling.{RoutineLine as SaidRoutine};
 ghost use Rattle.certificate.specs.Reading.{RiseFrom};
-ghost use Rattle.certificate.specs.Line.{Line as SaidLine};
+ghost use Rattle.certificate.specs.Line.{Line as SaidLine, CellIs, EquationIs};
+ghost use Rattle.certificate.specs.declared.line.Line.TheVariants as kept;
+ghost use Rattle.certificate.specs.Order.{is_detail};
 ghost use Rattle.certificate.specs.Gathered.{cells_under, equations_under, stated};
 ghost use Rattle.certificate.specs.Meaning.{said, registers_of};
-ghost use Rattle.certificate.specs.Found.{from_place, all_said, Keeps, IsIndexed, FitUnder, FitUnderFirst, with_details, IsRoutineOf, begins_routine, begins_fact, begins_exit, first_fact, first_exit, SaysFirst};
+ghost use Rattle.certificate.specs.Found.{from_place, all_said, Keeps, unended, IsIndexed, FitUnder, FitUnderFirst, with_details, IsRoutineOf, begins_routine, begins_fact, begins_exit, first_fact, first_exit, SaysFirst};
 
 use crate::Routine;
 use crate::line::{Line, Registers};
 use crate::progress::{is_detail, place_of};
-use facts::{Fact, Offsets};
+use facts::{Equation, Fact, Offsets, TrackedCell};
 use std::alloc::{AllocError, Allocator};
 
 /// Lines in their order. Those that aren't details of another one have rising places, so that they
@@ -41,11 +44,21 @@ impl<A: Allocator + Copy> KeptLines<A> {
 }
 
 impl<A: Allocator> KeptLines<A> {
-    /// Keeps a line more.
+    /// The lines.
+    pub fn lines(&self) -> &[Line]
+        ensures { map said result.now ≡ all_said self.now }
+    {
+        &self.lines
+    }
+
+    /// Keeps a line more; the end is known without it.
     pub fn keep(&mut self, line: &Line) -> Result<(), AllocError>
         ensures { (before : List SaidLine) → Keeps self.old before →
-            OnOk result (Keeps self.new (said line.now ∷ before)) }
+            OnOk result (Keeps self.new (unended (said line.now ∷ before))) }
     {
+        if matches!(line, Line::End) {
+            return Ok(());
+        }
         if is_detail(line) {
             self.lines.push(*line)?;
             return Ok(());
@@ -53,6 +66,36 @@ impl<A: Allocator> KeptLines<A> {
         self.places.push(place_of(line))?;
         self.starts.push(self.lines.len())?;
         self.lines.push(*line)?;
+        Ok(())
+    }
+
+    /// Keeps a line that isn't a detail, with its cells and equations: all of them, or none.
+    pub fn keep_all(
+        &mut self,
+        head: &Line,
+        cells: &[TrackedCell],
+        equations: &[Equation],
+    ) -> Result<(), AllocError>
+        requires head { is_detail (said head.now) ≡ false }
+        requires indexed { IsIndexed self.old }
+        ensures indexed { IsIndexed self.new }
+        ensures lines { all_said self.new ≡ (if is_ok result
+            then all_said self.old ++ (said head.now ∷ (map CellIs (map tracked_of cells.now) ++
+            map EquationIs (map equation_of equations.now)))
+            else all_said self.old) }
+    {
+        let start = self.lines.len();
+        self.starts.push(start)?;
+        let Ok(()) = self.places.push(place_of(head)) else {
+            self.starts.pop();
+            return Err(AllocError);
+        };
+        let Ok(()) = push_all(&mut self.lines, head, cells, equations) else {
+            self.starts.pop();
+            self.places.pop();
+            self.lines.truncate(start);
+            return Err(AllocError);
+        };
         Ok(())
     }
 
@@ -67,6 +110,51 @@ impl<A: Allocator> KeptLines<A> {
             Err(_) => &[],
         }
     }
+}
+
+/// Adds a line and those of its cells and equations; where that's refused, some of them.
+fn push_all<A: Allocator>(
+    lines: &mut Vec<Line, A>,
+    head: &Line,
+    cells: &[TrackedCell],
+    equations: &[Equation],
+) -> Result<(), AllocError>
+    ensures whole { OnOk result (lines.new.items ≡ lines.old.items ++ (head.now ∷
+        (map kept.Cell cells.now ++ map kept.Equation equations.now))) }
+    ensures front { take (length lines.old.items) lines.new.items ≡ lines.old.items }
+{
+    lines.push(*head)?;
+    push_cells(lines, cells)?;
+    push_equations(lines, equations)
+}
+
+/// Adds the lines of cells; where that's refused, some of them.
+fn push_cells<A: Allocator>(
+    lines: &mut Vec<Line, A>,
+    cells: &[TrackedCell],
+) -> Result<(), AllocError>
+    ensures whole { OnOk result (lines.new.items ≡ lines.old.items ++ map kept.Cell cells.now) }
+    ensures front { take (length lines.old.items) lines.new.items ≡ lines.old.items }
+{
+    for cell in cells {
+        lines.push(Line::Cell(*cell))?;
+    }
+    Ok(())
+}
+
+/// Adds the lines of equations; where that's refused, some of them.
+fn push_equations<A: Allocator>(
+    lines: &mut Vec<Line, A>,
+    equations: &[Equation],
+) -> Result<(), AllocError>
+    ensures whole { OnOk result (lines.new.items ≡ lines.old.items ++
+        map kept.Equation equations.now) }
+    ensures front { take (length lines.old.items) lines.new.items ≡ lines.old.items }
+{
+    for equation in equations {
+        lines.push(Line::Equation(*equation))?;
+    }
+    Ok(())
 }
 
 /// Adds the cells and equations at the front to a fact.

@@ -164,7 +164,7 @@ impl<A: Allocator> Parser<A> {
             MatchResult result (IsParsed bytes) (HasFault bytes) }
     {
         let Parser {
-            text,
+            text: _,
             kept,
             progress,
             line,
@@ -182,7 +182,6 @@ impl<A: Allocator> Parser<A> {
         }
         Ok(Certificate {
             version: progress.version(),
-            text,
             kept,
         })
     }

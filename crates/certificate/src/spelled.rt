@@ -1,0 +1,350 @@
+//! The text of a line.
+
+ghost use Rattle.std.specs.Prelude.{ℕ, ◌≡◌, ◌<◌, ◌≤◌, [], ◌∷◌, ◌+◌, map, codes};
+ghost use Rattle.std.specs.Prelude.{OnOk, OnErr, is_err, false, ◌++◌};
+ghost use Rattle.std.specs.Io.KnownBytes.{Appends};
+ghost use Rattle.streams.specs.Bytes.{AppendsFront};
+ghost use Rattle.word12.specs.Words.{octal_text};
+ghost use Rattle.wordset.specs.Words.{some_below};
+ghost use Rattle.wordset.specs.Lanes.{words};
+ghost use Rattle.wordset.specs.Links.{links_of};
+ghost use Rattle.facts.specs.Meaning.{name_of, tracked_of, equation_of, offsets_of};
+ghost use Rattle.certificate.specs.Spelling.{marks, set_text, digits, offsets_text, name_text, mq_text, version_text};
+ghost use Rattle.certificate.specs.Line.{End, rank_text, words_text, routine_line, cell_line, equation_line, line_text, ended, all_ended};
+ghost use Rattle.certificate.specs.Line.{FactIs, ExitIs, IsLine};
+ghost use Rattle.certificate.specs.Reading.{Each};
+ghost use Rattle.certificate.specs.Fields.{run_text};
+ghost use Rattle.certificate.specs.Meaning.{said, routine_of, registers_of};
+ghost use Rattle.certificate.specs.Spelled.{Adds, IsLastOf};
+
+use crate::Version;
+use crate::line::{Line, Registers, RoutineLine};
+use arrayvec::ArrayVec;
+use facts::{Equation, Name, Offsets, TrackedCell};
+use streams::{ByteSink, Failed, put};
+use word12::Word;
+use wordset::{Links, WordSet};
+
+/// No line has more bytes, its line feed included.
+const MOST: usize = 32_769;
+
+/// The last word of the run that begins at a word, by the words that aren't in the set.
+fn last_before(others: &WordSet, low: Word) -> Word
+    requires { words others.now low ≡ false }
+    ensures { IsLastOf (words others.now) low result }
+{
+    match others.first_from(low.index()) {
+        Some(after) => Word::from_index(after.index() - 1),
+        None => Word::from_index(4095),
+    }
+}
+
+/// The text of a line as far as it's written.
+#[derive(Drop)]
+struct LineText {
+    bytes: ArrayVec<u8, MOST>,
+}
+
+impl LineText {
+    /// No text.
+    fn new() -> LineText
+        ensures { result.bytes.items ≡ [] }
+    {
+        LineText {
+            bytes: ArrayVec::new(),
+        }
+    }
+
+    /// Adds a byte.
+    fn push(&mut self, byte: u8)
+        ensures { Adds self.old.bytes.items self.new.bytes.items (byte ∷ []) }
+    {
+        if !self.bytes.is_full() {
+            self.bytes.push(byte);
+        }
+    }
+
+    /// Adds some text as it stands here.
+    fn text(&mut self, text: &[u8])
+        ensures { Adds self.old.bytes.items self.new.bytes.items text.now }
+    {
+        for byte in text {
+            self.push(*byte);
+        }
+    }
+
+    /// Adds an octal digit.
+    fn digit(&mut self, digit: usize)
+        requires { digit < 8 }
+        ensures { Adds self.old.bytes.items self.new.bytes.items ((48 + digit) ∷ []) }
+    {
+        self.push(b'0' + digit as u8);
+    }
+
+    /// Adds a word as four octal digits.
+    fn word(&mut self, word: Word)
+        ensures { Adds self.old.bytes.items self.new.bytes.items (octal_text word) }
+    {
+        self.text(&word.to_octal());
+    }
+
+    /// Adds a run of words: its first one, and its last one where that is another.
+    fn run(&mut self, low: Word, high: Word)
+        ensures { Adds self.old.bytes.items self.new.bytes.items (run_text low high) }
+    {
+        self.word(low);
+        if low != high {
+            self.push(b'-');
+            self.word(high);
+        }
+    }
+
+    /// Adds a set by its maximal runs.
+    fn runs(&mut self, set: &WordSet)
+        ensures { Adds self.old.bytes.items self.new.bytes.items (marks 4096 (words set.now)) }
+    {
+        let others = WordSet::all().minus(set);
+        let mut next = 0;
+        while let Some(low) = set.first_from(next) {
+            if next > 0 {
+                self.push(b',');
+            }
+            let high = last_before(&others, low);
+            self.run(low, high);
+            next = high.index() + 2;
+        }
+    }
+
+    /// Adds a set, `-` where it's empty.
+    fn set(&mut self, set: &WordSet)
+        ensures { Adds self.old.bytes.items self.new.bytes.items (set_text (words set.now)) }
+    {
+        if set.is_empty() {
+            self.push(b'-');
+        } else {
+            self.runs(set);
+        }
+    }
+
+    /// Adds links: `0`, `1` or `01`.
+    fn links(&mut self, links: Links)
+        ensures { Adds self.old.bytes.items self.new.bytes.items (digits 2 (links_of links)) }
+    {
+        if links.clear {
+            self.push(b'0');
+        }
+        if links.set {
+            self.push(b'1');
+        }
+    }
+
+    /// Adds the offsets' digits in rising order.
+    fn digits(&mut self, offsets: Offsets)
+        ensures { Adds self.old.bytes.items self.new.bytes.items (digits 8 (offsets_of offsets)) }
+    {
+        for offset in 0..8usize {
+            if offsets.contains(offset) {
+                self.digit(offset);
+            }
+        }
+    }
+
+    /// Adds offsets, `-` where there are none.
+    fn offsets(&mut self, offsets: Offsets)
+        ensures { Adds self.old.bytes.items self.new.bytes.items
+            (offsets_text (offsets_of offsets)) }
+    {
+        if offsets.is_empty() {
+            self.push(b'-');
+        } else {
+            self.digits(offsets);
+        }
+    }
+
+    /// Adds a name: `AC` or a cell's address.
+    fn name(&mut self, name: &Name)
+        ensures { Adds self.old.bytes.items self.new.bytes.items (name_text (name_of name.now)) }
+    {
+        match name {
+            Name::Accumulator => self.text(b"AC"),
+            Name::Cell(cell) => self.word(*cell),
+        }
+    }
+
+    /// Adds what MQ may hold, of which version 1 says nothing.
+    fn mq(&mut self, version: Version, mq: &WordSet)
+        ensures { Adds self.old.bytes.items self.new.bytes.items
+            (mq_text version (words mq.now)) }
+    {
+        match version {
+            Version::One => {}
+            Version::Two => {
+                self.text(b" mq ");
+                self.set(mq);
+            }
+        }
+    }
+
+    /// Adds the sets of a fact or of an exit.
+    fn registers(&mut self, version: Version, registers: &Registers)
+        ensures { Adds self.old.bytes.items self.new.bytes.items
+            (words_text version (registers_of registers.now)) }
+    {
+        self.text(b" ac ");
+        self.set(&registers.accumulator);
+        self.mq(version, &registers.mq);
+        self.text(b" link ");
+        self.links(registers.link);
+    }
+
+    /// Adds a rank as two octal digits.
+    fn rank(&mut self, rank: usize)
+        requires { rank < 64 }
+        ensures { Adds self.old.bytes.items self.new.bytes.items (rank_text rank) }
+    {
+        self.digit(rank / 8);
+        self.digit(rank % 8);
+    }
+
+    /// Adds the line of a routine.
+    fn routine(&mut self, routine: &RoutineLine)
+        requires { routine.now.rank < 64 }
+        ensures { Adds self.old.bytes.items self.new.bytes.items
+            (routine_line (routine_of routine.now)) }
+    {
+        self.text(b"routine ");
+        self.word(routine.entry);
+        self.text(b" rank ");
+        self.rank(routine.rank);
+        self.text(b" sites ");
+        self.set(&routine.sites);
+        self.text(b" writes ");
+        self.set(&routine.writes);
+    }
+
+    /// Adds the line of a fact.
+    fn fact(&mut self, version: Version, at: Word, registers: &Registers, offsets: Offsets)
+        ensures { Adds self.old.bytes.items self.new.bytes.items
+            (line_text version (FactIs at (registers_of registers.now) (offsets_of offsets))) }
+    {
+        self.text(b"fact ");
+        self.word(at);
+        self.registers(version, registers);
+        self.text(b" offsets ");
+        self.offsets(offsets);
+    }
+
+    /// Adds the line of an exit.
+    fn exit(&mut self, version: Version, entry: Word, offset: u8, registers: &Registers)
+        requires { offset < 8 }
+        ensures { Adds self.old.bytes.items self.new.bytes.items
+            (line_text version (ExitIs entry offset (registers_of registers.now))) }
+    {
+        self.text(b"exit ");
+        self.word(entry);
+        self.text(b" ");
+        self.digit(usize::from(offset));
+        self.registers(version, registers);
+    }
+
+    /// Adds the line of a tracked cell.
+    fn cell(&mut self, tracked: &TrackedCell)
+        ensures { Adds self.old.bytes.items self.new.bytes.items
+            (cell_line (tracked_of tracked.now)) }
+    {
+        self.text(b"cell ");
+        self.word(tracked.cell);
+        self.text(b" ");
+        self.set(&tracked.set);
+    }
+
+    /// Adds the line of an equation.
+    fn equation(&mut self, equation: &Equation)
+        ensures { Adds self.old.bytes.items self.new.bytes.items
+            (equation_line (equation_of equation.now)) }
+    {
+        self.text(b"equal ");
+        self.name(&equation.left);
+        self.text(b" ");
+        self.word(equation.right);
+        self.text(b" ");
+        self.word(equation.more);
+    }
+}
+
+impl LineText {
+    /// Adds a line.
+    fn line(&mut self, version: Version, line: &Line)
+        requires { IsLine version (said line.now) }
+        ensures { Adds self.old.bytes.items self.new.bytes.items
+            (line_text version (said line.now)) }
+    {
+        match line {
+            Line::Routine(routine) => self.routine(routine),
+            Line::Fact(at, registers, offsets) => self.fact(version, *at, registers, *offsets),
+            Line::Exit(entry, offset, registers) => {
+                self.exit(version, *entry, *offset, registers);
+            }
+            Line::Cell(tracked) => self.cell(tracked),
+            Line::Equation(equation) => self.equation(equation),
+            Line::End => self.text(b"end"),
+        }
+    }
+
+    /// Makes it the text of this line with its line feed.
+    fn put_line(&mut self, version: Version, line: &Line)
+        requires { IsLine version (said line.now) }
+        ensures { self.new.bytes.items ≡ ended (line_text version (said line.now)) }
+    {
+        self.bytes.clear();
+        self.line(version, line);
+        self.push(b'\n');
+    }
+}
+
+/// The first line with its line feed.
+fn first_line(version: Version) -> &'static [u8]
+    ensures { result.now ≡ ended (version_text version) }
+{
+    match version {
+        Version::One => b"PDP8-CERTIFICATE 1\n",
+        Version::Two => b"PDP8-CERTIFICATE 2\n",
+    }
+}
+
+/// Writes the lines after the first one.
+fn put_lines<W: ByteSink>(sink: &mut W, version: Version, lines: &[Line]) -> Result<(), Failed>
+    requires unmarked { W.mark sink.old ≡ false }
+    requires form { Each (IsLine version) (map said lines.now) }
+    ensures whole { OnOk result (Appends (W.taken sink.old) (W.taken sink.new)
+        (all_ended version (map said lines.now))) }
+    ensures front { OnErr result (AppendsFront (W.taken sink.old) (W.taken sink.new)
+        (all_ended version (map said lines.now))) }
+    ensures marks { W.mark sink.new ≡ is_err result }
+{
+    let mut text = LineText::new();
+    for line in lines {
+        text.put_line(version, line);
+        if let Err(failed) = put(sink, &text.bytes) {
+            return Err(failed);
+        }
+    }
+    Ok(())
+}
+
+/// Writes a certificate's text: its first line, these lines and the end.
+pub fn put_text<W: ByteSink>(sink: &mut W, version: Version, lines: &[Line]) -> Result<(), Failed>
+    requires unmarked { W.mark sink.old ≡ false }
+    requires form { Each (IsLine version) (map said lines.now) }
+    ensures whole { OnOk result (Appends (W.taken sink.old) (W.taken sink.new)
+        (ended (version_text version) ++ all_ended version (map said lines.now) ++
+        ended (codes "end"))) }
+    ensures front { OnErr result (AppendsFront (W.taken sink.old) (W.taken sink.new)
+        (ended (version_text version) ++ all_ended version (map said lines.now) ++
+        ended (codes "end"))) }
+    ensures marks { W.mark sink.new ≡ is_err result }
+{
+    put(sink, first_line(version))?;
+    put_lines(sink, version, lines)?;
+    put(sink, b"end\n")
+}

@@ -29,7 +29,7 @@ pub digits_none : (s : Words) → digits 0 s ≡ []
 unfolding digits
 digits_none s = refl
 
-digits_more : (n : ℕ) (s : Words) → digits (n + 1) s ≡ digits n s ++ digit_at s n
+pub digits_more : (n : ℕ) (s : Words) → digits (n + 1) s ≡ digits n s ++ digit_at s n
 unfolding digits
 digits_more n s = let e : n + 1 ≡ suc n = omega arith in rw e refl
 

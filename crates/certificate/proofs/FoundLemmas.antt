@@ -12,16 +12,16 @@ use Rattle.certificate.specs.declared.line.Line.{Line as ReadLine}
 use Rattle.certificate.specs.declared.lines.KeptLines.{KeptLines}
 use Rattle.certificate.specs.Reading.{RiseFrom}
 use Rattle.certificate.specs.Line.{Line, RoutineIs, FactIs, ExitIs, CellIs, EquationIs, End}
-use Rattle.certificate.specs.Order.{is_detail, heads, place, next_place, AreInOrder}
+use Rattle.certificate.specs.Order.{is_detail, is_end, heads, place, next_place, AreInOrder}
 use Rattle.certificate.specs.Meaning.{said}
-use Rattle.certificate.specs.Found.{newest_first, starts, from_place, all_said, IsIndexed, Keeps}
+use Rattle.certificate.specs.Found.{newest_first, starts, from_place, all_said, IsIndexed, Keeps, unended}
 use Rattle.certificate.proofs.GatherLemmas.{Follow, follows}
 
-reversed_more : (before ls : List Line) (l : Line) → newest_first before (ls ++ l ∷ []) ≡ l ∷ newest_first before ls
+pub reversed_more : (before ls : List Line) (l : Line) → newest_first before (ls ++ l ∷ []) ≡ l ∷ newest_first before ls
 reversed_more before [] l = refl
 reversed_more before (m ∷ ls) l = reversed_more (m ∷ before) ls l
 
-heads_more : (ls ms : List Line) → heads (ls ++ ms) ≡ heads ls ++ heads ms
+pub heads_more : (ls ms : List Line) → heads (ls ++ ms) ≡ heads ls ++ heads ms
 heads_more [] ms = refl
 heads_more (l ∷ ls) ms = pick (is_detail l) (heads (ls ++ ms)) (heads ls) (heads ms) (heads_more ls ms)
   where
@@ -58,6 +58,23 @@ lines_more : {A : Type 0} (k new : KeptLines A) (line : ReadLine) (before : List
 lines_more k new line before e h =
     ap (λ (x : List Line). newest_first [] x) (all_more k new line e) ∙
     (reversed_more [] (all_said k) (said line) ∙ ap (λ (x : List Line). said line ∷ x) h.lines)
+
+-- The end is known without being kept.
+pub end_kept : {A : Type 0} (k : KeptLines A) (l : Line) (before : List Line) → is_end l ≡ true → Keeps k before → Keeps k (unended (l ∷ before))
+end_kept k (RoutineIs r) before e h = absurd (cc)
+end_kept k (FactIs a r m) before e h = absurd (cc)
+end_kept k (ExitIs x o r) before e h = absurd (cc)
+end_kept k (CellIs c) before e h = absurd (cc)
+end_kept k (EquationIs q) before e h = absurd (cc)
+end_kept k End before e h = h
+
+pub not_end : (l : Line) (before : List Line) → is_end l ≡ false → unended (l ∷ before) ≡ l ∷ before
+not_end (RoutineIs r) before e = refl
+not_end (FactIs a r m) before e = refl
+not_end (ExitIs x o r) before e = refl
+not_end (CellIs c) before e = refl
+not_end (EquationIs q) before e = refl
+not_end End before e = absurd (cc)
 
 -- A detail was kept.
 pub detail_kept : {A : Type 0} (k new : KeptLines A) (line : ReadLine) (before : List Line) → is_detail (said line) ≡ true →

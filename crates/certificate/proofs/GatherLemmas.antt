@@ -160,12 +160,14 @@ front_reversed v before [] = sym (append-nil (front v before))
 front_reversed v before (l ∷ ls) =
     front_reversed v (l ∷ before) ls ∙ append_assoc (front v before) (ended (line_text v l)) (all_ended v ls)
 
--- The text of what the lines say is theirs.
-pub text_of_gathered : (v : Version) (ls : List Line) → AreInOrder v (newest_first [] ls) → any is_end (newest_first [] ls) ≡ true →
-    text (gathered v ls) ≡ front v (newest_first [] ls)
-text_of_gathered v ls h e =
-    text_law.lines (gathered v ls) ∙
-    (ap (λ (x : List Line). ended (version_text v) ++ all_ended v x) (sym same) ∙ sym (front_reversed v [] ls))
+-- Lines that end are those of what they say.
+pub lines_set_out : (v : Version) (ls : List Line) → AreInOrder v (newest_first [] ls) → any is_end (newest_first [] ls) ≡ true →
+    ls ≡ lines_of (gathered v ls)
+lines_set_out v ls h e =
+    let n = no_details v [] ls f refl in
+    let i : ls ≡ whole_of ls = set_out v [] ls tt f ends in
+    let j : ls ≡ whole [] [] (routines_of ls) (facts_of ls) (exits_of ls) = rw (n.0, n.1) at i in
+    j ∙ grouped (map RoutineIs (routines_of ls)) (flat_map lines_of_fact (facts_of ls)) (flat_map lines_of_exit (exits_of ls)) (End ∷ [])
   where
     f : Follow v [] ls
     f = follows v [] ls h
@@ -177,12 +179,12 @@ text_of_gathered v ls h e =
         last true q = refl
         last false q = q
 
-    same : ls ≡ lines_of (gathered v ls)
-    same =
-        let n = no_details v [] ls f refl in
-        let i : ls ≡ whole_of ls = set_out v [] ls tt f ends in
-        let j : ls ≡ whole [] [] (routines_of ls) (facts_of ls) (exits_of ls) = rw (n.0, n.1) at i in
-        j ∙ grouped (map RoutineIs (routines_of ls)) (flat_map lines_of_fact (facts_of ls)) (flat_map lines_of_exit (exits_of ls)) (End ∷ [])
-      where
-        grouped : (a b c d : List Line) → a ++ (b ++ (c ++ d)) ≡ a ++ b ++ c ++ d
-        grouped a b c d = simp append_assoc
+    grouped : (a b c d : List Line) → a ++ (b ++ (c ++ d)) ≡ a ++ b ++ c ++ d
+    grouped a b c d = simp append_assoc
+
+-- The text of what the lines say is theirs.
+pub text_of_gathered : (v : Version) (ls : List Line) → AreInOrder v (newest_first [] ls) → any is_end (newest_first [] ls) ≡ true →
+    text (gathered v ls) ≡ front v (newest_first [] ls)
+text_of_gathered v ls h e =
+    text_law.lines (gathered v ls) ∙
+    (ap (λ (x : List Line). ended (version_text v) ++ all_ended v x) (sym (lines_set_out v ls h e)) ∙ sym (front_reversed v [] ls))

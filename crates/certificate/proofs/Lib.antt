@@ -19,3 +19,7 @@ pub mod FormLemmas
 pub mod FoundLemmas
 pub mod DetailLemmas
 pub mod ReaderLemmas
+pub mod SpelledLemmas
+pub mod MakerLemmas
+pub mod AddedLemmas
+pub mod PutLemmas

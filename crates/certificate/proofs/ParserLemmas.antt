@@ -1,6 +1,6 @@
 -- A certificate's text taken byte by byte.
 use Rattle.std.proofs.Common.{◌≡◌, ◌≢◌, ◌⊎◌, ℕ, ◌+◌, ◌<◌, ◌≤◌, ◌==◌, Bool, true, false, List, [], ◌∷◌, ◌++◌, length, Option, Some, None, Result, Ok, Err, refl, ap, ◌∙◌, sym, subst, inl, inr, arith, append_assoc, append-nil, length-append, get_or, add-one, drop-cons, length-take-le}
-use Rattle.std.specs.Prelude.{IfSome, IfOk, IfErr, MatchResult, take, drop}
+use Rattle.std.specs.Prelude.{not, ◌&&◌, ◌||◌, IfSome, IfOk, IfErr, MatchResult, take, drop}
 use Rattle.std.proofs.lemmas.Bool.{true≢false, eqb-true, eq-eqb, cases_lt}
 use Rattle.std.proofs.Math.Seq.{take-append_seam}
 use Rattle.std.proofs.lemmas.List.{take-append-drop}
@@ -11,16 +11,18 @@ use Rattle.certificate.specs.declared.CertificateFault.TheVariants as faults
 use Rattle.certificate.specs.declared.progress.Progress.{Progress}
 use Rattle.certificate.specs.declared.line.Line.{Line as ReadLine}
 use Rattle.certificate.specs.declared.lines.KeptLines.{KeptLines}
-use Rattle.certificate.specs.Spelling.{version_text}
-use Rattle.certificate.specs.Line.{Line, line_text}
-use Rattle.certificate.specs.Order.{any, is_end, AreInOrder, front, IsBad, IsMisplaced, IsOneTooMany}
+use Rattle.certificate.specs.Spelling.{version_text, text as spelled}
+use Rattle.certificate.specs.Line.{Line, RoutineIs, FactIs, ExitIs, CellIs, EquationIs, End, line_text}
+use Rattle.certificate.specs.Order.{any, is_end, may_stand, AreInOrder, front, IsBad, IsMisplaced, IsOneTooMany}
 use Rattle.certificate.specs.Progress.{Tracks, Takes}
 use Rattle.certificate.specs.Meaning.{said}
-use Rattle.certificate.specs.Found.{newest_first, all_said, Keeps, IsWhole}
+use Rattle.certificate.specs.Found.{newest_first, all_said, Keeps, IsWhole, unended}
 use Rattle.certificate.specs.Faults.{most_bytes, NoFeed, HasLine, HasFaultyLine, HasRest, IsCut, HasFault}
 use Rattle.certificate.proofs.LengthLemmas.{line_short}
 use Rattle.certificate.proofs.GatherLemmas.{text_of_gathered}
 use Rattle.certificate.proofs.FormLemmas.{gathered_formed}
+use Rattle.certificate.proofs.FoundLemmas.{reversed_more, not_end}
+use Rattle.certificate.proofs.MakerLemmas.{gathered_end}
 use Rattle.certificate.specs.Parser.{Reached, HasRead, Parts, Refuses, IsParsed}
 
 long_bad : (v : Version) (before : List Line) (bytes : List ℕ) → 32768 < length bytes → IsBad v before bytes
@@ -100,11 +102,42 @@ pub first_refused : {A : Type 0} (kept : KeptLines A) (text line bytes : List �
 first_refused kept text line bytes long h small none =
     inr (λ rest. inl (h.tail, has_line text h.tail bytes [] rest h.split h.read.0 h.feed small, λ v. other_line kept text line bytes long v h (none v)))
 
+-- Lines after which one may stand have no end.
+open_before : (before : List Line) → any is_end before ≡ false → unended before ≡ before
+open_before [] e = refl
+open_before (l ∷ ls) e = not_end l ls (first (is_end l) (any is_end ls) e)
+  where
+    first : (a b : Bool) → (a || b) ≡ false → a ≡ false
+    first false b q = refl
+    first true b q = absurd (true≢false q)
+
+not_ended : (b c : Bool) → (not b && c) ≡ true → b ≡ false
+not_ended false c q = refl
+not_ended true c q = absurd (true≢false (sym q))
+
+still_open : (before : List Line) (l : Line) → may_stand before l ≡ true → unended before ≡ before
+still_open before l e = open_before before (not_ended (any is_end before) _ e)
+
+-- Lines with an end have it last.
+record Ended (v : Version) (before : List Line) : Type 0 where
+  is : before ≡ End ∷ unended before
+  order : AreInOrder v (unended before)
+  no_end : any is_end (unended before) ≡ false
+
+ended_last : (v : Version) (before : List Line) → AreInOrder v before → any is_end before ≡ true → Ended v before
+ended_last v [] h e = absurd (true≢false (sym e))
+ended_last v (End ∷ ls) h e = record { is = refl; order = h.2; no_end = not_ended (any is_end ls) _ h.1.stands }
+ended_last v (RoutineIs r ∷ ls) h e = absurd (true≢false (sym e ∙ not_ended (any is_end ls) _ h.1.stands))
+ended_last v (FactIs a r m ∷ ls) h e = absurd (true≢false (sym e ∙ not_ended (any is_end ls) _ h.1.stands))
+ended_last v (ExitIs x o r ∷ ls) h e = absurd (true≢false (sym e ∙ not_ended (any is_end ls) _ h.1.stands))
+ended_last v (CellIs c ∷ ls) h e = absurd (true≢false (sym e ∙ not_ended (any is_end ls) _ h.1.stands))
+ended_last v (EquationIs q ∷ ls) h e = absurd (true≢false (sym e ∙ not_ended (any is_end ls) _ h.1.stands))
+
 -- A further line.
 pub next_kept : {A : Type 0} (kept mid new_kept : KeptLines A) (r : Result Unit CertificateFault) (text line new_text new_line bytes : List ℕ) (old new : Option Progress) (long : Bool)
     (p q : Progress) (l : ReadLine) → old ≡ Some p → Parts text kept old line false bytes → q.version ≡ p.version →
     ((before : List Line) → Tracks p before → Takes p.version before line q (Ok l)) → Kept r text line old new_text new_line new long q →
-    ((before : List Line) → Keeps kept before → Keeps mid (said l ∷ before)) → new_kept ≡ mid →
+    ((before : List Line) → Keeps kept before → Keeps mid (unended (said l ∷ before))) → new_kept ≡ mid →
     MatchResult r (λ u. Parts new_text new_kept new new_line long (bytes ++ 10 ∷ [])) (Refuses (bytes ++ 10 ∷ []))
 next_kept kept mid new_kept (Err f) text line new_text new_line bytes old new long p q l is h w t k more same = inl k.0
 next_kept kept mid new_kept (Ok u) text line new_text new_line bytes old new long p q l is h w t k more same =
@@ -119,7 +152,7 @@ next_kept kept mid new_kept (Ok u) text line new_text new_line bytes old new lon
           before = said l ∷ g.before;
           order = subst (λ (v : Version). AreInOrder v (said l ∷ g.before)) (sym w) (n.0.spells.0, n.0.next, g.order);
           tracks = n.1;
-          keeps = rw same (more g.before g.keeps);
+          keeps = rw same (more g.before (let k : unended g.before ≡ g.before = still_open g.before (said l) n.0.next.stands in rw k at g.keeps));
           is = subst (λ (v : Version). new_text ≡ front v (said l ∷ g.before)) (sym w)
               (k.0 ∙ rw (g.is, e) (append_assoc (front p.version g.before) (line_text p.version (said l)) (10 ∷ [])));
         }
@@ -298,32 +331,44 @@ not_empty line e f = true≢false (sym (eq-eqb (length line) 0 (ap length f)) �
 
 -- The certificate that is kept.
 pub whole_kept : {A : Type 0} (kept : KeptLines A) (text : List ℕ) (o : Option Progress) (p : Progress) (v : Version) → v ≡ p.version → o ≡ Some p →
-    HasRead o text kept → ((before : List Line) → Tracks p before → any is_end before ≡ true) → IsWhole v text kept
+    HasRead o text kept → ((before : List Line) → Tracks p before → any is_end before ≡ true) → IsWhole v kept
 whole_kept kept text o p v same is h ended =
     let g : Reached p text kept = let z : HasRead (Some p) text kept = rw is at h in z in
+    let e : Ended p.version g.before = ended_last p.version g.before g.order (ended g.before g.tracks) in
     record {
-      order = rw (same, g.keeps.lines) g.order;
-      ended = rw g.keeps.lines (ended g.before g.tracks);
-      is = rw (same, g.keeps.lines) g.is;
+      order = rw (same, g.keeps.lines) e.order;
+      no_end = rw g.keeps.lines e.no_end;
       indexed = g.keeps.indexed;
     }
 
-pub whole_parsed : {A : Type 0} (kept : KeptLines A) (text line bytes : List ℕ) (o : Option Progress) (long : Bool) (v : Version) →
-    IsWhole v text kept → Parts text kept o line long bytes → long ≡ false → line ≡ [] → length bytes ≤ most_bytes →
+pub whole_parsed : {A : Type 0} (kept : KeptLines A) (text line bytes : List ℕ) (o : Option Progress) (p : Progress) (long : Bool) (v : Version) →
+    v ≡ p.version → o ≡ Some p → ((before : List Line) → Tracks p before → any is_end before ≡ true) →
+    IsWhole v kept → Parts text kept o line long bytes → long ≡ false → line ≡ [] → length bytes ≤ most_bytes →
     IsParsed bytes (record { version = v; lines = kept.lines.items })
-whole_parsed kept text line bytes o long v w h short none few =
-    let all : bytes ≡ text = h.split ∙ (ap (λ (x : List ℕ). text ++ x) (sym (h.same short) ∙ none) ∙ append-nil text) in
+whole_parsed kept text line bytes o p long v same is ended w h short none few =
     record {
-      found = all ∙ (w.is ∙ sym (text_of_gathered v (all_said kept) w.order w.ended));
+      found = all ∙ (sym (ap (front v) lines) ∙
+          (sym (text_of_gathered v (all_said kept ++ End ∷ []) (rw lines order) (rw lines has_end)) ∙ ap spelled (gathered_end v (all_said kept))));
       lines = gathered_formed v (all_said kept) w.order;
-      is_text = record {
-        lines = newest_first [] (all_said kept);
-        order = w.order;
-        ended = w.ended;
-        text = all ∙ w.is;
-        few = few;
-      };
+      is_text = record { lines = g.before; order = order; ended = has_end; text = all; few = few };
     }
+  where
+    g : Reached p text kept
+    g = let z : HasRead (Some p) text kept = rw is at h.read in z
+
+    order : AreInOrder v g.before
+    order = rw same g.order
+
+    has_end : any is_end g.before ≡ true
+    has_end = ended g.before g.tracks
+
+    all : bytes ≡ front v g.before
+    all = h.split ∙ (ap (λ (x : List ℕ). text ++ x) (sym (h.same short) ∙ none) ∙ (append-nil text ∙ (g.is ∙ ap (λ (x : Version). front x g.before) (sym same))))
+
+    lines : newest_first [] (all_said kept ++ End ∷ []) ≡ g.before
+    lines =
+        let e : Ended p.version g.before = ended_last p.version g.before g.order has_end in
+        reversed_more [] (all_said kept) End ∙ (ap (λ (x : List Line). End ∷ x) g.keeps.lines ∙ sym e.is)
 
 pub is_empty : (line : List ℕ) → true ≡ (length line == 0) → line ≡ []
 is_empty [] e = refl

@@ -145,36 +145,32 @@ told (Some x) P Q to h = to x h
 told None P Q to h = tt
 
 -- The lines that are kept of a certificate.
-formed : {A : Type 0} (v : Version) (text : List ℕ) (k : KeptLines A) → IsWhole v text k → Each (IsLine v) (all_said k)
-formed v text k w = each_formed v [] (all_said k) (follows v [] (all_said k) w.order)
+pub formed : {A : Type 0} (v : Version) (k : KeptLines A) → IsWhole v k → Each (IsLine v) (all_said k)
+formed v k w = each_formed v [] (all_said k) (follows v [] (all_said k) w.order)
 
-pub routine_claims : {A : Type 0} (v : Version) (text : List ℕ) (k : KeptLines A) (e : ℕ) (ls : List ReadLine) → IsWhole v text k → e < 4096 →
+pub routine_claims : {A : Type 0} (v : Version) (k : KeptLines A) (e : ℕ) (ls : List ReadLine) → IsWhole v k → e < 4096 →
     map said ls ≡ from_place e (all_said k) →
     (begins_routine (map said ls) ≡ has_routine (routines_of (all_said k)) e) × SaysFirst (routines_of (all_said k)) e (map said ls)
-routine_claims v text k e ls w b at =
-    let f = routines_found v (all_said k) e (formed v text k w) b in rw at (sym f.0, f.1)
+routine_claims v k e ls w b at =
+    let f = routines_found v (all_said k) e (formed v k w) b in rw at (sym f.0, f.1)
 
-pub fact_claims : {A : Type 0} (v : Version) (text : List ℕ) (k : KeptLines A) (a : ℕ) (ls : List ReadLine) → IsWhole v text k → a < 4096 →
+pub fact_claims : {A : Type 0} (v : Version) (k : KeptLines A) (a : ℕ) (ls : List ReadLine) → IsWhole v k → a < 4096 →
     map said ls ≡ from_place (4096 + a) (all_said k) →
     (begins_fact (map said ls) ≡ has_fact_in (facts_of (all_said k)) a) × (first_fact (map said ls) ≡ fact_in (facts_of (all_said k)) a)
-fact_claims v text k a ls w b at =
-    let f = facts_found v (all_said k) a (formed v text k w) b in rw at (sym f.0, sym f.1)
+fact_claims v k a ls w b at =
+    let f = facts_found v (all_said k) a (formed v k w) b in rw at (sym f.0, sym f.1)
 
-pub exit_claims : {A : Type 0} (v : Version) (text : List ℕ) (k : KeptLines A) (e o p : ℕ) (ls : List ReadLine) → IsWhole v text k → e < 4096 → o < 8 →
+pub exit_claims : {A : Type 0} (v : Version) (k : KeptLines A) (e o p : ℕ) (ls : List ReadLine) → IsWhole v k → e < 4096 → o < 8 →
     p ≡ 8192 + (8 * e + o) → map said ls ≡ from_place p (all_said k) →
     (begins_exit (map said ls) ≡ has_exit_in (exits_of (all_said k)) e o) × (first_exit (map said ls) ≡ exit_in (exits_of (all_said k)) e o)
-exit_claims v text k e o p ls w b g same at =
-    let f = exits_found v (all_said k) e o (formed v text k w) b g in rw (at, same) (sym f.0, sym f.1)
+exit_claims v k e o p ls w b g same at =
+    let f = exits_found v (all_said k) e o (formed v k w) b g in rw (at, same) (sym f.0, sym f.1)
 
-pub no_claim : {A : Type 0} (v : Version) (text : List ℕ) (k : KeptLines A) (e o : ℕ) → IsWhole v text k → 8 ≤ o →
+pub no_claim : {A : Type 0} (v : Version) (k : KeptLines A) (e o : ℕ) → IsWhole v k → 8 ≤ o →
     has_exit_in (exits_of (all_said k)) e o ≡ false
-no_claim v text k e o w g = no_exit v (exits_of (all_said k)) e o (gathered_formed v (all_said k) w.order).exits g
+no_claim v k e o w g = no_exit v (exits_of (all_said k)) e o (gathered_formed v (all_said k) w.order).exits g
 
-pub fits : {A : Type 0} (v : Version) (text : List ℕ) (k : KeptLines A) (p : ℕ) (ls : List ReadLine) → IsWhole v text k →
+pub fits : {A : Type 0} (v : Version) (k : KeptLines A) (p : ℕ) (ls : List ReadLine) → IsWhole v k →
     map said ls ≡ from_place p (all_said k) → FitUnderFirst (map said ls)
-fits v text k p ls w at =
+fits v k p ls w at =
     let f = gathered_formed v (all_said k) w.order in rw at (fits_first v (all_said k) p f.facts f.exits)
-
--- The text that is kept is that of what is said.
-pub text_kept : {A : Type 0} (v : Version) (kept : List ℕ) (k : KeptLines A) → IsWhole v kept k → text (gathered v (all_said k)) ≡ kept
-text_kept v kept k w = text_of_gathered v (all_said k) w.order w.ended ∙ sym w.is

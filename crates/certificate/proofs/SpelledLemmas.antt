@@ -1,29 +1,222 @@
 -- The text of a line while it's written.
-use Rattle.std.proofs.Common.{◌≡◌, ◌⊎◌, ℕ, suc, ◌+◌, ◌-◌, ◌<◌, ◌≤◌, ◌==◌, Bool, true, false, not, List, [], ◌∷◌, ◌++◌, length, refl, ap, ◌∙◌, sym, inl, inr, arith, append_assoc, append-nil, length-append, get_or, add-one, length-take-le}
-use Rattle.std.specs.Prelude.{take, drop, codes, if◌then◌else◌, ◌||◌}
-use Rattle.std.proofs.lemmas.Bool.{true≢false, false≢true, eqb-true, eq-eqb, ne_eqb, cases_lt}
-use Rattle.std.proofs.Math.Seq.{take-append_seam}
-use Rattle.word12.specs.Words.{octal_text}
-use Rattle.wordset.specs.Words.{Words, everything, difference, some_below, has_some}
+use Rattle.std.proofs.Common.{◌≡◌, ◌⊎◌, ℕ, zero, suc, Option, map, drop, length-append, ◌+◌, ◌-◌, ◌<◌, ◌≤◌, ◌==◌, Bool, true, false, List, [], ◌∷◌, ◌++◌, length, refl, ap, ◌∙◌, sym, inl, inr, arith, append_assoc, append-nil, get_or, add-one, length-take-le}
+use Rattle.std.specs.Prelude.{take, not, ◌&&◌, ◌||◌, if◌then◌else◌, IsTrue}
+use Rattle.std.proofs.lemmas.Bool.{true≢false, eq-eqb, ne_eqb, cases_lt}
+use Rattle.std.proofs.lemmas.Bool.Decides.{nat_tests}
+use Rattle.std.proofs.lemmas.List.{take_all, take-append-le, take_more, take-append-drop}
+use Rattle.std.proofs.Math.Seq.{take-append-add}
+use Rattle.std.specs.Io.KnownBytes.{Appends}
+use Rattle.std.proofs.KnownBytes.{Appends-trans}
+use Rattle.streams.specs.Bytes.{AppendsFront}
+use Rattle.certificate.specs.declared.Version.{Version}
+use Rattle.certificate.specs.declared.line.Line.{Line as ReadLine}
+use Rattle.certificate.specs.Reading.{Each}
+use Rattle.certificate.specs.Line.{line_text, ended, all_ended}
+use Rattle.certificate.specs.Meaning.{said}
+use Rattle.wordset.specs.Words.{Words, all_words, difference, some_below, has_some, IsFirstFrom, HasNoneFrom}
 use Rattle.wordset.proofs.Tests.{IsSome}
-use Rattle.certificate.specs.Spelling.{marks, set_text}
+use Rattle.certificate.specs.Spelling.{marks, set_text, digits, offsets_text}
 use Rattle.certificate.specs.Fields.{run_text}
 use Rattle.certificate.specs.Spelled.{Adds, IsLastOf}
-use Rattle.certificate.proofs.SetLemmas.{rest, comma, Run, None_from, whole_rest, none_rest, run_rest, StartsAt, starts_after}
-use Rattle.certificate.proofs.RunLemmas.{no_comma, comma_rest}
-
-take_all : (n : ℕ) (xs : List ℕ) → length xs ≤ n → take n xs ≡ xs
-take_all n xs h = search rules
-
--- Nothing was added.
-pub none : (xs : List ℕ) → length xs ≤ 32769 → Adds xs xs []
-none xs h = record { is = sym (ap (λ (x : List ℕ). take 32769 x) (append-nil xs) ∙ take_all 32769 xs h) }
+use Rattle.certificate.proofs.SetLemmas.{rest, comma, Run, whole_rest, none_rest, run_rest, StartsAt, starts_after}
+use Rattle.certificate.proofs.RunLemmas.{no_comma, comma_rest, full_text, empty_text}
+use Rattle.certificate.proofs.DigitLemmas.{digits_more, digits_none, no_offsets, some_offsets, has_offset}
 
 take_twice : (xs ys : List ℕ) (n : ℕ) → take n (take n xs ++ ys) ≡ take n (xs ++ ys)
-take_twice xs ys n = search rules
+take_twice xs ys n = elim (cases_lt n (length xs)) [
+  | inl h ↦ (let k : length (take n xs) ≡ n = length-take-le n xs (omega arith) in
+      take-append-le n (take n xs) ys (omega arith) ∙ (take_all n (take n xs) (omega arith) ∙ sym (take-append-le n xs ys (omega arith))))
+  | inr h ↦ ap (λ (x : List ℕ). take n (x ++ ys)) (take_all n xs (omega arith))
+]
+
+-- Nothing was added.
+pub none : (xs : List ℕ) → Adds xs xs []
+none xs = record { is = sym (ap (λ (x : List ℕ). take 32769 x) (append-nil xs)) }
 
 -- One text after another.
-pub then : {a b c s t : List ℕ} → Adds a b s → Adds b c t → Adds a c (s ++ t)
-then {a} {b} {c} {s} {t} p q = record {
-  is = q.is ∙ (ap (λ (x : List ℕ). take 32769 (x ++ t)) p.is ∙ (take_twice (a ++ s) t 32769 ∙ ap (λ (x : List ℕ). take 32769 x) (append_assoc a s t)));
+pub joined : (a b c s t : List ℕ) → Adds a b s → Adds b c t → Adds a c (s ++ t)
+joined a b c s t p q = record {
+  is = q.is ∙ (sym (take_twice b t 32769) ∙ (ap (λ (x : List ℕ). take 32769 (x ++ t)) p.is ∙
+      (take_twice (a ++ s) t 32769 ∙ ap (λ (x : List ℕ). take 32769 x) (append_assoc a s t))));
 }
+
+-- A byte for which there is room, and one for which there is none.
+pub pushed : (xs ys : List ℕ) (b : ℕ) → ys ≡ xs ++ b ∷ [] → Adds xs ys (b ∷ [])
+pushed xs ys b e = record { is = ap (λ (x : List ℕ). take 32769 x) e }
+
+pub dropped : (xs : List ℕ) (b : ℕ) → 32769 ≤ length xs → Adds xs xs (b ∷ [])
+dropped xs b h = record { is = sym (take-append-le 32769 xs (b ∷ []) h) }
+
+-- What is written is the line.
+pub whole : (xs ys text : List ℕ) → xs ≡ [] → Adds xs ys text → length ys ≤ 32769 → length text ≤ 32769 → ys ≡ text
+whole xs ys text none h a b =
+    let e : take 32769 ys ≡ take 32769 text = rw none at h.is in
+    sym (take_all 32769 ys a) ∙ (e ∙ take_all 32769 text b)
+
+-- A set as far as it's written: its runs before a word.
+pub record SetSofar (old now : List ℕ) (s : Words) (n : ℕ) : Type 0 where
+  pub text : List ℕ
+  pub is : text ++ rest s n ≡ rest s 0
+  pub adds : Adds old now text
+  pub starts : StartsAt s n
+  pub some : (n ≡ 0) ⊎ IsSome n s
+
+pub set_begun : (old : List ℕ) (s : Words) → SetSofar old old s 0
+set_begun old s = record { text = []; is = refl; adds = none old; starts = λ h. refl; some = inl refl }
+
+-- The next run.
+pub found_run : (s others : Words) (n low high : ℕ) → StartsAt s n → IsFirstFrom n s low → IsLastOf others low high →
+    ((v : ℕ) → others v ≡ difference all_words s v) → Run s n low high
+found_run s others n low high starts f l are = record {
+  reached = f.reached;
+  order = l.order;
+  small = l.small;
+  before = f.before;
+  inside = λ v a b. there v (let q : high < 4096 = l.small in omega arith) (sym (are v) ∙ l.inside v a b);
+  starts = elim (cases_lt n low) [
+    | inl w ↦ rw (f.before (low - 1) (omega arith) (omega arith), ne_eqb low 0 (λ z. omega arith)) refl
+    | inr w ↦ (let z : low ≡ n = (let q : n ≤ low = f.reached in omega arith) in rw z (starts (let p : low < 4096 = f.small in omega arith)))
+  ];
+  stops = stop l.stops;
+}
+  where
+    there : (v : ℕ) → v < 4096 → difference all_words s v ≡ false → s v ≡ true
+    there v h e = go (s v) (all_words v) (grind (arith, nat_tests)) e
+      where
+        go : (b c : Bool) → c ≡ true → (c && not b) ≡ false → b ≡ true
+        go true c k q = refl
+        go false c k q = absurd (let z : true ≡ false = rw k at q in true≢false z)
+
+    gone : (v : ℕ) → difference all_words s v ≡ true → s v ≡ false
+    gone v e = go (s v) (all_words v) e
+      where
+        go : (b c : Bool) → (c && not b) ≡ true → b ≡ false
+        go false c q = refl
+        go true true q = absurd (true≢false (sym q))
+        go true false q = absurd (true≢false (sym q))
+
+    stop : (high ≡ 4095) ⊎ (others (high + 1) ≡ true) → (high == 4095 || not (s (high + 1))) ≡ true
+    stop (inl e) = rw (eq-eqb high 4095 e) refl
+    stop (inr e) = let z : s (high + 1) ≡ false = gone (high + 1) (sym (are (high + 1)) ∙ e) in rw z (or_true (high == 4095))
+      where
+        or_true : (b : Bool) → (b || true) ≡ true
+        or_true true = refl
+        or_true false = refl
+
+-- A run more.
+pub run_written : (old now mid new : List ℕ) (s : Words) (n low high : ℕ) → SetSofar old now s n →
+    Adds now mid (if n == 0 then [] else 44 ∷ []) → Adds mid new (run_text low high) → Run s n low high → SetSofar old new s (high + 2)
+run_written old now mid new s n low high h a b run = record {
+  text = h.text ++ (if n == 0 then [] else 44 ∷ []) ++ run_text low high;
+  is =
+      append_assoc (h.text ++ (if n == 0 then [] else 44 ∷ [])) (run_text low high) (rest s (high + 2)) ∙
+      (append_assoc h.text (if n == 0 then [] else 44 ∷ []) (run_text low high ++ rest s (high + 2)) ∙
+      (ap (λ (x : List ℕ). h.text ++ x) (sym (next h.some)) ∙ h.is));
+  adds = joined old mid new (h.text ++ (if n == 0 then [] else 44 ∷ [])) (run_text low high)
+      (joined old now mid h.text (if n == 0 then [] else 44 ∷ []) h.adds a) b;
+  starts = starts_after s n low high run;
+  some = inr (record { at = low; small = (let q : low ≤ high = run.order in omega arith); holds = run.inside low (omega arith) run.order });
+}
+  where
+    next : (n ≡ 0) ⊎ IsSome n s → rest s n ≡ (if n == 0 then [] else 44 ∷ []) ++ (run_text low high ++ rest s (high + 2))
+    next (inl e) =
+        let f : rest s n ≡ comma s low ++ run_text low high ++ rest s (high + 2) = run_rest s n low high run in
+        let g : comma s low ≡ [] = no_comma s low (λ v k. run.before v (omega arith) k) in
+        let t : (n == 0) ≡ true = eq-eqb n 0 e in
+        rw t (rw g at f)
+    next (inr w) =
+        let f : rest s n ≡ 44 ∷ (run_text low high ++ rest s (high + 2)) = comma_rest s s n low high (λ v a b. refl) w run in
+        let t : (n == 0) ≡ false = ne_eqb n 0 (λ z. let p : w.at < n = w.small in omega arith) in
+        rw t f
+
+-- No run more.
+pub set_written : (old now : List ℕ) (s : Words) (n : ℕ) → SetSofar old now s n → HasNoneFrom n s → Adds old now (marks 4096 s)
+set_written old now s n h none =
+    let e : h.text ≡ marks 4096 s =
+    sym (append-nil h.text) ∙ (ap (λ (x : List ℕ). h.text ++ x) (sym (none_rest s n none)) ∙ (h.is ∙ sym (whole_rest s))) in
+    rw e at h.adds
+
+-- A text byte by byte.
+pub text_more : (old now new text : List ℕ) (i : ℕ) → i < length text → Adds old now (take i text) →
+    Adds now new (get_or text i 0 ∷ []) → Adds old new (take (i + 1) text)
+text_more old now new text i h a b =
+    let e : take (i + 1) text ≡ take i text ++ get_or text i 0 ∷ [] = take_more text i 0 h in
+    rw e (joined old now new (take i text) (get_or text i 0 ∷ []) a b)
+
+pub text_done : (old now text : List ℕ) (i : ℕ) → length text ≤ i → i ≤ length text → Adds old now (take i text) → Adds old now text
+text_done old now text i a b h = rw (take_all i text a) at h
+
+-- Digits one by one.
+pub digits_begun : (old : List ℕ) (s : Words) → Adds old old (digits 0 s)
+digits_begun old s = rw (digits_none s) (none old)
+
+pub digit_written : (old now new : List ℕ) (s : Words) (n : ℕ) (b : Bool) → b ≡ s n → Adds old now (digits n s) →
+    Adds now new (if b then (48 + n) ∷ [] else []) → Adds old new (digits (n + 1) s)
+digit_written old now new s n b e h k =
+    let g : Adds now new (if s n then (48 + n) ∷ [] else []) = rw e at k in
+    rw (digits_more n s) (joined old now new (digits n s) (if s n then (48 + n) ∷ [] else []) h g)
+
+pub digits_written : (old now : List ℕ) (s : Words) (n : ℕ) → 8 ≤ n → n ≤ 8 → Adds old now (digits n s) → Adds old now (digits 8 s)
+digits_written old now s n a b h = let e : n ≡ 8 = omega arith in rw e at h
+
+-- Offsets.
+pub no_offset : (old now : List ℕ) (s : Words) → ((o : ℕ) → o < 8 → s o ≡ false) → Adds old now (45 ∷ []) → Adds old now (offsets_text s)
+no_offset old now s none h = rw (no_offsets s none) h
+
+pub some_offset : (old now : List ℕ) (s : Words) → (((o : ℕ) → o < 8 → s o ≡ false) → IsTrue false) → Adds old now (digits 8 s) →
+    Adds old now (offsets_text s)
+some_offset old now s some h = rw (some_offsets s (has_offset s some)) h
+
+-- Lines one after another.
+pub each_at : {A B : Type 0} (P : B → Type 0) (f : A → B) (xs : List A) (i : ℕ) (d : A) → Each P (map f xs) → i < length xs → P (f (get_or xs i d))
+each_at P f [] i d h b = absurd (omega arith)
+each_at P f (x ∷ xs) zero d h b = h.0
+each_at P f (x ∷ xs) (suc i) d h b = each_at P f xs i d h.1 (omega arith)
+
+lines_more : (v : Version) (ls : List ReadLine) (i : ℕ) (d : ReadLine) → i < length ls →
+    all_ended v (map said (take (i + 1) ls)) ≡ all_ended v (map said (take i ls)) ++ ended (line_text v (said (get_or ls i d)))
+lines_more v ls i d h = rw (take_more ls i d h) (on (take i ls) (get_or ls i d))
+  where
+    on : (xs : List ReadLine) (x : ReadLine) →
+        all_ended v (map said (xs ++ x ∷ [])) ≡ all_ended v (map said xs) ++ ended (line_text v (said x))
+    on [] x = append-nil (ended (line_text v (said x)))
+    on (y ∷ ys) x = ap (λ (z : List ℕ). ended (line_text v (said y)) ++ z) (on ys x) ∙
+        sym (append_assoc (ended (line_text v (said y))) (all_ended v (map said ys)) (ended (line_text v (said x))))
+
+pub front_after : (a b c : Option (List ℕ)) (first second : List ℕ) → Appends a b first → AppendsFront b c second → AppendsFront a c (first ++ second)
+front_after a b c first second whole front = record {
+  count = length first + front.count;
+  within = let e = length-append first second in let f = front.within in omega (arith, e, f);
+  out = rw (take-append-add first second front.count) (Appends-trans a b c first (take front.count second) whole front.out);
+}
+
+pub front_more : (a b : Option (List ℕ)) (first second : List ℕ) → AppendsFront a b first → AppendsFront a b (first ++ second)
+front_more a b first second front = record {
+  count = front.count;
+  within = let e = length-append first second in let f = front.within in omega (arith, e, f);
+  out = (let f : front.count ≤ length first = front.within in rw (take-append-le front.count first second f) front.out);
+}
+
+pub line_put : (a b c : Option (List ℕ)) (v : Version) (ls : List ReadLine) (i : ℕ) (d : ReadLine) (text : List ℕ) → i < length ls →
+    Appends a b (all_ended v (map said (take i ls))) → text ≡ ended (line_text v (said (get_or ls i d))) → Appends b c text →
+    Appends a c (all_ended v (map said (take (i + 1) ls)))
+line_put a b c v ls i d text h p e q =
+    rw (lines_more v ls i d h) (Appends-trans a b c (all_ended v (map said (take i ls))) (ended (line_text v (said (get_or ls i d)))) p (rw e at q))
+
+pub line_cut : (a b c : Option (List ℕ)) (v : Version) (ls : List ReadLine) (i : ℕ) (d : ReadLine) (text : List ℕ) → i < length ls →
+    Appends a b (all_ended v (map said (take i ls))) → text ≡ ended (line_text v (said (get_or ls i d))) → AppendsFront b c text →
+    AppendsFront a c (all_ended v (map said ls))
+line_cut a b c v ls i d text h p e q =
+    let f : AppendsFront a c (all_ended v (map said (take (i + 1) ls))) =
+    rw (lines_more v ls i d h) (front_after a b c (all_ended v (map said (take i ls))) (ended (line_text v (said (get_or ls i d)))) p (rw e at q)) in
+    rw (sym (together (take (i + 1) ls) (drop (i + 1) ls)) ∙ ap (λ (x : List ReadLine). all_ended v (map said x)) (take-append-drop (i + 1) ls))
+    at (front_more a c (all_ended v (map said (take (i + 1) ls))) (all_ended v (map said (drop (i + 1) ls))) f)
+  where
+    together : (xs ys : List ReadLine) → all_ended v (map said (xs ++ ys)) ≡ all_ended v (map said xs) ++ all_ended v (map said ys)
+    together [] ys = refl
+    together (x ∷ xs) ys = ap (λ (z : List ℕ). ended (line_text v (said x)) ++ z) (together xs ys) ∙
+        sym (append_assoc (ended (line_text v (said x))) (all_ended v (map said xs)) (all_ended v (map said ys)))
+
+pub lines_put : (a b : Option (List ℕ)) (v : Version) (ls : List ReadLine) (i : ℕ) → length ls ≤ i → i ≤ length ls →
+    Appends a b (all_ended v (map said (take i ls))) → Appends a b (all_ended v (map said ls))
+lines_put a b v ls i g h p = rw (take_all i ls g) at p

@@ -142,6 +142,29 @@ all_after v rs fs es h =
     exits_after v es (onto (onto [] (map RoutineIs rs)) (flat_map lines_of_fact fs)) 0 (weaker v 8192 40960 _ (omega arith) b)
     (weaker v 8192 (8192 + 0) _ (omega arith) b).next h.exits h.exits_rise
 
+-- The lines of a certificate before the end.
+abbrev pub body_of : Lines → List Line
+body_of c = map RoutineIs c.routines ++ flat_map lines_of_fact c.facts ++ flat_map lines_of_exit c.exits
+
+pub body_order : (c : Lines) → AreLines c → AreInOrder c.version (onto [] (body_of c)) × (any is_end (onto [] (body_of c)) ≡ false)
+body_order c h = rw together (s.order, s.no_end)
+  where
+    s : Sofar c.version 40960 (onto (onto (onto [] (map RoutineIs c.routines)) (flat_map lines_of_fact c.facts)) (flat_map lines_of_exit c.exits))
+    s = all_after c.version c.routines c.facts c.exits (record {
+      routines = h.routines;
+      routines_rise = h.routines_rise;
+      few_routines = h.few_routines;
+      facts = h.facts;
+      facts_rise = h.facts_rise;
+      exits = h.exits;
+      exits_rise = h.exits_rise;
+    })
+
+    together : onto [] (body_of c) ≡ onto (onto (onto [] (map RoutineIs c.routines)) (flat_map lines_of_fact c.facts)) (flat_map lines_of_exit c.exits)
+    together =
+        onto_both [] (map RoutineIs c.routines ++ flat_map lines_of_fact c.facts) (flat_map lines_of_exit c.exits) ∙
+        ap (λ (x : List Line). onto x (flat_map lines_of_exit c.exits)) (onto_both [] (map RoutineIs c.routines) (flat_map lines_of_fact c.facts))
+
 pub text_of_lines : (c : Lines) → AreLines c → length (text c) ≤ most_bytes → IsText c.version (text c)
 text_of_lines c h few =
     let v : Version = c.version in

@@ -6,6 +6,10 @@ use Rattle.facts.specs.Statements.{Statement, fact_of, unknown}
 use Rattle.wordset.specs.Lanes.{words}
 use Rattle.certificate.specs.declared.Version.{Version}
 use Rattle.certificate.specs.declared.Routine.{Routine}
+use Rattle.facts.specs.declared.fact.TrackedCell.{TrackedCell}
+use Rattle.facts.specs.declared.names.Equation.{Equation}
+use Rattle.certificate.specs.declared.line.Line.{Line as ReadLine}
+use Rattle.certificate.specs.declared.line.Line.TheVariants as kept
 use Rattle.certificate.specs.declared.lines.KeptLines.{KeptLines}
 use Rattle.certificate.specs.Spelling.{RoutineLine}
 use Rattle.certificate.specs.Reading.{rank_in, sites_in, writes_in}
@@ -48,6 +52,22 @@ pub record IsIndexed {A : Type 0} (k : KeptLines A) : Type 0 where
 pub record Keeps {A : Type 0} (k : KeptLines A) (before : List Line) : Type 0 where
   pub lines : newest_first [] (all_said k) ≡ before
   pub indexed : IsIndexed k
+
+-- The list begins with another.
+abbrev pub Begins : {X : Type 0} → List X → List X → Type 0
+Begins {X = X} old new = (more : List X) × (new ≡ old ++ more)
+
+-- What is kept begins with what was.
+pub record Extends {A : Type 0} (old new : KeptLines A) : Type 0 where
+  pub lines : Begins old.lines.items new.lines.items
+  pub places : Begins old.places.items new.places.items
+  pub starts : Begins old.starts.items new.starts.items
+
+-- A line that isn't a detail is kept too, with its cells and equations.
+pub record HasMore {A : Type 0} (old new : KeptLines A) (head : ReadLine) (cells : List TrackedCell) (equations : List Equation) : Type 0 where
+  pub lines : new.lines.items ≡ old.lines.items ++ (head ∷ (map kept.Cell cells ++ map kept.Equation equations))
+  pub places : new.places.items ≡ old.places.items ++ place (said head) ∷ []
+  pub starts : new.starts.items ≡ old.starts.items ++ length old.lines.items ∷ []
 
 -- The lines that are kept are in order, and the end isn't among them.
 pub record IsWhole {A : Type 0} (v : Version) (k : KeptLines A) : Type 0 where

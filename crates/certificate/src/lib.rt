@@ -4,7 +4,7 @@
 ghost use Rattle.std.specs.Prelude.{ℕ, ◌≡◌, ◌<◌, ◌⊎◌, true, false, is_some, is_err, IfSome, IfOk, IfErr, OnOk, OnErr};
 ghost use Rattle.std.specs.Io.KnownBytes.{Appends};
 ghost use Rattle.streams.specs.Bytes.{AppendsFront};
-ghost use Rattle.certificate.specs.declared.CertificateFault.TheVariants.{NoMemory};
+ghost use Rattle.certificate.specs.declared.CertificateFault.TheVariants as faults;
 ghost use Rattle.certificate.specs.Faults.{IsText, HasFault};
 ghost use Rattle.wordset.specs.Words.{everything};
 ghost use Rattle.wordset.specs.Lanes.{words};
@@ -94,7 +94,7 @@ impl<A: Allocator + Copy> Certificate<A> {
         ensures found { IfOk result (λ c. bytes.now ≡ text (meaning c)) }
         ensures lines { IfOk result (λ c. AreLines (meaning c)) }
         ensures text { IfOk result (λ c. IsText (meaning c).version bytes.now) }
-        ensures refused { IfErr result (λ fault. (fault ≡ NoMemory) ⊎ HasFault bytes.now fault) }
+        ensures refused { IfErr result (λ fault. (fault ≡ faults.NoMemory) ⊎ HasFault bytes.now fault) }
     {
         let mut parser = Parser::new(alloc);
         for byte in bytes {

@@ -1,7 +1,7 @@
 //! The lines of a certificate as they are kept, and what is found in them.
 
-ghost use Rattle.std.specs.Prelude.{ℕ, ◌≡◌, ◌+◌, ◌<◌, ◌≤◌, List, [], ◌∷◌, ◌++◌, length, map, OnOk, IfSome, is_some, true};
-ghost use Rattle.std.specs.Prelude.{is_ok, take, if◌then◌else◌};
+ghost use Rattle.std.specs.Prelude.{ℕ, ◌≡◌, ◌+◌, ◌<◌, ◌≤◌, List, [], ◌∷◌, ◌++◌, length, map, OnOk, IfSome, is_some, true, false};
+ghost use Rattle.std.specs.Prelude.{is_ok, if◌then◌else◌};
 ghost use Rattle.facts.specs.Meaning.{statement_of, offsets_of, tracked_of, equation_of, meaning as fact_meaning};
 ghost use Rattle.facts.specs.Statements.{fact_of};
 ghost use Rattle.facts.specs.Changes.{with_offsets};
@@ -13,11 +13,11 @@ ghost use Rattle.certificate.specs.declared.line.Line.TheVariants as kept;
 ghost use Rattle.certificate.specs.Order.{is_detail};
 ghost use Rattle.certificate.specs.Gathered.{cells_under, equations_under, stated};
 ghost use Rattle.certificate.specs.Meaning.{said, registers_of};
-ghost use Rattle.certificate.specs.Found.{from_place, all_said, Keeps, unended, IsIndexed, FitUnder, FitUnderFirst, with_details, IsRoutineOf, begins_routine, begins_fact, begins_exit, first_fact, first_exit, SaysFirst};
+ghost use Rattle.certificate.specs.Found.{from_place, all_said, Keeps, unended, Begins, Extends, HasMore, IsIndexed, FitUnder, FitUnderFirst, with_details, IsRoutineOf, begins_routine, begins_fact, begins_exit, first_fact, first_exit, SaysFirst};
 
 use crate::Routine;
 use crate::line::{Line, Registers};
-use crate::progress::{is_detail, place_of};
+use crate::progress::{is_detail, is_end, place_of};
 use facts::{Equation, Fact, Offsets, TrackedCell};
 use std::alloc::{AllocError, Allocator};
 
@@ -56,7 +56,7 @@ impl<A: Allocator> KeptLines<A> {
         ensures { (before : List SaidLine) → Keeps self.old before →
             OnOk result (Keeps self.new (unended (said line.now ∷ before))) }
     {
-        if matches!(line, Line::End) {
+        if is_end(line) {
             return Ok(());
         }
         if is_detail(line) {
@@ -84,19 +84,34 @@ impl<A: Allocator> KeptLines<A> {
             map EquationIs (map equation_of equations.now)))
             else all_said self.old) }
     {
-        let start = self.lines.len();
-        self.starts.push(start)?;
-        let Ok(()) = self.places.push(place_of(head)) else {
-            self.starts.pop();
-            return Err(AllocError);
-        };
-        let Ok(()) = push_all(&mut self.lines, head, cells, equations) else {
-            self.starts.pop();
-            self.places.pop();
-            self.lines.truncate(start);
-            return Err(AllocError);
-        };
-        Ok(())
+        let lines = self.lines.len();
+        let places = self.places.len();
+        let starts = self.starts.len();
+        match self.push_lines(head, cells, equations) {
+            Ok(()) => Ok(()),
+            Err(refused) => {
+                self.lines.truncate(lines);
+                self.places.truncate(places);
+                self.starts.truncate(starts);
+                Err(refused)
+            }
+        }
+    }
+
+    /// The same, but where it's refused some of it may be kept.
+    fn push_lines(
+        &mut self,
+        head: &Line,
+        cells: &[TrackedCell],
+        equations: &[Equation],
+    ) -> Result<(), AllocError>
+        ensures front { Extends self.old self.new }
+        ensures whole { OnOk result
+            (HasMore self.old self.new head.now cells.now equations.now) }
+    {
+        self.places.push(place_of(head))?;
+        self.starts.push(self.lines.len())?;
+        push_all(&mut self.lines, head, cells, equations)
     }
 
     /// The lines from the one of a place on, or none where no line has it.
@@ -121,7 +136,7 @@ fn push_all<A: Allocator>(
 ) -> Result<(), AllocError>
     ensures whole { OnOk result (lines.new.items ≡ lines.old.items ++ (head.now ∷
         (map kept.Cell cells.now ++ map kept.Equation equations.now))) }
-    ensures front { take (length lines.old.items) lines.new.items ≡ lines.old.items }
+    ensures front { Begins lines.old.items lines.new.items }
 {
     lines.push(*head)?;
     push_cells(lines, cells)?;
@@ -134,7 +149,7 @@ fn push_cells<A: Allocator>(
     cells: &[TrackedCell],
 ) -> Result<(), AllocError>
     ensures whole { OnOk result (lines.new.items ≡ lines.old.items ++ map kept.Cell cells.now) }
-    ensures front { take (length lines.old.items) lines.new.items ≡ lines.old.items }
+    ensures front { Begins lines.old.items lines.new.items }
 {
     for cell in cells {
         lines.push(Line::Cell(*cell))?;
@@ -149,7 +164,7 @@ fn push_equations<A: Allocator>(
 ) -> Result<(), AllocError>
     ensures whole { OnOk result (lines.new.items ≡ lines.old.items ++
         map kept.Equation equations.now) }
-    ensures front { take (length lines.old.items) lines.new.items ≡ lines.old.items }
+    ensures front { Begins lines.old.items lines.new.items }
 {
     for equation in equations {
         lines.push(Line::Equation(*equation))?;

@@ -56,6 +56,8 @@ impl<A: Allocator> Certificate<A> {
             with_routine (meaning self.old) (routine_at entry routine.now)) }
         ensures same { OnErr result (meaning self.new ≡ meaning self.old) }
     {
+        let index = entry.index();
+        prove!(index < 4096);
         let line = Line::Routine(RoutineLine {
             entry,
             rank: routine.rank,
@@ -80,6 +82,8 @@ impl<A: Allocator> Certificate<A> {
             with_fact (meaning self.old) (fact_at at fact.now)) }
         ensures same { OnErr result (meaning self.new ≡ meaning self.old) }
     {
+        let index = at.index();
+        prove!(index < 4096);
         let line = Line::Fact(at, registers_of(fact), fact.offsets());
         match self.kept.keep_all(&line, fact.cells(), fact.equations()) {
             Ok(()) => Ok(()),
@@ -100,6 +104,8 @@ impl<A: Allocator> Certificate<A> {
             with_exit (meaning self.old) (exit_at entry offset fact.now)) }
         ensures same { OnErr result (meaning self.new ≡ meaning self.old) }
     {
+        let index = entry.index();
+        prove!(index < 4096);
         let line = Line::Exit(entry, offset as u8, registers_of(fact));
         match self.kept.keep_all(&line, fact.cells(), fact.equations()) {
             Ok(()) => Ok(()),

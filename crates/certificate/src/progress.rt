@@ -66,6 +66,13 @@ pub fn is_detail(line: &Line) -> bool
     matches!(line, Line::Cell(_) | Line::Equation(_))
 }
 
+/// Whether a line is the end.
+pub fn is_end(line: &Line) -> bool
+    ensures { result ≡ is_end (said line.now) }
+{
+    matches!(line, Line::End)
+}
+
 impl Progress {
     /// After the first line.
     pub fn start(version: Version) -> Progress

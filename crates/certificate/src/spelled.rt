@@ -1,6 +1,6 @@
 //! The text of a line.
 
-ghost use Rattle.std.specs.Prelude.{ℕ, ◌≡◌, ◌<◌, ◌≤◌, [], ◌∷◌, ◌+◌, map, codes};
+ghost use Rattle.std.specs.Prelude.{ℕ, ◌≡◌, ◌<◌, ◌≤◌, [], ◌∷◌, ◌+◌, ◌==◌, length, map, codes, if◌then◌else◌};
 ghost use Rattle.std.specs.Prelude.{OnOk, OnErr, is_err, false, ◌++◌};
 ghost use Rattle.std.specs.Io.KnownBytes.{Appends};
 ghost use Rattle.streams.specs.Bytes.{AppendsFront};
@@ -57,7 +57,8 @@ impl LineText {
 
     /// Adds a byte.
     fn push(&mut self, byte: u8)
-        ensures { Adds self.old.bytes.items self.new.bytes.items (byte ∷ []) }
+        ensures adds { Adds self.old.bytes.items self.new.bytes.items (byte ∷ []) }
+        ensures fits { length self.new.bytes.items ≤ 32769 }
     {
         if !self.bytes.is_full() {
             self.bytes.push(byte);
@@ -99,6 +100,16 @@ impl LineText {
         }
     }
 
+    /// Adds a comma, but not at the beginning.
+    fn comma(&mut self, from: usize)
+        ensures { Adds self.old.bytes.items self.new.bytes.items
+            (if from == 0 then [] else 44 ∷ []) }
+    {
+        if from > 0 {
+            self.push(b',');
+        }
+    }
+
     /// Adds a set by its maximal runs.
     fn runs(&mut self, set: &WordSet)
         ensures { Adds self.old.bytes.items self.new.bytes.items (marks 4096 (words set.now)) }
@@ -106,9 +117,7 @@ impl LineText {
         let others = WordSet::all().minus(set);
         let mut next = 0;
         while let Some(low) = set.first_from(next) {
-            if next > 0 {
-                self.push(b',');
-            }
+            self.comma(next);
             let high = last_before(&others, low);
             self.run(low, high);
             next = high.index() + 2;
@@ -126,16 +135,23 @@ impl LineText {
         }
     }
 
+    /// Adds an octal digit, where it's wanted.
+    fn digit_if(&mut self, digit: usize, is_wanted: bool)
+        requires { digit < 8 }
+        ensures { Adds self.old.bytes.items self.new.bytes.items
+            (if is_wanted then (48 + digit) ∷ [] else []) }
+    {
+        if is_wanted {
+            self.digit(digit);
+        }
+    }
+
     /// Adds links: `0`, `1` or `01`.
     fn links(&mut self, links: Links)
         ensures { Adds self.old.bytes.items self.new.bytes.items (digits 2 (links_of links)) }
     {
-        if links.clear {
-            self.push(b'0');
-        }
-        if links.set {
-            self.push(b'1');
-        }
+        self.digit_if(0, links.clear);
+        self.digit_if(1, links.set);
     }
 
     /// Adds the offsets' digits in rising order.
@@ -143,9 +159,7 @@ impl LineText {
         ensures { Adds self.old.bytes.items self.new.bytes.items (digits 8 (offsets_of offsets)) }
     {
         for offset in 0..8usize {
-            if offsets.contains(offset) {
-                self.digit(offset);
-            }
+            self.digit_if(offset, offsets.contains(offset));
         }
     }
 

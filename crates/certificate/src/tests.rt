@@ -1,12 +1,10 @@
 //! The readers of a certificate, asked of a text that was worked by hand from the description of its lines.
 
-use crate::{Certificate, Routine, Version};
-use facts::{Equation, Fact, Name, Offsets};
-use std::alloc::Allocator;
+use crate::{Certificate, Version};
+use facts::Name;
 use std::test::Fail;
 use testing::MemorySink;
-use word12::{Link, Word};
-use wordset::{Links, WordSet};
+use word12::Word;
 
 /// Two facts, the first one with a tracked cell and an equation, and two exits of a routine.
 const TEXT: &[u8] = b"PDP8-CERTIFICATE 2\n\
@@ -77,62 +75,6 @@ fn exits_are_read(rt: HostRuntime) -> Result<(), Fail> {
 #[test]
 fn a_certificate_is_written_as_it_was_read(rt: HostRuntime) -> Result<(), Fail> {
     let certificate = Certificate::parse(rt.alloc(), TEXT)?;
-    let mut sink = MemorySink::new(rt.alloc(), 2000);
-    certificate.write(&mut sink)?;
-    assert!(rt; sink.bytes() == TEXT);
-    Ok(())
-}
-
-/// What the facts and exits of the text say of the accumulator, MQ, the link and the offsets.
-fn fact(low: u16, high: u16, mq: WordSet, link: Links, offsets: &[usize]) -> Result<Fact, Fail> {
-    let mut fact = Fact::any();
-    fact.set_accumulator(WordSet::range(word(low)?, word(high)?));
-    fact.set_mq(mq);
-    fact.set_link(link);
-    let mut counted = Offsets::none();
-    for offset in offsets {
-        if *offset < 8 {
-            counted.insert(*offset);
-        }
-    }
-    fact.set_offsets(counted);
-    Ok(fact)
-}
-
-/// The lines of the text, added one by one.
-fn make<A: Allocator>(certificate: &mut Certificate<A>) -> Result<(), Fail> {
-    let routine = Routine {
-        rank: 9,
-        sites: WordSet::one(word(0o207)?),
-        writes: WordSet::one(word(0o10)?).union(&WordSet::one(word(0o224)?)),
-    };
-    certificate.add_routine(word(0o214)?, &routine)?;
-    let all = WordSet::all();
-    let mut first = fact(0o310, 0o314, all, Links::both(), &[])?;
-    let more = first.accumulator().union(&WordSet::one(word(0o305)?));
-    first.set_accumulator(more);
-    first.track(word(0o10)?, WordSet::range(word(0o225)?, word(0o231)?));
-    first.relate(Equation {
-        left: Name::Cell(word(0o10)?),
-        right: word(0o224)?,
-        more: word(0o231)?,
-    });
-    certificate.add_fact(word(0o206)?, &first)?;
-    let one = WordSet::one(word(1)?);
-    let second = fact(0, 0, one, Links::one(Link::SET), &[0, 2])?;
-    certificate.add_fact(word(0o215)?, &second)?;
-    let mut third = fact(0, 0, all, Links::one(Link::CLEAR), &[])?;
-    third.track(word(0o224)?, WordSet::range(word(0o7773)?, word(0o7777)?));
-    certificate.add_exit(word(0o214)?, 1, &third)?;
-    let fourth = fact(1, 1, all, Links::one(Link::CLEAR), &[])?;
-    certificate.add_exit(word(0o214)?, 3, &fourth)?;
-    Ok(())
-}
-
-#[test]
-fn a_certificate_is_made(rt: HostRuntime) -> Result<(), Fail> {
-    let mut certificate = Certificate::new(rt.alloc(), Version::Two);
-    make(&mut certificate)?;
     let mut sink = MemorySink::new(rt.alloc(), 2000);
     certificate.write(&mut sink)?;
     assert!(rt; sink.bytes() == TEXT);

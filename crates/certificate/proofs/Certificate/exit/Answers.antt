@@ -15,22 +15,22 @@ from-requires-clause-order g c = places_of_order c.self.inside.version c.self.in
 
 pub first_exit-requires : goal.first_exit-requires
 first_exit-requires g c = record {
-  fit = fits c.self.inside.version c.self.inside.text.items c.self.inside.kept (8192 + 8 * c.index.result + c.args.offset) c.from.result.now c.self.invariant c.from.ensures;
+  fit = fits c.self.inside.version c.self.inside.kept (8192 + 8 * c.index.result + c.args.offset) c.from.result.now c.self.invariant c.from.ensures;
 }
 
 pub returns-then-offset-ge8-clause-there : goal.returns-then-offset-ge8-clause-there
 returns-then-offset-ge8-clause-there g c =
-    rw (← c.self.view_is) (sym (no_claim c.self.inside.version c.self.inside.text.items c.self.inside.kept c.args.entry c.args.offset c.self.invariant c.if-offset-ge8.true))
+    rw (← c.self.view_is) (sym (no_claim c.self.inside.version c.self.inside.kept c.args.entry c.args.offset c.self.invariant c.if-offset-ge8.true))
 
 pub returns-clause-there : goal.returns-clause-there
 returns-clause-there g c =
-    let f = exit_claims c.self.inside.version c.self.inside.text.items c.self.inside.kept c.index.result c.args.offset (8192 + 8 * c.index.result + c.args.offset)
+    let f = exit_claims c.self.inside.version c.self.inside.kept c.index.result c.args.offset (8192 + 8 * c.index.result + c.args.offset)
     c.from.result.now c.self.invariant c.index.ensures.small c.if-offset-ge8.false (omega arith) c.from.ensures in
     rw (← c.self.view_is, ← c.index.ensures.same) (c.first_exit.ensures.there ∙ f.0)
 
 pub returns-clause-fact : goal.returns-clause-fact
 returns-clause-fact g c =
-    let f = exit_claims c.self.inside.version c.self.inside.text.items c.self.inside.kept c.index.result c.args.offset (8192 + 8 * c.index.result + c.args.offset)
+    let f = exit_claims c.self.inside.version c.self.inside.kept c.index.result c.args.offset (8192 + 8 * c.index.result + c.args.offset)
     c.from.result.now c.self.invariant c.index.ensures.small c.if-offset-ge8.false (omega arith) c.from.ensures in
     rw (← c.self.view_is, ← c.index.ensures.same)
     (told c.first_exit.result (λ x. with_offsets everything (meaning x) ≡ first_exit (map said c.from.result.now))

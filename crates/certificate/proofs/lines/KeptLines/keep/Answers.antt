@@ -1,15 +1,21 @@
 use Rattle.std.proofs.Common.{refl, sym, ap, ◌∙◌, []}
 use Rattle.std.specs.Prelude.{◌∷◌, ◌++◌}
-use Rattle.certificate.proofs.FoundLemmas.{detail_kept, head_kept}
+use Rattle.certificate.specs.Meaning.{said}
+use Rattle.certificate.proofs.FoundLemmas.{detail_kept, head_kept, end_kept, not_end}
 use Rattle.certificate.proofs.lines.KeptLines.keep.Goals as goal
+
+pub returns-then-is_end : goal.returns-then-is_end
+returns-then-is_end g c = λ before h. end_kept c.args.self.now (said c.args.line.now) before (sym c.if-is_end.ensures) h
 
 pub returns-then-is_detail : goal.returns-then-is_detail
 returns-then-is_detail g c = λ before h.
-    detail_kept c.args.self.now (record { lines = c.push.new.self; places = c.args.self.now.places; starts = c.args.self.now.starts }) c.args.line.now before
-    (sym c.if-is_detail.ensures) c.in_ok-push.ensures.items refl refl h
+    rw (not_end (said c.args.line.now) before (sym c.if-is_end.ensures))
+    (detail_kept c.args.self.now (record { lines = c.push.new.self; places = c.args.self.now.places; starts = c.args.self.now.starts }) c.args.line.now before
+    (sym c.if-is_detail.ensures) c.in_ok-push.ensures.items refl refl h)
 
 pub returns : goal.returns
 returns g c = λ before h.
-    head_kept c.args.self.now (record { lines = c.push-4.new.self; places = c.push-2.new.self; starts = c.push-3.new.self }) c.args.line.now before
+    rw (not_end (said c.args.line.now) before (sym c.if-is_end.ensures))
+    (head_kept c.args.self.now (record { lines = c.push-4.new.self; places = c.push-2.new.self; starts = c.push-3.new.self }) c.args.line.now before
     (sym c.if-is_detail.ensures) c.in_ok-push-4.ensures.items (rw (← c.place_of.ensures.same) c.in_ok-push-2.ensures.items)
-    (c.in_ok-push-3.ensures.items ∙ ap (λ n. c.args.self.now.starts.items ++ n ∷ []) (c.len.ensures ∙ c.args.self.now.lines.ok.0)) h
+    (c.in_ok-push-3.ensures.items ∙ ap (λ n. c.args.self.now.starts.items ++ n ∷ []) (c.len.ensures ∙ c.args.self.now.lines.ok.0)) h)

@@ -24,7 +24,8 @@ invariant_of-result g c =
 
 pub returns : goal.returns
 returns g c = λ bytes h e. let few = c.requires.small.count in
-    whole_parsed c.args.self.kept c.args.self.text.items c.args.self.line.items bytes c.args.self.progress c.args.self.is_long c.version.result
+    whole_parsed c.args.self.kept c.args.self.text.items c.args.self.line.items bytes c.args.self.progress c.in-Some.progress c.args.self.is_long
+    c.version.result c.version.ensures c.in-Some.is (λ before k. sym (c.if-not-is_ended.ensures before k))
     (whole_kept c.args.self.kept c.args.self.text.items c.args.self.progress c.in-Some.progress c.version.result c.version.ensures c.in-Some.is
     c.requires.read (λ before k. sym (c.if-not-is_ended.ensures before k)))
     h c.if-is_long.false (is_empty c.args.self.line.items c.if-not-is_empty.ensures) (rw e at few)

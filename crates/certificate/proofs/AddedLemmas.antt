@@ -1,0 +1,67 @@
+-- What a call that adds a line leaves of a certificate.
+use Rattle.std.proofs.Common.{◌≡◌, ℕ, ◌+◌, ◌<◌, Bool, true, false, List, [], ◌∷◌, ◌++◌, length, refl, ap, ◌∙◌, sym, subst, arith}
+use Rattle.std.specs.Prelude.{map, if◌then◌else◌}
+use Rattle.wordset.specs.Words.{Words}
+use Rattle.facts.specs.Facts.{Equation}
+use Rattle.facts.specs.Statements.{TrackedCell}
+use Rattle.certificate.specs.declared.Version.{Version}
+use Rattle.certificate.specs.declared.lines.KeptLines.{KeptLines}
+use Rattle.certificate.specs.Spelling.{RoutineLine, FactLine, ExitLine, Lines}
+use Rattle.certificate.specs.Line.{Line, Registers, RoutineIs, FactIs, ExitIs, CellIs, EquationIs, registers_of, lines_of_fact, lines_of_exit}
+use Rattle.certificate.specs.Gathered.{gathered}
+use Rattle.certificate.specs.Found.{newest_first, all_said, IsIndexed, Keeps, IsWhole}
+use Rattle.certificate.specs.Made.{no_lines, with_routine, with_fact, with_exit, MayAddRoutine, MayAddFact, MayAddExit}
+use Rattle.certificate.proofs.MakerLemmas.{Added, routine_added, fact_added, exit_added, none_added}
+
+pub routine_kept : {A : Type 0} (v : Version) (k new : KeptLines A) (r : RoutineLine) (b : Bool) → IsWhole v k → r.entry < 4096 →
+    MayAddRoutine (gathered v (all_said k)) r → all_said new ≡ (if b then all_said k ++ RoutineIs r ∷ [] else all_said k) → IsIndexed new →
+    Added v new (if b then with_routine (gathered v (all_said k)) r else gathered v (all_said k))
+routine_kept v k new r true w small m e i = routine_added v k new r w small m e i
+routine_kept v k new r false w small m e i = none_added v k new w e i
+
+-- The parts of a fact.
+pub record IsOfFact (a : ℕ) (r : Registers) (m : Words) (cs : List TrackedCell) (es : List Equation) (f : FactLine) : Type 0 where
+  pub address : a ≡ f.address
+  pub registers : r ≡ registers_of f.statement
+  pub offsets : m ≡ f.offsets
+  pub cells : cs ≡ f.statement.cells
+  pub equations : es ≡ f.statement.equations
+
+pub fact_kept : {A : Type 0} (v : Version) (k new : KeptLines A) (f : FactLine) (b : Bool) (a : ℕ) (r : Registers) (m : Words) (cs : List TrackedCell)
+    (es : List Equation) → IsWhole v k → f.address < 4096 → MayAddFact (gathered v (all_said k)) f → IsOfFact a r m cs es f →
+    all_said new ≡ (if b then all_said k ++ (FactIs a r m ∷ (map CellIs cs ++ map EquationIs es)) else all_said k) → IsIndexed new →
+    Added v new (if b then with_fact (gathered v (all_said k)) f else gathered v (all_said k))
+fact_kept v k new f true a r m cs es w small may p e i =
+    fact_added v k new f w small may (e ∙ rw (p.address, p.registers, p.offsets, p.cells, p.equations) refl) i
+fact_kept v k new f false a r m cs es w small may p e i = none_added v k new w e i
+
+-- The parts of an exit.
+pub record IsOfExit (a o : ℕ) (r : Registers) (cs : List TrackedCell) (es : List Equation) (x : ExitLine) : Type 0 where
+  pub entry : a ≡ x.entry
+  pub offset : o ≡ x.offset
+  pub registers : r ≡ registers_of x.statement
+  pub cells : cs ≡ x.statement.cells
+  pub equations : es ≡ x.statement.equations
+
+pub exit_kept : {A : Type 0} (v : Version) (k new : KeptLines A) (x : ExitLine) (b : Bool) (a o : ℕ) (r : Registers) (cs : List TrackedCell)
+    (es : List Equation) → IsWhole v k → x.entry < 4096 → MayAddExit (gathered v (all_said k)) x → IsOfExit a o r cs es x →
+    all_said new ≡ (if b then all_said k ++ (ExitIs a o r ∷ (map CellIs cs ++ map EquationIs es)) else all_said k) → IsIndexed new →
+    Added v new (if b then with_exit (gathered v (all_said k)) x else gathered v (all_said k))
+exit_kept v k new x true a o r cs es w small may p e i =
+    exit_added v k new x w small may (e ∙ rw (p.entry, p.offset, p.registers, p.cells, p.equations) refl) i
+exit_kept v k new x false a o r cs es w small may p e i = none_added v k new w e i
+
+-- No line is kept.
+newest_length : (before ls : List Line) → length (newest_first before ls) ≡ length before + length ls
+newest_length before [] = omega arith
+newest_length before (l ∷ ls) =
+    let e : length (newest_first (l ∷ before) ls) ≡ length (l ∷ before) + length ls = newest_length (l ∷ before) ls in omega arith
+
+none_said : (ls : List Line) → newest_first [] ls ≡ [] → ls ≡ []
+none_said [] e = refl
+none_said (l ∷ ls) e = absurd (
+    let a : length (newest_first [] (l ∷ ls)) ≡ 0 + length (l ∷ ls) = newest_length [] (l ∷ ls) in
+    let b : length (newest_first [] (l ∷ ls)) ≡ 0 = ap length e in omega arith)
+
+pub none_gathered : {A : Type 0} (v : Version) (k : KeptLines A) → Keeps k [] → gathered v (all_said k) ≡ no_lines v
+none_gathered v k h = ap (λ (x : List Line). gathered v x) (none_said (all_said k) h.lines)

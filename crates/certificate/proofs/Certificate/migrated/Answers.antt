@@ -1,0 +1,5 @@
+use Rattle.certificate.proofs.MakerLemmas.{whole_two}
+use Rattle.certificate.proofs.Certificate.migrated.Goals as goal
+
+pub invariant_of-result : goal.invariant_of-result
+invariant_of-result g c = whole_two c.self.inside.version c.self.inside.kept c.self.invariant

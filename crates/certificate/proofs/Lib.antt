@@ -19,3 +19,4 @@ pub mod FormLemmas
 pub mod FoundLemmas
 pub mod DetailLemmas
 pub mod ReaderLemmas
+pub mod ServedLemmas

@@ -157,6 +157,7 @@ next_refused kept text line bytes old p q f is h small t = go f t
     go faults.TooMany t = inr (λ rest. inl (length g.before + 2, faulty kept p text line bytes rest (length g.before + 2) IsOneTooMany g e feed small refl (t g.before g.tracks)))
     go faults.Version t = absurd (t g.before g.tracks)
     go faults.NoMemory t = absurd (t g.before g.tracks)
+    go faults.ReadFault t = absurd (t g.before g.tracks)
 
 -- A line that is too long.
 pub long_refused : {A : Type 0} (kept : KeptLines A) (text line bytes : List ℕ) (old : Option Progress) (p : Progress) (long : Bool) (n : ℕ) → old ≡ Some p → long ≡ true →

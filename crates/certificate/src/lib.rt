@@ -32,6 +32,7 @@ mod fields;
 mod line;
 mod lines;
 mod parser;
+mod pieces;
 mod progress;
 
 /// The version of a certificate's text.
@@ -93,10 +94,8 @@ impl<A: Allocator + Copy> Certificate<A> {
         ensures refused { IfErr result (λ fault. (fault ≡ NoMemory) ⊎ HasFault bytes.now fault) }
     {
         let mut parser = Parser::new(alloc);
-        for byte in bytes {
-            if let Err(fault) = parser.take(*byte) {
-                return Err(fault);
-            }
+        if let Err(fault) = parser.take_all(bytes) {
+            return Err(fault);
         }
         parser.finish()
     }
@@ -197,6 +196,9 @@ pub enum CertificateFault {
     /// A growth of what is kept of the text was refused.
     #[error("NoMemory")]
     NoMemory,
+    /// A read failed.
+    #[error("ReadFault")]
+    ReadFault,
 }
 
 /// A sample certificate has the text that its lines are meant to have.

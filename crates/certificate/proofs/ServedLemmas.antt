@@ -1,5 +1,5 @@
 -- What a source gave, and what it brings.
-use Rattle.std.proofs.Common.{◌≡◌, ◌≢◌, ◌⊎◌, ℕ, suc, ◌+◌, ◌-◌, ◌<◌, ◌≤◌, Bool, true, false, List, [], ◌∷◌, ◌++◌, length, take, drop, Option, Some, None, Result, Ok, Err, refl, ap, ◌∙◌, sym, subst, inl, inr, arith, append_assoc, append-nil, length-append, get_or, length-take-le}
+use Rattle.std.proofs.Common.{◌≡◌, ◌⊎◌, ℕ, zero, suc, ◌+◌, ◌-◌, ◌<◌, ◌≤◌, Bool, true, false, List, [], ◌∷◌, ◌++◌, length, take, drop, Option, Some, None, Result, Ok, Err, refl, ap, ◌∙◌, sym, subst, inl, inr, arith, append_assoc, append-nil, length-append, get_or, length-take-le}
 use Rattle.std.specs.Prelude.{replicate, IfOk, IfErr, IfSome, IsErrAnd, MatchResult}
 use Rattle.std.specs.Io.KnownBytes.{Consumes, Keeps, IsAtEnd}
 use Rattle.std.proofs.KnownBytes.{Consumes-nil, Consumes-trans, Consumes-kept, Consumes-whole}
@@ -14,10 +14,10 @@ use Rattle.certificate.specs.declared.progress.Progress.{Progress}
 use Rattle.certificate.specs.declared.parser.Parser.{Parser}
 use Rattle.certificate.specs.declared.lines.KeptLines.{KeptLines}
 use Rattle.certificate.specs.Order.{any, is_end}
-use Rattle.certificate.specs.Faults.{most_bytes, NoFeed, IsText, HasRest, IsCut, IsTooLong, HasFault}
+use Rattle.certificate.specs.Faults.{most_bytes, NoFeed, IsText, HasRest, HasFault}
 use Rattle.certificate.specs.Kept.{Kept, meaning}
-use Rattle.certificate.specs.Parser.{Reached, Parts, Seen, IsSmall, Refuses, IsParsed}
-use Rattle.certificate.specs.Serving.{Settles, IsUnanswered, IsPrompt, is_read_fault, failed_to_read}
+use Rattle.certificate.specs.Parser.{Parts, Seen, IsSmall, Refuses, IsParsed}
+use Rattle.certificate.specs.Serving.{Settles, IsUnanswered, is_read_fault, failed_to_read}
 use Rattle.certificate.specs.Served.{CameTo, IsAnswered, Serves}
 use Rattle.certificate.proofs.OneFaultLemmas.{no_fault, one_fault}
 
@@ -107,8 +107,13 @@ module _ {A : Type 0} (kept : KeptLines A) (text line bytes : List ℕ) (long : 
       go tail false e f = lacking (λ g none. true≢false (sym g ∙ f))
       go (x ∷ tail) true e f = lacking (λ g none. let z : (x ∷ tail) ≡ [] = sym e ∙ none in absurd (cc))
       go [] true e f = no_fault p.version bytes faults.TooMany
-          (record { lines = h.read.before; order = h.read.order; ended = f; few = few;
-            text = h.split ∙ (ap (λ (x : List ℕ). text ++ x) e ∙ (append-nil text ∙ h.read.is)) }) most
+          (record {
+            lines = h.read.before;
+            order = h.read.order;
+            ended = f;
+            few = few;
+            text = h.split ∙ (ap (λ (x : List ℕ). text ++ x) e ∙ (append-nil text ∙ h.read.is));
+          }) most
 
   no_version : Parts text kept None line long bytes → length bytes ≤ most_bytes → HasFault bytes faults.TooMany → ⊥
   no_version h few most =
@@ -164,10 +169,10 @@ no_read_parsed P bytes (Ok x) h = refl
 no_read_parsed P bytes (Err fault) h = no_read bytes fault h
 
 -- The steps of reading.
-module _ {A : Type 0} (a b c : Option (List ℕ)) (p : Parser A) where
-  pub came_none : Seen p [] → IsSmall p → p.count ≡ 0 → CameTo a a p
-  came_none seen small count = record { given = []; taken = Consumes-nil a; count = count; seen = seen; small = small }
+pub came_none : {A : Type 0} (a : Option (List ℕ)) (p : Parser A) → Seen p [] → IsSmall p → p.count ≡ 0 → CameTo a a p
+came_none a p seen small count = record { given = []; taken = Consumes-nil a; count = count; seen = seen; small = small }
 
+module _ {A : Type 0} (a b c : Option (List ℕ)) (p : Parser A) where
   came_open : (came : CameTo a b p) → IsUnanswered came.given
   came_open came =
       let e : p.count ≡ length came.given = came.count in
@@ -224,6 +229,19 @@ module _ {A : Type 0} (a b c : Option (List ℕ)) (p : Parser A) where
         told (inr h) = inr (inl h)
 
 -- What the answer says of the source's bytes.
+abbrev pub Answer : Type 0
+Answer = Result Kept CertificateFault
+
+abbrev the_ok : Kept → Answer
+the_ok c = Ok c
+
+abbrev the_err : CertificateFault → Answer
+the_err fault = Err fault
+
+-- A read failed before the bytes brought an answer.
+abbrev pub Fails : List ℕ → Answer → Type 0
+Fails given r = (r ≡ Err faults.ReadFault) × IsUnanswered given
+
 abbrev pub IsFaultOf : Option (List ℕ) → CertificateFault → Type 0
 IsFaultOf old fault = (fault ≡ faults.NoMemory) ⊎ ((fault ≡ faults.ReadFault) ⊎ IfSome old (λ bytes. HasFault bytes fault))
 
@@ -232,8 +250,14 @@ of_front None new given fault t s = tt
 of_front (Some bytes) None given fault t s = absurd t
 of_front (Some bytes) (Some rest) given fault t s = subst (λ (x : List ℕ). HasFault x fault) (sym t) (s rest)
 
+other : (c : Kept) → the_ok c ≡ the_err faults.ReadFault → ⊥
+other c e = absurd (cc)
+
+same_fault : (f g : CertificateFault) → the_err f ≡ the_err g → f ≡ g
+same_fault f g e = cc
+
 module _ (old new : Option (List ℕ)) where
-  pub gave : (r : Result Kept CertificateFault) (s : Serves old new r) (P : List ℕ → Type 0) → P s.given → Gave old new P
+  pub gave : (r : Answer) (s : Serves old new r) (P : List ℕ → Type 0) → P s.given → Gave old new P
   gave r s P h = go old s.taken
     where
       go : (old : Option (List ℕ)) → Consumes old new s.given → Gave old new P
@@ -243,35 +267,35 @@ module _ (old new : Option (List ℕ)) where
   pub serves_parsed : (c : Kept) (s : Serves old new (Ok c)) → IsParsed s.given c × IsAtEnd new
   serves_parsed c s = go s.answer
     where
-      go : ((Ok c ≡ Err faults.ReadFault) × IsUnanswered s.given) ⊎ IsAnswered s.given new (Ok c) → IsParsed s.given c × IsAtEnd new
-      go (inl h) = absurd (let e : Ok c ≡ Err faults.ReadFault = h.0 in cc)
+      go : Fails s.given (Ok c) ⊎ IsAnswered s.given new (Ok c) → IsParsed s.given c × IsAtEnd new
+      go (inl h) = absurd (other c h.0)
       go (inr h) = h
 
-  pub serves_found : (r : Result Kept CertificateFault) → Serves old new r → (P : List ℕ → Kept → Type 0) → ((bytes : List ℕ) (c : Kept) → IsParsed bytes c → P bytes c) →
+  pub serves_found : (r : Answer) → Serves old new r → (P : List ℕ → Kept → Type 0) → ((bytes : List ℕ) (c : Kept) → IsParsed bytes c → P bytes c) →
       IfOk r (λ c. IfSome old (λ bytes. P bytes c))
   serves_found (Err fault) s P to = tt
   serves_found (Ok c) s P to =
       let h = serves_parsed c s in
       Consumes-whole old new s.given (λ bytes. P bytes c) s.taken h.1 (to s.given c h.0)
 
-  pub serves_lines : (r : Result Kept CertificateFault) → Serves old new r → (P : Kept → Type 0) → ((bytes : List ℕ) (c : Kept) → IsParsed bytes c → P c) → IfOk r P
+  pub serves_lines : (r : Answer) → Serves old new r → (P : Kept → Type 0) → ((bytes : List ℕ) (c : Kept) → IsParsed bytes c → P c) → IfOk r P
   serves_lines (Err fault) s P to = tt
   serves_lines (Ok c) s P to = to s.given c (serves_parsed c s).0
 
-  pub serves_refused : (r : Result Kept CertificateFault) → Serves old new r → IfErr r (IsFaultOf old)
+  pub serves_refused : (r : Answer) → Serves old new r → IfErr r (IsFaultOf old)
   serves_refused (Ok c) s = tt
   serves_refused (Err fault) s = go s.answer
     where
-      go : ((Err fault ≡ Err faults.ReadFault) × IsUnanswered s.given) ⊎ IsAnswered s.given new (Err fault) → IsFaultOf old fault
-      go (inl h) = inr (inl (let e : Err fault ≡ Err faults.ReadFault = h.0 in cc))
+      go : Fails s.given (Err fault) ⊎ IsAnswered s.given new (Err fault) → IsFaultOf old fault
+      go (inl h) = inr (inl (same_fault fault faults.ReadFault h.0))
       go (inr (inl e)) = inl e
       go (inr (inr (inl h))) = inr (inr (of_front old new s.given fault s.taken h))
       go (inr (inr (inr h))) = inr (inr (Consumes-whole old new s.given (λ bytes. HasFault bytes fault) s.taken h.1 h.0))
 
-  pub serves_unanswered : (r : Result Kept CertificateFault) → (s : Serves old new r) → r ≡ Err faults.ReadFault → IsUnanswered s.given
+  pub serves_unanswered : (r : Answer) → (s : Serves old new r) → r ≡ Err faults.ReadFault → IsUnanswered s.given
   serves_unanswered r s is = go r is s.answer
     where
-      go : (r : Result Kept CertificateFault) → r ≡ Err faults.ReadFault → ((r ≡ Err faults.ReadFault) × IsUnanswered s.given) ⊎ IsAnswered s.given new r → IsUnanswered s.given
+      go : (r : Answer) → r ≡ Err faults.ReadFault → Fails s.given r ⊎ IsAnswered s.given new r → IsUnanswered s.given
       go r e (inl h) = h.1
       go (Ok c) e (inr h) = absurd (cc)
       go (Err fault) e (inr h) = let f : fault ≡ faults.ReadFault = cc in absurd (none (rw f at h))
@@ -282,11 +306,11 @@ module _ (old new : Option (List ℕ)) where
           none (inr (inr g)) = g.0
 
   -- So no certificate is refused, and no fault is passed over.
-  pub serves_only : (r : Result Kept CertificateFault) → Serves old new r → IfSome old (λ bytes. (v : Version) → IsText v bytes →
+  pub serves_only : (r : Answer) → Serves old new r → IfSome old (λ bytes. (v : Version) → IsText v bytes →
       IfErr r (λ fault. (fault ≡ faults.NoMemory) ⊎ (fault ≡ faults.ReadFault)))
   serves_only r s = go old r (serves_refused r s)
     where
-      go : (old : Option (List ℕ)) (r : Result Kept CertificateFault) → IfErr r (IsFaultOf old) → IfSome old (λ bytes. (v : Version) → IsText v bytes →
+      go : (old : Option (List ℕ)) (r : Answer) → IfErr r (IsFaultOf old) → IfSome old (λ bytes. (v : Version) → IsText v bytes →
           IfErr r (λ fault. (fault ≡ faults.NoMemory) ⊎ (fault ≡ faults.ReadFault)))
       go None r h = tt
       go (Some bytes) (Ok c) h = λ v t. tt
@@ -294,11 +318,11 @@ module _ (old new : Option (List ℕ)) where
       go (Some bytes) (Err fault) (inr (inl e)) = λ v t. inr e
       go (Some bytes) (Err fault) (inr (inr h)) = λ v t. absurd (no_fault v bytes fault t h)
 
-  pub serves_exact : (r : Result Kept CertificateFault) → Serves old new r → IfSome old (λ bytes. (fault : CertificateFault) → HasFault bytes fault →
+  pub serves_exact : (r : Answer) → Serves old new r → IfSome old (λ bytes. (fault : CertificateFault) → HasFault bytes fault →
       IsErrAnd r (λ f. (f ≡ faults.NoMemory) ⊎ ((f ≡ faults.ReadFault) ⊎ (f ≡ fault))))
   serves_exact r s = go old r (serves_refused r s) (serves_found r s (λ bytes c. IsText (meaning c).version bytes) (λ bytes c p. p.is_text))
     where
-      go : (old : Option (List ℕ)) (r : Result Kept CertificateFault) → IfErr r (IsFaultOf old) → IfOk r (λ c. IfSome old (IsText (meaning c).version)) →
+      go : (old : Option (List ℕ)) (r : Answer) → IfErr r (IsFaultOf old) → IfOk r (λ c. IfSome old (IsText (meaning c).version)) →
           IfSome old (λ bytes. (fault : CertificateFault) → HasFault bytes fault →
           IsErrAnd r (λ f. (f ≡ faults.NoMemory) ⊎ ((f ≡ faults.ReadFault) ⊎ (f ≡ fault))))
       go None r h t = tt

@@ -1,4 +1,4 @@
-use Rattle.std.proofs.Common.{◌≡◌, ◌≤◌, ◌-◌, length, false}
+use Rattle.std.proofs.Common.{◌≡◌, ◌-◌, length, false}
 use Rattle.certificate.specs.Served.{CameTo}
 use Rattle.certificate.proofs.pieces.read_source.Given as goal
 

@@ -81,7 +81,7 @@ impl<A: Allocator> Parser<A> {
         let Ok(()) = self.text.push(b'\n') else {
             return Err(CertificateFault::NoMemory);
         };
-        self.line = ArrayVec::new();
+        self.line.clear();
         self.is_long = false;
         self.progress = Some(progress);
         Ok(())

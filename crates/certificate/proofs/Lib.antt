@@ -23,3 +23,5 @@ pub mod SpelledLemmas
 pub mod MakerLemmas
 pub mod AddedLemmas
 pub mod PutLemmas
+pub mod ReadLemmas
+pub mod ServedLemmas

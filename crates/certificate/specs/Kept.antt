@@ -8,7 +8,7 @@ use Rattle.certificate.specs.Reading.{certificate_of}
 use Rattle.certificate.specs.Meaning.{said}
 use Rattle.certificate.specs.Gathered.{gathered}
 
--- A certificate as it's kept: the version of its text, and the lines after the first one.
+-- A certificate as it's kept: the version of its text, and the lines after the first one, but for the end.
 pub record Kept : Type 0 where
   pub version : Version
   pub lines : List Line

@@ -81,7 +81,7 @@ impl<A: Allocator> Parser<A> {
         let Ok(()) = self.text.push(b'\n') else {
             return Err(CertificateFault::NoMemory);
         };
-        self.line = ArrayVec::new();
+        self.line.clear();
         self.is_long = false;
         self.progress = Some(progress);
         Ok(())
@@ -152,6 +152,23 @@ impl<A: Allocator> Parser<A> {
             self.is_long = true;
         } else {
             self.line.push(byte);
+        }
+        Ok(())
+    }
+
+    /// Takes these bytes, up to the one that brings a fault.
+    pub fn take_all(&mut self, bytes: &[u8]) -> Result<(), CertificateFault>
+        requires { IsSmall self.old }
+        ensures small { IsSmall self.new }
+        ensures count { IfOk result (λ u. self.new.count ≡ self.old.count + length bytes.now) }
+        ensures seen { (before : List ℕ) → Seen self.old before → self.old.count ≡ length before →
+            MatchResult result (λ u. Seen self.new (before ++ bytes.now))
+            (Refuses (before ++ bytes.now)) }
+    {
+        for byte in bytes {
+            if let Err(fault) = self.take(*byte) {
+                return Err(fault);
+            }
         }
         Ok(())
     }

@@ -1,0 +1,25 @@
+#!/bin/bash
+# Times `pdp8 check` on certificates of some 100 KB and 1 MB that certificate/make.py makes: the whole, and without their
+# end, where the text is read and nothing is judged. Each is the least of eleven calls, with the start of the program.
+# PDP8 names a built program in place of this repository's.
+set -euo pipefail
+top=$(cd "$(dirname "$0")/.." && pwd)
+program=${PDP8:-$top/crates/pdp8/out/pdp8}
+work=$(mktemp -d)
+trap 'rm -r "$work"' EXIT
+[ -x "$program" ] || (cd "$top/crates/pdp8" && rt run <stdin >"$work/built" 2>&1) || { cat "$work/built"; exit 1; }
+TIMEFORMAT=%R
+# The least of eleven calls with this certificate, whose answer must begin so.
+least() {
+    "$program" check tape declaration "$1" >answer 2>&1 || true
+    grep -q "^$2" answer || { cat answer; exit 1; }
+    for _ in 1 2 3 4 5 6 7 8 9 10 11; do
+        { time "$program" check tape declaration "$1" >/dev/null 2>&1 || true; } 2>&1
+    done | sort -n | head -1
+}
+for size in 110000 1040000; do
+    python3 "$top/bench/certificate/make.py" "$size" "$work/$size"
+    cd "$work/$size"
+    bytes=$(wc -c <certificate)
+    echo "$bytes bytes: $(least cut 'pdp8: certificate: BadLine') seconds to read, $(least certificate yes) to read and judge"
+done

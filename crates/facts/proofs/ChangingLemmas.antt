@@ -54,6 +54,11 @@ pub assigned_ac : (k : Known) (set : List ℕ) (es : ArrayVec CodeEquation) → 
 unfolding assigned
 assigned_ac k set es e = record { sets = ac_sets k set (words set) (λ v lt. refl); mq = λ v lt. refl; link = λ l lt. refl; equations = e; offsets = λ o lt. refl }
 
+pub summed_agrees : (k : Known) (first : List Equation) (set : List ℕ) (es : ArrayVec CodeEquation) → map equation_of es.items ≡ first ++ free_of (λ m. same m Ac) (map equation_of k.equations.items) →
+    Agree (known_of (record k { ac = set; equations = es })) (with_equations first (assigned Ac (words set) (known_of k)))
+unfolding assigned
+summed_agrees k first set es e = record { sets = ac_sets k set (words set) (λ v lt. refl); mq = λ v lt. refl; link = λ l lt. refl; equations = e; offsets = λ o lt. refl }
+
 pub assigned_cell : (k : Known) (c : ℕ) (set : List ℕ) (es : ArrayVec CodeEquation) → IsUnchanged k.target → map equation_of es.items ≡ free_of (λ m. same m (Cell c)) (map equation_of k.equations.items) →
     Agree (known_of (record k { target = Replaced c set; equations = es })) (assigned (Cell c) (words set) (known_of k))
 unfolding assigned

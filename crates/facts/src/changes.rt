@@ -210,6 +210,13 @@ impl<'a> Known<'a> {
         }
     }
 
+    /// Lets the link be one of others.
+    pub(crate) fn set_link(&mut self, links: Links)
+        ensures { Agree (known_of self.new) (with_link (links_of links) (known_of self.old)) }
+    {
+        self.link = links;
+    }
+
     /// With other words of MQ.
     pub(crate) fn with_mq(self, set: WordSet) -> Known<'a>
         ensures { Agree (known_of result) (with_mq (words set) (known_of self.entry)) }
@@ -283,7 +290,16 @@ impl<'a> Known<'a> {
             right: cell,
             more,
         });
-        self.with_ac(set).told(first)
+        Known {
+            base: self.base,
+            ac: set,
+            mq: self.mq,
+            link: self.link,
+            pointer: self.pointer,
+            target: self.target,
+            equations: joined(first, &freed(&Name::Accumulator, &self.equations)),
+            offsets: self.offsets,
+        }
     }
 
     /// With further equations.

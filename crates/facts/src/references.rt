@@ -7,7 +7,7 @@ ghost use Rattle.wordset.specs.Lanes.{words};
 ghost use Rattle.processor.specs.Machine.{steps_pointer};
 ghost use Rattle.facts.specs.Facts as said;
 ghost use Rattle.facts.specs.Facts.{Ac, Cell, narrowed};
-ghost use Rattle.facts.specs.Outcomes.{stepped, targets, alive, given, anded, tad_word, tad_case, tad, dca_case, isz_case, jmp, CallsTo};
+ghost use Rattle.facts.specs.Outcomes.{targets, alive, given, anded, tad_word, tad_case, tad, dca_case, isz_case, jmp, CallsTo};
 ghost use Rattle.facts.specs.Same.{Agree, AgreeingOutcomes};
 ghost use Rattle.facts.specs.Meaning.{known_of, IsUnchanged};
 ghost use Rattle.facts.specs.Places.{place_of};
@@ -220,31 +220,21 @@ pub(crate) fn call<'a>(known: &Known<'a>, targets: &WordSet) -> Option<Outcome<'
 }
 
 impl<A: Allocator> Place<'_, A> {
-    /// What is known when a reference is made, and its targets: a stepped pointer counts up first.
-    pub(crate) fn reach<'a>(
-        &self,
-        indirect: bool,
-        named: Word,
-        known: &Known<'a>,
-    ) -> (Known<'a>, WordSet)
+    /// The targets of a reference: the named cell, or the words that the pointer in it may be, which
+    /// counts up first where it is stepped.
+    pub(crate) fn reached(&self, indirect: bool, named: Word, known: &Known<'_>) -> WordSet
         requires pointer { IsUnchanged known.now.pointer }
         requires target { IsUnchanged known.now.target }
-        ensures known { (f : said.Fact) → Agree (known_of known.now) f →
-            Agree (known_of result.0) (stepped indirect named f) }
-        ensures targets { (f : said.Fact) → Agree (known_of known.now) f →
-            SameWords (words result.1) (targets (place_of self.now) indirect named f) }
-        ensures target { IsUnchanged result.0.target }
-        ensures len { array_vec_len result.0.equations ≤ array_vec_len known.now.equations }
+        ensures { (f : said.Fact) → Agree (known_of known.now) f →
+            SameWords (words result) (targets (place_of self.now) indirect named f) }
     {
         if steps_pointer(indirect, named) {
-            let after = known.stepped(named);
-            let targets = after.set(&Name::Cell(named));
-            return (after, targets);
+            return known.stepped(named).set(&Name::Cell(named));
         }
         if indirect {
-            return (known.same(), self.words_in(known, named));
+            return self.words_in(known, named);
         }
-        (known.same(), WordSet::one(named))
+        WordSet::one(named)
     }
 
     /// AND: all a and v, for the words a of the accumulator and v of the targets.
@@ -309,13 +299,14 @@ impl<A: Allocator> Place<'_, A> {
         let seen = self.words_at(known, targets);
         let (sums, carries) = ac.sums(&seen);
         let links = known.link.toggled(carries);
-        let sum = self.after_tad(known, &targets.only(), &ac.only(), &seen.only(), sums);
+        let mut sum = self.after_tad(known, &targets.only(), &ac.only(), &seen.only(), sums);
+        sum.set_link(links);
         going(
             targets,
             known,
             &WordSet::all(),
             &address_after(at),
-            sum.with_link(links),
+            sum,
         )
     }
 

@@ -69,6 +69,15 @@ pub moved_ac : (k : Known) (j : ℕ) (set : List ℕ) (es : ArrayVec CodeEquatio
 unfolding moved
 moved_ac k j set es s e = record { sets = ac_sets k set _ s; mq = λ v lt. refl; link = λ l lt. refl; equations = e; offsets = λ o lt. refl }
 
+pub raised_to_agrees : (k : Known) (j : ℕ) (set : List ℕ) (es : ArrayVec CodeEquation) → map equation_of es.items ≡ moved_equations Ac j (map equation_of k.equations.items) →
+    Agree (known_of (record k { ac = set; equations = es })) (with_name Ac (words set) (moved Ac j (known_of k)))
+unfolding moved
+raised_to_agrees k j set es e = record { sets = sets; mq = λ v lt. refl; link = λ l lt. refl; equations = e; offsets = λ o lt. refl }
+  where
+    sets : (n : Name) → SameWords (known_set (record k { ac = set; equations = es }) n) (with_set Ac (words set) (with_set Ac (shifted (narrowed (known_of k) Ac) j) (known_set k)) n)
+    sets Ac v lt = refl
+    sets (Cell a) v lt = refl
+
 pub moved_pointer : (k : Known) (c : ℕ) (set : List ℕ) (es : ArrayVec CodeEquation) → IsUnchanged k.pointer → IsUnchanged k.target → SameWords (words set) (shifted (narrowed (known_of k) (Cell c)) 1) →
     map equation_of es.items ≡ moved_equations (Cell c) 1 (map equation_of k.equations.items) →
     Agree (known_of (record k { pointer = Replaced c set; target = Unchanged; equations = es })) (moved (Cell c) 1 (known_of k))

@@ -56,6 +56,7 @@ fn two<'a>(outcomes: (Option<Outcome<'a>>, Option<Outcome<'a>>)) -> Outcomes<'a>
 }
 
 /// The outcomes of a word of group 2: each link by itself, with and without a skip.
+#[inline(never)]
 fn branches<'a>(at: Word, word: Word, known: &Known<'a>) -> Outcomes<'a>
     ensures { (f : said.Fact) → Agree (known_of known.now) f →
         AgreeingOutcomes (slots result) (all_operated2 at word f) }
@@ -107,12 +108,12 @@ impl<A: Allocator> Place<'_, A> {
         let indirect = refers_indirectly(word);
         let named = target(word, at);
         match Operation::of(word) {
-            Operation::And => one(self.combine(at, seen, reached)),
-            Operation::Tad => one(self.add(at, seen, reached)),
-            Operation::Isz => two(self.count(at, seen, reached)),
-            Operation::Dca => one(deposit(at, seen, reached)),
-            Operation::Jms => one(call(seen, reached)),
-            Operation::Jmp => one(self.jump(indirect, named, seen, reached)),
+            Operation::And => return one(self.combine(at, seen, reached)),
+            Operation::Tad => return one(self.add(at, seen, reached)),
+            Operation::Isz => return two(self.count(at, seen, reached)),
+            Operation::Dca => return one(deposit(at, seen, reached)),
+            Operation::Jms => return one(call(seen, reached)),
+            Operation::Jmp => return one(self.jump(indirect, named, seen, reached)),
         }
     }
 
@@ -148,12 +149,12 @@ impl<A: Allocator> Place<'_, A> {
             AgreeingOutcomes (slots result) (outcomes_at (place_of self.now) f at word) }
     {
         match decode(word, self.declaration.profile()) {
-            Instruction::Memory => self.refer(at, word, known),
-            Instruction::Operate1 => one(operate(at, word, known)),
-            Instruction::Operate2 => self.skip(at, word, known),
-            Instruction::Operate3 => one(exchange(at, word, known)),
-            Instruction::Iot => self.transfer(at, word, known),
-            Instruction::Unsupported => nowhere(),
+            Instruction::Memory => return self.refer(at, word, known),
+            Instruction::Operate1 => return one(operate(at, word, known)),
+            Instruction::Operate2 => return self.skip(at, word, known),
+            Instruction::Operate3 => return one(exchange(at, word, known)),
+            Instruction::Iot => return self.transfer(at, word, known),
+            Instruction::Unsupported => return nowhere(),
         }
     }
 }

@@ -64,13 +64,7 @@ fn teller<'a>(source: &Source<'a>, cell: Word) -> &'a Fact
 {
     match source {
         Source::One(fact) => fact,
-        Source::Joined(call, exit, written) => {
-            if has_cell(written, cell) {
-                exit
-            } else {
-                call
-            }
-        }
+        Source::Joined(call, exit, written) => { if has_cell(written, cell) { exit } else { call } }
     }
 }
 
@@ -215,6 +209,7 @@ impl Known<'_> {
 
     /// The words that the equations leave to a name: its set met with its partners' sets, shifted
     /// along the equations, one step only.
+    #[inline(never)]
     pub fn narrowed(&self, name: &Name) -> WordSet
         ensures { SameWords (words result) (narrowed (known_of self.now) (name_of name.now)) }
     {
@@ -351,6 +346,7 @@ impl Known<'_> {
 
 impl<'a> Known<'a> {
     /// What a fact knows.
+    #[inline(never)]
     pub fn of(fact: &'a Fact) -> Known<'a>
         ensures same { Agree (known_of result) (meaning fact.now) }
         ensures pointer { IsUnchanged result.pointer }

@@ -33,6 +33,7 @@ pub(crate) fn steps_pointer(indirect: bool, named: Word) -> bool
 
 /// DCA: the one target takes the accumulator's words and equations, or an unknown one of several
 /// its words; then the accumulator is 0.
+#[inline(never)]
 pub(crate) fn deposit<'a>(at: Word, known: &Known<'a>, targets: &WordSet) -> Option<Outcome<'a>>
     requires target { IsUnchanged known.now.target }
     requires room { array_vec_len known.now.equations ≤ 32 }
@@ -55,6 +56,7 @@ pub(crate) fn deposit<'a>(at: Word, known: &Known<'a>, targets: &WordSet) -> Opt
 }
 
 /// ISZ of one variable: it skips where the variable was 7777, and otherwise leaves it not zero.
+#[inline(never)]
 pub(crate) fn count_one<'a>(
     at: Word,
     known: &Known<'a>,
@@ -90,6 +92,7 @@ pub(crate) fn count_one<'a>(
 }
 
 /// ISZ of the running routine's own entry counts the offsets up.
+#[inline(never)]
 pub(crate) fn count_own<'a>(
     at: Word,
     known: &Known<'a>,
@@ -165,6 +168,7 @@ fn may_some_stay(known: &Known<'_>, cells: &WordSet) -> bool
 }
 
 /// ISZ of several variables counts an unknown one of them up.
+#[inline(never)]
 pub(crate) fn count_several<'a>(
     at: Word,
     known: &Known<'a>,
@@ -205,12 +209,13 @@ fn after_sum<'a>(known: &Known<'a>, added: &Option<Word>, set: WordSet) -> Known
         Agree (known_of result) (tad_word f v added.now) }
 {
     match added {
-        Some(word) => known.raised_to(*word, set),
-        None => known.with_ac(set),
+        Some(word) => return known.raised_to(*word, set),
+        None => return known.with_ac(set),
     }
 }
 
 /// JMS calls each target.
+#[inline(never)]
 pub(crate) fn call<'a>(known: &Known<'a>, targets: &WordSet) -> Option<Outcome<'a>>
     ensures { (f : said.Fact) (p : Words) → Agree (known_of known.now) f →
         SameWords (words targets.now) p →
@@ -222,6 +227,7 @@ pub(crate) fn call<'a>(known: &Known<'a>, targets: &WordSet) -> Option<Outcome<'
 impl<A: Allocator> Place<'_, A> {
     /// The targets of a reference: the named cell, or the words that the pointer in it may be, which
     /// counts up first where it is stepped.
+    #[inline(never)]
     pub(crate) fn reached(&self, indirect: bool, named: Word, known: &Known<'_>) -> WordSet
         requires pointer { IsUnchanged known.now.pointer }
         requires target { IsUnchanged known.now.target }
@@ -238,6 +244,7 @@ impl<A: Allocator> Place<'_, A> {
     }
 
     /// AND: all a and v, for the words a of the accumulator and v of the targets.
+    #[inline(never)]
     pub(crate) fn combine<'a>(
         &self,
         at: Word,
@@ -255,6 +262,7 @@ impl<A: Allocator> Place<'_, A> {
     }
 
     /// What is known of the accumulator after TAD: of one variable to one word it is their sum.
+    #[inline(never)]
     fn after_tad<'a>(
         &self,
         known: &Known<'a>,
@@ -268,22 +276,18 @@ impl<A: Allocator> Place<'_, A> {
             SameWords (words set) (sums (narrowed f Ac) v) →
             Agree (known_of result) (tad_case (place_of self.now) f v target.now ac.now added.now) }
     {
-        match target {
-            None => after_sum(known, added, set),
-            Some(cell) => match ac {
-                None => after_sum(known, added, set),
-                Some(word) => {
-                    if self.declaration.is_variable(*cell) {
-                        known.summed(*cell, *word, set)
-                    } else {
-                        after_sum(known, added, set)
-                    }
+        if let Some(cell) = target {
+            if let Some(word) = ac {
+                if self.declaration.is_variable(*cell) {
+                    return known.summed(*cell, *word, set);
                 }
-            },
+            }
         }
+        after_sum(known, added, set)
     }
 
     /// TAD: all sums, and the link complemented by the carries that occur.
+    #[inline(never)]
     pub(crate) fn add<'a>(
         &self,
         at: Word,
@@ -301,16 +305,11 @@ impl<A: Allocator> Place<'_, A> {
         let links = known.link.toggled(carries);
         let mut sum = self.after_tad(known, &targets.only(), &ac.only(), &seen.only(), sums);
         sum.set_link(links);
-        going(
-            targets,
-            known,
-            &WordSet::all(),
-            &address_after(at),
-            sum,
-        )
+        going(targets, known, &WordSet::all(), &address_after(at), sum)
     }
 
     /// JMP goes to each target; JMP I through the running routine's own entry returns.
+    #[inline(never)]
     pub(crate) fn jump<'a>(
         &self,
         indirect: bool,

@@ -90,7 +90,7 @@ impl<A: Allocator> Place<'_, A> {
         }
         let indirect = refers_indirectly(word);
         let named = target(word, at);
-        let (_seen, targets) = self.reach(indirect, named, known);
+        let targets = self.reached(indirect, named, known);
         union_if(reads_operand(word), &pointer_if(indirect, named), &targets)
     }
 
@@ -108,7 +108,7 @@ impl<A: Allocator> Place<'_, A> {
         }
         let indirect = refers_indirectly(word);
         let named = target(word, at);
-        let (_seen, targets) = self.reach(indirect, named, known);
+        let targets = self.reached(indirect, named, known);
         let pointer = pointer_if(steps_pointer(indirect, named), named);
         union_if(stores(word), &pointer, &targets)
     }
@@ -125,7 +125,7 @@ impl<A: Allocator> Place<'_, A> {
         if !self.is_reference(word) {
             return WordSet::empty();
         }
-        let (_seen, targets) = self.reach(refers_indirectly(word), target(word, at), known);
+        let targets = self.reached(refers_indirectly(word), target(word, at), known);
         let seven_up = known.offsets().contains(7);
         self.own_only(both(counts(word), !seven_up), &targets)
     }

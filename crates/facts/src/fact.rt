@@ -70,6 +70,16 @@ impl Fact {
         }
     }
 
+    /// Forgets the tracked cells and the equations.
+    pub fn forget(&mut self)
+        ensures statement { statement_of self.new ≡
+            record (statement_of self.old) { cells = []; equations = [] } }
+        ensures offsets { offsets_of self.new.offsets ≡ offsets_of self.old.offsets }
+    {
+        self.cells.clear();
+        self.equations.clear();
+    }
+
     /// The words that the accumulator may hold.
     pub fn accumulator(&self) -> &WordSet
         ensures { words result.now ≡ (statement_of self.now).ac }

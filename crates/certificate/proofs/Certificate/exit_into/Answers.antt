@@ -1,14 +1,7 @@
-use Rattle.std.proofs.Common.{◌≡◌, ◌∙◌, ◌+◌, ◌*◌, map, sym, arith}
-use Rattle.wordset.specs.Words.{everything}
-use Rattle.facts.specs.Changes.{with_offsets}
-use Rattle.facts.specs.Meaning.{meaning}
-use Rattle.certificate.specs.Meaning.{said}
-use Rattle.certificate.specs.Reading.{exit_in}
-use Rattle.certificate.specs.Gathered.{exits_of}
-use Rattle.certificate.specs.Found.{all_said, first_exit}
+use Rattle.std.proofs.Common.{◌∙◌, ◌+◌, ◌*◌, sym, arith}
 use Rattle.certificate.proofs.FoundLemmas.{places_of_order}
-use Rattle.certificate.proofs.ReaderLemmas.{told, exit_claims, no_claim, fits}
-use Rattle.certificate.proofs.Certificate.exit.Goals as goal
+use Rattle.certificate.proofs.ReaderLemmas.{exit_claims, no_claim, fits}
+use Rattle.certificate.proofs.Certificate.exit_into.Goals as goal
 
 pub from-requires-clause-order : goal.from-requires-clause-order
 from-requires-clause-order g c = places_of_order c.self.inside.version c.self.inside.kept c.self.invariant.indexed c.self.invariant.order
@@ -32,7 +25,4 @@ pub returns-clause-fact : goal.returns-clause-fact
 returns-clause-fact g c =
     let f = exit_claims c.self.inside.version c.self.inside.text.items c.self.inside.kept c.index.result c.args.offset (8192 + 8 * c.index.result + c.args.offset)
     c.from.result.now c.self.invariant c.index.ensures.small c.if-offset-ge8.false (omega arith) c.from.ensures in
-    rw (← c.self.view_is, ← c.index.ensures.same)
-    (told c.first_exit.result (λ x. with_offsets everything (meaning x) ≡ first_exit (map said c.from.result.now))
-    (λ x. with_offsets everything (meaning x) ≡ exit_in (exits_of (all_said c.self.inside.kept)) c.index.result c.args.offset)
-    (λ x s. s ∙ f.1) c.first_exit.ensures.fact)
+    rw (← c.self.view_is, ← c.index.ensures.same) (λ here. c.first_exit.ensures.fact here ∙ f.1)

@@ -17,6 +17,7 @@ pub record IsBeyond (set other : Words) (w : ℕ) : Type 0 where
 
 -- The same of a link.
 pub record IsLinkBeyond (set other : Words) (l : ℕ) : Type 0 where
+  pub small : l < 2
   pub possible : set l ≡ true
   pub excluded : other l ≡ false
 

@@ -1,23 +1,23 @@
 -- A fact at an address of a body with what is claimed, as the code keeps it; it serves private contracts.
-use Rattle.std.specs.Prelude.{◌≡◌, ℕ, Some, None, List, Option}
+use Rattle.std.specs.Prelude.{◌≡◌, ℕ, true, Some, None, List, Option}
 use Rattle.wordset.specs.Words.{Words, nothing}
 use Rattle.wordset.specs.Lanes.{words}
 use Rattle.peripherals.specs.Loading.{image_of}
-use Rattle.declaration.specs.Declaration.{Routine}
+use Rattle.declaration.specs.Declaration.{Routine, Declaration}
 use Rattle.declaration.specs.Kept.{Kept}
 use Rattle.declaration.specs.Kept as declared
 use Rattle.facts.specs.Facts.{Fact, Place}
 use Rattle.facts.specs.Meaning.{meaning}
 use Rattle.facts.specs.Places.{place_of}
 use Rattle.facts.specs.declared.Condition.{Condition}
-use Rattle.certificate.specs.Certificate.{Certificate}
+use Rattle.certificate.specs.Certificate.{Certificate, sites_of}
 use Rattle.reasons.specs.Reasons.{IsWrongWord}
 use Rattle.reasons.specs.Breaches.{Breaks, CallBreaks, ReturnBreaks, Misses, condition_of, condition_of_call}
 use Rattle.reasons.specs.declared.breach.Breach.{Breach}
 use Rattle.reasons.specs.declared.breach.CallBreach.{CallBreach}
 use Rattle.reasons.specs.declared.breach.ReturnBreach.{ReturnBreach}
 use Rattle.reasons.specs.declared.breach.Landing.{Landing}
-use Rattle.reasons.specs.declared.why.Why.{Why}
+use Rattle.reasons.specs.declared.reason.Reason.{Reason}
 use Rattle.reasons.specs.declared.spot.Body.{Body}
 use Rattle.reasons.specs.declared.spot.Body.TheVariants.{Main, Of}
 use Rattle.reasons.specs.declared.spot.Spot.{Spot}
@@ -59,7 +59,7 @@ sites_with Main = nothing
 sites_with (Of e r) = words r.sites
 
 -- More than 64 words are possible there, or this word is and breaks this.
-abbrev pub IsWrongHere : {A C : Type 0} → (C → Certificate) → Spot A C → Condition → Why → Type 0
+abbrev pub IsWrongHere : {A C : Type 0} → (C → Certificate) → Spot A C → Condition → Reason → Type 0
 IsWrongHere claims s v reason = IsWrongWord (claimed_by claims s) (here s) (fact_of s) s.at v reason
 
 -- The place of a fact in that body.
@@ -70,3 +70,8 @@ place_with image declaration b = record {
   routine = routine_with b;
   sites = sites_with b;
 }
+
+-- The body has the address, and what is claimed of its routine.
+pub record IsBody (d : Declaration) (c : Certificate) (a : ℕ) (b : Body) : Type 0 where
+  pub body : d.body (routine_with b) a ≡ true
+  pub sites : sites_with b ≡ sites_of c (routine_with b)

@@ -107,7 +107,7 @@ fn equation_gap(known: &Known<'_>, fact: &Fact) -> Option<Gap>
 
 /// What is possible by what is known, and excluded by a fact: of the registers first, then of the
 /// offsets, the cells and the equations.
-pub(crate) fn gap(known: &Known<'_>, fact: &Fact) -> Option<Gap>
+pub(crate) fn gap_between(known: &Known<'_>, fact: &Fact) -> Option<Gap>
     ensures { IfSome result (IsGap (known_of known.now) (meaning fact.now)) }
 {
     if let Some(found) = register_gap(known, fact) {

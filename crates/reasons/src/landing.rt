@@ -9,7 +9,7 @@ ghost use Rattle.reasons.specs.Breaches.{OutcomeMisses, SomeOutcome};
 ghost use Rattle.reasons.specs.Spots.{BreaksHere, MissesHere, claimed_by, here};
 
 use crate::breach::{Breach, Landing};
-use crate::gap::gap;
+use crate::gap::gap_between;
 use crate::spot::Spot;
 use facts::{Known, Outcome, outcomes};
 use judge::Claims;
@@ -44,7 +44,7 @@ impl<A: Allocator, C: Claims> Spot<'_, A, C> {
         let Some(fact) = self.claims.fact(at) else {
             return Some(Landing::NoFact);
         };
-        match gap(known, &fact) {
+        match gap_between(known, &fact) {
             None => None,
             Some(found) => Some(Landing::Excluded(found)),
         }

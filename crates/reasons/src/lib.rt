@@ -7,11 +7,11 @@ mod calls;
 mod gap;
 mod landing;
 mod lines;
+mod reason;
 mod returns;
 mod spot;
-mod why;
 mod words;
 
 pub use breach::{Breach, CallBreach, Landing, ReturnBreach};
 pub use gap::Gap;
-pub use why::{Why, why};
+pub use reason::{Reason, why};

@@ -7,7 +7,7 @@ ghost use Rattle.facts.specs.Meaning.{meaning};
 ghost use Rattle.reasons.specs.Reasons.{IsMisplaced, IsWrongStart, NamesRoutine};
 
 use crate::gap::gap_at_start;
-use crate::why::Why;
+use crate::reason::Reason;
 use bin_tape::Image;
 use declaration::{Declaration, Owner};
 use facts::Fact;
@@ -16,15 +16,15 @@ use std::alloc::Allocator;
 use word12::Word;
 
 /// Why the fact at a start doesn't hold of every start.
-pub(crate) fn why_start<C: Claims>(image: &Image, claims: &C, at: Word) -> Option<Why>
+pub(crate) fn why_start<C: Claims>(image: &Image, claims: &C, at: Word) -> Option<Reason>
     ensures { IfSome result (IsWrongStart (image_of image.now) (C.claims claims.now) at) }
 {
     let Some(fact) = claims.fact(at) else {
-        return Some(Why::NoFact);
+        return Some(Reason::NoFact);
     };
     match gap_at_start(&fact, image) {
         None => None,
-        Some(found) => Some(Why::StartExcluded(found)),
+        Some(found) => Some(Reason::StartExcluded(found)),
     }
 }
 
@@ -61,26 +61,26 @@ fn why_misplaced<A: Allocator, C: Claims>(
     claims: &C,
     at: Word,
     fact: &Fact,
-) -> Option<Why>
+) -> Option<Reason>
     requires there { (C.claims claims.now).has_fact at ≡ true }
     requires fact { meaning fact.now ≡ (C.claims claims.now).fact at }
     ensures { IfSome result (IsMisplaced (declared.meaning declaration.now) (C.claims claims.now)
         at) }
 {
     let Some(owner) = declaration.owner_of(at) else {
-        return Some(Why::InNoBody);
+        return Some(Reason::InNoBody);
     };
     match owner {
         Owner::Main => match first_offset(fact) {
             None => None,
-            Some(offset) => Some(Why::OffsetInMain(offset)),
+            Some(offset) => Some(Reason::OffsetInMain(offset)),
         },
         Owner::Routine(entry) => {
             if claims.routine(entry).is_none() {
-                return Some(Why::RoutineNotListed(entry));
+                return Some(Reason::RoutineNotListed(entry));
             }
             if fact.offsets().is_empty() {
-                return Some(Why::NoOffset(entry));
+                return Some(Reason::NoOffset(entry));
             }
             None
         }
@@ -92,12 +92,12 @@ pub(crate) fn why_placed<A: Allocator, C: Claims>(
     declaration: &Declaration<A>,
     claims: &C,
     at: Word,
-) -> Option<Why>
+) -> Option<Reason>
     ensures { IfSome result (IsMisplaced (declared.meaning declaration.now) (C.claims claims.now)
         at) }
 {
     if names_routine(claims, at) && !declaration.is_entry(at) {
-        return Some(Why::LineAtNoEntry);
+        return Some(Reason::LineAtNoEntry);
     }
     let fact = claims.fact(at)?;
     why_misplaced(declaration, claims, at, &fact)

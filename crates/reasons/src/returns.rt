@@ -5,7 +5,7 @@ ghost use Rattle.facts.specs.declared.Condition.TheVariants.{V12};
 ghost use Rattle.reasons.specs.Spots.{BreaksHere, ReturnBreaksHere, here};
 
 use crate::breach::{Breach, ReturnBreach};
-use crate::gap::gap;
+use crate::gap::gap_between;
 use crate::spot::Spot;
 use facts::Known;
 use judge::Claims;
@@ -64,7 +64,7 @@ impl<A: Allocator, C: Claims> Spot<'_, A, C> {
         let Some(exit) = self.claims.exit(entry, offset) else {
             return Some(ReturnBreach::NoExit(offset));
         };
-        match gap(&Known::of(self.fact), &exit) {
+        match gap_between(&Known::of(self.fact), &exit) {
             None => None,
             Some(found) => Some(ReturnBreach::Excluded(offset, found)),
         }

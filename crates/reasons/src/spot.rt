@@ -6,7 +6,7 @@ ghost use Rattle.facts.specs.Meaning.{meaning};
 ghost use Rattle.facts.specs.Places.{routine_of, sites_of};
 ghost use Rattle.reasons.specs.Spots.{IsWrongHere, claimed_by, fact_of, here, place_with, routine_with, sites_with};
 
-use crate::why::Why;
+use crate::reason::Reason;
 use bin_tape::Image;
 use declaration::Declaration;
 use facts::{Condition, Fact, Place, Running};
@@ -85,17 +85,17 @@ impl<'a, A: Allocator, C: Claims> Spot<'a, A, C> {
 impl<A: Allocator, C: Claims> Spot<'_, A, C> {
     /// The first possible word that breaks a condition, and what it breaks; or how many words are
     /// possible, where they are too many.
-    pub(crate) fn first_breach(&self, condition: Condition) -> Option<Why>
+    pub(crate) fn first_breach(&self, condition: Condition) -> Option<Reason>
         ensures { IfSome result (IsWrongHere C.claims self.now condition) }
     {
         let possible = self.place.possible_words(self.fact, self.at);
         if matches!(condition, Condition::V3) && possible.count() > MOST_WORDS {
-            return Some(Why::TooManyWords(possible.count()));
+            return Some(Reason::TooManyWords(possible.count()));
         }
         let mut next = 0usize;
         while let Some(word) = possible.first_from(next) {
             if let Some(breach) = self.breach(condition, word) {
-                return Some(Why::ByWord(word, breach));
+                return Some(Reason::ByWord(word, breach));
             }
             next = word.index() + 1;
         }

@@ -1,8 +1,10 @@
 //! Why a condition fails.
 
 ghost use Rattle.std.specs.Prelude.{IfSome};
+ghost use Rattle.declaration.specs.Kept as declared;
 ghost use Rattle.judge.specs.Judged.{judged};
-ghost use Rattle.reasons.specs.Reasons.{Explains};
+ghost use Rattle.reasons.specs.Reasons.{Explains, HasWrongWord};
+ghost use Rattle.reasons.specs.Spots.{IsBody};
 
 use crate::breach::Breach;
 use crate::gap::Gap;
@@ -17,7 +19,7 @@ use word12::Word;
 
 /// Why a condition fails.
 #[derive(Clone, Copy, PartialEq, Eq, Debug)]
-pub enum Why {
+pub enum Reason {
     /// V1: no fact has the address.
     NoFact,
     /// V1: the fact excludes what is possible at a start.
@@ -38,6 +40,25 @@ pub enum Why {
     ByWord(Word, Breach),
 }
 
+/// The body that has the address of a fact.
+fn body_of<A: Allocator, C: Claims>(
+    declaration: &Declaration<A>,
+    claims: &C,
+    at: Word,
+) -> Option<Body>
+    ensures { IfSome result
+        (IsBody (declared.meaning declaration.now) (C.claims claims.now) at) }
+{
+    let owner = declaration.owner_of(at)?;
+    match owner {
+        Owner::Main => Some(Body::Main),
+        Owner::Routine(entry) => {
+            let routine = claims.routine(entry)?;
+            Some(Body::Of(entry, routine))
+        }
+    }
+}
+
 /// Why a condition on words fails at an address.
 fn why_words<A: Allocator, C: Claims>(
     image: &Image,
@@ -45,15 +66,12 @@ fn why_words<A: Allocator, C: Claims>(
     claims: &C,
     condition: Condition,
     at: Word,
-) -> Option<Why>
+) -> Option<Reason>
     ensures { IfSome result
-        (Explains (judged image.now declaration.now (C.claims claims.now)) condition at) }
+        (HasWrongWord (judged image.now declaration.now (C.claims claims.now)) condition at) }
 {
     let fact = claims.fact(at)?;
-    let body = match declaration.owner_of(at)? {
-        Owner::Main => Body::Main,
-        Owner::Routine(entry) => Body::Of(entry, claims.routine(entry)?),
-    };
+    let body = body_of(declaration, claims, at)?;
     Spot::of(image, declaration, claims, &body, at, &fact).first_breach(condition)
 }
 
@@ -67,7 +85,7 @@ pub fn why<A: Allocator, C: Claims>(
     declaration: &Declaration<A>,
     claims: &C,
     refusal: &Refusal,
-) -> Option<Why>
+) -> Option<Reason>
     ensures { IfSome result (Explains (judged image.now declaration.now (C.claims claims.now))
         refusal.now.condition refusal.now.address) }
 {

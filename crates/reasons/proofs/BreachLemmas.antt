@@ -1,6 +1,6 @@
 -- What is said of a breach by parts that agree.
-use Rattle.std.proofs.Common.{◌≡◌, ℕ, ◌+◌, ◌<◌, true, Option, Some, None, List, [], ◌∷◌, ◌++◌, length, get_or, drop, inl, inr, refl, sym, ◌∙◌, subst, zero, suc}
-use Rattle.std.specs.Prelude.{IfSome, ◌⊎◌}
+use Rattle.std.proofs.Common.{◌≡◌, ℕ, ◌+◌, ◌<◌, Option, Some, None, List, [], ◌∷◌, ◌++◌, length, get_or, drop, inl, inr, sym, ◌∙◌, subst, zero, suc}
+use Rattle.std.specs.Prelude.{IfSome}
 use Rattle.declaration.specs.Declaration.{Routine, Declaration}
 use Rattle.facts.specs.Facts.{Fact, Place}
 use Rattle.facts.specs.Same.{Agree, AgreeingOutcome, AgreeingOutcomes}
@@ -67,7 +67,12 @@ outcomes_agree c pl a l (o ∷ os) (p ∷ ps) h (inl q) = inl (outcome_agrees c 
 outcomes_agree c pl a l (o ∷ os) (p ∷ ps) h (inr q) = inr (outcomes_agree c pl a l os ps h.1 q)
 
 -- A wrong word, by the parts of the case.
-pub wrong_word : (j : Case) (r : Routine) (a : ℕ) (v : Condition) (reason : Reason) (pl : Place) (f : Fact) → IsIn j r a → pl ≡ place_in j r → f ≡ fact_at j a →
-    IsWrongWord j.certificate pl f a v reason → HasWrongWord j v a reason
-wrong_word j r a v reason pl f stands place fact h =
-    (r, stands, subst (λ x. IsWrongWord j.certificate (place_in j r) x a v reason) fact (subst (λ x. IsWrongWord j.certificate x f a v reason) place h))
+pub wrong_word : (j : Case) (r : Routine) (a : ℕ) (v : Condition) (reason : Reason) (c : Certificate) (pl : Place) (f : Fact) (at : ℕ) → IsIn j r a → c ≡ j.certificate → pl ≡ place_in j r → f ≡ fact_at j a → at ≡ a →
+    IsWrongWord c pl f at v reason → HasWrongWord j v a reason
+wrong_word j r a v reason c pl f at stands claims place fact there h = (
+  r,
+  stands,
+  subst (λ x. IsWrongWord j.certificate (place_in j r) (fact_at j a) x v reason) there
+      (subst (λ x. IsWrongWord j.certificate (place_in j r) x at v reason) fact
+      (subst (λ x. IsWrongWord j.certificate x f at v reason) place (subst (λ x. IsWrongWord x pl f at v reason) claims h))),
+)

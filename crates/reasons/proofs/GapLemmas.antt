@@ -1,6 +1,6 @@
 -- What one fact leaves possible and another excludes.
-use Rattle.std.proofs.Common.{◌≡◌, ℕ, ◌<◌, Bool, true, false, List, [], ◌∷◌, length, get_or, drop, map, inl, inr, refl, sym, ◌∙◌, ap, subst, zero, suc}
-use Rattle.std.proofs.lemmas.Bool.{true≢false, false≢true}
+use Rattle.std.proofs.Common.{◌≡◌, ℕ, ◌<◌, true, List, [], ◌∷◌, length, get_or, drop, map, inl, inr, refl, sym, ◌∙◌, subst, zero, suc}
+use Rattle.std.proofs.lemmas.Bool.{true≢false}
 use Rattle.wordset.specs.Words.{Words, everything}
 use Rattle.facts.specs.Facts.{Ac, Cell, Fact, Among, Equation, Knows}
 use Rattle.facts.specs.Same.{Agree}
@@ -10,7 +10,7 @@ use Rattle.facts.specs.declared.names.Equation.{Equation as CodeEquation}
 use Rattle.facts.proofs.Alike.{narrowed_same, only_same}
 use Rattle.facts.proofs.AgreeLemmas.{agree_sym, same_fact, narrowed_agree}
 use Rattle.facts.proofs.EntailLemmas.{drop_item}
-use Rattle.reasons.specs.Gaps.{IsBeyond, IsLinkBeyond, IsGap}
+use Rattle.reasons.specs.Gaps.{IsLinkBeyond, IsGap}
 use Rattle.reasons.specs.declared.gap.Gap.{Gap}
 use Rattle.reasons.specs.declared.gap.Gap.TheVariants as gap
 

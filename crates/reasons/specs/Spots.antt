@@ -6,7 +6,7 @@ use Rattle.peripherals.specs.Loading.{image_of}
 use Rattle.declaration.specs.Declaration.{Routine, Declaration}
 use Rattle.declaration.specs.Kept.{Kept}
 use Rattle.declaration.specs.Kept as declared
-use Rattle.facts.specs.Facts.{Fact, Place}
+use Rattle.facts.specs.Facts.{Fact, Place, possible}
 use Rattle.facts.specs.Meaning.{meaning}
 use Rattle.facts.specs.Places.{place_of}
 use Rattle.facts.specs.declared.Condition.{Condition}
@@ -31,6 +31,10 @@ here s = place_of s.place
 
 abbrev pub fact_of : {A C : Type 0} → Spot A C → Fact
 fact_of s = meaning s.fact.now
+
+-- The words that are possible there.
+abbrev pub possible_at : {A C : Type 0} → Spot A C → Words
+possible_at s = possible (here s) (fact_of s) s.at
 
 -- The word fails the condition there, since it breaks this.
 abbrev pub BreaksHere : {A C : Type 0} → (C → Certificate) → Spot A C → Condition → ℕ → Breach → Type 0

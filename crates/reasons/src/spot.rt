@@ -1,10 +1,12 @@
 //! A fact at an address of a body, of whose words it is asked what they break.
 
 ghost use Rattle.std.specs.Prelude.{◌≡◌, IfSome};
+ghost use Rattle.wordset.specs.Words.{SameWords};
 ghost use Rattle.wordset.specs.Lanes.{words};
 ghost use Rattle.facts.specs.Meaning.{meaning};
 ghost use Rattle.facts.specs.Places.{routine_of, sites_of};
-ghost use Rattle.reasons.specs.Spots.{IsWrongHere, claimed_by, fact_of, here, place_with, routine_with, sites_with};
+ghost use Rattle.facts.specs.declared.Condition.TheVariants.{V3};
+ghost use Rattle.reasons.specs.Spots.{IsWrongHere, claimed_by, fact_of, here, place_with, possible_at, routine_with, sites_with};
 
 use crate::reason::Reason;
 use bin_tape::Image;
@@ -89,9 +91,29 @@ impl<A: Allocator, C: Claims> Spot<'_, A, C> {
         ensures { IfSome result (IsWrongHere C.claims self.now condition) }
     {
         let possible = self.place.possible_words(self.fact, self.at);
-        if matches!(condition, Condition::V3) && possible.count() > MOST_WORDS {
-            return Some(Reason::TooManyWords(possible.count()));
+        match condition {
+            Condition::V3 => self.too_many(&possible),
+            _ => self.first_word(condition, &possible),
         }
+    }
+
+    /// How many words are possible, where they are too many; else the first that isn't supported.
+    fn too_many(&self, possible: &WordSet) -> Option<Reason>
+        requires { SameWords (words possible.now) (possible_at self.now) }
+        ensures { IfSome result (IsWrongHere C.claims self.now V3) }
+    {
+        let count = possible.count();
+        if count > MOST_WORDS {
+            return Some(Reason::TooManyWords(count));
+        }
+        self.first_word(Condition::V3, possible)
+    }
+
+    /// The first possible word that breaks a condition, and what it breaks.
+    fn first_word(&self, condition: Condition, possible: &WordSet) -> Option<Reason>
+        requires { SameWords (words possible.now) (possible_at self.now) }
+        ensures { IfSome result (IsWrongHere C.claims self.now condition) }
+    {
         let mut next = 0usize;
         while let Some(word) = possible.first_from(next) {
             if let Some(breach) = self.breach(condition, word) {

@@ -1,4 +1,4 @@
-use Rattle.std.proofs.Common.{ℕ, sym, ap, ◌∙◌}
+use Rattle.std.proofs.Common.{sym, ap, ◌∙◌}
 use Rattle.wordset.specs.Words.{Words}
 use Rattle.reasons.proofs.gap.offset_gap.Goals as goal
 

@@ -1,5 +1,4 @@
-use Rattle.std.proofs.Common.{Bool, true, refl, sym, ◌∙◌, ◌≡◌}
-use Rattle.std.specs.Prelude.{◌||◌}
+use Rattle.std.proofs.Common.{sym, ◌∙◌}
 use Rattle.wordset.proofs.Tests.{some_from}
 use Rattle.reasons.proofs.LineLemmas.{or_second}
 use Rattle.reasons.proofs.lines.names_routine.Goals as goal

@@ -1,4 +1,4 @@
-use Rattle.std.proofs.Common.{rules, ℕ, sym, ap, ◌∙◌}
+use Rattle.std.proofs.Common.{sym, ap, ◌∙◌}
 use Rattle.wordset.specs.Words.{Words}
 use Rattle.facts.specs.Facts.{Fact}
 use Rattle.reasons.proofs.lines.why_misplaced.Goals as goal

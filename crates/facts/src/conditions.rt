@@ -224,3 +224,14 @@ pub fn reads<A: Allocator>(fact: &Fact, at: Word, word: Word, place: &Place<'_, 
     let known = Known::of(fact);
     place.cells_read(at, word, &known)
 }
+
+/// The cells that a word at the address of a fact may write, wherever the fact holds: the targets of
+/// ISZ and DCA, and a pointer that is stepped. The cell that a JMS itself writes isn't among them.
+pub fn writes<A: Allocator>(fact: &Fact, at: Word, word: Word, place: &Place<'_, A>) -> WordSet
+    ensures { SameWords (words result)
+        (may_write (place_of place.now) (meaning fact.now)
+        (meaning_at (place_of place.now) at word)) }
+{
+    let known = Known::of(fact);
+    place.cells_written(at, word, &known)
+}

@@ -252,8 +252,9 @@ impl Known<'_> {
         }
     }
 
-    /// Whether an equation is known.
-    fn knows(&self, equation: &Equation) -> bool
+    /// Whether an equation is known: it is among those that are known, or one word is left on each
+    /// side of it, and they fulfil it.
+    pub fn knows(&self, equation: &Equation) -> bool
         ensures { IsTrue result ↔ Knows (known_of self.now) (equation_of equation.now) }
     {
         if self.lists(equation) {

@@ -8,6 +8,7 @@ ghost use Rattle.reasons.specs.Spots.{BreaksHere, CallBreaksHere};
 
 use crate::breach::{Breach, CallBreach};
 use crate::spot::Spot;
+use crate::told::claimed_exit;
 use facts::{Condition, Known};
 use judge::Claims;
 use std::alloc::Allocator;
@@ -134,7 +135,7 @@ impl<A: Allocator, C: Claims> Spot<'_, A, C> {
         requires { offset < 8 }
         ensures { IfSome result (CallBreaksHere C.claims self.now V11 entry) }
     {
-        let exit = self.claims.exit(entry, offset)?;
+        let exit = claimed_exit(self.claims, entry, offset)?;
         let written = self.claimed(entry).writes;
         let known = Known::after_call(self.fact, &exit, &written);
         let next = self.at.increment().add(Word::from_index(offset));

@@ -11,6 +11,7 @@ ghost use Rattle.reasons.specs.Spots.{BreaksHere, MissesHere, claimed_by, here};
 use crate::breach::{Breach, Landing};
 use crate::gap::gap_between;
 use crate::spot::Spot;
+use crate::told::claimed_fact;
 use facts::{Known, Outcome, outcomes};
 use judge::Claims;
 use std::alloc::Allocator;
@@ -41,7 +42,7 @@ impl<A: Allocator, C: Claims> Spot<'_, A, C> {
         if !self.is_inside(owner, at) {
             return Some(Landing::OtherBody);
         }
-        let Some(fact) = self.claims.fact(at) else {
+        let Some(fact) = claimed_fact(self.claims, at) else {
             return Some(Landing::NoFact);
         };
         match gap_between(known, &fact) {

@@ -10,6 +10,7 @@ mod lines;
 mod reason;
 mod returns;
 mod spot;
+mod told;
 mod words;
 
 pub use breach::{Breach, CallBreach, Landing, ReturnBreach};

@@ -8,6 +8,7 @@ ghost use Rattle.reasons.specs.Reasons.{IsMisplaced, IsWrongStart, NamesRoutine}
 
 use crate::gap::gap_at_start;
 use crate::reason::Reason;
+use crate::told::{claimed_exit, claimed_fact};
 use bin_tape::Image;
 use declaration::{Declaration, Owner};
 use facts::Fact;
@@ -19,7 +20,7 @@ use word12::Word;
 pub(crate) fn why_start<C: Claims>(image: &Image, claims: &C, at: Word) -> Option<Reason>
     ensures { IfSome result (IsWrongStart (image_of image.now) (C.claims claims.now) at) }
 {
-    let Some(fact) = claims.fact(at) else {
+    let Some(fact) = claimed_fact(claims, at) else {
         return Some(Reason::NoFact);
     };
     match gap_at_start(&fact, image) {
@@ -36,7 +37,7 @@ fn names_routine<C: Claims>(claims: &C, at: Word) -> bool
         return true;
     }
     for offset in 0..8usize {
-        if claims.exit(at, offset).is_some() {
+        if claimed_exit(claims, at, offset).is_some() {
             return true;
         }
     }
@@ -99,6 +100,6 @@ pub(crate) fn why_placed<A: Allocator, C: Claims>(
     if names_routine(claims, at) && !declaration.is_entry(at) {
         return Some(Reason::LineAtNoEntry);
     }
-    let fact = claims.fact(at)?;
+    let fact = claimed_fact(claims, at)?;
     why_misplaced(declaration, claims, at, &fact)
 }

@@ -10,6 +10,7 @@ use crate::breach::Breach;
 use crate::gap::Gap;
 use crate::lines::{why_placed, why_start};
 use crate::spot::{Body, Spot};
+use crate::told::claimed_fact;
 use bin_tape::Image;
 use declaration::{Declaration, Owner};
 use facts::Condition;
@@ -70,7 +71,7 @@ fn why_words<A: Allocator, C: Claims>(
     ensures { IfSome result
         (HasWrongWord (judged image.now declaration.now (C.claims claims.now)) condition at) }
 {
-    let fact = claims.fact(at)?;
+    let fact = claimed_fact(claims, at)?;
     let body = body_of(declaration, claims, at)?;
     Spot::of(image, declaration, claims, &body, at, &fact).first_breach(condition)
 }

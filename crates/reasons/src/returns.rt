@@ -7,6 +7,7 @@ ghost use Rattle.reasons.specs.Spots.{BreaksHere, ReturnBreaksHere, here};
 use crate::breach::{Breach, ReturnBreach};
 use crate::gap::gap_between;
 use crate::spot::Spot;
+use crate::told::claimed_exit;
 use facts::Known;
 use judge::Claims;
 use std::alloc::Allocator;
@@ -61,7 +62,7 @@ impl<A: Allocator, C: Claims> Spot<'_, A, C> {
         if !self.place.declaration.has_offset(entry, declared) {
             return Some(ReturnBreach::NotDeclared(offset));
         }
-        let Some(exit) = self.claims.exit(entry, offset) else {
+        let Some(exit) = claimed_exit(self.claims, entry, offset) else {
             return Some(ReturnBreach::NoExit(offset));
         };
         match gap_between(&Known::of(self.fact), &exit) {

@@ -37,6 +37,8 @@ def is_sound(certificate):
 
 def certificate_of(text):
     """The certificate that a text spells, or None where it spells none."""
+    if any(first >= last for first, last in re.findall(r"(\d{4})-(\d{4})", text)):
+        return None
     try:
         found = judge.parse(text)
     except (ValueError, IndexError, KeyError, AttributeError):

@@ -140,6 +140,15 @@ fn says(known: &Known<'_>, equation: &Equation) -> bool {
     fulfils(left, right, equation.more)
 }
 
+/// Whether both sides of an equation have one word.
+fn has_one_word_each(known: &Known<'_>, equation: &Equation) -> bool {
+    known.narrowed(&equation.left).only().is_some()
+        && known
+            .narrowed(&Name::Cell(equation.right))
+            .only()
+            .is_some()
+}
+
 impl<A: Allocator + Copy> Kept<A> {
     /// What this and something else that is known say both.
     pub(crate) fn joined(
@@ -197,14 +206,13 @@ impl<A: Allocator + Copy> Kept<A> {
         Ok(())
     }
 
-    /// Adds those equations that are known now and that the words before fulfil, where those moved.
+    /// Adds those equations that are known now and that the words before fulfil, where not both sides
+    /// have one word still.
     fn add_shown(&mut self, old: &Kept<A>, known: &Known<'_>) -> Result<(), Halt> {
         for equation in known.equations() {
             let left = old.set(&equation.left).only();
             let right = old.set(&Name::Cell(equation.right)).only();
-            if fulfils(left, right, equation.more)
-                && known.narrowed(&equation.left).only() != left
-            {
+            if fulfils(left, right, equation.more) && !has_one_word_each(known, equation) {
                 self.relate(*equation)?;
             }
         }

@@ -6,6 +6,7 @@ ghost use Rattle.certificate.specs.Reading.{place_of_equation};
 ghost use Rattle.analyser.specs.Claimed.{cell_of, fact_kept, has_room};
 
 use crate::turns::Halt;
+use crate::widening::smoothed;
 use facts::{Equation, Fact, Known, Name, Offsets, TrackedCell};
 use std::alloc::Allocator;
 use word12::Word;
@@ -37,13 +38,13 @@ pub(crate) struct Kept<A: Allocator> {
 }
 
 /// The words that are left to a name by one step along its equations, or all of its words where the
-/// equations contradict.
+/// equations contradict; filled where they are ragged.
 pub(crate) fn left_to(known: &Known<'_>, name: &Name) -> WordSet {
     let narrowed = known.narrowed(name);
     if narrowed.is_empty() {
-        known.set(name)
+        smoothed(&known.set(name))
     } else {
-        narrowed
+        smoothed(&narrowed)
     }
 }
 

@@ -2,19 +2,11 @@
 
 use crate::kept::{Kept, Line, left_to};
 use crate::turns::Halt;
+use crate::widening::{Limits, Pace, widened};
 use facts::{Equation, Known, Name, Offsets};
 use std::alloc::Allocator;
 use word12::Word;
 use wordset::WordSet;
-
-/// A set may grow so often at one address before nothing is said of it any more.
-const MOST_GROWTHS: u32 = 300;
-
-/// A count up to 7777 may grow so often before it is taken to start anywhere below.
-const COUNT_GROWTHS: u32 = 40;
-
-/// A set in more runs is filled.
-const MOST_RUNS: usize = 48;
 
 /// A name with one word before and another after.
 #[derive(Clone, Copy)]
@@ -22,48 +14,6 @@ struct Moved {
     name: Name,
     before: Word,
     after: Word,
-}
-
-/// How many runs of words follow each other a set has, at least where few are asked for.
-fn has_many_runs(set: &WordSet) -> bool {
-    let less = set.shift(Word::ZERO.increment());
-    set.minus(&less).count() > MOST_RUNS
-}
-
-/// From the least word of a set to its greatest.
-fn filled(set: &WordSet) -> WordSet {
-    match set.least() {
-        None => *set,
-        Some(low) => match set.greatest() {
-            None => *set,
-            Some(high) => WordSet::range(low, high),
-        },
-    }
-}
-
-/// From the least word of a set to 7777.
-fn up_to_the_end(set: &WordSet) -> WordSet {
-    match set.least() {
-        None => *set,
-        Some(low) => WordSet::range(low, Word::ZERO.complement()),
-    }
-}
-
-/// A set that has grown so often, made one that grows less.
-fn widened(set: &WordSet, growths: u32, counted: bool) -> WordSet {
-    if growths >= MOST_GROWTHS {
-        return WordSet::all();
-    }
-    if counted && growths >= COUNT_GROWTHS {
-        let end = up_to_the_end(set);
-        if !end.contains(Word::ZERO) && set.least().is_some_and(|low| low.is_negative()) {
-            return end;
-        }
-    }
-    if has_many_runs(set) {
-        return filled(set);
-    }
-    *set
 }
 
 /// The difference of two words.
@@ -140,13 +90,20 @@ fn says(known: &Known<'_>, equation: &Equation) -> bool {
     fulfils(left, right, equation.more)
 }
 
+/// Whether both sides of an equation have one word.
+fn has_one_word_each(known: &Known<'_>, equation: &Equation) -> bool {
+    known.narrowed(&equation.left).only().is_some()
+        && known.narrowed(&Name::Cell(equation.right)).only().is_some()
+}
+
 impl<A: Allocator + Copy> Kept<A> {
     /// What this and something else that is known say both.
     pub(crate) fn joined(
         &self,
         alloc: A,
         known: &Known<'_>,
-        counted: &WordSet,
+        limits: &Limits,
+        pace: Pace,
     ) -> Result<Kept<A>, Halt> {
         let mut kept = Kept::bare(alloc, known);
         let ac = self.ac.union(&kept.ac);
@@ -154,11 +111,15 @@ impl<A: Allocator + Copy> Kept<A> {
         if ac != self.ac {
             kept.growths = self.growths.saturating_add(1);
         }
-        kept.ac = widened(&ac, kept.growths, false);
+        kept.ac = if ac == self.ac {
+            ac
+        } else {
+            widened(&self.ac, &ac, kept.growths, false, limits, pace)
+        };
         kept.mq = self.mq.union(&kept.mq);
         kept.link = self.link.union(kept.link);
         kept.offsets = joined_offsets(self.offsets, kept.offsets);
-        kept.join_cells(&self.cells, known, counted)?;
+        kept.join_cells(&self.cells, known, limits, pace)?;
         kept.join_equations(&self.equations, known)?;
         kept.add_shown(self, known)?;
         kept.add_kept(self, alloc, known)?;
@@ -170,7 +131,8 @@ impl<A: Allocator + Copy> Kept<A> {
         &mut self,
         cells: &[Line],
         known: &Known<'_>,
-        counted: &WordSet,
+        limits: &Limits,
+        pace: Pace,
     ) -> Result<(), Halt> {
         for line in cells {
             let cell = line.tracked.cell;
@@ -180,7 +142,8 @@ impl<A: Allocator + Copy> Kept<A> {
                 self.track(cell, old, line.growths)?;
             } else {
                 let growths = line.growths.saturating_add(1);
-                let wide = widened(&set, growths, counted.contains(cell));
+                let counted = limits.counted.contains(cell);
+                let wide = widened(&old, &set, growths, counted, limits, pace);
                 self.track(cell, wide, growths)?;
             }
         }
@@ -197,14 +160,13 @@ impl<A: Allocator + Copy> Kept<A> {
         Ok(())
     }
 
-    /// Adds those equations that are known now and that the words before fulfil, where those moved.
+    /// Adds those equations that are known now and that the words before fulfil, where not both sides
+    /// have one word still.
     fn add_shown(&mut self, old: &Kept<A>, known: &Known<'_>) -> Result<(), Halt> {
         for equation in known.equations() {
             let left = old.set(&equation.left).only();
             let right = old.set(&Name::Cell(equation.right)).only();
-            if fulfils(left, right, equation.more)
-                && known.narrowed(&equation.left).only() != left
-            {
+            if fulfils(left, right, equation.more) && !has_one_word_each(known, equation) {
                 self.relate(*equation)?;
             }
         }

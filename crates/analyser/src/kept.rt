@@ -1,11 +1,12 @@
 //! Facts as they are kept: only as long as what they say.
 
-ghost use Rattle.std.specs.Prelude.{◌≡◌, ◌<◌, ◌≤◌, ◌+◌, ◌^◌, ◌++◌, length, map, is_some, IfSome};
+ghost use Rattle.std.specs.Prelude.{◌≡◌, ◌<◌, ◌≤◌, ◌+◌, ◌^◌, ◌++◌, length, map, true};
 ghost use Rattle.facts.specs.Meaning.{meaning, statement_of, offsets_of, equation_of};
 ghost use Rattle.certificate.specs.Reading.{place_of_equation};
 ghost use Rattle.analyser.specs.Claimed.{cell_of, fact_kept, has_room};
 
 use crate::turns::Halt;
+use crate::widening::smoothed;
 use facts::{Equation, Fact, Known, Name, Offsets, TrackedCell};
 use std::alloc::Allocator;
 use word12::Word;
@@ -37,13 +38,13 @@ pub(crate) struct Kept<A: Allocator> {
 }
 
 /// The words that are left to a name by one step along its equations, or all of its words where the
-/// equations contradict.
+/// equations contradict; filled where they are ragged.
 pub(crate) fn left_to(known: &Known<'_>, name: &Name) -> WordSet {
     let narrowed = known.narrowed(name);
     if narrowed.is_empty() {
-        known.set(name)
+        smoothed(&known.set(name))
     } else {
-        narrowed
+        smoothed(&narrowed)
     }
 }
 
@@ -230,25 +231,35 @@ impl<A: Allocator> Kept<A> {
         WordSet::all()
     }
 
-    /// The fact.
-    pub(crate) fn fact(&self) -> Option<Fact>
-        ensures there { is_some result ≡ has_room self.now }
-        ensures fact { IfSome result (λ f. meaning f ≡ fact_kept self.now) }
+    /// Whether there is room in a fact for what is kept, which the lent one then says.
+    pub(crate) fn fact_into(&self, fact: &mut Fact) -> bool
+        ensures there { result ≡ has_room self.now }
+        ensures fact { result ≡ true → meaning fact.new ≡ fact_kept self.now }
     {
         if self.cells.len() > MOST_CELLS {
-            return None;
+            return false;
         }
         if self.equations.len() > MOST_EQUATIONS {
-            return None;
+            return false;
         }
-        let mut fact = Fact::any();
+        fact.forget();
         fact.set_accumulator(self.ac);
         fact.set_mq(self.mq);
         fact.set_link(self.link);
         fact.set_offsets(self.offsets);
-        track_all(&mut fact, &self.cells);
-        relate_all(&mut fact, &self.equations);
-        Some(fact)
+        track_all(fact, &self.cells);
+        relate_all(fact, &self.equations);
+        true
+    }
+
+    /// The fact.
+    pub(crate) fn fact(&self) -> Option<Fact> {
+        let mut fact = Fact::any();
+        if self.fact_into(&mut fact) {
+            Some(fact)
+        } else {
+            None
+        }
     }
 }
 

@@ -12,6 +12,7 @@ mod program;
 mod search;
 mod table;
 mod turns;
+mod widening;
 
 use crate::program::Program;
 use crate::search::Search;
@@ -65,7 +66,7 @@ pub fn guess_within<A: Allocator + Copy, D: Allocator>(
     let Ok(mut search) = Search::new(alloc) else {
         return Err(GuessFault::NoMemory);
     };
-    search.run_twice(&program, turns)?;
+    search.run_all(&program, turns)?;
     match search.finish(&program) {
         Ok(guess) => Ok(guess),
         Err(halt) => Err(halt.fault()),

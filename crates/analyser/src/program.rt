@@ -1,6 +1,7 @@
 //! What is analysed: a tape's words and a declaration.
 
 use crate::turns::Halt;
+use crate::widening::Limits;
 use bin_tape::Image;
 use declaration::{Declaration, Owner};
 use facts::{Fact, Place, Running};
@@ -13,13 +14,16 @@ use wordset::WordSet;
 /// The most cells that are tracked.
 const MOST_TRACKED: usize = 64;
 
-/// What is analysed, the cells that facts speak of, and those that ISZ counts by name.
+/// What is analysed, the cells that instructions name or that stand in bodies, those that facts speak
+/// of at most, and where
+/// their sets may end.
 #[derive(Drop)]
 pub(crate) struct Program<'a, D: Allocator> {
     pub(crate) image: &'a Image,
     pub(crate) declaration: &'a Declaration<D>,
+    pub(crate) named: WordSet,
     pub(crate) tracked: WordSet,
-    pub(crate) counted: WordSet,
+    pub(crate) limits: Limits,
 }
 
 /// The body that has an address: main's, or that of the routine of an entry, with what is known of
@@ -93,15 +97,20 @@ impl<'a, D: Allocator> Program<'a, D> {
     /// A tape's words and a declaration. The cells that facts speak of are the variables that
     /// instructions name, then those in bodies, then those on the tape; at most 64.
     pub(crate) fn of(image: &'a Image, declaration: &'a Declaration<D>) -> Program<'a, D> {
-        let mut tracked = WordSet::empty();
-        add_named(&mut tracked, image, declaration);
-        add_code(&mut tracked, declaration);
+        let mut named = WordSet::empty();
+        add_named(&mut named, image, declaration);
+        add_code(&mut named, declaration);
+        let mut tracked = named;
         add_loaded(&mut tracked, image, declaration);
         Program {
             image,
             declaration,
+            named,
             tracked,
-            counted: counted(image, declaration),
+            limits: Limits {
+                counted: counted(image, declaration),
+                landmarks: landmarks(image, declaration),
+            },
         }
     }
 }
@@ -151,6 +160,28 @@ fn counted<D: Allocator>(image: &Image, declaration: &Declaration<D>) -> WordSet
         }
     }
     cells
+}
+
+/// Words at which sets may end: the tape's words that are no instructions, each with what makes it 0,
+/// and the ends of what may be written and read.
+fn landmarks<D: Allocator>(image: &Image, declaration: &Declaration<D>) -> WordSet {
+    let mut words = ends(declaration.variables());
+    for index in 0..4096usize {
+        let at = Word::from_index(index);
+        if declaration.owner_of(at).is_none() {
+            if let Some(word) = image.get(at) {
+                words.insert(word);
+                words.insert(word.complement().increment());
+            }
+        }
+    }
+    words
+}
+
+/// The first words of each run of a set, and those past its end.
+fn ends(set: &WordSet) -> WordSet {
+    let after = set.shift(Word::ZERO.increment());
+    set.minus(&after).union(&after.minus(set))
 }
 
 /// The tape's word at an address of a body.

@@ -167,22 +167,21 @@ impl<A: Allocator> Claims for Guess<A> {
         }
     }
 
-    fn fact(&self, at: Word) -> Option<Fact> {
+    fn fact_into(&self, at: Word, fact: &mut Fact) -> bool {
         match self.kept(at) {
-            None => None,
-            Some(kept) => kept.fact(),
+            None => false,
+            Some(kept) => kept.fact_into(fact),
         }
     }
 
-    fn exit(&self, entry: Word, offset: usize) -> Option<Fact> {
+    fn exit_into(&self, entry: Word, offset: usize, exit: &mut Fact) -> bool {
         let Some(kept) = self.kept_exit(entry, offset) else {
-            return None;
+            return false;
         };
-        let Some(fact) = kept.fact() else {
-            return None;
-        };
-        let mut exit = fact;
+        if !kept.fact_into(exit) {
+            return false;
+        }
         exit.set_offsets(Offsets::all());
-        Some(exit)
+        true
     }
 }

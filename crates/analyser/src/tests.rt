@@ -3,6 +3,7 @@
 use crate::{GuessFault, Turns, guess, guess_within};
 use bin_tape::Image;
 use declaration::Declaration;
+use facts::Fact;
 use judge::{Claims, judge};
 use std::test::Fail;
 use testing::Refusing;
@@ -135,8 +136,9 @@ fn claims_are_read_in_rising_order(rt: HostRuntime) -> Result<(), Fail> {
     let found = guess_within(rt.alloc(), &image(&HELLO), &declaration, &mut turns)?;
     assert!(rt; turns.spent() < turns.limit());
     let mut facts = 0usize;
+    let mut said = Fact::any();
     for index in 0..4096usize {
-        if found.fact(Word::from_index(index)).is_some() {
+        if found.fact_into(Word::from_index(index), &mut said) {
             facts = facts.saturating_add(1);
         }
     }
@@ -146,6 +148,7 @@ fn claims_are_read_in_rising_order(rt: HostRuntime) -> Result<(), Fail> {
             .routine(word(0o214))
             .is_some_and(|routine| routine.rank == 0)
     );
-    assert!(rt; found.exit(word(0o214), 0).is_some() && found.exit(word(0o214), 1).is_none());
+    assert!(rt; found.exit_into(word(0o214), 0, &mut said));
+    assert!(rt; !found.exit_into(word(0o214), 1, &mut said));
     Ok(())
 }

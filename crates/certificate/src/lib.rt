@@ -164,7 +164,21 @@ impl<A: Allocator> Certificate<A> {
         ensures there { is_some result ≡ (claims self.now).has_fact at }
         ensures fact { IfSome result (λ f. fact_meaning f ≡ (claims self.now).fact at) }
     {
-        first_fact(self.kept.from(FIRST_FACT + at.index()))
+        let mut fact = Fact::any();
+        if self.fact_into(at, &mut fact) {
+            Some(fact)
+        } else {
+            None
+        }
+    }
+
+    /// Whether there is a fact at an address, which the lent one then says. So the same one can be
+    /// asked for many, each of some 34,000 bytes.
+    pub fn fact_into(&self, at: Word, fact: &mut Fact) -> bool
+        ensures there { result ≡ (claims self.now).has_fact at }
+        ensures fact { result ≡ true → fact_meaning fact.new ≡ (claims self.now).fact at }
+    {
+        first_fact(self.kept.from(FIRST_FACT + at.index()), fact)
     }
 
     /// What holds when the routine of an entry returns by an offset, if that is said; it has all
@@ -176,11 +190,28 @@ impl<A: Allocator> Certificate<A> {
         ensures offsets { IfSome result (λ f. (o : ℕ) → o < 8 →
             (fact_meaning f).offsets o ≡ true) }
     {
+        let mut exit = Fact::any();
+        if self.exit_into(entry, offset, &mut exit) {
+            Some(exit)
+        } else {
+            None
+        }
+    }
+
+    /// Whether it is said what holds when the routine of an entry returns by an offset, which the
+    /// lent fact then says, with all offsets.
+    pub fn exit_into(&self, entry: Word, offset: usize, exit: &mut Fact) -> bool
+        ensures there { result ≡ (claims self.now).has_exit entry offset }
+        ensures fact { result ≡ true → with_offsets everything (fact_meaning exit.new) ≡
+            (claims self.now).exit entry offset }
+        ensures offsets { result ≡ true → (o : ℕ) → o < 8 →
+            (fact_meaning exit.new).offsets o ≡ true }
+    {
         let kept = &self.kept;
         if offset >= 8 {
-            return None;
+            return false;
         }
-        first_exit(kept.from(FIRST_EXIT + 8 * entry.index() + offset))
+        first_exit(kept.from(FIRST_EXIT + 8 * entry.index() + offset), exit)
     }
 }
 

@@ -191,19 +191,18 @@ fn add_details(fact: &mut Fact, lines: &[Line])
     }
 }
 
-/// The fact that registers, offsets and the details at the front make.
-fn fact_from(registers: &Registers, offsets: Offsets, lines: &[Line]) -> Fact
+/// Makes a fact say what registers, offsets and the details at the front say.
+fn fill(fact: &mut Fact, registers: &Registers, offsets: Offsets, lines: &[Line])
     requires fit { FitUnder (map said lines.now) }
-    ensures { fact_meaning result ≡
+    ensures { fact_meaning fact.new ≡
         fact_of (stated (registers_of registers.now) (map said lines.now)) (offsets_of offsets) }
 {
-    let mut fact = Fact::any();
+    fact.forget();
     fact.set_accumulator(registers.accumulator);
     fact.set_mq(registers.mq);
     fact.set_link(registers.link);
     fact.set_offsets(offsets);
-    add_details(&mut fact, lines);
-    fact
+    add_details(fact, lines);
 }
 
 /// What the first line says of a routine, if it does.
@@ -222,33 +221,35 @@ pub fn first_routine(lines: &[Line]) -> Option<Routine>
     }
 }
 
-/// The fact of the first line, if it's a fact's.
-pub fn first_fact(lines: &[Line]) -> Option<Fact>
+/// Whether the first line is a fact's, which the lent fact then says.
+pub fn first_fact(lines: &[Line], fact: &mut Fact) -> bool
     requires fit { FitUnderFirst (map said lines.now) }
-    ensures there { is_some result ≡ begins_fact (map said lines.now) }
-    ensures fact { IfSome result (λ f. fact_meaning f ≡ first_fact (map said lines.now)) }
+    ensures there { result ≡ begins_fact (map said lines.now) }
+    ensures fact { result ≡ true → fact_meaning fact.new ≡ first_fact (map said lines.now) }
 {
     match lines.split_first() {
         Some((Line::Fact(_, registers, offsets), details)) => {
-            Some(fact_from(registers, *offsets, details))
+            fill(fact, registers, *offsets, details);
+            true
         }
-        _ => None,
+        _ => false,
     }
 }
 
-/// The fact of the first line, if it's an exit's, with all offsets.
-pub fn first_exit(lines: &[Line]) -> Option<Fact>
+/// Whether the first line is an exit's, which the lent fact then says, with all offsets.
+pub fn first_exit(lines: &[Line], exit: &mut Fact) -> bool
     requires fit { FitUnderFirst (map said lines.now) }
-    ensures there { is_some result ≡ begins_exit (map said lines.now) }
-    ensures fact { IfSome result (λ f. with_offsets everything (fact_meaning f) ≡
-        first_exit (map said lines.now)) }
-    ensures offsets { IfSome result (λ f. (o : ℕ) → o < 8 →
-        (fact_meaning f).offsets o ≡ true) }
+    ensures there { result ≡ begins_exit (map said lines.now) }
+    ensures fact { result ≡ true → with_offsets everything (fact_meaning exit.new) ≡
+        first_exit (map said lines.now) }
+    ensures offsets { result ≡ true → (o : ℕ) → o < 8 →
+        (fact_meaning exit.new).offsets o ≡ true }
 {
     match lines.split_first() {
         Some((Line::Exit(_, _, registers), details)) => {
-            Some(fact_from(registers, Offsets::all(), details))
+            fill(exit, registers, Offsets::all(), details);
+            true
         }
-        _ => None,
+        _ => false,
     }
 }

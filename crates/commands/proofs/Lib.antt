@@ -8,3 +8,4 @@ pub mod RunLemmas
 pub mod AssembleLemmas
 pub mod CheckLemmas
 pub mod LaterLemmas
+pub mod Answered

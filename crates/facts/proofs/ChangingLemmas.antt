@@ -54,6 +54,11 @@ pub assigned_ac : (k : Known) (set : List ℕ) (es : ArrayVec CodeEquation) → 
 unfolding assigned
 assigned_ac k set es e = record { sets = ac_sets k set (words set) (λ v lt. refl); mq = λ v lt. refl; link = λ l lt. refl; equations = e; offsets = λ o lt. refl }
 
+pub summed_agrees : (k : Known) (first : List Equation) (set : List ℕ) (es : ArrayVec CodeEquation) → map equation_of es.items ≡ first ++ free_of (λ m. same m Ac) (map equation_of k.equations.items) →
+    Agree (known_of (record k { ac = set; equations = es })) (with_equations first (assigned Ac (words set) (known_of k)))
+unfolding assigned
+summed_agrees k first set es e = record { sets = ac_sets k set (words set) (λ v lt. refl); mq = λ v lt. refl; link = λ l lt. refl; equations = e; offsets = λ o lt. refl }
+
 pub assigned_cell : (k : Known) (c : ℕ) (set : List ℕ) (es : ArrayVec CodeEquation) → IsUnchanged k.target → map equation_of es.items ≡ free_of (λ m. same m (Cell c)) (map equation_of k.equations.items) →
     Agree (known_of (record k { target = Replaced c set; equations = es })) (assigned (Cell c) (words set) (known_of k))
 unfolding assigned
@@ -63,6 +68,15 @@ pub moved_ac : (k : Known) (j : ℕ) (set : List ℕ) (es : ArrayVec CodeEquatio
     map equation_of es.items ≡ moved_equations Ac j (map equation_of k.equations.items) → Agree (known_of (record k { ac = set; equations = es })) (moved Ac j (known_of k))
 unfolding moved
 moved_ac k j set es s e = record { sets = ac_sets k set _ s; mq = λ v lt. refl; link = λ l lt. refl; equations = e; offsets = λ o lt. refl }
+
+pub raised_to_agrees : (k : Known) (j : ℕ) (set : List ℕ) (es : ArrayVec CodeEquation) → map equation_of es.items ≡ moved_equations Ac j (map equation_of k.equations.items) →
+    Agree (known_of (record k { ac = set; equations = es })) (with_name Ac (words set) (moved Ac j (known_of k)))
+unfolding moved
+raised_to_agrees k j set es e = record { sets = sets; mq = λ v lt. refl; link = λ l lt. refl; equations = e; offsets = λ o lt. refl }
+  where
+    sets : (n : Name) → SameWords (known_set (record k { ac = set; equations = es }) n) (with_set Ac (words set) (with_set Ac (shifted (narrowed (known_of k) Ac) j) (known_set k)) n)
+    sets Ac v lt = refl
+    sets (Cell a) v lt = refl
 
 pub moved_pointer : (k : Known) (c : ℕ) (set : List ℕ) (es : ArrayVec CodeEquation) → IsUnchanged k.pointer → IsUnchanged k.target → SameWords (words set) (shifted (narrowed (known_of k) (Cell c)) 1) →
     map equation_of es.items ≡ moved_equations (Cell c) 1 (map equation_of k.equations.items) →

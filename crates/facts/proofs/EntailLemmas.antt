@@ -1,10 +1,10 @@
-use Rattle.std.proofs.Common.{◌≡◌, ℕ, ◌+◌, ◌<◌, ◌==◌, Bool, true, false, ◌&&◌, ◌≤◌, Some, None, List, [], ◌∷◌, map, drop, get_or, length, refl, sym, ap, ◌∙◌, subst, arith}
+use Rattle.std.proofs.Common.{◌≡◌, ℕ, ◌+◌, ◌<◌, ◌==◌, Bool, true, false, ◌&&◌, ◌||◌, ◌≤◌, Some, None, List, [], ◌∷◌, map, drop, get_or, length, refl, sym, ap, ◌∙◌, subst, arith}
 use Rattle.std.specs.Prelude.{if◌then◌else◌, IsTrue, ◌↔◌}
 use Rattle.std.proofs.lemmas.Bool.{and_from, and_parts, eqb-true, eq-eqb, true≢false, false≢true}
 use Rattle.std.proofs.lemmas.List.{drop_more}
 use Rattle.std.proofs.Math.ListN.{drop_of_length-le}
 use Rattle.wordset.specs.Words.{plus, minus, Words, SameWords, IsWithin, only}
-use Rattle.facts.specs.Facts.{Name, Ac, Cell, Equation, Fact, narrowed, met_by, Knows, KnowsAll, Entails, EntailsOffsets}
+use Rattle.facts.specs.Facts.{Name, Ac, Cell, same, Equation, Fact, narrowed, met_by, Knows, KnowsAll, Entails, EntailsOffsets}
 use Rattle.facts.proofs.Alike.{only_same}
 use Rattle.wordset.specs.Lanes.{words}
 use Rattle.facts.specs.declared.fact.TrackedCell.{TrackedCell as CodeCell}
@@ -138,3 +138,30 @@ entails_iff k f b registers offsets each know = (λ t. (record { sets = sets; mq
 
 pub registers_of : {a b : Fact} → Entails a b → EntailsRegisters a b
 registers_of e = record { ac = e.sets Ac; mq = e.mq; link = e.link }
+
+-- sets that aren't narrowed
+pub narrowed_inside : (f : Fact) (n : Name) (s : Words) → IsWithin (f.set n) s → IsWithin (narrowed f n) s
+unfolding narrowed
+narrowed_inside f n s w v lt h = w v lt (and_parts _ _ h).0
+
+pub unspoken : (f : Fact) (n : Name) (e : Equation) (old : Words) → (same e.left n || same e.right n) ≡ false → Meets f n e old old
+unspoken f n e old h v lt = go (same e.left n) (same e.right n) h (old v) _ _
+  where
+    go : (p q : Bool) → (p || q) ≡ false → (o x y : Bool) → o ≡ (o && ((if p then x else true) && ((if q then y else true) && true)))
+    go true q h o x y = absurd (true≢false h)
+    go false true h o x y = absurd (true≢false h)
+    go false false h true x y = refl
+    go false false h false x y = refl
+
+pub entry_step : (w : Words) (cells : List CodeCell) (i : ℕ) (t : CodeCell) (a : ℕ) → i < length cells → t ≡ get_or cells i t →
+    IsWithin w (tracked a (map tracked_of (drop i cells))) → IsWithin w (tracked a (map tracked_of (drop (i + 1) cells)))
+entry_step w cells i t a lt e h v vl q =
+    let both : tracked a (map tracked_of (t ∷ drop (i + 1) cells)) v ≡ true = subst (λ xs. tracked a (map tracked_of xs) v ≡ true) (drop_item cells i t lt e) (h v vl q) in
+    (and_parts _ _ both).1
+
+pub entry_found : (w s : Words) (cells : List CodeCell) (i : ℕ) (t : CodeCell) (a : ℕ) → i < length cells → t ≡ get_or cells i t → (t.cell == a) ≡ true → IsWithin (words t.set) s →
+    IsWithin w (tracked a (map tracked_of (drop i cells))) → IsWithin w s
+entry_found w s cells i t a lt e same inside h v vl q =
+    let both : tracked a (map tracked_of (t ∷ drop (i + 1) cells)) v ≡ true = subst (λ xs. tracked a (map tracked_of xs) v ≡ true) (drop_item cells i t lt e) (h v vl q) in
+    let r : (if t.cell == a then words t.set v else true) ≡ true = (and_parts _ _ both).0 in
+    inside v vl (rw same at r)

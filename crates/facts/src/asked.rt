@@ -153,8 +153,7 @@ impl<A: Allocator> Place<'_, A> {
             return WordSet::empty();
         }
         let known = Known::of(fact);
-        let (_seen, targets) = self.reach(refers_indirectly(word), target(word, at), &known);
-        targets
+        self.reached(refers_indirectly(word), target(word, at), &known)
     }
 
     /// Whether a word is a JMS through an auto-index cell, which it steps first.

@@ -28,6 +28,7 @@ fn one() -> Word
 
 impl<'a> Known<'a> {
     /// After the accumulator's word went up by k.
+    #[inline(never)]
     pub(crate) fn raised_ac(&self, k: Word) -> Known<'a>
         ensures same { Agree (known_of result) (moved Ac k (known_of self.now)) }
         ensures target { result.target ≡ self.now.target }
@@ -46,6 +47,7 @@ impl<'a> Known<'a> {
     }
 
     /// After a cell's word went up by one, where a pointer is stepped.
+    #[inline(never)]
     pub(crate) fn stepped(&self, cell: Word) -> Known<'a>
         requires pointer { IsUnchanged self.now.pointer }
         requires target { IsUnchanged self.now.target }
@@ -66,6 +68,7 @@ impl<'a> Known<'a> {
     }
 
     /// After the accumulator took some word of a set.
+    #[inline(never)]
     pub(crate) fn with_ac(&self, set: WordSet) -> Known<'a>
         ensures same { Agree (known_of result) (assigned Ac (words set) (known_of self.now)) }
         ensures target { result.target ≡ self.now.target }
@@ -210,6 +213,13 @@ impl<'a> Known<'a> {
         }
     }
 
+    /// Lets the link be one of others.
+    pub(crate) fn set_link(&mut self, links: Links)
+        ensures { Agree (known_of self.new) (with_link (links_of links) (known_of self.old)) }
+    {
+        self.link = links;
+    }
+
     /// With other words of MQ.
     pub(crate) fn with_mq(self, set: WordSet) -> Known<'a>
         ensures { Agree (known_of result) (with_mq (words set) (known_of self.entry)) }
@@ -262,15 +272,26 @@ impl<'a> Known<'a> {
     }
 
     /// After the accumulator's word went up by k, where these words of it are left.
+    #[inline(never)]
     pub(crate) fn raised_to(&self, k: Word, set: WordSet) -> Known<'a>
         ensures { Agree (known_of result) (with_name Ac (words set)
             (moved Ac k (known_of self.now))) }
     {
-        self.raised_ac(k).holding(set)
+        Known {
+            base: self.base,
+            ac: set,
+            mq: self.mq,
+            link: self.link,
+            pointer: self.pointer,
+            target: self.target,
+            equations: raised(&Name::Accumulator, k, &self.equations),
+            offsets: self.offsets,
+        }
     }
 
     /// After the accumulator became the sum of a cell's word and another, where these words of it
     /// are left.
+    #[inline(never)]
     pub(crate) fn summed(&self, cell: Word, more: Word, set: WordSet) -> Known<'a>
         requires { array_vec_len self.now.equations ≤ 32 }
         ensures { Agree (known_of result) (with_equations
@@ -283,7 +304,16 @@ impl<'a> Known<'a> {
             right: cell,
             more,
         });
-        self.with_ac(set).told(first)
+        Known {
+            base: self.base,
+            ac: set,
+            mq: self.mq,
+            link: self.link,
+            pointer: self.pointer,
+            target: self.target,
+            equations: joined(first, &freed(&Name::Accumulator, &self.equations)),
+            offsets: self.offsets,
+        }
     }
 
     /// With further equations.

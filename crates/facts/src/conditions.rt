@@ -90,7 +90,7 @@ impl<A: Allocator> Place<'_, A> {
         }
         let indirect = refers_indirectly(word);
         let named = target(word, at);
-        let (_seen, targets) = self.reach(indirect, named, known);
+        let targets = self.reached(indirect, named, known);
         union_if(reads_operand(word), &pointer_if(indirect, named), &targets)
     }
 
@@ -108,7 +108,7 @@ impl<A: Allocator> Place<'_, A> {
         }
         let indirect = refers_indirectly(word);
         let named = target(word, at);
-        let (_seen, targets) = self.reach(indirect, named, known);
+        let targets = self.reached(indirect, named, known);
         let pointer = pointer_if(steps_pointer(indirect, named), named);
         union_if(stores(word), &pointer, &targets)
     }
@@ -125,7 +125,7 @@ impl<A: Allocator> Place<'_, A> {
         if !self.is_reference(word) {
             return WordSet::empty();
         }
-        let (_seen, targets) = self.reach(refers_indirectly(word), target(word, at), known);
+        let targets = self.reached(refers_indirectly(word), target(word, at), known);
         let seven_up = known.offsets().contains(7);
         self.own_only(both(counts(word), !seven_up), &targets)
     }
@@ -223,4 +223,15 @@ pub fn reads<A: Allocator>(fact: &Fact, at: Word, word: Word, place: &Place<'_, 
 {
     let known = Known::of(fact);
     place.cells_read(at, word, &known)
+}
+
+/// The cells that a word at the address of a fact may write, wherever the fact holds: the targets of
+/// ISZ and DCA, and a pointer that is stepped. The cell that a JMS itself writes isn't among them.
+pub fn writes<A: Allocator>(fact: &Fact, at: Word, word: Word, place: &Place<'_, A>) -> WordSet
+    ensures { SameWords (words result)
+        (may_write (place_of place.now) (meaning fact.now)
+        (meaning_at (place_of place.now) at word)) }
+{
+    let known = Known::of(fact);
+    place.cells_written(at, word, &known)
 }

@@ -3,10 +3,13 @@
 ghost use Rattle.std.specs.Prelude.{◌≡◌, ◌≤◌, ◌++◌, List, []};
 ghost use Rattle.arrayvec.specs.ArrayVec.{array_vec_len};
 ghost use Rattle.instruct.specs.declared.Instruction.TheVariants.{Iot};
+ghost use Rattle.wordset.specs.Words.{SameWords};
+ghost use Rattle.wordset.specs.Lanes.{words};
+ghost use Rattle.instruct.specs.Bits.{is_indirect, named_cell};
 ghost use Rattle.instruct.specs.Instructions.{kind_of, meaning_of, operation_of, reference_at, Group2};
 ghost use Rattle.facts.specs.Facts as said;
 ghost use Rattle.facts.specs.Outcomes as told;
-ghost use Rattle.facts.specs.Outcomes.{all_operated2, outcomes_of, outcomes_at};
+ghost use Rattle.facts.specs.Outcomes.{stepped, targets, all_operated2, outcomes_of, outcomes_at};
 ghost use Rattle.facts.specs.Same.{Agree, AgreeingOutcomes};
 ghost use Rattle.facts.specs.Meaning.{known_of, meaning, IsUnchanged};
 ghost use Rattle.facts.specs.Places.{place_of};
@@ -16,12 +19,13 @@ use crate::fact::Fact;
 use crate::known::Known;
 use crate::outcome::Outcome;
 use crate::place::Place;
-use crate::references::{call, deposit};
+use crate::references::{call, deposit, steps_pointer};
 use crate::registers::{exchange, operate, transfer};
 use crate::skipping::{both, branch};
 use instruct::{DeviceOperation, Instruction, Operation, decode, halts, refers_indirectly, target};
 use std::alloc::Allocator;
 use word12::{Link, Word};
+use wordset::WordSet;
 
 /// The outcomes of a word: at most four.
 pub type Outcomes<'a> = [Option<Outcome<'a>>; 4];
@@ -52,6 +56,7 @@ fn two<'a>(outcomes: (Option<Outcome<'a>>, Option<Outcome<'a>>)) -> Outcomes<'a>
 }
 
 /// The outcomes of a word of group 2: each link by itself, with and without a skip.
+#[inline(never)]
 fn branches<'a>(at: Word, word: Word, known: &Known<'a>) -> Outcomes<'a>
     ensures { (f : said.Fact) → Agree (known_of known.now) f →
         AgreeingOutcomes (slots result) (all_operated2 at word f) }
@@ -65,7 +70,7 @@ fn branches<'a>(at: Word, word: Word, known: &Known<'a>) -> Outcomes<'a>
 }
 
 impl<A: Allocator> Place<'_, A> {
-    /// The outcomes of a memory reference.
+    /// The outcomes of a memory reference: a stepped pointer counts up first.
     fn refer<'a>(&self, at: Word, word: Word, known: &Known<'a>) -> Outcomes<'a>
         requires pointer { IsUnchanged known.now.pointer }
         requires target { IsUnchanged known.now.target }
@@ -76,14 +81,39 @@ impl<A: Allocator> Place<'_, A> {
     {
         let indirect = refers_indirectly(word);
         let named = target(word, at);
-        let (seen, targets) = self.reach(indirect, named, known);
+        let targets = self.reached(indirect, named, known);
+        if steps_pointer(indirect, named) {
+            return self.refer_to(at, word, &known.stepped(named), &targets);
+        }
+        self.refer_to(at, word, known, &targets)
+    }
+
+    /// The outcomes of a memory reference to some targets.
+    fn refer_to<'a>(
+        &self,
+        at: Word,
+        word: Word,
+        seen: &Known<'a>,
+        reached: &WordSet,
+    ) -> Outcomes<'a>
+        requires target { IsUnchanged seen.now.target }
+        requires room { array_vec_len seen.now.equations ≤ 32 }
+        ensures { (f : said.Fact) →
+            Agree (known_of seen.now) (stepped (is_indirect word) (named_cell word at) f) →
+            SameWords (words reached.now)
+            (targets (place_of self.now) (is_indirect word) (named_cell word at) f) →
+            AgreeingOutcomes (slots result) (outcomes_of (place_of self.now) f at
+            (reference_at (operation_of word) word at)) }
+    {
+        let indirect = refers_indirectly(word);
+        let named = target(word, at);
         match Operation::of(word) {
-            Operation::And => one(self.combine(at, &seen, &targets)),
-            Operation::Tad => one(self.add(at, &seen, &targets)),
-            Operation::Isz => two(self.count(at, &seen, &targets)),
-            Operation::Dca => one(deposit(at, &seen, &targets)),
-            Operation::Jms => one(call(&seen, &targets)),
-            Operation::Jmp => one(self.jump(indirect, named, &seen, &targets)),
+            Operation::And => return one(self.combine(at, seen, reached)),
+            Operation::Tad => return one(self.add(at, seen, reached)),
+            Operation::Isz => return two(self.count(at, seen, reached)),
+            Operation::Dca => return one(deposit(at, seen, reached)),
+            Operation::Jms => return one(call(seen, reached)),
+            Operation::Jmp => return one(self.jump(indirect, named, seen, reached)),
         }
     }
 
@@ -119,12 +149,12 @@ impl<A: Allocator> Place<'_, A> {
             AgreeingOutcomes (slots result) (outcomes_at (place_of self.now) f at word) }
     {
         match decode(word, self.declaration.profile()) {
-            Instruction::Memory => self.refer(at, word, known),
-            Instruction::Operate1 => one(operate(at, word, known)),
-            Instruction::Operate2 => self.skip(at, word, known),
-            Instruction::Operate3 => one(exchange(at, word, known)),
-            Instruction::Iot => self.transfer(at, word, known),
-            Instruction::Unsupported => nowhere(),
+            Instruction::Memory => return self.refer(at, word, known),
+            Instruction::Operate1 => return one(operate(at, word, known)),
+            Instruction::Operate2 => return self.skip(at, word, known),
+            Instruction::Operate3 => return one(exchange(at, word, known)),
+            Instruction::Iot => return self.transfer(at, word, known),
+            Instruction::Unsupported => return nowhere(),
         }
     }
 }

@@ -159,7 +159,7 @@ fn are_all_always(equations: &[Equation], image: &Image) -> bool
 
 /// Whether an equation is true whatever the start: between two cells of the tape whose words fulfil
 /// it, or of a cell and itself.
-fn is_always(equation: &Equation, image: &Image) -> bool
+pub fn is_always(equation: &Equation, image: &Image) -> bool
     ensures { result ≡ is_always (image_of image.now) (equation_of equation.now) }
 {
     match &equation.left {

@@ -2,7 +2,7 @@
 
 ghost use Rattle.std.specs.Prelude.{ℕ, ◌≡◌, ◌<◌, ◌≤◌, ◌↔◌, ◌∷◌, [], ◌++◌, length, map, IsTrue, false};
 ghost use Rattle.arrayvec.specs.ArrayVec.{array_vec_len};
-ghost use Rattle.wordset.specs.Words.{SameWords, nothing};
+ghost use Rattle.wordset.specs.Words.{SameWords, IsWithin, nothing};
 ghost use Rattle.wordset.specs.Lanes.{words};
 ghost use Rattle.wordset.specs.Links.{links_of};
 ghost use Rattle.facts.specs.Facts.{narrowed};
@@ -68,6 +68,16 @@ impl Fact {
             equations: ArrayVec::new(),
             offsets: Offsets::none(),
         }
+    }
+
+    /// Forgets the tracked cells and the equations.
+    pub fn forget(&mut self)
+        ensures statement { statement_of self.new ≡
+            record (statement_of self.old) { cells = []; equations = [] } }
+        ensures offsets { offsets_of self.new.offsets ≡ offsets_of self.old.offsets }
+    {
+        self.cells.clear();
+        self.equations.clear();
     }
 
     /// The words that the accumulator may hold.
@@ -208,6 +218,19 @@ impl Fact {
             more: equation.more,
         });
     }
+}
+
+/// Whether some entry of a cell leaves it no word outside a set.
+pub(crate) fn has_entry_within(cells: &[TrackedCell], cell: Word, set: &WordSet) -> bool
+    ensures { IsTrue result →
+        IsWithin (tracked cell (map tracked_of cells.now)) (words set.now) }
+{
+    for entry in cells {
+        if entry.cell == cell && entry.set.is_subset(set) {
+            return true;
+        }
+    }
+    false
 }
 
 /// The words of a cell: those that all its entries allow, or all words where it has none.

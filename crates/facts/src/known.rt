@@ -3,19 +3,19 @@
 //! A fact has up to 64 tracked cells of 512 bytes. What is known after a step is seen through the
 //! fact that it came from: at most two cells changed, or one of several unknown ones did.
 
-ghost use Rattle.std.specs.Prelude.{ℕ, ◌≡◌, ◌<◌, ◌≤◌, ◌↔◌, ◌+◌, length, map, IsTrue};
+ghost use Rattle.std.specs.Prelude.{ℕ, ◌≡◌, ◌<◌, ◌≤◌, ◌↔◌, ◌+◌, ◌||◌, length, map, IsTrue};
 ghost use Rattle.arrayvec.specs.ArrayVec.{array_vec_len};
-ghost use Rattle.wordset.specs.Words.{SameWords, one, plus, shifted};
+ghost use Rattle.wordset.specs.Words.{Words, SameWords, IsWithin, one, plus, shifted};
 ghost use Rattle.wordset.specs.Lanes.{words};
 ghost use Rattle.wordset.specs.Links.{links_of};
-ghost use Rattle.facts.specs.Facts.{Ac, Cell, narrowed, Among, Knows, KnowsAll, Entails, EntailsOffsets, joined};
+ghost use Rattle.facts.specs.Facts.{Ac, Cell, same, narrowed, Among, Knows, KnowsAll, Entails, EntailsOffsets, joined};
 ghost use Rattle.facts.specs.Changes.{moved, assigned, smeared, with_equations, with_name, with_mq, with_link, with_offsets};
 ghost use Rattle.facts.specs.Same.{Agree};
-ghost use Rattle.facts.specs.Meaning.{name_of, equation_of, offsets_of, meaning, source_words, changed, known_of, tracked_of, Meets, IsUnchanged};
+ghost use Rattle.facts.specs.Meaning.{name_of, equation_of, offsets_of, meaning, cell_words, source_words, changed, known_of, tracked_of, Meets, IsUnchanged};
 ghost use Rattle.facts.specs.Showing.{Shows, EachWithin, EntailsRegisters};
 
 use crate::equations::{Equations, copy, freed, freed_of_cells, has_cell, joined, outside, raised};
-use crate::fact::{Fact, TrackedCell};
+use crate::fact::{Fact, TrackedCell, has_entry_within};
 use crate::names::{Equation, Name, is_same_equation, is_same_name, negated};
 use crate::offsets::Offsets;
 use word12::Word;
@@ -58,20 +58,21 @@ pub struct Known<'a> {
     pub(crate) offsets: Offsets,
 }
 
+/// The fact that tells the words of a cell.
+fn teller<'a>(source: &Source<'a>, cell: Word) -> &'a Fact
+    ensures { cell_words result.now cell ≡ source_words source.now cell }
+{
+    match source {
+        Source::One(fact) => fact,
+        Source::Joined(call, exit, written) => { if has_cell(written, cell) { exit } else { call } }
+    }
+}
+
 /// The words of a cell.
 fn source_set(source: &Source<'_>, cell: Word) -> WordSet
     ensures { SameWords (words result) (source_words source.now cell) }
 {
-    match source {
-        Source::One(fact) => fact.set_of_cell(cell),
-        Source::Joined(call, exit, written) => {
-            if has_cell(written, cell) {
-                exit.set_of_cell(cell)
-            } else {
-                call.set_of_cell(cell)
-            }
-        }
-    }
+    teller(source, cell).set_of_cell(cell)
 }
 
 /// What a change makes of the words of a cell.
@@ -97,6 +98,41 @@ fn change_set(change: &Change, cell: Word, set: WordSet) -> WordSet
             }
         }
     }
+}
+
+/// Whether an entry shows that the words of a cell are within a set.
+fn is_source_within(source: &Source<'_>, cell: Word, set: &WordSet) -> bool
+    ensures { IsTrue result → IsWithin (source_words source.now cell) (words set.now) }
+{
+    has_entry_within(teller(source, cell).cells(), cell, set)
+}
+
+/// Whether a change is seen to leave a cell no word outside a set, where its words before are known
+/// to be within it or not.
+fn is_change_within(change: &Change, cell: Word, set: &WordSet, before: bool) -> bool
+    ensures { (old : Words) → (IsTrue before → IsWithin old (words set.now)) →
+        IsTrue result → IsWithin (changed change.now cell old) (words set.now) }
+{
+    match change {
+        Change::Unchanged => before,
+        Change::Replaced(at, other) => {
+            if cell == *at {
+                other.is_subset(set)
+            } else {
+                before
+            }
+        }
+        Change::Counted(cells) => before && !has_cell(cells, cell),
+        Change::Stored(cells, _) => before && !has_cell(cells, cell),
+    }
+}
+
+/// Whether an equation speaks of a name.
+fn speaks_of(equation: &Equation, name: &Name) -> bool
+    ensures { result ≡ (same (equation_of equation.now).left (name_of name.now) ||
+        same (equation_of equation.now).right (name_of name.now)) }
+{
+    is_same_name(&equation.left, name) || is_same_name(&Name::Cell(equation.right), name)
 }
 
 impl Known<'_> {
@@ -151,16 +187,16 @@ impl Known<'_> {
 
     /// The words of a set that an equation leaves to a name.
     #[tactic(auto, using(crate::proofs::EntailLemmas::back_twice))]
-    fn met(&self, name: &Name, equation: &Equation, set: WordSet) -> WordSet
+    fn met(&self, name: &Name, equation: &Equation, set: &WordSet) -> WordSet
         ensures { Meets (known_of self.now) (name_of name.now) (equation_of equation.now)
-            (words set) (words result) }
+            (words set.now) (words result) }
     {
         let left = if is_same_name(&equation.left, name) {
             self.set(&Name::Cell(equation.right))
                 .shift(equation.more)
-                .meet(&set)
+                .meet(set)
         } else {
-            set
+            *set
         };
         if is_same_name(&Name::Cell(equation.right), name) {
             self.set(&equation.left)
@@ -173,13 +209,17 @@ impl Known<'_> {
 
     /// The words that the equations leave to a name: its set met with its partners' sets, shifted
     /// along the equations, one step only.
+    #[inline(never)]
     pub fn narrowed(&self, name: &Name) -> WordSet
         ensures { SameWords (words result) (narrowed (known_of self.now) (name_of name.now)) }
     {
         let mut set = self.set(name);
         let equations = self.equations.as_slice();
         for e in equations {
-            set = self.met(name, e, set);
+            if !speaks_of(e, name) {
+                continue;
+            }
+            set = self.met(name, e, &set);
         }
         set
     }
@@ -212,8 +252,9 @@ impl Known<'_> {
         }
     }
 
-    /// Whether an equation is known.
-    fn knows(&self, equation: &Equation) -> bool
+    /// Whether an equation is known: it is among those that are known, or one word is left on each
+    /// side of it, and they fulfil it.
+    pub fn knows(&self, equation: &Equation) -> bool
         ensures { IsTrue result ↔ Knows (known_of self.now) (equation_of equation.now) }
     {
         if self.lists(equation) {
@@ -234,12 +275,34 @@ impl Known<'_> {
         true
     }
 
+    /// Whether a cell is seen to hold no word outside a set before its set is narrowed.
+    fn is_plainly_within(&self, cell: Word, set: &WordSet) -> bool
+        ensures { IsTrue result →
+            IsWithin ((known_of self.now).set (Cell cell)) (words set.now) }
+    {
+        let before = is_source_within(&self.base, cell, set);
+        let seen = is_change_within(&self.pointer, cell, set, before);
+        is_change_within(&self.target, cell, set, seen)
+    }
+
+    /// Whether the equations leave a cell no word outside a set; a set that isn't narrowed is tried
+    /// first.
+    fn is_within(&self, cell: Word, set: &WordSet) -> bool
+        ensures { IsTrue result ↔
+            IsWithin (narrowed (known_of self.now) (Cell cell)) (words set.now) }
+    {
+        if self.is_plainly_within(cell, set) {
+            return true;
+        }
+        self.narrowed(&Name::Cell(cell)).is_subset(set)
+    }
+
     /// Whether each of these cells has its narrowed set within what is tracked.
     fn is_each_within(&self, cells: &[TrackedCell]) -> bool
         ensures { IsTrue result ↔ EachWithin (known_of self.now) (map tracked_of cells.now) }
     {
         for t in cells {
-            if !self.narrowed(&Name::Cell(t.cell)).is_subset(&t.set) {
+            if !self.is_within(t.cell, &t.set) {
                 return false;
             }
         }
@@ -274,6 +337,9 @@ impl Known<'_> {
         if !self.mq.is_subset(fact.mq()) {
             return false;
         }
+        if self.ac.is_subset(fact.accumulator()) {
+            return true;
+        }
         self.narrowed(&Name::Accumulator)
             .is_subset(fact.accumulator())
     }
@@ -281,6 +347,7 @@ impl Known<'_> {
 
 impl<'a> Known<'a> {
     /// What a fact knows.
+    #[inline(never)]
     pub fn of(fact: &'a Fact) -> Known<'a>
         ensures same { Agree (known_of result) (meaning fact.now) }
         ensures pointer { IsUnchanged result.pointer }

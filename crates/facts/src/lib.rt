@@ -22,9 +22,9 @@ mod registers;
 mod skipping;
 
 pub use asked::post;
-pub use conditions::reads;
+pub use conditions::{reads, writes};
 pub use dispatch::{Outcomes, outcomes};
-pub use entailment::{entails, entails_return, holds_before, narrowed};
+pub use entailment::{entails, entails_return, holds_before, is_always, narrowed};
 pub use fact::{Fact, TrackedCell};
 pub use known::Known;
 pub use names::{Equation, Name};

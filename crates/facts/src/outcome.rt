@@ -58,6 +58,7 @@ fn are_all(a: bool, b: bool, c: bool, d: bool, e: bool, f: bool) -> bool
 
 /// Whether the targets, the old accumulator, the new one, MQ, the link and the changed cell each
 /// have a word.
+#[inline(never)]
 fn is_alive(targets: &WordSet, before: &Known<'_>, changed: &WordSet, after: &Known<'_>) -> bool
     ensures { result ≡ alive (words targets.now) (known_of before.now) (words changed.now)
         (known_of after.now) }
@@ -85,11 +86,10 @@ pub(crate) fn going<'a>(
         Agree (known_of after.entry) h →
         AgreeingOutcomes (slot result) (goes p f changes nexts h) }
 {
-    if is_alive(targets, before, changed, &after) {
-        Some(Outcome::Goes(*next, after))
-    } else {
-        None
+    if !is_alive(targets, before, changed, &after) {
+        return None;
     }
+    Some(Outcome::Goes(*next, after))
 }
 
 /// The outcome that goes on at some addresses, where it is chosen and can come about.
@@ -107,11 +107,10 @@ pub(crate) fn going_if<'a>(
         Agree (known_of after.entry) h →
         AgreeingOutcomes (slot result) (given (chosen && alive p f changes h) (Goes nexts h)) }
 {
-    if chosen {
-        going(targets, before, changed, next, after)
-    } else {
-        None
+    if !chosen {
+        return None;
     }
+    going(targets, before, changed, next, after)
 }
 
 /// The outcome that calls the targets, where it can come about.

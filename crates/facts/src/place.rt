@@ -116,6 +116,7 @@ impl<A: Allocator> Place<'_, A> {
     }
 
     /// The words that some cells may hold.
+    #[inline(never)]
     pub(crate) fn words_at(&self, known: &Known<'_>, cells: &WordSet) -> WordSet
         ensures { SameWords (words result)
             (words_at (place_of self.now) (known_of known.now) (words cells.now)) }

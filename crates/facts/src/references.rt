@@ -7,7 +7,7 @@ ghost use Rattle.wordset.specs.Lanes.{words};
 ghost use Rattle.processor.specs.Machine.{steps_pointer};
 ghost use Rattle.facts.specs.Facts as said;
 ghost use Rattle.facts.specs.Facts.{Ac, Cell, narrowed};
-ghost use Rattle.facts.specs.Outcomes.{stepped, targets, alive, given, anded, tad_word, tad_case, tad, dca_case, isz_case, jmp, CallsTo};
+ghost use Rattle.facts.specs.Outcomes.{targets, alive, given, anded, tad_word, tad_case, tad, dca_case, isz_case, jmp, CallsTo};
 ghost use Rattle.facts.specs.Same.{Agree, AgreeingOutcomes};
 ghost use Rattle.facts.specs.Meaning.{known_of, IsUnchanged};
 ghost use Rattle.facts.specs.Places.{place_of};
@@ -33,6 +33,7 @@ pub(crate) fn steps_pointer(indirect: bool, named: Word) -> bool
 
 /// DCA: the one target takes the accumulator's words and equations, or an unknown one of several
 /// its words; then the accumulator is 0.
+#[inline(never)]
 pub(crate) fn deposit<'a>(at: Word, known: &Known<'a>, targets: &WordSet) -> Option<Outcome<'a>>
     requires target { IsUnchanged known.now.target }
     requires room { array_vec_len known.now.equations ≤ 32 }
@@ -55,6 +56,7 @@ pub(crate) fn deposit<'a>(at: Word, known: &Known<'a>, targets: &WordSet) -> Opt
 }
 
 /// ISZ of one variable: it skips where the variable was 7777, and otherwise leaves it not zero.
+#[inline(never)]
 pub(crate) fn count_one<'a>(
     at: Word,
     known: &Known<'a>,
@@ -90,6 +92,7 @@ pub(crate) fn count_one<'a>(
 }
 
 /// ISZ of the running routine's own entry counts the offsets up.
+#[inline(never)]
 pub(crate) fn count_own<'a>(
     at: Word,
     known: &Known<'a>,
@@ -165,6 +168,7 @@ fn may_some_stay(known: &Known<'_>, cells: &WordSet) -> bool
 }
 
 /// ISZ of several variables counts an unknown one of them up.
+#[inline(never)]
 pub(crate) fn count_several<'a>(
     at: Word,
     known: &Known<'a>,
@@ -205,12 +209,13 @@ fn after_sum<'a>(known: &Known<'a>, added: &Option<Word>, set: WordSet) -> Known
         Agree (known_of result) (tad_word f v added.now) }
 {
     match added {
-        Some(word) => known.raised_to(*word, set),
-        None => known.with_ac(set),
+        Some(word) => return known.raised_to(*word, set),
+        None => return known.with_ac(set),
     }
 }
 
 /// JMS calls each target.
+#[inline(never)]
 pub(crate) fn call<'a>(known: &Known<'a>, targets: &WordSet) -> Option<Outcome<'a>>
     ensures { (f : said.Fact) (p : Words) → Agree (known_of known.now) f →
         SameWords (words targets.now) p →
@@ -220,34 +225,26 @@ pub(crate) fn call<'a>(known: &Known<'a>, targets: &WordSet) -> Option<Outcome<'
 }
 
 impl<A: Allocator> Place<'_, A> {
-    /// What is known when a reference is made, and its targets: a stepped pointer counts up first.
-    pub(crate) fn reach<'a>(
-        &self,
-        indirect: bool,
-        named: Word,
-        known: &Known<'a>,
-    ) -> (Known<'a>, WordSet)
+    /// The targets of a reference: the named cell, or the words that the pointer in it may be, which
+    /// counts up first where it is stepped.
+    #[inline(never)]
+    pub(crate) fn reached(&self, indirect: bool, named: Word, known: &Known<'_>) -> WordSet
         requires pointer { IsUnchanged known.now.pointer }
         requires target { IsUnchanged known.now.target }
-        ensures known { (f : said.Fact) → Agree (known_of known.now) f →
-            Agree (known_of result.0) (stepped indirect named f) }
-        ensures targets { (f : said.Fact) → Agree (known_of known.now) f →
-            SameWords (words result.1) (targets (place_of self.now) indirect named f) }
-        ensures target { IsUnchanged result.0.target }
-        ensures len { array_vec_len result.0.equations ≤ array_vec_len known.now.equations }
+        ensures { (f : said.Fact) → Agree (known_of known.now) f →
+            SameWords (words result) (targets (place_of self.now) indirect named f) }
     {
         if steps_pointer(indirect, named) {
-            let after = known.stepped(named);
-            let targets = after.set(&Name::Cell(named));
-            return (after, targets);
+            return known.stepped(named).set(&Name::Cell(named));
         }
         if indirect {
-            return (known.same(), self.words_in(known, named));
+            return self.words_in(known, named);
         }
-        (known.same(), WordSet::one(named))
+        WordSet::one(named)
     }
 
     /// AND: all a and v, for the words a of the accumulator and v of the targets.
+    #[inline(never)]
     pub(crate) fn combine<'a>(
         &self,
         at: Word,
@@ -265,6 +262,7 @@ impl<A: Allocator> Place<'_, A> {
     }
 
     /// What is known of the accumulator after TAD: of one variable to one word it is their sum.
+    #[inline(never)]
     fn after_tad<'a>(
         &self,
         known: &Known<'a>,
@@ -278,22 +276,18 @@ impl<A: Allocator> Place<'_, A> {
             SameWords (words set) (sums (narrowed f Ac) v) →
             Agree (known_of result) (tad_case (place_of self.now) f v target.now ac.now added.now) }
     {
-        match target {
-            None => after_sum(known, added, set),
-            Some(cell) => match ac {
-                None => after_sum(known, added, set),
-                Some(word) => {
-                    if self.declaration.is_variable(*cell) {
-                        known.summed(*cell, *word, set)
-                    } else {
-                        after_sum(known, added, set)
-                    }
+        if let Some(cell) = target {
+            if let Some(word) = ac {
+                if self.declaration.is_variable(*cell) {
+                    return known.summed(*cell, *word, set);
                 }
-            },
+            }
         }
+        after_sum(known, added, set)
     }
 
     /// TAD: all sums, and the link complemented by the carries that occur.
+    #[inline(never)]
     pub(crate) fn add<'a>(
         &self,
         at: Word,
@@ -309,17 +303,13 @@ impl<A: Allocator> Place<'_, A> {
         let seen = self.words_at(known, targets);
         let (sums, carries) = ac.sums(&seen);
         let links = known.link.toggled(carries);
-        let sum = self.after_tad(known, &targets.only(), &ac.only(), &seen.only(), sums);
-        going(
-            targets,
-            known,
-            &WordSet::all(),
-            &address_after(at),
-            sum.with_link(links),
-        )
+        let mut sum = self.after_tad(known, &targets.only(), &ac.only(), &seen.only(), sums);
+        sum.set_link(links);
+        going(targets, known, &WordSet::all(), &address_after(at), sum)
     }
 
     /// JMP goes to each target; JMP I through the running routine's own entry returns.
+    #[inline(never)]
     pub(crate) fn jump<'a>(
         &self,
         indirect: bool,

@@ -68,6 +68,7 @@ fn related<'a>(word: Word, known: &Known<'a>) -> Known<'a>
 }
 
 /// A word of group 1: the images of the words and links.
+#[inline(never)]
 pub(crate) fn operate<'a>(at: Word, word: Word, known: &Known<'a>) -> Option<Outcome<'a>>
     requires { instruction_of Pdp8E word ≡ Operate1 }
     ensures { (f : said.Fact) → Agree (known_of known.now) f →
@@ -142,6 +143,7 @@ fn take<'a>(at: Word, known: &Known<'a>, ac: WordSet, mq: WordSet) -> Option<Out
 }
 
 /// A word of group 3 moves words between the accumulator and MQ.
+#[inline(never)]
 pub(crate) fn exchange<'a>(at: Word, word: Word, known: &Known<'a>) -> Option<Outcome<'a>>
     ensures { (o : MqOperate) (f : said.Fact) → mq_operate_of word ≡ Some o →
         Agree (known_of known.now) f →
@@ -163,6 +165,7 @@ pub(crate) fn exchange<'a>(at: Word, word: Word, known: &Known<'a>) -> Option<Ou
 }
 
 /// A device word: a flag may be set or not, and a byte may be any.
+#[inline(never)]
 pub(crate) fn transfer<'a>(
     at: Word,
     operation: DeviceOperation,

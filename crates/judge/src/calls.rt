@@ -9,9 +9,9 @@ ghost use Rattle.judge.specs.Callees.{HoldsOfCallee, IsBelow, LandsBy, ReturnsBy
 ghost use Rattle.judge.specs.Spots.{IsSpot, case_of, routine_at, HoldsHere};
 
 use crate::claims::Claims;
-use crate::spot::Spot;
+use crate::spot::{Others, Spot};
 use certificate::Routine;
-use facts::{Condition, Known, entails};
+use facts::{Condition, Fact, Known, entails};
 use std::alloc::Allocator;
 use word12::Word;
 use wordset::WordSet;
@@ -22,62 +22,62 @@ const LAST_SITE: usize = 0o7767;
 
 impl<A: Allocator, C: Claims> Spot<'_, A, C> {
     /// Whether a word calls listed entries of lower rank alone, and not through an auto-index cell.
-    pub(crate) fn may_call(&self, word: Word) -> bool
+    pub(crate) fn may_call(&self, word: Word, others: &mut Others) -> bool
         requires { IsSpot C.claims self.now }
         ensures { IsTrue result ↔ HoldsHere C.claims self.now V7 word }
     {
         if self.place.steps_call_pointer(self.at, word) {
             return false;
         }
-        self.callees_pass(Condition::V7, word)
+        self.callees_pass(Condition::V7, word, others)
     }
 
     /// Whether the routine, if it isn't main, covers all that a word calls.
-    pub(crate) fn covers_callees(&self, word: Word) -> bool
+    pub(crate) fn covers_callees(&self, word: Word, others: &mut Others) -> bool
         requires { IsSpot C.claims self.now }
         ensures { IsTrue result ↔ HoldsHere C.claims self.now V8 word }
     {
-        self.callees_pass(Condition::V8, word)
+        self.callees_pass(Condition::V8, word, others)
     }
 
     /// Whether the address is a site of all that a word calls.
-    pub(crate) fn calls_from_sites(&self, word: Word) -> bool
+    pub(crate) fn calls_from_sites(&self, word: Word, others: &mut Others) -> bool
         requires { IsSpot C.claims self.now }
         ensures { IsTrue result ↔ HoldsHere C.claims self.now V9 word }
     {
-        self.callees_pass(Condition::V9, word)
+        self.callees_pass(Condition::V9, word, others)
     }
 
     /// Whether the fact lands at the first address of all that a word calls.
-    pub(crate) fn enters_callees(&self, word: Word) -> bool
+    pub(crate) fn enters_callees(&self, word: Word, others: &mut Others) -> bool
         requires { IsSpot C.claims self.now }
         ensures { IsTrue result ↔ HoldsHere C.claims self.now V10 word }
     {
-        self.callees_pass(Condition::V10, word)
+        self.callees_pass(Condition::V10, word, others)
     }
 
     /// Whether the run lands after each return of all that a word calls.
-    pub(crate) fn lands_after_calls(&self, word: Word) -> bool
+    pub(crate) fn lands_after_calls(&self, word: Word, others: &mut Others) -> bool
         requires { IsSpot C.claims self.now }
         ensures { IsTrue result ↔ HoldsHere C.claims self.now V11 word }
     {
-        self.callees_pass(Condition::V11, word)
+        self.callees_pass(Condition::V11, word, others)
     }
 
     /// Whether a word that returns does so from its own routine, at declared offsets whose exits
     /// are entailed.
-    pub(crate) fn returns_well(&self, word: Word) -> bool
+    pub(crate) fn returns_well(&self, word: Word, exit: &mut Fact) -> bool
         requires { IsSpot C.claims self.now }
         ensures { IsTrue result ↔ HoldsHere C.claims self.now V12 word }
     {
         match self.place.returned_entry(self.at, word) {
             None => true,
-            Some(entry) => self.returns_through(entry),
+            Some(entry) => self.returns_through(entry, exit),
         }
     }
 
     /// Whether a condition on calls holds of each callee of a word.
-    fn callees_pass(&self, condition: Condition, word: Word) -> bool
+    fn callees_pass(&self, condition: Condition, word: Word, others: &mut Others) -> bool
         requires { IsSpot C.claims self.now }
         ensures { IsTrue result ↔
             EachTarget (case_of C.claims self.now) (routine_at self.now) self.now.at
@@ -88,7 +88,7 @@ impl<A: Allocator, C: Claims> Spot<'_, A, C> {
         let callees = self.place.calls(self.fact, self.at, word);
         let mut next = 0usize;
         while let Some(entry) = callees.first_from(next) {
-            if !self.callee_passes(condition, entry) {
+            if !self.callee_passes(condition, entry, others) {
                 return false;
             }
             next = entry.index() + 1;
@@ -97,7 +97,7 @@ impl<A: Allocator, C: Claims> Spot<'_, A, C> {
     }
 
     /// Whether a condition on calls holds of a callee.
-    fn callee_passes(&self, condition: Condition, entry: Word) -> bool
+    fn callee_passes(&self, condition: Condition, entry: Word, others: &mut Others) -> bool
         requires { IsSpot C.claims self.now }
         ensures { IsTrue result ↔
             HoldsOfCallee (case_of C.claims self.now) condition (routine_at self.now)
@@ -107,8 +107,8 @@ impl<A: Allocator, C: Claims> Spot<'_, A, C> {
             Condition::V7 => self.may_call_entry(entry),
             Condition::V8 => self.covers(entry),
             Condition::V9 => self.is_site_of(entry),
-            Condition::V10 => self.enters(entry),
-            Condition::V11 => self.lands_after(entry),
+            Condition::V10 => self.enters(entry, &mut others.next),
+            Condition::V11 => self.lands_after(entry, others),
             _ => true,
         }
     }
@@ -188,23 +188,23 @@ impl<A: Allocator, C: Claims> Spot<'_, A, C> {
 
     /// Whether the fact lands at the first address after an entry, with the return word not counted
     /// up.
-    fn enters(&self, entry: Word) -> bool
+    fn enters(&self, entry: Word, next: &mut Fact) -> bool
         requires { IsSpot C.claims self.now }
         ensures { IsTrue result ↔
             HoldsOfCallee (case_of C.claims self.now) V10 (routine_at self.now) self.now.at entry }
     {
         let known = Known::entering(self.fact);
-        self.lands(&Some(entry), entry.increment(), &known)
+        self.lands(&Some(entry), entry.increment(), &known, next)
     }
 
     /// Whether the run lands after each return that is claimed of an entry.
-    fn lands_after(&self, entry: Word) -> bool
+    fn lands_after(&self, entry: Word, others: &mut Others) -> bool
         requires { IsSpot C.claims self.now }
         ensures { IsTrue result ↔
             LandsAfter (case_of C.claims self.now) (routine_at self.now) self.now.at entry }
     {
         for offset in 0..8usize {
-            if !self.lands_by(entry, offset) {
+            if !self.lands_by(entry, offset, others) {
                 return false;
             }
         }
@@ -212,23 +212,23 @@ impl<A: Allocator, C: Claims> Spot<'_, A, C> {
     }
 
     /// Whether the run lands after a return by an offset, if that is claimed of an entry.
-    fn lands_by(&self, entry: Word, offset: usize) -> bool
+    fn lands_by(&self, entry: Word, offset: usize, others: &mut Others) -> bool
         requires spot { IsSpot C.claims self.now }
         requires offset { offset < 8 }
         ensures { IsTrue result ↔
             LandsBy (case_of C.claims self.now) (routine_at self.now) self.now.at entry offset }
     {
-        let Some(exit) = self.claims.exit(entry, offset) else {
+        if !self.claims.exit_into(entry, offset, &mut others.exit) {
             return true;
-        };
+        }
         let written = self.claimed(entry).writes;
-        let known = Known::after_call(self.fact, &exit, &written);
-        let next = self.at.increment().add(Word::from_index(offset));
-        self.lands(&self.owner(), next, &known)
+        let known = Known::after_call(self.fact, &others.exit, &written);
+        let at = self.at.increment().add(Word::from_index(offset));
+        self.lands(&self.owner(), at, &known, &mut others.next)
     }
 
     /// Whether a return through an entry is the routine's own, and each offset of the fact passes.
-    fn returns_through(&self, entry: Word) -> bool
+    fn returns_through(&self, entry: Word, exit: &mut Fact) -> bool
         requires { IsSpot C.claims self.now }
         ensures { IsTrue result ↔
             ReturnsThrough (case_of C.claims self.now) (routine_at self.now) self.now.at entry }
@@ -237,7 +237,7 @@ impl<A: Allocator, C: Claims> Spot<'_, A, C> {
             return false;
         }
         for offset in 0..8usize {
-            if !self.returns_by(entry, offset) {
+            if !self.returns_by(entry, offset, exit) {
                 return false;
             }
         }
@@ -245,7 +245,7 @@ impl<A: Allocator, C: Claims> Spot<'_, A, C> {
     }
 
     /// Whether the routine of an entry may return by an offset, if the fact has that.
-    fn returns_by(&self, entry: Word, offset: usize) -> bool
+    fn returns_by(&self, entry: Word, offset: usize, exit: &mut Fact) -> bool
         requires spot { IsSpot C.claims self.now }
         requires offset { offset < 8 }
         ensures { IsTrue result ↔
@@ -254,7 +254,7 @@ impl<A: Allocator, C: Claims> Spot<'_, A, C> {
         if !self.fact.offsets().contains(offset) {
             return true;
         }
-        self.may_return(entry, offset)
+        self.may_return(entry, offset, exit)
     }
 
     /// Whether an entry is the routine's.
@@ -268,7 +268,7 @@ impl<A: Allocator, C: Claims> Spot<'_, A, C> {
     }
 
     /// Whether the routine of an entry may return by an offset with what the fact says.
-    fn may_return(&self, entry: Word, offset: usize) -> bool
+    fn may_return(&self, entry: Word, offset: usize, exit: &mut Fact) -> bool
         requires spot { IsSpot C.claims self.now }
         requires offset { offset < 8 }
         ensures { IsTrue result ↔
@@ -279,9 +279,9 @@ impl<A: Allocator, C: Claims> Spot<'_, A, C> {
         if !self.place.declaration.has_offset(entry, declared) {
             return false;
         }
-        match self.claims.exit(entry, offset) {
-            None => false,
-            Some(exit) => entails(self.fact, &exit),
+        if !self.claims.exit_into(entry, offset, exit) {
+            return false;
         }
+        entails(self.fact, exit)
     }
 }

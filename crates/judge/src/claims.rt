@@ -29,19 +29,19 @@ pub trait Claims {
         ensures no_sites { IfNone result ((claims self.now).sites entry ≡ nothing) }
         ensures no_writes { IfNone result ((claims self.now).writes entry ≡ nothing) };
 
-    /// The fact at an address, if there is one.
-    fn fact(&self, at: Word) -> Option<Fact>
-        ensures there { is_some result ≡ (claims self.now).has_fact at }
-        ensures fact { IfSome result (λ f. meaning f ≡ (claims self.now).fact at) };
+    /// Whether there is a fact at an address, which the lent one then says. A fact has some 34,000
+    /// bytes, so none is made for each question.
+    fn fact_into(&self, at: Word, fact: &mut Fact) -> bool
+        ensures there { result ≡ (claims self.now).has_fact at }
+        ensures fact { result ≡ true → meaning fact.new ≡ (claims self.now).fact at };
 
-    /// What holds when the routine of an entry returns by an offset, if that is claimed. It has all
-    /// offsets, since nothing is asked of them.
-    fn exit(&self, entry: Word, offset: usize) -> Option<Fact>
-        ensures there { is_some result ≡ (claims self.now).has_exit entry offset }
-        ensures fact { IfSome result
-            (λ f. with_offsets everything (meaning f) ≡ (claims self.now).exit entry offset) }
-        ensures offsets { IfSome result
-            (λ f. (o : ℕ) → o < 8 → (meaning f).offsets o ≡ true) };
+    /// Whether it is claimed what holds when the routine of an entry returns by an offset, which the
+    /// lent fact then says. It has all offsets, since nothing is asked of them.
+    fn exit_into(&self, entry: Word, offset: usize, exit: &mut Fact) -> bool
+        ensures there { result ≡ (claims self.now).has_exit entry offset }
+        ensures fact { result ≡ true →
+            with_offsets everything (meaning exit.new) ≡ (claims self.now).exit entry offset }
+        ensures offsets { result ≡ true → (o : ℕ) → o < 8 → (meaning exit.new).offsets o ≡ true };
 }
 
 impl<A: Allocator> Claims for Certificate<A> {
@@ -51,11 +51,11 @@ impl<A: Allocator> Claims for Certificate<A> {
         self.routine(entry)
     }
 
-    fn fact(&self, at: Word) -> Option<Fact> {
-        self.fact(at)
+    fn fact_into(&self, at: Word, fact: &mut Fact) -> bool {
+        self.fact_into(at, fact)
     }
 
-    fn exit(&self, entry: Word, offset: usize) -> Option<Fact> {
-        self.exit(entry, offset)
+    fn exit_into(&self, entry: Word, offset: usize, exit: &mut Fact) -> bool {
+        self.exit_into(entry, offset, exit)
     }
 }

@@ -9,6 +9,7 @@ ghost use Rattle.judge.specs.Conditions.{IsValid, IsFirst};
 
 use crate::claims::Claims;
 use crate::lines::Case;
+use crate::spot::Desk;
 use bin_tape::Image;
 use declaration::Declaration;
 use facts::Condition;
@@ -52,7 +53,8 @@ pub fn judge<A: Allocator, C: Claims>(
         declaration,
         claims,
     };
-    if !case.starts_well() {
+    let mut desk = Desk::new();
+    if !case.starts_well(&mut desk) {
         return Err(Refusal {
             condition: Condition::V1,
             address: declaration.start(),
@@ -60,7 +62,7 @@ pub fn judge<A: Allocator, C: Claims>(
     }
     for at in 0..4096usize {
         let address = Word::from_index(at);
-        if let Err(condition) = case.check_at(address) {
+        if let Err(condition) = case.check_at(address, &mut desk) {
             return Err(Refusal { condition, address });
         }
     }

@@ -12,7 +12,7 @@ ghost use Rattle.judge.specs.Spots.{IsSpot, case_of, routine_at, HoldsHere};
 
 use crate::claims::Claims;
 use crate::spot::Spot;
-use facts::{Known, Outcome, outcomes};
+use facts::{Fact, Known, Outcome, outcomes};
 use std::alloc::Allocator;
 use word12::Word;
 use wordset::WordSet;
@@ -39,67 +39,73 @@ impl<A: Allocator, C: Claims> Spot<'_, A, C> {
     }
 
     /// Whether there is a fact at an address of a routine's body, and what is known entails it.
-    pub(crate) fn lands(&self, owner: &Option<Word>, at: Word, known: &Known<'_>) -> bool
+    pub(crate) fn lands(
+        &self,
+        owner: &Option<Word>,
+        at: Word,
+        known: &Known<'_>,
+        next: &mut Fact,
+    ) -> bool
         ensures { (f : said.Fact) → Agree (known_of known.now) f →
             IsTrue result ↔ LandsAt (case_of C.claims self.now) owner.now at f }
     {
         if !self.is_inside(owner, at) {
             return false;
         }
-        match self.claims.fact(at) {
-            None => false,
-            Some(fact) => known.entails(&fact),
+        if !self.claims.fact_into(at, next) {
+            return false;
         }
+        known.entails(next)
     }
 
     /// Whether what is known lands in the same body at each of some addresses.
-    fn lands_at_each(&self, addresses: &WordSet, known: &Known<'_>) -> bool
+    fn lands_at_each(&self, addresses: &WordSet, known: &Known<'_>, next: &mut Fact) -> bool
         ensures { IsTrue result ↔ ((a : ℕ) → a < 4096 → words addresses.now a ≡ true →
             LandsAt (case_of C.claims self.now) (routine_at self.now) a (known_of known.now)) }
     {
         let owner = self.owner();
-        let mut next = 0usize;
-        while let Some(at) = addresses.first_from(next) {
-            if !self.lands(&owner, at, known) {
+        let mut from = 0usize;
+        while let Some(at) = addresses.first_from(from) {
+            if !self.lands(&owner, at, known, next) {
                 return false;
             }
-            next = at.index() + 1;
+            from = at.index() + 1;
         }
         true
     }
 
     /// Whether an outcome that goes on lands wherever it goes.
-    fn outcome_lands(&self, outcome: &Outcome<'_>) -> bool
+    fn outcome_lands(&self, outcome: &Outcome<'_>, next: &mut Fact) -> bool
         ensures { IsTrue result ↔
             OutcomeLands (case_of C.claims self.now) (routine_at self.now)
             (outcome_of outcome.now) }
     {
         match outcome {
-            Outcome::Goes(addresses, known) => self.lands_at_each(addresses, known),
+            Outcome::Goes(addresses, known) => self.lands_at_each(addresses, known, next),
             Outcome::Calls(_, _) | Outcome::Returns(_) => true,
         }
     }
 
     /// Whether an outcome lands, if it is there.
-    fn slot_lands(&self, outcome: &Option<Outcome<'_>>) -> bool
+    fn slot_lands(&self, outcome: &Option<Outcome<'_>>, next: &mut Fact) -> bool
         ensures { IsTrue result ↔
             EachOutcome (OutcomeLands (case_of C.claims self.now) (routine_at self.now))
             (slot outcome.now) }
     {
         match outcome {
             None => true,
-            Some(outcome) => self.outcome_lands(outcome),
+            Some(outcome) => self.outcome_lands(outcome, next),
         }
     }
 
     /// Whether each of some outcomes lands, so far as they are there.
-    fn each_lands(&self, outcomes: &[Option<Outcome<'_>>]) -> bool
+    fn each_lands(&self, outcomes: &[Option<Outcome<'_>>], next: &mut Fact) -> bool
         ensures { IsTrue result ↔
             EachOutcome (OutcomeLands (case_of C.claims self.now) (routine_at self.now))
             (slots outcomes.now) }
     {
         for outcome in outcomes {
-            if !self.slot_lands(outcome) {
+            if !self.slot_lands(outcome, next) {
                 return false;
             }
         }
@@ -107,10 +113,10 @@ impl<A: Allocator, C: Claims> Spot<'_, A, C> {
     }
 
     /// Whether each outcome of a word that goes on lands wherever it goes.
-    pub(crate) fn outcomes_land(&self, word: Word) -> bool
+    pub(crate) fn outcomes_land(&self, word: Word, next: &mut Fact) -> bool
         requires { IsSpot C.claims self.now }
         ensures { IsTrue result ↔ HoldsHere C.claims self.now V4 word }
     {
-        self.each_lands(&outcomes(self.fact, self.at, word, &self.place))
+        self.each_lands(&outcomes(self.fact, self.at, word, &self.place), next)
     }
 }

@@ -1,6 +1,6 @@
 //! The lines of a certificate at an address, and whether they are where they may be.
 
-ghost use Rattle.std.specs.Prelude.{◌≡◌, ◌↔◌, IsTrue, MatchOption, MatchResult};
+ghost use Rattle.std.specs.Prelude.{◌≡◌, ◌↔◌, true, IsTrue, MatchOption, MatchResult};
 ghost use Rattle.wordset.specs.Words.{some_below};
 ghost use Rattle.facts.specs.Meaning.{meaning};
 ghost use Rattle.facts.specs.Places.{routine_of, sites_of, writes_of};
@@ -8,7 +8,7 @@ ghost use Rattle.judge.specs.Conditions.{StartsWell, IsPlaced, fact_at};
 ghost use Rattle.judge.specs.Asked.{case_kept, names_routine, RoutinesArePlaced, routine_with, sites_with, writes_with, IsBody, HoldsBetween, FailsAtLine};
 
 use crate::claims::Claims;
-use crate::spot::Spot;
+use crate::spot::{Desk, Others, Spot};
 use bin_tape::Image;
 use certificate::Routine;
 use declaration::{Declaration, Owner};
@@ -61,22 +61,25 @@ fn has_offset(fact: &Fact) -> bool
 
 impl<A: Allocator, C: Claims> Case<'_, A, C> {
     /// Whether there is a fact at the start, and it holds of every start.
-    pub(crate) fn starts_well(&self) -> bool
+    pub(crate) fn starts_well(&self, desk: &mut Desk) -> bool
         ensures { IsTrue result ↔ StartsWell (case_kept C.claims self.now)
             (case_kept C.claims self.now).declaration.start }
     {
-        match self.claims.fact(self.declaration.start()) {
-            None => false,
-            Some(fact) => holds_before(&fact, self.image, self.declaration),
+        if !self
+            .claims
+            .fact_into(self.declaration.start(), &mut desk.here)
+        {
+            return false;
         }
+        holds_before(&desk.here, self.image, self.declaration)
     }
 
     /// Whether an exit line has an address.
-    fn has_exit(&self, at: Word) -> bool
+    fn has_exit(&self, at: Word, exit: &mut Fact) -> bool
         ensures { result ≡ some_below 8 ((case_kept C.claims self.now).certificate.has_exit at) }
     {
         for offset in 0..8usize {
-            if self.claims.exit(at, offset).is_some() {
+            if self.claims.exit_into(at, offset, exit) {
                 return true;
             }
         }
@@ -84,23 +87,23 @@ impl<A: Allocator, C: Claims> Case<'_, A, C> {
     }
 
     /// Whether the routine and exit lines at an address are where they may be: at an entry.
-    fn routines_are_placed(&self, at: Word) -> bool
+    fn routines_are_placed(&self, at: Word, exit: &mut Fact) -> bool
         ensures { IsTrue result ↔ RoutinesArePlaced (case_kept C.claims self.now) at }
     {
-        if !self.names_routine(at) {
+        if !self.names_routine(at, exit) {
             return true;
         }
         self.declaration.is_entry(at)
     }
 
     /// Whether a routine or exit line has an address.
-    fn names_routine(&self, at: Word) -> bool
+    fn names_routine(&self, at: Word, exit: &mut Fact) -> bool
         ensures { result ≡ names_routine (case_kept C.claims self.now).certificate at }
     {
         if self.claims.routine(at).is_some() {
             return true;
         }
-        self.has_exit(at)
+        self.has_exit(at, exit)
     }
 
     /// The body that has the address of a fact, if that is where the fact may be: in main's with no
@@ -127,20 +130,32 @@ impl<A: Allocator, C: Claims> Case<'_, A, C> {
     }
 
     /// The first condition that fails at an address, if one does.
-    pub(crate) fn check_at(&self, at: Word) -> Result<(), Condition>
+    pub(crate) fn check_at(&self, at: Word, desk: &mut Desk) -> Result<(), Condition>
         ensures { MatchResult result
             (λ _. HoldsBetween (case_kept C.claims self.now) 1 15 at)
             (λ v. FailsAtLine (case_kept C.claims self.now) at v) }
     {
-        if !self.routines_are_placed(at) {
+        if !self.routines_are_placed(at, &mut desk.others.exit) {
             return Err(Condition::V2);
         }
-        let Some(fact) = self.claims.fact(at) else {
+        if !self.claims.fact_into(at, &mut desk.here) {
             return Ok(());
-        };
-        let Some(body) = self.body_of(at, &fact) else {
+        }
+        self.check_fact(at, &desk.here, &mut desk.others)
+    }
+
+    /// The first condition that fails of the fact at an address, if one does.
+    fn check_fact(&self, at: Word, fact: &Fact, others: &mut Others) -> Result<(), Condition>
+        requires placed { RoutinesArePlaced (case_kept C.claims self.now) at }
+        requires there { (case_kept C.claims self.now).certificate.has_fact at ≡ true }
+        requires fact { meaning fact.now ≡ fact_at (case_kept C.claims self.now) at }
+        ensures { MatchResult result
+            (λ _. HoldsBetween (case_kept C.claims self.now) 1 15 at)
+            (λ v. FailsAtLine (case_kept C.claims self.now) at v) }
+    {
+        let Some(body) = self.body_of(at, fact) else {
             return Err(Condition::V2);
         };
-        Spot::of(self.image, self.declaration, self.claims, &body, at, &fact).check()
+        Spot::of(self.image, self.declaration, self.claims, &body, at, fact).check(others)
     }
 }

@@ -14,6 +14,34 @@ use facts::{Fact, Place};
 use std::alloc::Allocator;
 use word12::Word;
 
+/// Facts to read claims into: the one at the address, and of those that it is compared with the one
+/// where the run goes on and that of a return. Each has some 34,000 bytes, so they are made once.
+#[derive(Drop)]
+pub(crate) struct Desk {
+    pub(crate) here: Fact,
+    pub(crate) others: Others,
+}
+
+/// The facts that the one at an address is compared with.
+#[derive(Drop)]
+pub(crate) struct Others {
+    pub(crate) next: Fact,
+    pub(crate) exit: Fact,
+}
+
+impl Desk {
+    /// Facts of which nothing is known.
+    pub(crate) fn new() -> Desk {
+        Desk {
+            here: Fact::any(),
+            others: Others {
+                next: Fact::any(),
+                exit: Fact::any(),
+            },
+        }
+    }
+}
+
 /// A fact at an address of a body.
 #[derive(Drop)]
 pub(crate) struct Spot<'a, A: Allocator, C: Claims> {

@@ -62,16 +62,17 @@ impl Claims for OneFact {
         None
     }
 
-    fn fact(&self, at: Word) -> Option<Fact> {
+    fn fact_into(&self, at: Word, fact: &mut Fact) -> bool {
         if at == self.at {
-            Some(known(self.links, self.offsets))
+            *fact = known(self.links, self.offsets);
+            true
         } else {
-            None
+            false
         }
     }
 
-    fn exit(&self, _entry: Word, _offset: usize) -> Option<Fact> {
-        None
+    fn exit_into(&self, _entry: Word, _offset: usize, _exit: &mut Fact) -> bool {
+        false
     }
 }
 

@@ -9,7 +9,7 @@ ghost use Rattle.judge.specs.Spots.{IsSpot, HoldsHere, case_of};
 ghost use Rattle.judge.specs.Asked.{HoldsBetween, FailsFirst, asks_few, possible_at};
 
 use crate::claims::Claims;
-use crate::spot::Spot;
+use crate::spot::{Others, Spot};
 use facts::Condition;
 use std::alloc::Allocator;
 use word12::Word;
@@ -50,7 +50,7 @@ fn asks_few(condition: Condition) -> bool
 
 impl<A: Allocator, C: Claims> Spot<'_, A, C> {
     /// The first condition on words that fails here, if one does.
-    pub(crate) fn check(&self) -> Result<(), Condition>
+    pub(crate) fn check(&self, others: &mut Others) -> Result<(), Condition>
         requires { IsSpot C.claims self.now }
         ensures { MatchResult result
             (λ _. HoldsBetween (case_of C.claims self.now) 2 15 self.now.at)
@@ -59,7 +59,7 @@ impl<A: Allocator, C: Claims> Spot<'_, A, C> {
         let possible = self.possible_words();
         for place in 2..15usize {
             let condition = nth(place);
-            if !self.holds(condition, &possible) {
+            if !self.holds(condition, &possible, others) {
                 return Err(condition);
             }
         }
@@ -75,7 +75,7 @@ impl<A: Allocator, C: Claims> Spot<'_, A, C> {
     }
 
     /// Whether a condition holds here.
-    fn holds(&self, condition: Condition, possible: &WordSet) -> bool
+    fn holds(&self, condition: Condition, possible: &WordSet, others: &mut Others) -> bool
         requires spot { IsSpot C.claims self.now }
         requires possible { SameWords (words possible.now) (possible_at C.claims self.now) }
         requires past { 2 ≤ place_among condition }
@@ -84,7 +84,7 @@ impl<A: Allocator, C: Claims> Spot<'_, A, C> {
         if !self.are_few(condition, possible) {
             return false;
         }
-        self.holds_for_each(condition, possible)
+        self.holds_for_each(condition, possible, others)
     }
 
     /// Whether few enough words are possible here, where a condition asks for few.
@@ -102,7 +102,7 @@ impl<A: Allocator, C: Claims> Spot<'_, A, C> {
     }
 
     /// Whether a condition holds of each word that is possible here.
-    fn holds_for_each(&self, condition: Condition, possible: &WordSet) -> bool
+    fn holds_for_each(&self, condition: Condition, possible: &WordSet, others: &mut Others) -> bool
         requires spot { IsSpot C.claims self.now }
         requires possible { SameWords (words possible.now) (possible_at C.claims self.now) }
         ensures { IsTrue result ↔ HoldsForEach (case_of C.claims self.now) condition self.now.at }
@@ -110,7 +110,7 @@ impl<A: Allocator, C: Claims> Spot<'_, A, C> {
         self.place.declaration.is_declared();
         let mut next = 0usize;
         while let Some(word) = possible.first_from(next) {
-            if !self.holds_for(condition, word) {
+            if !self.holds_for(condition, word, others) {
                 return false;
             }
             next = word.index() + 1;
@@ -119,22 +119,22 @@ impl<A: Allocator, C: Claims> Spot<'_, A, C> {
     }
 
     /// Whether a condition holds of a word here.
-    fn holds_for(&self, condition: Condition, word: Word) -> bool
+    fn holds_for(&self, condition: Condition, word: Word, others: &mut Others) -> bool
         requires { IsSpot C.claims self.now }
         ensures { IsTrue result ↔ HoldsHere C.claims self.now condition word }
     {
         match condition {
             Condition::V1 | Condition::V2 => true,
             Condition::V3 => self.is_supported(word),
-            Condition::V4 => self.outcomes_land(word),
+            Condition::V4 => self.outcomes_land(word, &mut others.next),
             Condition::V5 => self.writes_are_declared(word),
             Condition::V6 => self.writes_are_listed(word),
-            Condition::V7 => self.may_call(word),
-            Condition::V8 => self.covers_callees(word),
-            Condition::V9 => self.calls_from_sites(word),
-            Condition::V10 => self.enters_callees(word),
-            Condition::V11 => self.lands_after_calls(word),
-            Condition::V12 => self.returns_well(word),
+            Condition::V7 => self.may_call(word, others),
+            Condition::V8 => self.covers_callees(word, others),
+            Condition::V9 => self.calls_from_sites(word, others),
+            Condition::V10 => self.enters_callees(word, others),
+            Condition::V11 => self.lands_after_calls(word, others),
+            Condition::V12 => self.returns_well(word, &mut others.exit),
             Condition::V13 => self.halts_are_declared(word),
             Condition::V14 => self.entries_are_kept(word),
             Condition::V15 => self.reads_are_listed(word),

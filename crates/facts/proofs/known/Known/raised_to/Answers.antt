@@ -1,9 +1,9 @@
-use Rattle.std.proofs.Common.{refl}
-use Rattle.wordset.specs.Lanes.{words}
+use Rattle.std.proofs.Common.{◌∙◌, ap, map}
 use Rattle.facts.specs.Facts.{Ac}
-use Rattle.facts.proofs.AgreeLemmas.{agree_trans}
-use Rattle.facts.proofs.ChangingLemmas.{name_agree}
+use Rattle.facts.specs.Changes.{moved_equations}
+use Rattle.facts.specs.Meaning.{equation_of}
+use Rattle.facts.proofs.ChangingLemmas.{raised_to_agrees}
 use Rattle.facts.proofs.known.Known.raised_to.Goals as goal
 
 pub returns : goal.returns
-returns c = agree_trans c.holding.ensures (name_agree {s = words c.args.set} {t = words c.args.set} Ac c.raised_ac.ensures.same (λ v lt. refl))
+returns c = raised_to_agrees c.args.self.now c.args.k c.args.set c.raised.result (c.raised.ensures.list ∙ ap (λ es. moved_equations Ac c.args.k (map equation_of es)) c.deref.ensures.0)

@@ -11,4 +11,4 @@ returns-then-not-is_reference g c = λ f h a lt. counts_nothing _ (place_of c.ar
 pub returns : goal.returns
 returns g c = λ f h a lt. counts_reference (words c.own_only.result) _ (place_of c.args.self.now) f c.args.at c.args.word _ a _ _ _ _ ((c.is_reference.ensures c.args.at).0 c.if-not-is_reference.false)
     c.refers_indirectly.ensures c.target.ensures (c.contains-seven_up.ensures ∙ ap (λ o. o 7) c.offsets.ensures ∙ h.offsets 7 (lit< tt)) c.counts.ensures c.both.ensures
-    (c.reach-seen.ensures.targets f h) (c.own_only.ensures a lt)
+    (c.reached-targets.ensures f h) (c.own_only.ensures a lt)

@@ -9,4 +9,4 @@ returns-then-not-is_reference g c = λ f h. reads_nothing _ (place_of c.args.sel
 pub returns : goal.returns
 returns g c = λ f h. reads_reference _ _ _ (place_of c.args.self.now) f c.args.at c.args.word _ _ _ ((c.is_reference.ensures c.args.at).0 c.if-not-is_reference.false)
     c.refers_indirectly-indirect.ensures c.target-named.ensures c.reads_operand.ensures
-    c.union_if.ensures c.pointer_if.ensures (c.reach-seen.ensures.targets f h)
+    c.union_if.ensures c.pointer_if.ensures (c.reached-targets.ensures f h)

@@ -9,4 +9,4 @@ returns-then-not-is_reference g c = λ f h. writes_nothing _ (place_of c.args.se
 pub returns : goal.returns
 returns g c = λ f h. writes_reference _ _ _ (place_of c.args.self.now) f c.args.at c.args.word _ _ _ _ ((c.is_reference.ensures c.args.at).0 c.if-not-is_reference.false)
     c.refers_indirectly-indirect.ensures c.target-named.ensures c.stores.ensures c.steps_pointer.ensures
-    c.union_if.ensures c.pointer_if-pointer.ensures (c.reach-seen.ensures.targets f h)
+    c.union_if.ensures c.pointer_if-pointer.ensures (c.reached-targets.ensures f h)

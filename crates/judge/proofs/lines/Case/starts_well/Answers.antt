@@ -4,10 +4,10 @@ use Rattle.judge.specs.Asked.{case_kept}
 use Rattle.judge.proofs.LineLemmas.{start_iff}
 use Rattle.judge.proofs.lines.Case.starts_well.Goals as goal
 
-pub returns-in-Some : goal.returns-in-Some
-returns-in-Some g c =
+pub returns : goal.returns
+returns g c =
     let j = case_kept g.C.Claims.claims c.args.self.now in
     start_iff j j.declaration.start _ c.holds_before.result
-    (c.in-Some.ensures.fact ∙ ap (λ a. fact_at j a) c.start.ensures)
-    (ap (λ a. j.certificate.has_fact a) (sym c.start.ensures) ∙ sym c.in-Some.ensures.there)
+    (c.fact_into.ensures.fact c.if-not-fact_into.false ∙ ap (λ a. fact_at j a) c.start.ensures)
+    (ap (λ a. j.certificate.has_fact a) (sym c.start.ensures) ∙ (sym c.fact_into.ensures.there ∙ c.if-not-fact_into.false))
     c.holds_before.ensures.starts

@@ -16,5 +16,5 @@ returns-then-not-lands g c =
 pub loop-at-preserved : goal.loop-at-preserved
 loop-at-preserved g c =
     let land = c.lands.ensures (known_of c.args.known.now) (agree_refl _) in
-    one_more (λ a. LandsAt (case_of g.C.Claims.claims c.args.self.now) (routine_at c.args.self.now) a (known_of c.args.known.now)) (words c.args.addresses.now) _ c.in-Some.ensures c.index-next.ensures.same
+    one_more (λ a. LandsAt (case_of g.C.Claims.claims c.args.self.now) (routine_at c.args.self.now) a (known_of c.args.known.now)) (words c.args.addresses.now) _ c.in-Some.ensures c.index-from.ensures.same
     (subst (λ r. LandsAt (case_of g.C.Claims.claims c.args.self.now) r c.in-Some.at (known_of c.args.known.now)) c.owner-owner.ensures (land.0 c.if-not-lands.false)) c.loop-at.invariant

@@ -1,0 +1,153 @@
+//! How sets that go on growing are made ones that don't.
+
+use word12::Word;
+use wordset::WordSet;
+
+/// Off the ways back, a set may grow so often at one address before nothing is said of it any more.
+const MOST_GROWTHS: u32 = 300;
+
+/// A count up to 7777 may grow so often before it is taken to start anywhere below.
+const COUNT_GROWTHS: u32 = 40;
+
+/// On the way back a set may grow so often before it goes on to the next landmarks,
+const QUICK_GROWTHS: u32 = 8;
+
+/// and so often before nothing is said of it any more.
+const LANDMARK_GROWTHS: u32 = 20;
+
+/// A set in more runs is filled.
+const MOST_RUNS: usize = 48;
+
+/// How soon sets are widened.
+#[derive(Clone, Copy)]
+pub(crate) enum Pace {
+    /// After some growths.
+    Quick,
+    /// After hundreds of growths.
+    Patient,
+}
+
+/// The cells that ISZ counts by name, and words at which sets may end: the program's constants, and
+/// the ends of what may be written and read.
+#[derive(Clone, Copy)]
+pub(crate) struct Limits {
+    pub(crate) counted: WordSet,
+    pub(crate) landmarks: WordSet,
+}
+
+/// How many runs of words follow each other a set has, at least where few are asked for.
+fn has_many_runs(set: &WordSet) -> bool {
+    let less = set.shift(Word::ZERO.increment());
+    set.minus(&less).count() > MOST_RUNS
+}
+
+/// From the least word of a set to its greatest.
+fn filled(set: &WordSet) -> WordSet {
+    match set.least() {
+        None => *set,
+        Some(low) => match set.greatest() {
+            None => *set,
+            Some(high) => WordSet::range(low, high),
+        },
+    }
+}
+
+/// A set, filled where it is ragged.
+pub(crate) fn smoothed(set: &WordSet) -> WordSet {
+    if has_many_runs(set) {
+        filled(set)
+    } else {
+        *set
+    }
+}
+
+/// From the least word of a set to 7777.
+fn up_to_the_end(set: &WordSet) -> WordSet {
+    match set.least() {
+        None => *set,
+        Some(low) => WordSet::range(low, Word::ZERO.complement()),
+    }
+}
+
+/// Whether a set has words from 4000 on alone.
+fn is_negative(set: &WordSet) -> bool {
+    set.least().is_some_and(|low| low.is_negative())
+}
+
+/// From the last landmark that isn't above a word.
+fn landmark_below(landmarks: &WordSet, word: Word) -> Word {
+    match landmarks.meet(&WordSet::range(Word::ZERO, word)).greatest() {
+        None => Word::ZERO,
+        Some(low) => low,
+    }
+}
+
+/// To the first landmark that isn't below a word.
+fn landmark_above(landmarks: &WordSet, word: Word) -> Word {
+    match landmarks.first_from(word.index()) {
+        None => Word::ZERO.complement(),
+        Some(high) => high,
+    }
+}
+
+/// A set that grew out of another, on to the next landmarks where it grew.
+fn to_landmarks(old: &WordSet, set: &WordSet, landmarks: &WordSet) -> WordSet {
+    let Some(low) = set.least() else {
+        return *set;
+    };
+    let Some(high) = set.greatest() else {
+        return *set;
+    };
+    let from = if old.least() == Some(low) {
+        low
+    } else {
+        landmark_below(landmarks, low)
+    };
+    let to = if old.greatest() == Some(high) {
+        high
+    } else {
+        landmark_above(landmarks, high)
+    };
+    WordSet::range(from, to)
+}
+
+/// A set that grew on the way back.
+fn quickly(old: &WordSet, set: &WordSet, growths: u32, counted: bool, limits: &Limits) -> WordSet {
+    if growths < QUICK_GROWTHS {
+        return *set;
+    }
+    if counted && is_negative(set) {
+        return up_to_the_end(set);
+    }
+    if growths >= LANDMARK_GROWTHS {
+        return WordSet::all();
+    }
+    to_landmarks(old, set, &limits.landmarks)
+}
+
+/// A set that grew, widened only after hundreds of growths.
+fn patiently(set: &WordSet, growths: u32, counted: bool) -> WordSet {
+    if growths >= MOST_GROWTHS {
+        return WordSet::all();
+    }
+    if counted && growths >= COUNT_GROWTHS && is_negative(set) {
+        return up_to_the_end(set);
+    }
+    smoothed(set)
+}
+
+/// A set that grew out of another so often.
+pub(crate) fn widened(
+    old: &WordSet,
+    set: &WordSet,
+    growths: u32,
+    counted: bool,
+    limits: &Limits,
+    pace: Pace,
+) -> WordSet {
+    let patient = patiently(set, growths, counted);
+    match pace {
+        Pace::Patient => patient,
+        Pace::Quick => quickly(old, &patient, growths, counted, limits),
+    }
+}

@@ -1,0 +1,3 @@
+pub mod BreachLemmas
+pub mod GapLemmas
+pub mod LineLemmas

@@ -1,0 +1,16 @@
+use Rattle.std.proofs.Common.{Some, refl}
+use Rattle.wordset.specs.Words.{one, plus}
+use Rattle.facts.specs.Changes.{with_offsets}
+use Rattle.facts.specs.Meaning.{known_of}
+use Rattle.reasons.specs.Spots.{claimed_by, fact_of, here}
+use Rattle.reasons.proofs.BreachLemmas.{misses_equally}
+use Rattle.reasons.proofs.spot.Spot.does_not_enter.Goals as goal
+
+pub returns-in-Some : goal.returns-in-Some
+returns-in-Some g c =
+    let s = c.args.self.now in
+    let e = c.args.entry in (
+      refl,
+      misses_equally (claimed_by g.C.Claims.claims s) (here s).declaration (Some e) (Some e) c.increment.result (plus e 1) (known_of c.entering-known.result)
+          (with_offsets (one 0) (fact_of s)) (with_offsets (one 0) (fact_of s)) c.in-Some.landing refl c.increment.ensures c.entering-known.ensures refl c.in-Some.ensures,
+    )

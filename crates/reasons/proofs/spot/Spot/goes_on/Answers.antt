@@ -1,0 +1,13 @@
+use Rattle.std.proofs.Common.{refl}
+use Rattle.facts.specs.Outcomes.{outcomes_at}
+use Rattle.facts.specs.Slots.{slots}
+use Rattle.reasons.specs.Spots.{claimed_by, fact_of, here}
+use Rattle.reasons.proofs.BreachLemmas.{outcomes_agree}
+use Rattle.reasons.proofs.spot.Spot.goes_on.Goals as goal
+
+pub returns-in-Some : goal.returns-in-Some
+returns-in-Some g c =
+    let s = c.args.self.now in (
+      refl,
+      outcomes_agree (claimed_by g.C.Claims.claims s) (here s) _ _ (slots c.outcomes-given.result) (outcomes_at (here s) (fact_of s) s.at c.args.word) c.outcomes-given.ensures c.in-Some.ensures,
+    )

@@ -1,0 +1,4 @@
+pub mod Breaches
+pub mod Gaps
+pub mod Reasons
+pub mod Spots

@@ -1,0 +1,147 @@
+//! What a call breaks.
+
+ghost use Rattle.std.specs.Prelude.{◌≡◌, ◌<◌, IfSome};
+ghost use Rattle.facts.specs.Conditions.{called};
+ghost use Rattle.facts.specs.Outcomes.{meaning_at};
+ghost use Rattle.facts.specs.declared.Condition.TheVariants.{V7, V8, V9, V10, V11};
+ghost use Rattle.reasons.specs.Spots.{BreaksHere, CallBreaksHere};
+
+use crate::breach::{Breach, CallBreach};
+use crate::spot::Spot;
+use crate::told::claimed_exit;
+use facts::{Condition, Known};
+use judge::Claims;
+use std::alloc::Allocator;
+use word12::Word;
+
+/// The last address from which a call may return by each of the eight offsets without going past
+/// 7777.
+const LAST_SITE: usize = 0o7767;
+
+impl<A: Allocator, C: Claims> Spot<'_, A, C> {
+    /// A call that the rules on what may be called forbid.
+    pub(crate) fn calls_wrongly(&self, word: Word) -> Option<Breach>
+        ensures { IfSome result (BreaksHere C.claims self.now V7 word) }
+    {
+        if self.place.steps_call_pointer(self.at, word) {
+            return Some(Breach::CallsThroughIndex);
+        }
+        self.first_call(Condition::V7, word)
+    }
+
+    /// The first call of a word that breaks a condition on calls.
+    pub(crate) fn first_call(&self, condition: Condition, word: Word) -> Option<Breach>
+        ensures { IfSome result (BreaksHere C.claims self.now condition word) }
+    {
+        let callees = self.place.calls(self.fact, self.at, word);
+        let mut next = 0usize;
+        while let Some(entry) = callees.first_from(next) {
+            if let Some(breach) = self.call_breaks(condition, entry) {
+                return Some(Breach::Calls(entry, breach));
+            }
+            next = entry.index() + 1;
+        }
+        None
+    }
+
+    /// What a call of an entry breaks of a condition.
+    fn call_breaks(&self, condition: Condition, entry: Word) -> Option<CallBreach>
+        ensures { IfSome result (CallBreaksHere C.claims self.now condition entry) }
+    {
+        match condition {
+            Condition::V7 => self.may_not_call(entry),
+            Condition::V8 => self.is_not_covered(entry),
+            Condition::V9 => self.is_no_site(entry),
+            Condition::V10 => self.does_not_enter(entry),
+            Condition::V11 => self.does_not_return(entry),
+            _ => None,
+        }
+    }
+
+    /// Why an address may not be called.
+    fn may_not_call(&self, entry: Word) -> Option<CallBreach>
+        ensures { IfSome result (CallBreaksHere C.claims self.now V7 entry) }
+    {
+        if !self.place.declaration.is_entry(entry) {
+            return Some(CallBreach::NoEntry);
+        }
+        let Some(callee) = self.claims.routine(entry) else {
+            return Some(CallBreach::NotListed);
+        };
+        let own = self.claimed(self.owner()?).rank;
+        if callee.rank < own {
+            return None;
+        }
+        Some(CallBreach::NotLower(callee.rank, own))
+    }
+
+    /// What of a callee the running routine's written set doesn't cover.
+    fn is_not_covered(&self, entry: Word) -> Option<CallBreach>
+        ensures { IfSome result (CallBreaksHere C.claims self.now V8 entry) }
+    {
+        let running = self.owner()?;
+        let caller = self.claimed(running);
+        let callee = self.claimed(entry);
+        if callee.writes.contains(running) {
+            return Some(CallBreach::WritesCaller);
+        }
+        if !caller.writes.contains(entry) {
+            return Some(CallBreach::EntryNotWritten);
+        }
+        match callee.writes.minus(&caller.writes).first_from(0) {
+            None => None,
+            Some(cell) => Some(CallBreach::Writes(cell)),
+        }
+    }
+
+    /// Why an entry may not be called from the address.
+    fn is_no_site(&self, entry: Word) -> Option<CallBreach>
+        ensures { IfSome result (CallBreaksHere C.claims self.now V9 entry) }
+    {
+        if self.at.index() > LAST_SITE {
+            return Some(CallBreach::TooHigh);
+        }
+        if self.claimed(entry).sites.contains(self.at) {
+            return None;
+        }
+        Some(CallBreach::NoSite)
+    }
+
+    /// Why a call doesn't land at the address after an entry.
+    fn does_not_enter(&self, entry: Word) -> Option<CallBreach>
+        ensures { IfSome result (CallBreaksHere C.claims self.now V10 entry) }
+    {
+        let known = Known::entering(self.fact);
+        match self.misses(&Some(entry), entry.increment(), &known) {
+            None => None,
+            Some(landing) => Some(CallBreach::Enters(landing)),
+        }
+    }
+
+    /// Why the run doesn't land after a return that is claimed of an entry.
+    fn does_not_return(&self, entry: Word) -> Option<CallBreach>
+        ensures { IfSome result (CallBreaksHere C.claims self.now V11 entry) }
+    {
+        for offset in 0..8usize {
+            if let Some(breach) = self.does_not_return_by(entry, offset) {
+                return Some(breach);
+            }
+        }
+        None
+    }
+
+    /// Why the run doesn't land after a return by an offset, if that is claimed of an entry.
+    fn does_not_return_by(&self, entry: Word, offset: usize) -> Option<CallBreach>
+        requires { offset < 8 }
+        ensures { IfSome result (CallBreaksHere C.claims self.now V11 entry) }
+    {
+        let exit = claimed_exit(self.claims, entry, offset)?;
+        let written = self.claimed(entry).writes;
+        let known = Known::after_call(self.fact, &exit, &written);
+        let next = self.at.increment().add(Word::from_index(offset));
+        match self.misses(&self.owner(), next, &known) {
+            None => None,
+            Some(landing) => Some(CallBreach::Returns(offset, landing)),
+        }
+    }
+}

@@ -1,0 +1,188 @@
+//! What one fact leaves possible and another excludes.
+
+ghost use Rattle.std.specs.Prelude.{IfSome};
+ghost use Rattle.wordset.specs.Words.{SameWords};
+ghost use Rattle.wordset.specs.Lanes.{words};
+ghost use Rattle.wordset.specs.Links.{links_of};
+ghost use Rattle.processor.specs.Runs as runs;
+ghost use Rattle.peripherals.specs.Loading.{image_of};
+ghost use Rattle.facts.specs.Facts.{tape_word};
+ghost use Rattle.facts.specs.Meaning.{known_of, meaning};
+ghost use Rattle.reasons.specs.Gaps.{IsBeyond, IsLinkBeyond, IsGap, IsStartGap};
+
+use bin_tape::Image;
+use facts::{Equation, Fact, Known, Name, is_always};
+use word12::{Link, Word};
+use wordset::{Links, WordSet};
+
+/// What is possible and excluded.
+#[derive(Clone, Copy, PartialEq, Eq, Debug)]
+pub enum Gap {
+    /// The accumulator may hold this word.
+    Accumulator(Word),
+    /// MQ may hold this word.
+    Mq(Word),
+    /// The link may be this.
+    Link(Link),
+    /// The cell may hold this word.
+    Cell(Word, Word),
+    /// This equation need not be true.
+    Equation(Equation),
+    /// The return word may have been counted up by this offset.
+    Offset(usize),
+}
+
+/// The least word of one set that another lacks.
+fn word_beyond(set: &WordSet, other: &WordSet) -> Option<Word>
+    ensures { IfSome result (IsBeyond (words set.now) (words other.now)) }
+{
+    set.minus(other).first_from(0)
+}
+
+/// The least link of one set that another lacks.
+fn link_beyond(links: Links, others: Links) -> Option<Link>
+    ensures { IfSome result (IsLinkBeyond (links_of links) (links_of others)) }
+{
+    if links.clear && !others.clear {
+        return Some(Link::CLEAR);
+    }
+    if links.set && !others.set {
+        return Some(Link::SET);
+    }
+    None
+}
+
+/// What the registers may hold that a fact excludes.
+fn register_gap(known: &Known<'_>, fact: &Fact) -> Option<Gap>
+    ensures { IfSome result (IsGap (known_of known.now) (meaning fact.now)) }
+{
+    if let Some(word) = word_beyond(&known.narrowed(&Name::Accumulator), fact.accumulator()) {
+        return Some(Gap::Accumulator(word));
+    }
+    if let Some(word) = word_beyond(known.mq(), fact.mq()) {
+        return Some(Gap::Mq(word));
+    }
+    match link_beyond(known.link(), fact.link()) {
+        None => None,
+        Some(link) => Some(Gap::Link(link)),
+    }
+}
+
+/// An offset that is possible and that a fact excludes.
+fn offset_gap(known: &Known<'_>, fact: &Fact) -> Option<Gap>
+    ensures { IfSome result (IsGap (known_of known.now) (meaning fact.now)) }
+{
+    for offset in 0..8usize {
+        if known.offsets().contains(offset) && !fact.offsets().contains(offset) {
+            return Some(Gap::Offset(offset));
+        }
+    }
+    None
+}
+
+/// What a tracked cell may hold that a fact excludes.
+fn cell_gap(known: &Known<'_>, fact: &Fact) -> Option<Gap>
+    ensures { IfSome result (IsGap (known_of known.now) (meaning fact.now)) }
+{
+    for tracked in fact.cells() {
+        let name = Name::Cell(tracked.cell);
+        if let Some(word) = word_beyond(&known.narrowed(&name), &fact.set(&name)) {
+            return Some(Gap::Cell(tracked.cell, word));
+        }
+    }
+    None
+}
+
+/// An equation of a fact that isn't known.
+fn equation_gap(known: &Known<'_>, fact: &Fact) -> Option<Gap>
+    ensures { IfSome result (IsGap (known_of known.now) (meaning fact.now)) }
+{
+    for equation in fact.equations() {
+        if !known.knows(equation) {
+            return Some(Gap::Equation(*equation));
+        }
+    }
+    None
+}
+
+/// What is possible by what is known, and excluded by a fact: of the registers first, then of the
+/// offsets, the cells and the equations.
+pub(crate) fn gap_between(known: &Known<'_>, fact: &Fact) -> Option<Gap>
+    ensures { IfSome result (IsGap (known_of known.now) (meaning fact.now)) }
+{
+    if let Some(found) = register_gap(known, fact) {
+        return Some(found);
+    }
+    if let Some(found) = offset_gap(known, fact) {
+        return Some(found);
+    }
+    if let Some(found) = cell_gap(known, fact) {
+        return Some(found);
+    }
+    equation_gap(known, fact)
+}
+
+/// What the registers may hold at a start that a fact excludes.
+fn register_gap_at_start(fact: &Fact) -> Option<Gap>
+    ensures { (i : runs.Image) → IfSome result (IsStartGap i (meaning fact.now)) }
+{
+    let all = WordSet::all();
+    if let Some(word) = word_beyond(&all, fact.accumulator()) {
+        return Some(Gap::Accumulator(word));
+    }
+    if let Some(word) = word_beyond(&all, fact.mq()) {
+        return Some(Gap::Mq(word));
+    }
+    match link_beyond(Links::both(), fact.link()) {
+        None => None,
+        Some(link) => Some(Gap::Link(link)),
+    }
+}
+
+/// What a cell holds at a start: the tape's word, or any.
+fn words_at_start(image: &Image, cell: Word) -> WordSet
+    ensures { SameWords (words result) (tape_word (image_of image.now cell)) }
+{
+    match image.get(cell) {
+        None => WordSet::all(),
+        Some(word) => WordSet::one(word),
+    }
+}
+
+/// What a tracked cell may hold at a start that a fact excludes.
+fn cell_gap_at_start(fact: &Fact, image: &Image) -> Option<Gap>
+    ensures { IfSome result (IsStartGap (image_of image.now) (meaning fact.now)) }
+{
+    for tracked in fact.cells() {
+        let held = words_at_start(image, tracked.cell);
+        if let Some(word) = word_beyond(&held, &fact.set(&Name::Cell(tracked.cell))) {
+            return Some(Gap::Cell(tracked.cell, word));
+        }
+    }
+    None
+}
+
+/// An equation of a fact that need not be true at a start.
+fn equation_gap_at_start(fact: &Fact, image: &Image) -> Option<Gap>
+    ensures { IfSome result (IsStartGap (image_of image.now) (meaning fact.now)) }
+{
+    for equation in fact.equations() {
+        if !is_always(equation, image) {
+            return Some(Gap::Equation(*equation));
+        }
+    }
+    None
+}
+
+/// What is possible at a start of a tape, and excluded by a fact.
+pub(crate) fn gap_at_start(fact: &Fact, image: &Image) -> Option<Gap>
+    ensures { IfSome result (IsStartGap (image_of image.now) (meaning fact.now)) }
+{
+    if let Some(found) = register_gap_at_start(fact) {
+        return Some(found);
+    }
+    if let Some(found) = cell_gap_at_start(fact, image) {
+        return Some(found);
+    }
+    equation_gap_at_start(fact, image)
+}

@@ -1,0 +1,116 @@
+//! Where a run goes on after a word and doesn't land.
+
+ghost use Rattle.std.specs.Prelude.{◌≡◌, ◌<◌, true, IfSome};
+ghost use Rattle.wordset.specs.Lanes.{words};
+ghost use Rattle.facts.specs.Meaning.{known_of};
+ghost use Rattle.facts.specs.Slots.{outcome_of, slot, slots};
+ghost use Rattle.facts.specs.declared.Condition.TheVariants.{V4};
+ghost use Rattle.reasons.specs.Breaches.{OutcomeMisses, SomeOutcome};
+ghost use Rattle.reasons.specs.Spots.{BreaksHere, MissesHere, claimed_by, here};
+
+use crate::breach::{Breach, Landing};
+use crate::gap::gap_between;
+use crate::spot::Spot;
+use crate::told::claimed_fact;
+use facts::{Known, Outcome, outcomes};
+use judge::Claims;
+use std::alloc::Allocator;
+use word12::Word;
+use wordset::WordSet;
+
+impl<A: Allocator, C: Claims> Spot<'_, A, C> {
+    /// Whether a routine's body has an address.
+    fn is_inside(&self, owner: &Option<Word>, at: Word) -> bool
+        ensures { result ≡ (here self.now).declaration.body owner.now at }
+    {
+        match owner {
+            None => self.place.declaration.in_main(at),
+            Some(entry) => self.place.declaration.in_body(*entry, at),
+        }
+    }
+
+    /// Why what is known doesn't land at an address of a routine's body, if it doesn't.
+    pub(crate) fn misses(
+        &self,
+        owner: &Option<Word>,
+        at: Word,
+        known: &Known<'_>,
+    ) -> Option<Landing>
+        ensures { IfSome result
+            (MissesHere C.claims self.now owner.now at (known_of known.now)) }
+    {
+        if !self.is_inside(owner, at) {
+            return Some(Landing::OtherBody);
+        }
+        let Some(fact) = claimed_fact(self.claims, at) else {
+            return Some(Landing::NoFact);
+        };
+        match gap_between(known, &fact) {
+            None => None,
+            Some(found) => Some(Landing::Excluded(found)),
+        }
+    }
+
+    /// The first of some addresses at which what is known doesn't land, and why.
+    fn misses_at(&self, addresses: &WordSet, known: &Known<'_>) -> Option<(Word, Landing)>
+        ensures { IfSome result (λ found. (found.0 < 4096) × (words addresses.now found.0 ≡ true) ×
+            MissesHere C.claims self.now (here self.now).routine found.0 (known_of known.now)
+            found.1) }
+    {
+        let owner = self.owner();
+        let mut next = 0usize;
+        while let Some(at) = addresses.first_from(next) {
+            if let Some(landing) = self.misses(&owner, at, known) {
+                return Some((at, landing));
+            }
+            next = at.index() + 1;
+        }
+        None
+    }
+
+    /// The first address at which an outcome goes on and doesn't land, and why.
+    fn outcome_misses(&self, outcome: &Outcome<'_>) -> Option<(Word, Landing)>
+        ensures { IfSome result (λ found. OutcomeMisses (claimed_by C.claims self.now)
+            (here self.now) found.0 found.1 (outcome_of outcome.now)) }
+    {
+        match outcome {
+            Outcome::Goes(addresses, known) => self.misses_at(addresses, known),
+            Outcome::Calls(_, _) | Outcome::Returns(_) => None,
+        }
+    }
+
+    /// The same of an outcome that may not be there.
+    fn slot_misses(&self, outcome: &Option<Outcome<'_>>) -> Option<(Word, Landing)>
+        ensures { IfSome result (λ found. SomeOutcome (OutcomeMisses (claimed_by C.claims self.now)
+            (here self.now) found.0 found.1) (slot outcome.now)) }
+    {
+        match outcome {
+            None => None,
+            Some(outcome) => self.outcome_misses(outcome),
+        }
+    }
+
+    /// The same of some outcomes.
+    fn some_misses(&self, outcomes: &[Option<Outcome<'_>>]) -> Option<(Word, Landing)>
+        ensures { IfSome result (λ found. SomeOutcome (OutcomeMisses (claimed_by C.claims self.now)
+            (here self.now) found.0 found.1) (slots outcomes.now)) }
+    {
+        for outcome in outcomes {
+            if let Some(found) = self.slot_misses(outcome) {
+                return Some(found);
+            }
+        }
+        None
+    }
+
+    /// Where a word goes on and doesn't land.
+    pub(crate) fn goes_on(&self, word: Word) -> Option<Breach>
+        ensures { IfSome result (BreaksHere C.claims self.now V4 word) }
+    {
+        let given = outcomes(self.fact, self.at, word, &self.place);
+        match self.some_misses(&given) {
+            None => None,
+            Some((at, landing)) => Some(Breach::GoesOn(at, landing)),
+        }
+    }
+}

@@ -1,0 +1,105 @@
+//! Why the lines at an address aren't where they may be, and why the fact at a start is wrong.
+
+ghost use Rattle.std.specs.Prelude.{◌≡◌, ◌<◌, true, IfSome};
+ghost use Rattle.peripherals.specs.Loading.{image_of};
+ghost use Rattle.declaration.specs.Kept as declared;
+ghost use Rattle.facts.specs.Meaning.{meaning};
+ghost use Rattle.reasons.specs.Reasons.{IsMisplaced, IsWrongStart, NamesRoutine};
+
+use crate::gap::gap_at_start;
+use crate::reason::Reason;
+use crate::told::{claimed_exit, claimed_fact};
+use bin_tape::Image;
+use declaration::{Declaration, Owner};
+use facts::Fact;
+use judge::Claims;
+use std::alloc::Allocator;
+use word12::Word;
+
+/// Why the fact at a start doesn't hold of every start.
+pub(crate) fn why_start<C: Claims>(image: &Image, claims: &C, at: Word) -> Option<Reason>
+    ensures { IfSome result (IsWrongStart (image_of image.now) (C.claims claims.now) at) }
+{
+    let Some(fact) = claimed_fact(claims, at) else {
+        return Some(Reason::NoFact);
+    };
+    match gap_at_start(&fact, image) {
+        None => None,
+        Some(found) => Some(Reason::StartExcluded(found)),
+    }
+}
+
+/// Whether a routine or exit line has an address.
+fn names_routine<C: Claims>(claims: &C, at: Word) -> bool
+    ensures { result ≡ true → NamesRoutine (C.claims claims.now) at }
+{
+    if claims.routine(at).is_some() {
+        return true;
+    }
+    for offset in 0..8usize {
+        if claimed_exit(claims, at, offset).is_some() {
+            return true;
+        }
+    }
+    false
+}
+
+/// The first offset of a fact.
+fn first_offset(fact: &Fact) -> Option<usize>
+    ensures { IfSome result (λ o. (o < 8) × ((meaning fact.now).offsets o ≡ true)) }
+{
+    for offset in 0..8usize {
+        if fact.offsets().contains(offset) {
+            return Some(offset);
+        }
+    }
+    None
+}
+
+/// Why a fact isn't where it may be, in the body of this owner.
+fn why_misplaced<A: Allocator, C: Claims>(
+    declaration: &Declaration<A>,
+    claims: &C,
+    at: Word,
+    fact: &Fact,
+) -> Option<Reason>
+    requires there { (C.claims claims.now).has_fact at ≡ true }
+    requires fact { meaning fact.now ≡ (C.claims claims.now).fact at }
+    ensures { IfSome result (IsMisplaced (declared.meaning declaration.now) (C.claims claims.now)
+        at) }
+{
+    let Some(owner) = declaration.owner_of(at) else {
+        return Some(Reason::InNoBody);
+    };
+    match owner {
+        Owner::Main => match first_offset(fact) {
+            None => None,
+            Some(offset) => Some(Reason::OffsetInMain(offset)),
+        },
+        Owner::Routine(entry) => {
+            if claims.routine(entry).is_none() {
+                return Some(Reason::RoutineNotListed(entry));
+            }
+            if fact.offsets().is_empty() {
+                return Some(Reason::NoOffset(entry));
+            }
+            None
+        }
+    }
+}
+
+/// Why the lines at an address aren't where they may be.
+pub(crate) fn why_placed<A: Allocator, C: Claims>(
+    declaration: &Declaration<A>,
+    claims: &C,
+    at: Word,
+) -> Option<Reason>
+    ensures { IfSome result (IsMisplaced (declared.meaning declaration.now) (C.claims claims.now)
+        at) }
+{
+    if names_routine(claims, at) && !declaration.is_entry(at) {
+        return Some(Reason::LineAtNoEntry);
+    }
+    let fact = claimed_fact(claims, at)?;
+    why_misplaced(declaration, claims, at, &fact)
+}

@@ -1,0 +1,98 @@
+//! Why a condition fails.
+
+ghost use Rattle.std.specs.Prelude.{IfSome};
+ghost use Rattle.declaration.specs.Kept as declared;
+ghost use Rattle.judge.specs.Judged.{judged};
+ghost use Rattle.reasons.specs.Reasons.{Explains, HasWrongWord};
+ghost use Rattle.reasons.specs.Spots.{IsBody};
+
+use crate::breach::Breach;
+use crate::gap::Gap;
+use crate::lines::{why_placed, why_start};
+use crate::spot::{Body, Spot};
+use crate::told::claimed_fact;
+use bin_tape::Image;
+use declaration::{Declaration, Owner};
+use facts::Condition;
+use judge::{Claims, Refusal};
+use std::alloc::Allocator;
+use word12::Word;
+
+/// Why a condition fails.
+#[derive(Clone, Copy, PartialEq, Eq, Debug)]
+pub enum Reason {
+    /// V1: no fact has the address.
+    NoFact,
+    /// V1: the fact excludes what is possible at a start.
+    StartExcluded(Gap),
+    /// V2: a routine or exit line has the address, which isn't an entry.
+    LineAtNoEntry,
+    /// V2: a fact has the address, which is in no body.
+    InNoBody,
+    /// V2: the fact is in main's body, and has this offset.
+    OffsetInMain(usize),
+    /// V2: the fact is in the body of the routine of this entry, and has no offset.
+    NoOffset(Word),
+    /// V2: the fact is in the body of the routine of this entry, which has no routine line.
+    RoutineNotListed(Word),
+    /// V3: so many words are possible, which are more than 64.
+    TooManyWords(usize),
+    /// This word is possible, and breaks this.
+    ByWord(Word, Breach),
+}
+
+/// The body that has the address of a fact.
+fn body_of<A: Allocator, C: Claims>(
+    declaration: &Declaration<A>,
+    claims: &C,
+    at: Word,
+) -> Option<Body>
+    ensures { IfSome result
+        (IsBody (declared.meaning declaration.now) (C.claims claims.now) at) }
+{
+    let owner = declaration.owner_of(at)?;
+    match owner {
+        Owner::Main => Some(Body::Main),
+        Owner::Routine(entry) => {
+            let routine = claims.routine(entry)?;
+            Some(Body::Of(entry, routine))
+        }
+    }
+}
+
+/// Why a condition on words fails at an address.
+fn why_words<A: Allocator, C: Claims>(
+    image: &Image,
+    declaration: &Declaration<A>,
+    claims: &C,
+    condition: Condition,
+    at: Word,
+) -> Option<Reason>
+    ensures { IfSome result
+        (HasWrongWord (judged image.now declaration.now (C.claims claims.now)) condition at) }
+{
+    let fact = claimed_fact(claims, at)?;
+    let body = body_of(declaration, claims, at)?;
+    Spot::of(image, declaration, claims, &body, at, &fact).first_breach(condition)
+}
+
+/// Why a condition fails at an address: what is possible there by a tape's words, a declaration and
+/// what is claimed, and breaks it. The first reason that is found is told; of words the least that
+/// breaks the condition.
+///
+/// No memory is taken, so none can be refused.
+pub fn why<A: Allocator, C: Claims>(
+    image: &Image,
+    declaration: &Declaration<A>,
+    claims: &C,
+    refusal: &Refusal,
+) -> Option<Reason>
+    ensures { IfSome result (Explains (judged image.now declaration.now (C.claims claims.now))
+        refusal.now.condition refusal.now.address) }
+{
+    match refusal.condition {
+        Condition::V1 => why_start(image, claims, refusal.address),
+        Condition::V2 => why_placed(declaration, claims, refusal.address),
+        condition => why_words(image, declaration, claims, condition, refusal.address),
+    }
+}

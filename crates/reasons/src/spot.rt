@@ -1,0 +1,152 @@
+//! A fact at an address of a body, of whose words it is asked what they break.
+
+ghost use Rattle.std.specs.Prelude.{◌≡◌, IfSome};
+ghost use Rattle.wordset.specs.Words.{SameWords};
+ghost use Rattle.wordset.specs.Lanes.{words};
+ghost use Rattle.facts.specs.Meaning.{meaning};
+ghost use Rattle.facts.specs.Places.{routine_of, sites_of};
+ghost use Rattle.facts.specs.declared.Condition.TheVariants.{V3};
+ghost use Rattle.reasons.specs.Spots.{IsWrongHere, claimed_by, fact_of, here, place_with, possible_at, routine_with, sites_with};
+
+use crate::reason::Reason;
+use bin_tape::Image;
+use declaration::Declaration;
+use facts::{Condition, Fact, Place, Running};
+use judge::{Claims, Routine};
+use std::alloc::Allocator;
+use word12::Word;
+use wordset::WordSet;
+
+/// The most words that may be possible at one address.
+const MOST_WORDS: usize = 64;
+
+/// The body that has the address of a fact: main's, or that of the routine of an entry, with what
+/// is claimed of it.
+#[derive(Clone, Copy)]
+pub(crate) enum Body {
+    Main,
+    Of(Word, Routine),
+}
+
+impl Body {
+    /// The routine, if it isn't main's.
+    fn running(&self) -> Option<Running<'_>>
+        ensures routine { routine_of result ≡ routine_with self.now }
+        ensures sites { sites_of result ≡ sites_with self.now }
+    {
+        match self {
+            Body::Main => None,
+            Body::Of(entry, routine) => Some(Running {
+                entry: *entry,
+                sites: &routine.sites,
+                writes: &routine.writes,
+            }),
+        }
+    }
+}
+
+/// A fact at an address of a body, with what is claimed.
+#[derive(Drop)]
+pub(crate) struct Spot<'a, A: Allocator, C: Claims> {
+    pub(crate) claims: &'a C,
+    pub(crate) place: Place<'a, A>,
+    pub(crate) at: Word,
+    pub(crate) fact: &'a Fact,
+}
+
+impl<'a, A: Allocator, C: Claims> Spot<'a, A, C> {
+    /// The fact at an address of a body.
+    pub(crate) fn of(
+        image: &'a Image,
+        declaration: &'a Declaration<A>,
+        claims: &'a C,
+        body: &'a Body,
+        at: Word,
+        fact: &'a Fact,
+    ) -> Spot<'a, A, C>
+        ensures claims { claimed_by C.claims result ≡ C.claims claims.now }
+        ensures place { here result ≡ place_with image.now declaration.now body.now }
+        ensures fact { fact_of result ≡ meaning fact.now }
+        ensures at { result.at ≡ at }
+    {
+        let running = body.running();
+        let place = Place {
+            image,
+            declaration,
+            routine: running,
+        };
+        Spot {
+            claims,
+            place,
+            at,
+            fact,
+        }
+    }
+}
+
+impl<A: Allocator, C: Claims> Spot<'_, A, C> {
+    /// The first possible word that breaks a condition, and what it breaks; or how many words are
+    /// possible, where they are too many.
+    pub(crate) fn first_breach(&self, condition: Condition) -> Option<Reason>
+        ensures { IfSome result (IsWrongHere C.claims self.now condition) }
+    {
+        let possible = self.place.possible_words(self.fact, self.at);
+        match condition {
+            Condition::V3 => self.too_many(&possible),
+            _ => self.first_word(condition, &possible),
+        }
+    }
+
+    /// How many words are possible, where they are too many; else the first that isn't supported.
+    fn too_many(&self, possible: &WordSet) -> Option<Reason>
+        requires { SameWords (words possible.now) (possible_at self.now) }
+        ensures { IfSome result (IsWrongHere C.claims self.now V3) }
+    {
+        let count = possible.count();
+        if count > MOST_WORDS {
+            return Some(Reason::TooManyWords(count));
+        }
+        self.first_word(Condition::V3, possible)
+    }
+
+    /// The first possible word that breaks a condition, and what it breaks.
+    fn first_word(&self, condition: Condition, possible: &WordSet) -> Option<Reason>
+        requires { SameWords (words possible.now) (possible_at self.now) }
+        ensures { IfSome result (IsWrongHere C.claims self.now condition) }
+    {
+        let mut next = 0usize;
+        while let Some(word) = possible.first_from(next) {
+            if let Some(breach) = self.breach(condition, word) {
+                return Some(Reason::ByWord(word, breach));
+            }
+            next = word.index() + 1;
+        }
+        None
+    }
+
+    /// The routine whose body has the address; none is main.
+    pub(crate) fn owner(&self) -> Option<Word>
+        ensures { result ≡ (here self.now).routine }
+    {
+        match &self.place.routine {
+            None => None,
+            Some(running) => Some(running.entry),
+        }
+    }
+
+    /// What is claimed of the routine of an entry, and nothing where it isn't listed.
+    pub(crate) fn claimed(&self, entry: Word) -> Routine
+        ensures rank { result.rank ≡ (claimed_by C.claims self.now).rank entry }
+        ensures sites { words result.sites ≡ (claimed_by C.claims self.now).sites entry }
+        ensures writes { words result.writes ≡ (claimed_by C.claims self.now).writes entry }
+    {
+        match self.claims.routine(entry) {
+            Some(routine) => routine,
+            None => Routine {
+                rank: 0,
+                sites: WordSet::empty(),
+                writes: WordSet::empty(),
+            },
+        }
+    }
+}

@@ -1,0 +1,39 @@
+//! What is claimed at an address or of a return, as a fact of its own.
+
+ghost use Rattle.std.specs.Prelude.{ℕ, ◌≡◌, ◌<◌, true, is_some, IfSome};
+ghost use Rattle.wordset.specs.Words.{everything};
+ghost use Rattle.facts.specs.Changes.{with_offsets};
+ghost use Rattle.facts.specs.Meaning.{meaning};
+
+use facts::Fact;
+use judge::Claims;
+use word12::Word;
+
+/// The fact that is claimed at an address, if there is one.
+pub(crate) fn claimed_fact<C: Claims>(claims: &C, at: Word) -> Option<Fact>
+    ensures there { is_some result ≡ (C.claims claims.now).has_fact at }
+    ensures fact { IfSome result (λ f. meaning f ≡ (C.claims claims.now).fact at) }
+{
+    let mut fact = Fact::any();
+    if claims.fact_into(at, &mut fact) {
+        Some(fact)
+    } else {
+        None
+    }
+}
+
+/// What is claimed to hold when the routine of an entry returns by an offset, with all offsets, if
+/// that is claimed.
+pub(crate) fn claimed_exit<C: Claims>(claims: &C, entry: Word, offset: usize) -> Option<Fact>
+    ensures there { is_some result ≡ (C.claims claims.now).has_exit entry offset }
+    ensures fact { IfSome result
+        (λ f. with_offsets everything (meaning f) ≡ (C.claims claims.now).exit entry offset) }
+    ensures offsets { IfSome result (λ f. (o : ℕ) → o < 8 → (meaning f).offsets o ≡ true) }
+{
+    let mut exit = Fact::any();
+    if claims.exit_into(entry, offset, &mut exit) {
+        Some(exit)
+    } else {
+        None
+    }
+}

@@ -19,3 +19,5 @@ pub mod FormLemmas
 pub mod FoundLemmas
 pub mod DetailLemmas
 pub mod ReaderLemmas
+pub mod ReadLemmas
+pub mod ServedLemmas

@@ -353,6 +353,7 @@ no_fault v bytes (faults.Order n) t h = line_no_text Misplaced v bytes n t h
 no_fault v bytes faults.TooMany t (inl h) = line_no_text OneMore v bytes h.0 t h.1
 no_fault v bytes faults.TooMany t (inr h) = let a : length bytes ≤ most_bytes = t.few in let b : most_bytes < length bytes = h.0 in omega arith
 no_fault v bytes faults.NoMemory t h = h
+no_fault v bytes faults.ReadFault t h = h
 
 -- Two faulty lines of one text.
 alone_at : (j k : LineKind) (v w : Version) (b c : List Line) (line other : List ℕ) → v ≡ w → Alike SameLine b c → line ≡ other →
@@ -468,6 +469,7 @@ found bytes (faults.Order n) h = (AtLine Misplaced n h, refl)
 found bytes faults.TooMany (inl h) = (AtLine OneMore h.0 h.1, refl)
 found bytes faults.TooMany (inr h) = (TooLong h, refl)
 found bytes faults.NoMemory h = absurd h
+found bytes faults.ReadFault h = absurd h
 
 one_found : (bytes : List ℕ) (a b : Found bytes) → fault_of bytes a ≡ fault_of bytes b
 unfolding fault_of line_fault

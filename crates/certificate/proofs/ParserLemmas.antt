@@ -1,9 +1,8 @@
 -- A certificate's text taken byte by byte.
-use Rattle.std.proofs.Common.{◌≡◌, ◌≢◌, ◌⊎◌, ℕ, ◌+◌, ◌<◌, ◌≤◌, ◌==◌, Bool, true, false, List, [], ◌∷◌, ◌++◌, length, Option, Some, None, Result, Ok, Err, refl, ap, ◌∙◌, sym, subst, inl, inr, arith, append_assoc, append-nil, length-append, get_or, add-one, drop-cons, length-take-le}
-use Rattle.std.specs.Prelude.{IfSome, IfOk, IfErr, MatchResult, take, drop}
+use Rattle.std.proofs.Common.{◌≡◌, ◌≢◌, ◌⊎◌, ℕ, ◌+◌, ◌<◌, ◌≤◌, ◌==◌, Bool, true, false, List, [], ◌∷◌, ◌++◌, length, Option, Some, None, Result, Ok, Err, refl, ap, ◌∙◌, sym, subst, inl, inr, arith, append_assoc, append-nil, length-append}
+use Rattle.std.specs.Prelude.{IfSome, IfOk, IfErr, MatchResult, take}
 use Rattle.std.proofs.lemmas.Bool.{true≢false, eqb-true, eq-eqb, cases_lt}
 use Rattle.std.proofs.Math.Seq.{take-append_seam}
-use Rattle.std.proofs.lemmas.List.{take-append-drop}
 use Rattle.certificate.specs.declared.Version.{Version}
 use Rattle.certificate.specs.declared.Version.TheVariants.{One, Two}
 use Rattle.certificate.specs.declared.CertificateFault.{CertificateFault}
@@ -157,6 +156,7 @@ next_refused kept text line bytes old p q f is h small t = go f t
     go faults.TooMany t = inr (λ rest. inl (length g.before + 2, faulty kept p text line bytes rest (length g.before + 2) IsOneTooMany g e feed small refl (t g.before g.tracks)))
     go faults.Version t = absurd (t g.before g.tracks)
     go faults.NoMemory t = absurd (t g.before g.tracks)
+    go faults.ReadFault t = absurd (t g.before g.tracks)
 
 -- A line that is too long.
 pub long_refused : {A : Type 0} (kept : KeptLines A) (text line bytes : List ℕ) (old : Option Progress) (p : Progress) (long : Bool) (n : ℕ) → old ≡ Some p → long ≡ true →
@@ -259,16 +259,6 @@ cut kept text line bytes long o p n is h few number lacks = record {
     go false q none lacks = lacks q (h.same q ∙ none)
     go true q none lacks = let a : 32768 < length h.tail = h.long q in let b : length h.tail ≡ 0 = ap length none in omega arith
 
-all_taken : (i : ℕ) (xs : List ℕ) → length xs ≤ i → i ≤ length xs → take i xs ≡ xs
-all_taken i xs a b =
-    let e : i ≡ length xs = omega arith in
-    ap (λ k. take k xs) e ∙ (ap (λ (x : List ℕ). take (length xs) x) (sym (append-nil xs)) ∙ take-append_seam xs [])
-
--- All bytes were taken.
-pub parsed : {X : Type 0} (r : Result X CertificateFault) (P : List ℕ → X → Type 0) (bytes : List ℕ) (i : ℕ) → length bytes ≤ i → i ≤ length bytes →
-    MatchResult r (P (take i bytes)) (HasFault (take i bytes)) → MatchResult r (P bytes) (HasFault bytes)
-parsed r P bytes i a b h = subst (λ (x : List ℕ). MatchResult r (P x) (HasFault x)) (all_taken i bytes a b) h
-
 pub if_ok : {X : Type 0} (r : Result X CertificateFault) (P O : X → Type 0) (Q : CertificateFault → Type 0) → ((x : X) → P x → O x) →
     MatchResult r P Q → IfOk r O
 if_ok (Ok x) P O Q to h = to x h
@@ -278,20 +268,6 @@ pub if_refused : {X : Type 0} (r : Result X CertificateFault) (P : X → Type 0)
     IfErr r (λ f. (f ≡ faults.NoMemory) ⊎ HasFault bytes f)
 if_refused (Ok x) P bytes h = tt
 if_refused (Err f) P bytes h = inr h
-
--- A byte was refused.
-pub refused_at : (bytes : List ℕ) (i : ℕ) (f : CertificateFault) → i < length bytes → Refuses (take i bytes ++ get_or bytes i 0 ∷ []) f →
-    (f ≡ faults.NoMemory) ⊎ HasFault bytes f
-refused_at bytes i f h (inl e) = inl e
-refused_at bytes i f h (inr g) = inr (subst (λ (x : List ℕ). HasFault x f) whole (g (drop (i + 1) bytes)))
-  where
-    whole : take i bytes ++ get_or bytes i 0 ∷ [] ++ drop (i + 1) bytes ≡ bytes
-    whole = append_assoc (take i bytes) (get_or bytes i 0 ∷ []) (drop (i + 1) bytes) ∙
-        (let e : drop i bytes ≡ get_or bytes i 0 ∷ drop (i + 1) bytes = rw (add-one, drop-cons bytes i 0) refl in
-        ap (λ (x : List ℕ). take i bytes ++ x) (sym e) ∙ take-append-drop i bytes)
-
-pub count_taken : (bytes : List ℕ) (i count : ℕ) → i ≤ length bytes → count ≡ i → count ≡ length (take i bytes)
-count_taken bytes i count h e = e ∙ sym (length-take-le i bytes h)
 
 pub not_empty : (line : List ℕ) → false ≡ (length line == 0) → line ≡ [] → ⊥
 not_empty line e f = true≢false (sym (eq-eqb (length line) 0 (ap length f)) ∙ sym e)

@@ -68,10 +68,12 @@ abbrev pub IsTooLong : List ℕ → Type 0
 IsTooLong bytes =
     (most_bytes < length bytes) × (NoFeed (take most_bytes bytes) ⊎ HasRest (take most_bytes bytes))
 
--- The fault of a text: that of its first faulty line, else that it's too long or cut. Want of memory is none.
+-- The fault of a text: that of its first faulty line, else that it's too long or cut. Want of memory and a read that fails
+-- are none.
 abbrev pub HasFault : List ℕ → CertificateFault → Type 0
 HasFault bytes faults.Version = HasNoVersion bytes
 HasFault bytes (faults.BadLine n) = HasFaultyLine bytes n IsBad ⊎ IsCut bytes n
 HasFault bytes (faults.Order n) = HasFaultyLine bytes n IsMisplaced
 HasFault bytes faults.TooMany = ((n : ℕ) × HasFaultyLine bytes n IsOneTooMany) ⊎ IsTooLong bytes
 HasFault bytes faults.NoMemory = ⊥
+HasFault bytes faults.ReadFault = ⊥

@@ -9,6 +9,8 @@ pub mod Order
 pub mod Progress
 pub mod Faults
 pub mod Parser
+pub mod Serving
+pub mod Served
 pub mod Gathered
 pub mod Found
 pub mod Kept

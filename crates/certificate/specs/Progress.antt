@@ -40,3 +40,4 @@ Takes v before bytes after (Err (faults.Order n)) = (n ≡ length before + 2) ×
 Takes v before bytes after (Err faults.TooMany) = IsOneTooMany v before bytes
 Takes v before bytes after (Err faults.Version) = ⊥
 Takes v before bytes after (Err faults.NoMemory) = ⊥
+Takes v before bytes after (Err faults.ReadFault) = ⊥

@@ -1,9 +1,11 @@
 //! Certificates: the claims about a program that a checker tests, and their spelling as text.
 #![tactic(auto)]
 
-ghost use Rattle.std.specs.Prelude.{ℕ, ◌≡◌, ◌<◌, ◌⊎◌, true, false, is_some, is_err, IfSome, IfOk, IfErr, OnOk, OnErr};
+ghost use Rattle.std.specs.Prelude.{ℕ, ◌≡◌, ◌<◌, ◌⊎◌, true, false, is_some, is_err, IfSome, IfOk, IfErr, IsErrAnd, OnOk, OnErr};
 ghost use Rattle.std.specs.Io.KnownBytes.{Appends};
 ghost use Rattle.streams.specs.Bytes.{AppendsFront};
+ghost use Rattle.certificate.specs.declared.Version.{Version as Spelled};
+ghost use Rattle.certificate.specs.declared.CertificateFault.{CertificateFault as Fault};
 ghost use Rattle.certificate.specs.declared.CertificateFault.TheVariants.{NoMemory};
 ghost use Rattle.certificate.specs.Faults.{IsText, HasFault};
 ghost use Rattle.wordset.specs.Words.{everything};
@@ -32,6 +34,7 @@ mod fields;
 mod line;
 mod lines;
 mod parser;
+mod pieces;
 mod progress;
 
 /// The version of a certificate's text.
@@ -90,13 +93,17 @@ impl<A: Allocator + Copy> Certificate<A> {
         ensures found { IfOk result (λ c. bytes.now ≡ text (meaning c)) }
         ensures lines { IfOk result (λ c. AreLines (meaning c)) }
         ensures text { IfOk result (λ c. IsText (meaning c).version bytes.now) }
+        // Each certificate is read, unless memory is refused.
+        ensures only { (v : Spelled) → IsText v bytes.now → IfErr result (λ f. f ≡ NoMemory) }
+        // Another fault comes where it is the text's,
         ensures refused { IfErr result (λ fault. (fault ≡ NoMemory) ⊎ HasFault bytes.now fault) }
+        // and whichever is the text's comes, unless memory is refused.
+        ensures exact { (fault : Fault) → HasFault bytes.now fault →
+            IsErrAnd result (λ f. (f ≡ NoMemory) ⊎ (f ≡ fault)) }
     {
         let mut parser = Parser::new(alloc);
-        for byte in bytes {
-            if let Err(fault) = parser.take(*byte) {
-                return Err(fault);
-            }
+        if let Err(fault) = parser.take_all(bytes) {
+            return Err(fault);
         }
         parser.finish()
     }
@@ -197,6 +204,9 @@ pub enum CertificateFault {
     /// A growth of what is kept of the text was refused.
     #[error("NoMemory")]
     NoMemory,
+    /// A read failed.
+    #[error("ReadFault")]
+    ReadFault,
 }
 
 /// A sample certificate has the text that its lines are meant to have.

@@ -156,6 +156,23 @@ impl<A: Allocator> Parser<A> {
         Ok(())
     }
 
+    /// Takes these bytes, up to the one that brings a fault.
+    pub fn take_all(&mut self, bytes: &[u8]) -> Result<(), CertificateFault>
+        requires { IsSmall self.old }
+        ensures small { IsSmall self.new }
+        ensures count { IfOk result (λ u. self.new.count ≡ self.old.count + length bytes.now) }
+        ensures seen { (before : List ℕ) → Seen self.old before → self.old.count ≡ length before →
+            MatchResult result (λ u. Seen self.new (before ++ bytes.now))
+            (Refuses (before ++ bytes.now)) }
+    {
+        for byte in bytes {
+            if let Err(fault) = self.take(*byte) {
+                return Err(fault);
+            }
+        }
+        Ok(())
+    }
+
     /// The certificate, where the bytes are a whole one.
     pub fn finish(self) -> Result<Certificate<A>, CertificateFault>
         requires small { IsSmall self }

@@ -64,6 +64,7 @@ fault_more bytes more faults.TooMany long (inr h) =
     let same : take most_bytes (bytes ++ more) ≡ take most_bytes bytes = take-append-le most_bytes bytes more (omega (arith, long)) in
     inr (omega (arith, long, length-append bytes more), subst (λ (front : List ℕ). NoFeed front ⊎ HasRest front) (sym same) h.1)
 fault_more bytes more faults.NoMemory long h = absurd h
+fault_more bytes more faults.ReadFault long h = absurd h
 
 of_all : (had : Option (List ℕ)) (bytes : List ℕ) (fault : CertificateFault) → IfSome had (λ all. bytes ≡ take 1048577 all) → HasFault bytes fault → IfSome had (λ all. HasFault all fault)
 of_all None bytes fault is h = tt
@@ -83,6 +84,8 @@ known fault had bytes other is (inr h) = of_all had bytes fault is h
 pub certificate_fault_is : (fault : CertificateFault) (failed : Bool) (had left : Option (List ℕ)) (bytes : List ℕ) → IfSome had (λ all. bytes ≡ take 1048577 all) →
     (fault ≡ faults.NoMemory) ⊎ HasFault bytes fault → IsCertificateInputFault (input failed had left) (fault_of_certificate fault)
 certificate_fault_is faults.NoMemory failed had left bytes is h = tt
+certificate_fault_is faults.ReadFault failed had left bytes is (inl e) = absurd (cc)
+certificate_fault_is faults.ReadFault failed had left bytes is (inr h) = absurd h
 certificate_fault_is faults.Version failed had left bytes is h = known faults.Version had bytes (λ e. cc) is h
 certificate_fault_is (faults.BadLine n) failed had left bytes is h = known (faults.BadLine n) had bytes (λ e. cc) is h
 certificate_fault_is (faults.Order n) failed had left bytes is h = known (faults.Order n) had bytes (λ e. cc) is h

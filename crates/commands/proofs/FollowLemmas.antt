@@ -1,10 +1,10 @@
 -- Runs that are joined, event by event.
 use Rattle.std.proofs.Common.{ℕ, zero, suc, ◌≡◌, ◌+◌, ◌*◌, ◌%◌, ◌<◌, Bool, true, false, List, [], ◌∷◌, ◌++◌, length, take, drop, get_or, refl, sym, ◌∙◌, ap, subst, append_assoc, append-nil, add_assoc, add-zero, zero-add, length-append, arith}
-use Rattle.std.specs.Prelude.{Option}
+use Rattle.std.specs.Prelude.{Option, Result, Ok, Err, OnErr}
 use Rattle.std.specs.Io.KnownBytes.{Appends}
 use Rattle.std.proofs.KnownBytes.{Appends-nil, Appends-trans}
 use Rattle.std.proofs.Math.Seq.{take-append-add}
-use Rattle.std.proofs.lemmas.List.{take-append-drop, take_more}
+use Rattle.std.proofs.lemmas.List.{take-append-drop, take_more, take_all}
 use Rattle.streams.specs.Bytes.{AppendsFront}
 use Rattle.instruct.specs.declared.Profile.{Profile}
 use Rattle.peripherals.specs.declared.Event.{Event}
@@ -21,7 +21,7 @@ use Rattle.commands.specs.Course.{Ran, event_of_round}
 use Rattle.commands.specs.Follows.{Follows, Ended, Stuck, Stopped, Went, IsTraceOfSome, end_of, goes_on, counted, rounds}
 use Rattle.processor.specs.Machine.{State}
 use Rattle.commands.specs.Trace.{line_of, trace_of, traced}
-use Rattle.commands.specs.Writes.{FrontOf}
+use Rattle.commands.specs.Writes.{FrontOf, Writes}
 
 -- Some events, and then others: whatever follows from x follows after these events from w.
 abbrev pub Leads : Profile → Bool → List Event → WorldState → List ℕ → ℕ → WorldState → Type 0
@@ -162,6 +162,34 @@ came_to_fault p ends trace es i e w x y n old mid new came within is asked happe
       is = record { count = i + 1; steps = n + one.steps; end = one.end; final = y; follows = rw (more_events es i e within is) follows };
       front = front_after old mid new came.lines (trace_of p x e y) wrote front;
     }
+
+-- no more memory after some events: their lines are there
+pub came_to_refusal : (p : Profile) (ends trace : Bool) (es : List Event) (i : ℕ) (w x : WorldState) (n : ℕ) (old mid new : Option (List ℕ)) →
+    Came p ends trace (take i es) w n x old mid → trace ≡ true → new ≡ mid → Writes (IsTraceOfSome p ends es w) old new
+came_to_refusal p ends trace es i w x n old mid new came asked kept =
+    let follows : Follows p ends (take i es ++ []) w (came.lines ++ []) (n + 0) (end_of x) x = came.leads [] [] 0 (end_of x) x (Ended x) in
+    let wrote : Appends old mid came.lines = rw asked at came.wrote in
+    record {
+      text = came.lines;
+      is = record { count = i; steps = n; end = end_of x; final = x; follows = rw (append-nil (take i es), append-nil came.lines, add-zero n) at follows };
+      written = rw kept wrote;
+    }
+
+-- all events
+pub ran_whole : (p : Profile) (ends trace : Bool) (es : List Event) (w x : WorldState) (outcome : Outcome) (old new : Option (List ℕ)) →
+    Ran p ends trace es w outcome x old new → trace ≡ true → Writes (IsTraceOfSome p ends es w) old new
+ran_whole p ends trace es w x outcome old new ran asked =
+    let wrote : Appends old new ran.lines = rw asked at ran.wrote in
+    record {
+      text = ran.lines;
+      is = record { count = length es; steps = outcome.steps; end = outcome.end; final = x; follows = rw (take_all (length es) es (omega arith)) ran.follows };
+      written = wrote;
+    }
+
+-- what holds anyway holds of an answer that is a fault
+pub of_fault : {T E X : Type 0} (r : Result T E) → X → OnErr r X
+of_fault (Ok v) x = tt
+of_fault (Err e) x = x
 
 -- rounds by index
 rounds_more : (n : ℕ) → length (rounds (suc n)) ≡ length (rounds n) + 3

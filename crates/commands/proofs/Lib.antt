@@ -7,3 +7,5 @@ pub mod PartLemmas
 pub mod RunLemmas
 pub mod AssembleLemmas
 pub mod CheckLemmas
+pub mod LaterLemmas
+pub mod Answered

@@ -70,7 +70,7 @@ long_text (Some bytes) text is long = record {
 }
 
 -- sources whose parts are short are short
-short_sources : (xs : List (Option (List ℕ))) (ys : List (List ℕ)) → AreRead xs ys → AllByRecursion IsShort ys → AllByRecursion (λ source. IfSome source IsShort) xs
+pub short_sources : (xs : List (Option (List ℕ))) (ys : List (List ℕ)) → AreRead xs ys → AllByRecursion IsShort ys → AllByRecursion (λ source. IfSome source IsShort) xs
 short_sources [] [] reads all = tt
 short_sources [] (y ∷ ys) reads all = absurd reads
 short_sources (x ∷ xs) [] reads all = absurd reads

@@ -61,6 +61,7 @@ fault_of_declaration fault = Declared fault
 
 abbrev pub fault_of_certificate : CertificateFault → Fault
 fault_of_certificate certificate_fault.NoMemory = fault.NoMemory
+fault_of_certificate certificate_fault.ReadFault = Device Read
 fault_of_certificate fault = Certificate fault
 
 -- The text has this fault; a want of memory is none.

@@ -73,3 +73,18 @@ pub record IsPartOfEventRun (options : RunOptions) (frames list : Option (List �
   pub events : List Event
   pub spelled : HasEvents list events
   pub part : IsPartOf options false events image text
+
+-- The frames are a tape, a trace is asked for, and the text is that of the run of its image by some first events of so
+-- many rounds.
+pub record IsTraceOfRounds (options : RunOptions) (frames : Option (List ℕ)) (text : List ℕ) : Type 0 where
+  pub image : List (Option ℕ)
+  pub tape : HasImage frames image
+  pub is : IsTraceOf options true (rounds options.rounds) image text
+
+-- The same by some first events of those that a list spells.
+pub record IsTraceOfEvents (options : RunOptions) (frames list : Option (List ℕ)) (text : List ℕ) : Type 0 where
+  pub image : List (Option ℕ)
+  pub tape : HasImage frames image
+  pub events : List Event
+  pub spelled : HasEvents list events
+  pub is : IsTraceOf options false events image text

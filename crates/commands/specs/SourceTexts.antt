@@ -1,5 +1,5 @@
 -- The parts of a source as they are read.
-use Rattle.std.specs.Prelude.{ℕ, ◌≡◌, ◌≤◌, ◌<◌, Bool, true, false, ◌||◌, nat_lt, IfSome, List, [], ◌∷◌, Option, Some, length, take, slice_get}
+use Rattle.std.specs.Prelude.{ℕ, ◌≡◌, ◌+◌, ◌≤◌, ◌<◌, Bool, true, false, ◌||◌, nat_lt, IfSome, List, [], ◌∷◌, Option, Some, length, take, drop, slice_get}
 use Rattle.std.specs.List.{AllByRecursion}
 use Rattle.streams.specs.Bytes.{Gave}
 use Rattle.pal_acts.specs.declared.code.Code.TheVariants.{TooLong}
@@ -58,3 +58,13 @@ ArePartsFault marks sources left (Source fault) =
 ArePartsFault marks sources left (Device Read) = FailsToReadPart marks sources left
 ArePartsFault marks sources left fault.NoMemory = is_bad_number (length sources) ≡ false
 ArePartsFault marks sources left _ = ⊥
+
+-- Of sources with these bytes, this one holds a part that is too long.
+pub record IsLongAt (sources : List (Option (List ℕ))) (at : ℕ) : Type 0 where
+  pub part : List ℕ
+  pub there : slice_get sources at ≡ Some (Some part)
+  pub long : 65536 < length part
+
+-- The sources after this one are as they were.
+abbrev pub LeavesThoseAfter : {S : Type 0} → ℕ → List S → List S → Type 0
+LeavesThoseAfter at old new = drop (at + 1) new ≡ drop (at + 1) old

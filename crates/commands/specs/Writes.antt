@@ -1,5 +1,5 @@
 -- What a command wrote: a text that is right for what was read, or a front of one.
-use Rattle.std.specs.Prelude.{ℕ, List, Option}
+use Rattle.std.specs.Prelude.{ℕ, ◌≡◌, ◌⊎◌, List, Option}
 use Rattle.std.specs.Io.KnownBytes.{Appends}
 use Rattle.streams.specs.Bytes.{AppendsFront}
 
@@ -14,3 +14,7 @@ pub record FrontOf (P : List ℕ → Type 0) (old new : Option (List ℕ)) : Typ
   pub text : List ℕ
   pub is : P text
   pub front : AppendsFront old new text
+
+-- What a sink tells stayed as it was, or such a text was appended to it.
+abbrev pub WritesNothingOr : (List ℕ → Type 0) → Option (List ℕ) → Option (List ℕ) → Type 0
+WritesNothingOr P old new = (new ≡ old) ⊎ Writes P old new

@@ -1,6 +1,6 @@
 //! The commands that assemble a source.
 
-ghost use Rattle.std.specs.Prelude.{◌≡◌, Err, false, true, length, map, IfOk, IfErr, OnOk, OnErr};
+ghost use Rattle.std.specs.Prelude.{◌≡◌, Err, false, true, length, map, IfOk, IfErr, OnOk, OnErr, Some, slice_get, ℕ};
 ghost use Rattle.std.specs.List.{AllByRecursion, list_any};
 ghost use Rattle.pal_acts.specs.Permanent.{permanent_symbols};
 ghost use Rattle.pal_asm.specs.Listings.{Lists};
@@ -9,7 +9,7 @@ ghost use Rattle.pal_acts.specs.declared.code.Code.TheVariants.{TooLong};
 ghost use Rattle.pal_asm.specs.Sources.{fault_at, texts, Means};
 ghost use Rattle.commands.specs.AssembleText.{IsAssembled, IsAssemblyFault, IsListFault, IsListing, IsSourceFault};
 ghost use Rattle.commands.specs.Faults.{fails_to_read, fails_to_write};
-ghost use Rattle.commands.specs.SourceTexts.{is_bad_number};
+ghost use Rattle.commands.specs.SourceTexts.{IsLongAt, LeavesThoseAfter, is_bad_number};
 ghost use Rattle.commands.specs.Writes.{FrontOf, Writes};
 ghost use Rattle.commands.specs.declared.status.Fault.TheVariants.{Source};
 ghost use Rattle.commands.specs.declared.status.Status.TheVariants.{Done};
@@ -95,6 +95,11 @@ pub fn assemble<A: Allocator + Copy, R: ByteSource, W: ByteSink>(
     // A bad number of sources is told, and nothing is read.
     ensures number { is_bad_number (length sources.old) ≡ true →
         (result ≡ Err (Source (fault_at TooLong 0 0))) × (sources.new ≡ sources.old) }
+    // The sources after one that is too long, or whose read failed, aren't read.
+    ensures unread { (at : ℕ) → IsLongAt (map R.remaining sources.old) at →
+        LeavesThoseAfter at sources.old sources.new }
+    ensures unread_after_failure { (at : ℕ) → slice_get (map R.mark sources.new) at ≡ Some true →
+        LeavesThoseAfter at sources.old sources.new }
 {
     let parts = read_parts(alloc, sources)?;
     let slices = lend(alloc, &parts)?;
@@ -133,6 +138,10 @@ pub fn list<A: Allocator + Copy, R: ByteSource, W: ByteSink>(
     ensures reads { list_any R.mark sources.new ≡ fails_to_read result }
     ensures number { is_bad_number (length sources.old) ≡ true →
         (result ≡ Err (Source (fault_at TooLong 0 0))) × (sources.new ≡ sources.old) }
+    ensures unread { (at : ℕ) → IsLongAt (map R.remaining sources.old) at →
+        LeavesThoseAfter at sources.old sources.new }
+    ensures unread_after_failure { (at : ℕ) → slice_get (map R.mark sources.new) at ≡ Some true →
+        LeavesThoseAfter at sources.old sources.new }
 {
     let parts = read_parts(alloc, sources)?;
     let slices = lend(alloc, &parts)?;

@@ -1,6 +1,6 @@
 //! Driving a world by events, in rounds or from a list.
 
-ghost use Rattle.std.specs.Prelude.{◌≡◌, ◌<◌, true, false, get_or, length, IfOk, IfErr, OnOk};
+ghost use Rattle.std.specs.Prelude.{◌≡◌, ◌<◌, true, false, get_or, length, IfOk, IfErr, OnErr, OnOk};
 ghost use Rattle.std.specs.Io.KnownBytes.{Appends};
 ghost use Rattle.streams.specs.Bytes.{AppendsFront};
 ghost use Rattle.peripherals.specs.Events.{Happens};
@@ -10,7 +10,7 @@ ghost use Rattle.commands.specs.Faults.{IsRunFault, fails_to_write};
 ghost use Rattle.commands.specs.Follows.{IsTraceOfSome, end_of};
 ghost use Rattle.commands.specs.Course.{Ran, ends_at_halt, event_of_round, events_in};
 ghost use Rattle.commands.specs.Trace.{trace_of, traced};
-ghost use Rattle.commands.specs.Writes.{FrontOf};
+ghost use Rattle.commands.specs.Writes.{FrontOf, Writes};
 
 use crate::status::Fault;
 use crate::trace::put_trace;
@@ -128,6 +128,7 @@ fn advance<A: Allocator, W: ByteSink>(
     ensures front { W.mark out.new ≡ true → AppendsFront (W.taken out.old) (W.taken out.new)
         (trace_of (profile_of world.old) (view world.old) event (view world.new)) }
     ensures silent { trace ≡ false → out.new ≡ out.old }
+    ensures kept { OnErr result (W.mark out.new ≡ false → W.taken out.new ≡ W.taken out.old) }
 {
     let at = world.cpu().pc;
     let word = world.cpu().memory.get(at);
@@ -159,6 +160,11 @@ pub fn follow<A: Allocator, W: ByteSink>(
         (view world.old))
         (W.taken out.old) (W.taken out.new) }
     ensures silent { trace ≡ false → out.new ≡ out.old }
+    // Where memory was refused, whole lines of some first events went out.
+    ensures traced { OnErr result (W.mark out.new ≡ false → trace ≡ true → Writes
+        (IsTraceOfSome (profile_of world.old) (ends_at_halt course.now) (events_in course.now)
+        (view world.old))
+        (W.taken out.old) (W.taken out.new)) }
 {
     let mut steps = 0;
     for index in 0..course.len() {

@@ -5,6 +5,7 @@ pub mod assembling;
 pub mod checking;
 pub mod follow;
 mod inputs;
+pub mod laws;
 pub mod running;
 mod sources;
 pub mod status;

@@ -5,8 +5,8 @@ ghost use Rattle.commands.specs.Dumping.{IsDump};
 ghost use Rattle.commands.specs.Faults.{is_fault_of_tape, fails_to_read, fails_to_write, IsEventRunFault, IsRunFault, IsTapeFault};
 ghost use Rattle.commands.specs.Course.{ends_at_halt, events_in};
 ghost use Rattle.commands.specs.Inputs.{input};
-ghost use Rattle.commands.specs.Running.{IsEventRun, IsPartOf, IsPartOfEventRun, IsPartOfRoundRun, IsRoundRun, IsRunOf, status_of};
-ghost use Rattle.commands.specs.Writes.{FrontOf, Writes};
+ghost use Rattle.commands.specs.Running.{IsEventRun, IsPartOf, IsPartOfEventRun, IsPartOfRoundRun, IsRoundRun, IsRunOf, IsTraceOf, IsTraceOfEvents, IsTraceOfRounds, status_of};
+ghost use Rattle.commands.specs.Writes.{FrontOf, Writes, WritesNothingOr};
 ghost use Rattle.commands.specs.declared.status.Status.TheVariants.{Done};
 
 use crate::follow::{Course, End, follow};
@@ -63,6 +63,9 @@ fn run_course<A: Allocator + Copy, W: ByteSink>(
         (W.taken out.old) (W.taken out.new) }
     ensures nothing { OnErr result (W.mark out.new ≡ false → options.trace ≡ false →
         W.taken out.new ≡ W.taken out.old) }
+    ensures traced { OnErr result (W.mark out.new ≡ false → options.trace ≡ true → Writes
+        (IsTraceOf options (ends_at_halt course.now) (events_in course.now) image.now)
+        (W.taken out.old) (W.taken out.new)) }
     ensures marks { W.mark out.new ≡ fails_to_write result }
 {
     let mut world = World::load(alloc, image, options.start, &Start::zero(), options.profile);
@@ -99,9 +102,13 @@ pub fn run<A: Allocator + Copy, R: ByteSource, W: ByteSink>(
     ensures front { W.mark out.new ≡ true →
         FrontOf (IsPartOfRoundRun options (R.remaining tape.old))
         (W.taken out.old) (W.taken out.new) }
-    // and any other fault leaves the output as it was, but for the trace.
+    // and any other fault leaves the output as it was; under a trace the whole lines of some first
+    // instructions may be there.
     ensures nothing { OnErr result (W.mark out.new ≡ false → options.trace ≡ false →
         W.taken out.new ≡ W.taken out.old) }
+    ensures traced { OnErr result (W.mark out.new ≡ false → options.trace ≡ true →
+        WritesNothingOr (IsTraceOfRounds options (R.remaining tape.old))
+        (W.taken out.old) (W.taken out.new)) }
     // A write failed exactly where the answer says so, and so did a read.
     ensures marks { W.mark out.new ≡ fails_to_write result }
     ensures reads { R.mark tape.new ≡ fails_to_read result }
@@ -137,6 +144,9 @@ pub fn run_events<A: Allocator + Copy, R: ByteSource, E: ByteSource, W: ByteSink
         (W.taken out.old) (W.taken out.new) }
     ensures nothing { OnErr result (W.mark out.new ≡ false → options.trace ≡ false →
         W.taken out.new ≡ W.taken out.old) }
+    ensures traced { OnErr result (W.mark out.new ≡ false → options.trace ≡ true →
+        WritesNothingOr (IsTraceOfEvents options (R.remaining tape.old) (E.remaining text.old))
+        (W.taken out.old) (W.taken out.new)) }
     ensures marks { W.mark out.new ≡ fails_to_write result }
     ensures reads { R.mark tape.new || E.mark text.new ≡ fails_to_read result }
     // The text isn't read after a tape that is refused, or whose read failed.

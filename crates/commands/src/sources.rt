@@ -1,12 +1,12 @@
 //! The parts of a source, read.
 
-ghost use Rattle.std.specs.Prelude.{◌≡◌, Err, true, false, length, map, IfOk, IfErr, IfSome, List, ℕ};
+ghost use Rattle.std.specs.Prelude.{◌≡◌, Err, true, false, length, map, IfOk, IfErr, IfSome, List, ℕ, Some, slice_get};
 ghost use Rattle.std.specs.List.{AllByRecursion, list_any};
 ghost use Rattle.pal_acts.specs.declared.code.Code.TheVariants.{TooLong};
 ghost use Rattle.pal_asm.specs.Sources.{fault_at, texts};
 ghost use Rattle.commands.specs.declared.status.Fault.TheVariants.{Source};
 ghost use Rattle.commands.specs.Faults.{fails_to_read};
-ghost use Rattle.commands.specs.SourceTexts.{AreRead, IsShort, IsPartFault, ArePartsFault, is_bad_number};
+ghost use Rattle.commands.specs.SourceTexts.{AreRead, IsShort, IsPartFault, ArePartsFault, IsLongAt, LeavesThoseAfter, is_bad_number};
 
 use crate::status::Fault;
 use pal_acts::Code;
@@ -75,6 +75,11 @@ pub(crate) fn read_parts<A: Allocator + Copy, R: ByteSource>(
     // A bad number of parts is told, and nothing is read.
     ensures told { is_bad_number (length sources.old) ≡ true →
         (result ≡ Err (Source (fault_at TooLong 0 0))) × (sources.new ≡ sources.old) }
+    // The sources after one that is too long, or whose read failed, aren't read.
+    ensures unread { (at : ℕ) → IsLongAt (map R.remaining sources.old) at →
+        LeavesThoseAfter at sources.old sources.new }
+    ensures unread_after_failure { (at : ℕ) → slice_get (map R.mark sources.new) at ≡ Some true →
+        LeavesThoseAfter at sources.old sources.new }
 {
     if is_bad_number(sources.len()) {
         return Err(too_long(0));

@@ -137,10 +137,11 @@ impl From<DeclarationFault> for Fault {
 impl From<CertificateFault> for Fault {
     ghost from_gives = { λ fault result. result ≡ fault_of_certificate fault };
 
-    /// A want of memory is not the text's fault.
+    /// A want of memory and a read that failed are not the text's fault.
     fn from(fault: CertificateFault) -> Fault {
         match fault {
             CertificateFault::NoMemory => Fault::NoMemory,
+            CertificateFault::ReadFault => Fault::Device(DeviceFault::Read),
             _ => Fault::Certificate(fault),
         }
     }

@@ -18,17 +18,17 @@ pub use facts::Condition;
 pub use judging::{Refusal, judge};
 pub use verdict::{Certified, CertifyFault, certify};
 
-/// The headline: whenever every condition holds of a tape's words, a declaration and a certificate,
-/// then in every run from the declared start, whatever unset memory, the accumulator, the link and
-/// MQ hold and however keys, tape frames, completions and switches interleave with instructions,
-/// control stays in the running routine's body, writes hit only declared cells, fixed code words
-/// never change, each return reaches a declared place after its own call, halts are declared, and
-/// listed reads are kept.
+/// The headline. Whenever `certify` answers yes for a tape, a declaration and a certificate, then in
+/// every run from the declared start, whatever unset memory holds and however keys, tape frames,
+/// completions and switches interleave with instructions, control stays in the current routine's
+/// body, writes hit only declared cells, fixed code words never change, each return reaches a
+/// declared place after its own call, halts are declared, and listed reads are kept.
 ///
-/// Its premises are that the machine follows the instruction table of the declared profile in one
-/// field with interrupts off, that memory holds the tape's words at the start, and that the operator
-/// starts at the declared start, presses CONTINUE at pauses alone, sets the switches freely and
-/// deposits nothing. It doesn't
+/// `certify` answers yes only where every condition holds; that this is enough is said here, over the
+/// definitions alone. The accumulator, the link and MQ are free too. Its premises are that the
+/// machine follows the instruction table of the declared profile in one field with interrupts off,
+/// that memory holds the tape's words at the start, and that the operator starts at the declared
+/// start, presses CONTINUE at pauses alone, sets the switches freely and deposits nothing. It doesn't
 /// say that a run ends, that a program computes what its author meant, or that a declaration is
 /// wise; and it says nothing of reads where none are listed.
 pub fn headline()

@@ -1,9 +1,10 @@
-use Rattle.std.proofs.Common.{rules, ◌≡◌, ◌+◌, ◌<◌, [], ◌∷◌, ◌++◌, map, length, ◌∙◌, false, Vec, Err, ℕ}
+use Rattle.std.proofs.Common.{rules, ◌≡◌, ◌+◌, ◌<◌, ◌≤◌, [], ◌∷◌, ◌++◌, map, length, ◌∙◌, false, Vec, Err, ℕ}
 use Rattle.commands.specs.Faults.{fails_to_read}
 use Rattle.std.specs.List.{AllByRecursion}
 use Rattle.std.proofs.lemmas.List.{map-append}
 use Rattle.commands.specs.SourceTexts.{IsShort}
 use Rattle.commands.proofs.PartLemmas.{all_push, none_marked, one_tells, none_more, bad_number, parts_fault}
+use Rattle.commands.proofs.LaterLemmas.{unread_long, unread_failed, read_whole, marked_whole}
 use Rattle.commands.proofs.SourceLemmas.{reads_next, unmarked_next, same_next}
 use Rattle.commands.proofs.sources.read_parts.Goals as goal
 
@@ -47,3 +48,37 @@ loop-source-preserved g c =
     rw (map-append (λ part. part.items) c.loop-source.parts.items (c.in-Ok.part ∷ [])) (all_push IsShort (map (λ part. part.items) c.loop-source.parts.items) c.in-Ok.part.items inv.1 c.in-Ok.ensures.fits) in
     let none = none_more g.R.ByteSource.mark c.loop-source.sources c.loop-source.source-index c.read_part.new.source within inv.2 (search rules) in
     (rw pushed reads, rw pushed fit, none, search (rules, unmarked_next), same_next c.loop-source.sources c.args.sources.now c.loop-source.source-index c.read_part.new.source within short inv.4, inv.5)
+
+pub returns-then-is_err-clause-unread : goal.returns-then-is_err-clause-unread
+returns-then-is_err-clause-unread g c = λ at long.
+    let inv = c.loop-source.invariant in
+    unread_long g.R.ByteSource.remaining (λ part. part.items) c.loop-source.sources c.args.sources.now c.loop-source.source-index c.read_part.new.source c.loop-source.parts.items at inv.0 inv.1 inv.4 long
+
+pub returns-then-is_err-clause-unread_after_failure : goal.returns-then-is_err-clause-unread_after_failure
+returns-then-is_err-clause-unread_after_failure g c = λ at there.
+    let inv = c.loop-source.invariant in
+    let within : c.loop-source.source-index < length c.loop-source.sources = search rules in
+    unread_failed g.R.ByteSource.mark c.loop-source.sources c.args.sources.now c.loop-source.source-index c.read_part.new.source at within inv.2 inv.4 there
+
+pub returns-in-Err-clause-unread : goal.returns-in-Err-clause-unread
+returns-in-Err-clause-unread g c = λ at long.
+    let inv = c.loop-source.invariant in
+    unread_long g.R.ByteSource.remaining (λ part. part.items) c.loop-source.sources c.args.sources.now c.loop-source.source-index c.read_part.new.source c.loop-source.parts.items at inv.0 inv.1 inv.4 long
+
+pub returns-in-Err-clause-unread_after_failure : goal.returns-in-Err-clause-unread_after_failure
+returns-in-Err-clause-unread_after_failure g c = λ at there.
+    let inv = c.loop-source.invariant in
+    let within : c.loop-source.source-index < length c.loop-source.sources = search rules in
+    unread_failed g.R.ByteSource.mark c.loop-source.sources c.args.sources.now c.loop-source.source-index c.read_part.new.source at within inv.2 inv.4 there
+
+pub returns-clause-unread : goal.returns-clause-unread
+returns-clause-unread g c = λ at long.
+    let inv = c.loop-source.invariant in
+    let past : length c.args.sources.now ≤ c.loop-source.source-index = search rules in
+    read_whole g.R.ByteSource.remaining (λ part. part.items) c.loop-source.sources c.args.sources.now c.loop-source.source-index c.loop-source.parts.items at past inv.0 inv.1 long
+
+pub returns-clause-unread_after_failure : goal.returns-clause-unread_after_failure
+returns-clause-unread_after_failure g c = λ at there.
+    let inv = c.loop-source.invariant in
+    let past : length c.loop-source.sources ≤ c.loop-source.source-index = search rules in
+    marked_whole g.R.ByteSource.mark c.loop-source.sources c.args.sources.now c.loop-source.source-index at past inv.2 there

@@ -1,0 +1,13 @@
+use Rattle.certificate.specs.Serving.{IsUnanswered}
+use Rattle.certificate.proofs.ServedLemmas.{gave, serves_only, serves_exact, serves_unanswered}
+use Rattle.certificate.proofs.Certificate.read_from.Goals as goal
+
+pub returns-clause-only : goal.returns-clause-only
+returns-clause-only g c = serves_only _ _ c.read_source.result c.read_source.ensures.serves
+
+pub returns-clause-exact : goal.returns-clause-exact
+returns-clause-exact g c = serves_exact _ _ c.read_source.result c.read_source.ensures.serves
+
+pub returns-clause-unanswered : goal.returns-clause-unanswered
+returns-clause-unanswered g c = λ e.
+    gave _ _ c.read_source.result c.read_source.ensures.serves IsUnanswered (serves_unanswered _ _ c.read_source.result c.read_source.ensures.serves e)

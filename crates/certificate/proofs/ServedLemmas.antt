@@ -1,0 +1,332 @@
+-- What a source gave, and what it brings.
+use Rattle.std.proofs.Common.{◌≡◌, ◌⊎◌, ℕ, zero, suc, ◌+◌, ◌-◌, ◌<◌, ◌≤◌, Bool, true, false, List, [], ◌∷◌, ◌++◌, length, take, drop, Option, Some, None, Result, Ok, Err, refl, ap, ◌∙◌, sym, subst, inl, inr, arith, append_assoc, append-nil, length-append, get_or, length-take-le}
+use Rattle.std.specs.Prelude.{replicate, IfOk, IfErr, IfSome, IsErrAnd, MatchResult}
+use Rattle.std.specs.Io.KnownBytes.{Consumes, Keeps, IsAtEnd}
+use Rattle.std.proofs.KnownBytes.{Consumes-nil, Consumes-trans, Consumes-kept, Consumes-whole}
+use Rattle.std.proofs.lemmas.Bool.{true≢false}
+use Rattle.std.proofs.lemmas.List.{take_more, take-append-le, take-append-drop, length-replicate}
+use Rattle.std.proofs.Math.Seq.{take-append-add}
+use Rattle.streams.specs.Bytes.{Gave}
+use Rattle.certificate.specs.declared.Version.{Version}
+use Rattle.certificate.specs.declared.CertificateFault.{CertificateFault}
+use Rattle.certificate.specs.declared.CertificateFault.TheVariants as faults
+use Rattle.certificate.specs.declared.progress.Progress.{Progress}
+use Rattle.certificate.specs.declared.parser.Parser.{Parser}
+use Rattle.certificate.specs.declared.lines.KeptLines.{KeptLines}
+use Rattle.certificate.specs.Order.{any, is_end}
+use Rattle.certificate.specs.Faults.{most_bytes, NoFeed, IsText, HasRest, HasFault}
+use Rattle.certificate.specs.Kept.{Kept, meaning}
+use Rattle.certificate.specs.Parser.{Parts, Seen, IsSmall, Refuses, IsParsed}
+use Rattle.certificate.specs.Serving.{Settles, IsUnanswered, is_read_fault, failed_to_read}
+use Rattle.certificate.specs.Served.{CameTo, IsAnswered, Serves}
+use Rattle.certificate.proofs.OneFaultLemmas.{no_fault, one_fault}
+
+-- Bytes with no line feed.
+zeros_feed : (n : ℕ) → NoFeed (replicate n 0)
+zeros_feed zero = tt
+zeros_feed (suc n) = (λ e. cc, zeros_feed n)
+
+both_feed : (xs ys : List ℕ) → NoFeed xs → NoFeed ys → NoFeed (xs ++ ys)
+both_feed [] ys f g = g
+both_feed (x ∷ xs) ys f g = (f.0, both_feed xs ys f.1 g)
+
+front_feed : (xs ys : List ℕ) → NoFeed (xs ++ ys) → NoFeed xs
+front_feed [] ys f = tt
+front_feed (x ∷ xs) ys f = (f.0, front_feed xs ys f.1)
+
+taken_feed : (n : ℕ) (xs : List ℕ) → NoFeed xs → NoFeed (take n xs)
+taken_feed n xs f = front_feed (take n xs) (drop n xs) (subst NoFeed (sym (take-append-drop n xs)) f)
+
+-- One byte of a piece after those before it.
+pub piece_more : (before piece : List ℕ) (i : ℕ) → i < length piece → before ++ take (i + 1) piece ≡ before ++ take i piece ++ get_or piece i 0 ∷ []
+piece_more before piece i h = ap (λ (x : List ℕ). before ++ x) (take_more piece i 0 h) ∙ sym (append_assoc before (take i piece) (get_or piece i 0 ∷ []))
+
+pub piece_count : (before piece : List ℕ) (n i : ℕ) → i ≤ length piece → n ≡ length before → n + i ≡ length (before ++ take i piece)
+piece_count before piece n i h e = sym (length-append before (take i piece) ∙ (ap (λ k. length before + k) (length-take-le i piece h) ∙ ap (λ k. k + i) (sym e)))
+
+-- What is refused of a front of the piece is refused of it.
+pub piece_refused : (before piece : List ℕ) (i : ℕ) (fault : CertificateFault) → i < length piece → Refuses (before ++ take i piece ++ get_or piece i 0 ∷ []) fault →
+    Refuses (before ++ piece) fault
+piece_refused before piece i fault h (inl e) = inl e
+piece_refused before piece i fault h (inr settled) = inr (λ rest. subst (λ (x : List ℕ). HasFault x fault) (whole rest) (settled (drop (i + 1) piece ++ rest)))
+  where
+    split : (before ++ take i piece ++ get_or piece i 0 ∷ []) ++ drop (i + 1) piece ≡ before ++ piece
+    split = ap (λ (x : List ℕ). x ++ drop (i + 1) piece) (sym (piece_more before piece i h)) ∙
+        (append_assoc before (take (i + 1) piece) (drop (i + 1) piece) ∙ ap (λ (x : List ℕ). before ++ x) (take-append-drop (i + 1) piece))
+
+    whole : (rest : List ℕ) → (before ++ take i piece ++ get_or piece i 0 ∷ []) ++ (drop (i + 1) piece ++ rest) ≡ before ++ piece ++ rest
+    whole rest = sym (append_assoc (before ++ take i piece ++ get_or piece i 0 ∷ []) (drop (i + 1) piece) rest) ∙ ap (λ (x : List ℕ). x ++ rest) split
+
+-- What may follow the bytes that the parser took.
+module _ {A : Type 0} (kept : KeptLines A) (text line bytes : List ℕ) (long : Bool) where
+  -- Bytes with no line feed go on with the line.
+  goes_on : (o : Option Progress) → Parts text kept o line long bytes → (more : List ℕ) → NoFeed more → NoFeed (bytes ++ more) ⊎ HasRest (bytes ++ more)
+  goes_on None h more feed =
+      let none : text ≡ [] = h.read.0 in
+      let same : bytes ≡ h.tail = h.split ∙ ap (λ (x : List ℕ). x ++ h.tail) none in
+      inl (both_feed bytes more (rw same h.feed) feed)
+  goes_on (Some p) h more feed = inr (record {
+    version = p.version;
+    before = h.read.before;
+    order = h.read.order;
+    rest = h.tail ++ more;
+    split = ap (λ (x : List ℕ). x ++ more) (h.split ∙ ap (λ (x : List ℕ). x ++ h.tail) h.read.is) ∙ append_assoc _ h.tail more;
+    feed = both_feed h.tail more h.feed feed;
+  })
+
+  -- There may follow too many,
+  too_long : (o : Option Progress) → Parts text kept o line long bytes → (k : ℕ) → length bytes + k ≡ most_bytes → HasFault (bytes ++ replicate (k + 1) 0) faults.TooMany
+  too_long o h k most =
+      let n : length (bytes ++ replicate (k + 1) 0) ≡ length bytes + (k + 1) = length-append bytes (replicate (k + 1) 0) ∙ ap (λ i. length bytes + i) (length-replicate (k + 1) 0) in
+      let t : take most_bytes (bytes ++ replicate (k + 1) 0) ≡ bytes ++ take k (replicate (k + 1) 0) =
+      ap (λ i. take i (bytes ++ replicate (k + 1) 0)) (sym most) ∙ take-append-add bytes (replicate (k + 1) 0) k in
+      inr (omega arith, subst (λ (x : List ℕ). NoFeed x ⊎ HasRest x) (sym t) (goes_on o h (take k (replicate (k + 1) 0)) (taken_feed k _ (zeros_feed (k + 1)))))
+
+  -- or nothing.
+  other_end : (p : Progress) → Parts text kept (Some p) line long bytes → length bytes ≤ most_bytes → HasFault bytes faults.TooMany → ⊥
+  other_end p h few most = go h.tail (any is_end h.read.before) refl refl
+    where
+      whole : HasRest bytes
+      whole = record {
+        version = p.version;
+        before = h.read.before;
+        order = h.read.order;
+        rest = h.tail;
+        split = h.split ∙ ap (λ (x : List ℕ). x ++ h.tail) h.read.is;
+        feed = h.feed;
+      }
+
+      other : faults.BadLine (length h.read.before + 2) ≡ faults.TooMany → ⊥
+      other e = cc
+
+      lacking : (any is_end h.read.before ≡ true → h.tail ≡ [] → ⊥) → ⊥
+      lacking lacks = other (one_fault bytes (faults.BadLine (length h.read.before + 2)) faults.TooMany
+          (inr (record { lines = whole; few = few; number = refl; lacks = lacks })) most)
+
+      go : (tail : List ℕ) (ended : Bool) → h.tail ≡ tail → any is_end h.read.before ≡ ended → ⊥
+      go tail false e f = lacking (λ g none. true≢false (sym g ∙ f))
+      go (x ∷ tail) true e f = lacking (λ g none. let z : (x ∷ tail) ≡ [] = sym e ∙ none in absurd (cc))
+      go [] true e f = no_fault p.version bytes faults.TooMany
+          (record {
+            lines = h.read.before;
+            order = h.read.order;
+            ended = f;
+            few = few;
+            text = h.split ∙ (ap (λ (x : List ℕ). text ++ x) e ∙ (append-nil text ∙ h.read.is));
+          }) most
+
+  no_version : Parts text kept None line long bytes → length bytes ≤ most_bytes → HasFault bytes faults.TooMany → ⊥
+  no_version h few most =
+      let none : text ≡ [] = h.read.0 in
+      let same : bytes ≡ h.tail = h.split ∙ ap (λ (x : List ℕ). x ++ h.tail) none in
+      let e : faults.Version ≡ faults.TooMany = one_fault bytes faults.Version faults.TooMany (inr (rw same h.feed, few)) most in absurd (cc)
+
+  -- So they bring no answer.
+  pub seen_open : (o : Option Progress) → Parts text kept o line long bytes → length bytes ≤ most_bytes → IsUnanswered bytes
+  seen_open o h few fault settled = go o h
+    where
+      k : ℕ
+      k = most_bytes - length bytes
+
+      many : (o : Option Progress) → Parts text kept o line long bytes → HasFault bytes faults.TooMany
+      many o h =
+          let e : fault ≡ faults.TooMany = one_fault _ fault faults.TooMany (settled (replicate (k + 1) 0)) (too_long o h k (omega arith)) in
+          subst (λ f. HasFault bytes f) e (subst (λ (x : List ℕ). HasFault x fault) (append-nil bytes) (settled []))
+
+      go : (o : Option Progress) → Parts text kept o line long bytes → ⊥
+      go None h = no_version h few (many None h)
+      go (Some p) h = other_end p h few (many (Some p) h)
+
+-- Nor does any front of them.
+pub front_open : (xs ys : List ℕ) → IsUnanswered (xs ++ ys) → IsUnanswered xs
+front_open xs ys h fault settled =
+    h fault (λ rest. subst (λ (x : List ℕ). HasFault x fault) (sym (append_assoc xs ys rest)) (settled (ys ++ rest)))
+
+pub taken_open : (n : ℕ) (given : List ℕ) → IsUnanswered given → IsUnanswered (take n given)
+taken_open n given h = front_open (take n given) (drop n given) (subst IsUnanswered (sym (take-append-drop n given)) h)
+
+-- The last piece alone may lie past the answer.
+prompt_after : (given piece : List ℕ) → IsUnanswered given → length piece ≤ 512 → (n : ℕ) → n + 512 ≤ length (given ++ piece) → IsUnanswered (take n (given ++ piece))
+prompt_after given piece h short n le =
+    let within : n ≤ length given = (let e = length-append given piece in omega (arith, e)) in
+    rw (take-append-le n given piece within) (taken_open n given h)
+
+-- No such fault is that of a read.
+pub no_read : (bytes : List ℕ) (fault : CertificateFault) → HasFault bytes fault → is_read_fault fault ≡ false
+no_read bytes faults.Version h = refl
+no_read bytes (faults.BadLine n) h = refl
+no_read bytes (faults.Order n) h = refl
+no_read bytes faults.TooMany h = refl
+no_read bytes faults.NoMemory h = absurd h
+no_read bytes faults.ReadFault h = absurd h
+
+pub no_read_refused : (bytes : List ℕ) (fault : CertificateFault) → Refuses bytes fault → is_read_fault fault ≡ false
+no_read_refused bytes fault (inl e) = rw e refl
+no_read_refused bytes fault (inr h) = no_read (bytes ++ []) fault (h [])
+
+pub no_read_parsed : {X : Type 0} (P : X → Type 0) (bytes : List ℕ) (r : Result X CertificateFault) → MatchResult r P (HasFault bytes) → failed_to_read r ≡ false
+no_read_parsed P bytes (Ok x) h = refl
+no_read_parsed P bytes (Err fault) h = no_read bytes fault h
+
+-- The steps of reading.
+pub came_none : {A : Type 0} (a : Option (List ℕ)) (p : Parser A) → Seen p [] → IsSmall p → p.count ≡ 0 → CameTo a a p
+came_none a p seen small count = record { given = []; taken = Consumes-nil a; count = count; seen = seen; small = small }
+
+module _ {A : Type 0} (a b c : Option (List ℕ)) (p : Parser A) where
+  came_open : (came : CameTo a b p) → IsUnanswered came.given
+  came_open came =
+      let e : p.count ≡ length came.given = came.count in
+      let few : p.count ≤ most_bytes = came.small.count in
+      seen_open p.kept p.text.items p.line.items came.given p.is_long p.progress came.seen (omega arith)
+
+  pub serve_failed : CameTo a b p → Keeps b c → Serves a c (Err faults.ReadFault)
+  serve_failed came keeps = record {
+    given = came.given;
+    taken = Consumes-kept a b c came.given came.taken keeps;
+    count = (let e : p.count ≡ length came.given = came.count in let few : p.count ≤ most_bytes = came.small.count in omega arith);
+    prompt = λ n le. taken_open n came.given (came_open came);
+    answer = inl (refl, came_open came);
+  }
+
+  pub serve_end : (r : Result Kept CertificateFault) → (came : CameTo a b p) → Consumes b c [] → IsAtEnd c →
+      MatchResult r (IsParsed came.given) (HasFault came.given) → Serves a c r
+  serve_end r came taken end answer = record {
+    given = came.given;
+    taken = subst (Consumes a c) (append-nil came.given) (Consumes-trans a b c came.given [] came.taken taken);
+    count = (let e : p.count ≡ length came.given = came.count in let few : p.count ≤ most_bytes = came.small.count in omega arith);
+    prompt = λ n le. taken_open n came.given (came_open came);
+    answer = inr (ended r answer);
+  }
+    where
+      ended : (r : Result Kept CertificateFault) → MatchResult r (IsParsed came.given) (HasFault came.given) → IsAnswered came.given c r
+      ended (Ok k) h = (h, end)
+      ended (Err fault) h = inr (inr (h, end))
+
+  module _ (piece : List ℕ) (came : CameTo a b p) (taken : Consumes b c piece) where
+    both_count : length (came.given ++ piece) ≡ p.count + length piece
+    both_count = length-append came.given piece ∙ ap (λ n. n + length piece) (sym came.count)
+
+    pub came_on : (q : Parser A) → q.count ≡ p.count + length piece → IsSmall q → Seen q (came.given ++ piece) → CameTo a c q
+    came_on q count small seen = record {
+      given = came.given ++ piece;
+      taken = Consumes-trans a b c came.given piece came.taken taken;
+      count = count ∙ sym both_count;
+      seen = seen;
+      small = small;
+    }
+
+    pub serve_refused : (fault : CertificateFault) → length piece ≤ 512 → p.count + length piece ≤ 1048577 → Refuses (came.given ++ piece) fault → Serves a c (Err fault)
+    serve_refused fault short few refused = record {
+      given = came.given ++ piece;
+      taken = Consumes-trans a b c came.given piece came.taken taken;
+      count = (let e = both_count in omega (arith, e));
+      prompt = prompt_after came.given piece (came_open came) short;
+      answer = inr (told refused);
+    }
+      where
+        told : Refuses (came.given ++ piece) fault → IsAnswered (came.given ++ piece) c (Err fault)
+        told (inl e) = inl e
+        told (inr h) = inr (inl h)
+
+-- What the answer says of the source's bytes.
+abbrev pub Answer : Type 0
+Answer = Result Kept CertificateFault
+
+abbrev the_ok : Kept → Answer
+the_ok c = Ok c
+
+abbrev the_err : CertificateFault → Answer
+the_err fault = Err fault
+
+-- A read failed before the bytes brought an answer.
+abbrev pub Fails : List ℕ → Answer → Type 0
+Fails given r = (r ≡ Err faults.ReadFault) × IsUnanswered given
+
+abbrev pub IsFaultOf : Option (List ℕ) → CertificateFault → Type 0
+IsFaultOf old fault = (fault ≡ faults.NoMemory) ⊎ ((fault ≡ faults.ReadFault) ⊎ IfSome old (λ bytes. HasFault bytes fault))
+
+of_front : (old new : Option (List ℕ)) (given : List ℕ) (fault : CertificateFault) → Consumes old new given → Settles given fault → IfSome old (λ bytes. HasFault bytes fault)
+of_front None new given fault t s = tt
+of_front (Some bytes) None given fault t s = absurd t
+of_front (Some bytes) (Some rest) given fault t s = subst (λ (x : List ℕ). HasFault x fault) (sym t) (s rest)
+
+other : (c : Kept) → the_ok c ≡ the_err faults.ReadFault → ⊥
+other c e = absurd (cc)
+
+same_fault : (f g : CertificateFault) → the_err f ≡ the_err g → f ≡ g
+same_fault f g e = cc
+
+module _ (old new : Option (List ℕ)) where
+  pub gave : (r : Answer) (s : Serves old new r) (P : List ℕ → Type 0) → P s.given → Gave old new P
+  gave r s P h = go old s.taken
+    where
+      go : (old : Option (List ℕ)) → Consumes old new s.given → Gave old new P
+      go None t = tt
+      go (Some bytes) t = (s.given, t, h)
+
+  pub serves_parsed : (c : Kept) (s : Serves old new (Ok c)) → IsParsed s.given c × IsAtEnd new
+  serves_parsed c s = go s.answer
+    where
+      go : Fails s.given (Ok c) ⊎ IsAnswered s.given new (Ok c) → IsParsed s.given c × IsAtEnd new
+      go (inl h) = absurd (other c h.0)
+      go (inr h) = h
+
+  pub serves_found : (r : Answer) → Serves old new r → (P : List ℕ → Kept → Type 0) → ((bytes : List ℕ) (c : Kept) → IsParsed bytes c → P bytes c) →
+      IfOk r (λ c. IfSome old (λ bytes. P bytes c))
+  serves_found (Err fault) s P to = tt
+  serves_found (Ok c) s P to =
+      let h = serves_parsed c s in
+      Consumes-whole old new s.given (λ bytes. P bytes c) s.taken h.1 (to s.given c h.0)
+
+  pub serves_lines : (r : Answer) → Serves old new r → (P : Kept → Type 0) → ((bytes : List ℕ) (c : Kept) → IsParsed bytes c → P c) → IfOk r P
+  serves_lines (Err fault) s P to = tt
+  serves_lines (Ok c) s P to = to s.given c (serves_parsed c s).0
+
+  pub serves_refused : (r : Answer) → Serves old new r → IfErr r (IsFaultOf old)
+  serves_refused (Ok c) s = tt
+  serves_refused (Err fault) s = go s.answer
+    where
+      go : Fails s.given (Err fault) ⊎ IsAnswered s.given new (Err fault) → IsFaultOf old fault
+      go (inl h) = inr (inl (same_fault fault faults.ReadFault h.0))
+      go (inr (inl e)) = inl e
+      go (inr (inr (inl h))) = inr (inr (of_front old new s.given fault s.taken h))
+      go (inr (inr (inr h))) = inr (inr (Consumes-whole old new s.given (λ bytes. HasFault bytes fault) s.taken h.1 h.0))
+
+  pub serves_unanswered : (r : Answer) → (s : Serves old new r) → r ≡ Err faults.ReadFault → IsUnanswered s.given
+  serves_unanswered r s is = go r is s.answer
+    where
+      go : (r : Answer) → r ≡ Err faults.ReadFault → Fails s.given r ⊎ IsAnswered s.given new r → IsUnanswered s.given
+      go r e (inl h) = h.1
+      go (Ok c) e (inr h) = absurd (cc)
+      go (Err fault) e (inr h) = let f : fault ≡ faults.ReadFault = cc in absurd (none (rw f at h))
+        where
+          none : (faults.ReadFault ≡ faults.NoMemory) ⊎ (Settles s.given faults.ReadFault ⊎ (HasFault s.given faults.ReadFault × IsAtEnd new)) → ⊥
+          none (inl e) = absurd (cc)
+          none (inr (inl g)) = g []
+          none (inr (inr g)) = g.0
+
+  -- So no certificate is refused, and no fault is passed over.
+  pub serves_only : (r : Answer) → Serves old new r → IfSome old (λ bytes. (v : Version) → IsText v bytes →
+      IfErr r (λ fault. (fault ≡ faults.NoMemory) ⊎ (fault ≡ faults.ReadFault)))
+  serves_only r s = go old r (serves_refused r s)
+    where
+      go : (old : Option (List ℕ)) (r : Answer) → IfErr r (IsFaultOf old) → IfSome old (λ bytes. (v : Version) → IsText v bytes →
+          IfErr r (λ fault. (fault ≡ faults.NoMemory) ⊎ (fault ≡ faults.ReadFault)))
+      go None r h = tt
+      go (Some bytes) (Ok c) h = λ v t. tt
+      go (Some bytes) (Err fault) (inl e) = λ v t. inl e
+      go (Some bytes) (Err fault) (inr (inl e)) = λ v t. inr e
+      go (Some bytes) (Err fault) (inr (inr h)) = λ v t. absurd (no_fault v bytes fault t h)
+
+  pub serves_exact : (r : Answer) → Serves old new r → IfSome old (λ bytes. (fault : CertificateFault) → HasFault bytes fault →
+      IsErrAnd r (λ f. (f ≡ faults.NoMemory) ⊎ ((f ≡ faults.ReadFault) ⊎ (f ≡ fault))))
+  serves_exact r s = go old r (serves_refused r s) (serves_found r s (λ bytes c. IsText (meaning c).version bytes) (λ bytes c p. p.is_text))
+    where
+      go : (old : Option (List ℕ)) (r : Answer) → IfErr r (IsFaultOf old) → IfOk r (λ c. IfSome old (IsText (meaning c).version)) →
+          IfSome old (λ bytes. (fault : CertificateFault) → HasFault bytes fault →
+          IsErrAnd r (λ f. (f ≡ faults.NoMemory) ⊎ ((f ≡ faults.ReadFault) ⊎ (f ≡ fault))))
+      go None r h t = tt
+      go (Some bytes) (Ok c) h t = λ fault g. absurd (no_fault (meaning c).version bytes fault t g)
+      go (Some bytes) (Err f) (inl e) t = λ fault g. inl e
+      go (Some bytes) (Err f) (inr (inl e)) t = λ fault g. inr (inl e)
+      go (Some bytes) (Err f) (inr (inr h)) t = λ fault g. inr (inr (one_fault bytes f fault h g))

@@ -1,0 +1,95 @@
+//! A certificate read from a source, a piece at a time.
+
+ghost use Rattle.std.specs.Prelude.{ℕ, ◌≡◌, ◌⊎◌, ◌≤◌, Err, IfErr, IfOk, IfSome, IsErrAnd, false, length};
+ghost use Rattle.streams.specs.Bytes.{Gave};
+ghost use Rattle.certificate.specs.declared.Version.{Version as Spelled};
+ghost use Rattle.certificate.specs.declared.CertificateFault.{CertificateFault as Fault};
+ghost use Rattle.certificate.specs.declared.CertificateFault.TheVariants.{NoMemory, ReadFault};
+ghost use Rattle.certificate.specs.Spelling.{text};
+ghost use Rattle.certificate.specs.Reading.{AreLines};
+ghost use Rattle.certificate.specs.Faults.{HasFault, IsText};
+ghost use Rattle.certificate.specs.Kept.{meaning};
+ghost use Rattle.certificate.specs.Serving.{IsPrompt, IsUnanswered, failed_to_read};
+ghost use Rattle.certificate.specs.Served.{Serves};
+
+use crate::parser::Parser;
+use crate::{Certificate, CertificateFault};
+use std::alloc::Allocator;
+use streams::ByteSource;
+
+/// How many bytes are asked for in all at most: one more than a certificate may have.
+const LIMIT: usize = 1_048_577;
+
+/// How many bytes one read asks for at most.
+const PIECE: usize = 512;
+
+/// The answer of the bytes that a source gives.
+fn read_source<A: Allocator + Copy, R: ByteSource>(
+    alloc: A,
+    source: &mut R,
+) -> Result<Certificate<A>, CertificateFault>
+    requires { R.mark source.old ≡ false }
+    ensures serves { Serves (R.remaining source.old) (R.remaining source.new) result }
+    ensures marks { R.mark source.new ≡ failed_to_read result }
+{
+    let mut parser = Parser::new(alloc);
+    let mut piece = [0u8; PIECE];
+    let mut at = 0;
+    loop {
+        let room = (LIMIT - at).min(PIECE);
+        match source.read(&mut piece[..room]) {
+            Err(_) => return Err(CertificateFault::ReadFault),
+            Ok(0) => return parser.finish(),
+            Ok(count) => {
+                if let Err(fault) = parser.take_all(&piece[..count]) {
+                    return Err(fault);
+                }
+                at += count;
+            }
+        }
+    }
+}
+
+impl<A: Allocator + Copy> Certificate<A> {
+    /// The certificate whose text a source gives, as [`Certificate::parse`] has it of all its bytes.
+    /// It reads on up to the end of the source, since nothing may follow the text, and stops at the
+    /// first fault: 512 bytes at a time, and never more than may be a certificate's and one.
+    ///
+    /// # Errors
+    ///
+    /// `ReadFault` where a read failed before the bytes brought an answer; else the first fault, as
+    /// `parse` has it.
+    pub fn read_from<R: ByteSource>(
+        alloc: A,
+        source: &mut R,
+    ) -> Result<Certificate<A>, CertificateFault>
+        requires unmarked { R.mark source.old ≡ false }
+        // What is read is the certificate of the source's bytes.
+        ensures found { IfOk result (λ c.
+            IfSome (R.remaining source.old) (λ bytes. bytes ≡ text (meaning c))) }
+        ensures lines { IfOk result (λ c. AreLines (meaning c)) }
+        ensures text { IfOk result (λ c.
+            IfSome (R.remaining source.old) (IsText (meaning c).version)) }
+        // Each certificate is read, unless memory is refused or a read fails.
+        ensures only { IfSome (R.remaining source.old) (λ bytes. (v : Spelled) → IsText v bytes →
+            IfErr result (λ fault. (fault ≡ NoMemory) ⊎ (fault ≡ ReadFault))) }
+        // Another fault comes where it is that of the source's bytes,
+        ensures refused { IfErr result (λ fault. (fault ≡ NoMemory) ⊎ ((fault ≡ ReadFault) ⊎
+            IfSome (R.remaining source.old) (λ bytes. HasFault bytes fault))) }
+        // and whichever is that of the bytes comes, with the same exceptions.
+        ensures exact { IfSome (R.remaining source.old) (λ bytes. (fault : Fault) →
+            HasFault bytes fault →
+            IsErrAnd result (λ f. (f ≡ NoMemory) ⊎ ((f ≡ ReadFault) ⊎ (f ≡ fault)))) }
+        // ReadFault comes exactly where a read failed,
+        ensures failed { R.mark source.new ≡ failed_to_read result }
+        // and the bytes given before it bring no answer.
+        ensures unanswered { result ≡ Err ReadFault →
+            Gave (R.remaining source.old) (R.remaining source.new) IsUnanswered }
+        // At most 1,048,577 bytes are taken, and at most 511 past the one that brings the answer.
+        ensures limit { Gave (R.remaining source.old) (R.remaining source.new)
+            (λ given. length given ≤ 1048577) }
+        ensures prompt { Gave (R.remaining source.old) (R.remaining source.new) (IsPrompt 511) }
+    {
+        read_source(alloc, source)
+    }
+}

@@ -1,0 +1,9 @@
+//! Laws over the definitions alone. Each is the contract of a function that does nothing.
+
+ghost use Rattle.commands.specs.Laws.{RunsEnd};
+
+/// From every image each list of events has a run, with its text and its status. So what a run is
+/// said to write is there, whatever the tape does.
+pub fn runs_end()
+    ensures { RunsEnd }
+{}

@@ -1,0 +1,183 @@
+#!/usr/bin/env python3
+"""Gives pdp8 random, cut and mixed-up inputs, and sees that each run ends with an answer that docs/PROGRAM.md names.
+
+Each input comes from the programs of crates/examples/data: tapes, sources, declarations, events and certificates, of which
+bytes are changed, left out, doubled, put in or exchanged with another file's, or from random bytes. A run that ends by a
+signal, takes more than ten seconds, or says something that isn't named is a failure. Where the answer is yes, the run by the
+program's events is watched, and must be clean. The same seed gives the same runs.
+
+usage: tests/hostile.py PDP8 [COUNT [SEED]]    PDP8 is the built program, as crates/pdp8/out/pdp8
+"""
+import multiprocessing
+import os
+import random
+import re
+import subprocess
+import sys
+import tempfile
+
+DATA = os.path.join(os.path.dirname(os.path.abspath(__file__)), '..', 'crates', 'examples', 'data')
+KINDS = {
+    'tape': 'TooLong|NoWord|NoOrigin|BadFrame \\d+|WrongField \\d+|Truncated|NoChecksum|Checksum [0-7]{4} [0-7]{4}|EmptyImage',
+    'source': '(IC|RD|DT|UA|IR|ST|NB|PA|TL) \\d+ \\d+',
+    'declaration': 'BadLine \\d+|TwoStarts \\d+|TwoProfiles \\d+|NoStart|Overlap [0-7]{4}|EntryInAutoIndex [0-7]{4}|StartNotInMain'
+                   '|TooMany|HaltNotInBody [0-7]{4}',
+    'certificate': 'Version|BadLine \\d+|Order \\d+|TooMany',
+    'events': 'BadLine \\d+|TooMany',
+    'guess': 'TurnsSpent|Stuck [0-7]{4}',
+}
+FAULT = re.compile('pdp8: (?:%s)\n' % '|'.join(f'{kind}: (?:{names})' for kind, names in KINDS.items()))
+SUMMARY = re.compile(r'(HALT|UNSUPPORTED|BOUND) [0-7]{4} AC=[0-7]{4} L=[01] PC=[0-7]{4} STEPS=\d+\n(PRINTED( [0-7]{3})+\n)?(PUNCHED( [0-7]{3})+\n)?')
+DUMP = re.compile(r'([0-7]{4} [0-7]{4} [A-Z0-9 ?]+\n)*')
+WATCH = re.compile(r'clean\n|broken: event \d+ rule [1-7]\n')
+CHECK = re.compile(r'yes: \d+ body cells, \d+ variable cells, \d+ entries, \d+ halts(, \d+ read cells)?\n|no: V\d+ at [0-7]{4}\n')
+ANY = re.compile('.*', re.DOTALL)
+
+
+class Programs:
+    """The programs of the examples: for each its tape, source, declaration, events and certificate."""
+
+    def __init__(self, pdp8):
+        self.all = []
+        for name in sorted(os.listdir(DATA)):
+            if name.endswith('.declaration'):
+                stem = os.path.join(DATA, name[:-len('.declaration')])
+                self.all.append(self.program(pdp8, stem))
+
+    @staticmethod
+    def program(pdp8, stem):
+        def read(end):
+            with open(stem + end, 'rb') as file:
+                return file.read()
+        files = {end[1:]: read(end) for end in ('.pal', '.declaration', '.events', '.certificate')}
+        profile = ['--profile', '8e'] if b'profile 8e' in files['declaration'] else []
+        files['tape'] = subprocess.run([pdp8, 'assemble', '-', stem + '.pal', *profile], stdout=subprocess.PIPE, check=True).stdout
+        files['profile'] = profile
+        return files
+
+
+def changed(chance, data, other):
+    """The bytes with some changes."""
+    data = bytearray(data)
+    for _ in range(chance.choice([1, 1, 1, 2, 3, 8])):
+        at = chance.randrange(len(data) + 1)
+        to = min(len(data), at + chance.choice([1, 1, 1, 2, 5, 20, 200]))
+        way = chance.randrange(8)
+        if way == 0:
+            data[at:to] = bytes(chance.randrange(256) for _ in range(to - at))
+        elif way == 1:
+            del data[at:to]
+        elif way == 2:
+            data[at:at] = data[at:to]
+        elif way == 3:
+            begin = chance.randrange(len(other) + 1)
+            data[at:to] = other[begin:begin + to - at]
+        elif way == 4:
+            del data[at:]
+        elif way == 5 and at < len(data):
+            data[at] = chance.choice(b'01234567')
+        elif way == 6 and at < len(data):
+            data[at] ^= 1 << chance.randrange(8)
+        else:
+            lines = bytes(data).split(b'\n')
+            i, j = chance.randrange(len(lines)), chance.randrange(len(lines))
+            lines[i], lines[j] = lines[j], lines[i]
+            data = bytearray(b'\n'.join(lines))
+    return bytes(data)
+
+
+def noise(chance):
+    """Random bytes, of all kinds or of one."""
+    kind = chance.choice([range(256), range(64, 128), range(64), b' \n\r/;*=,$01234567ABCDEFGHIJKLMNOPQRSTUVWXYZ', b'\x80\xff\0'])
+    return bytes(chance.choices(kind, k=chance.choice([0, 1, 2, 10, 100, 1000, 70000 if chance.random() < 0.02 else 50])))
+
+
+def job(chance, programs):
+    """What is run: the words, the files, which of them is changed, and what may be said."""
+    one, other = chance.choice(programs.all), chance.choice(programs.all)
+    command = chance.choice(['dump', 'run', 'events', 'watch', 'check', 'check', 'check', 'list', 'assemble', *EXTRA])
+    uses = {'dump': ['tape'], 'run': ['tape'], 'events': ['tape', 'events'], 'watch': ['tape', 'declaration', 'events'],
+            'check': ['tape', 'declaration', 'certificate'], 'list': ['pal'], 'assemble': ['pal'],
+            'guess': ['tape', 'declaration'], 'migrate': ['certificate']}[command]
+    files = {use: one[use] for use in uses}
+    bad = uses[-1] if chance.random() < 0.6 else chance.choice(uses)
+    files[bad] = noise(chance) if chance.random() < 0.1 else changed(chance, files[bad], other[bad])
+    words = {'dump': ['dump', 'tape'], 'run': ['run', 'tape', '--steps', '2000'], 'events': ['run', 'tape', '--events', 'events'],
+             'list': ['list', 'pal'], 'assemble': ['assemble', '-', 'pal'], 'guess': ['guess', 'tape', 'declaration', '-'],
+             'migrate': ['migrate', 'certificate', '-']}.get(command, [command, *uses])
+    said = {'dump': DUMP, 'run': SUMMARY, 'events': SUMMARY, 'watch': WATCH, 'check': CHECK}.get(command, ANY)
+    return one, words, files, bad, said
+
+
+def ended(pdp8, words, folder):
+    try:
+        return subprocess.run([pdp8, *words], cwd=folder, stdin=subprocess.DEVNULL, stdout=subprocess.PIPE,
+                              stderr=subprocess.PIPE, timeout=10)
+    except subprocess.TimeoutExpired:
+        return None
+
+
+def fails(done, said):
+    """What is wrong with a run, or nothing."""
+    if done is None:
+        return 'it took more than ten seconds'
+    if done.returncode not in (0, 1):
+        return f'it ended with {done.returncode}: {done.stderr!r}'
+    if done.stderr:
+        if done.stdout or done.returncode != 1 or not FAULT.fullmatch(done.stderr.decode('latin-1')):
+            return f'it said {done.stderr!r} with {done.returncode}'
+    elif not said.fullmatch(done.stdout.decode('latin-1')):
+        return f'it wrote {done.stdout[:200]!r}'
+    return None
+
+
+def part(task):
+    """Runs some jobs; gives how many got a yes, how many were refused, and what failed."""
+    pdp8, seed, count = task
+    chance = random.Random(seed)
+    yes = refused = 0
+    wrong = []
+    with tempfile.TemporaryDirectory(dir='/dev/shm' if os.path.isdir('/dev/shm') else None) as folder:
+        for number in range(count):
+            one, words, files, bad, said = job(chance, PROGRAMS)
+            for name, data in files.items():
+                with open(os.path.join(folder, name), 'wb') as file:
+                    file.write(data)
+            done = ended(pdp8, words, folder)
+            fault = fails(done, said)
+            if fault is None and done.stderr:
+                refused += 1
+            if fault is None and words[0] == 'check' and done.stdout.startswith(b'yes'):
+                yes += 1
+                with open(os.path.join(folder, 'events'), 'wb') as file:
+                    file.write(one['events'])
+                seen = ended(pdp8, ['watch', 'tape', 'declaration', 'events'], folder)
+                if seen is None or seen.stdout != b'clean\n':
+                    fault = 'it got a yes, and a run of it is broken'
+            if fault is not None:
+                wrong.append(f'seed {seed}, run {number}: {" ".join(words)}, {bad} changed: {fault}')
+    return yes, refused, wrong
+
+
+def main():
+    global PROGRAMS, EXTRA
+    if len(sys.argv) < 2:
+        sys.exit(__doc__)
+    pdp8 = os.path.abspath(sys.argv[1])
+    count = int(sys.argv[2]) if len(sys.argv) > 2 else 10_000
+    seed = int(sys.argv[3]) if len(sys.argv) > 3 else 1
+    told = subprocess.run([pdp8, '--help'], stdout=subprocess.PIPE, check=True).stdout.decode()
+    EXTRA = [name for name in ('guess', 'migrate') if re.search(rf'^\s*{name}\b', told, re.MULTILINE)]
+    PROGRAMS = Programs(pdp8)
+    tasks = [(pdp8, seed * 1_000_003 + n, min(500, count - 500 * n)) for n in range((count + 499) // 500)]
+    with multiprocessing.Pool() as pool:
+        results = pool.map(part, tasks, chunksize=1)
+    wrong = [line for _, _, lines in results for line in lines]
+    for line in wrong[:50]:
+        print(line)
+    print(f'{count} runs with seed {seed}: {sum(r[1] for r in results)} told a fault, {sum(r[0] for r in results)} got a yes, {len(wrong)} failed')
+    sys.exit(1 if wrong else 0)
+
+
+if __name__ == '__main__':
+    main()

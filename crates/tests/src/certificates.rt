@@ -48,7 +48,7 @@ pub(crate) const HELLO: [&str; 35] = [
 ];
 
 /// Lines with their line feeds.
-fn text(alloc: Global, lines: &[&str]) -> Result<Vec<u8>, AllocError> {
+pub(crate) fn text(alloc: Global, lines: &[&str]) -> Result<Vec<u8>, AllocError> {
     let mut text = Vec::new(alloc);
     for line in lines {
         text.extend_from_slice(line.as_bytes())?;

@@ -1,5 +1,5 @@
-//! Tests that cross crates: sets, instructions, worlds, certificates, watched runs and commands on whole tapes, and
-//! the whole program on given words and files. `plain` has the calls on sets one word at a time, with
+//! Tests that cross crates: sets, instructions, worlds, certificates, watched runs and commands on whole tapes,
+//! and the whole program on given words and files. `plain` has the calls on sets one word at a time, with
 //! which those by lanes are compared.
 #![tactic(auto)]
 

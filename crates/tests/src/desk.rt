@@ -44,21 +44,26 @@ fn made(name: &str) -> Option<&'static [u8]> {
     }
 }
 
-/// Bytes that are only added to.
+/// Bytes that are only added to, up to so many.
 #[derive(Drop)]
 struct Page {
     bytes: RefCell<Vec<u8, Global>>,
+    room: usize,
 }
 
 impl Page {
-    fn new(alloc: Global) -> Page {
+    fn new(alloc: Global, room: usize) -> Page {
         Page {
             bytes: RefCell::new(Vec::new(alloc)),
+            room,
         }
     }
 
     fn add(&self, more: &[u8]) -> io::Result<()> {
         match self.bytes.try_borrow_mut() {
+            Ok(bytes) if bytes.len() > self.room || more.len() > self.room - bytes.len() => {
+                Err(io::Error::from(ErrorKind::Other))
+            }
             Ok(mut bytes) => match bytes.extend_from_slice(more) {
                 Ok(()) => Ok(()),
                 Err(AllocError) => Err(io::Error::from(ErrorKind::OutOfMemory)),
@@ -306,11 +311,17 @@ pub struct Ended {
 
 /// Runs the program with these words, separated by spaces.
 pub fn run_program(alloc: Global, words: &str) -> Ended {
+    run_with_room(alloc, words, usize::MAX, usize::MAX)
+}
+
+/// Runs the program with these words where standard output fails at a write past so many bytes, and
+/// standard error past so many.
+pub fn run_with_room(alloc: Global, words: &str, printed: usize, told: usize) -> Ended {
     let pages = Pages {
-        printed: Page::new(alloc),
-        told: Page::new(alloc),
-        opened: Page::new(alloc),
-        written: Page::new(alloc),
+        printed: Page::new(alloc, printed),
+        told: Page::new(alloc, told),
+        opened: Page::new(alloc, usize::MAX),
+        written: Page::new(alloc, usize::MAX),
     };
     let status = exit_status(&Desk {
         alloc,

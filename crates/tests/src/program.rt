@@ -1,6 +1,6 @@
 //! The whole program: its words, the files that it opens, and its statuses.
 
-use crate::desk::run_program;
+use crate::desk::{run_program, run_with_room};
 use crate::sources::halt_tape;
 use commands::status::Status;
 use std::alloc::Global;
@@ -229,5 +229,67 @@ fn the_tape_goes_where_it_is_asked_for(rt: HostRuntime) -> Result<(), Fail> {
     assert_eq!(rt; to_output.status, Status::Done.code());
     assert_eq!(rt; to_output.printed.as_slice(), to_file.written.as_slice());
     assert!(rt; to_output.opened.is_empty() && to_output.written.is_empty());
+    Ok(())
+}
+
+#[test]
+fn an_output_that_fails_is_told(rt: HostRuntime) -> Result<(), Fail> {
+    for words in [
+        "pdp8 run halt.bin",
+        "pdp8 run halt.bin --trace",
+        "pdp8 run halt.bin --events step.ev",
+        "pdp8 dump halt.bin",
+        "pdp8 assemble - halt.pal",
+        "pdp8 list halt.pal",
+        "pdp8 watch halt.bin halt.dcl step.ev",
+        "pdp8 check halt.bin halt.dcl halt.cert",
+        "pdp8 help",
+        "pdp8 run --help",
+    ] {
+        let end = run_with_room(rt.alloc(), words, 0, usize::MAX);
+        assert_eq!(rt; end.status, 3, "{words}");
+        assert_eq!(rt;
+            end.told.as_slice(),
+            b"pdp8: device: WriteFault\n".as_slice(),
+            "{words}"
+        );
+        assert!(rt; end.printed.is_empty(), "{words}");
+    }
+    Ok(())
+}
+
+#[test]
+fn the_lines_of_a_trace_before_a_failure_are_there(rt: HostRuntime) -> Result<(), Fail> {
+    let line = b"0200 7402 HLT AC=0000 L=0\n";
+    for (room, printed) in [(25, b"".as_slice()), (26, line), (60, line)] {
+        let end = run_with_room(rt.alloc(), "pdp8 run halt.bin --trace", room, usize::MAX);
+        assert_eq!(rt; end.status, 3);
+        assert_eq!(rt;
+            end.told.as_slice(),
+            b"pdp8: device: WriteFault\n".as_slice()
+        );
+        assert_eq!(rt; end.printed.as_slice(), printed);
+    }
+    let end = run_with_room(rt.alloc(), "pdp8 run halt.bin --trace", 64, usize::MAX);
+    assert_eq!(rt; end.status, 0);
+    assert!(rt; end.printed.starts_with(line) && end.told.is_empty());
+    Ok(())
+}
+
+#[test]
+fn a_standard_error_that_fails_leaves_the_status(rt: HostRuntime) -> Result<(), Fail> {
+    for (words, status) in [
+        ("pdp8 run", 2),
+        ("pdp8 run a --steps 0", 2),
+        ("pdp8 fly", 2),
+        ("pdp8 run bad.bin", 1),
+        ("pdp8 list bad.pal", 1),
+        ("pdp8 run absent", 3),
+        ("pdp8 assemble absent/o halt.pal", 3),
+    ] {
+        let end = run_with_room(rt.alloc(), words, usize::MAX, 0);
+        assert_eq!(rt; end.status, status, "{words}");
+        assert!(rt; end.told.is_empty() && end.printed.is_empty(), "{words}");
+    }
     Ok(())
 }

@@ -10,7 +10,7 @@ use commands::watching::watch;
 use declaration::DeclarationFault;
 use instruct::Profile;
 use pal_acts::Code;
-use pal_asm::PalFault;
+use pal_asm::{AssembleFault, PalFault};
 use pal_text::{TextFault, statements};
 use std::alloc::{AllocError, Allocator, Global};
 use std::test::Fail;
@@ -290,6 +290,65 @@ fn each_growth_of_a_part_is_refused_in_turn(rt: HostRuntime) {
     ];
     for (source, expected) in rows {
         assert!(rt; part_answers_in_turn(rt.alloc(), source, expected));
+    }
+}
+
+/// The answer to a source of one part where the request of this number is refused, and whether one
+/// was.
+fn source_refused_at<A: Allocator + Copy>(
+    alloc: A,
+    count: u64,
+    source: &[u8],
+) -> (Option<AssembleFault>, bool) {
+    let heap = Refusing::new(alloc, count);
+    let answer = pal_asm::assemble(&heap, &[source], Profile::Pdp8I).err();
+    let refused = heap.has_refused();
+    (answer, refused)
+}
+
+/// Whether a source of one part is answered so where nothing is refused, and by NoMemory at each
+/// request that is refused in turn.
+fn source_answers_in_turn<A: Allocator + Copy>(
+    alloc: A,
+    source: &[u8],
+    expected: Option<AssembleFault>,
+) -> bool {
+    for count in 0..1000u64 {
+        let (answer, refused) = source_refused_at(alloc, count, source);
+        if !refused {
+            return answer == expected && count > 1;
+        }
+        if answer != Some(AssembleFault::NoMemory) {
+            return false;
+        }
+    }
+    false
+}
+
+#[test]
+fn each_request_for_a_full_table_is_refused_in_turn(rt: HostRuntime) -> Result<(), Fail> {
+    let full = AssembleFault::Source(PalFault {
+        code: Code::TableFull,
+        part: 1,
+        line: 1025,
+    });
+    let source = too_many_symbols(rt.alloc(), b"B=1\n")?;
+    assert!(rt; source_answers_in_turn(rt.alloc(), &source, Some(full)));
+    let source = too_many_symbols(rt.alloc(), b"$\n")?;
+    assert!(rt; source_answers_in_turn(rt.alloc(), &source, None));
+    Ok(())
+}
+
+#[test]
+fn each_request_is_refused_in_turn_with_each_line_end(rt: HostRuntime) {
+    let rows: [&[u8]; 4] = [
+        b"*200\x8dHLT\x8d$\x8d",
+        b"*200\x8d\x8aHLT\x8d\x8a$\x8d\x8a",
+        b"*200\x8d\xff\x8aHLT\x8d\xff\x8a$\x8d\xff\x8a",
+        b"*200\nHLT\n$\n",
+    ];
+    for source in rows {
+        assert!(rt; source_answers_in_turn(rt.alloc(), source, None));
     }
 }
 

@@ -1,6 +1,9 @@
 //! Guesses certificates for the programs of `data/`, and lets the judge test them.
 #![tactic(auto)]
 
+mod families;
+
+use crate::families::{certified_arguments, certified_hellos};
 use analyser::{GuessFault, guess};
 use bin_tape::Image;
 use declaration::Declaration;
@@ -113,6 +116,13 @@ fn main(rt: HostRuntime) -> anyhow::Result<()> {
             Some(at) => println!(&rt; "{name}: stuck at {at}")?,
             None => println!(&rt; "{name}: not stuck")?,
         }
+    }
+    let counted = certified_hellos(&rt, 0o223, 0o7774, 4)?;
+    let spelled = certified_hellos(&rt, 0o225, 0, 0o100)?;
+    println!(&rt; "hello: certified with {counted} counts and {spelled} characters")?;
+    for argument in [0, 1, 0o4000, 0o7777] {
+        let certified = certified_arguments(&rt, argument)?;
+        println!(&rt; "argument {argument}: certified on {certified} pages")?;
     }
     Ok(())
 }

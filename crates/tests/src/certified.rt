@@ -260,6 +260,74 @@ fn changes_of_a_certificate_are_seen(rt: HostRuntime) -> Result<(), Fail> {
 }
 
 #[test]
+fn facts_in_another_order_are_no_certificate(rt: HostRuntime) -> Result<(), Fail> {
+    let tape = tape(rt.alloc(), &[(0o200, &PROGRAM)])?;
+    let mut lines = HELLO;
+    lines[2] = HELLO[3];
+    lines[3] = HELLO[2];
+    let text = without(rt.alloc(), lines.as_slice(), 0)?;
+    let said = verdict(rt.alloc(), tape.bytes(), DECLARED, &text)?;
+    assert_eq!(rt; said.as_str(), "certificate: Order 4");
+    Ok(())
+}
+
+/// The certificate of the program that prints HELLO with what MQ may hold, which is anything.
+const HELLO_WITH_MQ: [&str; 35] = [
+    "PDP8-CERTIFICATE 2",
+    "routine 0214 rank 00 sites 0207 writes -",
+    "fact 0200 ac 0000-7777 mq 0000-7777 link 01 offsets -",
+    "fact 0201 ac 0000 mq 0000-7777 link 0 offsets -",
+    "fact 0202 ac 0000 mq 0000-7777 link 0 offsets -",
+    "fact 0203 ac 0224 mq 0000-7777 link 0 offsets -",
+    "fact 0204 ac 0000 mq 0000-7777 link 0 offsets -",
+    "cell 0010 0224",
+    "fact 0205 ac 7773 mq 0000-7777 link 0 offsets -",
+    "cell 0010 0224",
+    "fact 0206 ac 0000 mq 0000-7777 link 0 offsets -",
+    "cell 0010 0224-0230",
+    "cell 0224 7773-7777",
+    "equal 0010 0224 0231",
+    "fact 0207 ac 0305,0310,0314,0317 mq 0000-7777 link 0 offsets -",
+    "cell 0010 0225-0231",
+    "cell 0224 7773-7777",
+    "equal 0010 0224 0232",
+    "fact 0210 ac 0000 mq 0000-7777 link 0 offsets -",
+    "cell 0010 0225-0231",
+    "cell 0224 7773-7777",
+    "equal 0010 0224 0232",
+    "fact 0211 ac 0000 mq 0000-7777 link 0 offsets -",
+    "cell 0010 0225-0231",
+    "cell 0224 7774-7777",
+    "equal 0010 0224 0231",
+    "fact 0212 ac 0000 mq 0000-7777 link 0 offsets -",
+    "fact 0213 ac 0000 mq 0000-7777 link 0 offsets -",
+    "fact 0215 ac 0305,0310,0314,0317 mq 0000-7777 link 0 offsets 0",
+    "fact 0216 ac 0305,0310,0314,0317 mq 0000-7777 link 0 offsets 0",
+    "fact 0217 ac 0305,0310,0314,0317 mq 0000-7777 link 0 offsets 0",
+    "fact 0220 ac 0305,0310,0314,0317 mq 0000-7777 link 0 offsets 0",
+    "fact 0221 ac 0000 mq 0000-7777 link 0 offsets 0",
+    "exit 0214 0 ac 0000 mq 0000-7777 link 0",
+    "end",
+];
+
+#[test]
+fn either_version_is_judged_for_either_machine(rt: HostRuntime) -> Result<(), Fail> {
+    let tape = tape(rt.alloc(), &[(0o200, &PROGRAM)])?;
+    let first = without(rt.alloc(), HELLO.as_slice(), 0)?;
+    let second = without(rt.alloc(), HELLO_WITH_MQ.as_slice(), 0)?;
+    for profile in ["", "profile 8i\n", "profile 8e\n"] {
+        let declared = format!(in rt.alloc();
+            "start 0200\nmain 0200-0213\nsub 0214 body 0215-0221 returns 0\nvar 0010 0224\npause 0212\n{profile}"
+        )?;
+        for text in [first.as_slice(), second.as_slice()] {
+            let said = verdict(rt.alloc(), tape.bytes(), declared.as_bytes(), text)?;
+            assert_eq!(rt; said.as_str(), "yes");
+        }
+    }
+    Ok(())
+}
+
+#[test]
 fn declarations_of_hello_are_judged(rt: HostRuntime) -> Result<(), Fail> {
     let tape = tape(rt.alloc(), &[(0o200, &PROGRAM)])?;
     let text = without(rt.alloc(), HELLO.as_slice(), 0)?;
@@ -452,6 +520,39 @@ fn routines_call_those_of_lower_rank(rt: HostRuntime) -> Result<(), Fail> {
 }
 
 #[test]
+fn a_routine_leaves_entries_alone(rt: HostRuntime) -> Result<(), Fail> {
+    let tape = tape(
+        rt.alloc(),
+        &[
+            (0o200, &[0o4210, 0o7402]),
+            (0o210, &[0o0000, 0o4220, 0o5610]),
+            (0o220, &[0o0000, 0o2210, 0o5620]),
+        ],
+    )?;
+    let declared = b"start 0200\nmain 0200-0201\nsub 0210 body 0211-0212 returns 0\n\
+        sub 0220 body 0221-0222 returns 0\nstop 0201\n";
+    for (writes, wanted) in [("-", "V14 at 0221"), ("0210", "V8 at 0211")] {
+        let text = format!(in rt.alloc();
+            "PDP8-CERTIFICATE 1\n\
+            routine 0210 rank 01 sites 0200 writes 0220\n\
+            routine 0220 rank 00 sites 0211 writes {writes}\n\
+            fact 0200 ac 0000-7777 link 01 offsets -\n\
+            fact 0201 ac 0000-7777 link 01 offsets -\n\
+            fact 0211 ac 0000-7777 link 01 offsets 0\n\
+            fact 0212 ac 0000-7777 link 01 offsets 0\n\
+            fact 0221 ac 0000-7777 link 01 offsets 0\n\
+            fact 0222 ac 0000-7777 link 01 offsets 0\n\
+            exit 0210 0 ac 0000-7777 link 01\n\
+            exit 0220 0 ac 0000-7777 link 01\n\
+            end\n"
+        )?;
+        let said = verdict(rt.alloc(), tape.bytes(), declared, text.as_bytes())?;
+        assert_eq!(rt; said.as_str(), wanted);
+    }
+    Ok(())
+}
+
+#[test]
 fn pointers_stay_among_the_variables(rt: HostRuntime) -> Result<(), Fail> {
     let words = [
         0o7200, 0o1207, 0o3010, 0o3410, 0o2210, 0o5203, 0o7402, 0o0277, 0o7773,
@@ -555,41 +656,90 @@ fn mq_is_followed_on_the_8e(rt: HostRuntime) -> Result<(), Fail> {
     Ok(())
 }
 
+/// What `check` writes, and the status that it ends with.
+fn line_of(
+    alloc: Global,
+    tape: &[u8],
+    declared: &[u8],
+    certificate: &[u8],
+) -> Result<(Result<Status, Fault>, MemorySink<Global>), Fail> {
+    let mut out = MemorySink::new(alloc, 1000);
+    let ended = check(
+        alloc,
+        &mut MemorySource::new(tape),
+        &mut MemorySource::new(declared).in_pieces(7),
+        &mut MemorySource::new(certificate).in_pieces(500),
+        &mut out,
+    );
+    Ok((ended, out))
+}
+
 #[test]
 fn a_verdict_is_a_line(rt: HostRuntime) -> Result<(), Fail> {
     let tape = tape(rt.alloc(), &[(0o200, &PROGRAM)])?;
     let text = without(rt.alloc(), HELLO.as_slice(), 0)?;
-    for (reads, status, line) in [
+    for (lines, status, line) in [
         (
-            "",
+            "var 0010 0224\n",
             Status::Done,
             "yes: 17 body cells, 2 variable cells, 1 entries, 1 halts\n",
         ),
         (
-            "read 0010 0222-0231\n",
+            "var 0000-0177 0224\n",
+            Status::Done,
+            "yes: 17 body cells, 129 variable cells, 1 entries, 1 halts\n",
+        ),
+        (
+            "var 0010 0224\nread 0010 0222-0231\n",
             Status::Done,
             "yes: 17 body cells, 2 variable cells, 1 entries, 1 halts, 9 read cells\n",
         ),
         (
-            "read 0010 0222-0230\n",
+            "var 0010 0224\nread 0010 0222-0230\n",
             Status::Refused,
             "no: V15 at 0206\n",
         ),
     ] {
         let declared = format!(in rt.alloc();
-            "start 0200\nmain 0200-0213\nsub 0214 body 0215-0221 returns 0\nvar 0010 0224\npause 0212\n{reads}"
+            "start 0200\nmain 0200-0213\nsub 0214 body 0215-0221 returns 0\npause 0212\n{lines}"
         )?;
-        let mut out = MemorySink::new(rt.alloc(), 1000);
-        let ended = check(
-            rt.alloc(),
-            &mut MemorySource::new(tape.bytes()),
-            &mut MemorySource::new(declared.as_bytes()).in_pieces(7),
-            &mut MemorySource::new(&text).in_pieces(500),
-            &mut out,
-        );
+        let (ended, out) = line_of(rt.alloc(), tape.bytes(), declared.as_bytes(), &text)?;
         assert_eq!(rt; ended, Ok(status));
         assert_eq!(rt; out.bytes(), line.as_bytes());
     }
+    Ok(())
+}
+
+#[test]
+fn a_yes_counts_cells(rt: HostRuntime) -> Result<(), Fail> {
+    let words = [
+        0o7604, 0o7640, 0o1211, 0o1212, 0o3205, 0o0000, 0o7402, 0o7402,
+    ];
+    let computed = tape(rt.alloc(), &[(0o200, &words), (0o211, &[0o0001, 0o5206])])?;
+    let text = without(rt.alloc(), COMPUTED.as_slice(), 0)?;
+    let declared = b"start 0200\nmain 0200-0207\nvar 0205\nstop 0206 0207\n";
+    let (ended, out) = line_of(rt.alloc(), computed.bytes(), declared, &text)?;
+    assert_eq!(rt; ended, Ok(Status::Done));
+    assert_eq!(rt;
+        out.bytes(),
+        b"yes: 8 body cells, 1 variable cells, 0 entries, 2 halts\n".as_slice()
+    );
+    let argument = tape(
+        rt.alloc(),
+        &[
+            (0o200, &[0o7300, 0o4210, 0o0005, 0o7402]),
+            (0o210, &[0o0000, 0o1610, 0o2210, 0o5610]),
+        ],
+    )?;
+    let text = without(rt.alloc(), ARGUMENT.as_slice(), 0)?;
+    let declared = b"start 0200\nmain 0200-0201 0203\nsub 0210 body 0211-0213 returns 1\n\
+        stop 0203\nread 0202\n";
+    let (ended, out) = line_of(rt.alloc(), argument.bytes(), declared, &text)?;
+    assert_eq!(rt; ended, Ok(Status::Done));
+    assert_eq!(rt;
+        out.bytes(),
+        b"yes: 6 body cells, 0 variable cells, 1 entries, 1 halts, 1 read cells\n".as_slice()
+    );
     Ok(())
 }
 

@@ -100,9 +100,12 @@ fn is_certified<R: Files + AllocGlobal>(
 fn stuck_at<R: Files + AllocGlobal>(rt: &R, name: &str) -> anyhow::Result<Option<Word>> {
     let declaration = declared(rt, name)?;
     let image = assembled(rt, name, Profile::Pdp8I)?;
-    match guess(rt.alloc(), &image, &declaration) {
-        Err(GuessFault::Stuck(at)) => Ok(Some(at)),
-        _ => Ok(None),
+    let Err(fault) = guess(rt.alloc(), &image, &declaration) else {
+        return Ok(None);
+    };
+    match fault {
+        GuessFault::Stuck(at) => Ok(Some(at)),
+        GuessFault::TurnsSpent | GuessFault::NoMemory => Ok(None),
     }
 }
 

@@ -12,3 +12,4 @@ pub mod WatchText
 pub mod CheckText
 pub mod SourceTexts
 pub mod AssembleText
+pub mod WhyText

@@ -3,8 +3,10 @@
 
 pub mod assembling;
 pub mod checking;
+pub mod explaining;
 pub mod follow;
 mod inputs;
+mod reason_text;
 pub mod running;
 mod sources;
 pub mod status;

@@ -27,9 +27,11 @@ test:
 	python3 tests/edits.py
 	rt ci
 
-# Puts pdp8 into $(PREFIX)/bin.
+# Puts pdp8 into $(PREFIX)/bin, its man page and its completions for bash beside it.
 install: run
 	install -D -m 755 crates/pdp8/out/pdp8 $(PREFIX)/bin/pdp8
+	install -D -m 644 share/pdp8.1 $(PREFIX)/share/man/man1/pdp8.1
+	install -D -m 644 share/pdp8.bash $(PREFIX)/share/bash-completion/completions/pdp8
 
 # Times the machine, the tapes, the sets, the assembler, the watcher and the facts; needs Debian's simh and palbart.
 bench:

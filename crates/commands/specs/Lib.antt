@@ -13,3 +13,4 @@ pub mod CheckText
 pub mod SourceTexts
 pub mod AssembleText
 pub mod Laws
+pub mod WhyText

@@ -20,7 +20,7 @@ use streams::{ByteSink, ByteSource, put};
 use wordset::WordSet;
 
 /// The name of a condition.
-fn condition_name(condition: Condition) -> &'static str
+pub(crate) fn condition_name(condition: Condition) -> &'static str
     ensures { result.now ≡ condition_text condition }
 {
     match condition {
@@ -191,7 +191,7 @@ fn yes_line<A: Allocator, D: Allocator>(
 }
 
 /// The line of a verdict.
-fn verdict_line<A: Allocator, D: Allocator>(
+pub(crate) fn verdict_line<A: Allocator, D: Allocator>(
     alloc: A,
     declaration: &Declaration<D>,
     verdict: &Result<(), Refusal>,
@@ -206,7 +206,7 @@ fn verdict_line<A: Allocator, D: Allocator>(
 }
 
 /// A program that isn't certified is refused.
-fn verdict_status(verdict: &Result<(), Refusal>) -> Status
+pub(crate) fn verdict_status(verdict: &Result<(), Refusal>) -> Status
     ensures { result ≡ verdict_status verdict.now }
 {
     match verdict {

@@ -3,9 +3,11 @@
 
 pub mod assembling;
 pub mod checking;
+pub mod explaining;
 pub mod follow;
 mod inputs;
 pub mod laws;
+mod reason_text;
 pub mod running;
 mod sources;
 pub mod status;

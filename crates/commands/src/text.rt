@@ -18,14 +18,18 @@ use std::alloc::{AllocError, Allocator};
 use word12::{Link, Word};
 
 /// Adds the four octal digits of a word.
-fn push_word<A: Allocator>(text: &mut Vec<u8, A>, word: Word) -> Result<(), AllocError>
+pub(crate) fn push_word<A: Allocator>(text: &mut Vec<u8, A>, word: Word) -> Result<(), AllocError>
     ensures { OnOk result (text.new.items ≡ text.old.items ++ octal_text word) }
 {
     text.extend_from_slice(&word.to_octal())
 }
 
 /// Adds a name and the address that it stands for.
-fn push_place<A: Allocator>(text: &mut Vec<u8, A>, name: &[u8], at: Word) -> Result<(), AllocError>
+pub(crate) fn push_place<A: Allocator>(
+    text: &mut Vec<u8, A>,
+    name: &[u8],
+    at: Word,
+) -> Result<(), AllocError>
     ensures { OnOk result (text.new.items ≡ text.old.items ++ (name.now ++ octal_text at)) }
 {
     text.extend_from_slice(name)?;
@@ -143,7 +147,7 @@ pub fn summary_of<A: Allocator, B: Allocator>(
 }
 
 /// Adds the line of an address that has a word.
-fn push_dump_line<A: Allocator>(
+pub(crate) fn push_dump_line<A: Allocator>(
     text: &mut Vec<u8, A>,
     at: Word,
     word: Option<Word>,

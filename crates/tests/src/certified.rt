@@ -16,14 +16,15 @@ use testing::memory::{MemorySink, MemorySource};
 use word12::Word;
 
 /// The words of the program that prints HELLO, from 0200 on.
-const PROGRAM: [u16; 26] = [
+pub(crate) const PROGRAM: [u16; 26] = [
     0o7300, 0o6046, 0o1222, 0o3010, 0o1223, 0o3224, 0o1410, 0o4214, 0o2224, 0o5206, 0o7402, 0o5200,
     0o0000, 0o6041, 0o5215, 0o6046, 0o7200, 0o5614, 0o0224, 0o7773, 0o0000, 0o0310, 0o0305, 0o0314,
     0o0314, 0o0317,
 ];
 
 /// Its declaration.
-const DECLARED: &[u8] = b"start 0200\nmain 0200-0213\nsub 0214 body 0215-0221 returns 0\n\
+pub(crate) const DECLARED: &[u8] =
+    b"start 0200\nmain 0200-0213\nsub 0214 body 0215-0221 returns 0\n\
     var 0010 0224\npause 0212\n";
 
 fn word(value: u16) -> Word {
@@ -31,7 +32,7 @@ fn word(value: u16) -> Word {
 }
 
 /// The tape of words that stand in runs from these addresses on.
-fn tape(alloc: Global, runs: &[(u16, &[u16])]) -> Result<MemorySink<Global>, Fail> {
+pub(crate) fn tape(alloc: Global, runs: &[(u16, &[u16])]) -> Result<MemorySink<Global>, Fail> {
     let mut image = Image::empty();
     for (start, words) in runs {
         let mut at = word(*start);
@@ -46,7 +47,7 @@ fn tape(alloc: Global, runs: &[(u16, &[u16])]) -> Result<MemorySink<Global>, Fai
 }
 
 /// Lines with their line feeds, but for the one of a number, counted from 1.
-fn without(alloc: Global, lines: &[&str], number: usize) -> Result<Vec<u8>, AllocError> {
+pub(crate) fn without(alloc: Global, lines: &[&str], number: usize) -> Result<Vec<u8>, AllocError> {
     let mut text = Vec::new(alloc);
     let mut count = 0usize;
     for line in lines {
@@ -60,7 +61,7 @@ fn without(alloc: Global, lines: &[&str], number: usize) -> Result<Vec<u8>, Allo
 }
 
 /// Lines with another in place of the one of a number, counted from 1.
-fn changed(
+pub(crate) fn changed(
     alloc: Global,
     lines: &[&str],
     number: usize,

@@ -10,6 +10,8 @@ mod certified;
 #[cfg(test)]
 mod desk;
 #[cfg(test)]
+mod explained;
+#[cfg(test)]
 mod instructions;
 pub mod plain;
 #[cfg(test)]

@@ -7,6 +7,7 @@ use crate::words::{Refused, Request, parse_words};
 use clap::Error;
 use commands::assembling::{assemble, list};
 use commands::checking::check;
+use commands::explaining::explain;
 use commands::running::{RunOptions, dump, run, run_events};
 use commands::status::{DeviceFault, Fault, Status};
 use commands::watching::watch;
@@ -140,7 +141,8 @@ fn answer<R: Files + Input + Print>(
             tape,
             declaration,
             certificate,
-        } => check_from(rt, alloc, tape, declaration, certificate),
+            explained,
+        } => check_from(rt, alloc, tape, declaration, certificate, *explained),
     }
 }
 
@@ -172,18 +174,22 @@ fn watch_from<R: Files + Input + Print>(
     watch(alloc, &mut frames, &mut text, &mut list, &mut out)
 }
 
-/// Checks the certificate of a file.
+/// Checks the certificate of a file, and says why the verdict is no where that is asked for.
 fn check_from<R: Files + Input + Print>(
     rt: &R,
     alloc: Global,
     tape: &str,
     declaration: &str,
     certificate: &str,
+    explained: bool,
 ) -> Result<Status, Fault> {
     let mut frames = open_input(rt, tape)?;
     let mut text = open_input(rt, declaration)?;
     let mut claims = open_input(rt, certificate)?;
     let mut out = Writes::new(io::writer(rt));
+    if explained {
+        return explain(alloc, &mut frames, &mut text, &mut claims, &mut out);
+    }
     check(alloc, &mut frames, &mut text, &mut claims, &mut out)
 }
 

@@ -14,6 +14,22 @@ const ROUNDS: u32 = 100_000;
 /// The most rounds that may be asked for.
 const MOST_ROUNDS: u32 = 1_000_000;
 
+/// What `--version` prints after the program's name.
+const VERSION: &str = "1.0";
+
+/// What stands below the list of commands.
+const STATUSES: &str = "Exit status:
+  0  done
+  1  an input was refused, a run got stuck or broke a rule, or a condition failed
+  2  bad words
+  3  a file or a stream failed
+  4  memory was refused
+
+Files are opened in the order of the words; - is standard input, and for OUT standard output.
+
+Example:
+  pdp8 assemble hello.bin hello.pal && pdp8 run hello.bin";
+
 /// What is asked for.
 #[derive(Drop, Debug)]
 pub enum Request<'a> {
@@ -57,6 +73,8 @@ pub enum Request<'a> {
         declaration: &'a str,
         /// The name of the certificate's file.
         certificate: &'a str,
+        /// Whether it is said why the verdict is no.
+        explained: bool,
     },
     /// To watch a run.
     Watch {
@@ -141,6 +159,7 @@ fn run_command<'a>(alloc: Global) -> Result<Command<'a>, AllocError> {
         .help("writes a line for each instruction");
     Command::new(alloc, "run")
         .about("Runs a tape and writes where it ended and what it printed and punched")
+        .after_help("Example:\n  pdp8 run hello.bin --start 200 --trace")
         .arg(tape_word(alloc))?
         .arg(start)?
         .arg(steps)?
@@ -152,6 +171,7 @@ fn run_command<'a>(alloc: Global) -> Result<Command<'a>, AllocError> {
 fn dump_command<'a>(alloc: Global) -> Result<Command<'a>, AllocError> {
     Command::new(alloc, "dump")
         .about("Writes address, word and name for each word on a tape")
+        .after_help("Example:\n  pdp8 dump hello.bin")
         .arg(tape_word(alloc))?
         .arg(profile_word(alloc))
 }
@@ -165,9 +185,12 @@ fn source_words<'a>(alloc: Global) -> Arg<'a> {
 fn assemble_command<'a>(alloc: Global) -> Result<Command<'a>, AllocError> {
     let out = Arg::new(alloc, "OUT")
         .required(true)
-        .help("where the tape goes, or - for standard output");
+        .help("where the tape goes, or - for standard output; it is emptied first");
     Command::new(alloc, "assemble")
         .about("Assembles a PAL III source and writes its tape")
+        .after_help(
+            "OUT comes first, and is emptied before a source is read, also where the source is refused.\n\nExample:\n  pdp8 assemble hello.bin hello.pal",
+        )
         .arg(out)?
         .arg(source_words(alloc))?
         .arg(profile_word(alloc))
@@ -176,6 +199,7 @@ fn assemble_command<'a>(alloc: Global) -> Result<Command<'a>, AllocError> {
 fn list_command<'a>(alloc: Global) -> Result<Command<'a>, AllocError> {
     Command::new(alloc, "list")
         .about("Assembles a PAL III source and writes its listing")
+        .after_help("Example:\n  pdp8 list hello.pal")
         .arg(source_words(alloc))?
         .arg(profile_word(alloc))
 }
@@ -190,11 +214,17 @@ fn check_command<'a>(alloc: Global) -> Result<Command<'a>, AllocError> {
     let certificate = Arg::new(alloc, "CERTIFICATE")
         .required(true)
         .help("the certificate, or - for standard input");
+    let why = Arg::new(alloc, "why")
+        .long("why")
+        .action(ArgAction::SetTrue)
+        .help("after a no, writes what the condition asks and what breaks it");
     Command::new(alloc, "check")
         .about("Writes whether a certificate shows that no run breaks its declaration")
+        .after_help("Example:\n  pdp8 check hello.bin hello.declaration hello.certificate --why")
         .arg(tape_word(alloc))?
         .arg(declaration_word(alloc))?
-        .arg(certificate)
+        .arg(certificate)?
+        .arg(why)
 }
 
 fn watch_command<'a>(alloc: Global) -> Result<Command<'a>, AllocError> {
@@ -203,6 +233,7 @@ fn watch_command<'a>(alloc: Global) -> Result<Command<'a>, AllocError> {
         .help("the events that happen, or - for standard input");
     Command::new(alloc, "watch")
         .about("Writes whether a run keeps its declaration, or where it first breaks which rule")
+        .after_help("Example:\n  pdp8 watch hello.bin hello.declaration hello.events")
         .arg(tape_word(alloc))?
         .arg(declaration_word(alloc))?
         .arg(events)
@@ -211,6 +242,8 @@ fn watch_command<'a>(alloc: Global) -> Result<Command<'a>, AllocError> {
 fn command<'a>(alloc: Global) -> Result<Command<'a>, AllocError> {
     Command::new(alloc, "pdp8")
         .about("A workbench for PDP-8 paper tapes")
+        .version(VERSION)
+        .after_help(STATUSES)
         .subcommand_required(true)
         .subcommand(run_command(alloc)?)?
         .subcommand(dump_command(alloc)?)?
@@ -325,6 +358,7 @@ fn check_request<'a>(found: &ArgMatches<'a>) -> Result<Request<'a>, Refused> {
         tape,
         declaration,
         certificate,
+        explained: found.get_flag("why"),
     })
 }
 

@@ -1,0 +1,100 @@
+//! The command that checks a certificate and says why a verdict is no.
+
+ghost use Rattle.std.specs.Prelude.{◌≡◌, ◌||◌, ◌++◌, false, true, IfOk, IfErr, OnErr};
+ghost use Rattle.judge.specs.Judged.{judged};
+ghost use Rattle.commands.specs.Faults.{IsCheckFault, is_fault_of_declaration, is_fault_of_tape, fails_to_read, fails_to_write};
+ghost use Rattle.commands.specs.Inputs.{input};
+ghost use Rattle.commands.specs.WhyText.{IsExplained, IsExplainedSo, IsReason};
+ghost use Rattle.commands.specs.Writes.{FrontOf, Writes};
+
+use crate::checking::{verdict_line, verdict_status};
+use crate::inputs::{certificate_from, declaration_from, tape_from};
+use crate::reason_text::push_why;
+use crate::status::{Fault, Status};
+use bin_tape::Image;
+use declaration::Declaration;
+use judge::{Claims, Refusal, judge};
+use reasons::{Reason, why};
+use std::alloc::Allocator;
+use streams::{ByteSink, ByteSource, put};
+
+/// Why a verdict is no.
+fn reason_of<D: Allocator, C: Claims>(
+    image: &Image,
+    declaration: &Declaration<D>,
+    claims: &C,
+    verdict: &Result<(), Refusal>,
+) -> Option<Reason>
+    ensures { IsReason (judged image.now declaration.now (C.claims claims.now)) verdict.now
+        result }
+{
+    match verdict {
+        Ok(()) => None,
+        Err(refusal) => why(image, declaration, claims, refusal),
+    }
+}
+
+/// Checks a certificate of a tape and a declaration, and writes the verdict: yes, with the numbers of
+/// cells in bodies, of variables, of entries, of declared halts and, where they are listed, of cells
+/// that may be read; or the first condition that fails and its address, and then the status is
+/// `Refused`, and lines follow that say why: the address with its word and name, what the condition
+/// asks, and what breaks it.
+///
+/// # Errors
+///
+/// The fault of the tape, of the declaration or of the certificate's text: each is read and, if it
+/// has a fault, refused before the next is read; `Device` where a read or a write failed, after
+/// which a prefix of the text went out; `NoMemory`.
+pub fn explain<A: Allocator + Copy, R: ByteSource, D: ByteSource, C: ByteSource, W: ByteSink>(
+    alloc: A,
+    tape: &mut R,
+    declaration: &mut D,
+    certificate: &mut C,
+    out: &mut W,
+) -> Result<Status, Fault>
+    requires readable { R.mark tape.old ≡ false }
+    requires declaration_readable { D.mark declaration.old ≡ false }
+    requires certificate_readable { C.mark certificate.old ≡ false }
+    requires writable { W.mark out.old ≡ false }
+    // What is written is the verdict, and why it is no.
+    ensures explained { IfOk result (λ status. Writes
+        (λ line. IsExplainedSo (R.remaining tape.old) (D.remaining declaration.old)
+        (C.remaining certificate.old) line status)
+        (W.taken out.old) (W.taken out.new)) }
+    // A fault is that of the first input that has one.
+    ensures faults { IfErr result (IsCheckFault
+        (input (R.mark tape.new) (R.remaining tape.old) (R.remaining tape.new))
+        (input (D.mark declaration.new) (D.remaining declaration.old) (D.remaining declaration.new))
+        (input (C.mark certificate.new) (C.remaining certificate.old)
+        (C.remaining certificate.new))) }
+    // Where a write failed, a front of the text went out,
+    ensures front { W.mark out.new ≡ true → FrontOf
+        (IsExplained (R.remaining tape.old) (D.remaining declaration.old)
+        (C.remaining certificate.old))
+        (W.taken out.old) (W.taken out.new) }
+    // and any other fault leaves the output as it was.
+    ensures nothing { OnErr result (W.mark out.new ≡ false → W.taken out.new ≡ W.taken out.old) }
+    // A write failed exactly where the answer says so, and so did a read.
+    ensures marks { W.mark out.new ≡ fails_to_write result }
+    ensures reads { R.mark tape.new || D.mark declaration.new || C.mark certificate.new ≡
+        fails_to_read result }
+    // An input isn't read after one that is refused, or whose read failed.
+    ensures unread { IfErr result (λ fault. is_fault_of_tape fault ≡ true →
+        (declaration.new ≡ declaration.old) × (certificate.new ≡ certificate.old)) }
+    ensures unread_certificate { IfErr result (λ fault. is_fault_of_declaration fault ≡ true →
+        certificate.new ≡ certificate.old) }
+    ensures unread_after_failure { R.mark tape.new ≡ true →
+        (declaration.new ≡ declaration.old) × (certificate.new ≡ certificate.old) }
+    ensures unread_certificate_after_failure { D.mark declaration.new ≡ true →
+        certificate.new ≡ certificate.old }
+{
+    let image = tape_from(tape)?;
+    let promised = declaration_from(alloc, declaration)?;
+    let claims = certificate_from(alloc, certificate)?;
+    let verdict = judge(&image, &promised, &claims);
+    let reason = reason_of(&image, &promised, &claims, &verdict);
+    let mut text = verdict_line(alloc, &promised, &verdict)?;
+    push_why(&mut text, promised.profile(), &image, &verdict, &reason)?;
+    put(out, &text)?;
+    Ok(verdict_status(&verdict))
+}

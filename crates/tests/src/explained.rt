@@ -1,0 +1,108 @@
+//! Why verdicts are no: what `check --why` writes, worked by hand from the conditions.
+
+use crate::certificates::HELLO;
+use crate::certified::{DECLARED, PROGRAM, changed, tape, without};
+use certificate::Certificate;
+use commands::explaining::explain;
+use commands::status::{DeviceFault, Fault, Status};
+use declaration::Declaration;
+use judge::judge;
+use reasons::why;
+use std::test::Fail;
+use testing::memory::{MemorySink, MemorySource};
+
+#[test]
+fn what_breaks_a_condition_is_told(rt: HostRuntime) -> Result<(), Fail> {
+    let tape = tape(rt.alloc(), &[(0o200, &PROGRAM)])?;
+    for (number, line, wanted) in [
+        (
+            3,
+            "fact 0200 ac 0000-7776 link 01 offsets -",
+            "no: V1 at 0200\n0200 7300 CLA CLL\n\
+            V1 asks: there is a fact at the start, and it holds of every start\n\
+            at a start AC may be 7777, which the fact there excludes\n",
+        ),
+        (
+            13,
+            "cell 0224 7773-7776",
+            "no: V4 at 0211\n0211 5206 JMP C006\n\
+            V4 asks: wherever a word goes on there is a fact in the same body that allows what is possible\n\
+            it may go on at 0206: the cell 0224 may be 7777, which the fact there excludes\n",
+        ),
+        (
+            2,
+            "routine 0214 rank 00 sites 0210 writes -",
+            "no: V9 at 0207\n0207 4214 JMS C014\n\
+            V9 asks: a JMS is at a listed site of its callee, and at most at 7767\n\
+            it calls 0214, and the address isn't one of its sites\n",
+        ),
+        (
+            29,
+            "fact 0215 ac 0305,0310,0314 link 0 offsets 0",
+            "no: V10 at 0207\n0207 4214 JMS C014\n\
+            V10 asks: the fact at the callee's first address allows what is possible\n\
+            it calls 0214 and enters it: AC may be 0317, which the fact there excludes\n",
+        ),
+        (
+            34,
+            "exit 0214 1 ac 0000 link 0",
+            "no: V11 at 0207\n0207 4214 JMS C014\n\
+            V11 asks: the fact at each return address allows what is possible\n\
+            it calls 0214, which returns by offset 1: the cell 0224 may be 7773, which the fact there excludes\n",
+        ),
+    ] {
+        let text = changed(rt.alloc(), HELLO.as_slice(), number, line)?;
+        let mut out = MemorySink::new(rt.alloc(), 1000);
+        let ended = explain(
+            rt.alloc(),
+            &mut MemorySource::new(tape.bytes()),
+            &mut MemorySource::new(DECLARED),
+            &mut MemorySource::new(&text),
+            &mut out,
+        );
+        assert_eq!(rt; ended, Ok(Status::Refused), "line {number}");
+        assert_eq!(rt; out.bytes(), wanted.as_bytes(), "line {number}");
+    }
+    Ok(())
+}
+
+#[test]
+fn a_yes_needs_no_reason(rt: HostRuntime) -> Result<(), Fail> {
+    let tape = tape(rt.alloc(), &[(0o200, &PROGRAM)])?;
+    let text = without(rt.alloc(), HELLO.as_slice(), 0)?;
+    for (room, wanted) in [
+        (1000usize, Ok(Status::Done)),
+        (20, Err(Fault::Device(DeviceFault::Write))),
+    ] {
+        let mut out = MemorySink::new(rt.alloc(), room);
+        let ended = explain(
+            rt.alloc(),
+            &mut MemorySource::new(tape.bytes()),
+            &mut MemorySource::new(DECLARED),
+            &mut MemorySource::new(&text),
+            &mut out,
+        );
+        let line = b"yes: 17 body cells, 2 variable cells, 1 entries, 1 halts\n".as_slice();
+        assert_eq!(rt; ended, wanted);
+        assert_eq!(rt; out.bytes(), &line[..line.len().min(room)]);
+    }
+    Ok(())
+}
+
+#[test]
+fn each_line_left_out_that_is_missed_has_a_reason(rt: HostRuntime) -> Result<(), Fail> {
+    let tape = tape(rt.alloc(), &[(0o200, &PROGRAM)])?;
+    let image = bin_tape::read_tape(tape.bytes())?;
+    let declaration = Declaration::parse(rt.alloc(), DECLARED)?;
+    for number in 1..HELLO.len() {
+        let text = without(rt.alloc(), HELLO.as_slice(), number)?;
+        let Ok(claims) = Certificate::parse(rt.alloc(), &text) else {
+            continue;
+        };
+        if let Err(refusal) = judge(&image, &declaration, &claims) {
+            let reason = why(&image, &declaration, &claims, &refusal);
+            assert!(rt; reason.is_some(), "line {number}");
+        }
+    }
+    Ok(())
+}

@@ -183,9 +183,9 @@ fn source_words<'a>(alloc: Global) -> Arg<'a> {
 }
 
 fn assemble_command<'a>(alloc: Global) -> Result<Command<'a>, AllocError> {
-    let out = Arg::new(alloc, "OUT")
-        .required(true)
-        .help("where the tape goes, or - for standard output; it is emptied first");
+    let out = Arg::new(alloc, "OUT").required(true).help(
+        "where the tape goes, or - for standard output; it is emptied first",
+    );
     Command::new(alloc, "assemble")
         .about("Assembles a PAL III source and writes its tape")
         .after_help(

@@ -7,3 +7,4 @@ pub mod PartLemmas
 pub mod RunLemmas
 pub mod AssembleLemmas
 pub mod CheckLemmas
+pub mod SessionLemmas

@@ -12,3 +12,5 @@ pub mod WatchText
 pub mod CheckText
 pub mod SourceTexts
 pub mod AssembleText
+pub mod Session
+pub mod SessionParts

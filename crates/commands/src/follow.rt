@@ -1,6 +1,6 @@
 //! Driving a world by events, in rounds or from a list.
 
-ghost use Rattle.std.specs.Prelude.{◌≡◌, ◌<◌, true, false, get_or, length, IfOk, IfErr, OnOk};
+ghost use Rattle.std.specs.Prelude.{◌≡◌, ◌<◌, true, false, get_or, length, IfOk, IfErr, OnOk, OnErr};
 ghost use Rattle.std.specs.Io.KnownBytes.{Appends};
 ghost use Rattle.streams.specs.Bytes.{AppendsFront};
 ghost use Rattle.peripherals.specs.Events.{Happens};
@@ -96,7 +96,7 @@ fn event_of_round(index: usize) -> Event
 }
 
 /// The end of a run that isn't stuck.
-fn end_of<A: Allocator>(world: &World<A>) -> End
+pub(crate) fn end_of<A: Allocator>(world: &World<A>) -> End
     ensures { result ≡ end_of (view world.now) }
 {
     match world.halted_at() {
@@ -106,7 +106,7 @@ fn end_of<A: Allocator>(world: &World<A>) -> End
 }
 
 /// Applies one event. A trace has a line for each instruction that was carried out.
-fn advance<A: Allocator, W: ByteSink>(
+pub(crate) fn advance<A: Allocator, W: ByteSink>(
     world: &mut World<A>,
     out: &mut W,
     trace: bool,
@@ -128,6 +128,9 @@ fn advance<A: Allocator, W: ByteSink>(
     ensures front { W.mark out.new ≡ true → AppendsFront (W.taken out.old) (W.taken out.new)
         (trace_of (profile_of world.old) (view world.old) event (view world.new)) }
     ensures silent { trace ≡ false → out.new ≡ out.old }
+    // Where memory was refused nothing changed.
+    ensures kept { OnErr result (W.mark out.new ≡ false → view world.new ≡ view world.old) }
+    ensures unwritten { OnErr result (W.mark out.new ≡ false → out.new ≡ out.old) }
 {
     let at = world.cpu().pc;
     let word = world.cpu().memory.get(at);

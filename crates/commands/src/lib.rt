@@ -6,6 +6,7 @@ pub mod checking;
 pub mod follow;
 mod inputs;
 pub mod running;
+pub mod session;
 mod sources;
 pub mod status;
 mod text;

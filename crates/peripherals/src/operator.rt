@@ -34,10 +34,10 @@ impl<'t> Operator<'t> {
         mark: bool,
     ) -> Operator<'t>
         ensures plan { plan_of result ≡ record {
-            switches = switches;
-            rounds = rounds;
-            frames = frames.now;
-            keys = map (struck_as mark) keys.now
+          switches = switches;
+          rounds = rounds;
+          frames = frames.now;
+          keys = map (struck_as mark) keys.now;
         } }
         ensures first { result.last ≡ None }
     {
@@ -55,7 +55,11 @@ impl<'t> Operator<'t> {
     fn round_due(&self) -> Option<Event>
         ensures { result ≡ round_due self.now.rounds }
     {
-        if self.rounds == 0 { None } else { Some(Event::Step) }
+        if self.rounds == 0 {
+            None
+        } else {
+            Some(Event::Step)
+        }
     }
 
     /// A key, where the keyboard's flag is clear; else a round.

@@ -1,5 +1,5 @@
 -- An operator's run, event by event.
-use Rattle.std.proofs.Common.{ℕ, zero, suc, ◌≡◌, ◌+◌, ◌*◌, ◌%◌, ◌==◌, ◌<◌, ◌≤◌, Bool, true, false, ◌||◌, if◌then◌else◌, List, [], ◌∷◌, ◌++◌, length, drop, take, map, refl, sym, ◌∙◌, ap, inl, inr, append_assoc, append-nil, add-zero, take_all, length-append, get_or, le_refl, arith, Some, None, Option, Result, Ok, Err, IfOk, OnErr, subst, unwrap_or}
+use Rattle.std.proofs.Common.{ℕ, zero, suc, ◌≡◌, ◌+◌, ◌*◌, ◌%◌, ◌==◌, ◌<◌, ◌≤◌, Bool, true, false, ◌||◌, if◌then◌else◌, List, [], ◌∷◌, ◌++◌, length, drop, take, map, refl, sym, ◌∙◌, ap, inl, inr, append_assoc, append-nil, add-zero, take_all, length-append, get_or, le_refl, arith, Some, None, Option, Result, Ok, Err, IfOk, OnErr, true≢false, subst, unwrap_or}
 use Rattle.std.specs.Io.KnownBytes.{Appends}
 use Rattle.std.proofs.KnownBytes.{Appends-nil, Appends-trans}
 use Rattle.std.proofs.Transfers.{drop-appended}
@@ -486,3 +486,39 @@ session_is options tape reader keys image frames bytes plan status old new has_i
   to_teletype = writes.to_teletype;
   to_punch = writes.to_punch;
 }
+
+-- a line of the trace failed, or memory was refused
+pub play_front : (p : Profile) (trace : Bool) (w : WorldState) (e : Event) (x : WorldState) (old new told : Option (List ℕ)) (marked : Bool) →
+    (marked ≡ true → Happens p w e x) → (marked ≡ true → trace ≡ true) → (marked ≡ true → AppendsFront old new (trace_of p w e x)) → (marked ≡ false → x ≡ w) → (marked ≡ false → new ≡ old) →
+    PlayedFront p trace w e x old new told told
+play_front p trace w e x old new told true happens asked front same unwritten = inr (record {
+  happens = happens refl;
+  wrote = rw (asked refl) (front refl);
+  printed = no_front told (printed_from w x);
+})
+play_front p trace w e x old new told false happens asked front same unwritten = inl (record { same = same refl; unwritten = unwritten refl; unprinted = refl })
+
+-- a character failed
+pub type_front : (p : Profile) (trace : Bool) (w : WorldState) (e : Event) (x : WorldState) (old new told tells : Option (List ℕ)) →
+    Happens p w e x → Appends old new (traced trace (trace_of p w e x)) → AppendsFront told tells (printed_from w x) → PlayedFront p trace w e x old new told tells
+type_front p trace w e x old new told tells happens wrote front = inr (record {
+  happens = happens;
+  wrote = whole_front old new (traced trace (trace_of p w e x)) wrote;
+  printed = front;
+})
+
+-- an event that carries out no instruction
+pub sat_still : (p : Profile) (trace : Bool) (plan now after : Plan) (last new_last : Option Event) (e : Event) (w x y : WorldState) (n : ℕ) (what : Seen) (old mid new told tmid tells : Option (List ℕ)) →
+    Sat p trace plan now last w x n old mid told tmid → due now x last ≡ Some e → after ≡ left_after e now → new_last ≡ Some e → Played p trace x e what y mid new tmid tells → goes_on true what ≡ true → counted what ≡ 0 →
+    Sat p trace plan after new_last w y n old new told tells
+sat_still p trace plan now after last new_last e w x y n what old mid new told tmid tells sat is left next played goes none =
+    let more : Sat p trace plan after new_last w y (n + counted what) old new told tells = sat_more p trace plan now after last new_last e w x y n what old mid new told tmid tells sat is left next played goes in
+    rw (none, add-zero n) at more
+
+pub or_left : (a b : Bool) → a || b ≡ false → a ≡ false
+or_left true b is = is
+or_left false b is = refl
+
+pub or_right : (a b : Bool) → a || b ≡ false → b ≡ false
+or_right true b is = absurd (true≢false is)
+or_right false b is = is

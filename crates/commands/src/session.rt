@@ -1,6 +1,6 @@
 //! A run with an operator: frames in the reader, keys to strike, the teletype and the punch.
 
-ghost use Rattle.std.specs.Prelude.{◌≡◌, ◌||◌, [], false, true, None, drop, is_err, map, IfOk, IfErr, OnOk, OnErr};
+ghost use Rattle.std.specs.Prelude.{◌≡◌, ◌||◌, ◌%◌, [], ◌∷◌, false, true, None, drop, get_or, is_err, map, IfOk, IfErr, OnOk, OnErr};
 ghost use Rattle.std.specs.Io.KnownBytes.{Appends};
 ghost use Rattle.streams.specs.Bytes.{AppendsFront};
 ghost use Rattle.peripherals.specs.Operator.{plan_of};
@@ -53,9 +53,19 @@ fn type_from<T: ByteSink>(bytes: &[u8], from: usize, teletype: &mut T) -> Result
     ensures marks { T.mark teletype.new ≡ is_err result }
 {
     for index in from..bytes.len() {
-        put(teletype, &[bytes[index] % 128])?;
+        put(teletype, &character_at(bytes, index))?;
     }
     Ok(())
+}
+
+/// The character of the byte with this index.
+fn character_at(bytes: &[u8], index: usize) -> [u8; 1]
+    ensures { result ≡ (get_or bytes.now index 0 % 128) ∷ [] }
+{
+    match bytes.get(index) {
+        Some(byte) => [*byte % 128],
+        None => [0],
+    }
 }
 
 /// Applies one event, adds its line to the trace if one is asked for, and types what it printed.

@@ -5,5 +5,5 @@ mod files;
 mod program;
 mod words;
 
-pub use commands::{assembling, checking, running, status, watching};
+pub use commands::{assembling, checking, running, session, status, watching};
 pub use program::exit_status;

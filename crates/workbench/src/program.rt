@@ -2,12 +2,15 @@
 
 ghost use Rattle.std.specs.Prelude.{◌≤◌};
 
-use crate::files::{open_input, open_inputs, open_output};
-use crate::words::{Refused, Request, parse_words};
+use crate::files::{
+    open_input, open_input_if, open_inputs, open_output, open_output_if, report_to, type_to,
+};
+use crate::words::{Joined, Refused, Request, parse_words};
 use clap::Error;
 use commands::assembling::{assemble, list};
 use commands::checking::check;
 use commands::running::{RunOptions, dump, run, run_events};
+use commands::session::{Outputs, SessionOptions, run_session};
 use commands::status::{DeviceFault, Fault, Status};
 use commands::watching::watch;
 use instruct::Profile;
@@ -71,6 +74,10 @@ fn refuse<R: Print + Eprint>(rt: &R, refused: Refused) -> Status {
         Refused::Words(error) => return say(rt, &error),
         Refused::NotText => eprintln!(rt; "error: a word of the command line isn't text"),
         Refused::Start(fault) => eprintln!(rt; "error: bad value for '--start': {fault}"),
+        Refused::Switches(fault) => { eprintln!(rt; "error: bad value for '--switches': {fault}") }
+        Refused::EventsAndOperator => eprintln!(rt;
+            "error: '--events' can't stand beside the words for the reader, the punch, the teletype and the switches"
+        ),
         Refused::Steps => eprintln!(rt;
             "error: bad value for '--steps': it is a number from 1 to 1000000"
         ),
@@ -97,7 +104,7 @@ fn say<R: Print + Eprint>(rt: &R, words: &Error) -> Status {
 }
 
 /// Opens the files of a request, in the order of its words, and carries it out.
-fn answer<R: Files + Input + Print>(
+fn answer<R: Files + Input + Print + Eprint>(
     rt: &R,
     alloc: Global,
     request: &Request<'_>,
@@ -108,6 +115,11 @@ fn answer<R: Files + Input + Print>(
             events,
             options,
         } => run_from(rt, alloc, tape, *events, *options),
+        Request::Session {
+            tape,
+            joined,
+            options,
+        } => session_from(rt, alloc, tape, joined, *options),
         Request::Dump { tape, profile } => {
             let mut frames = open_input(rt, tape)?;
             dump(
@@ -207,4 +219,32 @@ fn run_from<R: Files + Input + Print>(
     let mut list = open_input(rt, events)?;
     let mut out = Writes::new(io::writer(rt));
     run_events(alloc, &mut frames, &mut list, options, &mut out)
+}
+
+/// Runs a tape with an operator. The files are opened in this order: the tape, the reader's frames
+/// and the keys, and then the punch's is made.
+fn session_from<R: Files + Input + Print + Eprint>(
+    rt: &R,
+    alloc: Global,
+    tape: &str,
+    joined: &Joined<'_>,
+    options: SessionOptions,
+) -> Result<Status, Fault> {
+    let mut frames = open_input(rt, tape)?;
+    let mut reader = open_input_if(rt, joined.reader)?;
+    let mut keys = open_input_if(rt, joined.keys)?;
+    let punch = open_output_if(rt, joined.punch)?;
+    let mut outputs = Outputs {
+        report: report_to(rt, joined.teletype),
+        teletype: type_to(rt, joined.teletype),
+        punch,
+    };
+    run_session(
+        alloc,
+        &mut frames,
+        &mut reader,
+        &mut keys,
+        options,
+        &mut outputs,
+    )
 }

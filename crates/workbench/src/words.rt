@@ -3,6 +3,7 @@
 use clap::error::ErrorKind;
 use clap::{Arg, ArgAction, ArgMatches, Command, Error};
 use commands::running::RunOptions;
+use commands::session::SessionOptions;
 use instruct::Profile;
 use std::alloc::{AllocError, Global};
 use std::convert::AsStr;
@@ -25,6 +26,15 @@ pub enum Request<'a> {
         events: Option<&'a str>,
         /// How it is run.
         options: RunOptions,
+    },
+    /// To run a tape with an operator.
+    Session {
+        /// The name of the tape's file.
+        tape: &'a str,
+        /// What the devices are joined to.
+        joined: Joined<'a>,
+        /// How it is run.
+        options: SessionOptions,
     },
     /// To list the words of a tape.
     Dump {
@@ -69,6 +79,19 @@ pub enum Request<'a> {
     },
 }
 
+/// What the devices of a machine are joined to.
+#[derive(Clone, Copy, Debug)]
+pub struct Joined<'a> {
+    /// The name of the file whose frames are in the reader.
+    pub reader: Option<&'a str>,
+    /// The name of the file that the punched bytes go to.
+    pub punch: Option<&'a str>,
+    /// The name of the file of the keys.
+    pub keys: Option<&'a str>,
+    /// What is printed goes to standard output.
+    pub teletype: bool,
+}
+
 /// Why nothing is done.
 #[derive(Drop)]
 pub enum Refused {
@@ -78,6 +101,10 @@ pub enum Refused {
     NotText,
     /// The value of `--start` is no address.
     Start(OctalFault),
+    /// The value of `--switches` is no word.
+    Switches(OctalFault),
+    /// There are events, and an operator too.
+    EventsAndOperator,
     /// The value of `--steps` is no number from 1 to 1,000,000.
     Steps,
     /// The value of `--profile` is neither `8i` nor `8e`.
@@ -139,14 +166,49 @@ fn run_command<'a>(alloc: Global) -> Result<Command<'a>, AllocError> {
         .long("trace")
         .action(ArgAction::SetTrue)
         .help("writes a line for each instruction");
-    Command::new(alloc, "run")
+    let run = Command::new(alloc, "run")
         .about("Runs a tape and writes where it ended and what it printed and punched")
         .arg(tape_word(alloc))?
         .arg(start)?
         .arg(steps)?
         .arg(events)?
         .arg(trace)?
-        .arg(profile_word(alloc))
+        .arg(profile_word(alloc))?;
+    with_operator(alloc, run)
+}
+
+/// Adds the words for the reader, the punch, the teletype and the switches.
+fn with_operator<'a>(alloc: Global, run: Command<'a>) -> Result<Command<'a>, AllocError> {
+    let reader = Arg::new(alloc, "reader")
+        .long("reader")
+        .value_name("FILE")
+        .help("the frames in the reader, or - for standard input");
+    let punch = Arg::new(alloc, "punch")
+        .long("punch")
+        .value_name("FILE")
+        .help("where the punched bytes go, or - for standard output");
+    let keys = Arg::new(alloc, "keys")
+        .long("keys")
+        .value_name("FILE")
+        .help("the keys that are struck, or - for standard input");
+    let mark = Arg::new(alloc, "mark")
+        .long("mark")
+        .action(ArgAction::SetTrue)
+        .help("sets channel 8 of each key");
+    let teletype = Arg::new(alloc, "teletype")
+        .long("teletype")
+        .action(ArgAction::SetTrue)
+        .help("what is printed goes to standard output, all else to standard error");
+    let switches = Arg::new(alloc, "switches")
+        .long("switches")
+        .value_name("W")
+        .help("the octal word that the switches are set to; 0000 without it");
+    run.arg(reader)?
+        .arg(punch)?
+        .arg(keys)?
+        .arg(mark)?
+        .arg(teletype)?
+        .arg(switches)
 }
 
 fn dump_command<'a>(alloc: Global) -> Result<Command<'a>, AllocError> {
@@ -253,9 +315,35 @@ fn run_options(found: &ArgMatches<'_>) -> Result<RunOptions, Refused> {
     })
 }
 
+/// What the switches are set to, if they are.
+fn switches_of(found: &ArgMatches<'_>) -> Result<Option<Word>, Refused> {
+    match found.get_str("switches") {
+        None => Ok(None),
+        Some(text) => match Word::from_octal(text.as_bytes()) {
+            Ok(word) => Ok(Some(word)),
+            Err(fault) => Err(Refused::Switches(fault)),
+        },
+    }
+}
+
+/// Whether a run has an operator.
+fn has_operator(found: &ArgMatches<'_>) -> bool {
+    ["reader", "punch", "keys", "switches"]
+        .iter()
+        .any(|name| found.get_str(name).is_some())
+        || found.get_flag("mark")
+        || found.get_flag("teletype")
+}
+
 fn run_request<'a>(found: &ArgMatches<'a>) -> Result<Request<'a>, Refused> {
     let tape = found.get_str("TAPE").unwrap_or("-");
     let events = found.get_str("events");
+    if has_operator(found) {
+        if events.is_some() {
+            return Err(Refused::EventsAndOperator);
+        }
+        return session_request(tape, found);
+    }
     if tape == "-" && events == Some("-") {
         return Err(Refused::BothStandardInput);
     }
@@ -263,6 +351,28 @@ fn run_request<'a>(found: &ArgMatches<'a>) -> Result<Request<'a>, Refused> {
         tape,
         events,
         options: run_options(found)?,
+    })
+}
+
+fn session_request<'a>(tape: &'a str, found: &ArgMatches<'a>) -> Result<Request<'a>, Refused> {
+    let reader = found.get_str("reader");
+    let keys = found.get_str("keys");
+    if share_standard_input(&[tape, reader.unwrap_or(""), keys.unwrap_or("")]) {
+        return Err(Refused::BothStandardInput);
+    }
+    Ok(Request::Session {
+        tape,
+        joined: Joined {
+            reader,
+            punch: found.get_str("punch"),
+            keys,
+            teletype: found.get_flag("teletype"),
+        },
+        options: SessionOptions {
+            run: run_options(found)?,
+            switches: switches_of(found)?,
+            mark: found.get_flag("mark"),
+        },
     })
 }
 

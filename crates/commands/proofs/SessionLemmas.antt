@@ -1,5 +1,5 @@
 -- An operator's run, event by event.
-use Rattle.std.proofs.Common.{ℕ, zero, suc, ◌≡◌, ◌+◌, ◌*◌, ◌%◌, ◌==◌, ◌<◌, ◌≤◌, Bool, true, false, ◌||◌, if◌then◌else◌, List, [], ◌∷◌, ◌++◌, length, drop, take, map, refl, sym, ◌∙◌, ap, inl, inr, append_assoc, append-nil, add-zero, take_all, length-append, get_or, le_refl, arith, Some, None, Option, Result, Ok, Err, IfOk, OnErr, true≢false, subst, unwrap_or}
+use Rattle.std.proofs.Common.{ℕ, zero, suc, ◌≡◌, ◌+◌, ◌*◌, ◌%◌, ◌==◌, ◌<◌, ◌≤◌, Bool, true, false, ◌||◌, if◌then◌else◌, List, [], ◌∷◌, ◌++◌, length, drop, take, map, refl, sym, ◌∙◌, ap, inl, inr, append_assoc, append-nil, add-zero, add-one, take_all, length-append, get_or, le_refl, arith, Some, None, Option, Result, Ok, Err, IfOk, OnErr, true≢false, subst, unwrap_or}
 use Rattle.std.specs.Io.KnownBytes.{Appends}
 use Rattle.std.proofs.KnownBytes.{Appends-nil, Appends-trans}
 use Rattle.std.proofs.Transfers.{drop-appended}
@@ -334,12 +334,14 @@ typed_rest bytes sent from index within rest =
     append_assoc sent ((get_or bytes index 0 % 128) ∷ []) (map character (drop (suc index) bytes)) ∙ ap (λ (l : List ℕ). sent ++ map character l) (sym next) ∙ rest
 
 pub typed_more : (told now new : Option (List ℕ)) (bytes : List ℕ) (from index byte : ℕ) → Typed told now bytes from index → index < length bytes → byte ≡ get_or bytes index 0 →
-    Appends now new ((byte % 128) ∷ []) → Typed told new bytes from (suc index)
-typed_more told now new bytes from index byte typed within is wrote = record {
-  sent = typed.sent ++ (get_or bytes index 0 % 128) ∷ [];
-  wrote = Appends-trans told now new typed.sent ((get_or bytes index 0 % 128) ∷ []) typed.wrote (rw is at wrote);
-  rest = typed_rest bytes typed.sent from index within typed.rest;
-}
+    Appends now new ((byte % 128) ∷ []) → Typed told new bytes from (index + 1)
+typed_more told now new bytes from index byte typed within is wrote =
+    let more : Typed told new bytes from (suc index) = record {
+      sent = typed.sent ++ (get_or bytes index 0 % 128) ∷ [];
+      wrote = Appends-trans told now new typed.sent ((get_or bytes index 0 % 128) ∷ []) typed.wrote (rw is at wrote);
+      rest = typed_rest bytes typed.sent from index within typed.rest;
+    } in
+    subst (Typed told new bytes from) (sym (add-one index)) more
 
 pub typed_all : (told now : Option (List ℕ)) (bytes : List ℕ) (from index : ℕ) → Typed told now bytes from index → length bytes ≤ index → Appends told now (map character (drop from bytes))
 typed_all told now bytes from index typed past =

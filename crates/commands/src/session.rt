@@ -1,6 +1,6 @@
 //! A run with an operator: frames in the reader, keys to strike, the teletype and the punch.
 
-ghost use Rattle.std.specs.Prelude.{◌≡◌, ◌||◌, ◌%◌, [], ◌∷◌, false, true, None, drop, get_or, is_err, map, IfOk, IfErr, OnOk, OnErr};
+ghost use Rattle.std.specs.Prelude.{◌≡◌, ◌<◌, ◌||◌, ◌%◌, [], ◌∷◌, false, true, None, drop, get_or, is_err, map, IfOk, IfErr, OnOk, OnErr};
 ghost use Rattle.std.specs.Io.KnownBytes.{Appends};
 ghost use Rattle.streams.specs.Bytes.{AppendsFront};
 ghost use Rattle.peripherals.specs.Operator.{plan_of};
@@ -106,6 +106,7 @@ fn operate<A: Allocator, W: ByteSink, T: ByteSink, P>(
     requires writable { W.mark out.old.report ≡ false }
     requires typable { T.mark out.old.teletype ≡ false }
     requires first { operator.old.last ≡ None }
+    requires few { (plan_of operator.old).rounds < 4294967296 }
     requires unprinted { (view world.old).devices.printer.output ≡ [] }
     ensures ran { IfOk result (λ outcome.
         Operated (profile_of world.old) trace (plan_of operator.old) (view world.old) outcome
@@ -145,6 +146,11 @@ fn operate<A: Allocator, W: ByteSink, T: ByteSink, P>(
     })
 }
 
+/// Shows that rounds are few.
+fn are_few(rounds: u32)
+    ensures { rounds < 4294967296 }
+{}
+
 /// Runs an image with an operator, and writes what was punched in the end, also where the run broke
 /// off, and the summary.
 fn attend<A: Allocator + Copy, W: ByteSink, T: ByteSink, P: ByteSink>(
@@ -158,9 +164,10 @@ fn attend<A: Allocator + Copy, W: ByteSink, T: ByteSink, P: ByteSink>(
     requires typable { T.mark out.old.teletype ≡ false }
     requires punchable { P.mark out.old.punch ≡ false }
     requires first { operator.old.last ≡ None }
+    requires rounds { (plan_of operator.old).rounds ≡ options.rounds }
     ensures run { IfOk result (λ status.
         WritesAll (λ text printed punched.
-            IsSessionOf options true (plan_of operator.old) image.now text printed punched status)
+        IsSessionOf options true (plan_of operator.old) image.now text printed punched status)
         (taken (W.taken out.old.report) (T.taken out.old.teletype) (P.taken out.old.punch))
         (taken (W.taken out.new.report) (T.taken out.new.teletype) (P.taken out.new.punch))) }
     ensures front { OnErr result (FrontsOf (IsPartOf options (plan_of operator.old) image.now)
@@ -171,6 +178,7 @@ fn attend<A: Allocator + Copy, W: ByteSink, T: ByteSink, P: ByteSink>(
         ≡ fails_to_write result }
 {
     let mut world = World::load(alloc, image, options.start, &Start::zero(), options.profile);
+    are_few(options.rounds);
     let ran = operate(&mut world, operator, options.trace, out);
     put(&mut out.punch, world.punched())?;
     let outcome = ran?;
@@ -214,7 +222,7 @@ pub fn run_session<
     // What is written, typed and punched is that of the run of the events that come.
     ensures run { IfOk result (λ status.
         WritesAll (IsSession options true (R.remaining tape.old) (F.remaining reader.old)
-            (K.remaining keys.old) status)
+        (K.remaining keys.old) status)
         (taken (W.taken out.old.report) (T.taken out.old.teletype) (P.taken out.old.punch))
         (taken (W.taken out.new.report) (T.taken out.new.teletype) (P.taken out.new.punch))) }
     ensures faults { IfErr result (IsSessionFault options.run.rounds
@@ -223,7 +231,7 @@ pub fn run_session<
         (input (K.mark keys.new) (K.remaining keys.old) (K.remaining keys.new))) }
     // After a fault fronts of that went out, or of what the first events leave; or nothing at all,
     ensures front { OnErr result (NothingOrFronts (IsPartOfSession options (R.remaining tape.old)
-            (F.remaining reader.old) (K.remaining keys.old))
+        (F.remaining reader.old) (K.remaining keys.old))
         (taken (W.taken out.old.report) (T.taken out.old.teletype) (P.taken out.old.punch))
         (taken (W.taken out.new.report) (T.taken out.new.teletype) (P.taken out.new.punch))) }
     // as where the tape is refused or a read failed.

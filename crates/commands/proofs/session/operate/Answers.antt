@@ -1,4 +1,4 @@
-use Rattle.std.proofs.Common.{rules, ◌≡◌, ◌+◌, ◌*◌, ◌<◌, ◌≤◌, ◌∙◌, Some, None, Fits, w32, refl, sym, arith, le_refl}
+use Rattle.std.proofs.Common.{rules, ◌≡◌, ◌+◌, ◌*◌, ◌<◌, ◌≤◌, ◌∙◌, Some, None, refl, sym, arith}
 use Rattle.peripherals.specs.declared.Event.{Event}
 use Rattle.peripherals.specs.declared.Seen.TheVariants.{NotEnabled, Changed, Ran, Halted, Unsupported}
 use Rattle.peripherals.specs.Operator.{due, plan_of}
@@ -11,7 +11,7 @@ pub loop-event-init : goal.loop-event-init
 loop-event-init g c = record {
   sat = sat_none _ _ _ _ _ _ _ c.requires.first c.requires.unprinted;
   profile = refl;
-  steps = le_refl _;
+  steps = omega arith;
   unmarked = c.requires.writable;
   untyped = c.requires.typable;
   punch = refl;
@@ -28,8 +28,7 @@ returns-in_err-play-clause-broke g c =
 pub overflow_add-steps : goal.overflow_add-steps
 overflow_add-steps g c =
     let inv = c.loop-event.invariant in
-    let small : Fits w32 c.args.operator.now.rounds = search rules in
-    let below : c.args.operator.now.rounds < 4294967296 = small.fits in
+    let below : c.args.operator.now.rounds < 4294967296 = c.requires.few in
     let all : events_left (plan_of c.args.operator.now) c.args.operator.now.last ≡ c.args.operator.now.rounds * 5 + 1 = rw c.requires.first refl in
     let was = inv.steps in
     let bound : c.loop-event.steps + 1 < 18446744073709551616 = omega (arith, was, all, below) in
@@ -38,8 +37,7 @@ overflow_add-steps g c =
 pub overflow_add-result : goal.overflow_add-result
 overflow_add-result g c =
     let inv = c.loop-event.invariant in
-    let small : Fits w32 c.args.operator.now.rounds = search rules in
-    let below : c.args.operator.now.rounds < 4294967296 = small.fits in
+    let below : c.args.operator.now.rounds < 4294967296 = c.requires.few in
     let all : events_left (plan_of c.args.operator.now) c.args.operator.now.last ≡ c.args.operator.now.rounds * 5 + 1 = rw c.requires.first refl in
     let was = inv.steps in
     let bound : c.loop-event.steps + 1 < 18446744073709551616 = omega (arith, was, all, below) in

@@ -7,8 +7,11 @@ use Rattle.commands.proofs.session.play.Goals as goal
 
 pub returns-in_err-seen-clause-front : goal.returns-in_err-seen-clause-front
 returns-in_err-seen-clause-front g c =
-    search (rules, play_front (profile_of c.args.world.now) c.args.trace (view c.args.world.now) c.args.event (view c.advance.new.world) _ _ (g.T.ByteSink.taken c.args.out.now.teletype) (g.W.ByteSink.mark c.advance.new.out)
-    c.advance.ensures.broke c.advance.ensures.asked c.advance.ensures.front c.in_err-seen.ensures.kept (λ clear. ap g.W.ByteSink.taken (c.in_err-seen.ensures.unwritten clear)))
+    search (
+      rules,
+      play_front (profile_of c.args.world.now) c.args.trace (view c.args.world.now) c.args.event (view c.advance.new.world) _ _ (g.T.ByteSink.taken c.args.out.now.teletype) (g.W.ByteSink.mark c.advance.new.out)
+          c.advance.ensures.broke c.advance.ensures.asked c.advance.ensures.front c.in_err-seen.ensures.kept (λ clear. ap g.W.ByteSink.taken (c.in_err-seen.ensures.unwritten clear)),
+    )
 
 pub returns-in_err-type_from-clause-front : goal.returns-in_err-type_from-clause-front
 returns-in_err-type_from-clause-front g c =

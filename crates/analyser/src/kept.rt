@@ -1,9 +1,9 @@
 //! Facts as they are kept: only as long as what they say.
 
-ghost use Rattle.std.specs.Prelude.{◌≡◌, ◌<◌, ◌≤◌, ◌+◌, ◌^◌, ◌++◌, length, map, is_some, IfSome};
-ghost use Rattle.facts.specs.Meaning.{meaning, statement_of, offsets_of, equation_of};
+ghost use Rattle.std.specs.Prelude.{◌≡◌, ◌<◌, ◌≤◌, ◌+◌, ◌^◌, ◌++◌, length, map, IfSome};
+ghost use Rattle.facts.specs.Meaning.{statement_of, offsets_of, equation_of};
 ghost use Rattle.certificate.specs.Reading.{place_of_equation};
-ghost use Rattle.analyser.specs.Claimed.{cell_of, fact_kept, has_room};
+ghost use Rattle.analyser.specs.Claimed.{cell_of, said_of};
 
 use crate::turns::Halt;
 use crate::widening::smoothed;
@@ -231,10 +231,9 @@ impl<A: Allocator> Kept<A> {
         WordSet::all()
     }
 
-    /// The fact.
+    /// The fact, if there is room for its cells and equations.
     pub(crate) fn fact(&self) -> Option<Fact>
-        ensures there { is_some result ≡ has_room self.now }
-        ensures fact { IfSome result (λ f. meaning f ≡ fact_kept self.now) }
+        ensures { IfSome result (λ f. statement_of f ≡ said_of self.now) }
     {
         if self.cells.len() > MOST_CELLS {
             return None;

@@ -1,12 +1,9 @@
 //! A guess: facts at addresses, and what is claimed of routines.
 
-ghost use Rattle.std.specs.Prelude.{◌≡◌, true, option_map};
-ghost use Rattle.analyser.specs.Claimed.{kept_at, row_at, exit_in, rank_in, claims_of, HasSmallRanks};
-
 use crate::kept::Kept;
 use crate::turns::Halt;
-use facts::{Fact, Offsets};
-use judge::{Claims, Routine};
+use certificate::Routine;
+use facts::Fact;
 use std::alloc::Allocator;
 use word12::Word;
 use wordset::WordSet;
@@ -18,9 +15,9 @@ pub(crate) struct Row<A: Allocator> {
     pub(crate) exits: Vec<Option<Kept<A>>, A>,
 }
 
-/// What may show a program safe: facts, routines and exits, which `judge` tests.
+/// What may show a program safe: facts, routines and exits.
 #[derive(Drop)]
-pub struct Guess<A: Allocator> {
+pub(crate) struct Guess<A: Allocator> {
     facts: Vec<Option<Kept<A>>, A>,
     routines: Vec<Option<Row<A>>, A>,
 }
@@ -66,7 +63,6 @@ impl<A: Allocator + Copy> Guess<A> {
 impl<A: Allocator> Guess<A> {
     /// What is kept at an address.
     pub(crate) fn kept(&self, at: Word) -> Option<&Kept<A>>
-        ensures { option_map (λ k. k.now) result ≡ kept_at self.now at }
     {
         match self.facts.get(at.index()) {
             None => None,
@@ -76,7 +72,6 @@ impl<A: Allocator> Guess<A> {
 
     /// What is kept of the routine of an entry.
     pub(crate) fn row(&self, entry: Word) -> Option<&Row<A>>
-        ensures { option_map (λ r. r.now) result ≡ row_at self.now entry }
     {
         match self.routines.get(entry.index()) {
             None => None,
@@ -86,7 +81,6 @@ impl<A: Allocator> Guess<A> {
 
     /// What is kept of a return.
     pub(crate) fn kept_exit(&self, entry: Word, offset: usize) -> Option<&Kept<A>>
-        ensures { option_map (λ k. k.now) result ≡ exit_in (row_at self.now entry) offset }
     {
         match self.row(entry) {
             None => None,
@@ -94,6 +88,14 @@ impl<A: Allocator> Guess<A> {
                 None => None,
                 Some(place) => place.as_ref(),
             },
+        }
+    }
+
+    /// The fact at an address, if there is one.
+    pub(crate) fn fact(&self, at: Word) -> Option<Fact> {
+        match self.kept(at) {
+            None => None,
+            Some(kept) => kept.fact(),
         }
     }
 
@@ -120,28 +122,6 @@ impl<A: Allocator> Guess<A> {
         }
     }
 
-    /// The rank of the routine of an entry; 0 where it isn't listed.
-    pub(crate) fn rank(&self, entry: Word) -> usize
-        ensures { result ≡ rank_in (row_at self.now entry) }
-    {
-        match self.row(entry) {
-            None => 0,
-            Some(row) => row.routine.rank,
-        }
-    }
-
-    /// Whether each rank is below 64.
-    pub(crate) fn has_small_ranks(&self) -> bool
-        ensures { result ≡ true → HasSmallRanks (claims_of self.now) }
-    {
-        for index in 0..4096usize {
-            if self.rank(Word::from_index(index)) >= 64 {
-                return false;
-            }
-        }
-        true
-    }
-
     /// Forgets all facts and exits.
     pub(crate) fn forget(&mut self) {
         for place in &mut self.facts {
@@ -154,35 +134,5 @@ impl<A: Allocator> Guess<A> {
                 }
             }
         }
-    }
-}
-
-impl<A: Allocator> Claims for Guess<A> {
-    ghost claims = { claims_of };
-
-    fn routine(&self, entry: Word) -> Option<Routine> {
-        match self.row(entry) {
-            None => None,
-            Some(row) => Some(row.routine),
-        }
-    }
-
-    fn fact(&self, at: Word) -> Option<Fact> {
-        match self.kept(at) {
-            None => None,
-            Some(kept) => kept.fact(),
-        }
-    }
-
-    fn exit(&self, entry: Word, offset: usize) -> Option<Fact> {
-        let Some(kept) = self.kept_exit(entry, offset) else {
-            return None;
-        };
-        let Some(fact) = kept.fact() else {
-            return None;
-        };
-        let mut exit = fact;
-        exit.set_offsets(Offsets::all());
-        Some(exit)
     }
 }

@@ -561,7 +561,7 @@ const BYTES: &[u8] = b"\n\n 0123467-,ACacdefiklmnopqrstuwxPDEGIT\r";
 /// A text with some bytes changed, left out or added.
 fn changed(alloc: Global, random: &mut Pcg32, text: &[u8]) -> Result<Vec<u8>, AllocError> {
     let mut changed = Vec::new(alloc);
-    let rare = 1 + below(random, 2 * text.len() + 2);
+    let rare = below(random, text.len().saturating_mul(2).saturating_add(2)).saturating_add(1);
     for byte in text {
         match below(random, rare) {
             0 => changed.push(BYTES[below(random, BYTES.len())])?,
@@ -583,7 +583,7 @@ fn both_forms_tell_the_same_of_changed_texts(rt: HostRuntime) -> Result<(), Fail
     for _ in 0..40u32 {
         let changed = changed(rt.alloc(), &mut random, &whole)?;
         let cut = changed.len() - below(&mut random, changed.len() / 8 + 1).min(changed.len());
-        let size = 1 + below(&mut random, 600);
+        let size = below(&mut random, 600).saturating_add(1);
         let expected = Certificate::parse(rt.alloc(), &changed[..cut]).err();
         assert_eq!(rt; pieced(rt.alloc(), &changed[..cut], size), expected);
     }
@@ -607,7 +607,7 @@ fn both_forms_tell_the_same_of_texts_of_many_lines(rt: HostRuntime) -> Result<()
                 _ => next.saturating_add(1),
             };
         }
-        let size = 1 + below(&mut random, 600);
+        let size = below(&mut random, 600).saturating_add(1);
         let expected = Certificate::parse(rt.alloc(), &made).err();
         assert_eq!(rt; pieced(rt.alloc(), &made, size), expected);
     }

@@ -558,17 +558,25 @@ fn below(random: &mut Pcg32, limit: usize) -> usize {
 /// What texts of certificates are made of.
 const BYTES: &[u8] = b"\n\n 0123467-,ACacdefiklmnopqrstuwxPDEGIT\r";
 
+/// One of these.
+fn any_byte(random: &mut Pcg32) -> u8 {
+    match BYTES.get(below(random, BYTES.len())) {
+        Some(byte) => *byte,
+        None => b'\n',
+    }
+}
+
 /// A text with some bytes changed, left out or added.
 fn changed(alloc: Global, random: &mut Pcg32, text: &[u8]) -> Result<Vec<u8>, AllocError> {
     let mut changed = Vec::new(alloc);
     let rare = below(random, text.len().saturating_mul(2).saturating_add(2)).saturating_add(1);
     for byte in text {
         match below(random, rare) {
-            0 => changed.push(BYTES[below(random, BYTES.len())])?,
+            0 => changed.push(any_byte(random))?,
             1 => {}
             2 => {
                 changed.push(*byte)?;
-                changed.push(BYTES[below(random, BYTES.len())])?;
+                changed.push(any_byte(random))?;
             }
             _ => changed.push(*byte)?,
         }

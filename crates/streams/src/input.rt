@@ -1,6 +1,6 @@
 //! All the bytes of a source, up to a limit.
 
-ghost use Rattle.std.specs.Prelude.{◌≡◌, ◌<◌, true, false, length, take, IfOk, IfSome};
+ghost use Rattle.std.specs.Prelude.{◌≡◌, ◌<◌, ◌≤◌, true, false, length, take, IfOk, IfSome};
 ghost use Rattle.std.specs.Io.KnownBytes.{Consumes};
 ghost use Rattle.streams.specs.Bytes.{Gave};
 ghost use Rattle.streams.specs.Input.{read_fails};
@@ -55,6 +55,8 @@ pub fn read_at_most<A: Allocator, R: ByteSource>(
     ensures marks { R.mark source.new ≡ read_fails result }
     ensures short { R.mark source.new ≡ true →
         Gave (R.remaining source.old) (R.remaining source.new) (λ given. length given < limit) }
+    // Whatever the answer, the source gave no more bytes than the limit.
+    ensures bounded { Gave (R.remaining source.old) (R.remaining source.new) (λ given. length given ≤ limit) }
 {
     let mut text = Vec::new(alloc);
     let mut piece = [0u8; PIECE];

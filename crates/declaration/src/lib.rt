@@ -176,8 +176,9 @@ impl<A: Allocator> Declaration<A> {
     /// `stop A..`, `pause A..`, `profile 8i` or `profile 8e`, and `read R..`, or empty. A range `R`
     /// is an address `A` or two, `A-B`; an address is one to four octal digits, an offset `d` one
     /// octal digit. There may be no offsets, and no ranges after `read`. Words stand between spaces
-    /// and tabs, and a `/` begins a comment. Lines of one kind add to one another, but there is one
-    /// start and at most one machine, which is the 8/I without a line.
+    /// and tabs, and a `/` begins a comment. Lines of one kind add to one another, but each `sub`
+    /// line is a routine of its own, and there is one start and at most one machine, which is the 8/I
+    /// without a line.
     ///
     /// # Errors
     ///

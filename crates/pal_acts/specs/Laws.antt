@@ -1,4 +1,4 @@
--- A source has one meaning, or one fault, and not both.
+-- A source has at most one meaning or one fault, and not both.
 use Rattle.std.specs.Prelude.{◌≡◌, ℕ, List, Option}
 use Rattle.pal_text.specs.declared.names.Name.{Name}
 use Rattle.pal_acts.specs.declared.act.Act.{Act}

@@ -1,5 +1,5 @@
 -- What is certified, and why something isn't.
-use Rattle.std.specs.Prelude.{◌≡◌, ◌≢◌, ℕ, ◌⊎◌, ⊤, ⊥, Option, List, take}
+use Rattle.std.specs.Prelude.{◌≡◌, ◌≢◌, ℕ, ◌⊎◌, ⊤, Option, List, take}
 use Rattle.bin_tape.specs.Tape.{IsTape}
 use Rattle.bin_tape.specs.Refuses.{Refuses}
 use Rattle.peripherals.specs.Loading.{image_of}

@@ -50,7 +50,7 @@ impl Write for Interrupted<'_> {
     }
 }
 
-fn interrupted<'t>(alloc: Global, times: usize, fails: bool, rest: &'t [u8]) -> Interrupted<'t> {
+fn broken_off<'t>(alloc: Global, times: usize, fails: bool, rest: &'t [u8]) -> Interrupted<'t> {
     Interrupted {
         times,
         fails,
@@ -62,7 +62,7 @@ fn interrupted<'t>(alloc: Global, times: usize, fails: bool, rest: &'t [u8]) -> 
 #[test]
 fn an_interrupted_read_is_tried_again(rt: HostRuntime) -> Result<(), Fail> {
     for times in [0, 1, 2, 30] {
-        let mut source = Reads::new(interrupted(rt.alloc(), times, false, b"TAD 200"));
+        let mut source = Reads::new(broken_off(rt.alloc(), times, false, b"TAD 200"));
         let text = read_at_most(rt.alloc(), &mut source, 100)?;
         assert_eq!(rt; text.as_slice(), b"TAD 200".as_slice());
         assert!(rt; !source.failed());
@@ -72,7 +72,7 @@ fn an_interrupted_read_is_tried_again(rt: HostRuntime) -> Result<(), Fail> {
 
 #[test]
 fn a_read_that_fails_after_interruptions_has_failed(rt: HostRuntime) {
-    let mut source = Reads::new(interrupted(rt.alloc(), 3, true, b"TAD 200"));
+    let mut source = Reads::new(broken_off(rt.alloc(), 3, true, b"TAD 200"));
     assert!(rt; read_at_most(rt.alloc(), &mut source, 100).is_err());
     assert!(rt; source.failed());
 }
@@ -80,7 +80,7 @@ fn a_read_that_fails_after_interruptions_has_failed(rt: HostRuntime) {
 #[test]
 fn an_interrupted_write_is_tried_again(rt: HostRuntime) -> Result<(), Fail> {
     for times in [0, 1, 2, 30] {
-        let mut sink = Writes::new(interrupted(rt.alloc(), times, false, b""));
+        let mut sink = Writes::new(broken_off(rt.alloc(), times, false, b""));
         put(&mut sink, b"HALT 0200")?;
         assert!(rt; !sink.failed());
     }
@@ -89,7 +89,7 @@ fn an_interrupted_write_is_tried_again(rt: HostRuntime) -> Result<(), Fail> {
 
 #[test]
 fn a_write_that_fails_after_interruptions_has_failed(rt: HostRuntime) {
-    let mut sink = Writes::new(interrupted(rt.alloc(), 3, true, b""));
+    let mut sink = Writes::new(broken_off(rt.alloc(), 3, true, b""));
     assert!(rt; put(&mut sink, b"HALT 0200").is_err());
     assert!(rt; sink.failed());
 }

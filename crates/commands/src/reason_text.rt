@@ -234,27 +234,31 @@ fn push_return<A: Allocator>(text: &mut Vec<u8, A>, breach: &ReturnBreach) -> Re
     }
 }
 
+/// Adds a cell that may be written, and what is wrong with that.
+fn push_write<A: Allocator>(
+    text: &mut Vec<u8, A>,
+    cell: Word,
+    wrong: &[u8],
+) -> Result<(), AllocError>
+    ensures { OnOk result
+        (text.new.items ≡ text.old.items ++ around (codes "it may write ") cell wrong.now) }
+{
+    push_around(text, b"it may write ", cell, wrong)
+}
+
 /// Adds what a word breaks.
 fn push_breach<A: Allocator>(text: &mut Vec<u8, A>, breach: &Breach) -> Result<(), AllocError>
     ensures { OnOk result (text.new.items ≡ text.old.items ++ breach_text breach.now) }
 {
     match breach {
         Breach::NotSupported => text.extend_from_slice(b"it isn't supported"),
-        Breach::WritesUndeclared(cell) => push_around(
-            text,
-            b"it may write ",
-            *cell,
-            b", which is neither a variable nor an entry",
-        ),
-        Breach::WritesEntry(cell) => {
-            push_around(text, b"it may write ", *cell, b", which is an entry")
+        Breach::WritesUndeclared(cell) => {
+            push_write(text, *cell, b", which is neither a variable nor an entry")
         }
-        Breach::WritesUnlisted(cell) => push_around(
-            text,
-            b"it may write ",
-            *cell,
-            b", which isn't in the routine's written set",
-        ),
+        Breach::WritesEntry(cell) => push_write(text, *cell, b", which is an entry"),
+        Breach::WritesUnlisted(cell) => {
+            push_write(text, *cell, b", which isn't in the routine's written set")
+        }
         Breach::HaltsUndeclared => {
             text.extend_from_slice(b"it halts, and no halt is declared there")
         }

@@ -1,5 +1,5 @@
 -- What is certified, and why something isn't.
-use Rattle.std.specs.Prelude.{◌≡◌, ◌≢◌, ℕ, ◌⊎◌, Option, List, take}
+use Rattle.std.specs.Prelude.{◌≡◌, ◌≢◌, ℕ, ◌⊎◌, ⊤, Option, List, take}
 use Rattle.bin_tape.specs.Tape.{IsTape}
 use Rattle.bin_tape.specs.Refuses.{Refuses}
 use Rattle.peripherals.specs.Loading.{image_of}
@@ -60,3 +60,8 @@ IsRefused t d c (fault.Declaration f) = IsSomeTape t × Fails d f × (f ≢ decl
 IsRefused t d c (fault.Certificate f) = IsSomeTape t × DeclaresSomething d × HasFault c f
 IsRefused t d c (fault.Refused r) = (p : Parts) × AreRead t d c p × IsFirst (case_of p) r.condition r.address
 IsRefused t d c fault.NoMemory = IsSomeTape t × (Fails d declaration.NoMemory ⊎ DeclaresSomething d)
+
+-- A condition refuses.
+abbrev pub IsRefusal : CertifyFault → Type 0
+IsRefusal (fault.Refused r) = ⊤
+IsRefusal _ = ⊥

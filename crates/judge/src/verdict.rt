@@ -1,11 +1,20 @@
 //! Certified programs: a tape, a declaration and a certificate that meets every condition.
 
-ghost use Rattle.std.specs.Prelude.{◌≡◌, IfOk, IfErr, OnErr};
-ghost use Rattle.peripherals.specs.World.{view};
+ghost use Rattle.std.specs.Prelude.{◌≡◌, ◌≢◌, ◌⊎◌, Err, IfOk, IfErr, IsErrAnd, OnErr};
+ghost use Rattle.bin_tape.specs.Refuses.{Refuses};
+ghost use Rattle.bin_tape.specs.declared.fault.TapeFault.{TapeFault as TapesFault};
+ghost use Rattle.declaration.specs.Text.{Fails};
+ghost use Rattle.declaration.specs.declared.DeclarationFault.{DeclarationFault as DeclarationsFault};
+ghost use Rattle.declaration.specs.declared.DeclarationFault.TheVariants as declaration_fault;
+ghost use Rattle.certificate.specs.declared.Version.{Version};
+ghost use Rattle.certificate.specs.declared.CertificateFault.{CertificateFault as CertificatesFault};
+ghost use Rattle.certificate.specs.Faults.{IsText, HasFault};
+ghost use Rattle.judge.specs.declared.verdict.CertifyFault.TheVariants as fault;
+ghost use Rattle.peripherals.specs.World.{view, profile_of};
 ghost use Rattle.policy.specs.Runs.{IsSafe};
 ghost use Rattle.policy.specs.Watching.{IsClean, LeadsTo, StepPutsOut, begun};
 ghost use Rattle.judge.specs.Conditions.{IsValid};
-ghost use Rattle.judge.specs.Certifying.{AreRead, IsRefused, case_of, declaration_of, words_of};
+ghost use Rattle.judge.specs.Certifying.{AreRead, IsRefused, IsRefusal, IsSomeTape, DeclaresSomething, case_of, declaration_of, words_of};
 
 use crate::judging::{Refusal, judge};
 use bin_tape::{Image, TapeFault, read_tape};
@@ -110,6 +119,9 @@ impl<A: Allocator> Certified<A> {
     ) -> Result<World<B>, NoMemory>
         ensures run { let d = declaration_of self.now in IfOk result (λ world.
             LeadsTo d events.now (begun (words_of self.now) d start.now) (view world)) }
+        // The world is on the declared machine.
+        ensures profile { let d = declaration_of self.now in IfOk result (λ world.
+            profile_of world ≡ d.profile) }
         // Each enabled step was legal.
         ensures legal { let d = declaration_of self.now in
             IsClean (words_of self.now) d events.now (begun (words_of self.now) d start.now) }
@@ -146,6 +158,19 @@ pub fn certify<A: Allocator + Copy>(
     // and the program is safe.
     ensures safe { IfOk result (λ c. IsSafe (words_of c) (declaration_of c)) }
     ensures refused { IfErr result (IsRefused tape.now declaration.now certificate.now) }
+    // Whichever fault the tape has is told.
+    ensures tape_told { (f : TapesFault) → Refuses 65536 tape.now f → result ≡ Err (fault.Tape f) }
+    // Whichever fault the declaration of a good tape has is told, unless memory is refused.
+    ensures declaration_told { (f : DeclarationsFault) → IsSomeTape tape.now →
+        Fails declaration.now f → f ≢ declaration_fault.NoMemory →
+        IsErrAnd result (λ g. (g ≡ fault.NoMemory) ⊎ (g ≡ fault.Declaration f)) }
+    // Whichever fault the certificate has is told where the others are good, unless memory is refused.
+    ensures certificate_told { (f : CertificatesFault) → IsSomeTape tape.now →
+        DeclaresSomething declaration.now → HasFault certificate.now f →
+        IsErrAnd result (λ g. (g ≡ fault.NoMemory) ⊎ (g ≡ fault.Certificate f)) }
+    // Where all three are good only a condition refuses, unless memory is.
+    ensures judged { (v : Version) → IsSomeTape tape.now → DeclaresSomething declaration.now →
+        IsText v certificate.now → IfErr result (λ g. (g ≡ fault.NoMemory) ⊎ IsRefusal g) }
 {
     let image = match read_tape(tape) {
         Ok(image) => image,

@@ -60,6 +60,7 @@ fn happen_all<A: Allocator, D: Allocator>(
     requires { profile_of world.old ≡ (meaning declaration.now).profile }
     ensures run { OnOk result
         (LeadsTo (meaning declaration.now) events.now (view world.old) (view world.new)) }
+    ensures profile { profile_of world.new ≡ (meaning declaration.now).profile }
     ensures only_output { OnErr result
         (StepPutsOut (meaning declaration.now) events.now (view world.old)) }
 {
@@ -88,6 +89,9 @@ pub fn run_declared<A: Allocator + Copy, D: Allocator>(
 ) -> Result<World<A>, NoMemory>
     ensures run { let d = meaning declaration.now in IfOk result (λ world.
         LeadsTo d events.now (begun (image_of image.now) d start.now) (view world)) }
+    // The world is on the declared machine.
+    ensures profile { let d = meaning declaration.now in IfOk result (λ world.
+        profile_of world ≡ d.profile) }
     // It begins in a world into which the tape is loaded.
     ensures loaded { let d = meaning declaration.now in
         IsLoaded (image_of image.now) d.start (begun (image_of image.now) d start.now) }

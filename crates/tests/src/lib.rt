@@ -13,6 +13,8 @@ mod desk;
 mod explained;
 #[cfg(test)]
 mod instructions;
+#[cfg(test)]
+mod interrupts;
 pub mod plain;
 #[cfg(test)]
 mod program;

@@ -96,6 +96,18 @@ fn words_are_carried_out(rt: HostRuntime) -> Result<(), Fail> {
         ),
         ("pdp8 list -", Status::Done, listing),
         ("pdp8 list halt.pal --profile 8i", Status::Done, listing),
+    ] {
+        let end = run_program(rt.alloc(), words);
+        assert_eq!(rt; end.status, status.code(), "{words}");
+        assert_eq!(rt; end.printed.as_slice(), printed.as_bytes(), "{words}");
+        assert!(rt; end.told.is_empty(), "{words}");
+    }
+    Ok(())
+}
+
+#[test]
+fn verdicts_are_printed(rt: HostRuntime) -> Result<(), Fail> {
+    for (words, status, printed) in [
         (
             "pdp8 watch halt.bin halt.dcl step.ev",
             Status::Done,

@@ -218,6 +218,11 @@ fn routines_that_no_line_spells(rt: HostRuntime) -> Result<(), Fail> {
             Some(CertificateFault::BadLine(2))
         );
     }
+    Ok(())
+}
+
+#[test]
+fn routines_that_a_line_spells(rt: HostRuntime) -> Result<(), Fail> {
     for line in [
         "routine 0000 rank 77 sites - writes 0000-7777",
         "routine 7777 rank 00 sites 0000,7777 writes 0000-0001,0003",
@@ -266,7 +271,7 @@ fn facts_that_no_line_spells(rt: HostRuntime) -> Result<(), Fail> {
 }
 
 #[test]
-fn details_and_exits_that_no_line_spells(rt: HostRuntime) -> Result<(), Fail> {
+fn details_that_no_line_spells(rt: HostRuntime) -> Result<(), Fail> {
     for line in [
         "cell 10 0224",
         "cell 0010 -",
@@ -291,6 +296,18 @@ fn details_and_exits_that_no_line_spells(rt: HostRuntime) -> Result<(), Fail> {
         );
     }
     for line in [
+        "equal AC 0000 0000",
+        "equal 0010 0224 7777",
+        "cell 7777 0000-7777",
+    ] {
+        assert_eq!(rt; with(rt.alloc(), 8, line)?, None);
+    }
+    Ok(())
+}
+
+#[test]
+fn exits_that_no_line_spells(rt: HostRuntime) -> Result<(), Fail> {
+    for line in [
         "exit 0214 8 ac 0000 link 0",
         "exit 0214 00 ac 0000 link 0",
         "exit 0214 - ac 0000 link 0",
@@ -305,13 +322,6 @@ fn details_and_exits_that_no_line_spells(rt: HostRuntime) -> Result<(), Fail> {
             with(rt.alloc(), 34, line)?,
             Some(CertificateFault::BadLine(34))
         );
-    }
-    for line in [
-        "equal AC 0000 0000",
-        "equal 0010 0224 7777",
-        "cell 7777 0000-7777",
-    ] {
-        assert_eq!(rt; with(rt.alloc(), 8, line)?, None);
     }
     Ok(())
 }

@@ -545,3 +545,22 @@ fn these_faults_have_their_lines(rt: HostRuntime) -> Result<(), Fail> {
     }
     Ok(())
 }
+
+#[test]
+fn each_code_has_its_letters(rt: HostRuntime) -> Result<(), Fail> {
+    for (code, line) in [
+        (Code::IllegalCharacter, "pdp8: source: IC 2 31"),
+        (Code::Redefined, "pdp8: source: RD 2 31"),
+        (Code::DuplicateTag, "pdp8: source: DT 2 31"),
+        (Code::Undefined, "pdp8: source: UA 2 31"),
+        (Code::IllegalReference, "pdp8: source: IR 2 31"),
+        (Code::TableFull, "pdp8: source: ST 2 31"),
+        (Code::NumberTooLarge, "pdp8: source: NB 2 31"),
+        (Code::PauseInLastPart, "pdp8: source: PA 2 31"),
+        (Code::TooLong, "pdp8: source: TL 2 31"),
+    ] {
+        let text = format!(in rt.alloc(); "{}", fault(code, 2, 31))?;
+        assert_eq!(rt; text.as_str(), line);
+    }
+    Ok(())
+}

@@ -3,8 +3,9 @@
 use crate::{GuessFault, Turns, guess, guess_within};
 use bin_tape::Image;
 use declaration::Declaration;
+use certificate::{Certificate, Version};
 use facts::Fact;
-use judge::{Claims, judge};
+use judge::judge;
 use std::test::Fail;
 use testing::Refusing;
 use word12::Word;

@@ -1,4 +1,4 @@
--- What is said of facts as they are kept, and where they are.
+-- What is said of facts as they are kept, and where they are; it serves private contracts.
 use Rattle.std.specs.Prelude.{ℕ, Bool, ◌&&◌, nat_le, length, map, Option, Some, None, slice_index_or}
 use Rattle.wordset.specs.Lanes.{words}
 use Rattle.wordset.specs.Links.{links_of}

@@ -63,8 +63,8 @@ fn version_of(profile: Profile) -> Version
 /// # Errors
 ///
 /// `TurnsSpent` with all turns spent, `Stuck` at an instruction that the checker would refuse or at
-/// an entry whose routine calls itself by way of others (and where more is found than a certificate
-/// can say), and `NoMemory`.
+/// an entry whose routine calls itself by way of others (and at the address of a fact or the entry of
+/// an exit that has no line in a certificate), and `NoMemory`.
 pub fn guess_within<A: Allocator + Copy, D: Allocator>(
     alloc: A,
     image: &Image,

@@ -6,7 +6,9 @@ use certificate::{Certificate, Version};
 use declaration::Declaration;
 use facts::Fact;
 use judge::{certify, judge};
-use std::alloc::Global;
+use peripherals::{Event, Start};
+use policy::{Watched, watch};
+use std::alloc::{AllocError, Global};
 use std::test::Fail;
 use testing::{MemorySink, Refusing};
 use word12::Word;
@@ -104,16 +106,83 @@ fn text_of(rt: &HostRuntime, certificate: &Certificate<Global>) -> Result<Vec<u8
     Ok(sink.bytes().to_vec(rt.alloc())?)
 }
 
+/// The text of the certificate that is guessed for HELLO.
+fn hello_text(rt: &HostRuntime) -> Result<Vec<u8>, Fail> {
+    let declaration = Declaration::parse(rt.alloc(), HELLO_DECLARED)?;
+    let found = guess(rt.alloc(), &image(&HELLO), &declaration)?;
+    text_of(rt, &found)
+}
+
+/// The tape of HELLO.
+fn hello_tape(rt: &HostRuntime) -> Result<Vec<u8>, Fail> {
+    let mut sink = MemorySink::new(rt.alloc(), 65_536);
+    write_tape(&image(&HELLO), &mut sink)?;
+    Ok(sink.bytes().to_vec(rt.alloc())?)
+}
+
 #[test]
 fn what_is_written_of_a_guess_is_certified(rt: HostRuntime) -> Result<(), Fail> {
-    let tape = image(&HELLO);
-    let declaration = Declaration::parse(rt.alloc(), HELLO_DECLARED)?;
-    let text = text_of(&rt, &guess(rt.alloc(), &tape, &declaration)?)?;
+    let text = hello_text(&rt)?;
     let again = text_of(&rt, &Certificate::parse(rt.alloc(), &text)?)?;
     assert_eq!(rt; again.as_slice(), text.as_slice());
-    let mut bytes = MemorySink::new(rt.alloc(), 65_536);
-    write_tape(&tape, &mut bytes)?;
-    assert!(rt; certify(rt.alloc(), bytes.bytes(), HELLO_DECLARED, &text).is_ok());
+    let tape = hello_tape(&rt)?;
+    assert!(rt; certify(rt.alloc(), &tape, HELLO_DECLARED, &text).is_ok());
+    Ok(())
+}
+
+/// A text without the line of a number, counted from 1.
+fn without(alloc: Global, text: &[u8], number: usize) -> Result<Vec<u8>, AllocError> {
+    let mut left = Vec::new(alloc);
+    let mut line = 1usize;
+    for byte in text {
+        if line != number {
+            left.push(*byte)?;
+        }
+        if *byte == b'\n' {
+            line = line.saturating_add(1);
+        }
+    }
+    Ok(left)
+}
+
+/// Forty-six rounds of a step and the ends of what the printer and the punch do.
+fn rounds() -> [Event; 138] {
+    let mut events = [Event::Step; 138];
+    for round in 0..46 {
+        events[3 * round + 1] = Event::PrinterDone;
+        events[3 * round + 2] = Event::PunchDone;
+    }
+    events
+}
+
+/// What the watcher finds in rounds of HELLO, where a text certifies it.
+fn watched(rt: &HostRuntime, tape: &[u8], text: &[u8]) -> Result<Option<Watched>, Fail> {
+    let Ok(certified) = certify(rt.alloc(), tape, HELLO_DECLARED, text) else {
+        return Ok(None);
+    };
+    let told = watch(
+        rt.alloc(),
+        certified.image(),
+        certified.declaration(),
+        &Start::zero(),
+        &rounds(),
+    )?;
+    Ok(Some(told))
+}
+
+#[test]
+fn what_is_certified_with_a_line_left_out_is_clean(rt: HostRuntime) -> Result<(), Fail> {
+    let tape = hello_tape(&rt)?;
+    let text = hello_text(&rt)?;
+    let mut clean = 0usize;
+    for number in 1..63usize {
+        let less = without(rt.alloc(), &text, number)?;
+        if let Some(told) = watched(&rt, &tape, &less)? {
+            assert_eq!(rt; told, Watched::Clean, "line {number}");
+            clean = clean.saturating_add(1);
+        }
+    }
+    assert_eq!(rt; clean, 26);
     Ok(())
 }
 

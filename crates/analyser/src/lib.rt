@@ -1,4 +1,4 @@
-//! Guesses at why a program is safe: facts at its addresses, which `judge` then tests.
+//! Guesses at why a program is safe: certificates, which `judge` then tests.
 #![tactic(auto)]
 
 ghost use Rattle.std.specs.Prelude.{◌≡◌, ◌≤◌, IfErr, IfOk};

@@ -1,12 +1,16 @@
 //! Guesses for small programs, which the judge accepts.
 
 use crate::{GuessFault, Turns, guess, guess_within};
-use bin_tape::Image;
+use bin_tape::{Image, write_tape};
+use certificate::{Certificate, Version};
 use declaration::Declaration;
 use facts::Fact;
-use judge::{Claims, judge};
+use judge::{certify, judge};
+use peripherals::{Event, Start};
+use policy::{Watched, watch};
+use std::alloc::{AllocError, Global};
 use std::test::Fail;
-use testing::Refusing;
+use testing::{MemorySink, Refusing};
 use word12::Word;
 
 /// The words of a program that prints HELLO, from 0200 on.
@@ -76,6 +80,109 @@ fn an_8e_is_certified(rt: HostRuntime) -> Result<(), Fail> {
     let tape = image(&[0o7621, 0o7001, 0o7421, 0o7501, 0o7402]);
     let declared = b"start 0200\nmain 0200-0204\nstop 0204\nprofile 8e\n";
     assert!(rt; is_certified(&rt, &tape, declared)?);
+    Ok(())
+}
+
+/// The version of the certificate that is guessed for NOP and HLT at 0200.
+fn version_for(rt: &HostRuntime, declared: &[u8]) -> Result<Version, Fail> {
+    let declaration = Declaration::parse(rt.alloc(), declared)?;
+    let found = guess(rt.alloc(), &image(&[0o7000, 0o7402]), &declaration)?;
+    Ok(found.version())
+}
+
+#[test]
+fn the_version_is_that_of_the_machine(rt: HostRuntime) -> Result<(), Fail> {
+    let basic = b"start 0200\nmain 0200-0201\nstop 0201\nprofile 8i\n";
+    assert_eq!(rt; version_for(&rt, basic)?, Version::One);
+    let extended = b"start 0200\nmain 0200-0201\nstop 0201\nprofile 8e\n";
+    assert_eq!(rt; version_for(&rt, extended)?, Version::Two);
+    Ok(())
+}
+
+/// The text of a certificate.
+fn text_of(rt: &HostRuntime, certificate: &Certificate<Global>) -> Result<Vec<u8>, Fail> {
+    let mut sink = MemorySink::new(rt.alloc(), 65_536);
+    certificate.write(&mut sink)?;
+    Ok(sink.bytes().to_vec(rt.alloc())?)
+}
+
+/// The text of the certificate that is guessed for HELLO.
+fn hello_text(rt: &HostRuntime) -> Result<Vec<u8>, Fail> {
+    let declaration = Declaration::parse(rt.alloc(), HELLO_DECLARED)?;
+    let found = guess(rt.alloc(), &image(&HELLO), &declaration)?;
+    text_of(rt, &found)
+}
+
+/// The tape of HELLO.
+fn hello_tape(rt: &HostRuntime) -> Result<Vec<u8>, Fail> {
+    let mut sink = MemorySink::new(rt.alloc(), 65_536);
+    write_tape(&image(&HELLO), &mut sink)?;
+    Ok(sink.bytes().to_vec(rt.alloc())?)
+}
+
+#[test]
+fn what_is_written_of_a_guess_is_certified(rt: HostRuntime) -> Result<(), Fail> {
+    let text = hello_text(&rt)?;
+    let again = text_of(&rt, &Certificate::parse(rt.alloc(), &text)?)?;
+    assert_eq!(rt; again.as_slice(), text.as_slice());
+    let tape = hello_tape(&rt)?;
+    assert!(rt; certify(rt.alloc(), &tape, HELLO_DECLARED, &text).is_ok());
+    Ok(())
+}
+
+/// A text without the line of a number, counted from 1.
+fn without(alloc: Global, text: &[u8], number: usize) -> Result<Vec<u8>, AllocError> {
+    let mut left = Vec::new(alloc);
+    let mut line = 1usize;
+    for byte in text {
+        if line != number {
+            left.push(*byte)?;
+        }
+        if *byte == b'\n' {
+            line = line.saturating_add(1);
+        }
+    }
+    Ok(left)
+}
+
+/// Forty-six rounds of a step and the ends of what the printer and the punch do.
+fn rounds() -> [Event; 138] {
+    let mut events = [Event::Step; 138];
+    for round in 0..46 {
+        events[3 * round + 1] = Event::PrinterDone;
+        events[3 * round + 2] = Event::PunchDone;
+    }
+    events
+}
+
+/// What the watcher finds in rounds of HELLO, where a text certifies it.
+fn watched(rt: &HostRuntime, tape: &[u8], text: &[u8]) -> Result<Option<Watched>, Fail> {
+    let Ok(certified) = certify(rt.alloc(), tape, HELLO_DECLARED, text) else {
+        return Ok(None);
+    };
+    let told = watch(
+        rt.alloc(),
+        certified.image(),
+        certified.declaration(),
+        &Start::zero(),
+        &rounds(),
+    )?;
+    Ok(Some(told))
+}
+
+#[test]
+fn what_is_certified_with_a_line_left_out_is_clean(rt: HostRuntime) -> Result<(), Fail> {
+    let tape = hello_tape(&rt)?;
+    let text = hello_text(&rt)?;
+    let mut clean = 0usize;
+    for number in 1..63usize {
+        let less = without(rt.alloc(), &text, number)?;
+        if let Some(told) = watched(&rt, &tape, &less)? {
+            assert_eq!(rt; told, Watched::Clean, "line {number}");
+            clean = clean.saturating_add(1);
+        }
+    }
+    assert_eq!(rt; clean, 26);
     Ok(())
 }
 

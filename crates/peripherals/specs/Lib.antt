@@ -6,3 +6,4 @@ pub mod Seen
 pub mod World
 pub mod EventText
 pub mod Repeated
+pub mod Operator

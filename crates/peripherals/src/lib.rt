@@ -7,6 +7,7 @@
 
 mod devices;
 mod event_text;
+mod operator;
 mod world;
 
 ghost use Rattle.std.specs.Prelude.{◌≡◌};
@@ -15,6 +16,7 @@ ghost use Rattle.peripherals.specs.Runs.{EventsAreRuns};
 
 pub use devices::{Keyboard, Outlet, Panel, Reader};
 pub use event_text::{EventsFault, events};
+pub use operator::Operator;
 use processor::Memory;
 use std::alloc::AllocError;
 use thiserror::Error;

@@ -138,6 +138,20 @@ impl<A: Allocator> World<A> {
         self.halted_at
     }
 
+    /// The reader waits for a frame.
+    pub(crate) fn reader_waits(&self) -> bool
+        ensures { result ≡ (view self.now).devices.reader.fetching }
+    {
+        self.panel.reader.fetching
+    }
+
+    /// A key was struck and hasn't been taken.
+    pub(crate) fn key_is_there(&self) -> bool
+        ensures { result ≡ (view self.now).devices.keyboard.flag }
+    {
+        self.panel.keyboard.flag
+    }
+
     /// Tries one instruction of a machine that runs.
     fn step(&mut self) -> Result<Seen, NoMemory>
         requires { (view self.old).halted_at ≡ None }

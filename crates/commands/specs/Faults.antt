@@ -19,7 +19,7 @@ use Rattle.commands.specs.declared.status.Fault.{Fault}
 use Rattle.commands.specs.declared.status.Fault.TheVariants.{Tape, Declared, Certificate, Events, Device}
 use Rattle.commands.specs.declared.status.Fault.TheVariants as fault
 use Rattle.commands.specs.declared.status.DeviceFault.TheVariants.{Read, Write}
-use Rattle.commands.specs.Inputs.{Input, IsGoodTape, IsGoodDeclaration, FailsInTape, FailsInText}
+use Rattle.commands.specs.Inputs.{Input, IsGoodTape, IsGoodDeclaration, IsGoodCertificate, FailsInTape, FailsInText}
 
 -- The answer is that a write failed.
 abbrev pub fails_to_write : {T : Type 0} → Result T Fault → Bool
@@ -106,6 +106,11 @@ IsRunFault (Device Write) = Unit {0}
 IsRunFault fault.NoMemory = Unit {0}
 IsRunFault _ = ⊥
 
+-- The inputs are good, and a write failed.
+abbrev pub IsWriteFault : Fault → Type 0
+IsWriteFault (Device Write) = Unit {0}
+IsWriteFault _ = ⊥
+
 -- Why a command of a tape has no result: the tape's fault, or after a good tape that of the work.
 abbrev pub IsTapeFault : Input → Fault → Type 0
 IsTapeFault tape fault = IsTapeInputFault tape fault ⊎ (IsGoodTape tape.had × IsRunFault fault)
@@ -126,3 +131,8 @@ abbrev pub IsCheckFault : Input → Input → Input → Fault → Type 0
 IsCheckFault tape text certificate fault =
     IsTapeInputFault tape fault ⊎ (IsGoodTape tape.had × (IsDeclarationInputFault text fault
     ⊎ (IsGoodDeclaration text.had × (IsCertificateInputFault certificate fault ⊎ IsRunFault fault))))
+
+-- Why a certificate isn't migrated: its fault, or after a good one a write failed. Migrating takes no memory.
+abbrev pub IsMigrateFault : Input → Fault → Type 0
+IsMigrateFault certificate fault =
+    IsCertificateInputFault certificate fault ⊎ (IsGoodCertificate certificate.had × IsWriteFault fault)

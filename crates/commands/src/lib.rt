@@ -7,6 +7,7 @@ pub mod explaining;
 pub mod follow;
 mod inputs;
 pub mod laws;
+pub mod migrating;
 mod reason_text;
 pub mod running;
 mod sources;

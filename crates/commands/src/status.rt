@@ -7,7 +7,7 @@ ghost use Rattle.commands.specs.Faults.{fault_of_certificate, fault_of_declarati
 ghost use Rattle.commands.specs.Statuses.{code_of, status_of_fault};
 
 use bin_tape::TapeFault;
-use certificate::CertificateFault;
+use certificate::{CertificateFault, WriteFault};
 use declaration::DeclarationFault;
 use pal_asm::PalFault;
 use peripherals::{EventsFault, NoMemory};
@@ -179,6 +179,14 @@ impl From<Failed> for Fault {
 
     /// Commands convert the failures of their output so; their inputs tell their own faults.
     fn from(_: Failed) -> Fault {
+        Fault::Device(DeviceFault::Write)
+    }
+}
+
+impl From<WriteFault> for Fault {
+    ghost from_gives = { λ _ result. result ≡ Device Write };
+
+    fn from(_: WriteFault) -> Fault {
         Fault::Device(DeviceFault::Write)
     }
 }

@@ -5,6 +5,7 @@ use crate::certificates::HELLO;
 use bin_tape::{Image, write_tape};
 use certificate::CertificateFault;
 use commands::checking::check;
+use commands::migrating::migrate;
 use commands::status::{DeviceFault, Fault, Status};
 use judge::{CertifyFault, certify};
 use peripherals::{Event, Start};
@@ -325,6 +326,39 @@ fn either_version_is_judged_for_either_machine(rt: HostRuntime) -> Result<(), Fa
             assert_eq!(rt; said.as_str(), "yes");
         }
     }
+    Ok(())
+}
+
+#[test]
+fn hello_is_migrated(rt: HostRuntime) -> Result<(), Fail> {
+    let first = without(rt.alloc(), HELLO.as_slice(), 0)?;
+    let second = without(rt.alloc(), HELLO_WITH_MQ.as_slice(), 0)?;
+    // What is migrated already stays as it is.
+    for text in [first.as_slice(), second.as_slice()] {
+        for (room, wanted) in [
+            (4096usize, Ok(Status::Done)),
+            (100, Err(Fault::Device(DeviceFault::Write))),
+        ] {
+            let mut out = MemorySink::new(rt.alloc(), room);
+            let ended = migrate(rt.alloc(), &mut MemorySource::new(text), &mut out);
+            assert_eq!(rt; ended, wanted);
+            assert_eq!(rt; out.bytes(), &second[..second.len().min(room)]);
+        }
+    }
+    Ok(())
+}
+
+#[test]
+fn a_certificate_that_is_refused_or_not_read_is_not_migrated(rt: HostRuntime) -> Result<(), Fail> {
+    let text = without(rt.alloc(), HELLO.as_slice(), 35)?;
+    let mut out = MemorySink::new(rt.alloc(), 4096);
+    let ended = migrate(rt.alloc(), &mut MemorySource::new(&text), &mut out);
+    assert_eq!(rt; ended, Err(Fault::Certificate(CertificateFault::BadLine(35))));
+    assert!(rt; out.bytes().is_empty());
+    let mut failing = MemorySource::new(&text).in_pieces(100).failing_after(3);
+    let ended = migrate(rt.alloc(), &mut failing, &mut out);
+    assert_eq!(rt; ended, Err(Fault::Device(DeviceFault::Read)));
+    assert!(rt; out.bytes().is_empty());
     Ok(())
 }
 

@@ -27,6 +27,7 @@ fn content(name: &str) -> Option<&'static [u8]> {
         "halt.cert" => {
             Some(b"PDP8-CERTIFICATE 1\nfact 0200 ac 0000-7777 link 01 offsets -\nend\n")
         }
+        "bad.cert" => Some(b"PDP8-CERTIFICATE 1\nfact 0200\nend\n"),
         "wild.dcl" => Some(b"start 200\nmain 200\n"),
         "step.ev" => Some(b"step\n"),
         "bad.ev" => Some(b"steps\n"),

@@ -17,9 +17,11 @@ fn bad_words_are_told(rt: HostRuntime) -> Result<(), Fail> {
         ("pdp8 list", missing),
         ("pdp8 watch halt.bin halt.dcl", missing),
         ("pdp8 check halt.bin halt.dcl", missing),
+        ("pdp8 migrate halt.cert", missing),
         ("pdp8 run a b", "error: unexpected argument 'b' found"),
         ("pdp8 dump a b", "error: unexpected argument 'b' found"),
         ("pdp8 watch a b c d", "error: unexpected argument 'd' found"),
+        ("pdp8 migrate a b c", "error: unexpected argument 'c' found"),
         ("pdp8 run a --start 8", "error: bad value for '--start': "),
         ("pdp8 fly", "error: unrecognized subcommand 'fly'"),
         (
@@ -133,6 +135,7 @@ fn help_is_printed(rt: HostRuntime) -> Result<(), Fail> {
         "pdp8 -h",
         "pdp8 help run",
         "pdp8 list -h",
+        "pdp8 help migrate",
     ] {
         let end = run_program(rt.alloc(), words);
         assert_eq!(rt; end.status, Status::Done.code(), "{words}");
@@ -171,6 +174,8 @@ fn files_are_opened_in_order_before_any_is_read(rt: HostRuntime) -> Result<(), F
             "bad.bin bad.dcl absent ",
         ),
         ("pdp8 assemble o.bin absent bad.pal", "o.bin absent "),
+        ("pdp8 migrate absent o.cert", "absent "),
+        ("pdp8 migrate failing o.cert", "failing o.cert "),
     ] {
         let refused = is_refused(rt.alloc(), words, Status::Device, told, opened);
         assert!(rt; refused, "{words}");
@@ -184,6 +189,8 @@ fn files_that_cannot_be_made_or_written_are_told(rt: HostRuntime) -> Result<(), 
     for (words, opened) in [
         ("pdp8 assemble absent/o bad.pal", "absent/o "),
         ("pdp8 assemble failing halt.pal", "failing halt.pal "),
+        ("pdp8 migrate bad.cert absent/o", "bad.cert absent/o "),
+        ("pdp8 migrate halt.cert failing", "halt.cert failing "),
     ] {
         let refused = is_refused(rt.alloc(), words, Status::Device, told, opened);
         assert!(rt; refused, "{words}");
@@ -212,6 +219,12 @@ fn the_first_input_with_a_fault_is_told(rt: HostRuntime) -> Result<(), Fail> {
         ),
         // The tape's file is made before the source is looked at.
         ("pdp8 assemble o.bin bad.pal", source, "o.bin bad.pal "),
+        // The certificate's file is made before the certificate is looked at.
+        (
+            "pdp8 migrate bad.cert o.cert",
+            "pdp8: certificate: BadLine 2\n",
+            "bad.cert o.cert ",
+        ),
     ] {
         let refused = is_refused(rt.alloc(), words, Status::Refused, told, opened);
         assert!(rt; refused, "{words}");
@@ -233,6 +246,31 @@ fn the_tape_goes_where_it_is_asked_for(rt: HostRuntime) -> Result<(), Fail> {
 }
 
 #[test]
+fn the_migrated_certificate_goes_where_it_is_asked_for(rt: HostRuntime) -> Result<(), Fail> {
+    let migrated =
+        b"PDP8-CERTIFICATE 2\nfact 0200 ac 0000-7777 mq 0000-7777 link 01 offsets -\nend\n";
+    let to_file = run_program(rt.alloc(), "pdp8 migrate halt.cert o.cert");
+    assert_eq!(rt; to_file.status, Status::Done.code());
+    assert_eq!(rt; to_file.written.as_slice(), migrated.as_slice());
+    assert_eq!(rt; to_file.opened.as_slice(), b"halt.cert o.cert ".as_slice());
+    assert!(rt; to_file.printed.is_empty() && to_file.told.is_empty());
+    let to_output = run_program(rt.alloc(), "pdp8 migrate halt.cert -");
+    assert_eq!(rt; to_output.status, Status::Done.code());
+    assert_eq!(rt; to_output.printed.as_slice(), migrated.as_slice());
+    assert!(rt; to_output.told.is_empty() && to_output.written.is_empty());
+    // Standard input has a source here.
+    let refused = is_refused(
+        rt.alloc(),
+        "pdp8 migrate - o.cert",
+        Status::Refused,
+        "pdp8: certificate: Version\n",
+        "o.cert ",
+    );
+    assert!(rt; refused);
+    Ok(())
+}
+
+#[test]
 fn an_output_that_fails_is_told(rt: HostRuntime) -> Result<(), Fail> {
     for words in [
         "pdp8 run halt.bin",
@@ -243,6 +281,7 @@ fn an_output_that_fails_is_told(rt: HostRuntime) -> Result<(), Fail> {
         "pdp8 list halt.pal",
         "pdp8 watch halt.bin halt.dcl step.ev",
         "pdp8 check halt.bin halt.dcl halt.cert",
+        "pdp8 migrate halt.cert -",
         "pdp8 help",
         "pdp8 run --help",
     ] {

@@ -8,6 +8,7 @@ use clap::Error;
 use commands::assembling::{assemble, list};
 use commands::checking::check;
 use commands::explaining::explain;
+use commands::migrating::migrate;
 use commands::running::{RunOptions, dump, run, run_events};
 use commands::status::{DeviceFault, Fault, Status};
 use commands::watching::watch;
@@ -143,6 +144,11 @@ fn answer<R: Files + Input + Print>(
             certificate,
             explained,
         } => check_from(rt, alloc, tape, declaration, certificate, *explained),
+        Request::Migrate { certificate, out } => {
+            let mut text = open_input(rt, certificate)?;
+            let mut migrated = open_output(rt, out)?;
+            migrate(alloc, &mut text, &mut migrated)
+        }
     }
 }
 

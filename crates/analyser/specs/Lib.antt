@@ -1,2 +1,4 @@
-pub mod Counts
 pub mod Claimed
+pub mod Counts
+pub mod Making
+pub mod Versions

@@ -1,16 +1,14 @@
 //! Whether what is kept is of the form that the text of a certificate wants.
 
-ghost use Rattle.std.specs.Prelude.{ℕ, ◌≡◌, ◌<◌, true, map};
+ghost use Rattle.std.specs.Prelude.{◌≡◌, true, map};
 ghost use Rattle.facts.specs.Meaning.{equation_of};
-ghost use Rattle.certificate.specs.declared.Version.TheVariants.{Two};
 ghost use Rattle.certificate.specs.Reading.{Each, RiseFrom, IsTracked, IsEquation, IsStatement, place_of_equation};
-ghost use Rattle.analyser.specs.Claimed.{cell_of, said_of, kept_at, row_at, exit_in, IsSaidWell, IsInForm};
+ghost use Rattle.analyser.specs.Claimed.{cell_of, said_of};
 
 use crate::kept::{Kept, Line, MOST_CELLS, MOST_EQUATIONS, place_of};
-use crate::table::Guess;
+use certificate::Version;
 use facts::{Equation, Name};
 use std::alloc::Allocator;
-use word12::Word;
 
 /// Whether each tracked cell has a word.
 fn have_words(cells: &[Line]) -> bool
@@ -81,10 +79,13 @@ fn equations_rise(equations: &[Equation]) -> bool
 }
 
 impl<A: Allocator> Kept<A> {
-    /// Whether it is of its form.
-    fn is_in_form(&self) -> bool
-        ensures { result ≡ true → IsStatement Two (said_of self.now) }
+    /// Whether it is of the form that a version wants.
+    pub(crate) fn is_in_form(&self, version: Version) -> bool
+        ensures { result ≡ true → IsStatement version (said_of self.now) }
     {
+        if version == Version::One && !self.mq.is_all() {
+            return false;
+        }
         if self.ac.is_empty() || self.mq.is_empty() || self.link.is_empty() {
             return false;
         }
@@ -95,81 +96,5 @@ impl<A: Allocator> Kept<A> {
             return false;
         }
         are_oriented(&self.equations) && equations_rise(&self.equations)
-    }
-}
-
-impl<A: Allocator> Guess<A> {
-    /// Whether all ranks, facts and exits are of their form.
-    pub(crate) fn is_in_form(&self) -> bool
-        ensures { result ≡ true → IsInForm self.now }
-    {
-        if !self.has_small_ranks() {
-            return false;
-        }
-        if !self.facts_are_in_form() {
-            return false;
-        }
-        self.exits_are_in_form()
-    }
-
-    /// Whether a fact is of its form, if there is one.
-    fn fact_is_in_form(&self, at: Word) -> bool
-        ensures { result ≡ true →
-            IsSaidWell (kept_at self.now at) }
-    {
-        match self.kept(at) {
-            None => true,
-            Some(kept) => kept.is_in_form(),
-        }
-    }
-
-    /// Whether all facts are of their form.
-    fn facts_are_in_form(&self) -> bool
-        ensures { result ≡ true → (a : ℕ) → a < 4096 →
-            IsSaidWell (kept_at self.now a) }
-    {
-        for index in 0..4096usize {
-            if !self.fact_is_in_form(Word::from_index(index)) {
-                return false;
-            }
-        }
-        true
-    }
-
-    /// Whether an exit is of its form, if there is one.
-    fn exit_is_in_form(&self, entry: Word, offset: usize) -> bool
-        ensures { result ≡ true →
-            IsSaidWell (exit_in (row_at self.now entry) offset) }
-    {
-        match self.kept_exit(entry, offset) {
-            None => true,
-            Some(kept) => kept.is_in_form(),
-        }
-    }
-
-    /// Whether all exits of a routine are of their form.
-    fn exits_of_are_in_form(&self, entry: Word) -> bool
-        ensures { result ≡ true → (o : ℕ) → o < 8 →
-            IsSaidWell (exit_in (row_at self.now entry) o) }
-    {
-        for offset in 0..8usize {
-            if !self.exit_is_in_form(entry, offset) {
-                return false;
-            }
-        }
-        true
-    }
-
-    /// Whether all exits are of their form.
-    fn exits_are_in_form(&self) -> bool
-        ensures { result ≡ true → (e o : ℕ) → e < 4096 → o < 8 →
-            IsSaidWell (exit_in (row_at self.now e) o) }
-    {
-        for index in 0..4096usize {
-            if !self.exits_of_are_in_form(Word::from_index(index)) {
-                return false;
-            }
-        }
-        true
     }
 }

@@ -1,9 +1,9 @@
 //! Facts as they are kept: only as long as what they say.
 
 ghost use Rattle.std.specs.Prelude.{◌≡◌, ◌<◌, ◌≤◌, ◌+◌, ◌^◌, ◌++◌, length, map, true};
-ghost use Rattle.facts.specs.Meaning.{meaning, statement_of, offsets_of, equation_of};
+ghost use Rattle.facts.specs.Meaning.{statement_of, offsets_of, equation_of};
 ghost use Rattle.certificate.specs.Reading.{place_of_equation};
-ghost use Rattle.analyser.specs.Claimed.{cell_of, fact_kept, has_room};
+ghost use Rattle.analyser.specs.Claimed.{cell_of, said_of, has_room};
 
 use crate::turns::Halt;
 use crate::widening::smoothed;
@@ -234,7 +234,9 @@ impl<A: Allocator> Kept<A> {
     /// Whether there is room in a fact for what is kept, which the lent one then says.
     pub(crate) fn fact_into(&self, fact: &mut Fact) -> bool
         ensures there { result ≡ has_room self.now }
-        ensures fact { result ≡ true → meaning fact.new ≡ fact_kept self.now }
+        ensures statement { result ≡ true → statement_of fact.new ≡ said_of self.now }
+        ensures offsets { result ≡ true →
+            offsets_of fact.new.offsets ≡ offsets_of self.now.offsets }
     {
         if self.cells.len() > MOST_CELLS {
             return false;

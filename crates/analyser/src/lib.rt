@@ -2,12 +2,16 @@
 #![tactic(auto)]
 
 ghost use Rattle.std.specs.Prelude.{◌≡◌, ◌≤◌, IfErr, IfOk};
-ghost use Rattle.analyser.specs.Claimed.{IsInForm};
+ghost use Rattle.declaration.specs.Kept.{meaning as declared};
+ghost use Rattle.certificate.specs.Kept.{meaning};
+ghost use Rattle.certificate.specs.Reading.{AreLines};
 ghost use Rattle.analyser.specs.Counts.{IsSpentUp};
+ghost use Rattle.analyser.specs.Versions.{version_of};
 
 mod form;
 mod joining;
 mod kept;
+mod making;
 mod program;
 mod search;
 mod table;
@@ -17,9 +21,10 @@ mod widening;
 use crate::program::Program;
 use crate::search::Search;
 use bin_tape::Image;
+use certificate::{Certificate, Version};
 use declaration::Declaration;
+use instruct::Profile;
 use std::alloc::Allocator;
-pub use table::Guess;
 use thiserror::Error;
 pub use turns::Turns;
 use word12::Word;
@@ -41,21 +46,34 @@ pub enum GuessFault {
     NoMemory,
 }
 
+/// The version of the certificates for a machine.
+fn version_of(profile: Profile) -> Version
+    ensures { result ≡ version_of profile }
+{
+    match profile {
+        Profile::Pdp8I => Version::One,
+        Profile::Pdp8E => Version::Two,
+    }
+}
+
 /// Looks for facts, exits and written sets that show a tape's words safe under a declaration. What
-/// is found is to be judged: it is of its form, and that the judge accepts it isn't promised.
+/// is found is to be judged: it is a certificate, of version 1 for a PDP-8/I and of version 2 for a
+/// PDP-8/E, and that the judge accepts it isn't promised.
 ///
 /// # Errors
 ///
 /// `TurnsSpent` with all turns spent, `Stuck` at an instruction that the checker would refuse or at
-/// an entry whose routine calls itself by way of others (and at the start, should a fact found not be
-/// of its form), and `NoMemory`.
+/// an entry whose routine calls itself by way of others (and at the address of a fact or the entry of
+/// an exit that has no line in a certificate), and `NoMemory`.
 pub fn guess_within<A: Allocator + Copy, D: Allocator>(
     alloc: A,
     image: &Image,
     declaration: &Declaration<D>,
     turns: &mut Turns,
-) -> Result<Guess<A>, GuessFault>
-    ensures form { IfOk result IsInForm }
+) -> Result<Certificate<A>, GuessFault>
+    ensures lines { IfOk result (λ c. AreLines (meaning c)) }
+    ensures version { IfOk result (λ c. (meaning c).version ≡
+        version_of (declared declaration.now).profile) }
     ensures limit { turns.new.limit ≡ turns.old.limit }
     ensures rises { turns.old.spent ≤ turns.new.spent }
     ensures within { turns.new.spent ≤ turns.new.limit }
@@ -67,8 +85,8 @@ pub fn guess_within<A: Allocator + Copy, D: Allocator>(
         return Err(GuessFault::NoMemory);
     };
     search.run_all(&program, turns)?;
-    match search.finish(&program) {
-        Ok(guess) => Ok(guess),
+    match search.finish(&program, version_of(declaration.profile())) {
+        Ok(certificate) => Ok(certificate),
         Err(halt) => Err(halt.fault()),
     }
 }
@@ -82,8 +100,10 @@ pub fn guess<A: Allocator + Copy, D: Allocator>(
     alloc: A,
     image: &Image,
     declaration: &Declaration<D>,
-) -> Result<Guess<A>, GuessFault>
-    ensures form { IfOk result IsInForm }
+) -> Result<Certificate<A>, GuessFault>
+    ensures lines { IfOk result (λ c. AreLines (meaning c)) }
+    ensures version { IfOk result (λ c. (meaning c).version ≡
+        version_of (declared declaration.now).profile) }
 {
     let mut turns = Turns::new(MOST_TURNS);
     guess_within(alloc, image, declaration, &mut turns)

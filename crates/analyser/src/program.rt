@@ -3,10 +3,10 @@
 use crate::turns::Halt;
 use crate::widening::Limits;
 use bin_tape::Image;
+use certificate::Routine;
 use declaration::{Declaration, Owner};
 use facts::{Fact, Place, Running};
 use instruct::{refers_indirectly, target};
-use judge::Routine;
 use std::alloc::Allocator;
 use word12::Word;
 use wordset::WordSet;

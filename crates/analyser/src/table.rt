@@ -1,12 +1,12 @@
 //! A guess: facts at addresses, and what is claimed of routines.
 
-ghost use Rattle.std.specs.Prelude.{◌≡◌, true, option_map};
-ghost use Rattle.analyser.specs.Claimed.{kept_at, row_at, exit_in, rank_in, claims_of, HasSmallRanks};
+ghost use Rattle.std.specs.Prelude.{◌≡◌, option_map};
+ghost use Rattle.analyser.specs.Claimed.{kept_at, row_at, exit_in};
 
 use crate::kept::Kept;
 use crate::turns::Halt;
-use facts::{Fact, Offsets};
-use judge::{Claims, Routine};
+use certificate::Routine;
+use facts::Fact;
 use std::alloc::Allocator;
 use word12::Word;
 use wordset::WordSet;
@@ -18,9 +18,9 @@ pub(crate) struct Row<A: Allocator> {
     pub(crate) exits: Vec<Option<Kept<A>>, A>,
 }
 
-/// What may show a program safe: facts, routines and exits, which `judge` tests.
+/// What may show a program safe: facts, routines and exits.
 #[derive(Drop)]
-pub struct Guess<A: Allocator> {
+pub(crate) struct Guess<A: Allocator> {
     facts: Vec<Option<Kept<A>>, A>,
     routines: Vec<Option<Row<A>>, A>,
 }
@@ -97,6 +97,14 @@ impl<A: Allocator> Guess<A> {
         }
     }
 
+    /// Whether there is a fact at an address, which the lent one then says.
+    pub(crate) fn fact_into(&self, at: Word, fact: &mut Fact) -> bool {
+        match self.kept(at) {
+            None => false,
+            Some(kept) => kept.fact_into(fact),
+        }
+    }
+
     /// Keeps a fact at an address.
     pub(crate) fn keep(&mut self, at: Word, kept: Kept<A>) {
         if let Some(place) = self.facts.get_mut(at.index()) {
@@ -120,28 +128,6 @@ impl<A: Allocator> Guess<A> {
         }
     }
 
-    /// The rank of the routine of an entry; 0 where it isn't listed.
-    pub(crate) fn rank(&self, entry: Word) -> usize
-        ensures { result ≡ rank_in (row_at self.now entry) }
-    {
-        match self.row(entry) {
-            None => 0,
-            Some(row) => row.routine.rank,
-        }
-    }
-
-    /// Whether each rank is below 64.
-    pub(crate) fn has_small_ranks(&self) -> bool
-        ensures { result ≡ true → HasSmallRanks (claims_of self.now) }
-    {
-        for index in 0..4096usize {
-            if self.rank(Word::from_index(index)) >= 64 {
-                return false;
-            }
-        }
-        true
-    }
-
     /// Forgets all facts and exits.
     pub(crate) fn forget(&mut self) {
         for place in &mut self.facts {
@@ -154,34 +140,5 @@ impl<A: Allocator> Guess<A> {
                 }
             }
         }
-    }
-}
-
-impl<A: Allocator> Claims for Guess<A> {
-    ghost claims = { claims_of };
-
-    fn routine(&self, entry: Word) -> Option<Routine> {
-        match self.row(entry) {
-            None => None,
-            Some(row) => Some(row.routine),
-        }
-    }
-
-    fn fact_into(&self, at: Word, fact: &mut Fact) -> bool {
-        match self.kept(at) {
-            None => false,
-            Some(kept) => kept.fact_into(fact),
-        }
-    }
-
-    fn exit_into(&self, entry: Word, offset: usize, exit: &mut Fact) -> bool {
-        let Some(kept) = self.kept_exit(entry, offset) else {
-            return false;
-        };
-        if !kept.fact_into(exit) {
-            return false;
-        }
-        exit.set_offsets(Offsets::all());
-        true
     }
 }

@@ -1,12 +1,14 @@
 //! Guesses for small programs, which the judge accepts.
 
 use crate::{GuessFault, Turns, guess, guess_within};
-use bin_tape::Image;
+use bin_tape::{Image, write_tape};
+use certificate::{Certificate, Version};
 use declaration::Declaration;
 use facts::Fact;
-use judge::{Claims, judge};
+use judge::{certify, judge};
+use std::alloc::Global;
 use std::test::Fail;
-use testing::Refusing;
+use testing::{MemorySink, Refusing};
 use word12::Word;
 
 /// The words of a program that prints HELLO, from 0200 on.
@@ -76,6 +78,42 @@ fn an_8e_is_certified(rt: HostRuntime) -> Result<(), Fail> {
     let tape = image(&[0o7621, 0o7001, 0o7421, 0o7501, 0o7402]);
     let declared = b"start 0200\nmain 0200-0204\nstop 0204\nprofile 8e\n";
     assert!(rt; is_certified(&rt, &tape, declared)?);
+    Ok(())
+}
+
+/// The version of the certificate that is guessed for NOP and HLT at 0200.
+fn version_for(rt: &HostRuntime, declared: &[u8]) -> Result<Version, Fail> {
+    let declaration = Declaration::parse(rt.alloc(), declared)?;
+    let found = guess(rt.alloc(), &image(&[0o7000, 0o7402]), &declaration)?;
+    Ok(found.version())
+}
+
+#[test]
+fn the_version_is_that_of_the_machine(rt: HostRuntime) -> Result<(), Fail> {
+    let basic = b"start 0200\nmain 0200-0201\nstop 0201\nprofile 8i\n";
+    assert_eq!(rt; version_for(&rt, basic)?, Version::One);
+    let extended = b"start 0200\nmain 0200-0201\nstop 0201\nprofile 8e\n";
+    assert_eq!(rt; version_for(&rt, extended)?, Version::Two);
+    Ok(())
+}
+
+/// The text of a certificate.
+fn text_of(rt: &HostRuntime, certificate: &Certificate<Global>) -> Result<Vec<u8>, Fail> {
+    let mut sink = MemorySink::new(rt.alloc(), 65_536);
+    certificate.write(&mut sink)?;
+    Ok(sink.bytes().to_vec(rt.alloc())?)
+}
+
+#[test]
+fn what_is_written_of_a_guess_is_certified(rt: HostRuntime) -> Result<(), Fail> {
+    let tape = image(&HELLO);
+    let declaration = Declaration::parse(rt.alloc(), HELLO_DECLARED)?;
+    let text = text_of(&rt, &guess(rt.alloc(), &tape, &declaration)?)?;
+    let again = text_of(&rt, &Certificate::parse(rt.alloc(), &text)?)?;
+    assert_eq!(rt; again.as_slice(), text.as_slice());
+    let mut bytes = MemorySink::new(rt.alloc(), 65_536);
+    write_tape(&tape, &mut bytes)?;
+    assert!(rt; certify(rt.alloc(), bytes.bytes(), HELLO_DECLARED, &text).is_ok());
     Ok(())
 }
 

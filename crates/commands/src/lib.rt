@@ -5,6 +5,7 @@ pub mod assembling;
 pub mod checking;
 pub mod explaining;
 pub mod follow;
+pub mod guessing;
 mod inputs;
 pub mod laws;
 pub mod migrating;

@@ -3,9 +3,10 @@
 ghost use Rattle.std.specs.Prelude.{◌≡◌, ◌≤◌};
 ghost use Rattle.commands.specs.declared.status.Fault.TheVariants.{Device, NoMemory};
 ghost use Rattle.commands.specs.declared.status.DeviceFault.TheVariants.{Write};
-ghost use Rattle.commands.specs.Faults.{fault_of_certificate, fault_of_declaration, fault_of_events, fault_of_input, fault_of_tape};
+ghost use Rattle.commands.specs.Faults.{fault_of_certificate, fault_of_declaration, fault_of_events, fault_of_guess, fault_of_input, fault_of_tape};
 ghost use Rattle.commands.specs.Statuses.{code_of, status_of_fault};
 
+use analyser::GuessFault;
 use bin_tape::TapeFault;
 use certificate::{CertificateFault, WriteFault};
 use declaration::DeclarationFault;
@@ -72,6 +73,9 @@ pub enum Fault {
     /// The text of events is refused.
     #[error("pdp8: events: {0}")]
     Events(EventsFault),
+    /// No certificate is found.
+    #[error("pdp8: guess: {0}")]
+    Guess(GuessFault),
     /// A device failed.
     #[error("pdp8: device: {0}")]
     Device(DeviceFault),
@@ -91,7 +95,8 @@ impl Fault {
             | Fault::Source(_)
             | Fault::Declared(_)
             | Fault::Certificate(_)
-            | Fault::Events(_) => Status::Refused,
+            | Fault::Events(_)
+            | Fault::Guess(_) => Status::Refused,
             Fault::Device(_) => Status::Device,
             Fault::NoMemory => Status::Memory,
         }
@@ -143,6 +148,18 @@ impl From<CertificateFault> for Fault {
             CertificateFault::NoMemory => Fault::NoMemory,
             CertificateFault::ReadFault => Fault::Device(DeviceFault::Read),
             _ => Fault::Certificate(fault),
+        }
+    }
+}
+
+impl From<GuessFault> for Fault {
+    ghost from_gives = { λ fault result. result ≡ fault_of_guess fault };
+
+    /// A want of memory is not the program's fault.
+    fn from(fault: GuessFault) -> Fault {
+        match fault {
+            GuessFault::NoMemory => Fault::NoMemory,
+            _ => Fault::Guess(fault),
         }
     }
 }

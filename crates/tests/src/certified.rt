@@ -2,9 +2,11 @@
 //! others.
 
 use crate::certificates::HELLO;
+use analyser::GuessFault;
 use bin_tape::{Image, write_tape};
 use certificate::CertificateFault;
 use commands::checking::check;
+use commands::guessing::guess;
 use commands::migrating::migrate;
 use commands::status::{DeviceFault, Fault, Status};
 use judge::{CertifyFault, certify};
@@ -359,6 +361,55 @@ fn a_certificate_that_is_refused_or_not_read_is_not_migrated(rt: HostRuntime) ->
     let ended = migrate(rt.alloc(), &mut failing, &mut out);
     assert_eq!(rt; ended, Err(Fault::Device(DeviceFault::Read)));
     assert!(rt; out.bytes().is_empty());
+    Ok(())
+}
+
+#[test]
+fn what_is_guessed_of_hello_is_certified(rt: HostRuntime) -> Result<(), Fail> {
+    let tape = tape(rt.alloc(), &[(0o200, &PROGRAM)])?;
+    for room in [4096usize, 100] {
+        let mut out = MemorySink::new(rt.alloc(), room);
+        let ended = guess(
+            rt.alloc(),
+            &mut MemorySource::new(tape.bytes()),
+            &mut MemorySource::new(DECLARED),
+            &mut out,
+        );
+        if room == 100 {
+            assert_eq!(rt; ended, Err(Fault::Device(DeviceFault::Write)));
+            assert!(rt; out.bytes().starts_with(b"PDP8-CERTIFICATE 1\nroutine 0214 rank 00 "));
+        } else {
+            assert_eq!(rt; ended, Ok(Status::Done));
+            let said = verdict(rt.alloc(), tape.bytes(), DECLARED, out.bytes())?;
+            assert_eq!(rt; said.as_str(), "yes");
+        }
+    }
+    Ok(())
+}
+
+#[test]
+fn nothing_is_written_where_no_guess_is_found(rt: HostRuntime) -> Result<(), Fail> {
+    // The pointer at 0300 isn't on the tape.
+    let tape = tape(rt.alloc(), &[(0o200, &[0o7200, 0o3700, 0o7402])])?;
+    let declared = b"start 0200\nmain 0200-0202\nvar 0000\nstop 0202\n";
+    let mut out = MemorySink::new(rt.alloc(), 4096);
+    let ended = guess(
+        rt.alloc(),
+        &mut MemorySource::new(tape.bytes()),
+        &mut MemorySource::new(declared),
+        &mut out,
+    );
+    let stuck = Fault::Guess(GuessFault::Stuck(word(0o201)));
+    assert_eq!(rt; ended, Err(stuck));
+    assert!(rt; out.bytes().is_empty());
+    for (fault, line) in [
+        (stuck, "pdp8: guess: Stuck 0201"),
+        (Fault::Guess(GuessFault::TurnsSpent), "pdp8: guess: TurnsSpent"),
+    ] {
+        let told = format!(in rt.alloc(); "{fault}")?;
+        assert_eq!(rt; told.as_str(), line);
+        assert_eq!(rt; fault.status(), Status::Refused);
+    }
     Ok(())
 }
 

@@ -20,7 +20,7 @@ const VERSION: &str = "1.0";
 /// What stands below the list of commands.
 const STATUSES: &str = "Exit status:
   0  done
-  1  an input was refused, a run got stuck or broke a rule, or a condition failed
+  1  an input was refused, a run got stuck or broke a rule, a condition failed, or no guess was found
   2  bad words
   3  a file or a stream failed
   4  memory was refused
@@ -75,6 +75,15 @@ pub enum Request<'a> {
         certificate: &'a str,
         /// Whether it is said why the verdict is no.
         explained: bool,
+    },
+    /// To guess a certificate.
+    Guess {
+        /// The name of the tape's file.
+        tape: &'a str,
+        /// The name of the declaration's file.
+        declaration: &'a str,
+        /// The name of the file that the certificate goes to.
+        out: &'a str,
     },
     /// To migrate a certificate.
     Migrate {
@@ -243,6 +252,17 @@ fn check_command<'a>(alloc: Global) -> Result<Command<'a>, AllocError> {
         .arg(why)
 }
 
+fn guess_command<'a>(alloc: Global) -> Result<Command<'a>, AllocError> {
+    Command::new(alloc, "guess")
+        .about("Looks for a certificate that may show that no run breaks a declaration")
+        .after_help(
+            "OUT is another file: it is emptied before an input is read, and stays empty where nothing is found.\n\nExample:\n  pdp8 guess hello.bin hello.declaration hello.certificate",
+        )
+        .arg(tape_word(alloc))?
+        .arg(declaration_word(alloc))?
+        .arg(certificate_out_word(alloc))
+}
+
 fn migrate_command<'a>(alloc: Global) -> Result<Command<'a>, AllocError> {
     Command::new(alloc, "migrate")
         .about("Writes a certificate in version 2, which says what MQ may hold")
@@ -277,6 +297,7 @@ fn command<'a>(alloc: Global) -> Result<Command<'a>, AllocError> {
         .subcommand(list_command(alloc)?)?
         .subcommand(watch_command(alloc)?)?
         .subcommand(check_command(alloc)?)?
+        .subcommand(guess_command(alloc)?)?
         .subcommand(migrate_command(alloc)?)
 }
 
@@ -389,6 +410,19 @@ fn check_request<'a>(found: &ArgMatches<'a>) -> Result<Request<'a>, Refused> {
     })
 }
 
+fn guess_request<'a>(found: &ArgMatches<'a>) -> Result<Request<'a>, Refused> {
+    let inputs = ["TAPE", "DECLARATION"].map(|name| found.get_str(name).unwrap_or("-"));
+    let [tape, declaration] = inputs;
+    if share_standard_input(&inputs) {
+        return Err(Refused::BothStandardInput);
+    }
+    Ok(Request::Guess {
+        tape,
+        declaration,
+        out: found.get_str("OUT").unwrap_or("-"),
+    })
+}
+
 fn migrate_request<'a>(found: &ArgMatches<'a>) -> Request<'a> {
     Request::Migrate {
         certificate: found.get_str("CERTIFICATE").unwrap_or("-"),
@@ -408,6 +442,7 @@ pub fn parse_words<'a, S: AsStr>(alloc: Global, words: &'a [S]) -> Result<Reques
         Some(("list", found)) => list_request(alloc, found),
         Some(("watch", found)) => watch_request(found),
         Some(("check", found)) => check_request(found),
+        Some(("guess", found)) => guess_request(found),
         Some(("migrate", found)) => Ok(migrate_request(found)),
         Some((_, found)) => run_request(found),
         None => Err(Refused::Memory),

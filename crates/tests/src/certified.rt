@@ -355,7 +355,10 @@ fn a_certificate_that_is_refused_or_not_read_is_not_migrated(rt: HostRuntime) ->
     let text = without(rt.alloc(), HELLO.as_slice(), 35)?;
     let mut out = MemorySink::new(rt.alloc(), 4096);
     let ended = migrate(rt.alloc(), &mut MemorySource::new(&text), &mut out);
-    assert_eq!(rt; ended, Err(Fault::Certificate(CertificateFault::BadLine(35))));
+    assert_eq!(rt;
+        ended,
+        Err(Fault::Certificate(CertificateFault::BadLine(35)))
+    );
     assert!(rt; out.bytes().is_empty());
     let mut failing = MemorySource::new(&text).in_pieces(100).failing_after(3);
     let ended = migrate(rt.alloc(), &mut failing, &mut out);
@@ -377,7 +380,10 @@ fn what_is_guessed_of_hello_is_certified(rt: HostRuntime) -> Result<(), Fail> {
         );
         if room == 100 {
             assert_eq!(rt; ended, Err(Fault::Device(DeviceFault::Write)));
-            assert!(rt; out.bytes().starts_with(b"PDP8-CERTIFICATE 1\nroutine 0214 rank 00 "));
+            assert!(rt;
+                out.bytes()
+                    .starts_with(b"PDP8-CERTIFICATE 1\nroutine 0214 rank 00 ")
+            );
         } else {
             assert_eq!(rt; ended, Ok(Status::Done));
             let said = verdict(rt.alloc(), tape.bytes(), DECLARED, out.bytes())?;
@@ -404,7 +410,10 @@ fn nothing_is_written_where_no_guess_is_found(rt: HostRuntime) -> Result<(), Fai
     assert!(rt; out.bytes().is_empty());
     for (fault, line) in [
         (stuck, "pdp8: guess: Stuck 0201"),
-        (Fault::Guess(GuessFault::TurnsSpent), "pdp8: guess: TurnsSpent"),
+        (
+            Fault::Guess(GuessFault::TurnsSpent),
+            "pdp8: guess: TurnsSpent",
+        ),
     ] {
         let told = format!(in rt.alloc(); "{fault}")?;
         assert_eq!(rt; told.as_str(), line);

@@ -306,8 +306,7 @@ fn the_migrated_certificate_goes_where_it_is_asked_for(rt: HostRuntime) -> Resul
 #[test]
 fn the_guess_goes_where_it_is_asked_for(rt: HostRuntime) -> Result<(), Fail> {
     let first = "PDP8-CERTIFICATE 1\nfact 0200 ac 0000-7777 link 01 offsets -\nend\n";
-    let second =
-        "PDP8-CERTIFICATE 2\nfact 0200 ac 0000-7777 mq 0000-7777 link 01 offsets -\nend\n";
+    let second = "PDP8-CERTIFICATE 2\nfact 0200 ac 0000-7777 mq 0000-7777 link 01 offsets -\nend\n";
     for (words, to_file, guess) in [
         ("pdp8 guess halt.bin halt.dcl o.cert", true, first),
         ("pdp8 guess halt.bin 8e.dcl o.cert", true, second),

@@ -15,11 +15,13 @@ use Rattle.declaration.specs.declared.DeclarationFault.TheVariants as declaratio
 use Rattle.certificate.specs.Faults.{HasFault, most_bytes as most_certificate_bytes}
 use Rattle.certificate.specs.declared.CertificateFault.{CertificateFault}
 use Rattle.certificate.specs.declared.CertificateFault.TheVariants as certificate_fault
+use Rattle.analyser.specs.declared.GuessFault.{GuessFault}
+use Rattle.analyser.specs.declared.GuessFault.TheVariants as guess_fault
 use Rattle.commands.specs.declared.status.Fault.{Fault}
-use Rattle.commands.specs.declared.status.Fault.TheVariants.{Tape, Declared, Certificate, Events, Device}
+use Rattle.commands.specs.declared.status.Fault.TheVariants.{Tape, Declared, Certificate, Events, Guess, Device}
 use Rattle.commands.specs.declared.status.Fault.TheVariants as fault
 use Rattle.commands.specs.declared.status.DeviceFault.TheVariants.{Read, Write}
-use Rattle.commands.specs.Inputs.{Input, IsGoodTape, IsGoodDeclaration, FailsInTape, FailsInText}
+use Rattle.commands.specs.Inputs.{Input, IsGoodTape, IsGoodDeclaration, IsGoodCertificate, FailsInTape, FailsInText}
 
 -- The answer is that a write failed.
 abbrev pub fails_to_write : {T : Type 0} → Result T Fault → Bool
@@ -64,6 +66,10 @@ fault_of_certificate certificate_fault.NoMemory = fault.NoMemory
 fault_of_certificate certificate_fault.ReadFault = Device Read
 fault_of_certificate fault = Certificate fault
 
+abbrev pub fault_of_guess : GuessFault → Fault
+fault_of_guess guess_fault.NoMemory = fault.NoMemory
+fault_of_guess fault = Guess fault
+
 -- The text has this fault; a want of memory is none.
 abbrev pub IsEventsFault : List ℕ → EventsFault → Type 0
 IsEventsFault text events_fault.NoMemory = ⊥
@@ -106,6 +112,11 @@ IsRunFault (Device Write) = Unit {0}
 IsRunFault fault.NoMemory = Unit {0}
 IsRunFault _ = ⊥
 
+-- The inputs are good, and a write failed.
+abbrev pub IsWriteFault : Fault → Type 0
+IsWriteFault (Device Write) = Unit {0}
+IsWriteFault _ = ⊥
+
 -- Why a command of a tape has no result: the tape's fault, or after a good tape that of the work.
 abbrev pub IsTapeFault : Input → Fault → Type 0
 IsTapeFault tape fault = IsTapeInputFault tape fault ⊎ (IsGoodTape tape.had × IsRunFault fault)
@@ -126,3 +137,20 @@ abbrev pub IsCheckFault : Input → Input → Input → Fault → Type 0
 IsCheckFault tape text certificate fault =
     IsTapeInputFault tape fault ⊎ (IsGoodTape tape.had × (IsDeclarationInputFault text fault
     ⊎ (IsGoodDeclaration text.had × (IsCertificateInputFault certificate fault ⊎ IsRunFault fault))))
+
+-- Why a certificate isn't migrated: its fault, or after a good one a write failed. Migrating takes no memory.
+abbrev pub IsMigrateFault : Input → Fault → Type 0
+IsMigrateFault certificate fault =
+    IsCertificateInputFault certificate fault ⊎ (IsGoodCertificate certificate.had × IsWriteFault fault)
+
+-- The inputs are good, and nothing was found, a write failed or memory was refused.
+abbrev pub IsSearchFault : Fault → Type 0
+IsSearchFault (Guess guess_fault.NoMemory) = ⊥
+IsSearchFault (Guess fault) = Unit {0}
+IsSearchFault fault = IsRunFault fault
+
+-- Why no certificate is guessed: the tape's fault, after a good tape that of the declaration, and then that of the search.
+abbrev pub IsGuessFault : Input → Input → Fault → Type 0
+IsGuessFault tape text fault =
+    IsTapeInputFault tape fault ⊎ (IsGoodTape tape.had × (IsDeclarationInputFault text fault
+    ⊎ (IsGoodDeclaration text.had × IsSearchFault fault)))

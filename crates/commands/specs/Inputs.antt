@@ -42,6 +42,11 @@ pub record IsGoodDeclaration (text : Option (List ℕ)) : Type 0 where
   pub declaration : Declaration
   pub declares : HasDeclaration text declaration
 
+-- The text is that of a certificate.
+pub record IsGoodCertificate (certificate : Option (List ℕ)) : Type 0 where
+  pub lines : Lines
+  pub claims : HasCertificate certificate lines
+
 -- A source that was read: whether a read failed, what it had, and what it has left.
 pub record Input : Type 0 where
   pub failed : Bool

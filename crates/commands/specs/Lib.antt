@@ -10,6 +10,7 @@ pub mod Running
 pub mod Dumping
 pub mod WatchText
 pub mod CheckText
+pub mod CertificateText
 pub mod SourceTexts
 pub mod AssembleText
 pub mod Laws

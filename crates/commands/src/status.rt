@@ -3,11 +3,12 @@
 ghost use Rattle.std.specs.Prelude.{◌≡◌, ◌≤◌};
 ghost use Rattle.commands.specs.declared.status.Fault.TheVariants.{Device, NoMemory};
 ghost use Rattle.commands.specs.declared.status.DeviceFault.TheVariants.{Write};
-ghost use Rattle.commands.specs.Faults.{fault_of_certificate, fault_of_declaration, fault_of_events, fault_of_input, fault_of_tape};
+ghost use Rattle.commands.specs.Faults.{fault_of_certificate, fault_of_declaration, fault_of_events, fault_of_guess, fault_of_input, fault_of_tape};
 ghost use Rattle.commands.specs.Statuses.{code_of, status_of_fault};
 
+use analyser::GuessFault;
 use bin_tape::TapeFault;
-use certificate::CertificateFault;
+use certificate::{CertificateFault, WriteFault};
 use declaration::DeclarationFault;
 use pal_asm::PalFault;
 use peripherals::{EventsFault, NoMemory};
@@ -72,6 +73,9 @@ pub enum Fault {
     /// The text of events is refused.
     #[error("pdp8: events: {0}")]
     Events(EventsFault),
+    /// No certificate is found.
+    #[error("pdp8: guess: {0}")]
+    Guess(GuessFault),
     /// A device failed.
     #[error("pdp8: device: {0}")]
     Device(DeviceFault),
@@ -91,7 +95,8 @@ impl Fault {
             | Fault::Source(_)
             | Fault::Declared(_)
             | Fault::Certificate(_)
-            | Fault::Events(_) => Status::Refused,
+            | Fault::Events(_)
+            | Fault::Guess(_) => Status::Refused,
             Fault::Device(_) => Status::Device,
             Fault::NoMemory => Status::Memory,
         }
@@ -147,6 +152,18 @@ impl From<CertificateFault> for Fault {
     }
 }
 
+impl From<GuessFault> for Fault {
+    ghost from_gives = { λ fault result. result ≡ fault_of_guess fault };
+
+    /// A want of memory is not the program's fault.
+    fn from(fault: GuessFault) -> Fault {
+        match fault {
+            GuessFault::NoMemory => Fault::NoMemory,
+            _ => Fault::Guess(fault),
+        }
+    }
+}
+
 impl From<InputFault> for Fault {
     ghost from_gives = { λ fault result. result ≡ fault_of_input fault };
 
@@ -179,6 +196,14 @@ impl From<Failed> for Fault {
 
     /// Commands convert the failures of their output so; their inputs tell their own faults.
     fn from(_: Failed) -> Fault {
+        Fault::Device(DeviceFault::Write)
+    }
+}
+
+impl From<WriteFault> for Fault {
+    ghost from_gives = { λ _ result. result ≡ Device Write };
+
+    fn from(_: WriteFault) -> Fault {
         Fault::Device(DeviceFault::Write)
     }
 }

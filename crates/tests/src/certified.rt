@@ -2,9 +2,12 @@
 //! others.
 
 use crate::certificates::HELLO;
+use analyser::GuessFault;
 use bin_tape::{Image, write_tape};
 use certificate::CertificateFault;
 use commands::checking::check;
+use commands::guessing::guess;
+use commands::migrating::migrate;
 use commands::status::{DeviceFault, Fault, Status};
 use judge::{CertifyFault, certify};
 use peripherals::{Event, Start};
@@ -330,6 +333,97 @@ fn either_version_is_judged_for_either_machine(rt: HostRuntime) -> Result<(), Fa
             let said = verdict(rt.alloc(), tape.bytes(), declared.as_bytes(), text)?;
             assert_eq!(rt; said.as_str(), "yes");
         }
+    }
+    Ok(())
+}
+
+#[test]
+fn hello_is_migrated(rt: HostRuntime) -> Result<(), Fail> {
+    let first = without(rt.alloc(), HELLO.as_slice(), 0)?;
+    let second = without(rt.alloc(), HELLO_WITH_MQ.as_slice(), 0)?;
+    // What is migrated already stays as it is.
+    for text in [first.as_slice(), second.as_slice()] {
+        for (room, wanted) in [
+            (4096usize, Ok(Status::Done)),
+            (100, Err(Fault::Device(DeviceFault::Write))),
+        ] {
+            let mut out = MemorySink::new(rt.alloc(), room);
+            let ended = migrate(rt.alloc(), &mut MemorySource::new(text), &mut out);
+            assert_eq!(rt; ended, wanted);
+            assert_eq!(rt; out.bytes(), &second[..second.len().min(room)]);
+        }
+    }
+    Ok(())
+}
+
+#[test]
+fn a_certificate_that_is_refused_or_not_read_is_not_migrated(rt: HostRuntime) -> Result<(), Fail> {
+    let text = without(rt.alloc(), HELLO.as_slice(), 35)?;
+    let mut out = MemorySink::new(rt.alloc(), 4096);
+    let ended = migrate(rt.alloc(), &mut MemorySource::new(&text), &mut out);
+    assert_eq!(rt;
+        ended,
+        Err(Fault::Certificate(CertificateFault::BadLine(35)))
+    );
+    assert!(rt; out.bytes().is_empty());
+    let mut failing = MemorySource::new(&text).in_pieces(100).failing_after(3);
+    let ended = migrate(rt.alloc(), &mut failing, &mut out);
+    assert_eq!(rt; ended, Err(Fault::Device(DeviceFault::Read)));
+    assert!(rt; out.bytes().is_empty());
+    Ok(())
+}
+
+#[test]
+fn what_is_guessed_of_hello_is_certified(rt: HostRuntime) -> Result<(), Fail> {
+    let tape = tape(rt.alloc(), &[(0o200, &PROGRAM)])?;
+    for room in [4096usize, 100] {
+        let mut out = MemorySink::new(rt.alloc(), room);
+        let ended = guess(
+            rt.alloc(),
+            &mut MemorySource::new(tape.bytes()),
+            &mut MemorySource::new(DECLARED),
+            &mut out,
+        );
+        if room == 100 {
+            assert_eq!(rt; ended, Err(Fault::Device(DeviceFault::Write)));
+            assert!(rt;
+                out.bytes()
+                    .starts_with(b"PDP8-CERTIFICATE 1\nroutine 0214 rank 00 ")
+            );
+        } else {
+            assert_eq!(rt; ended, Ok(Status::Done));
+            let said = verdict(rt.alloc(), tape.bytes(), DECLARED, out.bytes())?;
+            assert_eq!(rt; said.as_str(), "yes");
+        }
+    }
+    Ok(())
+}
+
+#[test]
+fn nothing_is_written_where_no_guess_is_found(rt: HostRuntime) -> Result<(), Fail> {
+    // The pointer at 0300 isn't on the tape.
+    let tape = tape(rt.alloc(), &[(0o200, &[0o7200, 0o3700, 0o7402])])?;
+    let declared = b"start 0200\nmain 0200-0202\nvar 0000\nstop 0202\n";
+    let mut out = MemorySink::new(rt.alloc(), 4096);
+    let ended = guess(
+        rt.alloc(),
+        &mut MemorySource::new(tape.bytes()),
+        &mut MemorySource::new(declared),
+        &mut out,
+    );
+    let stuck = Fault::Guess(GuessFault::Stuck(word(0o201)));
+    assert_eq!(rt; ended, Err(stuck));
+    assert!(rt; out.bytes().is_empty());
+    for (fault, line) in [
+        (stuck, "pdp8: guess: Stuck 0201"),
+        (
+            Fault::Guess(GuessFault::TurnsSpent),
+            "pdp8: guess: TurnsSpent",
+        ),
+    ] {
+        let told = format!(in rt.alloc(); "{fault}")?;
+        assert_eq!(rt; told.as_str(), line);
+        assert_eq!(rt; fault.status(), Status::Refused);
     }
     Ok(())
 }

@@ -23,10 +23,12 @@ fn content(name: &str) -> Option<&'static [u8]> {
         "halt.pal" => Some(INPUT),
         "bad.pal" => Some(b"TAD 600\n"),
         "halt.dcl" => Some(b"start 200\nmain 200\nstop 200\n"),
+        "8e.dcl" => Some(b"profile 8e\nstart 200\nmain 200\nstop 200\n"),
         "bad.dcl" => Some(b"main 9\n"),
         "halt.cert" => {
             Some(b"PDP8-CERTIFICATE 1\nfact 0200 ac 0000-7777 link 01 offsets -\nend\n")
         }
+        "bad.cert" => Some(b"PDP8-CERTIFICATE 1\nfact 0200\nend\n"),
         "wild.dcl" => Some(b"start 200\nmain 200\n"),
         "step.ev" => Some(b"step\n"),
         "bad.ev" => Some(b"steps\n"),

@@ -17,9 +17,13 @@ fn bad_words_are_told(rt: HostRuntime) -> Result<(), Fail> {
         ("pdp8 list", missing),
         ("pdp8 watch halt.bin halt.dcl", missing),
         ("pdp8 check halt.bin halt.dcl", missing),
+        ("pdp8 guess halt.bin halt.dcl", missing),
+        ("pdp8 migrate halt.cert", missing),
         ("pdp8 run a b", "error: unexpected argument 'b' found"),
         ("pdp8 dump a b", "error: unexpected argument 'b' found"),
         ("pdp8 watch a b c d", "error: unexpected argument 'd' found"),
+        ("pdp8 guess a b c d", "error: unexpected argument 'd' found"),
+        ("pdp8 migrate a b c", "error: unexpected argument 'c' found"),
         ("pdp8 run a --start 8", "error: bad value for '--start': "),
         ("pdp8 fly", "error: unrecognized subcommand 'fly'"),
         (
@@ -66,6 +70,7 @@ fn bad_values_are_told(rt: HostRuntime) -> Result<(), Fail> {
         ("pdp8 watch - b -", shared),
         ("pdp8 watch a - -", shared),
         ("pdp8 check - b -", shared),
+        ("pdp8 guess - - -", shared),
         ("pdp8 list - a -", shared),
         ("pdp8 assemble - - -", shared),
     ] {
@@ -145,6 +150,8 @@ fn help_is_printed(rt: HostRuntime) -> Result<(), Fail> {
         "pdp8 -h",
         "pdp8 help run",
         "pdp8 list -h",
+        "pdp8 help guess",
+        "pdp8 help migrate",
     ] {
         let end = run_program(rt.alloc(), words);
         assert_eq!(rt; end.status, Status::Done.code(), "{words}");
@@ -183,6 +190,14 @@ fn files_are_opened_in_order_before_any_is_read(rt: HostRuntime) -> Result<(), F
             "bad.bin bad.dcl absent ",
         ),
         ("pdp8 assemble o.bin absent bad.pal", "o.bin absent "),
+        ("pdp8 guess absent bad.dcl o.cert", "absent "),
+        ("pdp8 guess bad.bin absent o.cert", "bad.bin absent "),
+        (
+            "pdp8 guess halt.bin failing o.cert",
+            "halt.bin failing o.cert ",
+        ),
+        ("pdp8 migrate absent o.cert", "absent "),
+        ("pdp8 migrate failing o.cert", "failing o.cert "),
     ] {
         let refused = is_refused(rt.alloc(), words, Status::Device, told, opened);
         assert!(rt; refused, "{words}");
@@ -196,6 +211,16 @@ fn files_that_cannot_be_made_or_written_are_told(rt: HostRuntime) -> Result<(), 
     for (words, opened) in [
         ("pdp8 assemble absent/o bad.pal", "absent/o "),
         ("pdp8 assemble failing halt.pal", "failing halt.pal "),
+        (
+            "pdp8 guess bad.bin bad.dcl absent/o",
+            "bad.bin bad.dcl absent/o ",
+        ),
+        (
+            "pdp8 guess halt.bin halt.dcl failing",
+            "halt.bin halt.dcl failing ",
+        ),
+        ("pdp8 migrate bad.cert absent/o", "bad.cert absent/o "),
+        ("pdp8 migrate halt.cert failing", "halt.cert failing "),
     ] {
         let refused = is_refused(rt.alloc(), words, Status::Device, told, opened);
         assert!(rt; refused, "{words}");
@@ -224,6 +249,27 @@ fn the_first_input_with_a_fault_is_told(rt: HostRuntime) -> Result<(), Fail> {
         ),
         // The tape's file is made before the source is looked at.
         ("pdp8 assemble o.bin bad.pal", source, "o.bin bad.pal "),
+        // The certificate's file is made before anything is looked at, and stays empty.
+        (
+            "pdp8 guess bad.bin bad.dcl o.cert",
+            tape,
+            "bad.bin bad.dcl o.cert ",
+        ),
+        (
+            "pdp8 guess halt.bin bad.dcl o.cert",
+            declaration,
+            "halt.bin bad.dcl o.cert ",
+        ),
+        (
+            "pdp8 guess halt.bin wild.dcl o.cert",
+            "pdp8: guess: Stuck 0200\n",
+            "halt.bin wild.dcl o.cert ",
+        ),
+        (
+            "pdp8 migrate bad.cert o.cert",
+            "pdp8: certificate: BadLine 2\n",
+            "bad.cert o.cert ",
+        ),
     ] {
         let refused = is_refused(rt.alloc(), words, Status::Refused, told, opened);
         assert!(rt; refused, "{words}");
@@ -245,6 +291,50 @@ fn the_tape_goes_where_it_is_asked_for(rt: HostRuntime) -> Result<(), Fail> {
 }
 
 #[test]
+fn the_migrated_certificate_goes_where_it_is_asked_for(rt: HostRuntime) -> Result<(), Fail> {
+    let migrated =
+        b"PDP8-CERTIFICATE 2\nfact 0200 ac 0000-7777 mq 0000-7777 link 01 offsets -\nend\n";
+    let to_file = run_program(rt.alloc(), "pdp8 migrate halt.cert o.cert");
+    assert_eq!(rt; to_file.status, Status::Done.code());
+    assert_eq!(rt; to_file.written.as_slice(), migrated.as_slice());
+    assert_eq!(rt; to_file.opened.as_slice(), b"halt.cert o.cert ".as_slice());
+    assert!(rt; to_file.printed.is_empty() && to_file.told.is_empty());
+    let to_output = run_program(rt.alloc(), "pdp8 migrate halt.cert -");
+    assert_eq!(rt; to_output.status, Status::Done.code());
+    assert_eq!(rt; to_output.printed.as_slice(), migrated.as_slice());
+    assert!(rt; to_output.told.is_empty() && to_output.written.is_empty());
+    // Standard input has a source here.
+    let refused = is_refused(
+        rt.alloc(),
+        "pdp8 migrate - o.cert",
+        Status::Refused,
+        "pdp8: certificate: Version\n",
+        "o.cert ",
+    );
+    assert!(rt; refused);
+    Ok(())
+}
+
+#[test]
+fn the_guess_goes_where_it_is_asked_for(rt: HostRuntime) -> Result<(), Fail> {
+    let first = "PDP8-CERTIFICATE 1\nfact 0200 ac 0000-7777 link 01 offsets -\nend\n";
+    let second = "PDP8-CERTIFICATE 2\nfact 0200 ac 0000-7777 mq 0000-7777 link 01 offsets -\nend\n";
+    for (words, to_file, guess) in [
+        ("pdp8 guess halt.bin halt.dcl o.cert", true, first),
+        ("pdp8 guess halt.bin 8e.dcl o.cert", true, second),
+        ("pdp8 guess halt.bin halt.dcl -", false, first),
+    ] {
+        let end = run_program(rt.alloc(), words);
+        let (written, printed) = if to_file { (guess, "") } else { ("", guess) };
+        assert_eq!(rt; end.status, Status::Done.code(), "{words}");
+        assert_eq!(rt; end.written.as_slice(), written.as_bytes(), "{words}");
+        assert_eq!(rt; end.printed.as_slice(), printed.as_bytes(), "{words}");
+        assert!(rt; end.told.is_empty(), "{words}");
+    }
+    Ok(())
+}
+
+#[test]
 fn an_output_that_fails_is_told(rt: HostRuntime) -> Result<(), Fail> {
     for words in [
         "pdp8 run halt.bin",
@@ -255,6 +345,8 @@ fn an_output_that_fails_is_told(rt: HostRuntime) -> Result<(), Fail> {
         "pdp8 list halt.pal",
         "pdp8 watch halt.bin halt.dcl step.ev",
         "pdp8 check halt.bin halt.dcl halt.cert",
+        "pdp8 guess halt.bin halt.dcl -",
+        "pdp8 migrate halt.cert -",
         "pdp8 help",
         "pdp8 run --help",
     ] {

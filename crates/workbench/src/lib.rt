@@ -5,5 +5,7 @@ mod files;
 mod program;
 mod words;
 
-pub use commands::{assembling, checking, explaining, running, status, watching};
+pub use commands::{
+    assembling, checking, explaining, guessing, migrating, running, status, watching,
+};
 pub use program::exit_status;

@@ -8,6 +8,8 @@ use clap::Error;
 use commands::assembling::{assemble, list};
 use commands::checking::check;
 use commands::explaining::explain;
+use commands::guessing::guess;
+use commands::migrating::migrate;
 use commands::running::{RunOptions, dump, run, run_events};
 use commands::status::{DeviceFault, Fault, Status};
 use commands::watching::watch;
@@ -143,6 +145,16 @@ fn answer<R: Files + Input + Print>(
             certificate,
             explained,
         } => check_from(rt, alloc, tape, declaration, certificate, *explained),
+        Request::Guess {
+            tape,
+            declaration,
+            out,
+        } => guess_from(rt, alloc, tape, declaration, out),
+        Request::Migrate { certificate, out } => {
+            let mut text = open_input(rt, certificate)?;
+            let mut migrated = open_output(rt, out)?;
+            migrate(alloc, &mut text, &mut migrated)
+        }
     }
 }
 
@@ -191,6 +203,20 @@ fn check_from<R: Files + Input + Print>(
         return explain(alloc, &mut frames, &mut text, &mut claims, &mut out);
     }
     check(alloc, &mut frames, &mut text, &mut claims, &mut out)
+}
+
+/// Guesses a certificate for the tape of a file.
+fn guess_from<R: Files + Input + Print>(
+    rt: &R,
+    alloc: Global,
+    tape: &str,
+    declaration: &str,
+    out: &str,
+) -> Result<Status, Fault> {
+    let mut frames = open_input(rt, tape)?;
+    let mut text = open_input(rt, declaration)?;
+    let mut certificate = open_output(rt, out)?;
+    guess(alloc, &mut frames, &mut text, &mut certificate)
 }
 
 /// Runs a tape, in rounds or by the events of a file.

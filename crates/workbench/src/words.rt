@@ -20,7 +20,7 @@ const VERSION: &str = "1.0";
 /// What stands below the list of commands.
 const STATUSES: &str = "Exit status:
   0  done
-  1  an input was refused, a run got stuck or broke a rule, or a condition failed
+  1  an input was refused, a run got stuck or broke a rule, a condition failed, or no guess was found
   2  bad words
   3  a file or a stream failed
   4  memory was refused
@@ -75,6 +75,22 @@ pub enum Request<'a> {
         certificate: &'a str,
         /// Whether it is said why the verdict is no.
         explained: bool,
+    },
+    /// To guess a certificate.
+    Guess {
+        /// The name of the tape's file.
+        tape: &'a str,
+        /// The name of the declaration's file.
+        declaration: &'a str,
+        /// The name of the file that the certificate goes to.
+        out: &'a str,
+    },
+    /// To migrate a certificate.
+    Migrate {
+        /// The name of the certificate's file.
+        certificate: &'a str,
+        /// The name of the file that the migrated certificate goes to.
+        out: &'a str,
     },
     /// To watch a run.
     Watch {
@@ -210,10 +226,19 @@ fn declaration_word<'a>(alloc: Global) -> Arg<'a> {
         .help("the declaration, or - for standard input")
 }
 
-fn check_command<'a>(alloc: Global) -> Result<Command<'a>, AllocError> {
-    let certificate = Arg::new(alloc, "CERTIFICATE")
+fn certificate_word<'a>(alloc: Global) -> Arg<'a> {
+    Arg::new(alloc, "CERTIFICATE")
         .required(true)
-        .help("the certificate, or - for standard input");
+        .help("the certificate, or - for standard input")
+}
+
+fn certificate_out_word<'a>(alloc: Global) -> Arg<'a> {
+    Arg::new(alloc, "OUT").required(true).help(
+        "where the certificate goes, or - for standard output; it is emptied first",
+    )
+}
+
+fn check_command<'a>(alloc: Global) -> Result<Command<'a>, AllocError> {
     let why = Arg::new(alloc, "why")
         .long("why")
         .action(ArgAction::SetTrue)
@@ -223,8 +248,29 @@ fn check_command<'a>(alloc: Global) -> Result<Command<'a>, AllocError> {
         .after_help("Example:\n  pdp8 check hello.bin hello.declaration hello.certificate --why")
         .arg(tape_word(alloc))?
         .arg(declaration_word(alloc))?
-        .arg(certificate)?
+        .arg(certificate_word(alloc))?
         .arg(why)
+}
+
+fn guess_command<'a>(alloc: Global) -> Result<Command<'a>, AllocError> {
+    Command::new(alloc, "guess")
+        .about("Looks for a certificate that may show that no run breaks a declaration")
+        .after_help(
+            "OUT is another file: it is emptied before an input is read, and stays empty where nothing is found.\n\nExample:\n  pdp8 guess hello.bin hello.declaration hello.certificate",
+        )
+        .arg(tape_word(alloc))?
+        .arg(declaration_word(alloc))?
+        .arg(certificate_out_word(alloc))
+}
+
+fn migrate_command<'a>(alloc: Global) -> Result<Command<'a>, AllocError> {
+    Command::new(alloc, "migrate")
+        .about("Writes a certificate in version 2, which says what MQ may hold")
+        .after_help(
+            "OUT is another file: it is emptied before the certificate is read, also where that is refused.\n\nExample:\n  pdp8 migrate hello.certificate hello-2.certificate",
+        )
+        .arg(certificate_word(alloc))?
+        .arg(certificate_out_word(alloc))
 }
 
 fn watch_command<'a>(alloc: Global) -> Result<Command<'a>, AllocError> {
@@ -250,7 +296,9 @@ fn command<'a>(alloc: Global) -> Result<Command<'a>, AllocError> {
         .subcommand(assemble_command(alloc)?)?
         .subcommand(list_command(alloc)?)?
         .subcommand(watch_command(alloc)?)?
-        .subcommand(check_command(alloc)?)
+        .subcommand(check_command(alloc)?)?
+        .subcommand(guess_command(alloc)?)?
+        .subcommand(migrate_command(alloc)?)
 }
 
 /// The number that decimal digits spell, if it is one from 1 to 1,000,000. There is no sign.
@@ -362,6 +410,26 @@ fn check_request<'a>(found: &ArgMatches<'a>) -> Result<Request<'a>, Refused> {
     })
 }
 
+fn guess_request<'a>(found: &ArgMatches<'a>) -> Result<Request<'a>, Refused> {
+    let inputs = ["TAPE", "DECLARATION"].map(|name| found.get_str(name).unwrap_or("-"));
+    let [tape, declaration] = inputs;
+    if share_standard_input(&inputs) {
+        return Err(Refused::BothStandardInput);
+    }
+    Ok(Request::Guess {
+        tape,
+        declaration,
+        out: found.get_str("OUT").unwrap_or("-"),
+    })
+}
+
+fn migrate_request<'a>(found: &ArgMatches<'a>) -> Request<'a> {
+    Request::Migrate {
+        certificate: found.get_str("CERTIFICATE").unwrap_or("-"),
+        out: found.get_str("OUT").unwrap_or("-"),
+    }
+}
+
 /// Reads the program's words, its own name among them.
 pub fn parse_words<'a, S: AsStr>(alloc: Global, words: &'a [S]) -> Result<Request<'a>, Refused> {
     let matches = command(alloc)?.try_get_matches_from(words)?;
@@ -374,6 +442,8 @@ pub fn parse_words<'a, S: AsStr>(alloc: Global, words: &'a [S]) -> Result<Reques
         Some(("list", found)) => list_request(alloc, found),
         Some(("watch", found)) => watch_request(found),
         Some(("check", found)) => check_request(found),
+        Some(("guess", found)) => guess_request(found),
+        Some(("migrate", found)) => Ok(migrate_request(found)),
         Some((_, found)) => run_request(found),
         None => Err(Refused::Memory),
     }

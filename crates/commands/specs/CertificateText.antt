@@ -1,0 +1,25 @@
+-- What `migrate` and `guess` write.
+use Rattle.std.specs.Prelude.{ℕ, ◌≡◌, List, Option}
+use Rattle.analyser.specs.Versions.{version_of}
+use Rattle.certificate.specs.Made.{migrated}
+use Rattle.certificate.specs.Reading.{AreLines}
+use Rattle.certificate.specs.Spelling.{Lines, text as spelled}
+use Rattle.declaration.specs.Declaration.{Declaration}
+use Rattle.commands.specs.Inputs.{HasCertificate, HasDeclaration, IsGoodTape}
+
+-- The bytes are a certificate's; this is the text of that certificate in version 2.
+pub record IsMigrated (certificate : Option (List ℕ)) (text : List ℕ) : Type 0 where
+  pub lines : Lines
+  pub claims : HasCertificate certificate lines
+  pub text_is : text ≡ spelled (migrated lines)
+
+-- The frames are a tape, the text is that of a declaration; this is the text of some certificate, in the version of the
+-- declared machine.
+pub record IsGuess (frames text : Option (List ℕ)) (guess : List ℕ) : Type 0 where
+  pub tape : IsGoodTape frames
+  pub declaration : Declaration
+  pub declares : HasDeclaration text declaration
+  pub lines : Lines
+  pub lines_are : AreLines lines
+  pub version_is : lines.version ≡ version_of declaration.profile
+  pub guess_is : guess ≡ spelled lines

@@ -9,6 +9,7 @@ mod inputs;
 pub mod laws;
 mod reason_text;
 pub mod running;
+pub mod session;
 mod sources;
 pub mod status;
 mod text;

@@ -19,6 +19,8 @@ mod program;
 #[cfg(test)]
 mod readers;
 #[cfg(test)]
+mod sessions;
+#[cfg(test)]
 mod sets;
 #[cfg(test)]
 mod sources;

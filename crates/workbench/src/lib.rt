@@ -2,8 +2,10 @@
 #![tactic(auto)]
 
 mod files;
+mod joined;
+mod operator;
 mod program;
 mod words;
 
-pub use commands::{assembling, checking, explaining, running, status, watching};
+pub use commands::{assembling, checking, explaining, running, session, status, watching};
 pub use program::exit_status;

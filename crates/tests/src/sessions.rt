@@ -7,7 +7,8 @@ use std::test::Fail;
 
 #[test]
 fn bad_words_of_a_session_are_told(rt: HostRuntime) -> Result<(), Fail> {
-    let beside = "error: '--events' can't stand beside the words for the reader, the punch, the teletype and the switches\n";
+    let beside =
+        "error: '--events' can't stand beside the words for the reader, the punch, the teletype and the switches\n";
     let shared = "error: '-' stands for standard input in one place alone\n";
     for (words, told) in [
         ("pdp8 run - --keys -", shared),
@@ -17,7 +18,10 @@ fn bad_words_of_a_session_are_told(rt: HostRuntime) -> Result<(), Fail> {
         ("pdp8 run a --events b --reader c", beside),
         ("pdp8 run a --events b --mark", beside),
         ("pdp8 run a --events b --switches 1", beside),
-        ("pdp8 run a --punch -", "error: '--punch' takes the name of a file\n"),
+        (
+            "pdp8 run a --punch -",
+            "error: '--punch' takes the name of a file\n",
+        ),
         (
             "pdp8 run a --switches 8",
             "error: bad value for '--switches': ",
@@ -43,7 +47,10 @@ fn loader_loads_a_tape_in_the_reader(rt: HostRuntime) {
     );
     assert_eq!(rt; end.status, Status::Done.code());
     assert_eq!(rt; end.printed.as_slice(), b"A".as_slice());
-    assert!(rt; end.told.starts_with(b"HALT 0005 AC=0301 L=0 PC=0006 STEPS="));
+    assert!(rt;
+        end.told
+            .starts_with(b"HALT 0005 AC=0301 L=0 PC=0006 STEPS=")
+    );
     assert!(rt; end.told.ends_with(b"\nPRINTED 301\n"));
     assert_eq!(rt; end.opened.as_slice(), b"rim.bin card.rim ".as_slice());
 }
@@ -56,10 +63,16 @@ fn copier_copies_a_tape_byte_for_byte(rt: HostRuntime) {
     );
     assert_eq!(rt; end.status, Status::Done.code());
     assert_eq!(rt; end.written.as_slice(), b"\x00\x80A\x7f\xff".as_slice());
-    assert!(rt; end.printed.starts_with(b"HALT 0215 AC=0000 L=1 PC=0216 STEPS="));
+    assert!(rt;
+        end.printed
+            .starts_with(b"HALT 0215 AC=0000 L=1 PC=0216 STEPS=")
+    );
     assert!(rt; end.printed.ends_with(b"\nPUNCHED 000 200 101 177 377\n"));
     assert!(rt; end.told.is_empty());
-    assert_eq!(rt; end.opened.as_slice(), b"copier.bin old.tape new.tape ".as_slice());
+    assert_eq!(rt;
+        end.opened.as_slice(),
+        b"copier.bin old.tape new.tape ".as_slice()
+    );
 }
 
 #[test]
@@ -70,7 +83,10 @@ fn keys_are_echoed(rt: HostRuntime) {
     );
     assert_eq!(rt; end.status, Status::Done.code());
     assert_eq!(rt; end.printed.as_slice(), b"\0HI\r".as_slice());
-    assert!(rt; end.told.starts_with(b"HALT 0211 AC=0000 L=1 PC=0212 STEPS="));
+    assert!(rt;
+        end.told
+            .starts_with(b"HALT 0211 AC=0000 L=1 PC=0212 STEPS=")
+    );
     assert!(rt; end.told.ends_with(b"\nPRINTED 000 310 311 215\n"));
 }
 
@@ -80,7 +96,11 @@ fn files_of_a_session_that_fail_are_told(rt: HostRuntime) -> Result<(), Fail> {
     let write = "pdp8: device: WriteFault\n";
     for (words, told, opened) in [
         ("pdp8 run a --keys hi.keys --mark", read, "a "),
-        ("pdp8 run halt.bin --reader a --punch b", read, "halt.bin a "),
+        (
+            "pdp8 run halt.bin --reader a --punch b",
+            read,
+            "halt.bin a ",
+        ),
         (
             "pdp8 run halt.bin --keys failing --punch b",
             read,

@@ -10,7 +10,7 @@ _pdp8() {
             COMPREPLY=($(compgen -W '8i 8e' -- "$word"))
             return
             ;;
-        --start | --steps)
+        --start | --steps | --switches)
             return
             ;;
         help)
@@ -20,7 +20,7 @@ _pdp8() {
     esac
     case ${COMP_WORDS[1]} in
         assemble | list | dump) options='--profile --help' ;;
-        run) options='--start --steps --events --trace --profile --help' ;;
+        run) options='--start --steps --events --reader --punch --keys --mark --teletype --switches --trace --profile --help' ;;
         check) options='--why --help' ;;
         watch | guess | migrate) options='--help' ;;
     esac

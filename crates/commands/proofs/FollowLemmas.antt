@@ -39,7 +39,7 @@ untraced : (trace : Bool) (old : Option (List ℕ)) → Appends old old (traced 
 untraced true old = Appends-nil old
 untraced false old = Appends-nil old
 
-joined : (trace : Bool) (old mid new : Option (List ℕ)) (first second : List ℕ) → Appends old mid (traced trace first) → Appends mid new (traced trace second) → Appends old new (traced trace (first ++ second))
+pub joined : (trace : Bool) (old mid new : Option (List ℕ)) (first second : List ℕ) → Appends old mid (traced trace first) → Appends mid new (traced trace second) → Appends old new (traced trace (first ++ second))
 joined true old mid new first second p q = Appends-trans old mid new first second p q
 joined false old mid new first second p q = Appends-trans old mid new [] [] p q
 
@@ -50,10 +50,10 @@ came_none p ends trace w old = record {
   wrote = untraced trace old;
 }
 
-leads_one : (p : Profile) (ends : Bool) (e : Event) (w m : WorldState) (what : Seen) → seen_of p w e ≡ what → goes_on ends what ≡ true → Happens p w e m → Leads p ends (e ∷ []) w (trace_of p w e m) (counted what) m
+pub leads_one : (p : Profile) (ends : Bool) (e : Event) (w m : WorldState) (what : Seen) → seen_of p w e ≡ what → goes_on ends what ≡ true → Happens p w e m → Leads p ends (e ∷ []) w (trace_of p w e m) (counted what) m
 leads_one p ends e w m what is goes happens = λ rest more k end y follows. Went e rest w m y what more k end is goes happens follows
 
-leads_both : (p : Profile) (ends : Bool) (es fs : List Event) (w m x : WorldState) (a b : List ℕ) (n k : ℕ) → Leads p ends es w a n m → Leads p ends fs m b k x → Leads p ends (es ++ fs) w (a ++ b) (n + k) x
+pub leads_both : (p : Profile) (ends : Bool) (es fs : List Event) (w m x : WorldState) (a b : List ℕ) (n k : ℕ) → Leads p ends es w a n m → Leads p ends fs m b k x → Leads p ends (es ++ fs) w (a ++ b) (n + k) x
 leads_both p ends es fs w m x a b n k first second = λ rest more j end y follows.
     let done : Follows p ends (es ++ (fs ++ rest)) w (a ++ (b ++ more)) (n + (k + j)) end y = first (fs ++ rest) (b ++ more) (k + j) end y (second rest more j end y follows) in
     rw (append_assoc es fs rest, append_assoc a b more, add_assoc n k j) done
@@ -100,7 +100,7 @@ came_to_halt p ends trace es i e w x y n outcome old mid new came within is stop
 }
 
 -- an unsupported word has no line
-no_line : (p : Profile) (e : Event) (x y : WorldState) (word : ℕ) → seen_of p x e ≡ seen.Unsupported word → trace_of p x e y ≡ []
+pub no_line : (p : Profile) (e : Event) (x y : WorldState) (word : ℕ) → seen_of p x e ≡ seen.Unsupported word → trace_of p x e y ≡ []
 no_line p e x y word sees = rw sees refl
 
 pub came_to_stuck : (p : Profile) (ends trace : Bool) (es : List Event) (i : ℕ) (e : Event) (w x y : WorldState) (n word : ℕ) (outcome : Outcome) (old mid new : Option (List ℕ)) →
@@ -116,10 +116,10 @@ came_to_stuck p ends trace es i e w x y n word outcome old mid new came within i
     }
 
 -- the run of one event
-record OneFollows (p : Profile) (ends : Bool) (e : Event) (x y : WorldState) : Type 0 where
-  steps : ℕ
-  end : End
-  follows : Follows p ends (e ∷ []) x (trace_of p x e y) steps end y
+pub record OneFollows (p : Profile) (ends : Bool) (e : Event) (x y : WorldState) : Type 0 where
+  pub steps : ℕ
+  pub end : End
+  pub follows : Follows p ends (e ∷ []) x (trace_of p x e y) steps end y
 
 went_one : (p : Profile) (ends : Bool) (e : Event) (x y : WorldState) (what : Seen) → seen_of p x e ≡ what → goes_on ends what ≡ true → Happens p x e y → OneFollows p ends e x y
 went_one p ends e x y what sees goes happens =
@@ -130,7 +130,7 @@ halted_one : (p : Profile) (ends : Bool) (e : Event) (x y : WorldState) → seen
 halted_one p true e x y sees happens = record { steps = 1; end = end_of y; follows = Stopped e [] x y refl sees happens }
 halted_one p false e x y sees happens = went_one p false e x y seen.Halted sees refl happens
 
-one_by : (p : Profile) (ends : Bool) (e : Event) (x y : WorldState) (what : Seen) → seen_of p x e ≡ what → Happens p x e y → OneFollows p ends e x y
+pub one_by : (p : Profile) (ends : Bool) (e : Event) (x y : WorldState) (what : Seen) → seen_of p x e ≡ what → Happens p x e y → OneFollows p ends e x y
 one_by p ends e x y seen.Ran sees happens = went_one p ends e x y seen.Ran sees refl happens
 one_by p ends e x y seen.Changed sees happens = went_one p ends e x y seen.Changed sees refl happens
 one_by p ends e x y seen.NotEnabled sees happens = went_one p ends e x y seen.NotEnabled sees refl happens

@@ -9,3 +9,4 @@ pub mod AssembleLemmas
 pub mod CheckLemmas
 pub mod LaterLemmas
 pub mod Answered
+pub mod SessionLemmas

@@ -21,7 +21,7 @@ use Rattle.commands.specs.declared.status.Fault.{Fault}
 use Rattle.commands.specs.declared.status.Fault.TheVariants.{Tape, Declared, Certificate, Events, Guess, Device}
 use Rattle.commands.specs.declared.status.Fault.TheVariants as fault
 use Rattle.commands.specs.declared.status.DeviceFault.TheVariants.{Read, Write}
-use Rattle.commands.specs.Inputs.{Input, IsGoodTape, IsGoodDeclaration, IsGoodCertificate, FailsInTape, FailsInText}
+use Rattle.commands.specs.Inputs.{Input, IsGoodTape, IsGoodDeclaration, IsGoodCertificate, FailsBefore, FailsInTape, FailsInText}
 
 -- The answer is that a write failed.
 abbrev pub fails_to_write : {T : Type 0} → Result T Fault → Bool
@@ -106,6 +106,12 @@ IsCertificateInputFault text (Device Read) = FailsInText most_certificate_bytes 
 IsCertificateInputFault text fault.NoMemory = Unit {0}
 IsCertificateInputFault text _ = ⊥
 
+-- Why frames or keys weren't read: a read failed, or memory was refused.
+abbrev pub IsBytesFault : ℕ → Input → Fault → Type 0
+IsBytesFault most bytes (Device Read) = FailsBefore most bytes
+IsBytesFault most bytes fault.NoMemory = Unit {0}
+IsBytesFault most bytes _ = ⊥
+
 -- The inputs are good, and a write failed or memory was refused.
 abbrev pub IsRunFault : Fault → Type 0
 IsRunFault (Device Write) = Unit {0}
@@ -154,3 +160,9 @@ abbrev pub IsGuessFault : Input → Input → Fault → Type 0
 IsGuessFault tape text fault =
     IsTapeInputFault tape fault ⊎ (IsGoodTape tape.had × (IsDeclarationInputFault text fault
     ⊎ (IsGoodDeclaration text.had × IsSearchFault fault)))
+
+-- Why a session has no result: each input is looked at where those before it are good, and so many frames and keys at most.
+abbrev pub IsSessionFault : ℕ → Input → Input → Input → Fault → Type 0
+IsSessionFault most tape reader keys fault =
+    IsTapeInputFault tape fault ⊎ (IsGoodTape tape.had × (IsBytesFault most reader fault
+    ⊎ (IsBytesFault most keys fault ⊎ IsRunFault fault)))

@@ -1,5 +1,5 @@
 -- What a command read, as far as a source tells its bytes; and what became of a source that was read.
-use Rattle.std.specs.Prelude.{ℕ, ◌≡◌, ◌≤◌, Bool, true, IfSome, List, Option, length, take}
+use Rattle.std.specs.Prelude.{ℕ, ◌≡◌, ◌≤◌, ◌<◌, Bool, true, IfSome, List, Option, length, take}
 use Rattle.streams.specs.Bytes.{Gave}
 use Rattle.bin_tape.specs.Tape.{IsTape}
 use Rattle.bin_tape.specs.Refuses.{IsUnfinished}
@@ -65,3 +65,12 @@ pub record FailsInTape (tape : Input) : Type 0 where
 pub record FailsInText (most : ℕ) (text : Input) : Type 0 where
   pub failed : text.failed ≡ true
   pub short : Gave text.had text.left (λ given. length given ≤ most)
+
+-- These are the first bytes of a source, so many at most.
+abbrev pub AreFirst : ℕ → Option (List ℕ) → List ℕ → Type 0
+AreFirst most had first = IfSome had (λ bytes. first ≡ take most bytes)
+
+-- A read failed before so many bytes had come.
+pub record FailsBefore (most : ℕ) (bytes : Input) : Type 0 where
+  pub failed : bytes.failed ≡ true
+  pub short : Gave bytes.had bytes.left (λ given. length given < most)

@@ -15,3 +15,5 @@ pub mod SourceTexts
 pub mod AssembleText
 pub mod Laws
 pub mod WhyText
+pub mod Session
+pub mod SessionParts

@@ -96,7 +96,7 @@ fn event_of_round(index: usize) -> Event
 }
 
 /// The end of a run that isn't stuck.
-fn end_of<A: Allocator>(world: &World<A>) -> End
+pub(crate) fn end_of<A: Allocator>(world: &World<A>) -> End
     ensures { result ≡ end_of (view world.now) }
 {
     match world.halted_at() {
@@ -106,7 +106,7 @@ fn end_of<A: Allocator>(world: &World<A>) -> End
 }
 
 /// Applies one event. A trace has a line for each instruction that was carried out.
-fn advance<A: Allocator, W: ByteSink>(
+pub(crate) fn advance<A: Allocator, W: ByteSink>(
     world: &mut World<A>,
     out: &mut W,
     trace: bool,
@@ -129,6 +129,7 @@ fn advance<A: Allocator, W: ByteSink>(
         (trace_of (profile_of world.old) (view world.old) event (view world.new)) }
     ensures silent { trace ≡ false → out.new ≡ out.old }
     ensures kept { OnErr result (W.mark out.new ≡ false → W.taken out.new ≡ W.taken out.old) }
+    ensures unchanged { OnErr result (W.mark out.new ≡ false → view world.new ≡ view world.old) }
 {
     let at = world.cpu().pc;
     let word = world.cpu().memory.get(at);

@@ -3,8 +3,8 @@
 ghost use Rattle.std.specs.Prelude.{◌≡◌, false, IfOk, IfErr};
 ghost use Rattle.declaration.specs.Kept.{meaning};
 ghost use Rattle.certificate.specs.Kept.{meaning as lines_of};
-ghost use Rattle.commands.specs.Faults.{IsTapeInputFault, IsCertificateInputFault, IsDeclarationInputFault, IsEventsInputFault, fails_to_read};
-ghost use Rattle.commands.specs.Inputs.{HasImage, HasCertificate, HasDeclaration, HasEvents, input};
+ghost use Rattle.commands.specs.Faults.{IsTapeInputFault, IsCertificateInputFault, IsDeclarationInputFault, IsEventsInputFault, IsBytesFault, fails_to_read};
+ghost use Rattle.commands.specs.Inputs.{AreFirst, HasImage, HasCertificate, HasDeclaration, HasEvents, input};
 
 use crate::status::Fault;
 use bin_tape::{Image, read_from};
@@ -70,6 +70,24 @@ pub(crate) fn certificate_from<A: Allocator + Copy, R: ByteSource>(
     let text = read_at_most(alloc, source, MOST_CERTIFICATE)?;
     match Certificate::parse(alloc, &text) {
         Ok(certificate) => Ok(certificate),
+        Err(fault) => Err(Fault::from(fault)),
+    }
+}
+
+/// Reads so many bytes at most: the frames in a reader, or keys.
+pub(crate) fn bytes_from<A: Allocator, R: ByteSource>(
+    alloc: A,
+    source: &mut R,
+    most: u32,
+) -> Result<Vec<u8, A>, Fault>
+    requires { R.mark source.old ≡ false }
+    ensures bytes { IfOk result (λ bytes. AreFirst most (R.remaining source.old) bytes.items) }
+    ensures faults { IfErr result (IsBytesFault most
+        (input (R.mark source.new) (R.remaining source.old) (R.remaining source.new))) }
+    ensures marks { R.mark source.new ≡ fails_to_read result }
+{
+    match read_at_most(alloc, source, most as usize) {
+        Ok(bytes) => Ok(bytes),
         Err(fault) => Err(Fault::from(fault)),
     }
 }

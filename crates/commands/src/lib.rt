@@ -11,6 +11,7 @@ pub mod laws;
 pub mod migrating;
 mod reason_text;
 pub mod running;
+pub mod session;
 mod sources;
 pub mod status;
 mod text;

@@ -34,7 +34,7 @@ pub struct RunOptions {
 }
 
 /// A run that is stuck at an unsupported word is refused.
-fn status_of(end: End) -> Status
+pub(crate) fn status_of(end: End) -> Status
     ensures { result ≡ status_of end }
 {
     match end {

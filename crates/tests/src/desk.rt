@@ -15,6 +15,35 @@ static INPUT: &[u8] = b"*200\nHLT\n$\n";
 /// A tape with the word of that source, with a shorter leader and trailer.
 static HALT: &[u8] = b"\x80\x80\x80\x80\x42\x00\x3c\x02\x02\x00\x80\x80\x80\x80";
 
+/// The tape of DEC's RIM loader for the high-speed reader.
+static RIM_LOADER: &[u8] = b"\
+    \x80\x80\x80\x80\x7f\x2e\x30\x0c\x30\x09\x2b\x2f\x30\x0e\x39\x06\x38\x06\x3d\x08\x2b\x3c\
+    \x38\x06\x30\x09\x2b\x37\x30\x0e\x3c\x10\x1f\x3e\x1b\x3e\x2b\x2f\x00\x00\x15\x16\x80\x80\
+    \x80\x80\
+";
+
+/// A RIM tape that prints A from 0000 on and halts, with a word that starts it.
+static CARD: &[u8] = b"\
+    \x80\x80\x80\x80\x40\x00\x3b\x00\x40\x01\x08\x06\x40\x02\x30\x26\x40\x03\x30\x21\x40\x04\
+    \x28\x03\x40\x05\x3c\x02\x40\x06\x03\x01\x7f\x3d\x2f\x3e\x80\x80\x80\x80\
+";
+
+/// The tape of a program that copies the reader to the punch up to a frame 377.
+static COPIER: &[u8] = b"\
+    \x80\x80\x80\x80\x42\x00\x3b\x00\x30\x0c\x30\x09\x2a\x02\x30\x0a\x30\x16\x30\x11\x2a\x06\
+    \x0a\x0f\x3e\x28\x2a\x0d\x30\x0c\x2a\x02\x3c\x02\x2a\x00\x3c\x01\x0f\x12\x80\x80\x80\x80\
+";
+
+/// The tape of a program that prints what is typed up to a carriage return.
+static ECHO: &[u8] = b"\
+    \x80\x80\x80\x80\x42\x00\x3b\x00\x30\x26\x30\x19\x2a\x02\x30\x1e\x22\x0b\x0a\x10\x3e\x20\
+    \x2a\x02\x3c\x02\x2a\x00\x00\x00\x30\x21\x2a\x0c\x30\x26\x2e\x0b\x3d\x33\x11\x15\x80\x80\
+    \x80\x80\
+";
+
+/// The tape of a program that takes the switches.
+static SWITCHES: &[u8] = b"\x80\x80\x80\x80\x42\x00\x3e\x04\x3c\x02\x03\x02\x80\x80\x80\x80";
+
 /// What the file of this name has, if there is one. A read of `failing` fails.
 fn content(name: &str) -> Option<&'static [u8]> {
     match name {
@@ -32,6 +61,13 @@ fn content(name: &str) -> Option<&'static [u8]> {
         "wild.dcl" => Some(b"start 200\nmain 200\n"),
         "step.ev" => Some(b"step\n"),
         "bad.ev" => Some(b"steps\n"),
+        "rim.bin" => Some(RIM_LOADER),
+        "card.rim" => Some(CARD),
+        "copier.bin" => Some(COPIER),
+        "echo.bin" => Some(ECHO),
+        "switches.bin" => Some(SWITCHES),
+        "old.tape" => Some(b"\x00\x80A\x7f\xff\x01"),
+        "hi.keys" => Some(b"HI\r?"),
         "failing" => Some(b""),
         _ => None,
     }

@@ -21,6 +21,8 @@ mod program;
 #[cfg(test)]
 mod readers;
 #[cfg(test)]
+mod sessions;
+#[cfg(test)]
 mod sets;
 #[cfg(test)]
 mod sources;

@@ -11,6 +11,20 @@ use std::io::{self, Printer};
 use std::rt::Files;
 use streams::standard::{Reads, Writes};
 
+/// What a name of the command line stands for: `-` for standard input, else a file.
+pub(crate) fn input_of<R: Files + Input>(
+    rt: &R,
+    name: &str,
+) -> Result<Either<R::Reader, R::File>, Fault> {
+    if name == "-" {
+        return Ok(Either::Left(rt.reader()));
+    }
+    match fs::open(rt, name) {
+        Ok(file) => Ok(Either::Right(file)),
+        Err(_) => Err(Fault::Device(DeviceFault::Read)),
+    }
+}
+
 /// Opens what a name of the command line stands for: `-` for standard input, else a file.
 ///
 /// # Errors
@@ -22,13 +36,7 @@ pub fn open_input<R: Files + Input>(
 ) -> Result<Reads<Either<R::Reader, R::File>>, Fault>
     ensures { IfOk result (λ input. input.failed ≡ false) }
 {
-    if name == "-" {
-        return Ok(Reads::new(Either::Left(rt.reader())));
-    }
-    match fs::open(rt, name) {
-        Ok(file) => Ok(Reads::new(Either::Right(file))),
-        Err(_) => Err(Fault::Device(DeviceFault::Read)),
-    }
+    Ok(Reads::new(input_of(rt, name)?))
 }
 
 /// Opens the parts of a source, in order.

@@ -2,10 +2,12 @@
 #![tactic(auto)]
 
 mod files;
+mod joined;
+mod operator;
 mod program;
 mod words;
 
 pub use commands::{
-    assembling, checking, explaining, guessing, migrating, running, status, watching,
+    assembling, checking, explaining, guessing, migrating, running, session, status, watching,
 };
 pub use program::exit_status;

@@ -3,6 +3,7 @@
 ghost use Rattle.std.specs.Prelude.{◌≤◌};
 
 use crate::files::{open_input, open_inputs, open_output};
+use crate::joined::hold_session;
 use crate::words::{Refused, Request, parse_words};
 use clap::Error;
 use commands::assembling::{assemble, list};
@@ -74,6 +75,11 @@ fn refuse<R: Print + Eprint>(rt: &R, refused: Refused) -> Status {
         Refused::Words(error) => return say(rt, &error),
         Refused::NotText => eprintln!(rt; "error: a word of the command line isn't text"),
         Refused::Start(fault) => eprintln!(rt; "error: bad value for '--start': {fault}"),
+        Refused::Switches(fault) => { eprintln!(rt; "error: bad value for '--switches': {fault}") }
+        Refused::EventsAndOperator => eprintln!(rt;
+            "error: '--events' can't stand beside the words for the reader, the punch, the teletype and the switches"
+        ),
+        Refused::PunchToOutput => eprintln!(rt; "error: '--punch' takes the name of a file"),
         Refused::Steps => eprintln!(rt;
             "error: bad value for '--steps': it is a number from 1 to 1000000"
         ),
@@ -100,7 +106,7 @@ fn say<R: Print + Eprint>(rt: &R, words: &Error) -> Status {
 }
 
 /// Opens the files of a request, in the order of its words, and carries it out.
-fn answer<R: Files + Input + Print>(
+fn answer<R: Files + Input + Print + Eprint>(
     rt: &R,
     alloc: Global,
     request: &Request<'_>,
@@ -111,6 +117,7 @@ fn answer<R: Files + Input + Print>(
             events,
             options,
         } => run_from(rt, alloc, tape, *events, *options),
+        Request::Session(session) => hold_session(rt, alloc, session),
         Request::Dump { tape, profile } => {
             let mut frames = open_input(rt, tape)?;
             dump(

@@ -1,5 +1,6 @@
 //! The program's words.
 
+use crate::operator::{Session, has_operator, session_of, with_operator};
 use clap::error::ErrorKind;
 use clap::{Arg, ArgAction, ArgMatches, Command, Error};
 use commands::running::RunOptions;
@@ -42,6 +43,8 @@ pub enum Request<'a> {
         /// How it is run.
         options: RunOptions,
     },
+    /// To run a tape with an operator.
+    Session(Session<'a>),
     /// To list the words of a tape.
     Dump {
         /// The name of the tape's file.
@@ -112,6 +115,12 @@ pub enum Refused {
     NotText,
     /// The value of `--start` is no address.
     Start(OctalFault),
+    /// The value of `--switches` is no word.
+    Switches(OctalFault),
+    /// There are events, and an operator too.
+    EventsAndOperator,
+    /// The punch is to go to standard output.
+    PunchToOutput,
     /// The value of `--steps` is no number from 1 to 1,000,000.
     Steps,
     /// The value of `--profile` is neither `8i` nor `8e`.
@@ -173,7 +182,7 @@ fn run_command<'a>(alloc: Global) -> Result<Command<'a>, AllocError> {
         .long("trace")
         .action(ArgAction::SetTrue)
         .help("writes a line for each instruction");
-    Command::new(alloc, "run")
+    let run = Command::new(alloc, "run")
         .about("Runs a tape and writes where it ended and what it printed and punched")
         .after_help("Example:\n  pdp8 run hello.bin --start 200 --trace")
         .arg(tape_word(alloc))?
@@ -181,7 +190,8 @@ fn run_command<'a>(alloc: Global) -> Result<Command<'a>, AllocError> {
         .arg(steps)?
         .arg(events)?
         .arg(trace)?
-        .arg(profile_word(alloc))
+        .arg(profile_word(alloc))?;
+    with_operator(alloc, run)
 }
 
 fn dump_command<'a>(alloc: Global) -> Result<Command<'a>, AllocError> {
@@ -320,7 +330,7 @@ fn profile_of(found: &ArgMatches<'_>) -> Result<Profile, Refused> {
     }
 }
 
-fn run_options(found: &ArgMatches<'_>) -> Result<RunOptions, Refused> {
+pub(crate) fn run_options(found: &ArgMatches<'_>) -> Result<RunOptions, Refused> {
     let start = Word::from_octal(found.get_str("start").unwrap_or("0200").as_bytes())?;
     let rounds = match found.get_str("steps") {
         None => ROUNDS,
@@ -337,6 +347,9 @@ fn run_options(found: &ArgMatches<'_>) -> Result<RunOptions, Refused> {
 fn run_request<'a>(found: &ArgMatches<'a>) -> Result<Request<'a>, Refused> {
     let tape = found.get_str("TAPE").unwrap_or("-");
     let events = found.get_str("events");
+    if has_operator(found) {
+        return Ok(Request::Session(session_of(tape, found)?));
+    }
     if tape == "-" && events == Some("-") {
         return Err(Refused::BothStandardInput);
     }
@@ -348,7 +361,7 @@ fn run_request<'a>(found: &ArgMatches<'a>) -> Result<Request<'a>, Refused> {
 }
 
 /// Whether more than one of these is standard input.
-fn share_standard_input(names: &[&str]) -> bool {
+pub(crate) fn share_standard_input(names: &[&str]) -> bool {
     names.iter().filter(|name| **name == "-").count() > 1
 }
 

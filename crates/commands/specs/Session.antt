@@ -1,0 +1,141 @@
+-- A run with an operator: which events come, and what is written, printed and punched.
+use Rattle.std.specs.Prelude.{ℕ, ◌≡◌, ◌%◌, Bool, true, false, ◌⊎◌, if◌then◌else◌, Option, Some, None, List, [], ◌∷◌, ◌++◌, map}
+use Rattle.std.specs.Io.KnownBytes.{Appends}
+use Rattle.streams.specs.Bytes.{AppendsFront}
+use Rattle.instruct.specs.declared.Profile.{Profile}
+use Rattle.peripherals.specs.declared.Event.{Event}
+use Rattle.peripherals.specs.Devices.{WorldState}
+use Rattle.peripherals.specs.Events.{Happens}
+use Rattle.peripherals.specs.Operator.{Plan, due, left_after, struck_as}
+use Rattle.peripherals.specs.Seen.{seen_of}
+use Rattle.commands.specs.declared.follow.End.{End}
+use Rattle.commands.specs.declared.follow.Outcome.{Outcome}
+use Rattle.commands.specs.declared.running.RunOptions.{RunOptions}
+use Rattle.commands.specs.declared.session.SessionOptions.{SessionOptions}
+use Rattle.commands.specs.declared.status.Status.{Status}
+use Rattle.commands.specs.Course.{Ran}
+use Rattle.commands.specs.Follows.{Follows, goes_on}
+use Rattle.commands.specs.Inputs.{AreFirst, HasImage}
+use Rattle.commands.specs.Running.{fresh, status_of}
+use Rattle.commands.specs.Summary.{summary}
+use Rattle.commands.specs.Trace.{traced}
+
+-- From a world, after the last event if there was one, these events come: each is due where it comes. They are all that
+-- come in the run, or, where the run isn't whole, the first of them.
+pub data Comes (profile : Profile) (whole : Bool) : Plan → Option Event → WorldState → List Event → Type 0 where
+  -- nothing is due any more
+  Over : (plan : Plan) (last : Option Event) (w : WorldState) → due plan w last ≡ None → Comes profile whole plan last w []
+  -- what comes further isn't told
+  Cut : (plan : Plan) (last : Option Event) (w : WorldState) → whole ≡ false → Comes profile whole plan last w []
+  -- the run ends with the event that is due: it is stuck, or the machine halts
+  Final : (plan : Plan) (last : Option Event) (w : WorldState) (e : Event) →
+      due plan w last ≡ Some e → goes_on true (seen_of profile w e) ≡ false → Comes profile whole plan last w (e ∷ [])
+  -- the event that is due happens, and the others come after it
+  Then : (plan : Plan) (last : Option Event) (w m : WorldState) (e : Event) (es : List Event) →
+      due plan w last ≡ Some e → goes_on true (seen_of profile w e) ≡ true → Happens profile w e m →
+      Comes profile whole (left_after e plan) (Some e) m es → Comes profile whole plan last w (e ∷ es)
+
+-- The character of a byte on the teletype: channel 8 is dropped.
+abbrev pub character : ℕ → ℕ
+character byte = byte % 128
+
+-- What was printed in a world, as characters.
+abbrev pub printed_in : WorldState → List ℕ
+printed_in w = map character w.devices.printer.output
+
+-- An operator's run came to its end in x: the trace, if one was asked for, and the characters that were printed were
+-- appended.
+pub record Operated (profile : Profile) (trace : Bool) (plan : Plan) (w : WorldState) (outcome : Outcome) (x : WorldState) (old new told tells : Option (List ℕ)) : Type 0 where
+  pub events : List Event
+  pub come : Comes profile true plan None w events
+  pub ran : Ran profile true trace events w outcome x old new
+  pub printed : Appends told tells (printed_in x)
+
+-- It broke off in x after some first events: fronts of the trace and of the characters went out.
+pub record BrokeOff (profile : Profile) (trace : Bool) (plan : Plan) (w x : WorldState) (old new told tells : Option (List ℕ)) : Type 0 where
+  pub events : List Event
+  pub come : Comes profile false plan None w events
+  pub lines : List ℕ
+  pub steps : ℕ
+  pub end : End
+  pub follows : Follows profile true events w lines steps end x
+  pub wrote : AppendsFront old new (traced trace lines)
+  pub printed : AppendsFront told tells (printed_in x)
+
+-- The summary stands after a whole run.
+abbrev pub summary_where : Bool → End → WorldState → ℕ → List ℕ
+summary_where whole end w steps = if whole then summary end w steps else []
+
+-- From an image the events of this plan lead to an end. The text is the trace, if one is asked for, and the summary; and
+-- these are the characters printed and the bytes punched. Where the run isn't whole, this is what its first events leave.
+pub record IsSessionOf (options : RunOptions) (whole : Bool) (plan : Plan) (image : List (Option ℕ)) (text printed punched : List ℕ) (status : Status) : Type 0 where
+  pub events : List Event
+  pub come : Comes options.profile whole plan None (fresh image options.start) events
+  pub lines : List ℕ
+  pub steps : ℕ
+  pub end : End
+  pub final : WorldState
+  pub follows : Follows options.profile true events (fresh image options.start) lines steps end final
+  pub text_is : text ≡ traced options.trace lines ++ summary_where whole end final steps
+  pub printed_is : printed ≡ printed_in final
+  pub punched_is : punched ≡ final.devices.punch.output
+  pub status_is : status ≡ status_of end
+
+-- The plan for these frames and keys.
+abbrev pub plan_for : SessionOptions → List ℕ → List ℕ → Plan
+plan_for options frames keys = record {
+  switches = options.switches;
+  rounds = options.run.rounds;
+  frames = frames;
+  keys = map (struck_as options.mark) keys;
+}
+
+-- The tape is good, and these are what a run of it brings, with the frames of a reader and the bytes of keys, as many of each
+-- as there are rounds: no more can come.
+pub record IsSession (options : SessionOptions) (whole : Bool) (tape reader keys : Option (List ℕ)) (status : Status) (text printed punched : List ℕ) : Type 0 where
+  pub image : List (Option ℕ)
+  pub has_image : HasImage tape image
+  pub frames : List ℕ
+  pub frames_are : AreFirst options.run.rounds reader frames
+  pub bytes : List ℕ
+  pub bytes_are : AreFirst options.run.rounds keys bytes
+  pub session : IsSessionOf options.run whole (plan_for options frames bytes) image text printed punched status
+
+-- What a run with an operator, whole or broken off, may be about to write, to print and to punch.
+pub record IsPartOfSession (options : SessionOptions) (tape reader keys : Option (List ℕ)) (text printed punched : List ℕ) : Type 0 where
+  pub whole : Bool
+  pub status : Status
+  pub is : IsSession options whole tape reader keys status text printed punched
+
+-- What three sinks tell: where the trace and the summary, the characters and the punched bytes go.
+pub record Taken : Type 0 where
+  pub report : Option (List ℕ)
+  pub teletype : Option (List ℕ)
+  pub punch : Option (List ℕ)
+
+abbrev pub taken : Option (List ℕ) → Option (List ℕ) → Option (List ℕ) → Taken
+taken report teletype punch = record { report = report; teletype = teletype; punch = punch }
+
+-- Three texts of which P is true were appended.
+pub record WritesAll (P : List ℕ → List ℕ → List ℕ → Type 0) (old new : Taken) : Type 0 where
+  pub text : List ℕ
+  pub printed : List ℕ
+  pub punched : List ℕ
+  pub is : P text printed punched
+  pub to_report : Appends old.report new.report text
+  pub to_teletype : Appends old.teletype new.teletype printed
+  pub to_punch : Appends old.punch new.punch punched
+
+-- A front of each of three such texts was appended.
+pub record FrontsOf (P : List ℕ → List ℕ → List ℕ → Type 0) (old new : Taken) : Type 0 where
+  pub text : List ℕ
+  pub printed : List ℕ
+  pub punched : List ℕ
+  pub is : P text printed punched
+  pub to_report : AppendsFront old.report new.report text
+  pub to_teletype : AppendsFront old.teletype new.teletype printed
+  pub to_punch : AppendsFront old.punch new.punch punched
+
+-- Nothing was written at all, or fronts of three such texts.
+abbrev pub NothingOrFronts : (List ℕ → List ℕ → List ℕ → Type 0) → Taken → Taken → Type 0
+NothingOrFronts P old new = (new ≡ old) ⊎ FrontsOf P old new

@@ -1,0 +1,48 @@
+-- One event of an operator's run, and what a run leaves. Private contracts alone cite this.
+use Rattle.std.specs.Prelude.{ℕ, ◌≡◌, Bool, ◌⊎◌, List, Option, drop, length, map}
+use Rattle.std.specs.Io.KnownBytes.{Appends}
+use Rattle.streams.specs.Bytes.{AppendsFront}
+use Rattle.instruct.specs.declared.Profile.{Profile}
+use Rattle.peripherals.specs.declared.Event.{Event}
+use Rattle.peripherals.specs.declared.Seen.{Seen}
+use Rattle.peripherals.specs.Devices.{WorldState}
+use Rattle.peripherals.specs.Events.{Happens}
+use Rattle.peripherals.specs.Operator.{Plan}
+use Rattle.peripherals.specs.Seen.{seen_of}
+use Rattle.commands.specs.declared.running.RunOptions.{RunOptions}
+use Rattle.commands.specs.declared.status.Status.{Status}
+use Rattle.commands.specs.Session.{IsSessionOf, character}
+use Rattle.commands.specs.Trace.{trace_of, traced}
+
+-- The characters that were printed between two worlds.
+abbrev pub printed_from : WorldState → WorldState → List ℕ
+printed_from w x = map character (drop (length w.devices.printer.output) x.devices.printer.output)
+
+-- An event happened, and its line and its character went out.
+pub record Played (profile : Profile) (trace : Bool) (w : WorldState) (e : Event) (what : Seen) (x : WorldState) (old new told tells : Option (List ℕ)) : Type 0 where
+  pub happens : Happens profile w e x
+  pub sees : what ≡ seen_of profile w e
+  pub wrote : Appends old new (traced trace (trace_of profile w e x))
+  pub printed : Appends told tells (printed_from w x)
+
+-- Memory was refused, and nothing happened.
+pub record Unplayed (w x : WorldState) (old new told tells : Option (List ℕ)) : Type 0 where
+  pub same : x ≡ w
+  pub unwritten : new ≡ old
+  pub unprinted : tells ≡ told
+
+-- The event happened, and a write of what it wrote or printed failed.
+pub record Faltered (profile : Profile) (trace : Bool) (w : WorldState) (e : Event) (x : WorldState) (old new told tells : Option (List ℕ)) : Type 0 where
+  pub happens : Happens profile w e x
+  pub wrote : AppendsFront old new (traced trace (trace_of profile w e x))
+  pub printed : AppendsFront told tells (printed_from w x)
+
+abbrev pub PlayedFront : Profile → Bool → WorldState → Event → WorldState → Option (List ℕ) → Option (List ℕ) → Option (List ℕ) → Option (List ℕ) → Type 0
+PlayedFront profile trace w e x old new told tells =
+    Unplayed w x old new told tells ⊎ Faltered profile trace w e x old new told tells
+
+-- What the events of a plan, or the first of them, leave.
+pub record IsPartOf (options : RunOptions) (plan : Plan) (image : List (Option ℕ)) (text printed punched : List ℕ) : Type 0 where
+  pub whole : Bool
+  pub status : Status
+  pub is : IsSessionOf options whole plan image text printed punched status

@@ -1,0 +1,257 @@
+//! A run with an operator: frames in the reader, keys to strike, the teletype and the punch.
+
+ghost use Rattle.std.specs.Prelude.{◌≡◌, ◌<◌, ◌||◌, ◌%◌, [], ◌∷◌, false, true, None, drop, get_or, is_err, map, IfOk, IfErr, OnOk, OnErr};
+ghost use Rattle.std.specs.Io.KnownBytes.{Appends};
+ghost use Rattle.streams.specs.Bytes.{AppendsFront};
+ghost use Rattle.peripherals.specs.Operator.{plan_of};
+ghost use Rattle.peripherals.specs.World.{view, profile_of};
+ghost use Rattle.commands.specs.Faults.{is_fault_of_tape, fails_to_read, fails_to_write, IsRunFault, IsSessionFault};
+ghost use Rattle.commands.specs.Inputs.{input};
+ghost use Rattle.commands.specs.Session.{BrokeOff, IsPartOfSession, IsSession, IsSessionOf, NothingOrFronts, Operated, FrontsOf, WritesAll, character, printed_in, taken};
+ghost use Rattle.commands.specs.SessionParts.{IsPartOf, Played, PlayedFront};
+
+use crate::follow::{End, Outcome, advance, end_of};
+use crate::inputs::{bytes_from, tape_from};
+use crate::running::{RunOptions, status_of};
+use crate::status::{Fault, Status};
+use crate::text::summary_of;
+use bin_tape::Image;
+use peripherals::{Event, Operator, Seen, Start, World};
+use std::alloc::Allocator;
+use streams::{ByteSink, ByteSource, Failed, put};
+use word12::Word;
+
+/// How a tape is run with an operator.
+#[derive(Clone, Copy, PartialEq, Eq, Debug)]
+pub struct SessionOptions {
+    /// How the tape is run.
+    pub run: RunOptions,
+    /// What the switches are set to first, if they are.
+    pub switches: Option<Word>,
+    /// Each key has channel 8 set.
+    pub mark: bool,
+}
+
+/// Where a session writes to.
+#[derive(Drop)]
+pub struct Outputs<W, T, P> {
+    /// Takes the trace and the summary.
+    pub report: W,
+    /// Takes the characters that are printed, as they are printed.
+    pub teletype: T,
+    /// Takes the bytes that are punched.
+    pub punch: P,
+}
+
+/// Types the byte that was printed after so many others, if there is one.
+fn type_from<T: ByteSink>(bytes: &[u8], from: usize, teletype: &mut T) -> Result<(), Failed>
+    requires unmarked { T.mark teletype.old ≡ false }
+    ensures whole { OnOk result (Appends (T.taken teletype.old) (T.taken teletype.new)
+        (map character (drop from bytes.now))) }
+    ensures front { OnErr result (AppendsFront (T.taken teletype.old) (T.taken teletype.new)
+        (map character (drop from bytes.now))) }
+    ensures marks { T.mark teletype.new ≡ is_err result }
+{
+    for index in from..bytes.len() {
+        put(teletype, &character_at(bytes, index))?;
+    }
+    Ok(())
+}
+
+/// The character of the byte with this index.
+fn character_at(bytes: &[u8], index: usize) -> [u8; 1]
+    ensures { result ≡ (get_or bytes.now index 0 % 128) ∷ [] }
+{
+    match bytes.get(index) {
+        Some(byte) => [*byte % 128],
+        None => [0],
+    }
+}
+
+/// Applies one event, adds its line to the trace if one is asked for, and types what it printed.
+fn play<A: Allocator, W: ByteSink, T: ByteSink, P>(
+    world: &mut World<A>,
+    out: &mut Outputs<W, T, P>,
+    trace: bool,
+    event: Event,
+) -> Result<Seen, Fault>
+    requires writable { W.mark out.old.report ≡ false }
+    requires typable { T.mark out.old.teletype ≡ false }
+    ensures played { IfOk result (λ seen.
+        Played (profile_of world.old) trace (view world.old) event seen (view world.new)
+        (W.taken out.old.report) (W.taken out.new.report)
+        (T.taken out.old.teletype) (T.taken out.new.teletype)) }
+    ensures front { OnErr result
+        (PlayedFront (profile_of world.old) trace (view world.old) event (view world.new)
+        (W.taken out.old.report) (W.taken out.new.report)
+        (T.taken out.old.teletype) (T.taken out.new.teletype)) }
+    ensures profile { profile_of world.new ≡ profile_of world.old }
+    ensures punch { out.new.punch ≡ out.old.punch }
+    ensures faults { IfErr result IsRunFault }
+    ensures marks { W.mark out.new.report || T.mark out.new.teletype ≡ fails_to_write result }
+{
+    let before = world.printed().len();
+    let seen = advance(world, &mut out.report, trace, event)?;
+    type_from(world.printed(), before, &mut out.teletype)?;
+    Ok(seen)
+}
+
+/// Lets happen what an operator brings. The run ends early at a halt and at an unsupported word.
+fn operate<A: Allocator, W: ByteSink, T: ByteSink, P>(
+    world: &mut World<A>,
+    operator: &mut Operator<'_>,
+    trace: bool,
+    out: &mut Outputs<W, T, P>,
+) -> Result<Outcome, Fault>
+    requires writable { W.mark out.old.report ≡ false }
+    requires typable { T.mark out.old.teletype ≡ false }
+    requires first { operator.old.last ≡ None }
+    requires few { (plan_of operator.old).rounds < 4294967296 }
+    requires unprinted { (view world.old).devices.printer.output ≡ [] }
+    ensures ran { IfOk result (λ outcome.
+        Operated (profile_of world.old) trace (plan_of operator.old) (view world.old) outcome
+        (view world.new) (W.taken out.old.report) (W.taken out.new.report)
+        (T.taken out.old.teletype) (T.taken out.new.teletype)) }
+    ensures broke { OnErr result
+        (BrokeOff (profile_of world.old) trace (plan_of operator.old) (view world.old)
+        (view world.new) (W.taken out.old.report) (W.taken out.new.report)
+        (T.taken out.old.teletype) (T.taken out.new.teletype)) }
+    ensures punch { out.new.punch ≡ out.old.punch }
+    ensures faults { IfErr result IsRunFault }
+    ensures marks { W.mark out.new.report || T.mark out.new.teletype ≡ fails_to_write result }
+{
+    let mut steps = 0;
+    while let Some(event) = operator.next(world) {
+        match play(world, out, trace, event)? {
+            Seen::Ran => steps += 1,
+            Seen::Halted => {
+                return Ok(Outcome {
+                    steps: steps + 1,
+                    end: end_of(world),
+                });
+            }
+            Seen::Unsupported(_) => {
+                return Ok(Outcome {
+                    steps,
+                    end: End::Unsupported(world.cpu().pc),
+                });
+            }
+            Seen::NotEnabled => {}
+            Seen::Changed => {}
+        }
+    }
+    Ok(Outcome {
+        steps,
+        end: end_of(world),
+    })
+}
+
+/// Shows that rounds are few.
+fn are_few(rounds: u32)
+    ensures { rounds < 4294967296 }
+{}
+
+/// Runs an image with an operator, and writes what was punched in the end, also where the run broke
+/// off, and the summary.
+fn attend<A: Allocator + Copy, W: ByteSink, T: ByteSink, P: ByteSink>(
+    alloc: A,
+    image: &Image,
+    operator: &mut Operator<'_>,
+    options: RunOptions,
+    out: &mut Outputs<W, T, P>,
+) -> Result<Status, Fault>
+    requires writable { W.mark out.old.report ≡ false }
+    requires typable { T.mark out.old.teletype ≡ false }
+    requires punchable { P.mark out.old.punch ≡ false }
+    requires first { operator.old.last ≡ None }
+    requires rounds { (plan_of operator.old).rounds ≡ options.rounds }
+    ensures run { IfOk result (λ status.
+        WritesAll (λ text printed punched.
+        IsSessionOf options true (plan_of operator.old) image.now text printed punched status)
+        (taken (W.taken out.old.report) (T.taken out.old.teletype) (P.taken out.old.punch))
+        (taken (W.taken out.new.report) (T.taken out.new.teletype) (P.taken out.new.punch))) }
+    ensures front { OnErr result (FrontsOf (IsPartOf options (plan_of operator.old) image.now)
+        (taken (W.taken out.old.report) (T.taken out.old.teletype) (P.taken out.old.punch))
+        (taken (W.taken out.new.report) (T.taken out.new.teletype) (P.taken out.new.punch))) }
+    ensures faults { IfErr result IsRunFault }
+    ensures marks { (W.mark out.new.report || T.mark out.new.teletype) || P.mark out.new.punch
+        ≡ fails_to_write result }
+{
+    let mut world = World::load(alloc, image, options.start, &Start::zero(), options.profile);
+    are_few(options.rounds);
+    let ran = operate(&mut world, operator, options.trace, out);
+    put(&mut out.punch, world.punched())?;
+    let outcome = ran?;
+    let text = summary_of(alloc, &outcome, &world)?;
+    put(&mut out.report, &text)?;
+    Ok(status_of(outcome.end))
+}
+
+/// Runs a tape with an operator: the frames of one source are in the reader, the bytes of another
+/// are the keys, and both are read before the run, as many bytes as there are rounds. What is
+/// printed is typed as characters as it is printed, what is punched is written when the run is over,
+/// and the trace, if it is asked for, and the summary are the report. The run ends early as that of
+/// `run`.
+///
+/// # Errors
+///
+/// The tape's fault; `Device` where a read failed, or a write, after which a front went out of what
+/// was to be reported, typed and punched; `NoMemory`.
+pub fn run_session<
+    A: Allocator + Copy,
+    R: ByteSource,
+    F: ByteSource,
+    K: ByteSource,
+    W: ByteSink,
+    T: ByteSink,
+    P: ByteSink,
+>(
+    alloc: A,
+    tape: &mut R,
+    reader: &mut F,
+    keys: &mut K,
+    options: SessionOptions,
+    out: &mut Outputs<W, T, P>,
+) -> Result<Status, Fault>
+    requires readable { R.mark tape.old ≡ false }
+    requires reader_readable { F.mark reader.old ≡ false }
+    requires keys_readable { K.mark keys.old ≡ false }
+    requires writable { W.mark out.old.report ≡ false }
+    requires typable { T.mark out.old.teletype ≡ false }
+    requires punchable { P.mark out.old.punch ≡ false }
+    // What is written, typed and punched is that of the run of the events that come.
+    ensures run { IfOk result (λ status.
+        WritesAll (IsSession options true (R.remaining tape.old) (F.remaining reader.old)
+        (K.remaining keys.old) status)
+        (taken (W.taken out.old.report) (T.taken out.old.teletype) (P.taken out.old.punch))
+        (taken (W.taken out.new.report) (T.taken out.new.teletype) (P.taken out.new.punch))) }
+    ensures faults { IfErr result (IsSessionFault options.run.rounds
+        (input (R.mark tape.new) (R.remaining tape.old) (R.remaining tape.new))
+        (input (F.mark reader.new) (F.remaining reader.old) (F.remaining reader.new))
+        (input (K.mark keys.new) (K.remaining keys.old) (K.remaining keys.new))) }
+    // After a fault fronts of that went out, or of what the first events leave; or nothing at all,
+    ensures front { OnErr result (NothingOrFronts (IsPartOfSession options (R.remaining tape.old)
+        (F.remaining reader.old) (K.remaining keys.old))
+        (taken (W.taken out.old.report) (T.taken out.old.teletype) (P.taken out.old.punch))
+        (taken (W.taken out.new.report) (T.taken out.new.teletype) (P.taken out.new.punch))) }
+    // as where the tape is refused or a read failed.
+    ensures nothing { IfErr result (λ fault. is_fault_of_tape fault ≡ true → out.new ≡ out.old) }
+    ensures nothing_after_failure { fails_to_read result ≡ true → out.new ≡ out.old }
+    // A write failed exactly where the answer says so, and so did a read.
+    ensures marks { (W.mark out.new.report || T.mark out.new.teletype) || P.mark out.new.punch
+        ≡ fails_to_write result }
+    ensures reads { (R.mark tape.new || F.mark reader.new) || K.mark keys.new
+        ≡ fails_to_read result }
+{
+    let image = tape_from(tape)?;
+    let frames = bytes_from(alloc, reader, options.run.rounds)?;
+    let struck = bytes_from(alloc, keys, options.run.rounds)?;
+    let mut operator = Operator::new(
+        options.switches,
+        options.run.rounds,
+        &frames,
+        &struck,
+        options.mark,
+    );
+    attend(alloc, &image, &mut operator, options.run, out)
+}

@@ -1,0 +1,159 @@
+//! Runs with an operator, by the whole program: a tape in the reader, keys, the teletype and the
+//! punch.
+
+use crate::desk::{run_program, run_with_room};
+use commands::status::Status;
+use std::test::Fail;
+
+#[test]
+fn bad_words_of_a_session_are_told(rt: HostRuntime) -> Result<(), Fail> {
+    let beside =
+        "error: '--events' can't stand beside the words for the reader, the punch, the teletype and the switches\n";
+    let shared = "error: '-' stands for standard input in one place alone\n";
+    for (words, told) in [
+        ("pdp8 run - --keys -", shared),
+        ("pdp8 run a --reader - --keys -", shared),
+        ("pdp8 run - --reader -", shared),
+        ("pdp8 run a --events b --teletype", beside),
+        ("pdp8 run a --events b --reader c", beside),
+        ("pdp8 run a --events b --mark", beside),
+        ("pdp8 run a --events b --switches 1", beside),
+        (
+            "pdp8 run a --punch -",
+            "error: '--punch' takes the name of a file\n",
+        ),
+        (
+            "pdp8 run a --switches 8",
+            "error: bad value for '--switches': ",
+        ),
+        (
+            "pdp8 run a --keys b --steps 0",
+            "error: bad value for '--steps': it is a number from 1 to 1000000\n",
+        ),
+    ] {
+        let end = run_program(rt.alloc(), words);
+        assert_eq!(rt; end.status, Status::Words.code(), "{words}");
+        assert!(rt; end.told.starts_with(told.as_bytes()), "{words}");
+        assert!(rt; end.printed.is_empty() && end.opened.is_empty(), "{words}");
+    }
+    Ok(())
+}
+
+#[test]
+fn loader_loads_a_tape_in_the_reader(rt: HostRuntime) {
+    let end = run_program(
+        rt.alloc(),
+        "pdp8 run rim.bin --start 7756 --reader card.rim --teletype",
+    );
+    assert_eq!(rt; end.status, Status::Done.code());
+    assert_eq!(rt; end.printed.as_slice(), b"A".as_slice());
+    assert!(rt;
+        end.told
+            .starts_with(b"HALT 0005 AC=0301 L=0 PC=0006 STEPS=")
+    );
+    assert!(rt; end.told.ends_with(b"\nPRINTED 301\n"));
+    assert_eq!(rt; end.opened.as_slice(), b"rim.bin card.rim ".as_slice());
+}
+
+#[test]
+fn copier_copies_a_tape_byte_for_byte(rt: HostRuntime) {
+    let end = run_program(
+        rt.alloc(),
+        "pdp8 run copier.bin --reader old.tape --punch new.tape",
+    );
+    assert_eq!(rt; end.status, Status::Done.code());
+    assert_eq!(rt; end.written.as_slice(), b"\x00\x80A\x7f\xff".as_slice());
+    assert!(rt;
+        end.printed
+            .starts_with(b"HALT 0215 AC=0000 L=1 PC=0216 STEPS=")
+    );
+    assert!(rt; end.printed.ends_with(b"\nPUNCHED 000 200 101 177 377\n"));
+    assert!(rt; end.told.is_empty());
+    assert_eq!(rt;
+        end.opened.as_slice(),
+        b"copier.bin old.tape new.tape ".as_slice()
+    );
+}
+
+#[test]
+fn keys_are_echoed(rt: HostRuntime) {
+    let end = run_program(
+        rt.alloc(),
+        "pdp8 run echo.bin --keys hi.keys --mark --teletype",
+    );
+    assert_eq!(rt; end.status, Status::Done.code());
+    assert_eq!(rt; end.printed.as_slice(), b"\0HI\r".as_slice());
+    assert!(rt;
+        end.told
+            .starts_with(b"HALT 0211 AC=0000 L=1 PC=0212 STEPS=")
+    );
+    assert!(rt; end.told.ends_with(b"\nPRINTED 000 310 311 215\n"));
+}
+
+#[test]
+fn files_of_a_session_that_fail_are_told(rt: HostRuntime) -> Result<(), Fail> {
+    let read = "pdp8: device: ReadFault\n";
+    let write = "pdp8: device: WriteFault\n";
+    for (words, told, opened) in [
+        ("pdp8 run a --keys hi.keys --mark", read, "a "),
+        (
+            "pdp8 run halt.bin --reader a --punch b",
+            read,
+            "halt.bin a ",
+        ),
+        (
+            "pdp8 run halt.bin --keys failing --punch b",
+            read,
+            "halt.bin failing b ",
+        ),
+        (
+            "pdp8 run copier.bin --reader old.tape --punch failing",
+            write,
+            "copier.bin old.tape failing ",
+        ),
+        (
+            "pdp8 run halt.bin --punch absent/b",
+            write,
+            "halt.bin absent/b ",
+        ),
+    ] {
+        let end = run_program(rt.alloc(), words);
+        assert_eq!(rt; end.status, Status::Device.code(), "{words}");
+        assert_eq!(rt; end.told.as_slice(), told.as_bytes(), "{words}");
+        assert_eq!(rt; end.opened.as_slice(), opened.as_bytes(), "{words}");
+        assert!(rt; end.printed.is_empty() && end.written.is_empty(), "{words}");
+    }
+    Ok(())
+}
+
+#[test]
+fn switches_are_set_before_the_first_round(rt: HostRuntime) {
+    let end = run_program(rt.alloc(), "pdp8 run switches.bin --switches 1234");
+    assert_eq!(rt; end.status, Status::Done.code());
+    assert_eq!(rt;
+        end.printed.as_slice(),
+        b"HALT 0201 AC=1234 L=0 PC=0202 STEPS=2\n".as_slice()
+    );
+    assert!(rt; end.told.is_empty());
+}
+
+#[test]
+fn a_tape_read_by_a_session_may_be_bad(rt: HostRuntime) {
+    let end = run_program(rt.alloc(), "pdp8 run bad.bin --teletype --punch b");
+    assert_eq!(rt; end.status, Status::Refused.code());
+    assert!(rt; end.told.starts_with(b"pdp8: tape: "));
+    assert!(rt; end.printed.is_empty() && end.written.is_empty());
+    assert_eq!(rt; end.opened.as_slice(), b"bad.bin b ".as_slice());
+}
+
+#[test]
+fn characters_before_a_failure_are_there(rt: HostRuntime) -> Result<(), Fail> {
+    let words = "pdp8 run echo.bin --keys hi.keys --mark --teletype";
+    for (room, printed) in [(0, b"".as_slice()), (2, b"\0H"), (4, b"\0HI\r")] {
+        let end = run_with_room(rt.alloc(), words, room, 0);
+        assert_eq!(rt; end.status, Status::Device.code());
+        assert_eq!(rt; end.printed.as_slice(), printed);
+        assert!(rt; end.told.is_empty());
+    }
+    Ok(())
+}

@@ -34,7 +34,8 @@ impl From<AllocError> for InputFault {
 }
 
 /// The bytes that a source still gives, `limit` of them at most. What it has past the limit isn't
-/// read: who wants to know whether there is more asks for one byte more than is taken.
+/// read: who wants to know whether there is more asks for one byte more than is taken. That no read
+/// follows the one that found the end is how it is written; no clause says it.
 ///
 /// # Errors
 ///
@@ -56,7 +57,7 @@ pub fn read_at_most<A: Allocator, R: ByteSource>(
     ensures short { R.mark source.new ≡ true →
         Gave (R.remaining source.old) (R.remaining source.new) (λ given. length given < limit) }
     // Whatever the answer, the source gave no more bytes than the limit.
-    ensures bounded { Gave (R.remaining source.old) (R.remaining source.new) (λ given. length given ≤ limit) }
+    ensures bounded { Gave (R.remaining source.old) (R.remaining source.new) (λ all. length all ≤ limit) }
 {
     let mut text = Vec::new(alloc);
     let mut piece = [0u8; PIECE];

@@ -27,11 +27,12 @@ pub trait LineTaker {
         ensures refused { IfErr result (refuses self.old number line.now) };
 }
 
-/// Gives the lines of a text to a taker, in order, up to the first that is refused.
+/// Gives the lines of a text to a taker, in order, up to the first that is refused. What the taker
+/// is left with after a refusal isn't said.
 ///
 /// # Errors
 ///
-/// Why the first line that isn't good is refused. All lines before it were taken.
+/// Why the first line that isn't good is refused, as a taker that took those before it refuses it.
 pub fn take_lines<T: LineTaker>(taker: &mut T, text: &[u8]) -> Result<(), T::Fault>
     requires { length text.now < 2 ^ 63 }
     ensures taken { OnOk result (TakesAll T.takes taker.old (text_lines text.now) taker.new) }

@@ -57,7 +57,8 @@ pub fn read_at_most<A: Allocator, R: ByteSource>(
     ensures short { R.mark source.new ≡ true →
         Gave (R.remaining source.old) (R.remaining source.new) (λ given. length given < limit) }
     // Whatever the answer, the source gave no more bytes than the limit.
-    ensures bounded { Gave (R.remaining source.old) (R.remaining source.new) (λ all. length all ≤ limit) }
+    ensures bounded { Gave (R.remaining source.old) (R.remaining source.new)
+        (λ given. length given ≤ limit) }
 {
     let mut text = Vec::new(alloc);
     let mut piece = [0u8; PIECE];

@@ -118,29 +118,13 @@ fn answer<R: Files + Input + Print + Eprint>(
             options,
         } => run_from(rt, alloc, tape, *events, *options),
         Request::Session(session) => hold_session(rt, alloc, session),
-        Request::Dump { tape, profile } => {
-            let mut frames = open_input(rt, tape)?;
-            dump(
-                alloc,
-                &mut frames,
-                *profile,
-                &mut Writes::new(io::writer(rt)),
-            )
-        }
+        Request::Dump { tape, profile } => dump_from(rt, alloc, tape, *profile),
         Request::Assemble {
             out,
             sources,
             profile,
         } => assemble_to(rt, alloc, out, sources, *profile),
-        Request::List { sources, profile } => {
-            let mut parts = open_inputs(rt, alloc, sources)?;
-            list(
-                alloc,
-                &mut parts,
-                *profile,
-                &mut Writes::new(io::writer(rt)),
-            )
-        }
+        Request::List { sources, profile } => list_from(rt, alloc, sources, *profile),
         Request::Watch {
             tape,
             declaration,
@@ -157,12 +141,44 @@ fn answer<R: Files + Input + Print + Eprint>(
             declaration,
             out,
         } => guess_from(rt, alloc, tape, declaration, out),
-        Request::Migrate { certificate, out } => {
-            let mut text = open_input(rt, certificate)?;
-            let mut migrated = open_output(rt, out)?;
-            migrate(alloc, &mut text, &mut migrated)
-        }
+        Request::Migrate { certificate, out } => migrate_from(rt, alloc, certificate, out),
     }
+}
+
+/// Names the words of the tape of a file.
+fn dump_from<R: Files + Input + Print>(
+    rt: &R,
+    alloc: Global,
+    tape: &str,
+    profile: Profile,
+) -> Result<Status, Fault> {
+    let mut frames = open_input(rt, tape)?;
+    let mut out = Writes::new(io::writer(rt));
+    dump(alloc, &mut frames, profile, &mut out)
+}
+
+/// Lists the source whose parts are in these files.
+fn list_from<R: Files + Input + Print>(
+    rt: &R,
+    alloc: Global,
+    sources: &[&str],
+    profile: Profile,
+) -> Result<Status, Fault> {
+    let mut parts = open_inputs(rt, alloc, sources)?;
+    let mut out = Writes::new(io::writer(rt));
+    list(alloc, &mut parts, profile, &mut out)
+}
+
+/// Migrates the certificate of a file.
+fn migrate_from<R: Files + Input + Print>(
+    rt: &R,
+    alloc: Global,
+    certificate: &str,
+    out: &str,
+) -> Result<Status, Fault> {
+    let mut text = open_input(rt, certificate)?;
+    let mut migrated = open_output(rt, out)?;
+    migrate(alloc, &mut text, &mut migrated)
 }
 
 /// Assembles the parts of these files into a tape.

@@ -341,8 +341,9 @@ fn either_version_is_judged_for_either_machine(rt: HostRuntime) -> Result<(), Fa
 fn hello_is_migrated(rt: HostRuntime) -> Result<(), Fail> {
     let first = without(rt.alloc(), HELLO.as_slice(), 0)?;
     let second = without(rt.alloc(), HELLO_WITH_MQ.as_slice(), 0)?;
+    let migrated = second.as_slice();
     // What is migrated already stays as it is.
-    for text in [first.as_slice(), second.as_slice()] {
+    for text in [first.as_slice(), migrated] {
         for (room, wanted) in [
             (4096usize, Ok(Status::Done)),
             (100, Err(Fault::Device(DeviceFault::Write))),
@@ -350,7 +351,7 @@ fn hello_is_migrated(rt: HostRuntime) -> Result<(), Fail> {
             let mut out = MemorySink::new(rt.alloc(), room);
             let ended = migrate(rt.alloc(), &mut MemorySource::new(text), &mut out);
             assert_eq!(rt; ended, wanted);
-            assert_eq!(rt; out.bytes(), &second[..second.len().min(room)]);
+            assert_eq!(rt; out.bytes(), &migrated[..migrated.len().min(room)]);
         }
     }
     Ok(())
@@ -411,20 +412,8 @@ fn nothing_is_written_where_no_guess_is_found(rt: HostRuntime) -> Result<(), Fai
         &mut MemorySource::new(declared),
         &mut out,
     );
-    let stuck = Fault::Guess(GuessFault::Stuck(word(0o201)));
-    assert_eq!(rt; ended, Err(stuck));
+    assert_eq!(rt; ended, Err(Fault::Guess(GuessFault::Stuck(word(0o201)))));
     assert!(rt; out.bytes().is_empty());
-    for (fault, line) in [
-        (stuck, "pdp8: guess: Stuck 0201"),
-        (
-            Fault::Guess(GuessFault::TurnsSpent),
-            "pdp8: guess: TurnsSpent",
-        ),
-    ] {
-        let told = format!(in rt.alloc(); "{fault}")?;
-        assert_eq!(rt; told.as_str(), line);
-        assert_eq!(rt; fault.status(), Status::Refused);
-    }
     Ok(())
 }
 

@@ -1,5 +1,6 @@
 //! Commands on whole tapes.
 
+use analyser::GuessFault;
 use bin_tape::{Image, TapeFault, write_tape};
 use commands::running::{RunOptions, dump, run, run_events};
 use commands::status::{DeviceFault, Fault, Status};
@@ -168,6 +169,7 @@ fn events_stand_in_place_of_rounds(rt: HostRuntime) -> Result<(), Fail> {
 #[test]
 fn faults_have_their_lines_and_statuses(rt: HostRuntime) -> Result<(), Fail> {
     let checksum = TapeFault::Checksum(word(0o0201), word(0o0200));
+    let stuck = GuessFault::Stuck(word(0o0201));
     for (fault, status, line) in [
         (
             Fault::Tape(TapeFault::NoWord),
@@ -183,6 +185,16 @@ fn faults_have_their_lines_and_statuses(rt: HostRuntime) -> Result<(), Fail> {
             Fault::Tape(checksum),
             Status::Refused,
             "pdp8: tape: Checksum 0201 0200",
+        ),
+        (
+            Fault::Guess(stuck),
+            Status::Refused,
+            "pdp8: guess: Stuck 0201",
+        ),
+        (
+            Fault::Guess(GuessFault::TurnsSpent),
+            Status::Refused,
+            "pdp8: guess: TurnsSpent",
         ),
         (
             Fault::Device(DeviceFault::Read),

@@ -424,9 +424,9 @@ fn check_request<'a>(found: &ArgMatches<'a>) -> Result<Request<'a>, Refused> {
 }
 
 fn guess_request<'a>(found: &ArgMatches<'a>) -> Result<Request<'a>, Refused> {
-    let inputs = ["TAPE", "DECLARATION"].map(|name| found.get_str(name).unwrap_or("-"));
-    let [tape, declaration] = inputs;
-    if share_standard_input(&inputs) {
+    let tape = found.get_str("TAPE").unwrap_or("-");
+    let declaration = found.get_str("DECLARATION").unwrap_or("-");
+    if tape == "-" && declaration == "-" {
         return Err(Refused::BothStandardInput);
     }
     Ok(Request::Guess {

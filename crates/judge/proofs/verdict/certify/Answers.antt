@@ -43,7 +43,8 @@ returns-in-Err-parse g c =
       tape_told = λ f refused. absurd (ok_or_err c.in-Ok.is (c.read_tape.ensures.exact f refused));
       declaration_told = λ f tape fails no. elim (c.in-Err-parse.ensures.exact f fails no) [
         | inl is ↦ inr (ap fault.Declaration (same_fault refl refl is))
-        | inr is ↦ absurd (other (same_fault refl refl is)) ];
+        | inr is ↦ absurd (other (same_fault refl refl is))
+      ];
       certificate_told = λ f tape declares has. absurd (other (c.in-Err-parse.ensures.only declares.0 declares.1));
       judged = λ v tape declares is. absurd (other (c.in-Err-parse.ensures.only declares.0 declares.1));
     }
@@ -57,15 +58,20 @@ returns-in-Err-parse-2 g c =
       read = tt;
       valid = tt;
       safe = tt;
-      refused = ((c.in-Ok.image, c.in-Ok.ensures.tape), (_, c.in-Ok-parse.ensures.found),
-        elim c.in-Err-parse-2.ensures.refused [ inl is ↦ absurd (other is) | inr has ↦ has ]);
+      refused = (
+        (c.in-Ok.image, c.in-Ok.ensures.tape),
+        (_, c.in-Ok-parse.ensures.found),
+        elim c.in-Err-parse-2.ensures.refused [ inl is ↦ absurd (other is) | inr has ↦ has ],
+      );
       tape_told = λ f refused. absurd (ok_or_err c.in-Ok.is (c.read_tape.ensures.exact f refused));
       declaration_told = λ f tape fails no. elim (c.in-Ok-parse.ensures.exact f fails no) [
         | inl is ↦ absurd (ok_or_err refl is)
-        | inr is ↦ absurd (ok_or_err refl is) ];
+        | inr is ↦ absurd (ok_or_err refl is)
+      ];
       certificate_told = λ f tape declares has. elim (c.in-Err-parse-2.ensures.exact f has) [
         | inl is ↦ absurd (other is)
-        | inr is ↦ inr (ap fault.Certificate is) ];
+        | inr is ↦ inr (ap fault.Certificate is)
+      ];
       judged = λ v tape declares is. absurd (other (c.in-Err-parse-2.ensures.only v is));
     }
 

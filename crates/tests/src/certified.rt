@@ -337,22 +337,21 @@ fn either_version_is_judged_for_either_machine(rt: HostRuntime) -> Result<(), Fa
     Ok(())
 }
 
+/// Whether the text migrates so, as far as there is room.
+fn migrates(alloc: Global, text: &[u8], migrated: &[u8], room: usize, done: bool) -> bool {
+    let mut out = MemorySink::new(alloc, room);
+    let ended = migrate(alloc, &mut MemorySource::new(text), &mut out);
+    ended.is_ok() == done && out.bytes() == &migrated[..migrated.len().min(room)]
+}
+
 #[test]
 fn hello_is_migrated(rt: HostRuntime) -> Result<(), Fail> {
     let first = without(rt.alloc(), HELLO.as_slice(), 0)?;
     let second = without(rt.alloc(), HELLO_WITH_MQ.as_slice(), 0)?;
-    let migrated = second.as_slice();
-    // What is migrated already stays as it is.
-    for text in [first.as_slice(), migrated] {
-        for (room, wanted) in [
-            (4096usize, Ok(Status::Done)),
-            (100, Err(Fault::Device(DeviceFault::Write))),
-        ] {
-            let mut out = MemorySink::new(rt.alloc(), room);
-            let ended = migrate(rt.alloc(), &mut MemorySource::new(text), &mut out);
-            assert_eq!(rt; ended, wanted);
-            assert_eq!(rt; out.bytes(), &migrated[..migrated.len().min(room)]);
-        }
+    for (room, done) in [(4096usize, true), (100, false)] {
+        assert!(rt; migrates(rt.alloc(), &first, &second, room, done));
+        // What is migrated already stays as it is.
+        assert!(rt; migrates(rt.alloc(), &second, &second, room, done));
     }
     Ok(())
 }

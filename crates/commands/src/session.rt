@@ -242,6 +242,12 @@ pub fn run_session<
         ≡ fails_to_write result }
     ensures reads { (R.mark tape.new || F.mark reader.new) || K.mark keys.new
         ≡ fails_to_read result }
+    // No input is read after one that is refused, or whose read failed.
+    ensures unread { IfErr result (λ fault. is_fault_of_tape fault ≡ true →
+        (reader.new ≡ reader.old) × (keys.new ≡ keys.old)) }
+    ensures unread_after_failure { R.mark tape.new ≡ true →
+        (reader.new ≡ reader.old) × (keys.new ≡ keys.old) }
+    ensures keys_unread_after_failure { F.mark reader.new ≡ true → keys.new ≡ keys.old }
 {
     let image = tape_from(tape)?;
     let frames = bytes_from(alloc, reader, options.run.rounds)?;

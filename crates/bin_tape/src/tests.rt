@@ -189,6 +189,8 @@ impl ByteSource for Endless {
 
     ghost mark = { λ _. false };
 
+    ghost ended = { λ _. false };
+
     fn read(&mut self, piece: &mut [u8]) -> Result<usize, Failed> {
         piece.fill(0o200);
         self.given = self.given.saturating_add(piece.len());

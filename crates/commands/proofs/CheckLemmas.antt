@@ -19,77 +19,33 @@ use Rattle.certificate.specs.declared.CertificateFault.TheVariants as faults
 use Rattle.certificate.specs.declared.Version.{Version}
 use Rattle.certificate.specs.Spelling.{Lines, text}
 use Rattle.certificate.specs.Reading.{AreLines}
-use Rattle.certificate.specs.Line.{Line}
-use Rattle.certificate.specs.Order.{front}
-use Rattle.certificate.specs.Faults.{most_bytes, NoFeed, HasLine, HasFaultyLine, HasRest, HasFault, IsText}
+use Rattle.certificate.specs.Faults.{HasFault, IsText}
 use Rattle.commands.specs.Faults.{IsCertificateInputFault, fault_of_certificate}
-use Rattle.commands.specs.Inputs.{HasCertificate, IsTextOf, input}
-use Rattle.commands.proofs.InputLemmas.{all_or_more}
+use Rattle.commands.specs.Inputs.{FailsInCertificate, HasCertificate, input}
 
-pub has_certificate : (had : Option (List ℕ)) (bytes : List ℕ) (c : Lines) (v : Version) → IfSome had (λ all. bytes ≡ take 1048577 all) →
-    AreLines c → bytes ≡ text c → IsText v bytes → HasCertificate had c
-has_certificate had bytes c v is lines same whole =
-    all_or_more (λ all. IsTextOf all c) had bytes 1048576 is (record { lines_are = lines; text_is = same })
-    (λ all long more s. absurd (let short = whole.few in omega (arith, short, long)))
+pub has_certificate : (had : Option (List ℕ)) (c : Lines) (v : Version) → AreLines c → IfSome had (λ bytes. bytes ≡ text c) → IfSome had (IsText v) →
+    HasCertificate had c
+has_certificate None c v lines same whole = tt
+has_certificate (Some bytes) c v lines same whole = record { lines_are = lines; text_is = same; few = whole.few }
 
--- a faulty line stays one whatever follows
-line_more : (bytes more whole line : List ℕ) → HasLine bytes whole line → HasLine (bytes ++ more) whole line
-line_more bytes more whole line h = record {
-  rest = h.rest ++ more;
-  split = ap (λ (b : List ℕ). b ++ more) h.split ∙ append_assoc (whole ++ line) (10 ∷ h.rest) more;
-  feed = h.feed;
-  within = h.within;
-}
+-- the fault of what a source had
+Told : Option (List ℕ) → CertificateFault → Type 0
+Told had fault = (fault ≡ faults.NoMemory) ⊎ ((fault ≡ faults.ReadFault) ⊎ IfSome had (λ bytes. HasFault bytes fault))
 
-faulty_more : (bytes more : List ℕ) (n : ℕ) (F : Version → List Line → List ℕ → Type 0) → HasFaultyLine bytes n F → HasFaultyLine (bytes ++ more) n F
-faulty_more bytes more n F h = record {
-  version = h.version;
-  before = h.before;
-  order = h.order;
-  number = h.number;
-  line = h.line;
-  place = line_more bytes more (front h.version h.before) h.line h.place;
-  faulty = h.faulty;
-}
+told_of : (had : Option (List ℕ)) (fault : CertificateFault) → (fault ≡ faults.NoMemory → ⊥) → (fault ≡ faults.ReadFault → ⊥) → Told had fault →
+    IfSome had (λ bytes. HasFault bytes fault)
+told_of had fault memory read (inl e) = absurd (memory e)
+told_of had fault memory read (inr (inl e)) = absurd (read e)
+told_of had fault memory read (inr (inr h)) = h
 
--- the fault of more bytes than are looked at is that of whatever begins with them
-fault_more : (bytes more : List ℕ) (fault : CertificateFault) → most_bytes < length bytes → HasFault bytes fault → HasFault (bytes ++ more) fault
-fault_more bytes more faults.Version long (inl h) = inl (h.0, line_more bytes more [] h.0 h.1, h.2)
-fault_more bytes more faults.Version long (inr h) = absurd (let short = h.1 in omega (arith, short, long))
-fault_more bytes more (faults.BadLine n) long (inl h) = inl (faulty_more bytes more n _ h)
-fault_more bytes more (faults.BadLine n) long (inr h) = absurd (let short = h.few in omega (arith, short, long))
-fault_more bytes more (faults.Order n) long h = faulty_more bytes more n _ h
-fault_more bytes more faults.TooMany long (inl h) = inl (h.0, faulty_more bytes more h.0 _ h.1)
-fault_more bytes more faults.TooMany long (inr h) =
-    let same : take most_bytes (bytes ++ more) ≡ take most_bytes bytes = take-append-le most_bytes bytes more (omega (arith, long)) in
-    inr (omega (arith, long, length-append bytes more), subst (λ (front : List ℕ). NoFeed front ⊎ HasRest front) (sym same) h.1)
-fault_more bytes more faults.NoMemory long h = absurd h
-fault_more bytes more faults.ReadFault long h = absurd h
-
-of_all : (had : Option (List ℕ)) (bytes : List ℕ) (fault : CertificateFault) → IfSome had (λ all. bytes ≡ take 1048577 all) → HasFault bytes fault → IfSome had (λ all. HasFault all fault)
-of_all None bytes fault is h = tt
-of_all (Some all) bytes fault is h = elim (cases_lt 1048576 (length all)) [
-  | inl more ↦ (let taken : length (take 1048577 all) ≡ 1048577 = length-take-le 1048577 all (omega arith) in
-      let same : length bytes ≡ length (take 1048577 all) = ap length is in
-      subst (λ (b : List ℕ). HasFault b fault) (ap (λ (front : List ℕ). front ++ drop 1048577 all) is ∙ take-append-drop 1048577 all)
-      (fault_more bytes (drop 1048577 all) fault (omega (arith, taken, same)) h))
-  | inr fits ↦ subst (λ (b : List ℕ). HasFault b fault) (is ∙ take_all 1048577 all (omega arith)) h
-]
-
-known : (fault : CertificateFault) (had : Option (List ℕ)) (bytes : List ℕ) → (fault ≡ faults.NoMemory → ⊥) → IfSome had (λ all. bytes ≡ take 1048577 all) →
-    (fault ≡ faults.NoMemory) ⊎ HasFault bytes fault → IfSome had (λ all. HasFault all fault)
-known fault had bytes other is (inl e) = absurd (other e)
-known fault had bytes other is (inr h) = of_all had bytes fault is h
-
-pub certificate_fault_is : (fault : CertificateFault) (failed : Bool) (had left : Option (List ℕ)) (bytes : List ℕ) → IfSome had (λ all. bytes ≡ take 1048577 all) →
-    (fault ≡ faults.NoMemory) ⊎ HasFault bytes fault → IsCertificateInputFault (input failed had left) (fault_of_certificate fault)
-certificate_fault_is faults.NoMemory failed had left bytes is h = tt
-certificate_fault_is faults.ReadFault failed had left bytes is (inl e) = absurd (cc)
-certificate_fault_is faults.ReadFault failed had left bytes is (inr h) = absurd h
-certificate_fault_is faults.Version failed had left bytes is h = known faults.Version had bytes (λ e. cc) is h
-certificate_fault_is (faults.BadLine n) failed had left bytes is h = known (faults.BadLine n) had bytes (λ e. cc) is h
-certificate_fault_is (faults.Order n) failed had left bytes is h = known (faults.Order n) had bytes (λ e. cc) is h
-certificate_fault_is faults.TooMany failed had left bytes is h = known faults.TooMany had bytes (λ e. cc) is h
+pub certificate_fault_is : (fault : CertificateFault) (failed : Bool) (had left : Option (List ℕ)) →
+    Told had fault → (fault ≡ faults.ReadFault → FailsInCertificate (input failed had left)) → IsCertificateInputFault (input failed had left) (fault_of_certificate fault)
+certificate_fault_is faults.NoMemory failed had left h read = tt
+certificate_fault_is faults.ReadFault failed had left h read = read refl
+certificate_fault_is faults.Version failed had left h read = told_of had faults.Version (λ e. cc) (λ e. cc) h
+certificate_fault_is (faults.BadLine n) failed had left h read = told_of had (faults.BadLine n) (λ e. cc) (λ e. cc) h
+certificate_fault_is (faults.Order n) failed had left h read = told_of had (faults.Order n) (λ e. cc) (λ e. cc) h
+certificate_fault_is faults.TooMany failed had left h read = told_of had faults.TooMany (λ e. cc) (λ e. cc) h
 
 -- some body has the cell
 abbrev pub any_body : List Routine → ℕ → Bool

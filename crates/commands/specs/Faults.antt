@@ -12,7 +12,7 @@ use Rattle.peripherals.specs.declared.event_text.EventsFault.TheVariants as even
 use Rattle.declaration.specs.Text.{Fails as FailsAsDeclaration, most_bytes as most_declaration_bytes}
 use Rattle.declaration.specs.declared.DeclarationFault.{DeclarationFault}
 use Rattle.declaration.specs.declared.DeclarationFault.TheVariants as declaration_fault
-use Rattle.certificate.specs.Faults.{HasFault, most_bytes as most_certificate_bytes}
+use Rattle.certificate.specs.Faults.{HasFault}
 use Rattle.certificate.specs.declared.CertificateFault.{CertificateFault}
 use Rattle.certificate.specs.declared.CertificateFault.TheVariants as certificate_fault
 use Rattle.analyser.specs.declared.GuessFault.{GuessFault}
@@ -21,7 +21,7 @@ use Rattle.commands.specs.declared.status.Fault.{Fault}
 use Rattle.commands.specs.declared.status.Fault.TheVariants.{Tape, Declared, Certificate, Events, Guess, Device}
 use Rattle.commands.specs.declared.status.Fault.TheVariants as fault
 use Rattle.commands.specs.declared.status.DeviceFault.TheVariants.{Read, Write}
-use Rattle.commands.specs.Inputs.{Input, IsGoodTape, IsGoodDeclaration, IsGoodCertificate, FailsBefore, FailsInTape, FailsInText}
+use Rattle.commands.specs.Inputs.{Input, IsGoodTape, IsGoodDeclaration, IsGoodCertificate, FailsBefore, FailsInCertificate, FailsInTape, FailsInText}
 
 -- The answer is that a write failed.
 abbrev pub fails_to_write : {T : Type 0} → Result T Fault → Bool
@@ -102,7 +102,7 @@ IsDeclarationInputFault text _ = ⊥
 -- The same of a certificate.
 abbrev pub IsCertificateInputFault : Input → Fault → Type 0
 IsCertificateInputFault text (Certificate fault) = IfSome text.had (λ bytes. HasFault bytes fault)
-IsCertificateInputFault text (Device Read) = FailsInText most_certificate_bytes text
+IsCertificateInputFault text (Device Read) = FailsInCertificate text
 IsCertificateInputFault text fault.NoMemory = Unit {0}
 IsCertificateInputFault text _ = ⊥
 

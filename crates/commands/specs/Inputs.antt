@@ -10,6 +10,8 @@ use Rattle.declaration.specs.Text.{Declares}
 use Rattle.certificate.specs.Spelling.{Lines}
 use Rattle.certificate.specs.Spelling as certificate
 use Rattle.certificate.specs.Reading.{AreLines}
+use Rattle.certificate.specs.Faults.{most_bytes}
+use Rattle.certificate.specs.Serving.{IsUnanswered}
 
 -- The frames are a tape with this image, whose trailer is within the limit of what is looked at.
 abbrev pub HasImage : Option (List ℕ) → List (Option ℕ) → Type 0
@@ -23,10 +25,11 @@ HasEvents text events = IfSome text (λ bytes. Spells bytes events)
 abbrev pub HasDeclaration : Option (List ℕ) → Declaration → Type 0
 HasDeclaration text declaration = IfSome text (λ bytes. Declares bytes declaration)
 
--- The bytes are the text of a certificate with these lines.
+-- The bytes are the text of a certificate with these lines, and not too many.
 pub record IsTextOf (bytes : List ℕ) (lines : Lines) : Type 0 where
   pub lines_are : AreLines lines
   pub text_is : bytes ≡ certificate.text lines
+  pub few : length bytes ≤ most_bytes
 
 -- The text is that of a certificate with these lines.
 abbrev pub HasCertificate : Option (List ℕ) → Lines → Type 0
@@ -65,6 +68,11 @@ pub record FailsInTape (tape : Input) : Type 0 where
 pub record FailsInText (most : ℕ) (text : Input) : Type 0 where
   pub failed : text.failed ≡ true
   pub short : Gave text.had text.left (λ given. length given ≤ most)
+
+-- A read of a certificate failed, and the bytes given before it bring no answer.
+pub record FailsInCertificate (certificate : Input) : Type 0 where
+  pub failed : certificate.failed ≡ true
+  pub unanswered : Gave certificate.had certificate.left IsUnanswered
 
 -- These are the first bytes of a source, so many at most.
 abbrev pub AreFirst : ℕ → Option (List ℕ) → List ℕ → Type 0

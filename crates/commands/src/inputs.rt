@@ -21,9 +21,6 @@ const MOST_DECLARATION: usize = 16_385;
 /// The same of a text of events.
 const MOST_EVENTS: usize = 65_537;
 
-/// The same of a certificate.
-const MOST_CERTIFICATE: usize = 1_048_577;
-
 /// Reads a tape.
 pub(crate) fn tape_from<R: ByteSource>(source: &mut R) -> Result<Image, Fault>
     requires { R.mark source.old ≡ false }
@@ -67,8 +64,7 @@ pub(crate) fn certificate_from<A: Allocator + Copy, R: ByteSource>(
         (input (R.mark source.new) (R.remaining source.old) (R.remaining source.new))) }
     ensures marks { R.mark source.new ≡ fails_to_read result }
 {
-    let text = read_at_most(alloc, source, MOST_CERTIFICATE)?;
-    match Certificate::parse(alloc, &text) {
+    match Certificate::read_from(alloc, source) {
         Ok(certificate) => Ok(certificate),
         Err(fault) => Err(Fault::from(fault)),
     }

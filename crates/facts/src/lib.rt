@@ -72,7 +72,7 @@ pub enum Condition {
 
 /// The step law: from a state of a fact, a step by the word at the program counter lands in one of
 /// the word's outcomes, of the same call list. It is asked of words whose writes are declared and
-/// keep the entries; a JMS, a return and a HLT at a stop are apart.
+/// keep the entries; a JMS, a JMP I through an entry and a HLT that isn't at a pause are apart.
 pub fn step_law()
     ensures { StepLaw }
 {}

@@ -3,7 +3,7 @@
 ghost use Rattle.pal_acts.specs.Laws.{NotBoth, OneFault, OneSource};
 ghost use Rattle.pal_acts.specs.Permanent.{PermanentOnce, ReferencesPermanent};
 
-/// A source has one list of own symbols and one image.
+/// A source has at most one list of own symbols and at most one image.
 pub fn one_source()
     ensures { OneSource }
 {}
@@ -13,7 +13,7 @@ pub fn not_both()
     ensures { NotBoth }
 {}
 
-/// A source has one fault, at one act.
+/// A source has at most one fault, at one act.
 pub fn one_fault()
     ensures { OneFault }
 {}

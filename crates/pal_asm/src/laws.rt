@@ -9,7 +9,7 @@ pub fn answers_are_one()
     ensures either { MeaningIsNoFault }
 {}
 
-/// A source with a meaning has one listing.
+/// A source has at most one listing.
 pub fn listings_are_one()
     ensures { ListingIsOne }
 {}

@@ -112,6 +112,8 @@ impl<'t> Operator<'t> {
         ensures due { result ≡ due (plan_of self.old) (view world.now) self.old.last }
         ensures left { IfSome result (λ e. plan_of self.new ≡ left_after e (plan_of self.old)) }
         ensures last { IfSome result (λ e. self.new.last ≡ Some e) }
+        // Where nothing is due nothing changes.
+        ensures idle { result ≡ None → self.new ≡ self.old }
     {
         let event = self.due(world)?;
         self.use_up(&event);

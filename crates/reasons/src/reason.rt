@@ -77,8 +77,7 @@ fn why_words<A: Allocator, C: Claims>(
 }
 
 /// Why a condition fails at an address: what is possible there by a tape's words, a declaration and
-/// what is claimed, and breaks it. The first reason that is found is told; of words the least that
-/// breaks the condition.
+/// what is claimed, and breaks it. Where there are several, no clause says which of them is told.
 ///
 /// No memory is taken, so none can be refused.
 pub fn why<A: Allocator, C: Claims>(

@@ -1,6 +1,11 @@
 -- What a call leaves of a source or a sink of bytes.
-use Rattle.std.specs.Prelude.{ℕ, ◌≤◌, ◌==◌, ◌&&◌, Bool, true, not, Option, Some, None, Result, Ok, Err, List, take, length, ⊤}
+use Rattle.std.specs.Prelude.{ℕ, ◌≤◌, ◌==◌, ◌&&◌, Bool, true, false, not, Option, Some, None, Result, Ok, Err, List, take, length, ⊤}
 use Rattle.std.specs.Io.KnownBytes.{Appends, Consumes}
+
+-- A read gave nothing for a piece that isn't empty: the end of input.
+abbrev pub finds_end : {E : Type 0} → Result ℕ E → List ℕ → Bool
+finds_end (Ok n) piece = n == 0 && not (length piece == 0)
+finds_end (Err e) piece = false
 
 -- A write of a piece failed, or took nothing of a piece that isn't empty.
 abbrev pub write_fails : {E : Type 0} → Result ℕ E → List ℕ → Bool

@@ -1,8 +1,8 @@
 //! Where bytes come from and go to: sources and sinks that remember a call that failed.
 
-ghost use Rattle.std.specs.Prelude.{◌≡◌, ◌≤◌, ◌||◌, ℕ, List, Option, Bool, false, is_err, length, IfOk, OnOk, OnErr};
+ghost use Rattle.std.specs.Prelude.{◌≡◌, ◌≤◌, ◌||◌, ℕ, List, Option, Bool, Ok, false, true, is_err, length, IfOk, OnOk, OnErr};
 ghost use Rattle.std.specs.Io.KnownBytes.{Appends, ReadConsumes, WriteAppends};
-ghost use Rattle.streams.specs.Bytes.{write_fails, AppendsFront};
+ghost use Rattle.streams.specs.Bytes.{finds_end, write_fails, AppendsFront};
 
 use thiserror::Error;
 
@@ -19,8 +19,11 @@ pub trait ByteSource {
     /// Whether a read failed.
     ghost mark: { Self → Bool };
 
+    /// Whether a read found the end of input.
+    ghost ended: { Self → Bool };
+
     /// Fills the front of a piece, and says how much of it. To fill nothing of a piece that isn't
-    /// empty is the end of input.
+    /// empty is the end of input, and after it there is nothing to read and nothing that can fail.
     ///
     /// # Errors
     ///
@@ -28,7 +31,10 @@ pub trait ByteSource {
     fn read(&mut self, piece: &mut [u8]) -> Result<usize, Failed>
         ensures count { IfOk result (λ n. n ≤ length piece.new) }
         ensures bytes { ReadConsumes (remaining self.old) (remaining self.new) result piece.new }
-        ensures marks { mark self.new ≡ (mark self.old || is_err result) };
+        ensures marks { mark self.new ≡ (mark self.old || is_err result) }
+        ensures ends { ended self.new ≡ (ended self.old || finds_end result piece.old) }
+        // Whoever reads on past the end finds it again.
+        ensures stays { ended self.old ≡ true → result ≡ Ok 0 };
 
     /// Whether a read failed. No call clears this mark.
     fn failed(&self) -> bool

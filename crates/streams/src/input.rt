@@ -34,8 +34,7 @@ impl From<AllocError> for InputFault {
 }
 
 /// The bytes that a source still gives, `limit` of them at most. What it has past the limit isn't
-/// read: who wants to know whether there is more asks for one byte more than is taken. That no read
-/// follows the one that found the end is how it is written; no clause says it.
+/// read: who wants to know whether there is more asks for one byte more than is taken.
 ///
 /// # Errors
 ///

@@ -1,26 +1,32 @@
 //! std's readers and writers as sources and sinks.
 
-ghost use Rattle.std.specs.Prelude.{◌≡◌, false};
+ghost use Rattle.std.specs.Prelude.{◌≡◌, false, true};
+ghost use Rattle.std.specs.Io.KnownBytes.{IsAtEnd};
 
 use crate::bytes::{ByteSink, ByteSource, Failed};
 use std::io;
 
-/// A reader of std, and whether a read of it failed. An interrupted read is tried again.
+/// A reader of std, and whether a read of it failed or found the end. An interrupted read is tried
+/// again, and no read is made after one that found the end.
 #[derive(Drop)]
-pub struct Reads<R> {
+pub struct Reads<R: io::Read> {
     inner: R,
     failed: bool,
+    ended: bool,
+    ghost nothing_left: { ended ≡ true → IsAtEnd (R.remaining inner) },
 }
 
-impl<R> Reads<R> {
+impl<R: io::Read> Reads<R> {
     /// Reads from this reader.
     pub fn new(inner: R) -> Reads<R>
         ensures inner { result.inner ≡ inner }
         ensures unmarked { result.failed ≡ false }
+        ensures not_ended { result.ended ≡ false }
     {
         Reads {
             inner,
             failed: false,
+            ended: false,
         }
     }
 }
@@ -30,10 +36,20 @@ impl<R: io::Read> ByteSource for Reads<R> {
 
     ghost mark = { λ source. source.failed };
 
+    ghost ended = { λ source. source.ended };
+
     fn read(&mut self, piece: &mut [u8]) -> Result<usize, Failed> {
+        if self.ended {
+            return Ok(0);
+        }
         for _ in 0..u64::MAX {
             match self.inner.read(piece) {
-                Ok(count) => return Ok(count),
+                Ok(count) => {
+                    if count == 0 && !piece.is_empty() {
+                        self.ended = true;
+                    }
+                    return Ok(count);
+                }
                 Err(error) if error.kind() == io::ErrorKind::Interrupted => {}
                 Err(_) => break,
             }

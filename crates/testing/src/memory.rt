@@ -1,6 +1,6 @@
 //! Sources and sinks over memory. They tell their bytes, and can be made to fail.
 
-ghost use Rattle.std.specs.Prelude.{◌≡◌, ◌<◌, ◌-◌, ◌^◌, [], Some, false};
+ghost use Rattle.std.specs.Prelude.{◌≡◌, ◌<◌, ◌-◌, ◌^◌, [], Some, false, true};
 
 use std::alloc::Allocator;
 use streams::{ByteSink, ByteSource, Failed};
@@ -12,7 +12,9 @@ pub struct MemorySource<'a> {
     piece: usize,
     reads: usize,
     failed: bool,
+    ended: bool,
     ghost gives_some: { 0 < piece },
+    ghost nothing_left: { ended ≡ true → rest.now ≡ [] },
 }
 
 impl<'a> MemorySource<'a> {
@@ -22,12 +24,14 @@ impl<'a> MemorySource<'a> {
         ensures piece { result.piece ≡ 2 ^ 64 - 1 }
         ensures reads { result.reads ≡ 2 ^ 64 - 1 }
         ensures unmarked { result.failed ≡ false }
+        ensures not_ended { result.ended ≡ false }
     {
         MemorySource {
             rest: bytes,
             piece: usize::MAX,
             reads: usize::MAX,
             failed: false,
+            ended: false,
         }
     }
 
@@ -38,12 +42,14 @@ impl<'a> MemorySource<'a> {
         ensures reads { result.reads ≡ self.entry.reads }
         ensures bytes { result.rest ≡ self.entry.rest }
         ensures mark { result.failed ≡ self.entry.failed }
+        ensures ended { result.ended ≡ self.entry.ended }
     {
         MemorySource {
             rest: self.rest,
             piece,
             reads: self.reads,
             failed: self.failed,
+            ended: self.ended,
         }
     }
 
@@ -53,12 +59,14 @@ impl<'a> MemorySource<'a> {
         ensures reads { result.reads ≡ reads }
         ensures bytes { result.rest ≡ self.entry.rest }
         ensures mark { result.failed ≡ self.entry.failed }
+        ensures ended { result.ended ≡ self.entry.ended }
     {
         MemorySource {
             rest: self.rest,
             piece: self.piece,
             reads,
             failed: self.failed,
+            ended: self.ended,
         }
     }
 }
@@ -68,7 +76,12 @@ impl ByteSource for MemorySource<'_> {
 
     ghost mark = { λ source. source.failed };
 
+    ghost ended = { λ source. source.ended };
+
     fn read(&mut self, piece: &mut [u8]) -> Result<usize, Failed> {
+        if self.ended {
+            return Ok(0);
+        }
         if self.reads == 0 {
             self.failed = true;
             return Err(Failed);
@@ -78,6 +91,7 @@ impl ByteSource for MemorySource<'_> {
         let (front, rest) = self.rest.split_at(count);
         piece[..count].copy_from_slice(front);
         self.rest = rest;
+        self.ended = count == 0 && !piece.is_empty();
         Ok(count)
     }
 

@@ -115,7 +115,8 @@ fn operate<A: Allocator, W: ByteSink, T: ByteSink, P>(
         (T.taken out.old.teletype) (T.taken out.new.teletype)) }
     ensures broke { OnErr result
         (BrokeOff (profile_of world.old) trace (plan_of operator.old) (view world.old)
-        (view world.new) (W.mark out.new.report) (T.mark out.new.teletype) (W.taken out.old.report) (W.taken out.new.report)
+        (view world.new) (W.mark out.new.report) (T.mark out.new.teletype)
+        (W.taken out.old.report) (W.taken out.new.report)
         (T.taken out.old.teletype) (T.taken out.new.teletype)) }
     ensures punch { out.new.punch ≡ out.old.punch }
     ensures faults { IfErr result IsRunFault }

@@ -18,7 +18,7 @@ use Rattle.commands.specs.declared.follow.End.{End}
 use Rattle.commands.specs.declared.follow.End.TheVariants.{Unsupported}
 use Rattle.commands.specs.declared.follow.Outcome.{Outcome}
 use Rattle.commands.specs.Course.{Ran, event_of_round}
-use Rattle.commands.specs.Follows.{Follows, Ended, Stuck, Stopped, Went, IsTraceOfSome, end_of, goes_on, counted, rounds}
+use Rattle.commands.specs.Follows.{Follows, Ended, Stuck, Stopped, Went, IsReached, IsTraceOfSome, end_of, goes_on, counted, rounds}
 use Rattle.processor.specs.Machine.{State}
 use Rattle.commands.specs.Trace.{line_of, trace_of, traced}
 use Rattle.commands.specs.Writes.{FrontOf, Writes}
@@ -174,6 +174,18 @@ came_to_refusal p ends trace es i w x n old mid new came asked kept =
       is = record { count = i; steps = n; end = end_of x; final = x; follows = rw (append-nil (take i es), append-nil came.lines, add-zero n) at follows };
       written = rw kept wrote;
     }
+
+-- the world after these events, or after one event more
+pub came_to_world : (p : Profile) (ends trace : Bool) (es : List Event) (i : ℕ) (e : Event) (w x y : WorldState) (n : ℕ) (old mid : Option (List ℕ)) (marked : Bool) →
+    Came p ends trace (take i es) w n x old mid → i < length es → e ≡ get_or es i Step → (marked ≡ true → Happens p x e y) → (marked ≡ false → y ≡ x) → IsReached p ends es w y
+came_to_world p ends trace es i e w x y n old mid true came within is happens same =
+    let one = one_by p ends e x y (seen_of p x e) refl (happens refl) in
+    let follows : Follows p ends (take i es ++ e ∷ []) w (came.lines ++ trace_of p x e y) (n + one.steps) one.end y = came.leads (e ∷ []) (trace_of p x e y) one.steps one.end y one.follows in
+    record { count = i + 1; lines = came.lines ++ trace_of p x e y; steps = n + one.steps; end = one.end; follows = rw (more_events es i e within is) follows }
+came_to_world p ends trace es i e w x y n old mid false came within is happens same =
+    let follows : Follows p ends (take i es ++ []) w (came.lines ++ []) (n + 0) (end_of x) x = came.leads [] [] 0 (end_of x) x (Ended x) in
+    let here : IsReached p ends es w x = record { count = i; lines = came.lines; steps = n; end = end_of x; follows = rw (append-nil (take i es), append-nil came.lines, add-zero n) at follows } in
+    rw (same refl) here
 
 -- all events
 pub ran_whole : (p : Profile) (ends trace : Bool) (es : List Event) (w x : WorldState) (outcome : Outcome) (old new : Option (List ℕ)) →

@@ -7,7 +7,7 @@ ghost use Rattle.peripherals.specs.Events.{Happens};
 ghost use Rattle.peripherals.specs.Seen.{seen_of};
 ghost use Rattle.peripherals.specs.World.{view, profile_of};
 ghost use Rattle.commands.specs.Faults.{IsRunFault, fails_to_write};
-ghost use Rattle.commands.specs.Follows.{IsTraceOfSome, end_of};
+ghost use Rattle.commands.specs.Follows.{IsReached, IsTraceOfSome, end_of};
 ghost use Rattle.commands.specs.Course.{Ran, ends_at_halt, event_of_round, events_in};
 ghost use Rattle.commands.specs.Trace.{trace_of, traced};
 ghost use Rattle.commands.specs.Writes.{FrontOf, Writes};
@@ -161,6 +161,9 @@ pub fn follow<A: Allocator, W: ByteSink>(
         (view world.old))
         (W.taken out.old) (W.taken out.new) }
     ensures silent { trace ≡ false → out.new ≡ out.old }
+    // After a fault the world is the one after some first events.
+    ensures reached { OnErr result (IsReached (profile_of world.old) (ends_at_halt course.now)
+        (events_in course.now) (view world.old) (view world.new)) }
     // Where memory was refused, whole lines of some first events went out.
     ensures traced { OnErr result (W.mark out.new ≡ false → trace ≡ true → Writes
         (IsTraceOfSome (profile_of world.old) (ends_at_halt course.now) (events_in course.now)

@@ -7,18 +7,30 @@ use std::alloc::Global;
 use std::test::Fail;
 
 #[test]
+fn missing_words_are_told(rt: HostRuntime) -> Result<(), Fail> {
+    let told = "error: the following required arguments were not provided:";
+    for words in [
+        "pdp8 run",
+        "pdp8 dump",
+        "pdp8 assemble",
+        "pdp8 assemble out.bin",
+        "pdp8 list",
+        "pdp8 watch halt.bin halt.dcl",
+        "pdp8 check halt.bin halt.dcl",
+        "pdp8 guess halt.bin halt.dcl",
+        "pdp8 migrate halt.cert",
+    ] {
+        let end = run_program(rt.alloc(), words);
+        assert_eq!(rt; end.status, Status::Words.code(), "{words}");
+        assert!(rt; end.told.starts_with(told.as_bytes()), "{words}");
+        assert!(rt; end.printed.is_empty() && end.opened.is_empty(), "{words}");
+    }
+    Ok(())
+}
+
+#[test]
 fn bad_words_are_told(rt: HostRuntime) -> Result<(), Fail> {
-    let missing = "error: the following required arguments were not provided:";
     for (words, told) in [
-        ("pdp8 run", missing),
-        ("pdp8 dump", missing),
-        ("pdp8 assemble", missing),
-        ("pdp8 assemble out.bin", missing),
-        ("pdp8 list", missing),
-        ("pdp8 watch halt.bin halt.dcl", missing),
-        ("pdp8 check halt.bin halt.dcl", missing),
-        ("pdp8 guess halt.bin halt.dcl", missing),
-        ("pdp8 migrate halt.cert", missing),
         ("pdp8 run a b", "error: unexpected argument 'b' found"),
         ("pdp8 dump a b", "error: unexpected argument 'b' found"),
         ("pdp8 watch a b c d", "error: unexpected argument 'd' found"),
@@ -249,15 +261,25 @@ fn the_first_input_with_a_fault_is_told(rt: HostRuntime) -> Result<(), Fail> {
         ),
         // The tape's file is made before the source is looked at.
         ("pdp8 assemble o.bin bad.pal", source, "o.bin bad.pal "),
+    ] {
+        let refused = is_refused(rt.alloc(), words, Status::Refused, told, opened);
+        assert!(rt; refused, "{words}");
+    }
+    Ok(())
+}
+
+#[test]
+fn no_certificate_is_made_of_a_bad_input(rt: HostRuntime) -> Result<(), Fail> {
+    for (words, told, opened) in [
         // The certificate's file is made before anything is looked at, and stays empty.
         (
             "pdp8 guess bad.bin bad.dcl o.cert",
-            tape,
+            "pdp8: tape: NoWord\n",
             "bad.bin bad.dcl o.cert ",
         ),
         (
             "pdp8 guess halt.bin bad.dcl o.cert",
-            declaration,
+            "pdp8: declaration: BadLine 1\n",
             "halt.bin bad.dcl o.cert ",
         ),
         (

@@ -167,7 +167,7 @@ fn events_stand_in_place_of_rounds(rt: HostRuntime) -> Result<(), Fail> {
 }
 
 #[test]
-fn faults_have_their_lines_and_statuses(rt: HostRuntime) -> Result<(), Fail> {
+fn faults_of_inputs_have_their_lines(rt: HostRuntime) -> Result<(), Fail> {
     let checksum = TapeFault::Checksum(word(0o0201), word(0o0200));
     let stuck = GuessFault::Stuck(word(0o0201));
     for (fault, status, line) in [
@@ -196,6 +196,17 @@ fn faults_have_their_lines_and_statuses(rt: HostRuntime) -> Result<(), Fail> {
             Status::Refused,
             "pdp8: guess: TurnsSpent",
         ),
+    ] {
+        assert_eq!(rt; fault.status(), status);
+        let text = format!(in rt.alloc(); "{fault}")?;
+        assert_eq!(rt; text.as_str(), line);
+    }
+    Ok(())
+}
+
+#[test]
+fn faults_of_devices_and_memory_have_their_lines(rt: HostRuntime) -> Result<(), Fail> {
+    for (fault, status, line) in [
         (
             Fault::Device(DeviceFault::Read),
             Status::Device,

@@ -73,9 +73,9 @@ pub struct Proposal<A: Allocator> {
 /// Control is followed from the start: a JMS names a routine, whose body is what is reached from
 /// behind its entry; a JMP I through its own entry returns, by as much as ISZ counted the entry up on
 /// the way. A HLT is a pause where what stands behind it is code, else a stop. A pointer that no
-/// instruction stores in is taken to keep its word; where another leads isn't followed. The variables
-/// are first the cells that instructions store in by name, or all that may be data; and then, where a
-/// certificate is found, those that its facts let the program write.
+/// instruction stores in is taken to keep its word; another may hold each word of a table behind which
+/// there is code. The variables are first the cells that instructions store in by name, or all that may
+/// be data; and then, where a certificate is found, those that its facts let the program write.
 ///
 /// # Errors
 ///
@@ -128,7 +128,7 @@ fn widened<A: Allocator + Copy>(
     if !map.stores_anywhere {
         let cells = map.variables(image, Breadth::Stored);
         let proposal = attempt(alloc, image, map, &cells, turns)?;
-        if !proposal.is_stuck() {
+        if !proposal.is_stuck() || !map.changes_code() {
             return Ok(proposal);
         }
     }

@@ -14,9 +14,12 @@ const MOST_ROUNDS: usize = 1024;
 /// Each cell is met at most once for each of eight offsets.
 const MOST_STEPS: usize = 8 * 4096;
 
+/// How many halts, and how many words of tables, are tried.
+const MOST_TRIALS: usize = 256;
+
 /// What is found of a program's control. The halts after which it goes on, the entries, how their
-/// routines return, and the cells that instructions store in by name, are kept from one round to the
-/// next; the rest is found on each.
+/// routines return, the cells that instructions store in by name, and where tables lead, are kept from
+/// one round to the next; the rest is found on each.
 #[derive(Clone, Copy, PartialEq, Eq)]
 pub(crate) struct Map {
     pub(crate) start: Word,
@@ -39,13 +42,29 @@ pub(crate) struct Map {
     pub(crate) stores_anywhere: bool,
     /// Where control goes to what can't be in the body, or stands at an unsupported word.
     astray: WordSet,
-    /// Where it isn't known where control goes.
-    unknown: WordSet,
+    /// JMS words of which it isn't known where they go, and cells of tables to which they may go.
+    calls: WordSet,
+    called: WordSet,
+    /// The same of JMP.
+    jumps: WordSet,
+    jumped: WordSet,
 }
 
 /// Whether a cell is one of 0010 to 0017, which an indirect reference steps.
 fn is_auto_index(cell: Word) -> bool {
     cell.index() / 8 == 1
+}
+
+/// The cells that the tape has words for.
+pub(crate) fn loaded(image: &Image) -> WordSet {
+    let mut cells = WordSet::empty();
+    for index in 0..4096usize {
+        let at = Word::from_index(index);
+        if image.get(at).is_some() {
+            cells.insert(at);
+        }
+    }
+    cells
 }
 
 impl Map {
@@ -63,16 +82,33 @@ impl Map {
             halts: WordSet::empty(),
             stores_anywhere: false,
             astray: WordSet::empty(),
-            unknown: WordSet::empty(),
+            calls: WordSet::empty(),
+            called: WordSet::empty(),
+            jumps: WordSet::empty(),
+            jumped: WordSet::empty(),
         };
         map.settle(image);
+        map.try_halts(image);
+        map.try_tables(image);
         map.try_halts(image);
         map
     }
 
     /// Where control can't be followed.
     pub(crate) fn unfollowed(&self) -> WordSet {
-        self.astray.union(&self.unknown)
+        let mut cells = self.astray;
+        if self.called.is_empty() {
+            cells = cells.union(&self.calls);
+        }
+        if self.jumped.is_empty() {
+            cells = cells.union(&self.jumps);
+        }
+        cells
+    }
+
+    /// Whether some code may be changed.
+    pub(crate) fn changes_code(&self) -> bool {
+        !self.code.meet(&self.stored).is_empty()
     }
 
     /// Whether the routine of an entry may return at an offset.
@@ -98,7 +134,7 @@ impl Map {
     /// can't be in the body, and to none that is named as a datum.
     fn try_halts(&mut self, image: &Image) {
         let mut tried = WordSet::empty();
-        for _halt in 0..4096usize {
+        for _trial in 0..MOST_TRIALS {
             let Some(halt) = self.halts.minus(&tried).least() else {
                 return;
             };
@@ -110,6 +146,57 @@ impl Map {
                 *self = trial;
             }
         }
+    }
+
+    /// Goes on by JMS and JMP words of which it isn't known where they go, to each word of a table
+    /// behind which there is code.
+    fn try_tables(&mut self, image: &Image) {
+        let words = self.table_words(image);
+        let mut next = 0usize;
+        for _trial in 0..MOST_TRIALS {
+            let Some(to) = words.first_from(next) else {
+                return;
+            };
+            self.try_target(image, to);
+            next = to.index() + 1;
+        }
+    }
+
+    /// Goes on by such words to an address, if there is code.
+    fn try_target(&mut self, image: &Image, to: Word) {
+        if !self.calls.is_empty() {
+            let mut trial = *self;
+            trial.called.insert(to);
+            trial.settle(image);
+            if trial.is_code_beside(self) {
+                *self = trial;
+                return;
+            }
+        }
+        if !self.jumps.is_empty() {
+            let mut trial = *self;
+            trial.jumped.insert(to);
+            trial.settle(image);
+            if trial.is_code_beside(self) {
+                *self = trial;
+            }
+        }
+    }
+
+    /// The words of cells that are no code and that no instruction names, where they are addresses of
+    /// cells on the tape.
+    fn table_words(&self, image: &Image) -> WordSet {
+        let tape = loaded(image);
+        let cells = tape.minus(&self.code).minus(&self.named).minus(&self.entries);
+        let mut words = WordSet::empty();
+        let mut next = 0usize;
+        while let Some(cell) = cells.first_from(next) {
+            if let Some(word) = image.get(cell) {
+                words.insert(word);
+            }
+            next = cell.index() + 1;
+        }
+        words.meet(&tape)
     }
 
     /// Whether what is found beside what was found before is code.
@@ -136,7 +223,8 @@ impl Map {
         self.halts = WordSet::empty();
         self.stores_anywhere = false;
         self.astray = WordSet::empty();
-        self.unknown = WordSet::empty();
+        self.calls = WordSet::empty();
+        self.jumps = WordSet::empty();
     }
 
     /// Follows the body of an entry or main's, and gives its cells. Those of bodies that were followed
@@ -314,12 +402,22 @@ impl Map {
         self.skip(image, walk, here);
     }
 
-    /// Goes on from JMS, as far as it's known how the routine returns.
+    /// Goes on from JMS.
     fn call(&mut self, image: &Image, walk: &mut Walk, here: Spot, address: Option<Word>) {
-        let Some(entry) = address else {
-            self.unknown.insert(here.at);
+        if let Some(entry) = address {
+            self.enter(image, walk, here, entry);
             return;
-        };
+        }
+        self.calls.insert(here.at);
+        let mut next = 0usize;
+        while let Some(entry) = self.called.first_from(next) {
+            self.enter(image, walk, here, entry);
+            next = entry.index() + 1;
+        }
+    }
+
+    /// Goes on after a call of an entry, as far as it's known how the routine returns.
+    fn enter(&mut self, image: &Image, walk: &mut Walk, here: Spot, entry: Word) {
         if is_auto_index(entry) || entry == self.start {
             self.astray.insert(here.at);
             return;
@@ -350,8 +448,18 @@ impl Map {
             return;
         }
         match address {
-            None => self.unknown.insert(here.at),
+            None => self.jump_by_table(image, walk, here),
             Some(to) => self.go(image, walk, here, to),
+        }
+    }
+
+    /// Goes on from JMP where it isn't known where it goes.
+    fn jump_by_table(&mut self, image: &Image, walk: &mut Walk, here: Spot) {
+        self.jumps.insert(here.at);
+        let mut next = 0usize;
+        while let Some(to) = self.jumped.first_from(next) {
+            self.go(image, walk, here, to);
+            next = to.index() + 1;
         }
     }
 }

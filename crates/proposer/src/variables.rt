@@ -1,6 +1,6 @@
 //! Which cells a program may change.
 
-use crate::map::Map;
+use crate::map::{Map, loaded};
 use bin_tape::Image;
 use certificate::{Certificate, Routine};
 use declaration::{Declaration, Owner};
@@ -18,18 +18,6 @@ pub(crate) enum Breadth {
     Tables,
     /// All that are no code.
     Data,
-}
-
-/// The cells that the tape has words for.
-fn loaded(image: &Image) -> WordSet {
-    let mut cells = WordSet::empty();
-    for index in 0..4096usize {
-        let at = Word::from_index(index);
-        if image.get(at).is_some() {
-            cells.insert(at);
-        }
-    }
-    cells
 }
 
 impl Map {

@@ -3,7 +3,7 @@
 
 mod families;
 
-use crate::families::{certified_arguments, certified_hellos};
+use crate::families::{certified_arguments, certified_hellos, proposed_garbage, rim_stuck_at};
 use analyser::{GuessFault, Turns, guess};
 use bin_tape::Image;
 use declaration::Declaration;
@@ -150,5 +150,11 @@ fn main(rt: HostRuntime) -> anyhow::Result<()> {
         let certified = certified_arguments(&rt, argument)?;
         println!(&rt; "argument {argument}: certified on {certified} pages")?;
     }
+    match rim_stuck_at(&rt)? {
+        Some(at) => println!(&rt; "rim: proposed, stuck at {at}")?,
+        None => println!(&rt; "rim: not stuck")?,
+    }
+    let (proposed, refused) = proposed_garbage(&rt, 16)?;
+    println!(&rt; "garbage: {proposed} proposed, {refused} can't be declared")?;
     Ok(())
 }

@@ -1,5 +1,7 @@
 //! The text of a declaration.
 
+ghost use Rattle.std.specs.Prelude.{◌≤◌};
+
 use crate::map::Map;
 use bin_tape::Image;
 use instruct::Profile;
@@ -28,10 +30,12 @@ fn push_run<A: Allocator>(
 }
 
 /// The last word of the run of a set that begins with a word.
-fn last_of_run(set: &WordSet, low: Word) -> Word {
-    match WordSet::all().minus(set).first_from(low.index()) {
+fn last_of_run(set: &WordSet, low: Word) -> Word
+    ensures { low ≤ result }
+{
+    match WordSet::all().minus(set).first_from(low.index() + 1) {
         None => Word::from_index(0o7777),
-        Some(end) => Word::from_index(end.index().saturating_sub(1)),
+        Some(end) => Word::from_index(end.index() - 1),
     }
 }
 

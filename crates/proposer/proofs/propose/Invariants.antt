@@ -1,0 +1,13 @@
+use Rattle.std.proofs.Common.{◌≡◌, ◌≤◌}
+use Rattle.proposer.specs.Proposals.{Fits, IsShown, IsSpentUp}
+use Rattle.proposer.proofs.propose.Given as goal
+
+abbrev pub invariant-loop-cut : goal.invariant-loop-cut
+invariant-loop-cut g l = record {
+  fits : Fits l.start l.profile l.proposal;
+  shown : IsShown l.image l.proposal.declaration l.proposal.verdict;
+  spent : IsSpentUp l.turns l.proposal.verdict;
+  limit : l.turns.limit ≡ l.initial.turns.limit;
+  rises : l.initial.turns.spent ≤ l.turns.spent;
+  within : l.turns.spent ≤ l.turns.limit;
+}

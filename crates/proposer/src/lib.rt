@@ -1,0 +1,252 @@
+//! Proposes declarations: what a program may do, from its tape and its start alone.
+#![tactic(auto)]
+
+ghost use Rattle.std.specs.Prelude.{◌≡◌, ◌≤◌, IfOk};
+ghost use Rattle.declaration.specs.Kept.{meaning};
+ghost use Rattle.declaration.specs.Text.{Declares};
+ghost use Rattle.proposer.specs.Proposals.{Fits, IsShown, IsSpentUp};
+
+mod map;
+mod text;
+mod variables;
+mod walk;
+
+use crate::map::Map;
+use crate::variables::{Breadth, written};
+use analyser::{GuessFault, Turns, guess_within};
+use bin_tape::Image;
+use certificate::Certificate;
+use declaration::{Declaration, DeclarationFault};
+use instruct::Profile;
+use judge::{Refusal, judge};
+use std::alloc::Allocator;
+use thiserror::Error;
+use word12::Word;
+use wordset::WordSet;
+
+/// How often the variables are cut down at most.
+const MOST_CUTS: usize = 16;
+
+/// Why nothing is proposed.
+#[derive(Clone, Copy, PartialEq, Eq, Debug, Error)]
+pub enum ProposeFault {
+    /// What was found can't be declared, as where there are more than 64 routines.
+    #[error("Undeclarable {0}")]
+    Undeclarable(DeclarationFault),
+    /// What was found has another start or is for another machine than was asked.
+    #[error("Mismatch")]
+    Mismatch,
+    /// A growth was refused.
+    #[error("NoMemory")]
+    NoMemory,
+}
+
+/// What is known of a proposed declaration.
+#[derive(Drop)]
+pub enum Verdict<A: Allocator> {
+    /// No run of the program breaks it, as this certificate shows, which the judge accepts.
+    Safe(Certificate<A>),
+    /// The judge refuses the certificate that is found.
+    Refused(Refusal),
+    /// No certificate is found: at this address an instruction was met that the judge would refuse.
+    Stuck(Word),
+    /// No certificate is found with all turns that there were.
+    TurnsSpent,
+}
+
+/// A proposed declaration, its text, and what is known of it.
+#[derive(Drop)]
+pub struct Proposal<A: Allocator> {
+    /// The declaration.
+    pub declaration: Declaration<A>,
+    /// Its text.
+    pub text: Vec<u8, A>,
+    /// The addresses at which control goes where it isn't known, or to what can't be in the body, or
+    /// where an unsupported word stands. There the declaration stops short.
+    pub unfollowed: WordSet,
+    /// What is known of the declaration.
+    pub verdict: Verdict<A>,
+}
+
+/// Proposes what a program may do, from a tape's words, the start and the machine alone.
+///
+/// Control is followed from the start: a JMS names a routine, whose body is what is reached from
+/// behind its entry; a JMP I through its own entry returns, by as much as ISZ counted the entry up on
+/// the way. A HLT is a pause where what stands behind it is code, else a stop. A pointer that no
+/// instruction stores in is taken to keep its word; another may hold each word of a table behind which
+/// there is code. The variables are first the cells that instructions store in by name, or all that may
+/// be data; and then, where a certificate is found, those that its facts let the program write.
+///
+/// # Errors
+///
+/// `Undeclarable` where what was found breaks a limit or a rule of declarations, as one of more than
+/// 64 routines; `Mismatch` where it isn't what was asked; and `NoMemory`. That no certificate is found
+/// is no error: the verdict tells it.
+pub fn propose<A: Allocator + Copy>(
+    alloc: A,
+    image: &Image,
+    start: Word,
+    profile: Profile,
+    turns: &mut Turns,
+) -> Result<Proposal<A>, ProposeFault>
+    ensures fits { IfOk result (Fits start profile) }
+    ensures shown { IfOk result (λ p. IsShown image.now p.declaration p.verdict) }
+    ensures spent { IfOk result (λ p. IsSpentUp turns.new p.verdict) }
+    ensures limit { turns.new.limit ≡ turns.old.limit }
+    ensures rises { turns.old.spent ≤ turns.new.spent }
+    ensures within { turns.new.spent ≤ turns.new.limit }
+{
+    let map = Map::of(image, start, profile);
+    let mut proposal = widened(alloc, image, &map, turns)?;
+    for _cut in 0..MOST_CUTS {
+        let Some(cells) = proposal.spare(image) else {
+            return Ok(proposal);
+        };
+        let tighter = attempt(alloc, image, &map, &cells, turns)?;
+        if !tighter.is_safe() {
+            return Ok(proposal);
+        }
+        proposal = tighter;
+    }
+    Ok(proposal)
+}
+
+/// The proposal with the fewest variables of those that may be enough, or with the most.
+fn widened<A: Allocator + Copy>(
+    alloc: A,
+    image: &Image,
+    map: &Map,
+    turns: &mut Turns,
+) -> Result<Proposal<A>, ProposeFault>
+    ensures fits { IfOk result (Fits map.now.start map.now.profile) }
+    ensures shown { IfOk result (λ p. IsShown image.now p.declaration p.verdict) }
+    ensures spent { IfOk result (λ p. IsSpentUp turns.new p.verdict) }
+    ensures limit { turns.new.limit ≡ turns.old.limit }
+    ensures rises { turns.old.spent ≤ turns.new.spent }
+    ensures within { turns.new.spent ≤ turns.new.limit }
+{
+    if !map.stores_anywhere {
+        let cells = map.variables(image, Breadth::Stored);
+        let proposal = attempt(alloc, image, map, &cells, turns)?;
+        if !proposal.is_stuck() || !map.changes_code() {
+            return Ok(proposal);
+        }
+    }
+    let cells = map.variables(image, Breadth::Tables);
+    let proposal = attempt(alloc, image, map, &cells, turns)?;
+    if !proposal.is_stuck() {
+        return Ok(proposal);
+    }
+    let cells = map.variables(image, Breadth::Data);
+    attempt(alloc, image, map, &cells, turns)
+}
+
+/// The proposal with these variables.
+fn attempt<A: Allocator + Copy>(
+    alloc: A,
+    image: &Image,
+    map: &Map,
+    variables: &WordSet,
+    turns: &mut Turns,
+) -> Result<Proposal<A>, ProposeFault>
+    ensures fits { IfOk result (Fits map.now.start map.now.profile) }
+    ensures shown { IfOk result (λ p. IsShown image.now p.declaration p.verdict) }
+    ensures spent { IfOk result (λ p. IsSpentUp turns.new p.verdict) }
+    ensures limit { turns.new.limit ≡ turns.old.limit }
+    ensures rises { turns.old.spent ≤ turns.new.spent }
+    ensures within { turns.new.spent ≤ turns.new.limit }
+{
+    let _spent = turns.spent();
+    let Ok(text) = map.text(alloc, image, variables) else {
+        return Err(ProposeFault::NoMemory);
+    };
+    match Declaration::parse(alloc, &text) {
+        Ok(declaration) => proposed(alloc, image, map, text, declaration, turns),
+        Err(fault) => Err(refused(fault)),
+    }
+}
+
+/// The proposal with this text, which declares this.
+fn proposed<A: Allocator + Copy>(
+    alloc: A,
+    image: &Image,
+    map: &Map,
+    text: Vec<u8, A>,
+    declaration: Declaration<A>,
+    turns: &mut Turns,
+) -> Result<Proposal<A>, ProposeFault>
+    requires { Declares text.items (meaning declaration) }
+    ensures fits { IfOk result (Fits map.now.start map.now.profile) }
+    ensures shown { IfOk result (λ p. IsShown image.now p.declaration p.verdict) }
+    ensures spent { IfOk result (λ p. IsSpentUp turns.new p.verdict) }
+    ensures limit { turns.new.limit ≡ turns.old.limit }
+    ensures rises { turns.old.spent ≤ turns.new.spent }
+    ensures within { turns.new.spent ≤ turns.new.limit }
+{
+    if declaration.start() != map.start || declaration.profile() != map.profile {
+        return Err(ProposeFault::Mismatch);
+    }
+    let verdict = judged(alloc, image, &declaration, turns)?;
+    Ok(Proposal {
+        declaration,
+        text,
+        unfollowed: map.unfollowed(),
+        verdict,
+    })
+}
+
+/// The fault of a declaration, as it's told.
+fn refused(fault: DeclarationFault) -> ProposeFault {
+    match fault {
+        DeclarationFault::NoMemory => ProposeFault::NoMemory,
+        fault => ProposeFault::Undeclarable(fault),
+    }
+}
+
+/// What is known of a declaration.
+fn judged<A: Allocator + Copy>(
+    alloc: A,
+    image: &Image,
+    declaration: &Declaration<A>,
+    turns: &mut Turns,
+) -> Result<Verdict<A>, ProposeFault>
+    ensures shown { IfOk result (IsShown image.now declaration.now) }
+    ensures spent { IfOk result (IsSpentUp turns.new) }
+    ensures limit { turns.new.limit ≡ turns.old.limit }
+    ensures rises { turns.old.spent ≤ turns.new.spent }
+    ensures within { turns.new.spent ≤ turns.new.limit }
+{
+    match guess_within(alloc, image, declaration, turns) {
+        Ok(certificate) => match judge(image, declaration, &certificate) {
+            Ok(()) => Ok(Verdict::Safe(certificate)),
+            Err(refusal) => Ok(Verdict::Refused(refusal)),
+        },
+        Err(GuessFault::Stuck(at)) => Ok(Verdict::Stuck(at)),
+        Err(GuessFault::TurnsSpent) => Ok(Verdict::TurnsSpent),
+        Err(GuessFault::NoMemory) => Err(ProposeFault::NoMemory),
+    }
+}
+
+impl<A: Allocator> Proposal<A> {
+    /// Whether a certificate is found that the judge accepts.
+    pub fn is_safe(&self) -> bool {
+        matches!(&self.verdict, Verdict::Safe(_))
+    }
+
+    /// Whether no certificate is found, though turns are left.
+    fn is_stuck(&self) -> bool {
+        matches!(&self.verdict, Verdict::Stuck(_))
+    }
+
+    /// Fewer variables that are enough by the certificate, if there are fewer.
+    fn spare(&self, image: &Image) -> Option<WordSet> {
+        let Verdict::Safe(certificate) = &self.verdict else {
+            return None;
+        };
+        let cells = written(image, &self.declaration, certificate);
+        if cells == *self.declaration.variables() {
+            return None;
+        }
+        Some(cells)
+    }
+}

@@ -1,0 +1,126 @@
+//! Which cells a program may change.
+
+use crate::map::{Map, loaded};
+use bin_tape::Image;
+use certificate::{Certificate, Routine};
+use declaration::{Declaration, Owner};
+use facts::{Fact, Place, Running, writes};
+use std::alloc::Allocator;
+use word12::Word;
+use wordset::WordSet;
+
+/// Which cells are taken for variables, beside those that instructions store in by name.
+#[derive(Clone, Copy)]
+pub(crate) enum Breadth {
+    /// None.
+    Stored,
+    /// Those that are no code and that no instruction names, and those without a word on the tape.
+    Tables,
+    /// All that are no code.
+    Data,
+}
+
+impl Map {
+    /// The cells that are taken for variables.
+    pub(crate) fn variables(&self, image: &Image, breadth: Breadth) -> WordSet {
+        let data = WordSet::all().minus(&self.code);
+        let more = match breadth {
+            Breadth::Stored => WordSet::empty(),
+            Breadth::Tables => data.minus(&loaded(image).meet(&self.named)),
+            Breadth::Data => data,
+        };
+        self.stored.union(&more).minus(&self.entries)
+    }
+}
+
+/// The body that has an address: main's, or that of the routine of an entry, with what is claimed of
+/// it.
+#[derive(Clone, Copy)]
+enum Body {
+    Main,
+    Of(Word, Routine),
+}
+
+impl Body {
+    /// The routine, if it isn't main's.
+    fn running(&self) -> Option<Running<'_>> {
+        match self {
+            Body::Main => None,
+            Body::Of(entry, routine) => Some(Running {
+                entry: *entry,
+                sites: &routine.sites,
+                writes: &routine.writes,
+            }),
+        }
+    }
+}
+
+/// Where a fact of a body stands.
+fn place_in<'a, D: Allocator>(
+    image: &'a Image,
+    declaration: &'a Declaration<D>,
+    body: &'a Body,
+) -> Place<'a, D> {
+    let routine = body.running();
+    Place {
+        image,
+        declaration,
+        routine,
+    }
+}
+
+/// The body that has an address, if a certificate has the routine's line.
+fn body_at<A: Allocator, D: Allocator>(
+    declaration: &Declaration<D>,
+    certificate: &Certificate<A>,
+    at: Word,
+) -> Option<Body> {
+    let Some(owner) = declaration.owner_of(at) else {
+        return None;
+    };
+    match owner {
+        Owner::Main => Some(Body::Main),
+        Owner::Routine(entry) => match certificate.routine(entry) {
+            None => None,
+            Some(routine) => Some(Body::Of(entry, routine)),
+        },
+    }
+}
+
+/// The cells that some possible word may write at the address of a fact.
+fn written_at<D: Allocator>(
+    image: &Image,
+    declaration: &Declaration<D>,
+    body: &Body,
+    fact: &Fact,
+    at: Word,
+) -> WordSet {
+    let place = place_in(image, declaration, body);
+    let possible = place.possible_words(fact, at);
+    let mut cells = WordSet::empty();
+    let mut next = 0usize;
+    while let Some(word) = possible.first_from(next) {
+        cells = cells.union(&writes(fact, at, word, &place));
+        next = word.index() + 1;
+    }
+    cells
+}
+
+/// The cells that the program may write by the facts of a certificate, the entries apart.
+pub(crate) fn written<A: Allocator, D: Allocator>(
+    image: &Image,
+    declaration: &Declaration<D>,
+    certificate: &Certificate<A>,
+) -> WordSet {
+    let mut fact = Fact::any();
+    let mut cells = WordSet::empty();
+    for index in 0..4096usize {
+        let at = Word::from_index(index);
+        if let Some(body) = body_at(declaration, certificate, at) {
+            if certificate.fact_into(at, &mut fact) {
+                cells = cells.union(&written_at(image, declaration, &body, &fact, at));
+            }
+        }
+    }
+    cells.meet(declaration.variables())
+}

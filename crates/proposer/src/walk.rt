@@ -1,0 +1,84 @@
+//! A body while it is followed.
+
+use word12::Word;
+use wordset::WordSet;
+
+/// A cell of a body, and by how far the routine's return word may have been counted up there.
+#[derive(Clone, Copy)]
+pub(crate) struct Spot {
+    pub(crate) at: Word,
+    pub(crate) offset: usize,
+}
+
+impl Spot {
+    /// Another cell with the same offset.
+    pub(crate) fn to(&self, at: Word) -> Spot {
+        Spot {
+            at,
+            offset: self.offset,
+        }
+    }
+}
+
+/// A body while it is followed: the routine's entry, if it isn't main's; and by offset the cells that
+/// were met and those from which to go on.
+#[derive(Drop)]
+pub(crate) struct Walk {
+    pub(crate) entry: Option<Word>,
+    met: [WordSet; 8],
+    waiting: [WordSet; 8],
+}
+
+impl Walk {
+    /// Nothing was met yet.
+    pub(crate) fn new(entry: Option<Word>) -> Walk {
+        Walk {
+            entry,
+            met: [WordSet::empty(); 8],
+            waiting: [WordSet::empty(); 8],
+        }
+    }
+
+    /// Whether a cell is the routine's entry.
+    pub(crate) fn is_own(&self, cell: Word) -> bool {
+        match &self.entry {
+            None => false,
+            Some(entry) => *entry == cell,
+        }
+    }
+
+    /// Meets a cell, from which to go on if it wasn't met.
+    pub(crate) fn meet(&mut self, spot: Spot) {
+        let Some(met) = self.met.get_mut(spot.offset) else {
+            return;
+        };
+        if met.contains(spot.at) {
+            return;
+        }
+        met.insert(spot.at);
+        if let Some(waiting) = self.waiting.get_mut(spot.offset) {
+            waiting.insert(spot.at);
+        }
+    }
+
+    /// The next cell from which to go on.
+    pub(crate) fn next(&mut self) -> Option<Spot> {
+        for offset in 0..8usize {
+            let cells = &mut self.waiting[offset];
+            if let Some(at) = cells.least() {
+                cells.remove(at);
+                return Some(Spot { at, offset });
+            }
+        }
+        None
+    }
+
+    /// The cells that were met.
+    pub(crate) fn cells(&self) -> WordSet {
+        let mut cells = WordSet::empty();
+        for met in &self.met {
+            cells = cells.union(met);
+        }
+        cells
+    }
+}

@@ -7,7 +7,9 @@ ghost use Rattle.declaration.specs.Text.{Declares};
 ghost use Rattle.proposer.specs.Proposals.{Fits, IsShown, IsSpentUp};
 
 mod map;
+mod steps;
 mod text;
+mod trials;
 mod variables;
 mod walk;
 
@@ -125,7 +127,7 @@ fn widened<A: Allocator + Copy>(
     ensures rises { turns.old.spent ≤ turns.new.spent }
     ensures within { turns.new.spent ≤ turns.new.limit }
 {
-    if !map.stores_anywhere {
+    if !map.round.stores_anywhere {
         let cells = map.variables(image, Breadth::Stored);
         let proposal = attempt(alloc, image, map, &cells, turns)?;
         if !proposal.is_stuck() || !map.changes_code() {

@@ -96,8 +96,8 @@ impl Map {
         push_cells(&mut text, b"main", &again.follow(image, None))?;
         again.push_routines(&mut text, image)?;
         push_cells(&mut text, b"var", variables)?;
-        push_each(&mut text, b"stop", &self.halts.minus(&self.pauses))?;
-        push_each(&mut text, b"pause", &self.halts.meet(&self.pauses))?;
+        push_each(&mut text, b"stop", &self.round.halts.minus(&self.pauses))?;
+        push_each(&mut text, b"pause", &self.round.halts.meet(&self.pauses))?;
         Ok(text)
     }
 

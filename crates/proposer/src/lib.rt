@@ -177,7 +177,7 @@ fn proposed<A: Allocator + Copy>(
     declaration: Declaration<A>,
     turns: &mut Turns,
 ) -> Result<Proposal<A>, ProposeFault>
-    requires { Declares text.items (meaning declaration) }
+    requires { Declares text.entry.items (meaning declaration.entry) }
     ensures fits { IfOk result (Fits map.now.start map.now.profile) }
     ensures shown { IfOk result (λ p. IsShown image.now p.declaration p.verdict) }
     ensures spent { IfOk result (λ p. IsSpentUp turns.new p.verdict) }

@@ -15,9 +15,9 @@ use Rattle.proposer.specs.declared.Verdict.{Verdict}
 use Rattle.proposer.specs.declared.Verdict.TheVariants.{Safe, TurnsSpent}
 
 -- The declaration has this start and is for this machine, it keeps the overlap rules, and the text is one of its texts.
-pub record Fits {A : Type 0} (start : ℕ) (profile : Profile) (p : Proposal A) : Type 0 where
-  pub start : (meaning p.declaration).start ≡ start
-  pub profile : (meaning p.declaration).profile ≡ profile
+pub record Fits {A : Type 0} (at : ℕ) (machine : Profile) (p : Proposal A) : Type 0 where
+  pub start : (meaning p.declaration).start ≡ at
+  pub profile : (meaning p.declaration).profile ≡ machine
   pub declared : IsDeclared (meaning p.declaration)
   pub text : Declares p.text.items (meaning p.declaration)
 

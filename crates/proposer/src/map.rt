@@ -1,5 +1,7 @@
 //! How control goes through a program, as far as its words alone tell.
 
+ghost use Rattle.std.specs.Prelude.{◌≡◌};
+
 use crate::walk::{Spot, Walk};
 use bin_tape::Image;
 use instruct::Profile;
@@ -87,6 +89,9 @@ impl Map {
         map.try_halts(image);
         map.try_tables(image);
         map.try_halts(image);
+        // No round changes these, and so it needs no proof.
+        map.start = start;
+        map.profile = profile;
         map
     }
 
@@ -129,10 +134,10 @@ impl Map {
     /// Goes through all bodies once.
     fn go_through(&mut self, image: &Image) {
         self.forget();
-        self.follow(image, None);
+        self.follow_main(image);
         let mut next = 0usize;
         while let Some(entry) = self.entries.first_from(next) {
-            self.follow(image, Some(entry));
+            self.follow_routine(image, entry);
             next = entry.index() + 1;
         }
     }
@@ -142,28 +147,35 @@ impl Map {
         self.round = Round::new();
     }
 
-    /// Follows the body of an entry or main's, and gives its cells. Those of bodies that were followed
-    /// before can't be in it.
-    pub(crate) fn follow(&mut self, image: &Image, entry: Option<Word>) -> WordSet {
-        let mut walk = Walk::new(entry);
-        match entry {
-            None => walk.meet(Spot {
-                at: self.start,
-                offset: 0,
-            }),
-            Some(entry) => {
-                let here = Spot {
-                    at: entry,
-                    offset: 0,
-                };
-                self.go(image, &mut walk, here, entry.increment());
-            }
-        }
+    /// Follows main's body, and gives its cells.
+    pub(crate) fn follow_main(&mut self, image: &Image) -> WordSet {
+        let mut walk = Walk::new(None);
+        walk.meet(Spot {
+            at: self.start,
+            offset: 0,
+        });
+        self.follow(image, &mut walk)
+    }
+
+    /// Follows the body of an entry, and gives its cells. Those of bodies that were followed before
+    /// can't be in it.
+    pub(crate) fn follow_routine(&mut self, image: &Image, entry: Word) -> WordSet {
+        let mut walk = Walk::new(Some(entry));
+        let here = Spot {
+            at: entry,
+            offset: 0,
+        };
+        self.go(image, &mut walk, &here, entry.increment());
+        self.follow(image, &mut walk)
+    }
+
+    /// Goes on from all cells that are met, and gives them.
+    fn follow(&mut self, image: &Image, walk: &mut Walk) -> WordSet {
         for _step in 0..MOST_STEPS {
             let Some(here) = walk.next() else {
                 break;
             };
-            self.visit(image, &mut walk, here);
+            self.visit(image, walk, &here);
         }
         let cells = walk.cells();
         self.round.code = self.round.code.union(&cells);

@@ -14,7 +14,7 @@ fn is_auto_index(cell: Word) -> bool {
 impl Map {
     /// Goes on at a cell, if it may be in the body: it is on the tape or is stored in, no entry, and in
     /// no other body.
-    pub(crate) fn go(&mut self, image: &Image, walk: &mut Walk, here: Spot, to: Word) {
+    pub(crate) fn go(&mut self, image: &Image, walk: &mut Walk, here: &Spot, to: Word) {
         let is_there = image.get(to).is_some() || self.stored.contains(to);
         if is_there && !self.entries.contains(to) && !self.round.code.contains(to) {
             walk.meet(here.to(to));
@@ -24,18 +24,18 @@ impl Map {
     }
 
     /// Goes on at the next cell.
-    fn go_on(&mut self, image: &Image, walk: &mut Walk, here: Spot) {
+    fn go_on(&mut self, image: &Image, walk: &mut Walk, here: &Spot) {
         self.go(image, walk, here, here.at.increment());
     }
 
     /// Goes on at the cell past the next one.
-    fn skip(&mut self, image: &Image, walk: &mut Walk, here: Spot) {
+    fn skip(&mut self, image: &Image, walk: &mut Walk, here: &Spot) {
         self.go(image, walk, here, here.at.increment().increment());
     }
 
     /// Goes on from a cell. Where it is stored in, other words may stand there, and control may go on
     /// to the next cell.
-    pub(crate) fn visit(&mut self, image: &Image, walk: &mut Walk, here: Spot) {
+    pub(crate) fn visit(&mut self, image: &Image, walk: &mut Walk, here: &Spot) {
         let changes = self.stored.contains(here.at);
         if changes {
             self.go_on(image, walk, here);
@@ -57,7 +57,7 @@ impl Map {
     }
 
     /// Goes on from a word of group 2.
-    fn operate(&mut self, image: &Image, walk: &mut Walk, here: Spot, word: Word) {
+    fn operate(&mut self, image: &Image, walk: &mut Walk, here: &Spot, word: Word) {
         if halts(word) && !self.stored.contains(here.at) {
             self.round.halts.insert(here.at);
             if !self.pauses.contains(here.at) {
@@ -75,7 +75,7 @@ impl Map {
     }
 
     /// Goes on from a device word.
-    fn ask(&mut self, image: &Image, walk: &mut Walk, here: Spot, word: Word) {
+    fn ask(&mut self, image: &Image, walk: &mut Walk, here: &Spot, word: Word) {
         self.go_on(image, walk, here);
         if let Some(operation) = DeviceOperation::of(word, self.profile) {
             match operation {
@@ -89,8 +89,8 @@ impl Map {
     }
 
     /// Goes on from a memory reference.
-    fn refer(&mut self, image: &Image, walk: &mut Walk, here: Spot, word: Word) {
-        let address = self.address(image, here.at, word);
+    fn refer(&mut self, image: &Image, walk: &mut Walk, here: &Spot, word: Word) {
+        let address = &self.address(image, here.at, word);
         match Operation::of(word) {
             Operation::And | Operation::Tad => {
                 self.name(address);
@@ -125,32 +125,32 @@ impl Map {
     }
 
     /// A cell is named as a datum.
-    fn name(&mut self, address: Option<Word>) {
+    fn name(&mut self, address: &Option<Word>) {
         if let Some(cell) = address {
-            self.round.named.insert(cell);
+            self.round.named.insert(*cell);
         }
     }
 
     /// A cell is stored in.
-    fn store(&mut self, address: Option<Word>) {
+    fn store(&mut self, address: &Option<Word>) {
         match address {
             None => self.round.stores_anywhere = true,
             Some(cell) => {
-                self.round.named.insert(cell);
-                self.stored.insert(cell);
+                self.round.named.insert(*cell);
+                self.stored.insert(*cell);
             }
         }
     }
 
     /// Goes on from ISZ. That of the routine's own entry counts the return word up, and doesn't skip.
-    fn count(&mut self, image: &Image, walk: &mut Walk, here: Spot, address: Option<Word>) {
+    fn count(&mut self, image: &Image, walk: &mut Walk, here: &Spot, address: &Option<Word>) {
         if let Some(cell) = address {
-            if walk.is_own(cell) {
+            if walk.is_own(*cell) {
                 let later = Spot {
                     at: here.at,
                     offset: here.offset.saturating_add(1),
                 };
-                self.go_on(image, walk, later);
+                self.go_on(image, walk, &later);
                 return;
             }
         }
@@ -160,9 +160,9 @@ impl Map {
     }
 
     /// Goes on from JMS.
-    fn call(&mut self, image: &Image, walk: &mut Walk, here: Spot, address: Option<Word>) {
+    fn call(&mut self, image: &Image, walk: &mut Walk, here: &Spot, address: &Option<Word>) {
         if let Some(entry) = address {
-            self.enter(image, walk, here, entry);
+            self.enter(image, walk, here, *entry);
             return;
         }
         self.round.calls.insert(here.at);
@@ -174,7 +174,7 @@ impl Map {
     }
 
     /// Goes on after a call of an entry, as far as it's known how the routine returns.
-    fn enter(&mut self, image: &Image, walk: &mut Walk, here: Spot, entry: Word) {
+    fn enter(&mut self, image: &Image, walk: &mut Walk, here: &Spot, entry: Word) {
         if is_auto_index(entry) || entry == self.start {
             self.round.astray.insert(here.at);
             return;
@@ -193,9 +193,9 @@ impl Map {
         &mut self,
         image: &Image,
         walk: &mut Walk,
-        here: Spot,
+        here: &Spot,
         word: Word,
-        address: Option<Word>,
+        address: &Option<Word>,
     ) {
         let named = target(word, here.at);
         if refers_indirectly(word) && walk.is_own(named) {
@@ -206,12 +206,12 @@ impl Map {
         }
         match address {
             None => self.jump_by_table(image, walk, here),
-            Some(to) => self.go(image, walk, here, to),
+            Some(to) => self.go(image, walk, here, *to),
         }
     }
 
     /// Goes on from JMP where it isn't known where it goes.
-    fn jump_by_table(&mut self, image: &Image, walk: &mut Walk, here: Spot) {
+    fn jump_by_table(&mut self, image: &Image, walk: &mut Walk, here: &Spot) {
         self.round.jumps.insert(here.at);
         let mut next = 0usize;
         while let Some(to) = self.jumped.first_from(next) {

@@ -1,5 +1,5 @@
 -- What is promised of a proposal.
-use Rattle.std.specs.Prelude.{◌≡◌, ℕ, List, Option}
+use Rattle.std.specs.Prelude.{◌≡◌, ℕ, ⊤, List, Option}
 use Rattle.instruct.specs.declared.Profile.{Profile}
 use Rattle.peripherals.specs.Loading.{image_of}
 use Rattle.declaration.specs.Declaration.{IsDeclared}
@@ -12,12 +12,12 @@ use Rattle.analyser.specs.Counts.{Count}
 use Rattle.analyser.specs.Versions.{version_of}
 use Rattle.proposer.specs.declared.Proposal.{Proposal}
 use Rattle.proposer.specs.declared.Verdict.{Verdict}
-use Rattle.proposer.specs.declared.Verdict.TheVariants.{Safe, Refused, Stuck, TurnsSpent}
+use Rattle.proposer.specs.declared.Verdict.TheVariants.{Safe, TurnsSpent}
 
 -- The declaration has this start and is for this machine, it keeps the overlap rules, and the text is one of its texts.
-pub record Fits {A : Type 0} (start : ℕ) (profile : Profile) (p : Proposal A) : Type 0 where
-  pub start : (meaning p.declaration).start ≡ start
-  pub profile : (meaning p.declaration).profile ≡ profile
+pub record Fits {A : Type 0} (at : ℕ) (machine : Profile) (p : Proposal A) : Type 0 where
+  pub start : (meaning p.declaration).start ≡ at
+  pub profile : (meaning p.declaration).profile ≡ machine
   pub declared : IsDeclared (meaning p.declaration)
   pub text : Declares p.text.items (meaning p.declaration)
 
@@ -26,9 +26,7 @@ pub record Fits {A : Type 0} (start : ℕ) (profile : Profile) (p : Proposal A) 
 abbrev pub IsShown : {A : Type 0} → List (Option ℕ) → Kept → Verdict A → Type 0
 IsShown image d (Safe c) = IsSafe (image_of image) (meaning d) × AreLines (certified.meaning c)
     × ((certified.meaning c).version ≡ version_of (meaning d).profile)
-IsShown image d (Refused r) = ⊤
-IsShown image d (Stuck at) = ⊤
-IsShown image d TurnsSpent = ⊤
+IsShown image d _ = ⊤
 
 -- Where the verdict is that the turns are spent, all of them are.
 abbrev pub IsSpentUp : {A : Type 0} → Count → Verdict A → Type 0

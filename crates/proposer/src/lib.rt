@@ -1,13 +1,20 @@
 //! Proposes declarations: what a program may do, from its tape and its start alone.
 #![tactic(auto)]
 
-ghost use Rattle.std.specs.Prelude.{◌≡◌, ◌≤◌, IfOk};
-ghost use Rattle.declaration.specs.Kept.{meaning};
+ghost use Rattle.std.specs.Prelude.{ℕ, ◌≡◌, ◌≢◌, ◌≤◌, List, Option, IfOk};
+ghost use Rattle.analyser.specs.Versions.{version_of};
+ghost use Rattle.analyser.specs.declared.GuessFault.TheVariants as guess_fault;
+ghost use Rattle.certificate.specs.Kept as certified;
+ghost use Rattle.certificate.specs.Reading.{AreLines};
+ghost use Rattle.declaration.specs.Kept.{Kept, meaning};
 ghost use Rattle.declaration.specs.Text.{Declares};
+ghost use Rattle.proposer.specs.declared.Verdict.TheVariants.{TurnsSpent};
 ghost use Rattle.proposer.specs.Proposals.{Fits, IsShown, IsSpentUp};
 
 mod map;
+mod steps;
 mod text;
+mod trials;
 mod variables;
 mod walk;
 
@@ -125,7 +132,7 @@ fn widened<A: Allocator + Copy>(
     ensures rises { turns.old.spent ≤ turns.new.spent }
     ensures within { turns.new.spent ≤ turns.new.limit }
 {
-    if !map.stores_anywhere {
+    if !map.round.stores_anywhere {
         let cells = map.variables(image, Breadth::Stored);
         let proposal = attempt(alloc, image, map, &cells, turns)?;
         if !proposal.is_stuck() || !map.changes_code() {
@@ -217,13 +224,38 @@ fn judged<A: Allocator + Copy>(
     ensures within { turns.new.spent ≤ turns.new.limit }
 {
     match guess_within(alloc, image, declaration, turns) {
-        Ok(certificate) => match judge(image, declaration, &certificate) {
-            Ok(()) => Ok(Verdict::Safe(certificate)),
-            Err(refusal) => Ok(Verdict::Refused(refusal)),
-        },
-        Err(GuessFault::Stuck(at)) => Ok(Verdict::Stuck(at)),
-        Err(GuessFault::TurnsSpent) => Ok(Verdict::TurnsSpent),
-        Err(GuessFault::NoMemory) => Err(ProposeFault::NoMemory),
+        Ok(certificate) => Ok(tested(image, declaration, certificate)),
+        Err(fault) => unfound(fault),
+    }
+}
+
+/// What the judge says of a certificate.
+fn tested<A: Allocator>(
+    image: &Image,
+    declaration: &Declaration<A>,
+    certificate: Certificate<A>,
+) -> Verdict<A>
+    requires lines { AreLines (certified.meaning certificate) }
+    requires version { (certified.meaning certificate).version ≡
+        version_of (meaning declaration.now).profile }
+    ensures shown { IsShown image.now declaration.now result }
+    ensures spent { result ≢ TurnsSpent }
+{
+    match judge(image, declaration, &certificate) {
+        Ok(()) => Verdict::Safe(certificate),
+        Err(refusal) => Verdict::Refused(refusal),
+    }
+}
+
+/// What is known where no certificate is found.
+fn unfound<A: Allocator>(fault: GuessFault) -> Result<Verdict<A>, ProposeFault>
+    ensures shown { (image : List (Option ℕ)) → (d : Kept) → IfOk result (IsShown image d) }
+    ensures spent { IfOk result (λ v. v ≡ TurnsSpent → fault ≡ guess_fault.TurnsSpent) }
+{
+    match fault {
+        GuessFault::Stuck(at) => Ok(Verdict::Stuck(at)),
+        GuessFault::TurnsSpent => Ok(Verdict::TurnsSpent),
+        GuessFault::NoMemory => Err(ProposeFault::NoMemory),
     }
 }
 

@@ -93,11 +93,11 @@ impl Map {
         push_cells(&mut text, b"start", &WordSet::one(self.start))?;
         let mut again = *self;
         again.forget();
-        push_cells(&mut text, b"main", &again.follow(image, None))?;
+        push_cells(&mut text, b"main", &again.follow_main(image))?;
         again.push_routines(&mut text, image)?;
         push_cells(&mut text, b"var", variables)?;
-        push_each(&mut text, b"stop", &self.halts.minus(&self.pauses))?;
-        push_each(&mut text, b"pause", &self.halts.meet(&self.pauses))?;
+        push_each(&mut text, b"stop", &self.round.halts.minus(&self.pauses))?;
+        push_each(&mut text, b"pause", &self.round.halts.meet(&self.pauses))?;
         Ok(text)
     }
 
@@ -109,7 +109,7 @@ impl Map {
     ) -> Result<(), AllocError> {
         let mut next = 0usize;
         while let Some(entry) = self.entries.first_from(next) {
-            let body = self.follow(image, Some(entry));
+            let body = self.follow_routine(image, entry);
             if !body.is_empty() {
                 self.push_routine(text, entry, &body)?;
             }

@@ -1,6 +1,7 @@
 //! Which cells a program may change.
 
-use crate::map::{Map, loaded};
+use crate::map::Map;
+use crate::trials::loaded;
 use bin_tape::Image;
 use certificate::{Certificate, Routine};
 use declaration::{Declaration, Owner};
@@ -23,10 +24,10 @@ pub(crate) enum Breadth {
 impl Map {
     /// The cells that are taken for variables.
     pub(crate) fn variables(&self, image: &Image, breadth: Breadth) -> WordSet {
-        let data = WordSet::all().minus(&self.code);
+        let data = WordSet::all().minus(&self.round.code);
         let more = match breadth {
             Breadth::Stored => WordSet::empty(),
-            Breadth::Tables => data.minus(&loaded(image).meet(&self.named)),
+            Breadth::Tables => data.minus(&loaded(image).meet(&self.round.named)),
             Breadth::Data => data,
         };
         self.stored.union(&more).minus(&self.entries)

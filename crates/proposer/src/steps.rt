@@ -1,0 +1,222 @@
+//! How control goes on from a cell.
+
+use crate::map::Map;
+use crate::walk::{Spot, Walk};
+use bin_tape::Image;
+use instruct::{DeviceOperation, Instruction, Operation, decode, halts, refers_indirectly, target};
+use word12::Word;
+
+/// Whether a cell is one of 0010 to 0017, which an indirect reference steps.
+fn is_auto_index(cell: Word) -> bool {
+    cell.index() / 8 == 1
+}
+
+impl Map {
+    /// Goes on at a cell, if it may be in the body: it is on the tape or is stored in, no entry, and in
+    /// no other body.
+    pub(crate) fn go(&mut self, image: &Image, walk: &mut Walk, here: &Spot, to: Word) {
+        let is_there = image.get(to).is_some() || self.stored.contains(to);
+        if is_there && !self.entries.contains(to) && !self.round.code.contains(to) {
+            walk.meet(here.to(to));
+        } else {
+            self.round.astray.insert(here.at);
+        }
+    }
+
+    /// Goes on at the next cell.
+    fn go_on(&mut self, image: &Image, walk: &mut Walk, here: &Spot) {
+        self.go(image, walk, here, here.at.increment());
+    }
+
+    /// Goes on at the cell past the next one.
+    fn skip(&mut self, image: &Image, walk: &mut Walk, here: &Spot) {
+        self.go(image, walk, here, here.at.increment().increment());
+    }
+
+    /// Goes on from a cell. Where it is stored in, other words may stand there, and control may go on
+    /// to the next cell.
+    pub(crate) fn visit(&mut self, image: &Image, walk: &mut Walk, here: &Spot) {
+        let changes = self.stored.contains(here.at);
+        if changes {
+            self.go_on(image, walk, here);
+        }
+        let Some(word) = image.get(here.at) else {
+            return;
+        };
+        match decode(word, self.profile) {
+            Instruction::Memory => self.refer(image, walk, here, word),
+            Instruction::Operate1 | Instruction::Operate3 => self.go_on(image, walk, here),
+            Instruction::Operate2 => self.operate(image, walk, here, word),
+            Instruction::Iot => self.ask(image, walk, here, word),
+            Instruction::Unsupported => {
+                if !changes {
+                    self.round.astray.insert(here.at);
+                }
+            }
+        }
+    }
+
+    /// Goes on from a word of group 2.
+    fn operate(&mut self, image: &Image, walk: &mut Walk, here: &Spot, word: Word) {
+        if halts(word) && !self.stored.contains(here.at) {
+            self.round.halts.insert(here.at);
+            if !self.pauses.contains(here.at) {
+                return;
+            }
+        }
+        // The bit that turns the tests round, and those of SNL, SZA and SMA.
+        let tests = word.index() / 8 % 16;
+        if tests != 1 {
+            self.go_on(image, walk, here);
+        }
+        if tests != 0 {
+            self.skip(image, walk, here);
+        }
+    }
+
+    /// Goes on from a device word.
+    fn ask(&mut self, image: &Image, walk: &mut Walk, here: &Spot, word: Word) {
+        self.go_on(image, walk, here);
+        if let Some(operation) = DeviceOperation::of(word, self.profile) {
+            match operation {
+                DeviceOperation::SkipOnReaderFlag
+                | DeviceOperation::SkipOnPunchFlag
+                | DeviceOperation::SkipOnKeyboardFlag
+                | DeviceOperation::SkipOnPrinterFlag => self.skip(image, walk, here),
+                _ => {}
+            }
+        }
+    }
+
+    /// Goes on from a memory reference.
+    fn refer(&mut self, image: &Image, walk: &mut Walk, here: &Spot, word: Word) {
+        let address = &self.address(image, here.at, word);
+        match Operation::of(word) {
+            Operation::And | Operation::Tad => {
+                self.name(address);
+                self.go_on(image, walk, here);
+            }
+            Operation::Dca => {
+                self.store(address);
+                self.go_on(image, walk, here);
+            }
+            Operation::Isz => self.count(image, walk, here, address),
+            Operation::Jms => self.call(image, walk, here, address),
+            Operation::Jmp => self.jump(image, walk, here, word, address),
+        }
+    }
+
+    /// The address that a memory reference refers to, if the words tell: the cell that it names, or
+    /// the word of a pointer that nothing stores in.
+    fn address(&mut self, image: &Image, at: Word, word: Word) -> Option<Word> {
+        let named = target(word, at);
+        if !refers_indirectly(word) {
+            return Some(named);
+        }
+        self.round.named.insert(named);
+        if is_auto_index(named) {
+            self.stored.insert(named);
+            return None;
+        }
+        if self.stored.contains(named) || self.entries.contains(named) {
+            return None;
+        }
+        image.get(named)
+    }
+
+    /// A cell is named as a datum.
+    fn name(&mut self, address: &Option<Word>) {
+        if let Some(cell) = address {
+            self.round.named.insert(*cell);
+        }
+    }
+
+    /// A cell is stored in.
+    fn store(&mut self, address: &Option<Word>) {
+        match address {
+            None => self.round.stores_anywhere = true,
+            Some(cell) => {
+                self.round.named.insert(*cell);
+                self.stored.insert(*cell);
+            }
+        }
+    }
+
+    /// Goes on from ISZ. That of the routine's own entry counts the return word up, and doesn't skip.
+    fn count(&mut self, image: &Image, walk: &mut Walk, here: &Spot, address: &Option<Word>) {
+        if let Some(cell) = address {
+            if walk.is_own(*cell) {
+                let later = Spot {
+                    at: here.at,
+                    offset: here.offset.saturating_add(1),
+                };
+                self.go_on(image, walk, &later);
+                return;
+            }
+        }
+        self.store(address);
+        self.go_on(image, walk, here);
+        self.skip(image, walk, here);
+    }
+
+    /// Goes on from JMS.
+    fn call(&mut self, image: &Image, walk: &mut Walk, here: &Spot, address: &Option<Word>) {
+        if let Some(entry) = address {
+            self.enter(image, walk, here, *entry);
+            return;
+        }
+        self.round.calls.insert(here.at);
+        let mut next = 0usize;
+        while let Some(entry) = self.called.first_from(next) {
+            self.enter(image, walk, here, entry);
+            next = entry.index() + 1;
+        }
+    }
+
+    /// Goes on after a call of an entry, as far as it's known how the routine returns.
+    fn enter(&mut self, image: &Image, walk: &mut Walk, here: &Spot, entry: Word) {
+        if is_auto_index(entry) || entry == self.start {
+            self.round.astray.insert(here.at);
+            return;
+        }
+        self.entries.insert(entry);
+        for offset in 0..8usize {
+            if self.may_return(entry, offset) {
+                let to = here.at.increment().add(Word::from_index(offset));
+                self.go(image, walk, here, to);
+            }
+        }
+    }
+
+    /// Goes on from JMP. An indirect one through the routine's own entry returns.
+    fn jump(
+        &mut self,
+        image: &Image,
+        walk: &mut Walk,
+        here: &Spot,
+        word: Word,
+        address: &Option<Word>,
+    ) {
+        let named = target(word, here.at);
+        if refers_indirectly(word) && walk.is_own(named) {
+            if let Some(entries) = self.returns.get_mut(here.offset) {
+                entries.insert(named);
+            }
+            return;
+        }
+        match address {
+            None => self.jump_by_table(image, walk, here),
+            Some(to) => self.go(image, walk, here, *to),
+        }
+    }
+
+    /// Goes on from JMP where it isn't known where it goes.
+    fn jump_by_table(&mut self, image: &Image, walk: &mut Walk, here: &Spot) {
+        self.round.jumps.insert(here.at);
+        let mut next = 0usize;
+        while let Some(to) = self.jumped.first_from(next) {
+            self.go(image, walk, here, to);
+            next = to.index() + 1;
+        }
+    }
+}

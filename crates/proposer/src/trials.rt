@@ -1,0 +1,98 @@
+//! What is tried: whether there is code behind a HLT, or where a word of a table leads.
+
+use crate::map::Map;
+use bin_tape::Image;
+use word12::Word;
+use wordset::WordSet;
+
+/// How many halts, and how many words of tables, are tried.
+const MOST_TRIALS: usize = 256;
+
+/// The cells that the tape has words for.
+pub(crate) fn loaded(image: &Image) -> WordSet {
+    let mut cells = WordSet::empty();
+    for index in 0..4096usize {
+        let at = Word::from_index(index);
+        if image.get(at).is_some() {
+            cells.insert(at);
+        }
+    }
+    cells
+}
+
+impl Map {
+    /// Goes on after each halt behind which there is code: what comes there leads to no cell that
+    /// can't be in the body, and to none that is named as a datum.
+    pub(crate) fn try_halts(&mut self, image: &Image) {
+        let mut tried = WordSet::empty();
+        for _trial in 0..MOST_TRIALS {
+            let Some(halt) = self.round.halts.minus(&tried).least() else {
+                return;
+            };
+            tried.insert(halt);
+            let mut trial = *self;
+            trial.pauses.insert(halt);
+            trial.settle(image);
+            if trial.is_code_beside(self) {
+                *self = trial;
+            }
+        }
+    }
+
+    /// Goes on by JMS and JMP words of which it isn't known where they go, to each word of a table
+    /// behind which there is code.
+    pub(crate) fn try_tables(&mut self, image: &Image) {
+        let words = self.table_words(image);
+        let mut next = 0usize;
+        for _trial in 0..MOST_TRIALS {
+            let Some(to) = words.first_from(next) else {
+                return;
+            };
+            self.try_target(image, to);
+            next = to.index() + 1;
+        }
+    }
+
+    /// Goes on by such words to an address, if there is code.
+    fn try_target(&mut self, image: &Image, to: Word) {
+        if !self.round.calls.is_empty() {
+            let mut trial = *self;
+            trial.called.insert(to);
+            trial.settle(image);
+            if trial.is_code_beside(self) {
+                *self = trial;
+                return;
+            }
+        }
+        if !self.round.jumps.is_empty() {
+            let mut trial = *self;
+            trial.jumped.insert(to);
+            trial.settle(image);
+            if trial.is_code_beside(self) {
+                *self = trial;
+            }
+        }
+    }
+
+    /// The words of cells that are no code and that no instruction names, where they are addresses of
+    /// cells on the tape.
+    fn table_words(&self, image: &Image) -> WordSet {
+        let tape = loaded(image);
+        let cells = tape.minus(&self.round.code).minus(&self.round.named).minus(&self.entries);
+        let mut words = WordSet::empty();
+        let mut next = 0usize;
+        while let Some(cell) = cells.first_from(next) {
+            if let Some(word) = image.get(cell) {
+                words.insert(word);
+            }
+            next = cell.index() + 1;
+        }
+        words.meet(&tape)
+    }
+
+    /// Whether what is found beside what was found before is code.
+    fn is_code_beside(&self, before: &Map) -> bool {
+        self.round.astray.is_subset(&before.round.astray)
+            && self.round.code.minus(&before.round.code).meet(&self.round.named).is_empty()
+    }
+}

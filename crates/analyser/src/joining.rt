@@ -70,32 +70,6 @@ fn fulfils(left: Option<Word>, right: Option<Word>, more: Word) -> bool {
     }
 }
 
-/// Whether an equation is one of a list.
-fn lists(equations: &[Equation], equation: &Equation) -> bool {
-    for known in equations {
-        if *known == *equation {
-            return true;
-        }
-    }
-    false
-}
-
-/// Whether an equation is known.
-fn says(known: &Known<'_>, equation: &Equation) -> bool {
-    if lists(known.equations(), equation) {
-        return true;
-    }
-    let left = known.narrowed(&equation.left).only();
-    let right = known.narrowed(&Name::Cell(equation.right)).only();
-    fulfils(left, right, equation.more)
-}
-
-/// Whether both sides of an equation have one word.
-fn has_one_word_each(known: &Known<'_>, equation: &Equation) -> bool {
-    known.narrowed(&equation.left).only().is_some()
-        && known.narrowed(&Name::Cell(equation.right)).only().is_some()
-}
-
 impl<A: Allocator + Copy> Kept<A> {
     /// What this and something else that is known say both.
     pub(crate) fn joined(
@@ -137,10 +111,10 @@ impl<A: Allocator + Copy> Kept<A> {
         for line in cells {
             let cell = line.tracked.cell;
             let old = line.tracked.set;
-            let set = old.union(&left_to(known, &Name::Cell(cell)));
-            if set == old {
+            if known.is_within(cell, &old) {
                 self.track(cell, old, line.growths)?;
             } else {
+                let set = old.union(&left_to(known, &Name::Cell(cell)));
                 let growths = line.growths.saturating_add(1);
                 let counted = limits.counted.contains(cell);
                 let wide = widened(&old, &set, growths, counted, limits, pace);
@@ -150,10 +124,10 @@ impl<A: Allocator + Copy> Kept<A> {
         Ok(())
     }
 
-    /// Adds those equations that are known.
+    /// Adds those equations that are known, where not both sides have one word still.
     fn join_equations(&mut self, equations: &[Equation], known: &Known<'_>) -> Result<(), Halt> {
         for equation in equations {
-            if says(known, equation) {
+            if !self.has_one_word_each(equation) && known.knows(equation) {
                 self.relate(*equation)?;
             }
         }
@@ -164,9 +138,9 @@ impl<A: Allocator + Copy> Kept<A> {
     /// have one word still.
     fn add_shown(&mut self, old: &Kept<A>, known: &Known<'_>) -> Result<(), Halt> {
         for equation in known.equations() {
-            let left = old.set(&equation.left).only();
-            let right = old.set(&Name::Cell(equation.right)).only();
-            if fulfils(left, right, equation.more) && !has_one_word_each(known, equation) {
+            let left = old.only(&equation.left);
+            let right = old.only(&Name::Cell(equation.right));
+            if fulfils(left, right, equation.more) && !self.has_one_word_each(equation) {
                 self.relate(*equation)?;
             }
         }
@@ -230,41 +204,41 @@ fn add_moved<A: Allocator>(
     Ok(())
 }
 
-/// Whether two lists of cells say the same.
-fn are_same_cells(a: &[Line], b: &[Line]) -> bool {
-    if a.len() != b.len() {
-        return false;
-    }
-    for (x, y) in a.iter().zip(b) {
-        if x.tracked != y.tracked {
-            return false;
-        }
-    }
-    true
-}
-
 impl<A: Allocator> Kept<A> {
-    /// Whether another says the same.
-    pub(crate) fn is_same(&self, other: &Kept<A>) -> bool {
-        if self.ac != other.ac || self.mq != other.mq || self.link != other.link {
+    /// Whether all that it says is known.
+    pub(crate) fn covers(&self, known: &Known<'_>) -> bool {
+        if !known.mq().is_subset(&self.mq) || !known.link().is_subset(self.link) {
             return false;
         }
-        if self.offsets != other.offsets || !are_same_cells(&self.cells, &other.cells) {
+        if !known.offsets().is_subset(self.offsets) || !self.covers_accumulator(known) {
             return false;
         }
-        are_same_equations(&self.equations, &other.equations)
+        self.covers_cells(known) && self.covers_equations(known)
     }
-}
 
-/// Whether two lists of equations are the same.
-fn are_same_equations(a: &[Equation], b: &[Equation]) -> bool {
-    if a.len() != b.len() {
-        return false;
+    /// Whether the accumulator has no other words.
+    fn covers_accumulator(&self, known: &Known<'_>) -> bool {
+        known.accumulator().is_subset(&self.ac)
+            || known.narrowed(&Name::Accumulator).is_subset(&self.ac)
     }
-    for equation in a {
-        if !lists(b, equation) {
-            return false;
+
+    /// Whether no tracked cell has other words.
+    fn covers_cells(&self, known: &Known<'_>) -> bool {
+        for line in &self.cells {
+            if !known.is_within(line.tracked.cell, &line.tracked.set) {
+                return false;
+            }
         }
+        true
     }
-    true
+
+    /// Whether all equations are known.
+    fn covers_equations(&self, known: &Known<'_>) -> bool {
+        for equation in &self.equations {
+            if !known.knows(equation) {
+                return false;
+            }
+        }
+        true
+    }
 }

@@ -145,7 +145,7 @@ impl<A: Allocator + Copy> Kept<A> {
     /// Adds the equations between tracked cells.
     fn take_equations(&mut self, tracked: &WordSet, known: &Known<'_>) -> Result<(), Halt> {
         for equation in known.equations() {
-            if speaks_of(tracked, equation) {
+            if speaks_of(tracked, equation) && !self.has_one_word_each(equation) {
                 self.relate(*equation)?;
             }
         }
@@ -219,6 +219,29 @@ impl<A: Allocator> Kept<A> {
             Name::Accumulator => self.ac,
             Name::Cell(cell) => self.set_of_cell(*cell),
         }
+    }
+
+    /// The one word that a name may hold, if there is only one.
+    pub(crate) fn only(&self, name: &Name) -> Option<Word> {
+        match name {
+            Name::Accumulator => self.ac.only(),
+            Name::Cell(cell) => self.only_of_cell(*cell),
+        }
+    }
+
+    /// The one word that a cell may hold, if there is only one.
+    fn only_of_cell(&self, cell: Word) -> Option<Word> {
+        for line in &self.cells {
+            if line.tracked.cell == cell {
+                return line.tracked.set.only();
+            }
+        }
+        None
+    }
+
+    /// Whether both sides of an equation have one word, so that it needn't be said.
+    pub(crate) fn has_one_word_each(&self, equation: &Equation) -> bool {
+        self.only(&equation.left).is_some() && self.only(&Name::Cell(equation.right)).is_some()
     }
 
     /// The words that a cell may hold.

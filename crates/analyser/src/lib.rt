@@ -12,6 +12,7 @@ mod form;
 mod joining;
 mod kept;
 mod making;
+mod needs;
 mod program;
 mod search;
 mod table;

@@ -6,8 +6,14 @@ use wordset::WordSet;
 /// Off the ways back, a set may grow so often at one address before nothing is said of it any more.
 const MOST_GROWTHS: u32 = 300;
 
+/// In a quick search it may grow so often.
+const SOON_GROWTHS: u32 = 16;
+
 /// A count up to 7777 may grow so often before it is taken to start anywhere below.
 const COUNT_GROWTHS: u32 = 40;
+
+/// In a quick search such a count may grow so often before that.
+const SOON_COUNT_GROWTHS: u32 = 8;
 
 /// On the way back a set may grow so often before it goes on to the next landmarks,
 const QUICK_GROWTHS: u32 = 8;
@@ -21,8 +27,10 @@ const MOST_RUNS: usize = 48;
 /// How soon sets are widened.
 #[derive(Clone, Copy)]
 pub(crate) enum Pace {
-    /// After some growths.
+    /// After some growths, on to the next landmarks.
     Quick,
+    /// After some growths, to all words.
+    Soon,
     /// After hundreds of growths.
     Patient,
 }
@@ -125,12 +133,23 @@ fn quickly(old: &WordSet, set: &WordSet, growths: u32, counted: bool, limits: &L
     to_landmarks(old, set, &limits.landmarks)
 }
 
-/// A set that grew, widened only after hundreds of growths.
+/// A set that grew, widened only after many growths.
 fn patiently(set: &WordSet, growths: u32, counted: bool) -> WordSet {
     if growths >= MOST_GROWTHS {
         return WordSet::all();
     }
     if counted && growths >= COUNT_GROWTHS && is_negative(set) {
+        return up_to_the_end(set);
+    }
+    smoothed(set)
+}
+
+/// A set that grew, widened after some growths.
+fn soon(set: &WordSet, growths: u32, counted: bool) -> WordSet {
+    if growths >= SOON_GROWTHS {
+        return WordSet::all();
+    }
+    if counted && growths >= SOON_COUNT_GROWTHS && is_negative(set) {
         return up_to_the_end(set);
     }
     smoothed(set)
@@ -145,9 +164,15 @@ pub(crate) fn widened(
     limits: &Limits,
     pace: Pace,
 ) -> WordSet {
-    let patient = patiently(set, growths, counted);
     match pace {
-        Pace::Patient => patient,
-        Pace::Quick => quickly(old, &patient, growths, counted, limits),
+        Pace::Patient => patiently(set, growths, counted),
+        Pace::Soon => soon(set, growths, counted),
+        Pace::Quick => quickly(
+            old,
+            &patiently(set, growths, counted),
+            growths,
+            counted,
+            limits,
+        ),
     }
 }

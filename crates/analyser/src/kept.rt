@@ -276,16 +276,6 @@ impl<A: Allocator> Kept<A> {
         relate_all(fact, &self.equations);
         true
     }
-
-    /// The fact.
-    pub(crate) fn fact(&self) -> Option<Fact> {
-        let mut fact = Fact::any();
-        if self.fact_into(&mut fact) {
-            Some(fact)
-        } else {
-            None
-        }
-    }
 }
 
 /// Tracks some cells more.

@@ -34,12 +34,23 @@ pub(crate) enum Body {
     Of(Word, Routine),
 }
 
-/// A fact at an address of a body.
+/// A fact at an address of a body. It's large, so the same one serves all visits.
 #[derive(Drop)]
 pub(crate) struct Visit {
     pub(crate) at: Word,
     pub(crate) fact: Fact,
     pub(crate) body: Body,
+}
+
+impl Visit {
+    /// Before the first visit.
+    pub(crate) fn first() -> Visit {
+        Visit {
+            at: Word::ZERO,
+            fact: Fact::any(),
+            body: Body::Main,
+        }
+    }
 }
 
 impl Body {

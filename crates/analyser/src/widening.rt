@@ -7,19 +7,19 @@ use wordset::WordSet;
 const MOST_GROWTHS: u32 = 300;
 
 /// In a quick search it may grow so often.
-const SOON_GROWTHS: u32 = 16;
+const SOON_GROWTHS: u32 = 8;
 
 /// A count up to 7777 may grow so often before it is taken to start anywhere below.
 const COUNT_GROWTHS: u32 = 40;
 
 /// In a quick search such a count may grow so often before that.
-const SOON_COUNT_GROWTHS: u32 = 8;
+const SOON_COUNT_GROWTHS: u32 = 5;
 
 /// On the way back a set may grow so often before it goes on to the next landmarks,
-const QUICK_GROWTHS: u32 = 8;
+const QUICK_GROWTHS: u32 = 4;
 
 /// and so often before nothing is said of it any more.
-const LANDMARK_GROWTHS: u32 = 20;
+const LANDMARK_GROWTHS: u32 = 10;
 
 /// A set in more runs is filled.
 const MOST_RUNS: usize = 48;

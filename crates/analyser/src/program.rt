@@ -14,13 +14,14 @@ use wordset::WordSet;
 /// The most cells that are tracked.
 const MOST_TRACKED: usize = 64;
 
-/// What is analysed, the addresses of all bodies, the cells that instructions name or that stand in
+/// What is analysed, the addresses of all bodies, those whose words may look at an entry, the cells that instructions name or that stand in
 /// bodies, those that facts speak of at most, and where their sets may end.
 #[derive(Drop)]
 pub(crate) struct Program<'a, D: Allocator> {
     pub(crate) image: &'a Image,
     pub(crate) declaration: &'a Declaration<D>,
     pub(crate) bodies: WordSet,
+    pub(crate) lookers: WordSet,
     pub(crate) named: WordSet,
     pub(crate) tracked: WordSet,
     pub(crate) limits: Limits,
@@ -118,6 +119,7 @@ impl<'a, D: Allocator> Program<'a, D> {
             image,
             declaration,
             bodies,
+            lookers: lookers(image, declaration, &bodies),
             named,
             tracked,
             limits: Limits {
@@ -173,6 +175,27 @@ fn add_loaded<D: Allocator>(cells: &mut WordSet, image: &Image, declaration: &De
             add_cell(cells, at);
         }
     }
+}
+
+/// The addresses of bodies whose words may look at an entry: those that may be written, those that
+/// refer indirectly, and those that name one.
+fn lookers<D: Allocator>(
+    image: &Image,
+    declaration: &Declaration<D>,
+    bodies: &WordSet,
+) -> WordSet {
+    let mut addresses = bodies.meet(declaration.variables());
+    for index in 0..4096usize {
+        let at = Word::from_index(index);
+        if let Some(word) = code_at(image, bodies, at) {
+            if is_reference(word)
+                && (refers_indirectly(word) || declaration.is_entry(target(word, at)))
+            {
+                addresses.insert(at);
+            }
+        }
+    }
+    addresses
 }
 
 /// The cells that ISZ counts by name.

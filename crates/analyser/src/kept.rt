@@ -152,30 +152,6 @@ impl<A: Allocator + Copy> Kept<A> {
         Ok(())
     }
 
-    /// Adds an equation, if there is room and none for its two names.
-    pub(crate) fn relate(&mut self, equation: Equation) -> Result<(), Halt> {
-        if self.equations.len() >= MOST_EQUATIONS {
-            return Ok(());
-        }
-        if self.relates(&equation) {
-            return Ok(());
-        }
-        let Ok(()) = self.equations.push(equation) else {
-            return Err(Halt::NoMemory);
-        };
-        Ok(())
-    }
-
-    /// Whether there is an equation for two names.
-    fn relates(&self, equation: &Equation) -> bool {
-        for known in &self.equations {
-            if known.left == equation.left && known.right == equation.right {
-                return true;
-            }
-        }
-        false
-    }
-
     /// The part that speaks of the accumulator and of written cells, its equations in rising order.
     pub(crate) fn written(&self, alloc: A, cells: &WordSet) -> Result<Kept<A>, Halt> {
         let mut kept = Kept {
@@ -213,6 +189,30 @@ impl<A: Allocator + Copy> Kept<A> {
 }
 
 impl<A: Allocator> Kept<A> {
+    /// Adds an equation, if there is room and none for its two names.
+    pub(crate) fn relate(&mut self, equation: Equation) -> Result<(), Halt> {
+        if self.equations.len() >= MOST_EQUATIONS {
+            return Ok(());
+        }
+        if self.relates(&equation) {
+            return Ok(());
+        }
+        let Ok(()) = self.equations.push(equation) else {
+            return Err(Halt::NoMemory);
+        };
+        Ok(())
+    }
+
+    /// Whether there is an equation for two names.
+    fn relates(&self, equation: &Equation) -> bool {
+        for known in &self.equations {
+            if known.left == equation.left && known.right == equation.right {
+                return true;
+            }
+        }
+        false
+    }
+
     /// The words that a name may hold.
     pub(crate) fn set(&self, name: &Name) -> WordSet {
         match name {

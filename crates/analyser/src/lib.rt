@@ -11,6 +11,7 @@ ghost use Rattle.analyser.specs.Versions.{version_of};
 mod form;
 mod joining;
 mod kept;
+mod length;
 mod making;
 mod needs;
 mod program;
@@ -19,6 +20,7 @@ mod table;
 mod turns;
 mod widening;
 
+use crate::length::is_short;
 use crate::program::Program;
 use crate::search::Search;
 use bin_tape::Image;
@@ -42,6 +44,9 @@ pub enum GuessFault {
     /// At this address an instruction was met that the checker would refuse.
     #[error("Stuck {0}")]
     Stuck(Word),
+    /// The text of what was found has more than the 1,048,576 bytes that are read of a certificate.
+    #[error("TooLong")]
+    TooLong,
     /// A growth of the table was refused.
     #[error("NoMemory")]
     NoMemory,
@@ -65,7 +70,8 @@ fn version_of(profile: Profile) -> Version
 ///
 /// `TurnsSpent` with all turns spent, `Stuck` at an instruction that the checker would refuse or at
 /// an entry whose routine calls itself by way of others (and at the address of a fact or the entry of
-/// an exit that has no line in a certificate), and `NoMemory`.
+/// an exit that has no line in a certificate), `TooLong` for what no checker would read, and
+/// `NoMemory`.
 pub fn guess_within<A: Allocator + Copy, D: Allocator>(
     alloc: A,
     image: &Image,
@@ -87,7 +93,13 @@ pub fn guess_within<A: Allocator + Copy, D: Allocator>(
     };
     search.run_all(&program, turns)?;
     match search.finish(&program, version_of(declaration.profile())) {
-        Ok(certificate) => Ok(certificate),
+        Ok(certificate) => {
+            if is_short(&certificate) {
+                Ok(certificate)
+            } else {
+                Err(GuessFault::TooLong)
+            }
+        }
         Err(halt) => Err(halt.fault()),
     }
 }

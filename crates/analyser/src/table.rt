@@ -176,6 +176,13 @@ impl<A: Allocator> Guess<A> {
         }
     }
 
+    /// Forgets all that is claimed of routines.
+    pub(crate) fn forget_routines(&mut self) {
+        for place in &mut self.routines {
+            *place = None;
+        }
+    }
+
     /// Forgets all facts and exits.
     pub(crate) fn forget(&mut self) {
         for place in &mut self.facts {

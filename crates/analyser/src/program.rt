@@ -179,11 +179,7 @@ fn add_loaded<D: Allocator>(cells: &mut WordSet, image: &Image, declaration: &De
 
 /// The addresses of bodies whose words may look at an entry: those that may be written, those that
 /// refer indirectly, and those that name one.
-fn lookers<D: Allocator>(
-    image: &Image,
-    declaration: &Declaration<D>,
-    bodies: &WordSet,
-) -> WordSet {
+fn lookers<D: Allocator>(image: &Image, declaration: &Declaration<D>, bodies: &WordSet) -> WordSet {
     let mut addresses = bodies.meet(declaration.variables());
     for index in 0..4096usize {
         let at = Word::from_index(index);

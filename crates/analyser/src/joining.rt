@@ -77,6 +77,12 @@ struct Growth {
     lost: bool,
 }
 
+/// Whether the equations leave a cell no word outside a set; a set that isn't narrowed is tried first.
+fn is_within(known: &Known<'_>, cell: Word, set: &WordSet) -> bool {
+    let name = Name::Cell(cell);
+    known.set(&name).is_subset(set) || known.narrowed(&name).is_subset(set)
+}
+
 /// Adds a name if it had one word and has another now.
 fn add_moved<A: Allocator>(
     moved: &mut Vec<Moved, A>,
@@ -125,7 +131,7 @@ fn grow_all<A: Allocator>(
     };
     for line in cells {
         let cell = line.tracked.cell;
-        if !known.is_within(cell, &line.tracked.set) {
+        if !is_within(known, cell, &line.tracked.set) {
             add_moved(moved, Name::Cell(cell), &line.tracked.set, known)?;
             grow(line, known, limits, pace);
             growth.grew = true;
@@ -241,7 +247,7 @@ impl<A: Allocator> Kept<A> {
     fn stays(&self, name: &Name, known: &Known<'_>) -> bool {
         match name {
             Name::Accumulator => self.covers_accumulator(known),
-            Name::Cell(cell) => known.is_within(*cell, &self.set(name)),
+            Name::Cell(cell) => is_within(known, *cell, &self.set(name)),
         }
     }
 

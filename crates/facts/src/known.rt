@@ -287,7 +287,7 @@ impl Known<'_> {
 
     /// Whether the equations leave a cell no word outside a set; a set that isn't narrowed is tried
     /// first.
-    pub fn is_within(&self, cell: Word, set: &WordSet) -> bool
+    fn is_within(&self, cell: Word, set: &WordSet) -> bool
         ensures { IsTrue result ↔
             IsWithin (narrowed (known_of self.now) (Cell cell)) (words set.now) }
     {

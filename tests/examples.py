@@ -98,9 +98,9 @@ class Example:
     def __init__(self, name, examples, folder, palbart):
         self.name, self.stem = name, name.removesuffix("-broken")
         self.examples, self.folder = examples, folder
-        self.profile = "8e" if self.stem == "pack" else "8i"
         self.declaration, self.events, self.certificate = (examples / f"{self.stem}.{kind}"
                                                            for kind in ("declaration", "events", "certificate"))
+        self.profile = watch.declaration(self.declaration.read_bytes()).profile
         (folder / f"{name}.pal").write_bytes((examples / f"{name}.pal").read_bytes())
         self.image = assembler.of_palbart(palbart, folder / f"{name}.pal")
         self.tape = folder / f"{name}.bin"

@@ -190,6 +190,7 @@ def of_program(program, path, profile):
 def main():
     palbart, program, examples, folder, count, seed = sys.argv[1:]
     folder = Path(folder)
+    # Those for the PDP-8/E are named pack and unpack.
     sources = [(path.stem, path.read_bytes(), "8e" if "pack" in path.stem else "8i", False)
                for path in sorted(Path(examples).glob("*.pal"))]
     sources += [(f"generated_{number}", *generated(f"{seed} {number}")) for number in range(int(count))]

@@ -18,7 +18,7 @@ use testing::memory::{MemorySink, MemorySource};
 use word12::Word;
 
 /// The programs, and the machines that they are for.
-static PROGRAMS: [(&str, Profile); 15] = [
+static PROGRAMS: [(&str, Profile); 23] = [
     ("argument", Profile::Pdp8I),
     ("checksum", Profile::Pdp8I),
     ("copier", Profile::Pdp8I),
@@ -26,14 +26,22 @@ static PROGRAMS: [(&str, Profile); 15] = [
     ("decimal", Profile::Pdp8I),
     ("dispatch", Profile::Pdp8I),
     ("divide", Profile::Pdp8I),
+    ("dump", Profile::Pdp8I),
     ("echo", Profile::Pdp8I),
+    ("execute", Profile::Pdp8I),
     ("hello", Profile::Pdp8I),
+    ("loader", Profile::Pdp8I),
+    ("message", Profile::Pdp8I),
     ("modify", Profile::Pdp8I),
     ("move", Profile::Pdp8I),
     ("multiply", Profile::Pdp8I),
     ("octal", Profile::Pdp8I),
     ("pack", Profile::Pdp8E),
+    ("power", Profile::Pdp8I),
+    ("punch", Profile::Pdp8I),
+    ("queue", Profile::Pdp8I),
     ("sort", Profile::Pdp8I),
+    ("unpack", Profile::Pdp8E),
 ];
 
 /// More bytes than any tape or text here has.

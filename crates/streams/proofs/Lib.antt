@@ -1,4 +1,5 @@
 pub mod BytesLemmas
+pub mod EndLemmas
 pub mod InputLemmas
 pub mod NumberLemmas
 pub mod TakingLemmas

@@ -1,7 +1,7 @@
 //! std's readers and writers as sources and sinks.
 
-ghost use Rattle.std.specs.Prelude.{◌≡◌, false, true};
-ghost use Rattle.std.specs.Io.KnownBytes.{IsAtEnd};
+ghost use Rattle.std.specs.Prelude.{◌≡◌, [], false, true};
+ghost use Rattle.std.specs.Option.{ForSome};
 
 use crate::bytes::{ByteSink, ByteSource, Failed};
 use std::io;
@@ -13,7 +13,7 @@ pub struct Reads<R: io::Read> {
     inner: R,
     failed: bool,
     ended: bool,
-    ghost nothing_left: { ended ≡ true → IsAtEnd (R.remaining inner) },
+    ghost nothing_left: { ended ≡ true → ForSome (R.remaining inner) (λ bytes. bytes ≡ []) },
 }
 
 impl<R: io::Read> Reads<R> {
@@ -38,6 +38,7 @@ impl<R: io::Read> ByteSource for Reads<R> {
 
     ghost ended = { λ source. source.ended };
 
+    #[tactic(auto, using(crate::proofs::EndLemmas::known_end, crate::proofs::EndLemmas::end_known))]
     fn read(&mut self, piece: &mut [u8]) -> Result<usize, Failed> {
         if self.ended {
             return Ok(0);

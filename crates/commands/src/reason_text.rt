@@ -29,7 +29,8 @@ fn asked(condition: Condition) -> &'static [u8]
         Condition::V3 => b"at most 64 words are possible, and each is supported",
         Condition::V4 =>
             b"wherever a word goes on there is a fact in the same body that allows what is possible",
-        Condition::V5 => b"each cell that a word may write, a JMS's own apart, is a variable or an entry",
+        Condition::V5 =>
+            b"each cell that a word may write, a JMS's own apart, is a variable or an entry",
         Condition::V6 =>
             b"each cell that a word may write, a JMS's own apart, is in the routine's written set, or its entry",
         Condition::V7 =>
@@ -42,7 +43,8 @@ fn asked(condition: Condition) -> &'static [u8]
         Condition::V12 =>
             b"a return is the routine's own, by declared offsets, and the exit lines allow what is possible",
         Condition::V13 => b"a HLT is at a declared halt",
-        Condition::V14 => b"no word writes an entry, save that a JMS enters it and ISZ may count the routine's own",
+        Condition::V14 =>
+            b"no word writes an entry, save that a JMS enters it and ISZ may count the routine's own",
         Condition::V15 =>
             b"each cell that a word may read is on the list of reads, or the routine's entry",
     }

@@ -59,6 +59,8 @@ pub enum Verdict<A: Allocator> {
     Stuck(Word),
     /// No certificate is found with all turns that there were.
     TurnsSpent,
+    /// The text of the certificate that is found has more bytes than are read of one.
+    TooLong,
 }
 
 /// A proposed declaration, its text, and what is known of it.
@@ -255,6 +257,7 @@ fn unfound<A: Allocator>(fault: GuessFault) -> Result<Verdict<A>, ProposeFault>
     match fault {
         GuessFault::Stuck(at) => Ok(Verdict::Stuck(at)),
         GuessFault::TurnsSpent => Ok(Verdict::TurnsSpent),
+        GuessFault::TooLong => Ok(Verdict::TooLong),
         GuessFault::NoMemory => Err(ProposeFault::NoMemory),
     }
 }

@@ -16,11 +16,7 @@ fn push_word<A: Allocator>(text: &mut Vec<u8, A>, word: Word) -> Result<(), Allo
 }
 
 /// Adds a run of words, after a space.
-fn push_run<A: Allocator>(
-    text: &mut Vec<u8, A>,
-    low: Word,
-    high: Word,
-) -> Result<(), AllocError> {
+fn push_run<A: Allocator>(text: &mut Vec<u8, A>, low: Word, high: Word) -> Result<(), AllocError> {
     push_word(text, low)?;
     if low == high {
         return Ok(());

@@ -78,7 +78,10 @@ impl Map {
     /// cells on the tape.
     fn table_words(&self, image: &Image) -> WordSet {
         let tape = loaded(image);
-        let cells = tape.minus(&self.round.code).minus(&self.round.named).minus(&self.entries);
+        let cells = tape
+            .minus(&self.round.code)
+            .minus(&self.round.named)
+            .minus(&self.entries);
         let mut words = WordSet::empty();
         let mut next = 0usize;
         while let Some(cell) = cells.first_from(next) {
@@ -93,6 +96,11 @@ impl Map {
     /// Whether what is found beside what was found before is code.
     fn is_code_beside(&self, before: &Map) -> bool {
         self.round.astray.is_subset(&before.round.astray)
-            && self.round.code.minus(&before.round.code).meet(&self.round.named).is_empty()
+            && self
+                .round
+                .code
+                .minus(&before.round.code)
+                .meet(&self.round.named)
+                .is_empty()
     }
 }

@@ -1,7 +1,7 @@
 //! Proposes declarations: what a program may do, from its tape and its start alone.
 #![tactic(auto)]
 
-ghost use Rattle.std.specs.Prelude.{ℕ, ◌≡◌, ◌≢◌, ◌≤◌, List, Option, IfOk};
+ghost use Rattle.std.specs.Prelude.{ℕ, ◌≡◌, ◌≢◌, ◌≤◌, List, Option, IfOk, true};
 ghost use Rattle.analyser.specs.Versions.{version_of};
 ghost use Rattle.analyser.specs.declared.GuessFault.TheVariants as guess_fault;
 ghost use Rattle.certificate.specs.Kept as certified;
@@ -175,6 +175,14 @@ fn attempt<A: Allocator + Copy>(
     }
 }
 
+/// Whether a declaration has the start and is for the machine that were asked.
+fn is_asked<A: Allocator>(declaration: &Declaration<A>, map: &Map) -> bool
+    ensures start { result ≡ true → (meaning declaration.now).start ≡ map.now.start }
+    ensures profile { result ≡ true → (meaning declaration.now).profile ≡ map.now.profile }
+{
+    declaration.start() == map.start && declaration.profile() == map.profile
+}
+
 /// The proposal with this text, which declares this.
 fn proposed<A: Allocator + Copy>(
     alloc: A,
@@ -192,7 +200,9 @@ fn proposed<A: Allocator + Copy>(
     ensures rises { turns.old.spent ≤ turns.new.spent }
     ensures within { turns.new.spent ≤ turns.new.limit }
 {
-    if declaration.start() != map.start || declaration.profile() != map.profile {
+    let _spent = turns.spent();
+    declaration.is_declared();
+    if !is_asked(&declaration, map) {
         return Err(ProposeFault::Mismatch);
     }
     let verdict = judged(alloc, image, &declaration, turns)?;

@@ -4,7 +4,7 @@ use Rattle.proposer.proofs.propose.Given as goal
 
 abbrev pub invariant-loop-cut : goal.invariant-loop-cut
 invariant-loop-cut g l = record {
-  fits : Fits l.start l.profile l.proposal;
+  fits : Fits l.map.start l.map.profile l.proposal;
   shown : IsShown l.image l.proposal.declaration l.proposal.verdict;
   spent : IsSpentUp l.turns l.proposal.verdict;
   limit : l.turns.limit ≡ l.initial.turns.limit;

@@ -175,7 +175,21 @@ condition_at n =
     (if n == 7 then V7 else (if n == 8 then V8 else (if n == 9 then V9 else (if n == 10 then V10 else (if n == 11 then V12 else (if n == 12 then V11 else (if n == 13 then V4 else V15)))))))))))))
 
 place_of : (v : Condition) → condition_at (place_among v) ≡ v
-place_of _ = refl
+place_of V1 = refl
+place_of V2 = refl
+place_of V3 = refl
+place_of V4 = refl
+place_of V5 = refl
+place_of V6 = refl
+place_of V7 = refl
+place_of V8 = refl
+place_of V9 = refl
+place_of V10 = refl
+place_of V11 = refl
+place_of V12 = refl
+place_of V13 = refl
+place_of V14 = refl
+place_of V15 = refl
 
 same_place : (v u : Condition) → place_among v ≡ place_among u → v ≡ u
 same_place v u e = sym (place_of v) ∙ ap condition_at e ∙ place_of u

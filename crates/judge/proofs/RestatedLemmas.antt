@@ -2,7 +2,7 @@
 use Rattle.std.proofs.Common.{◌≡◌, ℕ, ◌+◌, ◌<◌, ◌≤◌, Bool, true, false, Some, None, List, [], ◌∷◌, refl, sym, ap, ◌∙◌, subst, inl, inr}
 use Rattle.std.specs.Prelude.{if◌then◌else◌}
 use Rattle.instruct.specs.Instructions.{Meaning, Jms, Jmp, meaning_of}
-use Rattle.wordset.specs.Words.{how_many, one, plus, some_below}
+use Rattle.wordset.specs.Words.{one, plus}
 use Rattle.processor.specs.Machine.{State}
 use Rattle.processor.specs.Runs.{IsStart}
 use Rattle.declaration.specs.Declaration.{Routine, Declaration}

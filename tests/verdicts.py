@@ -229,6 +229,8 @@ def main():
     print(f"{count} cases of {len(known)} programs, {clean} accepted and clean, {len(differences)} differences")
     print(", ".join(f"{kind} {times}" for kind, times in sorted(kinds.items())))
     print("\n".join(differences[:20]))
+    if differences:
+        print(f"their files stay in {folder}")
     return 1 if differences else 0
 
 

@@ -23,7 +23,7 @@ lands_some j r a {k} {f} {g} t b inner body there same entails agree =
       λ l. here.1 (l.entails, l.offsets),
     )
 
-lands_alike : (j : Case) (r : Routine) (a : ℕ) {f g : Fact} → Agree f g → LandsAt j r a f → LandsAt j r a g
+pub lands_alike : (j : Case) (r : Routine) (a : ℕ) {f g : Fact} → Agree f g → LandsAt j r a f → LandsAt j r a g
 lands_alike j r a {f} {g} agree l =
     let alike = same_law f g (fact_at j a) (same_fact agree) in
     record { there = l.there; inside = l.inside; entails = alike.left l.entails; offsets = alike.left_offsets l.offsets }

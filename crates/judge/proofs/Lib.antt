@@ -13,3 +13,6 @@ pub mod WordLemmas
 pub mod Worlds
 pub mod ClaimsLemmas
 pub mod VerdictLemmas
+pub mod AgreeingLemmas
+pub mod RestatedLemmas
+pub mod ReadingLemmas

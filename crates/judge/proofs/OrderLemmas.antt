@@ -13,7 +13,7 @@ pub record IsLater (v : Condition) : Type 0 where
   pub low : 1 ≤ place_among v
   pub high : place_among v < 15
 
-start_or_later : (v : Condition) → (v ≡ V1) ⊎ IsLater v
+pub start_or_later : (v : Condition) → (v ≡ V1) ⊎ IsLater v
 start_or_later V1 = inl refl
 start_or_later _ = inr (record { later = refl; low = lit≤ tt; high = lit< tt })
 
@@ -48,7 +48,7 @@ is_valid j s h v a asked = elim (start_or_later v) [
   | inr l ↦ h a (at_line j v a l asked).0 v l.low l.high
 ]
 
-order_of : (v : Condition) (a : ℕ) → IsLater v → order v a ≡ 16 * a + place_among v
+pub order_of : (v : Condition) (a : ℕ) → IsLater v → order v a ≡ 16 * a + place_among v
 order_of v a l = ap (λ b. if b then 0 else 16 * a + place_among v) l.later
 
 -- the first that fails, at an address of a line

@@ -16,7 +16,7 @@ same_body : (j : Case) (a : ℕ) (r q : Routine) → IsDeclared j.declaration �
 same_body j a r q d here there = d.bodies_apart a r q here.body there.body
 
 -- how many words
-many_same : (n : ℕ) (s t : Words) → ((v : ℕ) → v < n → s v ≡ t v) → how_many n s ≡ how_many n t
+pub many_same : (n : ℕ) (s t : Words) → ((v : ℕ) → v < n → s v ≡ t v) → how_many n s ≡ how_many n t
 unfolding how_many
 many_same zero s t h = refl
 many_same (suc n) s t h =

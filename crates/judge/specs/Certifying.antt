@@ -1,18 +1,19 @@
 -- What is certified, and why something isn't.
-use Rattle.std.specs.Prelude.{◌≡◌, ◌≢◌, ℕ, ◌⊎◌, ⊤, Option, List, take}
+use Rattle.std.specs.Prelude.{◌≡◌, ◌≢◌, ℕ, ◌≤◌, ◌⊎◌, ⊤, Option, List, length, take}
 use Rattle.bin_tape.specs.Tape.{IsTape}
 use Rattle.bin_tape.specs.Refuses.{Refuses}
 use Rattle.peripherals.specs.Loading.{image_of}
 use Rattle.declaration.specs.Kept as declared
-use Rattle.declaration.specs.Text.{Declares, Fails}
+use Rattle.declaration.specs.Text.{Declares, Fails, ListsRoutines}
 use Rattle.declaration.specs.Declaration.{Declaration}
 use Rattle.declaration.specs.declared.DeclarationFault.TheVariants as declaration
 use Rattle.certificate.specs.Spelling.{text}
 use Rattle.certificate.specs.Reading.{AreLines}
 use Rattle.certificate.specs.Kept as certified
-use Rattle.certificate.specs.Faults.{HasFault}
+use Rattle.certificate.specs.Faults.{HasFault, most_bytes}
 use Rattle.processor.specs.Runs.{Image}
-use Rattle.judge.specs.Conditions.{Case, IsFirst}
+use Rattle.judge.specs.Conditions.{Case, IsFirst, IsValid}
+use Rattle.judge.specs.declared.judging.Refusal.{Refusal}
 use Rattle.judge.specs.declared.verdict.CertifyFault.{CertifyFault}
 use Rattle.judge.specs.declared.verdict.CertifyFault.TheVariants as fault
 
@@ -38,12 +39,15 @@ case_of p = record { image = words_of p; declaration = declaration_of p; certifi
 abbrev pub IsTapeOf : List ℕ → List (Option ℕ) → Type 0
 IsTapeOf tape image = IsTape (take 65536 tape) image
 
--- The bytes are a tape, the text of a declaration and the text of a certificate, and say this.
+-- The bytes are a tape, the text of a declaration with these routines in its order, and the text of a certificate that
+-- isn't too long, and say this.
 pub record AreRead (tape declaration certificate : List ℕ) (p : Parts) : Type 0 where
   pub is_tape : IsTapeOf tape p.image
   pub declares : Declares declaration (declaration_of p)
+  pub lists : ListsRoutines declaration (declared.routines_of p.declaration)
   pub are_lines : AreLines (certified.meaning p.certificate)
   pub is_text : certificate ≡ text (certified.meaning p.certificate)
+  pub is_short : length certificate ≤ most_bytes
 
 -- The bytes are a tape; they declare something.
 abbrev pub IsSomeTape : List ℕ → Type 0
@@ -52,13 +56,21 @@ IsSomeTape tape = (image : List (Option ℕ)) × IsTapeOf tape image
 abbrev pub DeclaresSomething : List ℕ → Type 0
 DeclaresSomething text = (d : Declaration) × Declares text d
 
+-- The bytes are read as parts of which every condition holds.
+abbrev pub AreValid : (tape declaration certificate : List ℕ) → Type 0
+AreValid t d c = (p : Parts) × AreRead t d c p × IsValid (case_of p)
+
+-- The bytes are read as parts of which this condition is the first that fails.
+abbrev pub FailFirst : (tape declaration certificate : List ℕ) → Refusal → Type 0
+FailFirst t d c r = (p : Parts) × AreRead t d c p × IsFirst (case_of p) r.condition r.address
+
 -- The parts are looked at in the order tape, declaration, certificate, conditions; the first that isn't good refuses, with
 -- its fault. Memory may be wanting for the declaration's list of routines and for the certificate.
 abbrev pub IsRefused : (tape declaration certificate : List ℕ) → CertifyFault → Type 0
 IsRefused t d c (fault.Tape f) = Refuses 65536 t f
 IsRefused t d c (fault.Declaration f) = IsSomeTape t × Fails d f × (f ≢ declaration.NoMemory)
 IsRefused t d c (fault.Certificate f) = IsSomeTape t × DeclaresSomething d × HasFault c f
-IsRefused t d c (fault.Refused r) = (p : Parts) × AreRead t d c p × IsFirst (case_of p) r.condition r.address
+IsRefused t d c (fault.Refused r) = FailFirst t d c r
 IsRefused t d c fault.NoMemory = IsSomeTape t × (Fails d declaration.NoMemory ⊎ DeclaresSomething d)
 
 -- A condition refuses.

@@ -9,12 +9,13 @@ ghost use Rattle.declaration.specs.declared.DeclarationFault.TheVariants as decl
 ghost use Rattle.certificate.specs.declared.Version.{Version};
 ghost use Rattle.certificate.specs.declared.CertificateFault.{CertificateFault as CertificatesFault};
 ghost use Rattle.certificate.specs.Faults.{IsText, HasFault};
+ghost use Rattle.judge.specs.declared.judging.Refusal.{Refusal as Refusals};
 ghost use Rattle.judge.specs.declared.verdict.CertifyFault.TheVariants as fault;
 ghost use Rattle.peripherals.specs.World.{view, profile_of};
 ghost use Rattle.policy.specs.Runs.{IsSafe};
 ghost use Rattle.policy.specs.Watching.{IsClean, LeadsTo, StepPutsOut, begun};
 ghost use Rattle.judge.specs.Conditions.{IsValid};
-ghost use Rattle.judge.specs.Certifying.{AreRead, IsRefused, IsRefusal, IsSomeTape, DeclaresSomething, case_of, declaration_of, words_of};
+ghost use Rattle.judge.specs.Certifying.{AreRead, AreValid, FailFirst, IsRefused, IsRefusal, IsSomeTape, DeclaresSomething, case_of, declaration_of, words_of};
 
 use crate::judging::{Refusal, judge};
 use bin_tape::{Image, TapeFault, read_tape};
@@ -140,6 +141,9 @@ impl<A: Allocator> Certified<A> {
 /// routine's body, writes hit only declared cells, fixed code words never change, each return
 /// reaches a declared place after its own call, halts are declared, and listed reads are kept.
 ///
+/// The bytes alone decide: a yes comes exactly where every condition holds of what they say, and
+/// each fault exactly where it is the first that there is, unless memory is refused.
+///
 /// # Errors
 ///
 /// The first part that isn't good, in the order tape, declaration, certificate and conditions, with
@@ -171,6 +175,13 @@ pub fn certify<A: Allocator + Copy>(
     // Where all three are good only a condition refuses, unless memory is.
     ensures judged { (v : Version) → IsSomeTape tape.now → DeclaresSomething declaration.now →
         IsText v certificate.now → IfErr result (λ g. (g ≡ fault.NoMemory) ⊎ IsRefusal g) }
+    // Whichever condition fails first of three that are good is told, unless memory is refused.
+    ensures refusal_told { (r : Refusals) →
+        FailFirst tape.now declaration.now certificate.now r →
+        IsErrAnd result (λ g. (g ≡ fault.NoMemory) ⊎ (g ≡ fault.Refused r)) }
+    // Where every condition holds the answer is yes, unless memory is refused.
+    ensures valid_told { AreValid tape.now declaration.now certificate.now →
+        IfErr result (λ g. g ≡ fault.NoMemory) }
 {
     let image = match read_tape(tape) {
         Ok(image) => image,

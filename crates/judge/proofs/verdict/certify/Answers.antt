@@ -2,7 +2,9 @@ use Rattle.std.proofs.Common.{◌≢◌, ap, inl, inr, refl, rules}
 use Rattle.declaration.specs.declared.DeclarationFault.TheVariants as declaration_fault
 use Rattle.certificate.specs.declared.CertificateFault.TheVariants as certificate_fault
 use Rattle.judge.specs.declared.verdict.CertifyFault.TheVariants as fault
-use Rattle.judge.proofs.VerdictLemmas.{ok_or_err, same_fault}
+use Rattle.judge.specs.Certifying.{Parts, AreRead, declaration_of}
+use Rattle.judge.proofs.ReadingLemmas.{are_read, first_too, none_fails, one_refusal, read_text, valid_too}
+use Rattle.judge.proofs.VerdictLemmas.{ok_or_err, one_ok, same_fault}
 use Rattle.judge.proofs.verdict.certify.Goals as goal
 
 -- the tape has a fault, so nothing of it can be good
@@ -15,6 +17,12 @@ returns-in-Err-clause-certificate_told g c = λ f tape declares has. absurd (ok_
 
 pub returns-in-Err-clause-judged : goal.returns-in-Err-clause-judged
 returns-in-Err-clause-judged g c = λ v tape declares is. absurd (ok_or_err (c.read_tape.ensures.only tape.0 tape.1) c.in-Err.is)
+
+pub returns-in-Err-clause-refusal_told : goal.returns-in-Err-clause-refusal_told
+returns-in-Err-clause-refusal_told g c = λ r fails. absurd (ok_or_err (c.read_tape.ensures.only fails.0.image fails.1.is_tape) c.in-Err.is)
+
+pub returns-in-Err-clause-valid_told : goal.returns-in-Err-clause-valid_told
+returns-in-Err-clause-valid_told g c = λ valid. absurd (ok_or_err (c.read_tape.ensures.only valid.0.image valid.1.is_tape) c.in-Err.is)
 
 -- the tape was read, so it has no fault
 
@@ -47,6 +55,8 @@ returns-in-Err-parse g c =
       ];
       certificate_told = λ f tape declares has. absurd (other (c.in-Err-parse.ensures.only declares.0 declares.1));
       judged = λ v tape declares is. absurd (other (c.in-Err-parse.ensures.only declares.0 declares.1));
+      refusal_told = λ r fails. absurd (other (c.in-Err-parse.ensures.only (declaration_of fails.0) fails.1.declares));
+      valid_told = λ valid. absurd (other (c.in-Err-parse.ensures.only (declaration_of valid.0) valid.1.declares));
     }
 
 -- the certificate has a fault, which isn't a want of memory
@@ -73,18 +83,43 @@ returns-in-Err-parse-2 g c =
         | inr is ↦ inr (ap fault.Certificate is)
       ];
       judged = λ v tape declares is. absurd (other (c.in-Err-parse-2.ensures.only v is));
+      refusal_told = λ r fails. absurd (other (c.in-Err-parse-2.ensures.only _ (read_text fails.0 fails.1)));
+      valid_told = λ valid. absurd (other (c.in-Err-parse-2.ensures.only _ (read_text valid.0 valid.1)));
     }
+
+-- every condition holds
+
+pub returns-in-Ok-judge-clause-read : goal.returns-in-Ok-judge-clause-read
+returns-in-Ok-judge-clause-read g c =
+    are_read _ c.in-Ok.ensures.tape c.in-Ok-parse.ensures.found c.in-Ok-parse.ensures.routines c.in-Ok-parse-2.ensures.lines c.in-Ok-parse-2.ensures.found c.in-Ok-parse-2.ensures.text
+
+pub returns-in-Ok-judge-clause-refusal_told : goal.returns-in-Ok-judge-clause-refusal_told
+returns-in-Ok-judge-clause-refusal_told g c =
+    let q : Parts = record { image = c.in-Ok.image; declaration = c.in-Ok-parse.declaration; certificate = c.in-Ok-parse-2.certificate } in
+    let read : AreRead c.args.tape.now c.args.declaration.now c.args.certificate.now q =
+    are_read q c.in-Ok.ensures.tape c.in-Ok-parse.ensures.found c.in-Ok-parse.ensures.routines c.in-Ok-parse-2.ensures.lines c.in-Ok-parse-2.ensures.found c.in-Ok-parse-2.ensures.text in
+    λ r fails. absurd (none_fails c.in-Ok-judge.ensures.exact
+    (first_too fails.0 q (one_ok (c.read_tape.ensures.only fails.0.image fails.1.is_tape) c.in-Ok.is) fails.1 read r.condition r.address fails.2))
 
 -- a condition refuses
 
 pub returns-in-Err-judge-clause-refused : goal.returns-in-Err-judge-clause-refused
-returns-in-Err-judge-clause-refused g c = (
-  record { image = c.in-Ok.image; declaration = c.in-Ok-parse.declaration; certificate = c.in-Ok-parse-2.certificate },
-  record {
-    is_tape = c.in-Ok.ensures.tape;
-    declares = c.in-Ok-parse.ensures.found;
-    are_lines = c.in-Ok-parse-2.ensures.lines;
-    is_text = c.in-Ok-parse-2.ensures.found;
-  },
-  c.in-Err-judge.ensures.exact,
-)
+returns-in-Err-judge-clause-refused g c =
+    let q : Parts = record { image = c.in-Ok.image; declaration = c.in-Ok-parse.declaration; certificate = c.in-Ok-parse-2.certificate } in
+    let read : AreRead c.args.tape.now c.args.declaration.now c.args.certificate.now q =
+    are_read q c.in-Ok.ensures.tape c.in-Ok-parse.ensures.found c.in-Ok-parse.ensures.routines c.in-Ok-parse-2.ensures.lines c.in-Ok-parse-2.ensures.found c.in-Ok-parse-2.ensures.text in
+    (q, read, c.in-Err-judge.ensures.exact)
+
+pub returns-in-Err-judge-clause-refusal_told : goal.returns-in-Err-judge-clause-refusal_told
+returns-in-Err-judge-clause-refusal_told g c =
+    let q : Parts = record { image = c.in-Ok.image; declaration = c.in-Ok-parse.declaration; certificate = c.in-Ok-parse-2.certificate } in
+    let read : AreRead c.args.tape.now c.args.declaration.now c.args.certificate.now q =
+    are_read q c.in-Ok.ensures.tape c.in-Ok-parse.ensures.found c.in-Ok-parse.ensures.routines c.in-Ok-parse-2.ensures.lines c.in-Ok-parse-2.ensures.found c.in-Ok-parse-2.ensures.text in
+    λ r fails. inr (ap fault.Refused (one_refusal fails.0 q (one_ok (c.read_tape.ensures.only fails.0.image fails.1.is_tape) c.in-Ok.is) fails.1 read r c.in-Err-judge.refusal fails.2 c.in-Err-judge.ensures.exact))
+
+pub returns-in-Err-judge-clause-valid_told : goal.returns-in-Err-judge-clause-valid_told
+returns-in-Err-judge-clause-valid_told g c =
+    let q : Parts = record { image = c.in-Ok.image; declaration = c.in-Ok-parse.declaration; certificate = c.in-Ok-parse-2.certificate } in
+    let read : AreRead c.args.tape.now c.args.declaration.now c.args.certificate.now q =
+    are_read q c.in-Ok.ensures.tape c.in-Ok-parse.ensures.found c.in-Ok-parse.ensures.routines c.in-Ok-parse-2.ensures.lines c.in-Ok-parse-2.ensures.found c.in-Ok-parse-2.ensures.text in
+    λ valid. absurd (none_fails (valid_too valid.0 q (one_ok (c.read_tape.ensures.only valid.0.image valid.1.is_tape) c.in-Ok.is) valid.1 read valid.2) c.in-Err-judge.ensures.exact)

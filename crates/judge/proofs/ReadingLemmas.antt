@@ -1,0 +1,264 @@
+-- Tape, declaration and certificate are read in one way: whatever parts the bytes have, the same conditions hold of them.
+use Rattle.std.proofs.Common.{◌≡◌, ℕ, ◌+◌, ◌*◌, ◌<◌, ◌≤◌, ◌==◌, Bool, true, false, List, [], ◌∷◌, length, map, Option, Some, None, refl, sym, ap, ◌∙◌, subst, inl, inr, arith}
+use Rattle.std.proofs.Math.Path.{fun_ext}
+use Rattle.std.proofs.lemmas.Bool.{cases_order}
+use Rattle.std.specs.Prelude.{if◌then◌else◌}
+use Rattle.instruct.specs.declared.Profile.{Profile}
+use Rattle.wordset.specs.Words.{Words}
+use Rattle.wordset.specs.Lanes.{words}
+use Rattle.wordset.proofs.SetLemmas.{equal_words, words_past}
+use Rattle.processor.specs.Runs.{Image}
+use Rattle.peripherals.specs.Loading.{image_of}
+use Rattle.declaration.specs.Declaration.{Routine, Declaration}
+use Rattle.declaration.specs.Lines.{Line}
+use Rattle.declaration.specs.Text.{Contents, contents, Says, Declares, ListsRoutines}
+use Rattle.facts.specs.Facts.{Fact}
+use Rattle.facts.specs.declared.Condition.{Condition}
+use Rattle.facts.specs.declared.Condition.TheVariants.{V1, V2, V3, V4, V5, V6, V7, V8, V9, V10, V11, V12, V13, V14, V15}
+use Rattle.certificate.specs.declared.line.Line.{Line as CertificateLine}
+use Rattle.certificate.specs.declared.line.Line.TheVariants as kept
+use Rattle.certificate.specs.Exact.{SameLines, SameCertificate}
+use Rattle.certificate.specs.Faults.{IsText, most_bytes}
+use Rattle.certificate.specs.Gathered.{routines_of}
+use Rattle.certificate.specs.Kept as certified
+use Rattle.certificate.specs.Meaning.{said}
+use Rattle.certificate.specs.Reading.{AreLines, sites_in, writes_in}
+use Rattle.certificate.specs.Spelling.{text}
+use Rattle.certificate.specs.declared.Version.{Version}
+use Rattle.certificate.proofs.FromOrderLemmas.{reading_law}
+use Rattle.certificate.proofs.SameMeaningLemmas.{meaning_law}
+use Rattle.certificate.proofs.SameTextLemmas.{spelling_law}
+use Rattle.judge.specs.Conditions.{Case, HoldsAt, IsAsked, IsFirst, IsValid, is_first_condition, order, place_among}
+use Rattle.judge.specs.Certifying.{Parts, AreRead, IsTapeOf, case_of, declaration_of}
+use Rattle.judge.specs.declared.judging.Refusal.{Refusal}
+use Rattle.judge.proofs.OrderLemmas.{IsLater, start_or_later, order_of}
+use Rattle.judge.proofs.RestatedLemmas.{Restates, restated, asked_as_to, holds_to}
+
+-- ---- a text declares one declaration
+
+all_some : (xs ys : List Line) → map Some xs ≡ map Some ys → xs ≡ ys
+all_some [] [] e = refl
+all_some [] (y ∷ ys) e = absurd (cc)
+all_some (x ∷ xs) [] e = absurd (cc)
+all_some (x ∷ xs) (y ∷ ys) e =
+    let here : x ≡ y = cc in
+    let others : map Some xs ≡ map Some ys = cc in
+    let rest : xs ≡ ys = all_some xs ys others in
+    cc
+
+abbrev declared : ℕ → (Routine → Words) → Words → (ℕ → Words) → Words → Words → Words → Profile → Option Words → Declaration
+declared s b e o v t u p q = record { start = s; body = b; entry = e; offset = o; variable = v; stop = t; pause = u; profile = p; reads = q }
+
+same_declared : {s s' : ℕ} {b b' : Routine → Words} {e e' : Words} {o o' : ℕ → Words} {v v' t t' u u' : Words} {p p' : Profile} {q q' : Option Words}
+    → s ≡ s' → b ≡ b' → e ≡ e' → o ≡ o' → v ≡ v' → t ≡ t' → u ≡ u' → p ≡ p' → q ≡ q' → declared s b e o v t u p q ≡ declared s' b' e' o' v' t' u' p' q'
+same_declared es eb ee eo ev et eu ep eq = rw (es, eb, ee, eo, ev, et, eu, ep, eq) refl
+
+one_start : {s t : ℕ} {xs : List ℕ} → xs ≡ s ∷ [] → xs ≡ t ∷ [] → s ≡ t
+one_start e h = cc
+
+says_one : (c : Contents) (d e : Declaration) → Says c d → Says c e → d ≡ e
+says_one c d e s t =
+    let start : d.start ≡ e.start = one_start s.start t.start in
+    let body : d.body ≡ e.body = fun_ext (λ r. bodies r) in
+    let entry : d.entry ≡ e.entry = fun_ext (λ a. s.entry a ∙ sym (t.entry a)) in
+    let offset : d.offset ≡ e.offset = fun_ext (λ a. offsets a) in
+    let variable : d.variable ≡ e.variable = s.variable ∙ sym t.variable in
+    let stop : d.stop ≡ e.stop = s.stop ∙ sym t.stop in
+    let pause : d.pause ≡ e.pause = s.pause ∙ sym t.pause in
+    let profile : d.profile ≡ e.profile = s.profile ∙ sym t.profile in
+    let reads : d.reads ≡ e.reads = s.reads ∙ sym t.reads in
+    let all : declared d.start d.body d.entry d.offset d.variable d.stop d.pause d.profile d.reads ≡ declared e.start e.body e.entry e.offset e.variable e.stop e.pause e.profile e.reads =
+    same_declared start body entry offset variable stop pause profile reads in
+    all
+  where
+    bodies : (r : Routine) → d.body r ≡ e.body r
+    bodies None = s.main ∙ sym t.main
+    bodies (Some q) = fun_ext (λ a. s.body q a ∙ sym (t.body q a))
+
+    offsets : (a : ℕ) → d.offset a ≡ e.offset a
+    offsets a = fun_ext (λ o. s.offset a o ∙ sym (t.offset a o))
+
+pub one_declaration : (bytes : List ℕ) (d e : Declaration) → Declares bytes d → Declares bytes e → d ≡ e
+one_declaration bytes d e s t =
+    let lines : s.lines ≡ t.lines = all_some s.lines t.lines (sym s.good.good.say ∙ t.good.good.say) in
+    says_one (contents t.lines) d e (subst (λ (ls : List Line). Says (contents ls) d) lines s.says) t.says
+
+-- ---- a text claims one certificate, but that facts have the same words alone
+
+-- sets that are kept by lanes have no number past the last word
+either_past : (b : Bool) (s t : Words) (v : ℕ) → s v ≡ false → t v ≡ false → (let x : Words = if b then s else t in x v ≡ false)
+either_past true s t v e f = e
+either_past false s t v e f = f
+
+sites_past : (ls : List CertificateLine) (e v : ℕ) → 4096 ≤ v → sites_in (routines_of (map said ls)) e v ≡ false
+sites_past [] e v h = refl
+sites_past (kept.Routine r ∷ ls) e v h = either_past (r.entry == e) (words r.sites) (sites_in (routines_of (map said ls)) e) v (words_past r.sites v h) (sites_past ls e v h)
+sites_past (kept.Fact a r offsets ∷ ls) e v h = sites_past ls e v h
+sites_past (kept.Exit x o r ∷ ls) e v h = sites_past ls e v h
+sites_past (kept.Cell c ∷ ls) e v h = sites_past ls e v h
+sites_past (kept.Equation q ∷ ls) e v h = sites_past ls e v h
+sites_past (kept.End ∷ ls) e v h = sites_past ls e v h
+
+writes_past : (ls : List CertificateLine) (e v : ℕ) → 4096 ≤ v → writes_in (routines_of (map said ls)) e v ≡ false
+writes_past [] e v h = refl
+writes_past (kept.Routine r ∷ ls) e v h = either_past (r.entry == e) (words r.writes) (writes_in (routines_of (map said ls)) e) v (words_past r.writes v h) (writes_past ls e v h)
+writes_past (kept.Fact a r offsets ∷ ls) e v h = writes_past ls e v h
+writes_past (kept.Exit x o r ∷ ls) e v h = writes_past ls e v h
+writes_past (kept.Cell c ∷ ls) e v h = writes_past ls e v h
+writes_past (kept.Equation q ∷ ls) e v h = writes_past ls e v h
+writes_past (kept.End ∷ ls) e v h = writes_past ls e v h
+
+abbrev judged : Image → Declaration → Words → (ℕ → ℕ) → (ℕ → Words) → (ℕ → Words) → Words → (ℕ → Fact) → (ℕ → Words) → (ℕ → ℕ → Fact) → Case
+judged i d l r s w h f x g = record {
+  image = i;
+  declaration = d;
+  certificate = record { listed = l; rank = r; sites = s; writes = w; has_fact = h; fact = f; has_exit = x; exit = g };
+}
+
+same_judged : {i i' : Image} {d d' : Declaration} {l l' : Words} {r r' : ℕ → ℕ} {s s' w w' : ℕ → Words} {h h' : Words} {x x' : ℕ → Words} (f : ℕ → Fact) (g : ℕ → ℕ → Fact)
+    → i ≡ i' → d ≡ d' → l ≡ l' → r ≡ r' → s ≡ s' → w ≡ w' → h ≡ h' → x ≡ x' → judged i d l r s w h f x g ≡ judged i' d' l' r' s' w' h' f x' g
+same_judged f g ei ed el er es ew eh ex = rw (ei, ed, el, er, es, ew, eh, ex) refl
+
+-- ---- so what is judged is one but for facts that agree
+
+same_certificate : {t d c : List ℕ} (p q : Parts) → AreRead t d c p → AreRead t d c q → SameCertificate (certified.claims p.certificate) (certified.claims q.certificate)
+same_certificate p q one other =
+    let lines : SameLines (certified.meaning p.certificate) (certified.meaning q.certificate) =
+    spelling_law.lines (certified.meaning p.certificate) (certified.meaning q.certificate) one.are_lines other.are_lines (sym one.is_text ∙ other.is_text) in
+    meaning_law (certified.meaning p.certificate) (certified.meaning q.certificate) lines
+
+restates : {t d c : List ℕ} (p q : Parts) → AreRead t d c p → AreRead t d c q → Restates (case_of p) (certified.claims q.certificate).fact (certified.claims q.certificate).exit
+restates p q one other = let same = same_certificate p q one other in record { facts = same.fact; exits = same.exit }
+
+restated_is : {t d c : List ℕ} (p q : Parts) → p.image ≡ q.image → AreRead t d c p → AreRead t d c q →
+    restated (case_of p) (certified.claims q.certificate).fact (certified.claims q.certificate).exit ≡ case_of q
+restated_is {t} {d} {c} p q image one other =
+    let same = same_certificate p q one other in
+    let at : image_of p.image ≡ image_of q.image = ap image_of image in
+    let promised : declaration_of p ≡ declaration_of q = one_declaration d (declaration_of p) (declaration_of q) one.declares other.declares in
+    let listed : (certified.claims p.certificate).listed ≡ (certified.claims q.certificate).listed = fun_ext (λ e. same.listed e) in
+    let rank : (certified.claims p.certificate).rank ≡ (certified.claims q.certificate).rank = fun_ext (λ e. same.rank e) in
+    let sites : (certified.claims p.certificate).sites ≡ (certified.claims q.certificate).sites =
+    fun_ext (λ e. equal_words ((certified.claims p.certificate).sites e) ((certified.claims q.certificate).sites e) (sites_past p.certificate.lines e) (sites_past q.certificate.lines e) (same.sites e)) in
+    let writes : (certified.claims p.certificate).writes ≡ (certified.claims q.certificate).writes =
+    fun_ext (λ e. equal_words ((certified.claims p.certificate).writes e) ((certified.claims q.certificate).writes e) (writes_past p.certificate.lines e) (writes_past q.certificate.lines e) (same.writes e)) in
+    let there : (certified.claims p.certificate).has_fact ≡ (certified.claims q.certificate).has_fact = fun_ext (λ a. same.has_fact a) in
+    let exits : (certified.claims p.certificate).has_exit ≡ (certified.claims q.certificate).has_exit = fun_ext (λ e. fun_ext (λ o. same.has_exit e o)) in
+    same_judged (certified.claims q.certificate).fact (certified.claims q.certificate).exit at promised listed rank sites writes there exits
+
+holds_too : {t d c : List ℕ} (p q : Parts) → p.image ≡ q.image → AreRead t d c p → AreRead t d c q → (v : Condition) (a : ℕ) → HoldsAt (case_of p) v a → HoldsAt (case_of q) v a
+holds_too p q image one other v a h =
+    subst (λ j. HoldsAt j v a) (restated_is p q image one other)
+    (holds_to (case_of p) (certified.claims q.certificate).fact (certified.claims q.certificate).exit (restates p q one other) v a h)
+
+asked_too : {t d c : List ℕ} (p q : Parts) → p.image ≡ q.image → AreRead t d c p → AreRead t d c q → (v : Condition) (a : ℕ) → IsAsked (case_of p) v a → IsAsked (case_of q) v a
+asked_too p q image one other v a h =
+    subst (λ j. IsAsked j v a) (restated_is p q image one other)
+    (asked_as_to (case_of p) (certified.claims q.certificate).fact (certified.claims q.certificate).exit (is_first_condition v) a h)
+
+pub valid_too : {t d c : List ℕ} (p q : Parts) → p.image ≡ q.image → AreRead t d c p → AreRead t d c q → IsValid (case_of p) → IsValid (case_of q)
+valid_too p q image one other valid v a asked = holds_too p q image one other v a (valid v a (asked_too q p (sym image) other one v a asked))
+
+pub first_too : {t d c : List ℕ} (p q : Parts) → p.image ≡ q.image → AreRead t d c p → AreRead t d c q → (v : Condition) (a : ℕ) → IsFirst (case_of p) v a → IsFirst (case_of q) v a
+first_too p q image one other v a first = record {
+  asked = asked_too p q image one other v a first.asked;
+  fails = λ h. first.fails (holds_too q p (sym image) other one v a h);
+  before = λ u b asked less. holds_too p q image one other u b (first.before u b (asked_too q p (sym image) other one u b asked) less);
+}
+
+-- ---- one condition is the first
+
+-- the condition that has a place among those at one address
+abbrev condition_at : ℕ → Condition
+condition_at n =
+    if n == 0 then V1 else (if n == 1 then V2 else (if n == 2 then V3 else (if n == 3 then V5 else (if n == 4 then V14 else (if n == 5 then V6 else (if n == 6 then V13 else
+    (if n == 7 then V7 else (if n == 8 then V8 else (if n == 9 then V9 else (if n == 10 then V10 else (if n == 11 then V12 else (if n == 12 then V11 else (if n == 13 then V4 else V15)))))))))))))
+
+place_of : (v : Condition) → condition_at (place_among v) ≡ v
+place_of V1 = refl
+place_of V2 = refl
+place_of V3 = refl
+place_of V4 = refl
+place_of V5 = refl
+place_of V6 = refl
+place_of V7 = refl
+place_of V8 = refl
+place_of V9 = refl
+place_of V10 = refl
+place_of V11 = refl
+place_of V12 = refl
+place_of V13 = refl
+place_of V14 = refl
+place_of V15 = refl
+
+same_place : (v u : Condition) → place_among v ≡ place_among u → v ≡ u
+same_place v u e = sym (place_of v) ∙ ap condition_at e ∙ place_of u
+
+at_start : (j : Case) (v : Condition) (a : ℕ) → v ≡ V1 → IsAsked j v a → a ≡ j.declaration.start
+at_start j v a e asked = subst (λ x. IsAsked j x a) e asked
+
+start_before : (v u : Condition) (a b : ℕ) → v ≡ V1 → IsLater u → order v a ≡ order u b → ⊥
+start_before v u a b e l same =
+    let zero : order v a ≡ 0 = ap (λ x. order x a) e in
+    let sum : 0 ≡ 16 * b + place_among u = sym zero ∙ (same ∙ order_of u b l) in
+    let low : 1 ≤ place_among u = l.low in
+    absurd (omega (arith, sum, low))
+
+later_order : (v u : Condition) (a b : ℕ) → IsLater v → IsLater u → order v a ≡ order u b → (v ≡ u) × (a ≡ b)
+later_order v u a b l m same =
+    let sum : 16 * a + place_among v ≡ 16 * b + place_among u = sym (order_of v a l) ∙ (same ∙ order_of u b m) in
+    let high : place_among v < 15 = l.high in
+    let also : place_among u < 15 = m.high in
+    let place : place_among v ≡ place_among u = omega (arith, sum, high, also) in
+    let address : a ≡ b = omega (arith, sum, high, also) in
+    (same_place v u place, address)
+
+one_order : (j : Case) (v u : Condition) (a b : ℕ) → IsAsked j v a → IsAsked j u b → order v a ≡ order u b → (v ≡ u) × (a ≡ b)
+one_order j v u a b asked also same = elim (start_or_later v) [
+  | inl e ↦ elim (start_or_later u) [
+    | inl k ↦ (e ∙ sym k, at_start j v a e asked ∙ sym (at_start j u b k also))
+    | inr l ↦ absurd (start_before v u a b e l same)
+  ]
+  | inr l ↦ elim (start_or_later u) [
+    | inl k ↦ absurd (start_before u v b a k l (sym same))
+    | inr m ↦ later_order v u a b l m same
+  ]
+]
+
+one_first : (j : Case) (v u : Condition) (a b : ℕ) → IsFirst j v a → IsFirst j u b → (v ≡ u) × (a ≡ b)
+one_first j v u a b f g = elim (cases_order (order v a) (order u b)) [
+  | inl same ↦ one_order j v u a b f.asked g.asked same
+  | inr differ ↦ elim differ [
+    | inl less ↦ absurd (f.fails (g.before v a f.asked less))
+    | inr more ↦ absurd (g.fails (f.before u b g.asked more))
+  ]
+]
+
+abbrev refusal : Condition → ℕ → Refusal
+refusal v a = record { condition = v; address = a }
+
+same_refusal : {v u : Condition} {a b : ℕ} → v ≡ u → a ≡ b → refusal v a ≡ refusal u b
+same_refusal e k = rw (e, k) refl
+
+pub one_refusal : {t d c : List ℕ} (p q : Parts) → p.image ≡ q.image → AreRead t d c p → AreRead t d c q → (r s : Refusal) →
+    IsFirst (case_of p) r.condition r.address → IsFirst (case_of q) s.condition s.address → s ≡ r
+one_refusal p q image one other r s first found =
+    let same : (s.condition ≡ r.condition) × (s.address ≡ r.address) =
+    one_first (case_of q) s.condition r.condition s.address r.address found (first_too p q image one other r.condition r.address first) in
+    let whole : refusal s.condition s.address ≡ refusal r.condition r.address = same_refusal same.0 same.1 in
+    whole
+
+-- no first condition fails where all hold
+pub none_fails : {j : Case} {v : Condition} {a : ℕ} → IsValid j → IsFirst j v a → ⊥
+none_fails {j} {v} {a} valid first = first.fails (valid v a first.asked)
+
+-- ---- the parts that are read, and that the certificate's text is one
+
+pub are_read : {t d c : List ℕ} {v : Version} (p : Parts) → IsTapeOf t p.image → Declares d (declaration_of p) → ListsRoutines d p.declaration.routines →
+    AreLines (certified.meaning p.certificate) → c ≡ text (certified.meaning p.certificate) → IsText v c → AreRead t d c p
+are_read p tape declares lists lines spelled read = record { is_tape = tape; declares = declares; lists = lists; are_lines = lines; is_text = spelled; is_short = read.few }
+
+pub read_text : {t d c : List ℕ} (p : Parts) → AreRead t d c p → IsText (certified.meaning p.certificate).version c
+read_text p one =
+    subst (λ bytes. IsText (certified.meaning p.certificate).version bytes) (sym one.is_text)
+    (reading_law.text (certified.meaning p.certificate) one.are_lines (subst (λ bytes. length bytes ≤ most_bytes) one.is_text one.is_short))

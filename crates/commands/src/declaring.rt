@@ -115,7 +115,7 @@ fn remarked<A: Allocator + Copy>(
     proposal: &Proposal<A>,
     options: DeclareOptions,
 ) -> Result<Vec<u8, A>, Fault>
-    requires { Declares proposal.now.text.items (meaning proposal.now.declaration) }
+    requires text { Declares proposal.now.text.items (meaning proposal.now.declaration) }
     requires start { (meaning proposal.now.declaration).start ≡ options.start }
     requires profile { (meaning proposal.now.declaration).profile ≡ options.profile }
     ensures declares { IfOk result (λ text. IsDeclarationFor options text.items) }

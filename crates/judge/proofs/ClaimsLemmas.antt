@@ -1,5 +1,5 @@
 -- What a certificate says of a routine that it doesn't list.
-use Rattle.std.proofs.Common.{◌≡◌, ℕ, ◌==◌, Bool, true, false, Option, Some, None, List, [], ◌∷◌, refl, sym, ◌∙◌}
+use Rattle.std.proofs.Common.{◌≡◌, ℕ, ◌==◌, Bool, true, false, Option, Some, None, List, [], ◌∷◌, refl, sym}
 use Rattle.std.specs.Prelude.{if◌then◌else◌, is_some, IfNone}
 use Rattle.wordset.specs.Words.{nothing}
 use Rattle.certificate.specs.Spelling.{RoutineLine}

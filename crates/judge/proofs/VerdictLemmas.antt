@@ -1,9 +1,7 @@
 -- Certified programs are safe, and their runs legal.
-use Rattle.std.proofs.Common.{◌≡◌, List, Result, Ok, Err, sym, ap, ◌∙◌}
+use Rattle.std.proofs.Common.{◌≡◌, Result, Ok, Err, sym, ap, ◌∙◌}
 use Rattle.std.specs.Prelude.{is_err}
 use Rattle.std.proofs.lemmas.Bool.{false≢true}
-use Rattle.peripherals.specs.declared.Event.{Event}
-use Rattle.peripherals.specs.Devices.{WorldState}
 use Rattle.declaration.specs.Declaration.{IsDeclared}
 use Rattle.policy.specs.Runs.{IsSafe}
 use Rattle.judge.specs.Conditions.{IsValid}

@@ -1,4 +1,4 @@
-use Rattle.certificate.specs.Kept.{meaning, claims}
+use Rattle.certificate.specs.Kept.{meaning}
 use Rattle.judge.proofs.ClaimsLemmas.{unlisted, none_found}
 use Rattle.judge.proofs.claims.CertificateClaims.routine.Goals as goal
 

@@ -24,7 +24,7 @@ KINDS = {
                    '|TooMany|HaltNotInBody [0-7]{4}',
     'certificate': 'Version|BadLine \\d+|Order \\d+|TooMany',
     'events': 'BadLine \\d+|TooMany',
-    'guess': 'TurnsSpent|Stuck [0-7]{4}',
+    'guess': 'TurnsSpent|TooLong|Stuck [0-7]{4}',
 }
 FAULT = re.compile('pdp8: (?:%s)\n' % '|'.join(f'{kind}: (?:{names})' for kind, names in KINDS.items()))
 SUMMARY = re.compile(r'(HALT|UNSUPPORTED|BOUND) [0-7]{4} AC=[0-7]{4} L=[01] PC=[0-7]{4} STEPS=\d+\n(PRINTED( [0-7]{3})+\n)?(PUNCHED( [0-7]{3})+\n)?')

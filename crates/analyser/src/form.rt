@@ -63,7 +63,7 @@ fn are_oriented(equations: &[Equation]) -> bool
 }
 
 /// Whether equations rise.
-fn equations_rise(equations: &[Equation]) -> bool
+pub(crate) fn equations_rise(equations: &[Equation]) -> bool
     ensures { result ≡ true →
         RiseFrom 0 (map place_of_equation (map equation_of equations.now)) }
 {

@@ -70,138 +70,17 @@ fn fulfils(left: Option<Word>, right: Option<Word>, more: Word) -> bool {
     }
 }
 
-/// Whether an equation is one of a list.
-fn lists(equations: &[Equation], equation: &Equation) -> bool {
-    for known in equations {
-        if *known == *equation {
-            return true;
-        }
-    }
-    false
+/// What became of cells: whether one has more words, and whether one may hold any word now.
+#[derive(Clone, Copy)]
+struct Growth {
+    grew: bool,
+    lost: bool,
 }
 
-/// Whether an equation is known.
-fn says(known: &Known<'_>, equation: &Equation) -> bool {
-    if lists(known.equations(), equation) {
-        return true;
-    }
-    let left = known.narrowed(&equation.left).only();
-    let right = known.narrowed(&Name::Cell(equation.right)).only();
-    fulfils(left, right, equation.more)
-}
-
-/// Whether both sides of an equation have one word.
-fn has_one_word_each(known: &Known<'_>, equation: &Equation) -> bool {
-    known.narrowed(&equation.left).only().is_some()
-        && known.narrowed(&Name::Cell(equation.right)).only().is_some()
-}
-
-impl<A: Allocator + Copy> Kept<A> {
-    /// What this and something else that is known say both.
-    pub(crate) fn joined(
-        &self,
-        alloc: A,
-        known: &Known<'_>,
-        limits: &Limits,
-        pace: Pace,
-    ) -> Result<Kept<A>, Halt> {
-        let mut kept = Kept::bare(alloc, known);
-        let ac = self.ac.union(&kept.ac);
-        kept.growths = self.growths;
-        if ac != self.ac {
-            kept.growths = self.growths.saturating_add(1);
-        }
-        kept.ac = if ac == self.ac {
-            ac
-        } else {
-            widened(&self.ac, &ac, kept.growths, false, limits, pace)
-        };
-        kept.mq = self.mq.union(&kept.mq);
-        kept.link = self.link.union(kept.link);
-        kept.offsets = joined_offsets(self.offsets, kept.offsets);
-        kept.join_cells(&self.cells, known, limits, pace)?;
-        kept.join_equations(&self.equations, known)?;
-        kept.add_shown(self, known)?;
-        kept.add_kept(self, alloc, known)?;
-        Ok(kept)
-    }
-
-    /// Adds each cell with its words and those that it may hold now.
-    fn join_cells(
-        &mut self,
-        cells: &[Line],
-        known: &Known<'_>,
-        limits: &Limits,
-        pace: Pace,
-    ) -> Result<(), Halt> {
-        for line in cells {
-            let cell = line.tracked.cell;
-            let old = line.tracked.set;
-            let set = old.union(&left_to(known, &Name::Cell(cell)));
-            if set == old {
-                self.track(cell, old, line.growths)?;
-            } else {
-                let growths = line.growths.saturating_add(1);
-                let counted = limits.counted.contains(cell);
-                let wide = widened(&old, &set, growths, counted, limits, pace);
-                self.track(cell, wide, growths)?;
-            }
-        }
-        Ok(())
-    }
-
-    /// Adds those equations that are known.
-    fn join_equations(&mut self, equations: &[Equation], known: &Known<'_>) -> Result<(), Halt> {
-        for equation in equations {
-            if says(known, equation) {
-                self.relate(*equation)?;
-            }
-        }
-        Ok(())
-    }
-
-    /// Adds those equations that are known now and that the words before fulfil, where not both sides
-    /// have one word still.
-    fn add_shown(&mut self, old: &Kept<A>, known: &Known<'_>) -> Result<(), Halt> {
-        for equation in known.equations() {
-            let left = old.set(&equation.left).only();
-            let right = old.set(&Name::Cell(equation.right)).only();
-            if fulfils(left, right, equation.more) && !has_one_word_each(known, equation) {
-                self.relate(*equation)?;
-            }
-        }
-        Ok(())
-    }
-
-    /// Adds the equations between names that moved by the same.
-    fn add_kept(&mut self, old: &Kept<A>, alloc: A, known: &Known<'_>) -> Result<(), Halt> {
-        let moved = old.moved(alloc, known)?;
-        for left in &moved {
-            self.add_kept_of(left, &moved)?;
-        }
-        Ok(())
-    }
-
-    /// Adds the equations between one name that moved and others that moved by the same.
-    fn add_kept_of(&mut self, left: &Moved, moved: &[Moved]) -> Result<(), Halt> {
-        for right in moved {
-            if let Some(equation) = kept_between(left, right) {
-                self.relate(equation)?;
-            }
-        }
-        Ok(())
-    }
-
-    /// The names that had one word and have another now.
-    fn moved(&self, alloc: A, known: &Known<'_>) -> Result<Vec<Moved, A>, Halt> {
-        let mut moved = Vec::new(alloc);
-        add_moved(&mut moved, Name::Accumulator, &self.ac, known)?;
-        for line in &self.cells {
-            let name = Name::Cell(line.tracked.cell);
-            add_moved(&mut moved, name, &line.tracked.set, known)?;
-        }
-        Ok(moved)
-    }
+/// Whether the equations leave a cell no word outside a set; a set that isn't narrowed is tried first.
+fn is_within(known: &Known<'_>, cell: Word, set: &WordSet) -> bool {
+    let name = Name::Cell(cell);
+    known.set(&name).is_subset(set) || known.narrowed(&name).is_subset(set)
 }
 
 /// Adds a name if it had one word and has another now.
@@ -217,9 +96,6 @@ fn add_moved<A: Allocator>(
     let Some(after) = known.narrowed(&name).only() else {
         return Ok(());
     };
-    if before == after {
-        return Ok(());
-    }
     let Ok(()) = moved.push(Moved {
         name,
         before,
@@ -230,41 +106,189 @@ fn add_moved<A: Allocator>(
     Ok(())
 }
 
-/// Whether two lists of cells say the same.
-fn are_same_cells(a: &[Line], b: &[Line]) -> bool {
-    if a.len() != b.len() {
-        return false;
-    }
-    for (x, y) in a.iter().zip(b) {
-        if x.tracked != y.tracked {
-            return false;
+/// Joins the words that a cell may hold now to those of its line.
+fn grow(line: &mut Line, known: &Known<'_>, limits: &Limits, pace: Pace) {
+    let cell = line.tracked.cell;
+    let old = line.tracked.set;
+    let set = old.union(&left_to(known, &Name::Cell(cell)));
+    let growths = line.growths.saturating_add(1);
+    let counted = limits.counted.contains(cell);
+    line.tracked.set = widened(&old, &set, growths, counted, limits, pace);
+    line.growths = growths;
+}
+
+/// Joins to each line the words that its cell may hold now, and gathers the cells that moved.
+fn grow_all<A: Allocator>(
+    cells: &mut [Line],
+    known: &Known<'_>,
+    limits: &Limits,
+    pace: Pace,
+    moved: &mut Vec<Moved, A>,
+) -> Result<Growth, Halt> {
+    let mut growth = Growth {
+        grew: false,
+        lost: false,
+    };
+    for line in cells {
+        let cell = line.tracked.cell;
+        if !is_within(known, cell, &line.tracked.set) {
+            add_moved(moved, Name::Cell(cell), &line.tracked.set, known)?;
+            grow(line, known, limits, pace);
+            growth.grew = true;
+            if line.tracked.set.is_all() {
+                growth.lost = true;
+            }
         }
     }
-    true
+    Ok(growth)
+}
+
+impl<A: Allocator + Copy> Kept<A> {
+    /// Joins something else that is known: what both say is left. Tells whether less is said than
+    /// before.
+    pub(crate) fn join(
+        &mut self,
+        alloc: A,
+        known: &Known<'_>,
+        limits: &Limits,
+        pace: Pace,
+    ) -> Result<bool, Halt> {
+        let mut moved = Vec::new(alloc);
+        let dropped = self.drop_equations(alloc, known)?;
+        self.add_shown(known)?;
+        let registers = self.join_registers(known, limits, pace, &mut moved)?;
+        let growth = grow_all(&mut self.cells, known, limits, pace, &mut moved)?;
+        if growth.lost {
+            self.drop_cells(alloc)?;
+        }
+        self.add_kept(&moved)?;
+        Ok(dropped || registers || growth.grew)
+    }
+
+    /// Drops the equations that aren't known, and tells whether there was one.
+    fn drop_equations(&mut self, alloc: A, known: &Known<'_>) -> Result<bool, Halt> {
+        if self.knows_all(known) {
+            return Ok(false);
+        }
+        let mut left = Vec::new(alloc);
+        for equation in &self.equations {
+            if known.knows(equation) {
+                let Ok(()) = left.push(*equation) else {
+                    return Err(Halt::NoMemory);
+                };
+            }
+        }
+        self.equations = left;
+        Ok(true)
+    }
+
+    /// Drops the cells that may hold any word.
+    fn drop_cells(&mut self, alloc: A) -> Result<(), Halt> {
+        let mut left = Vec::new(alloc);
+        for line in &self.cells {
+            if !line.tracked.set.is_all() {
+                let Ok(()) = left.push(*line) else {
+                    return Err(Halt::NoMemory);
+                };
+            }
+        }
+        self.cells = left;
+        Ok(())
+    }
 }
 
 impl<A: Allocator> Kept<A> {
-    /// Whether another says the same.
-    pub(crate) fn is_same(&self, other: &Kept<A>) -> bool {
-        if self.ac != other.ac || self.mq != other.mq || self.link != other.link {
-            return false;
+    /// Whether all equations are known.
+    fn knows_all(&self, known: &Known<'_>) -> bool {
+        for equation in &self.equations {
+            if !known.knows(equation) {
+                return false;
+            }
         }
-        if self.offsets != other.offsets || !are_same_cells(&self.cells, &other.cells) {
-            return false;
-        }
-        are_same_equations(&self.equations, &other.equations)
+        true
     }
-}
 
-/// Whether two lists of equations are the same.
-fn are_same_equations(a: &[Equation], b: &[Equation]) -> bool {
-    if a.len() != b.len() {
-        return false;
+    /// Joins the registers and the offsets, and tells whether one grew.
+    fn join_registers(
+        &mut self,
+        known: &Known<'_>,
+        limits: &Limits,
+        pace: Pace,
+        moved: &mut Vec<Moved, A>,
+    ) -> Result<bool, Halt> {
+        let grew = !self.covers_registers(known);
+        self.mq = self.mq.union(known.mq());
+        self.link = self.link.union(known.link());
+        self.offsets = joined_offsets(self.offsets, known.offsets());
+        if self.covers_accumulator(known) {
+            return Ok(grew);
+        }
+        add_moved(moved, Name::Accumulator, &self.ac, known)?;
+        let set = self.ac.union(&left_to(known, &Name::Accumulator));
+        self.growths = self.growths.saturating_add(1);
+        self.ac = widened(&self.ac, &set, self.growths, false, limits, pace);
+        Ok(true)
     }
-    for equation in a {
-        if !lists(b, equation) {
-            return false;
+
+    /// Whether MQ, the link and the offsets have no others.
+    fn covers_registers(&self, known: &Known<'_>) -> bool {
+        known.mq().is_subset(&self.mq)
+            && known.link().is_subset(self.link)
+            && known.offsets().is_subset(self.offsets)
+    }
+
+    /// Whether the accumulator has no other words.
+    fn covers_accumulator(&self, known: &Known<'_>) -> bool {
+        known.accumulator().is_subset(&self.ac)
+            || known.narrowed(&Name::Accumulator).is_subset(&self.ac)
+    }
+
+    /// Whether a name that has one word has no other one now.
+    fn stays(&self, name: &Name, known: &Known<'_>) -> bool {
+        match name {
+            Name::Accumulator => self.covers_accumulator(known),
+            Name::Cell(cell) => is_within(known, *cell, &self.set(name)),
         }
     }
-    true
+
+    /// Adds those equations that are known now and that the words before fulfil, where not both sides
+    /// keep their one word.
+    fn add_shown(&mut self, known: &Known<'_>) -> Result<(), Halt> {
+        for equation in known.equations() {
+            if self.shows(equation) && !self.keeps_both(equation, known) {
+                self.relate(*equation)?;
+            }
+        }
+        Ok(())
+    }
+
+    /// Whether both sides of an equation have one word, and they fulfil it.
+    fn shows(&self, equation: &Equation) -> bool {
+        let left = self.only(&equation.left);
+        let right = self.only(&Name::Cell(equation.right));
+        fulfils(left, right, equation.more)
+    }
+
+    /// Whether both sides of an equation, which have one word each, have no other one now.
+    fn keeps_both(&self, equation: &Equation, known: &Known<'_>) -> bool {
+        self.stays(&equation.left, known) && self.stays(&Name::Cell(equation.right), known)
+    }
+
+    /// Adds the equations between names that moved by the same.
+    fn add_kept(&mut self, moved: &[Moved]) -> Result<(), Halt> {
+        for left in moved {
+            self.add_kept_of(left, moved)?;
+        }
+        Ok(())
+    }
+
+    /// Adds the equations between one name that moved and others that moved by the same.
+    fn add_kept_of(&mut self, left: &Moved, moved: &[Moved]) -> Result<(), Halt> {
+        for right in moved {
+            if let Some(equation) = kept_between(left, right) {
+                self.relate(equation)?;
+            }
+        }
+        Ok(())
+    }
 }

@@ -145,35 +145,11 @@ impl<A: Allocator + Copy> Kept<A> {
     /// Adds the equations between tracked cells.
     fn take_equations(&mut self, tracked: &WordSet, known: &Known<'_>) -> Result<(), Halt> {
         for equation in known.equations() {
-            if speaks_of(tracked, equation) {
+            if speaks_of(tracked, equation) && !self.has_one_word_each(equation) {
                 self.relate(*equation)?;
             }
         }
         Ok(())
-    }
-
-    /// Adds an equation, if there is room and none for its two names.
-    pub(crate) fn relate(&mut self, equation: Equation) -> Result<(), Halt> {
-        if self.equations.len() >= MOST_EQUATIONS {
-            return Ok(());
-        }
-        if self.relates(&equation) {
-            return Ok(());
-        }
-        let Ok(()) = self.equations.push(equation) else {
-            return Err(Halt::NoMemory);
-        };
-        Ok(())
-    }
-
-    /// Whether there is an equation for two names.
-    fn relates(&self, equation: &Equation) -> bool {
-        for known in &self.equations {
-            if known.left == equation.left && known.right == equation.right {
-                return true;
-            }
-        }
-        false
     }
 
     /// The part that speaks of the accumulator and of written cells, its equations in rising order.
@@ -213,12 +189,59 @@ impl<A: Allocator + Copy> Kept<A> {
 }
 
 impl<A: Allocator> Kept<A> {
+    /// Adds an equation, if there is room and none for its two names.
+    pub(crate) fn relate(&mut self, equation: Equation) -> Result<(), Halt> {
+        if self.equations.len() >= MOST_EQUATIONS {
+            return Ok(());
+        }
+        if self.relates(&equation) {
+            return Ok(());
+        }
+        let Ok(()) = self.equations.push(equation) else {
+            return Err(Halt::NoMemory);
+        };
+        Ok(())
+    }
+
+    /// Whether there is an equation for two names.
+    fn relates(&self, equation: &Equation) -> bool {
+        for known in &self.equations {
+            if known.left == equation.left && known.right == equation.right {
+                return true;
+            }
+        }
+        false
+    }
+
     /// The words that a name may hold.
     pub(crate) fn set(&self, name: &Name) -> WordSet {
         match name {
             Name::Accumulator => self.ac,
             Name::Cell(cell) => self.set_of_cell(*cell),
         }
+    }
+
+    /// The one word that a name may hold, if there is only one.
+    pub(crate) fn only(&self, name: &Name) -> Option<Word> {
+        match name {
+            Name::Accumulator => self.ac.only(),
+            Name::Cell(cell) => self.only_of_cell(*cell),
+        }
+    }
+
+    /// The one word that a cell may hold, if there is only one.
+    fn only_of_cell(&self, cell: Word) -> Option<Word> {
+        for line in &self.cells {
+            if line.tracked.cell == cell {
+                return line.tracked.set.only();
+            }
+        }
+        None
+    }
+
+    /// Whether both sides of an equation have one word, so that it needn't be said.
+    pub(crate) fn has_one_word_each(&self, equation: &Equation) -> bool {
+        self.only(&equation.left).is_some() && self.only(&Name::Cell(equation.right)).is_some()
     }
 
     /// The words that a cell may hold.
@@ -252,16 +275,6 @@ impl<A: Allocator> Kept<A> {
         track_all(fact, &self.cells);
         relate_all(fact, &self.equations);
         true
-    }
-
-    /// The fact.
-    pub(crate) fn fact(&self) -> Option<Fact> {
-        let mut fact = Fact::any();
-        if self.fact_into(&mut fact) {
-            Some(fact)
-        } else {
-            None
-        }
     }
 }
 

@@ -1,23 +1,28 @@
 //! Guesses at why a program is safe: certificates, which `judge` then tests.
 #![tactic(auto)]
 
-ghost use Rattle.std.specs.Prelude.{◌≡◌, ◌≤◌, IfErr, IfOk};
+ghost use Rattle.std.specs.Prelude.{◌≡◌, ◌≢◌, ◌≤◌, length, IfErr, IfOk};
 ghost use Rattle.declaration.specs.Kept.{meaning as declared};
 ghost use Rattle.certificate.specs.Kept.{meaning};
+ghost use Rattle.certificate.specs.Spelling.{text};
 ghost use Rattle.certificate.specs.Reading.{AreLines};
+ghost use Rattle.analyser.specs.declared.GuessFault.TheVariants.{TurnsSpent};
 ghost use Rattle.analyser.specs.Counts.{IsSpentUp};
 ghost use Rattle.analyser.specs.Versions.{version_of};
 
 mod form;
 mod joining;
 mod kept;
+mod length;
 mod making;
+mod needs;
 mod program;
 mod search;
 mod table;
 mod turns;
 mod widening;
 
+use crate::length::is_short;
 use crate::program::Program;
 use crate::search::Search;
 use bin_tape::Image;
@@ -41,6 +46,9 @@ pub enum GuessFault {
     /// At this address an instruction was met that the checker would refuse.
     #[error("Stuck {0}")]
     Stuck(Word),
+    /// The text of what was found has more than the 1,048,576 bytes that are read of a certificate.
+    #[error("TooLong")]
+    TooLong,
     /// A growth of the table was refused.
     #[error("NoMemory")]
     NoMemory,
@@ -56,6 +64,22 @@ fn version_of(profile: Profile) -> Version
     }
 }
 
+/// A certificate, if its text is short enough to be read again.
+fn short<A: Allocator + Copy>(
+    alloc: A,
+    certificate: Certificate<A>,
+) -> Result<Certificate<A>, GuessFault>
+    ensures same { IfOk result (λ c. c ≡ certificate) }
+    ensures short { IfOk result (λ c. length (text (meaning c)) ≤ 1048576) }
+    ensures left { IfErr result (λ fault. fault ≢ TurnsSpent) }
+{
+    match is_short(alloc, &certificate) {
+        Ok(true) => Ok(certificate),
+        Ok(false) => Err(GuessFault::TooLong),
+        Err(halt) => Err(halt.fault()),
+    }
+}
+
 /// Looks for facts, exits and written sets that show a tape's words safe under a declaration. What
 /// is found is to be judged: it is a certificate, of version 1 for a PDP-8/I and of version 2 for a
 /// PDP-8/E, and that the judge accepts it isn't promised.
@@ -64,7 +88,8 @@ fn version_of(profile: Profile) -> Version
 ///
 /// `TurnsSpent` with all turns spent, `Stuck` at an instruction that the checker would refuse or at
 /// an entry whose routine calls itself by way of others (and at the address of a fact or the entry of
-/// an exit that has no line in a certificate), and `NoMemory`.
+/// an exit that has no line in a certificate), `TooLong` for what no checker would read, and
+/// `NoMemory`.
 pub fn guess_within<A: Allocator + Copy, D: Allocator>(
     alloc: A,
     image: &Image,
@@ -74,6 +99,7 @@ pub fn guess_within<A: Allocator + Copy, D: Allocator>(
     ensures lines { IfOk result (λ c. AreLines (meaning c)) }
     ensures version { IfOk result (λ c. (meaning c).version ≡
         version_of (declared declaration.now).profile) }
+    ensures short { IfOk result (λ c. length (text (meaning c)) ≤ 1048576) }
     ensures limit { turns.new.limit ≡ turns.old.limit }
     ensures rises { turns.old.spent ≤ turns.new.spent }
     ensures within { turns.new.spent ≤ turns.new.limit }
@@ -86,7 +112,7 @@ pub fn guess_within<A: Allocator + Copy, D: Allocator>(
     };
     search.run_all(&program, turns)?;
     match search.finish(&program, version_of(declaration.profile())) {
-        Ok(certificate) => Ok(certificate),
+        Ok(certificate) => short(alloc, certificate),
         Err(halt) => Err(halt.fault()),
     }
 }
@@ -104,6 +130,7 @@ pub fn guess<A: Allocator + Copy, D: Allocator>(
     ensures lines { IfOk result (λ c. AreLines (meaning c)) }
     ensures version { IfOk result (λ c. (meaning c).version ≡
         version_of (declared declaration.now).profile) }
+    ensures short { IfOk result (λ c. length (text (meaning c)) ≤ 1048576) }
 {
     let mut turns = Turns::new(MOST_TURNS);
     guess_within(alloc, image, declaration, &mut turns)

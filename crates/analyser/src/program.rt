@@ -14,13 +14,14 @@ use wordset::WordSet;
 /// The most cells that are tracked.
 const MOST_TRACKED: usize = 64;
 
-/// What is analysed, the cells that instructions name or that stand in bodies, those that facts speak
-/// of at most, and where
-/// their sets may end.
+/// What is analysed, the addresses of all bodies, those whose words may look at an entry, the cells that instructions name or that stand in
+/// bodies, those that facts speak of at most, and where their sets may end.
 #[derive(Drop)]
 pub(crate) struct Program<'a, D: Allocator> {
     pub(crate) image: &'a Image,
     pub(crate) declaration: &'a Declaration<D>,
+    pub(crate) bodies: WordSet,
+    pub(crate) lookers: WordSet,
     pub(crate) named: WordSet,
     pub(crate) tracked: WordSet,
     pub(crate) limits: Limits,
@@ -34,12 +35,23 @@ pub(crate) enum Body {
     Of(Word, Routine),
 }
 
-/// A fact at an address of a body.
+/// A fact at an address of a body. It's large, so the same one serves all visits.
 #[derive(Drop)]
 pub(crate) struct Visit {
     pub(crate) at: Word,
     pub(crate) fact: Fact,
     pub(crate) body: Body,
+}
+
+impl Visit {
+    /// Before the first visit.
+    pub(crate) fn first() -> Visit {
+        Visit {
+            at: Word::ZERO,
+            fact: Fact::any(),
+            body: Body::Main,
+        }
+    }
 }
 
 impl Body {
@@ -71,7 +83,7 @@ pub(crate) fn place_in<'a, D: Allocator>(
 }
 
 /// Whether a word is a memory reference.
-fn is_reference(word: Word) -> bool {
+pub(crate) fn is_reference(word: Word) -> bool {
     word.index() < 0o6000
 }
 
@@ -97,29 +109,46 @@ impl<'a, D: Allocator> Program<'a, D> {
     /// A tape's words and a declaration. The cells that facts speak of are the variables that
     /// instructions name, then those in bodies, then those on the tape; at most 64.
     pub(crate) fn of(image: &'a Image, declaration: &'a Declaration<D>) -> Program<'a, D> {
+        let bodies = bodies_of(declaration);
         let mut named = WordSet::empty();
-        add_named(&mut named, image, declaration);
-        add_code(&mut named, declaration);
+        add_named(&mut named, image, declaration, &bodies);
+        add_code(&mut named, declaration, &bodies);
         let mut tracked = named;
         add_loaded(&mut tracked, image, declaration);
         Program {
             image,
             declaration,
+            bodies,
+            lookers: lookers(image, declaration, &bodies),
             named,
             tracked,
             limits: Limits {
-                counted: counted(image, declaration),
-                landmarks: landmarks(image, declaration),
+                counted: counted(image, &bodies),
+                landmarks: landmarks(image, declaration, &bodies),
             },
         }
     }
 }
 
+/// The addresses of all bodies.
+fn bodies_of<D: Allocator>(declaration: &Declaration<D>) -> WordSet {
+    let mut bodies = *declaration.main();
+    for routine in declaration.routines() {
+        bodies = bodies.union(routine.body());
+    }
+    bodies
+}
+
 /// Adds the variables that the instructions of bodies name.
-fn add_named<D: Allocator>(cells: &mut WordSet, image: &Image, declaration: &Declaration<D>) {
+fn add_named<D: Allocator>(
+    cells: &mut WordSet,
+    image: &Image,
+    declaration: &Declaration<D>,
+    bodies: &WordSet,
+) {
     for index in 0..4096usize {
         let at = Word::from_index(index);
-        if let Some(word) = code_at(image, declaration, at) {
+        if let Some(word) = code_at(image, bodies, at) {
             let named = target(word, at);
             if is_reference(word) && declaration.is_variable(named) {
                 add_cell(cells, named);
@@ -129,10 +158,10 @@ fn add_named<D: Allocator>(cells: &mut WordSet, image: &Image, declaration: &Dec
 }
 
 /// Adds the variables in bodies.
-fn add_code<D: Allocator>(cells: &mut WordSet, declaration: &Declaration<D>) {
+fn add_code<D: Allocator>(cells: &mut WordSet, declaration: &Declaration<D>, bodies: &WordSet) {
     for index in 0..4096usize {
         let at = Word::from_index(index);
-        if declaration.is_variable(at) && declaration.owner_of(at).is_some() {
+        if declaration.is_variable(at) && bodies.contains(at) {
             add_cell(cells, at);
         }
     }
@@ -148,12 +177,29 @@ fn add_loaded<D: Allocator>(cells: &mut WordSet, image: &Image, declaration: &De
     }
 }
 
+/// The addresses of bodies whose words may look at an entry: those that may be written, those that
+/// refer indirectly, and those that name one.
+fn lookers<D: Allocator>(image: &Image, declaration: &Declaration<D>, bodies: &WordSet) -> WordSet {
+    let mut addresses = bodies.meet(declaration.variables());
+    for index in 0..4096usize {
+        let at = Word::from_index(index);
+        if let Some(word) = code_at(image, bodies, at) {
+            if is_reference(word)
+                && (refers_indirectly(word) || declaration.is_entry(target(word, at)))
+            {
+                addresses.insert(at);
+            }
+        }
+    }
+    addresses
+}
+
 /// The cells that ISZ counts by name.
-fn counted<D: Allocator>(image: &Image, declaration: &Declaration<D>) -> WordSet {
+fn counted(image: &Image, bodies: &WordSet) -> WordSet {
     let mut cells = WordSet::empty();
     for index in 0..4096usize {
         let at = Word::from_index(index);
-        if let Some(word) = code_at(image, declaration, at) {
+        if let Some(word) = code_at(image, bodies, at) {
             if word.index() / 0o1000 == 2 && !refers_indirectly(word) {
                 cells.insert(target(word, at));
             }
@@ -164,11 +210,15 @@ fn counted<D: Allocator>(image: &Image, declaration: &Declaration<D>) -> WordSet
 
 /// Words at which sets may end: the tape's words that are no instructions, each with what makes it 0,
 /// and the ends of what may be written and read.
-fn landmarks<D: Allocator>(image: &Image, declaration: &Declaration<D>) -> WordSet {
+fn landmarks<D: Allocator>(
+    image: &Image,
+    declaration: &Declaration<D>,
+    bodies: &WordSet,
+) -> WordSet {
     let mut words = ends(declaration.variables());
     for index in 0..4096usize {
         let at = Word::from_index(index);
-        if declaration.owner_of(at).is_none() {
+        if !bodies.contains(at) {
             if let Some(word) = image.get(at) {
                 words.insert(word);
                 words.insert(word.complement().increment());
@@ -185,8 +235,8 @@ fn ends(set: &WordSet) -> WordSet {
 }
 
 /// The tape's word at an address of a body.
-fn code_at<D: Allocator>(image: &Image, declaration: &Declaration<D>, at: Word) -> Option<Word> {
-    if declaration.owner_of(at).is_none() {
+fn code_at(image: &Image, bodies: &WordSet, at: Word) -> Option<Word> {
+    if !bodies.contains(at) {
         return None;
     }
     image.get(at)
@@ -199,6 +249,25 @@ impl<D: Allocator> Program<'_, D> {
             Body::Main => self.declaration.in_main(at),
             Body::Of(entry, _) => self.declaration.in_body(*entry, at),
         }
+    }
+
+    /// The tape's word at an address of a body, if it can't be written.
+    pub(crate) fn fixed_word(&self, at: Word) -> Option<Word> {
+        if self.declaration.is_variable(at) {
+            return None;
+        }
+        code_at(self.image, &self.bodies, at)
+    }
+
+    /// The cell that a memory reference refers to, which names a cell, if it's the same at all times.
+    pub(crate) fn place_named(&self, word: Word, named: Word) -> Option<Word> {
+        if !refers_indirectly(word) {
+            return Some(named);
+        }
+        if self.declaration.is_variable(named) || self.declaration.is_entry(named) {
+            return None;
+        }
+        self.image.get(named)
     }
 
     /// The cells of the body of an entry.

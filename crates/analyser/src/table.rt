@@ -5,8 +5,9 @@ ghost use Rattle.analyser.specs.Claimed.{kept_at, row_at, exit_in};
 
 use crate::kept::Kept;
 use crate::turns::Halt;
+use crate::widening::{Limits, Pace};
 use certificate::Routine;
-use facts::Fact;
+use facts::{Fact, Known};
 use std::alloc::Allocator;
 use word12::Word;
 use wordset::WordSet;
@@ -63,6 +64,43 @@ impl<A: Allocator + Copy> Guess<A> {
     }
 }
 
+impl<A: Allocator + Copy> Guess<A> {
+    /// Joins what is known to the fact at an address, if there is one, and tells whether less is said
+    /// than before.
+    pub(crate) fn join(
+        &mut self,
+        alloc: A,
+        at: Word,
+        known: &Known<'_>,
+        limits: &Limits,
+        pace: Pace,
+    ) -> Result<bool, Halt> {
+        if let Some(Some(kept)) = self.facts.get_mut(at.index()) {
+            return kept.join(alloc, known, limits, pace);
+        }
+        Ok(false)
+    }
+
+    /// Joins what is known to what holds at a return, if something is kept of it, and tells whether
+    /// less is said than before.
+    pub(crate) fn join_exit(
+        &mut self,
+        alloc: A,
+        entry: Word,
+        offset: usize,
+        known: &Known<'_>,
+        limits: &Limits,
+        pace: Pace,
+    ) -> Result<bool, Halt> {
+        if let Some(Some(row)) = self.routines.get_mut(entry.index()) {
+            if let Some(Some(kept)) = row.exits.get_mut(offset) {
+                return kept.join(alloc, known, limits, pace);
+            }
+        }
+        Ok(false)
+    }
+}
+
 impl<A: Allocator> Guess<A> {
     /// What is kept at an address.
     pub(crate) fn kept(&self, at: Word) -> Option<&Kept<A>>
@@ -105,6 +143,16 @@ impl<A: Allocator> Guess<A> {
         }
     }
 
+    /// Whether there is a fact at an address.
+    pub(crate) fn has(&self, at: Word) -> bool {
+        self.kept(at).is_some()
+    }
+
+    /// Whether something is kept of a return.
+    pub(crate) fn has_exit(&self, entry: Word, offset: usize) -> bool {
+        self.kept_exit(entry, offset).is_some()
+    }
+
     /// Keeps a fact at an address.
     pub(crate) fn keep(&mut self, at: Word, kept: Kept<A>) {
         if let Some(place) = self.facts.get_mut(at.index()) {
@@ -125,6 +173,13 @@ impl<A: Allocator> Guess<A> {
     pub(crate) fn set_routine(&mut self, entry: Word, routine: Routine) {
         if let Some(Some(row)) = self.routines.get_mut(entry.index()) {
             row.routine = routine;
+        }
+    }
+
+    /// Forgets all that is claimed of routines.
+    pub(crate) fn forget_routines(&mut self) {
+        for place in &mut self.routines {
+            *place = None;
         }
     }
 

@@ -6,14 +6,26 @@ use wordset::WordSet;
 /// Off the ways back, a set may grow so often at one address before nothing is said of it any more.
 const MOST_GROWTHS: u32 = 300;
 
+/// In the first search it may grow so often.
+const SOON_GROWTHS: u32 = 8;
+
 /// A count up to 7777 may grow so often before it is taken to start anywhere below.
 const COUNT_GROWTHS: u32 = 40;
+
+/// In the first search such a count may grow so often before that.
+const SOON_COUNT_GROWTHS: u32 = 5;
 
 /// On the way back a set may grow so often before it goes on to the next landmarks,
 const QUICK_GROWTHS: u32 = 8;
 
-/// and so often before nothing is said of it any more.
+/// and so often before nothing is said of it any more;
 const LANDMARK_GROWTHS: u32 = 20;
+
+/// in the first search so often before the landmarks,
+const SOON_QUICK_GROWTHS: u32 = 4;
+
+/// and so often before nothing is said.
+const SOON_LANDMARK_GROWTHS: u32 = 10;
 
 /// A set in more runs is filled.
 const MOST_RUNS: usize = 48;
@@ -21,7 +33,11 @@ const MOST_RUNS: usize = 48;
 /// How soon sets are widened.
 #[derive(Clone, Copy)]
 pub(crate) enum Pace {
-    /// After some growths.
+    /// After few growths, on to the next landmarks.
+    SoonBack,
+    /// After few growths, to all words.
+    Soon,
+    /// After some growths, on to the next landmarks.
     Quick,
     /// After hundreds of growths.
     Patient,
@@ -111,18 +127,34 @@ fn to_landmarks(old: &WordSet, set: &WordSet, landmarks: &WordSet) -> WordSet {
     WordSet::range(from, to)
 }
 
+/// How often a set may grow on the way back before it goes on to the next landmarks, and before nothing
+/// is said of it any more.
+#[derive(Clone, Copy)]
+struct Steps {
+    first: u32,
+    last: u32,
+}
+
 /// A set that grew on the way back.
-fn quickly(old: &WordSet, set: &WordSet, growths: u32, counted: bool, limits: &Limits) -> WordSet {
-    if growths < QUICK_GROWTHS {
-        return *set;
+fn quickly(
+    old: &WordSet,
+    set: &WordSet,
+    growths: u32,
+    counted: bool,
+    limits: &Limits,
+    steps: Steps,
+) -> WordSet {
+    let smooth = smoothed(set);
+    if growths < steps.first {
+        return smooth;
     }
-    if counted && is_negative(set) {
-        return up_to_the_end(set);
+    if counted && is_negative(&smooth) {
+        return up_to_the_end(&smooth);
     }
-    if growths >= LANDMARK_GROWTHS {
+    if growths >= steps.last {
         return WordSet::all();
     }
-    to_landmarks(old, set, &limits.landmarks)
+    to_landmarks(old, &smooth, &limits.landmarks)
 }
 
 /// A set that grew, widened only after hundreds of growths.
@@ -131,6 +163,17 @@ fn patiently(set: &WordSet, growths: u32, counted: bool) -> WordSet {
         return WordSet::all();
     }
     if counted && growths >= COUNT_GROWTHS && is_negative(set) {
+        return up_to_the_end(set);
+    }
+    smoothed(set)
+}
+
+/// A set that grew, widened after few growths.
+fn soon(set: &WordSet, growths: u32, counted: bool) -> WordSet {
+    if growths >= SOON_GROWTHS {
+        return WordSet::all();
+    }
+    if counted && growths >= SOON_COUNT_GROWTHS && is_negative(set) {
         return up_to_the_end(set);
     }
     smoothed(set)
@@ -145,9 +188,22 @@ pub(crate) fn widened(
     limits: &Limits,
     pace: Pace,
 ) -> WordSet {
-    let patient = patiently(set, growths, counted);
     match pace {
-        Pace::Patient => patient,
-        Pace::Quick => quickly(old, &patient, growths, counted, limits),
+        Pace::Patient => patiently(set, growths, counted),
+        Pace::Soon => soon(set, growths, counted),
+        Pace::Quick => {
+            let steps = Steps {
+                first: QUICK_GROWTHS,
+                last: LANDMARK_GROWTHS,
+            };
+            quickly(old, set, growths, counted, limits, steps)
+        }
+        Pace::SoonBack => {
+            let steps = Steps {
+                first: SOON_QUICK_GROWTHS,
+                last: SOON_LANDMARK_GROWTHS,
+            };
+            quickly(old, set, growths, counted, limits, steps)
+        }
     }
 }

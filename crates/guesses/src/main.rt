@@ -105,7 +105,7 @@ fn stuck_at<R: Files + AllocGlobal>(rt: &R, name: &str) -> anyhow::Result<Option
     };
     match fault {
         GuessFault::Stuck(at) => Ok(Some(at)),
-        GuessFault::TurnsSpent | GuessFault::NoMemory => Ok(None),
+        GuessFault::TurnsSpent | GuessFault::TooLong | GuessFault::NoMemory => Ok(None),
     }
 }
 

@@ -44,6 +44,9 @@ impl<A: Allocator> ByteSink for Text<A> {
 
     fn write(&mut self, piece: &[u8]) -> Result<usize, Failed> {
         let count = piece.len();
+        if count == 0 {
+            return Ok(0);
+        }
         if count > MOST_BYTES.saturating_sub(self.bytes.len()) {
             self.failed = true;
             return Err(Failed);

@@ -14,8 +14,9 @@ use wordset::WordSet;
 /// The most cells that are tracked.
 const MOST_TRACKED: usize = 64;
 
-/// What is analysed, the addresses of all bodies, those whose words may look at an entry, the cells that instructions name or that stand in
-/// bodies, those that facts speak of at most, and where their sets may end.
+/// What is analysed, the addresses of all bodies, those whose words may look at an entry, the cells
+/// that instructions name or that stand in bodies, those that facts speak of at most, and where their
+/// sets may end.
 #[derive(Drop)]
 pub(crate) struct Program<'a, D: Allocator> {
     pub(crate) image: &'a Image,

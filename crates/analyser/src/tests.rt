@@ -196,23 +196,23 @@ fn a_wild_write_is_stuck(rt: HostRuntime) -> Result<(), Fail> {
     Ok(())
 }
 
-/// Some 1,300 words that do nothing, then the sum of 64 cells, which are needed all the way.
+/// Words that set 48 cells to words with every second bit alone, and then look at them all, so that
+/// facts have long sets.
 fn long_image() -> Image {
     let mut image = Image::empty();
-    for more in 0..64u16 {
-        put(&mut image, 0o0020 + more, &[0o0000]);
-        put(&mut image, 0o3000 + more, &[0o1020 + more]);
+    put(&mut image, 0o0010, &[0o2525]);
+    for more in 0..48u16 {
+        let set = [0o7604, 0o0010, 0o3020 + more];
+        put(&mut image, 0o0200 + 3 * more, &set);
+        put(&mut image, 0o0420 + more, &[0o0020 + more]);
     }
-    for at in 0o0200..0o3000u16 {
-        put(&mut image, at, &[0o7000]);
-    }
-    put(&mut image, 0o3100, &[0o7402]);
+    put(&mut image, 0o0500, &[0o7402]);
     image
 }
 
 #[test]
 fn a_text_that_is_too_long_is_told(rt: HostRuntime) -> Result<(), Fail> {
-    let declared = b"start 0200\nmain 0200-3100\nvar 0020-0117\nstop 3100\n";
+    let declared = b"start 0200\nmain 0200-0500\nvar 0020-0077\nstop 0500\n";
     let declaration = Declaration::parse(rt.alloc(), declared)?;
     let found = guess(rt.alloc(), &long_image(), &declaration);
     assert_eq!(rt; found.err(), Some(GuessFault::TooLong));

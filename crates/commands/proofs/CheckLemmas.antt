@@ -29,7 +29,7 @@ has_certificate None c v lines same whole = tt
 has_certificate (Some bytes) c v lines same whole = record { lines_are = lines; text_is = same; few = whole.few }
 
 -- the fault of what a source had
-Told : Option (List ℕ) → CertificateFault → Type 0
+abbrev pub Told : Option (List ℕ) → CertificateFault → Type 0
 Told had fault = (fault ≡ faults.NoMemory) ⊎ ((fault ≡ faults.ReadFault) ⊎ IfSome had (λ bytes. HasFault bytes fault))
 
 told_of : (had : Option (List ℕ)) (fault : CertificateFault) → (fault ≡ faults.NoMemory → ⊥) → (fault ≡ faults.ReadFault → ⊥) → Told had fault →

@@ -38,11 +38,12 @@ fn push_unfollowed<A: Allocator>(
     text: &mut Vec<u8, A>,
     addresses: &WordSet,
 ) -> Result<(), AllocError> {
-    let mut next = 0usize;
-    while let Some(at) = addresses.first_from(next) {
-        push_place(text, b"/ It isn't known where the program goes on at ", at)?;
-        text.extend_from_slice(b".\n")?;
-        next = at.index() + 1;
+    for index in 0..4096usize {
+        let at = Word::from_index(index);
+        if addresses.contains(at) {
+            push_place(text, b"/ It isn't known where the program goes on at ", at)?;
+            text.extend_from_slice(b".\n")?;
+        }
     }
     Ok(())
 }

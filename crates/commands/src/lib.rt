@@ -3,7 +3,6 @@
 
 pub mod assembling;
 pub mod checking;
-pub mod declaring;
 pub mod explaining;
 pub mod follow;
 pub mod guessing;

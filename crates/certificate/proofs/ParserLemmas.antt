@@ -320,7 +320,7 @@ whole_kept kept text o p v same is h ended =
 pub whole_parsed : {A : Type 0} (kept : KeptLines A) (text line bytes : List ℕ) (o : Option Progress) (p : Progress) (long : Bool) (v : Version) →
     v ≡ p.version → o ≡ Some p → ((before : List Line) → Tracks p before → any is_end before ≡ true) →
     IsWhole v kept → Parts text kept o line long bytes → long ≡ false → line ≡ [] → length bytes ≤ most_bytes →
-    IsParsed bytes (record { version = v; lines = kept.lines.items })
+    IsParsed bytes (record { version = v; lines = kept.lines })
 whole_parsed kept text line bytes o p long v same is ended w h short none few =
     record {
       found = all ∙ (sym (ap (front v) lines) ∙

@@ -186,8 +186,8 @@ fn pack<A: Allocator>(runs: &mut Vec<Run, A>, line: &Line) -> Result<PackedLine,
     }
 }
 
-/// The words from one to another.
-fn words_between(first: Word, last: Word) -> WordSet
+/// The words from one to another; all of them aren't put in one by one.
+pub fn words_between(first: Word, last: Word) -> WordSet
     ensures { words result ≡ between first last }
 {
     if first.index() == 0 && last.index() == 4095 {

@@ -176,8 +176,9 @@ pub laid : (old new : List Run) (s : Span) (set : Words) → Begins old new → 
     joined nothing (drop (length old) new) ≡ set → IsLaid new s set
 laid old new s set b first last is = record {
   within = record { forward = (let q = longer old new b in omega arith); inside = omega arith };
-  is = ap (λ (rs : List Run). joined nothing rs) (rw (first, last) (take_all (length new - length old) (drop (length old) new)
-      (omega (arith, length-drop (length old) new)))) ∙ is;
+  is = (let e : slice_range new s.first s.last ≡ drop (length old) new =
+      rw (first, last) (take_all (length new - length old) (drop (length old) new) (omega (arith, length-drop (length old) new))) in
+      ap (λ (rs : List Run). joined nothing rs) e ∙ is);
 }
   where
     longer : (old new : List Run) → Begins old new → length old ≤ length new

@@ -17,6 +17,6 @@ returns-in-Ok g c =
 
 pub returns-in-Err : goal.returns-in-Err
 returns-in-Err g c =
-    rw c.len.ensures (nothing_from (all_said c.args.self.now) _ (omega arith)) ∙
+    nothing_from (all_said c.args.self.now) c.len.result (let e = c.len.ensures in omega (arith, e)) ∙
     sym (sought_none c.args.self.now c.deref.result.now c.args.place c.in-Err.field-0 c.binary_search.result c.deref.ensures.value c.in-Err.is
     c.binary_search.ensures.position c.requires.indexed c.requires.order)

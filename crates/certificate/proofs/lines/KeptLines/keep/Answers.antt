@@ -1,8 +1,5 @@
-use Rattle.std.proofs.Common.{sym, refl}
-use Rattle.std.specs.Prelude.{OnOk}
-use Rattle.certificate.specs.Line.{Line}
+use Rattle.std.proofs.Common.{sym, refl, ap, ◌∙◌, [], ◌∷◌, ◌++◌}
 use Rattle.certificate.specs.Meaning.{said}
-use Rattle.certificate.specs.Found.{Keeps, unended}
 use Rattle.certificate.proofs.FoundLemmas.{detail_kept, head_kept, end_kept, not_end}
 use Rattle.certificate.proofs.MakerLemmas.{on_ok}
 use Rattle.certificate.proofs.lines.KeptLines.keep.Goals as goal
@@ -21,4 +18,4 @@ returns g c = λ before h.
     rw (not_end (said c.args.line.now) before (sym c.if-is_end.ensures))
     (on_ok c.push-4.result _ _ (λ e. head_kept c.args.self.now (record { lines = c.push-4.new.self; places = c.push-2.new.self; starts = c.push-3.new.self })
     (said c.args.line.now) before (sym c.if-is_detail.ensures) e (rw (← c.place_of.ensures.same) c.in_ok-push-2.ensures.items)
-    (rw (← c.len.ensures) c.in_ok-push-3.ensures.items) h) c.push-4.ensures.added)
+    (c.in_ok-push-3.ensures.items ∙ ap (λ n. c.args.self.now.starts.items ++ n ∷ []) c.len.ensures) h) c.push-4.ensures.added)

@@ -1,1 +1,0 @@
-use Rattle.certificate.proofs.lines.first_fact.Goals as goal

@@ -46,7 +46,7 @@ starts_count n (l ∷ ls) = pick (is_detail l) (starts_count (n + 1) ls)
     pick true e = e
     pick false e = omega arith
 
-lines_more : {A : Type 0} (k new : KeptLines A) (l : Line) (before : List Line) → new.lines ≡ k.lines ++ l ∷ [] →
+lines_more : {A : Type 0} (k new : KeptLines A) (l : Line) (before : List Line) → all_said new ≡ all_said k ++ l ∷ [] →
     Keeps k before → newest_first [] (all_said new) ≡ l ∷ before
 lines_more k new l before e h =
     ap (λ (x : List Line). newest_first [] x) e ∙
@@ -71,7 +71,7 @@ not_end End before e = absurd (cc)
 
 -- A detail was kept.
 pub detail_kept : {A : Type 0} (k new : KeptLines A) (l : Line) (before : List Line) → is_detail l ≡ true →
-    new.lines ≡ k.lines ++ l ∷ [] → new.places.items ≡ k.places.items → new.starts.items ≡ k.starts.items →
+    all_said new ≡ all_said k ++ l ∷ [] → new.places.items ≡ k.places.items → new.starts.items ≡ k.starts.items →
     Keeps k before → Keeps new (l ∷ before)
 detail_kept k new l before d e p s h = record {
   lines = lines_more k new l before e h;
@@ -83,13 +83,13 @@ detail_kept k new l before d e p s h = record {
 
 -- Another line was kept.
 pub head_kept : {A : Type 0} (k new : KeptLines A) (l : Line) (before : List Line) → is_detail l ≡ false →
-    new.lines ≡ k.lines ++ l ∷ [] → new.places.items ≡ k.places.items ++ place l ∷ [] →
-    new.starts.items ≡ k.starts.items ++ length k.lines ∷ [] → Keeps k before → Keeps new (l ∷ before)
+    all_said new ≡ all_said k ++ l ∷ [] → new.places.items ≡ k.places.items ++ place l ∷ [] →
+    new.starts.items ≡ k.starts.items ++ length (all_said k) ∷ [] → Keeps k before → Keeps new (l ∷ before)
 head_kept k new l before d e p s h = record {
   lines = lines_more k new l before e h;
   indexed = record {
     places = p ∙ rw (h.indexed.places, e, heads_more (all_said k) (l ∷ []), d) (sym (map_push place (heads (all_said k)) l));
-    starts = s ∙ rw (h.indexed.starts, e, starts_more 0 (length k.lines) (all_said k) l (omega arith), d) refl;
+    starts = s ∙ rw (h.indexed.starts, e, starts_more 0 (length (all_said k)) (all_said k) l (omega arith), d) refl;
   };
 }
 

@@ -5,6 +5,7 @@ use Rattle.std.specs.List.{AllByRecursion}
 use Rattle.std.proofs.lemmas.Bool.{true≢false, cases_lt}
 use Rattle.std.proofs.lemmas.Bool.Decides.{nat_tests}
 use Rattle.std.proofs.lemmas.List.{take_all, drop_at, drop_more, drop-append-le, take-append-le, length-drop, length-map}
+use native.Mathlib.Numerals.{unary_clauses}
 use Rattle.wordset.specs.Words.{Words, SameWords, all_words, difference, nothing, between, union, IsFirstFrom, HasNoneFrom}
 use Rattle.wordset.specs.Lanes.{words}
 use Rattle.wordset.specs.Links.{links_of}
@@ -242,7 +243,7 @@ pub said_there : (runs : List Run) (ls : List PackedLine) (i : ℕ) (d : PackedL
     drop i (lines_in runs ls) ≡ said_at runs (get_or ls i d) ∷ drop (i + 1) (lines_in runs ls)
 said_there runs [] i d b = absurd (omega arith)
 said_there runs (l ∷ ls) zero d b = refl
-said_there runs (l ∷ ls) (suc i) d b = said_there runs ls i d (omega arith)
+said_there runs (l ∷ ls) (suc i) d b = simp unary_clauses (said_there runs ls i d (omega arith))
 
 -- Lines in front of others.
 pub front_kept : (runs : List Run) (ls : List PackedLine) (n : ℕ) → lines_in runs (take n ls) ≡ take n (lines_in runs ls)

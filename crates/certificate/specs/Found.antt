@@ -11,7 +11,7 @@ use Rattle.certificate.specs.Spelling.{RoutineLine}
 use Rattle.certificate.specs.Reading.{rank_in, sites_in, writes_in}
 use Rattle.certificate.specs.Line.{Line, RoutineIs, FactIs, ExitIs, CellIs, EquationIs, End}
 use Rattle.certificate.specs.Order.{is_detail, place, heads, any, is_end, AreInOrder}
-use Rattle.certificate.specs.Packed.{Begins}
+use Rattle.certificate.specs.Packed.{Begins, said_lines}
 use Rattle.certificate.specs.Gathered.{cells_under, equations_under, stated}
 
 -- Lines of which the newest is the first, without the end.
@@ -37,7 +37,7 @@ from_place p (l ∷ ls) = if is_detail l then from_place p ls else (if place l =
 
 -- The lines that are kept.
 abbrev pub all_said : {A : Type 0} → KeptLines A → List Line
-all_said k = k.lines
+all_said k = said_lines k.lines
 
 -- The lists of places and of where they stand are those of the lines.
 pub record IsIndexed {A : Type 0} (k : KeptLines A) : Type 0 where
@@ -51,15 +51,15 @@ pub record Keeps {A : Type 0} (k : KeptLines A) (before : List Line) : Type 0 wh
 
 -- What is kept begins with what was.
 pub record Extends {A : Type 0} (old new : KeptLines A) : Type 0 where
-  pub lines : Begins old.lines new.lines
+  pub lines : Begins (all_said old) (all_said new)
   pub places : Begins old.places.items new.places.items
   pub starts : Begins old.starts.items new.starts.items
 
 -- A line that isn't a detail is kept too, with its cells and equations.
 pub record HasMore {A : Type 0} (old new : KeptLines A) (head : Line) (cells : List TrackedCell) (equations : List Equation) : Type 0 where
-  pub lines : new.lines ≡ old.lines ++ (head ∷ (map CellIs cells ++ map EquationIs equations))
+  pub lines : all_said new ≡ all_said old ++ (head ∷ (map CellIs cells ++ map EquationIs equations))
   pub places : new.places.items ≡ old.places.items ++ place head ∷ []
-  pub starts : new.starts.items ≡ old.starts.items ++ length old.lines ∷ []
+  pub starts : new.starts.items ≡ old.starts.items ++ length (all_said old) ∷ []
 
 -- The lines that are kept are in order, and the end isn't among them.
 pub record IsWhole {A : Type 0} (v : Version) (k : KeptLines A) : Type 0 where

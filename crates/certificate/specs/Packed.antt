@@ -1,4 +1,4 @@
--- What packed lines say; it serves private contracts.
+-- Packed lines, and what they say.
 use Rattle.std.specs.Prelude.{◌≡◌, ℕ, ◌≤◌, List, [], ◌∷◌, ◌++◌, length, map, slice_range}
 use Rattle.wordset.specs.Words.{Words, nothing, between, union}
 use Rattle.wordset.specs.Links.{links_of}
@@ -42,6 +42,15 @@ said_at runs packed.End = End
 
 abbrev pub lines_in : List Run → List PackedLine → List Line
 lines_in runs ls = map (said_at runs) ls
+
+-- Lines as they're kept packed: the lines in their order, and the runs of all their sets.
+pub record Packed : Type 0 where
+  pub list : List PackedLine
+  pub runs : List Run
+
+-- What they say.
+abbrev pub said_lines : Packed → List Line
+said_lines p = lines_in p.runs p.list
 
 -- The runs of a set lie among so many.
 pub record IsSpanWithin (n : ℕ) (s : Span) : Type 0 where

@@ -12,7 +12,7 @@ ghost use Rattle.certificate.specs.Line.{Line as SaidLine, CellIs, EquationIs};
 ghost use Rattle.certificate.specs.Order.{is_detail};
 ghost use Rattle.certificate.specs.Gathered.{cells_under, equations_under, stated};
 ghost use Rattle.certificate.specs.Meaning.{said, registers_of};
-ghost use Rattle.certificate.specs.Packed.{Begins};
+ghost use Rattle.certificate.specs.Packed.{Begins, said_lines};
 ghost use Rattle.certificate.specs.Found.{from_place, all_said, Keeps, unended, Extends, HasMore, IsIndexed, FitUnder, FitUnderFirst, with_details, IsRoutineOf, begins_routine, begins_fact, begins_exit, first_fact, first_exit, SaysFirst};
 
 use crate::Routine;
@@ -47,7 +47,7 @@ impl<A: Allocator + Copy> KeptLines<A> {
 impl<A: Allocator> KeptLines<A> {
     /// The lines.
     pub fn lines(&self) -> &PackedLines<A>
-        ensures { result.now ≡ all_said self.now }
+        ensures { said_lines result.now ≡ all_said self.now }
     {
         &self.lines
     }
@@ -135,9 +135,9 @@ fn push_all<A: Allocator>(
     cells: &[TrackedCell],
     equations: &[Equation],
 ) -> Result<(), AllocError>
-    ensures whole { OnOk result (lines.new ≡ lines.old ++ (said head.now ∷
+    ensures whole { OnOk result (said_lines lines.new ≡ said_lines lines.old ++ (said head.now ∷
         (map CellIs (map tracked_of cells.now) ++ map EquationIs (map equation_of equations.now)))) }
-    ensures front { Begins lines.old lines.new }
+    ensures front { Begins (said_lines lines.old) (said_lines lines.new) }
 {
     lines.push(head)?;
     push_cells(lines, cells)?;
@@ -149,8 +149,9 @@ fn push_cells<A: Allocator>(
     lines: &mut PackedLines<A>,
     cells: &[TrackedCell],
 ) -> Result<(), AllocError>
-    ensures whole { OnOk result (lines.new ≡ lines.old ++ map CellIs (map tracked_of cells.now)) }
-    ensures front { Begins lines.old lines.new }
+    ensures whole { OnOk result (said_lines lines.new ≡ said_lines lines.old ++
+        map CellIs (map tracked_of cells.now)) }
+    ensures front { Begins (said_lines lines.old) (said_lines lines.new) }
 {
     for cell in cells {
         lines.push(&Line::Cell(*cell))?;
@@ -163,9 +164,9 @@ fn push_equations<A: Allocator>(
     lines: &mut PackedLines<A>,
     equations: &[Equation],
 ) -> Result<(), AllocError>
-    ensures whole { OnOk result (lines.new ≡ lines.old ++
+    ensures whole { OnOk result (said_lines lines.new ≡ said_lines lines.old ++
         map EquationIs (map equation_of equations.now)) }
-    ensures front { Begins lines.old lines.new }
+    ensures front { Begins (said_lines lines.old) (said_lines lines.new) }
 {
     for equation in equations {
         lines.push(&Line::Equation(*equation))?;
@@ -176,11 +177,11 @@ fn push_equations<A: Allocator>(
 /// Adds the cells and equations from a line on to a fact, up to the first line that is neither.
 fn add_details<A: Allocator>(fact: &mut Fact, lines: &PackedLines<A>, start: usize)
     requires cells { length (statement_of fact.old).cells +
-        length (cells_under (drop start lines.now)) ≤ 64 }
+        length (cells_under (drop start (said_lines lines.now))) ≤ 64 }
     requires equations { length (statement_of fact.old).equations +
-        length (equations_under (drop start lines.now)) ≤ 32 }
+        length (equations_under (drop start (said_lines lines.now))) ≤ 32 }
     ensures statement { statement_of fact.new ≡
-        with_details (statement_of fact.old) (drop start lines.now) }
+        with_details (statement_of fact.old) (drop start (said_lines lines.now)) }
     ensures offsets { offsets_of fact.new.offsets ≡ offsets_of fact.old.offsets }
 {
     for at in start..lines.len() {
@@ -200,9 +201,9 @@ fn fill<A: Allocator>(
     lines: &PackedLines<A>,
     start: usize,
 )
-    requires fit { FitUnder (drop start lines.now) }
+    requires fit { FitUnder (drop start (said_lines lines.now)) }
     ensures { fact_meaning fact.new ≡
-        fact_of (stated (registers_of registers.now) (drop start lines.now)) (offsets_of offsets) }
+        fact_of (stated (registers_of registers.now) (drop start (said_lines lines.now))) (offsets_of offsets) }
 {
     fact.forget();
     fact.set_accumulator(registers.accumulator);
@@ -214,8 +215,8 @@ fn fill<A: Allocator>(
 
 /// What the line at a place says of a routine, if there is one and it does.
 pub fn first_routine<A: Allocator>(lines: &PackedLines<A>, start: usize) -> Option<Routine>
-    ensures there { is_some result ≡ begins_routine (drop start lines.now) }
-    ensures says { (rs : List SaidRoutine) (e : ℕ) → SaysFirst rs e (drop start lines.now) →
+    ensures there { is_some result ≡ begins_routine (drop start (said_lines lines.now)) }
+    ensures says { (rs : List SaidRoutine) (e : ℕ) → SaysFirst rs e (drop start (said_lines lines.now)) →
         IfSome result (λ r. IsRoutineOf rs e r) }
 {
     if start >= lines.len() {
@@ -233,9 +234,9 @@ pub fn first_routine<A: Allocator>(lines: &PackedLines<A>, start: usize) -> Opti
 
 /// Whether the line at a place is a fact's, which the lent fact then says.
 pub fn first_fact<A: Allocator>(lines: &PackedLines<A>, start: usize, fact: &mut Fact) -> bool
-    requires fit { FitUnderFirst (drop start lines.now) }
-    ensures there { result ≡ begins_fact (drop start lines.now) }
-    ensures fact { result ≡ true → fact_meaning fact.new ≡ first_fact (drop start lines.now) }
+    requires fit { FitUnderFirst (drop start (said_lines lines.now)) }
+    ensures there { result ≡ begins_fact (drop start (said_lines lines.now)) }
+    ensures fact { result ≡ true → fact_meaning fact.new ≡ first_fact (drop start (said_lines lines.now)) }
 {
     if start >= lines.len() {
         return false;
@@ -251,10 +252,10 @@ pub fn first_fact<A: Allocator>(lines: &PackedLines<A>, start: usize, fact: &mut
 
 /// Whether the line at a place is an exit's, which the lent fact then says, with all offsets.
 pub fn first_exit<A: Allocator>(lines: &PackedLines<A>, start: usize, exit: &mut Fact) -> bool
-    requires fit { FitUnderFirst (drop start lines.now) }
-    ensures there { result ≡ begins_exit (drop start lines.now) }
+    requires fit { FitUnderFirst (drop start (said_lines lines.now)) }
+    ensures there { result ≡ begins_exit (drop start (said_lines lines.now)) }
     ensures fact { result ≡ true → with_offsets everything (fact_meaning exit.new) ≡
-        first_exit (drop start lines.now) }
+        first_exit (drop start (said_lines lines.now)) }
     ensures offsets { result ≡ true → (o : ℕ) → o < 8 →
         (fact_meaning exit.new).offsets o ≡ true }
 {

@@ -6,7 +6,7 @@ ghost use Rattle.wordset.specs.Lanes.{words};
 ghost use Rattle.certificate.specs.Line.{RoutineIs};
 ghost use Rattle.certificate.specs.Meaning.{said, registers_of, routine_of};
 ghost use Rattle.certificate.specs.Spelled.{IsLastOf};
-ghost use Rattle.certificate.specs.Packed.{Begins, joined, set_at, registers_at, said_at, IsSpanWithin, AreWithin, LiesWithin, IsLaid, AreLaid, IsPacked};
+ghost use Rattle.certificate.specs.Packed.{Begins, joined, set_at, registers_at, said_at, said_lines, IsSpanWithin, AreWithin, LiesWithin, IsLaid, AreLaid, IsPacked};
 
 use crate::line::{Line, Registers, RoutineLine};
 use facts::{Equation, Offsets, TrackedCell};
@@ -67,12 +67,11 @@ pub struct PackedLines<A: Allocator> {
 impl<A: Allocator> Model for PackedLines<A> {
     ghost use Rattle.std.specs.Prelude.{List, length};
     ghost use Rattle.std.specs.List.{AllByRecursion};
-    ghost use Rattle.certificate.specs.Line.{Line};
-    ghost use Rattle.certificate.specs.Packed.{lines_in, LiesWithin};
+    ghost use Rattle.certificate.specs.Packed.{Packed, LiesWithin};
 
-    ghost Value = { List Line };
+    ghost Value = { Packed };
 
-    ghost view = { λ p. lines_in p.runs.items p.list.items };
+    ghost view = { λ p. record { list = p.list.items; runs = p.runs.items } };
 
     // The runs of each set lie among those of all.
     ghost invariant = { λ p. AllByRecursion (LiesWithin (length p.runs.items)) p.list.items };
@@ -258,7 +257,7 @@ fn unpack(runs: &[Run], packed: &PackedLine) -> Line
 impl<A: Allocator + Copy> PackedLines<A> {
     /// No line.
     pub fn new(alloc: A) -> PackedLines<A>
-        ensures { result ≡ [] }
+        ensures { said_lines result ≡ [] }
     {
         PackedLines {
             list: Vec::new(alloc),
@@ -270,23 +269,25 @@ impl<A: Allocator + Copy> PackedLines<A> {
 impl<A: Allocator> PackedLines<A> {
     /// How many there are.
     pub fn len(&self) -> usize
-        ensures { result ≡ length self.now }
+        ensures { result ≡ length (said_lines self.now) }
     {
         self.list.len()
     }
 
     /// The line at a place.
     pub fn line(&self, at: usize) -> Line
-        requires { at < length self.now }
-        ensures { drop at self.now ≡ said result ∷ drop (at + 1) self.now }
+        requires { at < length (said_lines self.now) }
+        ensures { drop at (said_lines self.now) ≡
+            said result ∷ drop (at + 1) (said_lines self.now) }
     {
         unpack(&self.runs, &self.list[at])
     }
 
     /// Adds a line, or leaves all as it is.
     pub fn push(&mut self, line: &Line) -> Result<(), AllocError>
-        ensures added { OnOk result (self.new ≡ self.old ++ said line.now ∷ []) }
-        ensures same { OnErr result (self.new ≡ self.old) }
+        ensures added { OnOk result
+            (said_lines self.new ≡ said_lines self.old ++ said line.now ∷ []) }
+        ensures same { OnErr result (said_lines self.new ≡ said_lines self.old) }
     {
         let count = self.runs.len();
         let Ok(packed) = pack(&mut self.runs, line) else {
@@ -302,7 +303,7 @@ impl<A: Allocator> PackedLines<A> {
 
     /// Takes all but so many at the front away. Their runs stay until all is dropped.
     pub fn truncate(&mut self, count: usize)
-        ensures { self.new ≡ take count self.old }
+        ensures { said_lines self.new ≡ take count (said_lines self.old) }
     {
         self.list.truncate(count);
     }

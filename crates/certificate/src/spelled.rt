@@ -16,6 +16,7 @@ ghost use Rattle.certificate.specs.Reading.{Each};
 ghost use Rattle.certificate.specs.Fields.{run_text};
 ghost use Rattle.certificate.specs.Meaning.{said, routine_of, registers_of};
 ghost use Rattle.certificate.specs.Spelled.{Adds};
+ghost use Rattle.certificate.specs.Packed.{said_lines};
 
 use crate::Version;
 use crate::line::{Line, Registers, RoutineLine};
@@ -324,11 +325,11 @@ fn put_lines<A: Allocator, W: ByteSink>(
     lines: &PackedLines<A>,
 ) -> Result<(), Failed>
     requires unmarked { W.mark sink.old ≡ false }
-    requires form { Each (IsLine version) lines.now }
+    requires form { Each (IsLine version) (said_lines lines.now) }
     ensures whole { OnOk result (Appends (W.taken sink.old) (W.taken sink.new)
-        (all_ended version lines.now)) }
+        (all_ended version (said_lines lines.now))) }
     ensures front { OnErr result (AppendsFront (W.taken sink.old) (W.taken sink.new)
-        (all_ended version lines.now)) }
+        (all_ended version (said_lines lines.now))) }
     ensures marks { W.mark sink.new ≡ is_err result }
 {
     let mut text = LineText::new();
@@ -348,12 +349,12 @@ pub fn put_text<A: Allocator, W: ByteSink>(
     lines: &PackedLines<A>,
 ) -> Result<(), Failed>
     requires unmarked { W.mark sink.old ≡ false }
-    requires form { Each (IsLine version) lines.now }
+    requires form { Each (IsLine version) (said_lines lines.now) }
     ensures whole { OnOk result (Appends (W.taken sink.old) (W.taken sink.new)
-        (ended (version_text version) ++ all_ended version lines.now ++
+        (ended (version_text version) ++ all_ended version (said_lines lines.now) ++
         ended (codes "end"))) }
     ensures front { OnErr result (AppendsFront (W.taken sink.old) (W.taken sink.new)
-        (ended (version_text version) ++ all_ended version lines.now ++
+        (ended (version_text version) ++ all_ended version (said_lines lines.now) ++
         ended (codes "end"))) }
     ensures marks { W.mark sink.new ≡ is_err result }
 {

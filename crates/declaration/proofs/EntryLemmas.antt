@@ -1,18 +1,20 @@
--- The entries of good lines are words.
-use Rattle.std.proofs.Common.{ℕ, ◌≡◌, ◌<◌, ◌==◌, Bool, true, false, ◌||◌, ◌⊎◌, List, [], ◌∷◌, ◌++◌, length, map, arith, refl, sym, ◌∙◌, ap, Option, Some, None, inl, inr}
+-- The routines that good lines say: their entries are words, their bodies have a cell, and their offsets are below 8.
+use Rattle.std.proofs.Common.{ℕ, ◌≡◌, ◌<◌, ◌≤◌, ◌+◌, ◌==◌, Bool, true, false, ◌||◌, List, [], ◌∷◌, ◌++◌, length, map, take, drop, arith, refl, sym, subst, ◌∙◌, ap, Option, Some, None, inl, inr}
 use Rattle.std.specs.Prelude.{nat_le, nat_lt, if◌then◌else◌}
-use Rattle.std.specs.List.{list_any, list_all, flat_map, after_first}
+use Rattle.std.specs.List.{list_any, list_all, flat_map, position, before_first, after_first}
 use Rattle.std.specs.Option.{option_map}
 use Rattle.std.specs.Result.{result_ok}
-use Rattle.std.proofs.lemmas.Bool.{cases_Bool, eqb-true, ltb-true}
-use Rattle.std.proofs.lemmas.List.Folds.{list_any-append}
+use Rattle.std.proofs.lemmas.Bool.{cases_Bool, or_cases, or_left, eqb-true, eq-eqb, ne_eqb, ltb-true, le-leb}
 use Rattle.word12.specs.Octal.{octal_reading, octal_value, is_octal_digit}
 use Rattle.instruct.specs.declared.Profile.{Profile}
 use Rattle.instruct.specs.declared.Profile.TheVariants.{Pdp8I, Pdp8E}
-use Rattle.wordset.specs.Words.{Words}
+use Rattle.wordset.specs.Words.{Words, nothing, one, between}
 use Rattle.streams.specs.Text.{octal_word, words_of}
-use Rattle.declaration.specs.Lines.{Subroutine, Line, Nothing, Start, Main, Sub, Variables, Stops, Pauses, Machine, Reads, routine, start_line, sub_line, profile_line, line_by, line_of, body_read, offsets_read, ranges_of, addresses_of, is_returns, all_read, range_of, any_of}
-use Rattle.declaration.specs.Text.{contents, is_entry, routine_in}
+use Rattle.declaration.specs.Lines.{Subroutine, Line, Nothing, Start, Main, Sub, Variables, Stops, Pauses, Machine, Reads, routine, start_line, sub_line, profile_line, line_by, line_of, body_read, offset_of, offsets_read, ranges_of, addresses_of, is_returns, is_dash, read_first, all_read, span, range_split, range_of, any_of, these}
+use Rattle.declaration.specs.Text.{contents, routine_in}
+use Rattle.declaration.specs.Writing.{Each, HasCell, IsFormed}
+use Rattle.declaration.proofs.LineLemmas.{digit_below_8}
+use Rattle.declaration.proofs.WordLemmas.{each_both}
 
 reading_below : (digits : List ℕ) (v : ℕ) → result_ok (octal_reading digits) ≡ Some v → v < 4096
 reading_below digits v is = elim (cases_Bool (length digits == 0)) [
@@ -36,9 +38,89 @@ octal_below digits v is = elim (cases_Bool (nat_le (length digits) 4)) [
   | inr long ↦ let wrong : None ≡ Some v = rw long at is in absurd (cc)
 ]
 
--- where a line says a routine, its entry is a word
+-- a range has a cell
+cell_of : (set other : Words) (a : ℕ) → a < 4096 → Some set ≡ Some other → set a ≡ true → HasCell other
+cell_of set other a small is has = record { at = a; small = small; within = ap (λ (f : Words). f a) (sym (ap given is)) ∙ has }
+  where
+    given : Option Words → Words
+    given None = nothing
+    given (Some x) = x
+
+address_has : (word : List ℕ) (o : Option ℕ) (set : Words) → octal_word word ≡ o → option_map one o ≡ Some set → HasCell set
+address_has word None set e is = absurd (cc)
+address_has word (Some a) set e is = cell_of (one a) set a (octal_below word a e) is (eq-eqb a a refl)
+
+span_has : (word : List ℕ) (low high : Option ℕ) (set : Words) → octal_word word ≡ low → span low high ≡ Some set → HasCell set
+span_has word None high set e is = absurd (cc)
+span_has word (Some a) None set e is = absurd (cc)
+span_has word (Some a) (Some b) set e is = elim (cases_Bool (nat_le a b)) [
+  | inl y ↦ cell_of (between a b) set a (octal_below word a e) (rw y at is) (rw (le-leb a a (omega arith), y) refl)
+  | inr n ↦ let wrong : None ≡ Some set = rw n at is in absurd (cc)
+]
+
+split_has : (word : List ℕ) (o : Option ℕ) (set : Words) → range_split word o ≡ Some set → HasCell set
+split_has word None set is = address_has word (octal_word word) set refl is
+split_has word (Some n) set is = span_has (take n word) (octal_word (take n word)) (octal_word (drop (n + 1) word)) set refl is
+
+first_has : (word : List ℕ) (o : Option Words) (more : Option (List Words)) (set : Words) → range_of word ≡ o → option_map any_of (read_first o more) ≡ Some set → HasCell set
+first_has word None more set e is = absurd (cc)
+first_has word (Some c) None set e is = absurd (cc)
+first_has word (Some c) (Some cs) set e is =
+    let h : HasCell c = split_has word (position is_dash word) c e in
+    cell_of (any_of (c ∷ cs)) set h.at h.small is (or_left (c h.at) (any_of cs h.at) h.within)
+
+ranges_have : (ws : List (List ℕ)) (set : Words) → ranges_of ws ≡ Some set → HasCell set
+ranges_have [] set is = absurd (cc)
+ranges_have (w ∷ ws) set is = first_has w (range_of w) (all_read range_of ws) set refl is
+
+body_has : (ws : List (List ℕ)) (set : Words) → body_read ws ≡ Some set → HasCell set
+body_has ws set is = elim (cases_Bool (list_any is_returns ws)) [
+  | inl y ↦ ranges_have (before_first is_returns ws) set (rw y at is)
+  | inr n ↦ let wrong : None ≡ Some set = rw n at is in absurd (cc)
+]
+
+-- offsets are below 8
+offset_small : (word : List ℕ) (v : ℕ) → offset_of word ≡ Some v → v < 8
+offset_small word v is = elim (cases_Bool (length word == 1)) [
+  | inl y ↦ digit_below_8 word v (eqb-true (length word) 1 y) (sym (rw y at is))
+  | inr n ↦ let wrong : None ≡ Some v = rw n at is in absurd (cc)
+]
+
+read_small : (ws : List (List ℕ)) (os : List ℕ) → all_read offset_of ws ≡ Some os → Each (λ o. o < 8) os
+read_small [] os is = subst (λ (l : List ℕ). Each (λ o. o < 8) l) (ap given is) tt
+  where
+    given : Option (List ℕ) → List ℕ
+    given None = []
+    given (Some l) = l
+read_small (w ∷ ws) os is = step (offset_of w) (all_read offset_of ws) refl refl is
+  where
+    given : Option (List ℕ) → List ℕ
+    given None = []
+    given (Some l) = l
+
+    step : (o : Option ℕ) (more : Option (List ℕ)) → offset_of w ≡ o → all_read offset_of ws ≡ more → read_first o more ≡ Some os → Each (λ o. o < 8) os
+    step None more e f g = absurd (cc)
+    step (Some v) None e f g = absurd (cc)
+    step (Some v) (Some vs) e f g = subst (λ (l : List ℕ). Each (λ o. o < 8) l) (ap given g) (offset_small w v e, read_small ws vs f)
+
+these_above : (os : List ℕ) → Each (λ o. o < 8) os → (o : ℕ) → 8 ≤ o → these os o ≡ false
+these_above [] h o a = refl
+these_above (v ∷ vs) h o a = rw (ne_eqb v o (λ z. let q : v < 8 = h.0 in omega arith)) (these_above vs h.1 o a)
+
+offsets_small : (ws : List (List ℕ)) (set : Words) → offsets_read ws ≡ Some set → (o : ℕ) → 8 ≤ o → set o ≡ false
+offsets_small ws set is = go (all_read offset_of ws) refl is
+  where
+    given : Option Words → Words
+    given None = nothing
+    given (Some x) = x
+
+    go : (all : Option (List ℕ)) → all_read offset_of ws ≡ all → option_map these all ≡ Some set → (o : ℕ) → 8 ≤ o → set o ≡ false
+    go None e f o a = absurd (cc)
+    go (Some os) e f o a = ap (λ (x : Words). x o) (sym (ap given f)) ∙ these_above os (read_small ws os e) o a
+
+-- where a line says a routine, it is of its form
 abbrev pub EntryFits : Option Line → Type 0
-EntryFits line = (r : Subroutine) → line ≡ Some (Sub r) → r.entry < 4096
+EntryFits line = (r : Subroutine) → line ≡ Some (Sub r) → IsFormed r
 
 fits_if : (b : Bool) (x y : Option Line) → EntryFits x → EntryFits y → EntryFits (if b then x else y)
 fits_if true x y f g = f
@@ -84,23 +166,23 @@ fits_profile [] r is = absurd (cc)
 fits_profile (w ∷ []) r is = fits_if _ _ _ (fits_machine Pdp8I) (fits_if _ _ _ (fits_machine Pdp8E) fits_none) r is
 fits_profile (w ∷ x ∷ more) r is = absurd (cc)
 
-abbrev entry_in : Option Line → ℕ
-entry_in (Some (Sub r)) = r.entry
-entry_in _ = 0
-
-fits_routine : (word : List ℕ) (e : Option ℕ) (body offsets : Option Words) → e ≡ octal_word word → EntryFits (routine e body offsets)
-fits_routine word None body offsets entry r is = absurd (cc)
-fits_routine word (Some e) None offsets entry r is = absurd (cc)
-fits_routine word (Some e) (Some body) None entry r is = absurd (cc)
-fits_routine word (Some e) (Some body) (Some offsets) entry r is =
-    let same : e ≡ r.entry = ap entry_in is in
-    let small : e < 4096 = octal_below word e (sym entry) in
-    omega arith
+fits_routine : (word : List ℕ) (ws vs : List (List ℕ)) (e : Option ℕ) (body offsets : Option Words) → octal_word word ≡ e → body_read ws ≡ body → offsets_read vs ≡ offsets →
+    EntryFits (routine e body offsets)
+fits_routine word ws vs None body offsets entry b o r is = absurd (cc)
+fits_routine word ws vs (Some e) None offsets entry b o r is = absurd (cc)
+fits_routine word ws vs (Some e) (Some body) None entry b o r is = absurd (cc)
+fits_routine word ws vs (Some e) (Some body) (Some offsets) entry b o r is =
+    subst IsFormed (ap given is) (record { entry = octal_below word e entry; body = body_has ws body b; offsets = offsets_small vs offsets o })
+  where
+    given : Option Line → Subroutine
+    given (Some (Sub x)) = x
+    given _ = r
 
 fits_sub : (ws : List (List ℕ)) → EntryFits (sub_line ws)
 fits_sub [] r is = absurd (cc)
 fits_sub (w ∷ []) r is = absurd (cc)
-fits_sub (w ∷ x ∷ more) r is = fits_if _ _ _ (fits_routine w (octal_word w) (body_read more) (offsets_read (after_first is_returns more)) refl) fits_none r is
+fits_sub (w ∷ x ∷ more) r is =
+    fits_if _ _ _ (fits_routine w more (after_first is_returns more) (octal_word w) (body_read more) (offsets_read (after_first is_returns more)) refl refl refl) fits_none r is
 
 fits_line : (ws : List (List ℕ)) → EntryFits (line_by ws)
 fits_line [] r is = absurd (cc)
@@ -109,37 +191,31 @@ fits_line (name ∷ rest) r is =
     (fits_if _ _ _ (fits_stops (addresses_of rest)) (fits_if _ _ _ (fits_pauses (addresses_of rest)) (fits_if _ _ _ (fits_profile rest)
     (fits_if _ _ _ (fits_reads (all_read range_of rest)) fits_none))))))) r is
 
-alone : (b : Bool) → (b || false) ≡ true → b ≡ true
-alone true h = refl
-alone false h = h
-
-or_cases : (a b : Bool) → (a || b) ≡ true → (a ≡ true) ⊎ (b ≡ true)
-or_cases true b e = inl refl
-or_cases false b e = inr e
-
 -- the routine of one line
-routine_fits : (text : List ℕ) (l : Line) (e : ℕ) → line_of text ≡ Some l → list_any (λ r. r.entry == e) (routine_in l) ≡ true → e < 4096
-routine_fits text Nothing e is has = absurd (cc)
-routine_fits text (Start x) e is has = absurd (cc)
-routine_fits text (Main x) e is has = absurd (cc)
-routine_fits text (Sub x) e is has =
-    let small : x.entry < 4096 = fits_line (words_of text) x is in
-    let same : x.entry ≡ e = eqb-true x.entry e (alone (x.entry == e) has) in
-    omega arith
-routine_fits text (Variables x) e is has = absurd (cc)
-routine_fits text (Stops x) e is has = absurd (cc)
-routine_fits text (Pauses x) e is has = absurd (cc)
-routine_fits text (Machine x) e is has = absurd (cc)
-routine_fits text (Reads x) e is has = absurd (cc)
+routine_fits : (text : List ℕ) (l : Line) → line_of text ≡ Some l → Each IsFormed (routine_in l)
+routine_fits text Nothing is = tt
+routine_fits text (Start x) is = tt
+routine_fits text (Main x) is = tt
+routine_fits text (Sub x) is = (fits_line (words_of text) x is, tt)
+routine_fits text (Variables x) is = tt
+routine_fits text (Stops x) is = tt
+routine_fits text (Pauses x) is = tt
+routine_fits text (Machine x) is = tt
+routine_fits text (Reads x) is = tt
 
-some_list : (xs ys : List Subroutine) (e : ℕ) → list_any (λ r. r.entry == e) (xs ++ ys) ≡ true → (list_any (λ r. r.entry == e) xs ≡ true) ⊎ (list_any (λ r. r.entry == e) ys ≡ true)
-some_list xs ys e has = or_cases (list_any (λ r. r.entry == e) xs) (list_any (λ r. r.entry == e) ys) (sym (list_any-append (λ r. r.entry == e) xs ys) ∙ has)
+-- the routines of good lines are of their form
+pub routines_fit : (texts : List (List ℕ)) (lines : List Line) → map line_of texts ≡ map Some lines → Each IsFormed (contents lines).routines
+routines_fit texts [] say = tt
+routines_fit [] (l ∷ ls) say = absurd (cc)
+routines_fit (text ∷ texts) (l ∷ ls) say =
+    let first : line_of text ≡ Some l = cc in
+    let rest : map line_of texts ≡ map Some ls = cc in
+    each_both IsFormed (routine_in l) (flat_map routine_in ls) (routine_fits text l first) (routines_fit texts ls rest)
 
--- the entries of good lines are words
-pub entries_fit : (texts : List (List ℕ)) (lines : List Line) → map line_of texts ≡ map Some lines → (e : ℕ) → is_entry (contents lines) e ≡ true → e < 4096
-entries_fit texts [] say e has = absurd (cc)
-entries_fit [] (l ∷ ls) say e has = absurd (cc)
-entries_fit (text ∷ texts) (l ∷ ls) say e has = elim (some_list (routine_in l) (flat_map routine_in ls) e has) [
-  | inl here ↦ let first : line_of text ≡ Some l = cc in routine_fits text l e first here
-  | inr later ↦ let rest : map line_of texts ≡ map Some ls = cc in entries_fit texts ls rest e later
+-- so their entries are words
+pub entries_fit : (rs : List Subroutine) → Each IsFormed rs → (e : ℕ) → list_any (λ r. r.entry == e) rs ≡ true → e < 4096
+entries_fit [] h e has = absurd (cc)
+entries_fit (r ∷ rs) h e has = elim (or_cases (r.entry == e) (list_any (λ q. q.entry == e) rs) has) [
+  | inl here ↦ (let same : r.entry ≡ e = eqb-true r.entry e here in let small : r.entry < 4096 = h.0.entry in omega arith)
+  | inr later ↦ entries_fit rs h.1 e later
 ]

@@ -1,15 +1,16 @@
 -- What lines that are taken say together, and the fault of the first that isn't.
-use Rattle.std.proofs.Common.{ℕ, ◌≡◌, ◌<◌, ◌≤◌, List, [], length, true, subst, sym, inr}
+use Rattle.std.proofs.Common.{ℕ, ◌≡◌, ◌≤◌, List, [], length, subst, sym, inr}
 use Rattle.streams.specs.Taking.{TakesAll, RefusesFirst}
 use Rattle.streams.specs.Text.{text_lines}
 use Rattle.streams.proofs.TakingLemmas.{takes_keep}
 use Rattle.declaration.specs.Lines.{line_of}
-use Rattle.declaration.specs.Text.{Contents, contents, LineFails, FailsAtLine, Fails, is_entry, most_bytes}
+use Rattle.declaration.specs.Text.{Contents, contents, LineFails, FailsAtLine, Fails, most_bytes, most_routines}
+use Rattle.declaration.specs.Writing.{Each, IsFormed}
 use Rattle.declaration.specs.Drafts.{Adds, HasLines}
 use Rattle.declaration.specs.declared.DeclarationFault.{DeclarationFault}
 use Rattle.declaration.specs.declared.DeclarationFault.TheVariants.{BadLine, TwoStarts, TwoProfiles, NoStart, Overlap, EntryInAutoIndex, StartNotInMain, TooMany, HaltNotInBody, NoMemory}
 use Rattle.declaration.proofs.DraftLemmas.{Gathers, Gathers-none, Gathers-push}
-use Rattle.declaration.proofs.EntryLemmas.{entries_fit}
+use Rattle.declaration.proofs.EntryLemmas.{routines_fit}
 
 -- lines that are taken are good
 gathers : {S : Type 0} (say : S → Contents) (s t : S) (lines : List (List ℕ)) → say s ≡ contents [] → TakesAll (λ x line y. Adds (say x) line (say y)) s lines t → Gathers lines (say t)
@@ -20,10 +21,14 @@ gathers say s t lines none all =
 pub has_lines : {S : Type 0} (say : S → Contents) (s t : S) (text : List ℕ) → length text ≤ most_bytes → say s ≡ contents [] → TakesAll (λ x line y. Adds (say x) line (say y)) s (text_lines text) t → HasLines text (say t)
 has_lines say s t text short none all = let g = gathers say s t (text_lines text) none all in record { lines = g.lines; good = record { short = short; good = g.good }; together = g.together }
 
--- and their entries are words
-pub gathered_fit : {S : Type 0} (say : S → Contents) (s t : S) (lines : List (List ℕ)) → say s ≡ contents [] → TakesAll (λ x line y. Adds (say x) line (say y)) s lines t → (e : ℕ) → is_entry (say t) e ≡ true → e < 4096
-gathered_fit say s t lines none all e is =
-    let g = gathers say s t lines none all in entries_fit lines g.lines g.good.say e (subst (λ (x : Contents). is_entry x e ≡ true) (sym g.together) is)
+-- and their routines are of their form, and not too many
+pub gathered_formed : {S : Type 0} (say : S → Contents) (s t : S) (lines : List (List ℕ)) → say s ≡ contents [] → TakesAll (λ x line y. Adds (say x) line (say y)) s lines t → Each IsFormed (say t).routines
+gathered_formed say s t lines none all =
+    let g = gathers say s t lines none all in subst (λ (x : Contents). Each IsFormed x.routines) g.together (routines_fit lines g.lines g.good.say)
+
+pub gathered_few : {S : Type 0} (say : S → Contents) (s t : S) (lines : List (List ℕ)) → say s ≡ contents [] → TakesAll (λ x line y. Adds (say x) line (say y)) s lines t → length (say t).routines ≤ most_routines
+gathered_few say s t lines none all =
+    let g = gathers say s t lines none all in subst (λ (x : Contents). length x.routines ≤ most_routines) g.together g.good.few
 
 at_line : (text : List ℕ) (fault : DeclarationFault) → FailsAtLine text fault → Fails text fault
 at_line text (BadLine n) f = f

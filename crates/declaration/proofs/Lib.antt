@@ -6,3 +6,9 @@ pub mod EntryLemmas
 pub mod FaultLemmas
 pub mod VerdictLemmas
 mod OwnerLemmas
+pub mod AddedLemmas
+pub mod RunLemmas
+pub mod WordLemmas
+pub mod WrittenLemmas
+pub mod LoopLemmas
+mod WholeLemmas

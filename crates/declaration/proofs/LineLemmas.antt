@@ -61,7 +61,7 @@ none_first : (o : Option Words) → None ≡ read_first {X = Words} o None
 none_first None = refl
 none_first (Some c) = refl
 
-ranges_before-first : (w : List ℕ) (ws : List (List ℕ)) → is_returns w ≡ false → ranges_before (w ∷ ws) ≡ read_first (range_of w) (ranges_before ws)
+pub ranges_before-first : (w : List ℕ) (ws : List (List ℕ)) → is_returns w ≡ false → ranges_before (w ∷ ws) ≡ read_first (range_of w) (ranges_before ws)
 ranges_before-first w ws not = elim (cases_Bool (list_any is_returns ws)) [
   | inl e ↦ rw (not, e, one_suc (position_or_len is_returns ws)) refl
   | inr e ↦ rw (not, e) (none_first (range_of w))

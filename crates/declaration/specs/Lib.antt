@@ -3,3 +3,5 @@ pub mod Kept
 pub mod Lines
 pub mod Text
 pub mod Drafts
+pub mod Written
+pub mod Writing

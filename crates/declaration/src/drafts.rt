@@ -1,12 +1,13 @@
 //! What the lines of a declaration say together, and the rules that it keeps.
 
-ghost use Rattle.std.specs.Prelude.{ℕ, Some, ◌≡◌, ◌<◌, ◌+◌, [], ◌∷◌, if◌then◌else◌, map, IsTrue, OnOk, IfOk, IfErr};
+ghost use Rattle.std.specs.Prelude.{ℕ, Some, ◌≡◌, ◌<◌, ◌≤◌, ◌+◌, length, [], ◌∷◌, if◌then◌else◌, map, IsTrue, OnOk, IfOk, IfErr};
 ghost use Rattle.wordset.specs.Words.{SameWords};
 ghost use Rattle.wordset.specs.Lanes.{words};
 ghost use Rattle.processor.specs.Machine.{is_auto_index};
 ghost use Rattle.declaration.specs.Declaration.{IsDeclared};
 ghost use Rattle.declaration.specs.Kept.{meaning, routines_of, subroutine_of};
-ghost use Rattle.declaration.specs.Text.{contents, is_entry, Says, KeepsRules, LineFails, RuleFails, overlaps, entry_in_index, halt_outside, bodies_at, entries_at};
+ghost use Rattle.declaration.specs.Text.{contents, most_routines, Says, KeepsRules, LineFails, RuleFails, overlaps, entry_in_index, halt_outside, bodies_at, entries_at};
+ghost use Rattle.declaration.specs.Writing.{Each, IsFormed};
 ghost use Rattle.declaration.specs.Drafts.{gathered, said, with_line, MayFollow, Counts, kept_bodies, kept_entries};
 
 use super::coverage::Coverage;
@@ -132,7 +133,8 @@ impl<A: Allocator> Draft<A> {
 
     /// The declaration, where all that was said keeps the rules.
     pub fn finish(self) -> Result<Declaration<A>, DeclarationFault>
-        requires { (e : ℕ) → IsTrue (is_entry (gathered self) e) → e < 4096 }
+        requires formed { Each IsFormed (gathered self).routines }
+        requires few { length (gathered self).routines ≤ most_routines }
         ensures says { IfOk result (λ d. Says (gathered self) (meaning d)) }
         ensures rules { IfOk result (λ d. KeepsRules (gathered self) (meaning d).start) }
         ensures declared { IfOk result (λ d. IsDeclared (meaning d)) }

@@ -1,11 +1,16 @@
 //! Declarations: as a text gives them, as they are kept, and their readers.
 #![tactic(auto)]
 
-ghost use Rattle.std.specs.Prelude.{ℕ, ◌≡◌, ◌≢◌, ◌⊎◌, ◌<◌, ◌≤◌, ◌↔◌, ◌==◌, length, IsTrue, true, false, IfSome, IfNone, IfOk, IfErr, IsErrOf, None, Some, is_some};
+ghost use Rattle.std.specs.Prelude.{ℕ, ◌≡◌, ◌≢◌, ◌⊎◌, ◌<◌, ◌≤◌, ◌↔◌, ◌==◌, length, map, IsTrue, true, false, IfSome, IfNone, IfOk, IfErr, OnOk, IsErrOf, None, Some, Err, is_some};
+ghost use Rattle.std.specs.Io.KnownBytes.{Appends};
 ghost use Rattle.std.specs.List.{find};
 ghost use Rattle.std.specs.Option.{option_map};
 ghost use Rattle.declaration.specs.Declaration.{Declaration as Declared, Routine as MainOrEntry, IsDeclared, IsListed};
-ghost use Rattle.declaration.specs.Text.{Declares, Fails, ListsRoutines, is_entry, most_bytes};
+ghost use Rattle.declaration.specs.Text.{Declares, Fails, ListsRoutines, is_entry, most_bytes, most_routines};
+ghost use Rattle.declaration.specs.Written.{text_of, failed_to_write};
+ghost use Rattle.declaration.specs.Writing.{Each, IsFormed};
+ghost use Rattle.declaration.specs.declared.written.WriteDeclarationFault.TheVariants.{TooLong, WriteFault};
+ghost use Rattle.streams.specs.Bytes.{AppendsFront};
 ghost use Rattle.declaration.specs.Drafts.{gathered, HasLines};
 ghost use Rattle.declaration.specs.declared.DeclarationFault.{DeclarationFault};
 ghost use Rattle.declaration.specs.declared.DeclarationFault.TheVariants.{NoMemory};
@@ -13,10 +18,12 @@ ghost use Rattle.wordset.specs.Lanes.{words};
 ghost use Rattle.declaration.specs.Kept.{offsets_of, subroutine_of, routine_of, routines_of, meaning};
 
 use crate::drafts::Draft;
+use crate::written::whole_text;
 use instruct::Profile;
 use std::alloc::Allocator;
 use std::marker::Model;
 use streams::taking::take_lines;
+use streams::{ByteSink, put};
 use thiserror::Error;
 use word12::Word;
 use wordset::WordSet;
@@ -24,6 +31,9 @@ use wordset::WordSet;
 mod coverage;
 mod drafts;
 mod lines;
+mod written;
+
+pub use crate::written::WriteDeclarationFault;
 
 /// The most bytes of a declaration.
 const MOST_BYTES: usize = 16_384;
@@ -107,8 +117,8 @@ pub struct Declaration<A: Allocator> {
 }
 
 impl<A: Allocator> Model for Declaration<A> {
-    ghost use Rattle.declaration.specs.Declaration.{IsDeclared};
-    ghost use Rattle.declaration.specs.Kept.{Kept, meaning};
+    ghost use Rattle.declaration.specs.Kept.{Kept};
+    ghost use Rattle.declaration.specs.Writing.{IsKept};
 
     ghost Value = { Kept };
 
@@ -123,8 +133,8 @@ impl<A: Allocator> Model for Declaration<A> {
       reads = d.reads;
     } };
 
-    // Each declaration keeps the overlap rules.
-    ghost invariant = { λ d. IsDeclared (meaning (record {
+    // Each declaration keeps the overlap rules, and its routines are such as lines say.
+    ghost invariant = { λ d. IsKept (record {
       start = d.start;
       profile = d.profile;
       main = d.main;
@@ -133,7 +143,7 @@ impl<A: Allocator> Model for Declaration<A> {
       stops = d.stops;
       pauses = d.pauses;
       reads = d.reads;
-    })) };
+    }) };
 }
 
 impl Offsets {
@@ -206,6 +216,50 @@ impl<A: Allocator> Declaration<A> {
     /// Shows that a declaration keeps the overlap rules, which proofs about a borrowed one need.
     pub fn is_declared(&self)
         ensures { IsDeclared (meaning self.now) }
+    {
+        let _start = &self.start;
+    }
+
+    /// Writes its text: in this order the lines of the start, of the machine, of main's body, of
+    /// each routine, of the variables, of the stops, of the pauses and of the cells that may be read.
+    /// Cells that follow one another are joined, but for stops and pauses, and there are at most
+    /// seven words on a line after its name, but for routines. The sink has met no failure yet.
+    ///
+    /// # Errors
+    ///
+    /// `TooLong` where the text has more than 16,384 bytes; nothing is written then. `WriteFault`
+    /// where a write failed or took nothing, which the mark shows; a front of the text went out
+    /// before it.
+    pub fn write<W: ByteSink>(&self, sink: &mut W) -> Result<(), WriteDeclarationFault>
+        requires unmarked { W.mark sink.old ≡ false }
+        ensures whole { OnOk result
+            (Appends (W.taken sink.old) (W.taken sink.new) (text_of self.now)) }
+        // What went out has this declaration, with the routines in their order.
+        ensures declares { OnOk result (Declares (text_of self.now) (meaning self.now)) }
+        ensures routines { OnOk result (ListsRoutines (text_of self.now) (routines_of self.now)) }
+        ensures long { (result ≡ Err TooLong) ↔ (most_bytes < length (text_of self.now)) }
+        ensures nothing { result ≡ Err TooLong → sink.new ≡ sink.old }
+        ensures front { result ≡ Err WriteFault →
+            AppendsFront (W.taken sink.old) (W.taken sink.new) (text_of self.now) }
+        ensures marks { W.mark sink.new ≡ failed_to_write result }
+    {
+        let text = whole_text(self);
+        if text.is_too_long() {
+            return Err(WriteDeclarationFault::TooLong);
+        }
+        self.written_text_reads_back();
+        match put(sink, &text.bytes) {
+            Ok(()) => Ok(()),
+            Err(_) => Err(WriteDeclarationFault::WriteFault),
+        }
+    }
+
+    /// Shows that the text that is written, where it isn't too long, has this declaration.
+    pub fn written_text_reads_back(&self)
+        ensures declares { length (text_of self.now) ≤ most_bytes
+            → Declares (text_of self.now) (meaning self.now) }
+        ensures routines { length (text_of self.now) ≤ most_bytes
+            → ListsRoutines (text_of self.now) (routines_of self.now) }
     {
         let _start = &self.start;
     }
@@ -377,8 +431,8 @@ fn parse_lines<A: Allocator>(alloc: A, text: &[u8]) -> Result<Declaration<A>, De
 fn read_lines<A: Allocator>(alloc: A, text: &[u8]) -> Result<Draft<A>, DeclarationFault>
     requires { length text.now ≤ most_bytes }
     ensures found { IfOk result (λ draft. HasLines text.now (gathered draft)) }
-    ensures fit { IfOk result (λ draft.
-        (e : ℕ) → IsTrue (is_entry (gathered draft) e) → e < 4096) }
+    ensures fit { IfOk result (λ draft. Each IsFormed (gathered draft).routines) }
+    ensures few { IfOk result (λ draft. length (gathered draft).routines ≤ most_routines) }
     ensures refused { IfErr result (Fails text.now) }
 {
     let mut draft = Draft::new(alloc);

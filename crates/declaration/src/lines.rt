@@ -32,7 +32,7 @@ pub enum Line {
 
 /// What a word of a list of cells may be.
 #[derive(Clone, Copy)]
-enum Form {
+pub enum Form {
     /// An address, or two with a dash between them.
     Range,
     /// An address.

@@ -1,9 +1,11 @@
 //! Texts of declarations worked by hand from the description of their lines.
 
-use crate::{Declaration, DeclarationFault};
+use crate::{Declaration, DeclarationFault, WriteDeclarationFault};
 use instruct::Profile;
+use std::alloc::Allocator;
 use std::test::Fail;
-use testing::Refusing;
+use streams::ByteSink;
+use testing::{MemorySink, Refusing};
 use word12::Word;
 
 /// The declaration of a program that types HELLO.
@@ -282,4 +284,109 @@ fn a_fault_after_a_refused_growth_is_not_told(rt: HostRuntime) {
         assert_eq!(rt; answer, Some(DeclarationFault::NoMemory));
     }
     panic!(rt; "it never ended")
+}
+
+/// Texts of declarations, and what is written of each.
+const WRITTEN: [(&[u8], &[u8]); 7] = [
+    (
+        HELLO,
+        b"start 0200\nprofile 8i\nmain 0200-0213\nsub 0214 body 0215-0221 returns 0\nvar 0010 0224\npause 0212\n",
+    ),
+    (
+        b"main 7 6-7 / cells\nstart 7\nsub 1 body 2 3-3 returns 7 0 7\nsub 4 body 5 returns\nstop 5 2\nstop 3",
+        b"start 0007\nprofile 8i\nmain 0006-0007\nsub 0001 body 0002-0003 returns 0 7\nsub 0004 body 0005 returns\nstop 0002 0003 0005\n",
+    ),
+    (
+        b"start 200\nmain 200\nread 0010 0222-0231\nprofile 8e",
+        b"start 0200\nprofile 8e\nmain 0200\nread 0010 0222-0231\n",
+    ),
+    (
+        b"start 200\nmain 200\nread",
+        b"start 0200\nprofile 8i\nmain 0200\nread\n",
+    ),
+    (
+        b"start 7777\nmain 0-7777\nvar 7777 0 7775 7776",
+        b"start 7777\nprofile 8i\nmain 0000-7777\nvar 0000 7775-7777\n",
+    ),
+    (
+        b"start 0\nmain 0 2 4 6 10 12 14\nvar 0 2 4 6 10 12 14-15 17",
+        b"start 0000\nprofile 8i\nmain 0000 0002 0004 0006 0010 0012 0014\nvar 0000 0002 0004 0006 0010 0012 0014-0015\nvar 0017\n",
+    ),
+    (
+        b"start 0\nmain 0\nsub 1 body 2 4 6 10 12 14 16 20 22-23 returns 6 5\nread 0-1 3 5 7 11 13 15 17 21",
+        b"start 0000\nprofile 8i\nmain 0000\nsub 0001 body 0002 0004 0006 0010 0012 0014 0016 0020 0022-0023 returns 5 6\nread 0000-0001 0003 0005 0007 0011 0013 0015\nread 0017 0021\n",
+    ),
+];
+
+/// Whether the readers of two declarations show the same.
+fn are_same<A: Allocator>(one: &Declaration<A>, other: &Declaration<A>) -> bool {
+    one.start() == other.start()
+        && one.profile() == other.profile()
+        && one.main() == other.main()
+        && one.routines() == other.routines()
+        && one.variables() == other.variables()
+        && one.stops() == other.stops()
+        && one.pauses() == other.pauses()
+        && one.reads() == other.reads()
+}
+
+#[test]
+fn what_is_written_reads_back(rt: HostRuntime) -> Result<(), Fail> {
+    for (text, written) in WRITTEN {
+        let declaration = Declaration::parse(rt.alloc(), text)?;
+        let mut sink = MemorySink::new(rt.alloc(), 16_384);
+        assert_eq!(rt; declaration.write(&mut sink), Ok(()));
+        assert!(rt; sink.bytes() == written);
+        let again = Declaration::parse(rt.alloc(), sink.bytes())?;
+        assert!(rt; are_same(&declaration, &again));
+    }
+    Ok(())
+}
+
+#[test]
+fn where_a_write_fails_a_front_went_out(rt: HostRuntime) -> Result<(), Fail> {
+    for (text, written) in WRITTEN {
+        let declaration = Declaration::parse(rt.alloc(), text)?;
+        for room in 0..written.len() {
+            let mut sink = MemorySink::new(rt.alloc(), room);
+            assert_eq!(rt;
+                declaration.write(&mut sink),
+                Err(WriteDeclarationFault::WriteFault)
+            );
+            assert!(rt; sink.bytes() == &written[..room] && sink.failed());
+        }
+    }
+    Ok(())
+}
+
+/// Writes a declaration of so many stops, whose own text gives them in as few digits as may be.
+fn with_stops(rt: &HostRuntime, count: u16) -> Result<Result<usize, WriteDeclarationFault>, Fail> {
+    let mut text = Vec::new(rt.alloc());
+    text.extend_from_slice(b"start 0\nmain 0-7777\nstop")?;
+    for at in 0..count {
+        let digits = word(at)?.to_octal();
+        let first = digits.iter().position(|digit| *digit != b'0').unwrap_or(3);
+        text.push(b' ')?;
+        text.extend_from_slice(&digits[first..])?;
+    }
+    let declaration = Declaration::parse(rt.alloc(), &text)?;
+    let mut sink = MemorySink::new(rt.alloc(), 20_000);
+    let answer = declaration.write(&mut sink);
+    Ok(answer.map(|()| sink.bytes().len()))
+}
+
+#[test]
+fn the_longest_text(rt: HostRuntime) -> Result<(), Fail> {
+    assert_eq!(rt; with_stops(&rt, 2860)?, Ok(16_382));
+    assert_eq!(rt; with_stops(&rt, 2861)?, Err(WriteDeclarationFault::TooLong));
+    assert_eq!(rt; with_stops(&rt, 3300)?, Err(WriteDeclarationFault::TooLong));
+    Ok(())
+}
+
+#[test]
+fn names_of_the_faults_of_writing(rt: HostRuntime) -> Result<(), Fail> {
+    let alloc = rt.alloc();
+    assert_eq!(rt; WriteDeclarationFault::TooLong.to_string(alloc)?.as_str(), "TooLong");
+    assert_eq!(rt; WriteDeclarationFault::WriteFault.to_string(alloc)?.as_str(), "WriteFault");
+    Ok(())
 }

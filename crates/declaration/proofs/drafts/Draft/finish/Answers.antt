@@ -1,10 +1,11 @@
-use Rattle.std.proofs.Common.{◌&&◌, ◌==◌, refl, sym, ap, ◌∙◌}
+use Rattle.std.proofs.Common.{◌&&◌, ◌==◌, map, refl, sym, ap, ◌∙◌}
 use Rattle.std.specs.Option.{option_to_list}
 use Rattle.declaration.specs.Kept.{meaning, subroutine_of}
 use Rattle.declaration.specs.Drafts.{gathered}
 use Rattle.declaration.specs.Declaration.{Declaration}
 use Rattle.declaration.specs.Text.{Says}
 use Rattle.declaration.proofs.RuleLemmas.{any_map, profile_or, cell_below, in_bodies_below}
+use Rattle.declaration.proofs.EntryLemmas.{entries_fit}
 use Rattle.declaration.proofs.IsDeclaredLemmas.{IsDeclared-from}
 use Rattle.declaration.proofs.drafts.Draft.finish.Goals as goal
 
@@ -46,17 +47,23 @@ invariant_of-result g c =
       pause = refl;
       reads = refl;
     } in
-    IsDeclared-from (gathered c.args.self) d says c.in_default-keeps_rules.ensures.kept (record {
-      bodies = λ a is. in_bodies_below c.args.self.main c.args.self.routines.items a is;
-      entries = c.requires;
-      stops = λ a is. cell_below c.args.self.stops a is;
-      pauses = λ a is. cell_below c.args.self.pauses a is;
-    })
+    record {
+      declared = IsDeclared-from (gathered c.args.self) d says c.in_default-keeps_rules.ensures.kept (record {
+        bodies = λ a is. in_bodies_below c.args.self.main c.args.self.routines.items a is;
+        entries = entries_fit (map subroutine_of c.args.self.routines.items) c.requires.formed;
+        stops = λ a is. cell_below c.args.self.stops a is;
+        pauses = λ a is. cell_below c.args.self.pauses a is;
+      });
+      rules = (let kept = c.in_default-keeps_rules.ensures.kept in
+          record { apart = kept.apart; outside_index = kept.outside_index; start_in_main = kept.start_in_main; halts_inside = kept.halts_inside });
+      formed = c.requires.formed;
+      few = c.requires.few;
+    }
 
 pub returns-clause-declared : goal.returns-clause-declared
 returns-clause-declared g c = IsDeclared-from (gathered c.args.self) _ (returns-clause-says g c) c.in_default-keeps_rules.ensures.kept (record {
   bodies = λ a is. in_bodies_below c.args.self.main c.args.self.routines.items a is;
-  entries = c.requires;
+  entries = entries_fit (map subroutine_of c.args.self.routines.items) c.requires.formed;
   stops = λ a is. cell_below c.args.self.stops a is;
   pauses = λ a is. cell_below c.args.self.pauses a is;
 })

@@ -1,5 +1,5 @@
 -- The text of a declaration while it's written.
-use Rattle.std.proofs.Common.{◌≡◌, ◌⊎◌, ◌↔◌, ℕ, ◌+◌, ◌<◌, ◌≤◌, ◌==◌, Bool, true, false, List, [], ◌∷◌, ◌++◌, length, refl, ap, ◌∙◌, sym, inl, inr, arith, append_assoc, append-nil, get_or, length-take-le, flat_map}
+use Rattle.std.proofs.Common.{◌≡◌, ◌⊎◌, ◌↔◌, ℕ, ◌+◌, ◌<◌, ◌≤◌, ◌==◌, Bool, true, false, List, [], ◌∷◌, ◌++◌, length, refl, ap, ◌∙◌, sym, subst, inl, inr, arith, append_assoc, append-nil, get_or, length-take-le, flat_map}
 use Rattle.std.specs.Prelude.{take, not}
 use Rattle.std.proofs.lemmas.Bool.{cases_lt, eqb-true, eqb-false}
 use Rattle.std.proofs.lemmas.List.{take_all, take-append-le, take_more}
@@ -33,6 +33,13 @@ dropped xs b h = record { is = sym (take-append-le 16385 xs (b ∷ []) h) }
 
 pub is_full : (n most : ℕ) → true ≡ (n == most) → most ≤ n
 is_full n most e = let z : n ≡ most = eqb-true n most (sym e) in omega arith
+
+-- A text for one thing is that for the same, and one added to nothing is added to no text.
+pub same_text : {A : Type 0} (f : A → List ℕ) (old new : List ℕ) (x y : A) → x ≡ y → AddsText old new (f x) → AddsText old new (f y)
+same_text f old new x y e h = subst (λ z. AddsText old new (f z)) e h
+
+pub from_none : (old new text : List ℕ) → old ≡ [] → AddsText old new text → AddsText [] new text
+from_none old new text e h = subst (λ (x : List ℕ). AddsText x new text) e h
 
 -- A text byte by byte.
 pub text_more : (old now new text : List ℕ) (i : ℕ) → i < length text → AddsText old now (take i text) →

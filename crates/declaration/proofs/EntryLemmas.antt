@@ -86,24 +86,24 @@ offset_small word v is = elim (cases_Bool (length word == 1)) [
   | inr n ↦ let wrong : None ≡ Some v = rw n at is in absurd (cc)
 ]
 
-read_small : (ws : List (List ℕ)) (os : List ℕ) → all_read offset_of ws ≡ Some os → Each (λ o. o < 8) os
-read_small [] os is = subst (λ (l : List ℕ). Each (λ o. o < 8) l) (ap given is) tt
+read_small : (ws : List (List ℕ)) (os : List ℕ) → all_read offset_of ws ≡ Some os → Each (λ (o : ℕ). o < 8) os
+read_small [] os is = subst (λ (l : List ℕ). Each (λ (o : ℕ). o < 8) l) (ap given is) tt
   where
     given : Option (List ℕ) → List ℕ
     given None = []
     given (Some l) = l
-read_small (w ∷ ws) os is = step (offset_of w) (all_read offset_of ws) refl refl is
+read_small (w ∷ ws) os is = step (offset_of w) (all_read offset_of ws) refl (read_small ws) is
   where
     given : Option (List ℕ) → List ℕ
     given None = []
     given (Some l) = l
 
-    step : (o : Option ℕ) (more : Option (List ℕ)) → offset_of w ≡ o → all_read offset_of ws ≡ more → read_first o more ≡ Some os → Each (λ o. o < 8) os
+    step : (o : Option ℕ) (more : Option (List ℕ)) → offset_of w ≡ o → ((vs : List ℕ) → more ≡ Some vs → Each (λ (o : ℕ). o < 8) vs) → read_first o more ≡ Some os → Each (λ (o : ℕ). o < 8) os
     step None more e f g = absurd (cc)
     step (Some v) None e f g = absurd (cc)
-    step (Some v) (Some vs) e f g = subst (λ (l : List ℕ). Each (λ o. o < 8) l) (ap given g) (offset_small w v e, read_small ws vs f)
+    step (Some v) (Some vs) e f g = subst (λ (l : List ℕ). Each (λ (o : ℕ). o < 8) l) (ap given g) (offset_small w v e, f vs refl)
 
-these_above : (os : List ℕ) → Each (λ o. o < 8) os → (o : ℕ) → 8 ≤ o → these os o ≡ false
+these_above : (os : List ℕ) → Each (λ (o : ℕ). o < 8) os → (o : ℕ) → 8 ≤ o → these os o ≡ false
 these_above [] h o a = refl
 these_above (v ∷ vs) h o a = rw (ne_eqb v o (λ z. let q : v < 8 = h.0 in omega arith)) (these_above vs h.1 o a)
 

@@ -12,3 +12,4 @@ pub mod WordLemmas
 pub mod WrittenLemmas
 pub mod LoopLemmas
 mod WholeLemmas
+mod OneLemmas

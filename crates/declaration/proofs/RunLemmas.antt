@@ -1,10 +1,10 @@
 -- The runs of a set: how they are found, and which cells they have.
-use Rattle.std.proofs.Common.{◌≡◌, ◌⊎◌, ℕ, zero, suc, ◌+◌, ◌-◌, ◌<◌, ◌≤◌, ◌==◌, Bool, true, false, ◌||◌, ◌&&◌, not, List, [], ◌∷◌, ◌++◌, length, map, refl, ap, ◌∙◌, sym, inl, inr, arith, Some, None}
+use Rattle.std.proofs.Common.{◌≡◌, ◌⊎◌, ℕ, zero, suc, ◌+◌, ◌-◌, ◌<◌, ◌≤◌, ◌==◌, Bool, true, false, ◌||◌, ◌&&◌, not, List, [], ◌∷◌, ◌++◌, length, map, refl, ap, ◌∙◌, sym, subst, inl, inr, arith, Some, None}
 use Rattle.std.specs.Prelude.{nat_le, nat_lt, if◌then◌else◌}
 use Rattle.std.specs.List.{list_any}
 use Rattle.std.proofs.Math.Path.{fun_ext}
 use Rattle.std.proofs.lemmas.Bool.{true≢false, cases_Bool, cases_lt, eq-eqb, ne_eqb, eqb-true, eqb-false, le-leb, lt-leb, lt-ltb, le-ltb}
-use Rattle.wordset.specs.Words.{Words, all_words, difference, between, IsFirstFrom, HasNoneFrom}
+use Rattle.wordset.specs.Words.{Words, all_words, difference, one, between, IsFirstFrom, HasNoneFrom}
 use Rattle.wordset.specs.Lanes.{words}
 use Rattle.declaration.specs.Lines.{any_of, these}
 use Rattle.declaration.specs.Written.{members, cells, Run, run, joined, runs_of}
@@ -34,7 +34,7 @@ members_skip (suc k) n at set none =
     ap (λ m. members m at set) e ∙ (member_no (k + n) at set (none at (omega arith) (omega arith)) ∙ (rest ∙ ap (λ b. members n b set) f))
 
 -- the numbers are as high as the first one at least, and below the last
-pub members_fit : (n at : ℕ) (set : Words) (most : ℕ) → at + n ≤ most → Each (λ a. a < most) (members n at set)
+pub members_fit : (n at : ℕ) (set : Words) (most : ℕ) → at + n ≤ most → Each (λ (a : ℕ). a < most) (members n at set)
 members_fit zero at set most h = rw (members_none at set) tt
 members_fit (suc n) at set most h = elim (cases_Bool (set at)) [
   | inl e ↦ rw (member_yes n at set e) (omega arith, members_fit n (at + 1) set most (omega arith))
@@ -116,7 +116,7 @@ joined_runs at (first ∷ others) h fit = elim (cases_Bool (first.low == at + 1)
   | inr e ↦ rw e (record { order = omega arith; small = h }, fit)
 ]
 
-pub runs_fit : (as : List ℕ) → Each (λ a. a < 4096) as → Each IsRun (runs_of as)
+pub runs_fit : (as : List ℕ) → Each (λ (a : ℕ). a < 4096) as → Each IsRun (runs_of as)
 runs_fit [] h = tt
 runs_fit (a ∷ as) h = joined_runs a (runs_of as) h.0 (runs_fit as h.1)
 
@@ -136,29 +136,29 @@ runs_few (a ∷ as) = omega (arith, joined_few a (runs_of as), runs_few as)
 
 -- The cells of a run and of runs.
 abbrev pub cover : List Run → Words
-cover rs = any_of (map (λ r. between r.low r.high) rs)
+cover rs = any_of (map (λ (r : Run). between r.low r.high) rs)
 
 one_between : (a v : ℕ) → between a a v ≡ (a == v)
 one_between a v = elim (cases_lt v a) [
-  | inl h ↦ rw (lt-leb v a h, ne_eqb a v (λ z. omega arith)) refl
+  | inl h ↦ rw (lt-leb a v h, ne_eqb a v (λ z. omega arith)) refl
   | inr h ↦ elim (cases_lt a v) [
-    | inl g ↦ rw (le-leb a v (omega arith), lt-leb a v g, ne_eqb a v (λ z. omega arith)) refl
+    | inl g ↦ rw (le-leb a v (omega arith), lt-leb v a g, ne_eqb a v (λ z. omega arith)) refl
     | inr g ↦ (let z : a ≡ v = omega arith in rw (le-leb a v (omega arith), le-leb v a (omega arith), eq-eqb a v z) refl)
   ]
 ]
 
-pub one_run : (a : ℕ) → (λ v. v == a) ≡ between a a
+pub one_run : (a : ℕ) → one a ≡ between a a
 one_run a = fun_ext (λ v. elim (cases_lt v a) [
-  | inl h ↦ rw (lt-leb v a h, ne_eqb v a (λ z. omega arith)) refl
+  | inl h ↦ rw (lt-leb a v h, ne_eqb v a (λ z. omega arith)) refl
   | inr h ↦ elim (cases_lt a v) [
-    | inl g ↦ rw (le-leb a v (omega arith), lt-leb a v g, ne_eqb v a (λ z. omega arith)) refl
+    | inl g ↦ rw (le-leb a v (omega arith), lt-leb v a g, ne_eqb v a (λ z. omega arith)) refl
     | inr g ↦ (let z : v ≡ a = omega arith in rw (le-leb a v (omega arith), le-leb v a (omega arith), eq-eqb v a z) refl)
   ]
 ])
 
 longer_between : (a high v : ℕ) → a + 1 ≤ high → between a high v ≡ ((a == v) || between (a + 1) high v)
 longer_between a high v h = elim (cases_lt v a) [
-  | inl g ↦ rw (lt-leb v a g, ne_eqb a v (λ z. omega arith), lt-leb v (a + 1) (omega arith)) refl
+  | inl g ↦ rw (lt-leb a v g, ne_eqb a v (λ z. omega arith), lt-leb (a + 1) v (omega arith)) refl
   | inr g ↦ elim (cases_lt a v) [
     | inl k ↦ rw (le-leb a v (omega arith), ne_eqb a v (λ z. omega arith), le-leb (a + 1) v (omega arith)) refl
     | inr k ↦ (let z : a ≡ v = omega arith in rw (le-leb a v (omega arith), le-leb v high (omega arith), eq-eqb a v z) refl)
@@ -179,7 +179,7 @@ joined_cover at (first ∷ others) v fit = elim (cases_Bool (first.low == at + 1
   | inr e ↦ rw e (ap (λ b. b || cover (first ∷ others) v) (one_between at v))
 ]
 
-pub runs_cover : (as : List ℕ) (v : ℕ) → Each (λ a. a < 4096) as → cover (runs_of as) v ≡ these as v
+pub runs_cover : (as : List ℕ) (v : ℕ) → Each (λ (a : ℕ). a < 4096) as → cover (runs_of as) v ≡ these as v
 runs_cover [] v h = refl
 runs_cover (a ∷ as) v h = joined_cover a (runs_of as) v (runs_fit as h.1) ∙ ap (λ b. (a == v) || b) (runs_cover as v h.1)
 
@@ -190,7 +190,7 @@ ranges_cover set small = fun_ext (λ v. runs_cover (cells set) v (members_fit 40
 abbrev pub alone : List ℕ → List Run
 alone as = map (λ a. run a a) as
 
-pub alone_fit : (as : List ℕ) → Each (λ a. a < 4096) as → Each (λ r. (r.low ≡ r.high) × (r.high < 4096)) (alone as)
+pub alone_fit : (as : List ℕ) → Each (λ (a : ℕ). a < 4096) as → Each (λ (r : Run). (r.low ≡ r.high) × (r.high < 4096)) (alone as)
 alone_fit [] h = tt
 alone_fit (a ∷ as) h = ((refl, h.0), alone_fit as h.1)
 
@@ -201,7 +201,7 @@ alone_cover (a ∷ as) v = ap (λ b. b || cover (alone as) v) (one_between a v) 
 pub addresses_cover : (set : Words) → ((a : ℕ) → 4096 ≤ a → set a ≡ false) → cover (alone (cells set)) ≡ set
 addresses_cover set small = fun_ext (λ v. alone_cover (cells set) v) ∙ these_cells set small
 
-pub addresses_fit : (set : Words) → Each (λ r. (r.low ≡ r.high) × (r.high < 4096)) (alone (cells set))
+pub addresses_fit : (set : Words) → Each (λ (r : Run). (r.low ≡ r.high) × (r.high < 4096)) (alone (cells set))
 addresses_fit set = alone_fit (cells set) (members_fit 4096 0 set 4096 (omega arith))
 
 -- ---- the next run
@@ -260,16 +260,21 @@ not_joined at [] h = refl
 not_joined at (first ∷ others) h = rw (ne_eqb first.low (at + 1) (λ z. omega arith)) refl
 
 -- the last cell of a run
+end_run : (at : ℕ) (set : Words) → at ≡ 4095 → set at ≡ true → runs_of (left_from at set) ≡ run at at ∷ runs_of (left_from (at + 1) set)
+end_run at set end e =
+    let z : 4096 - (at + 1) ≡ 0 = omega arith in
+    let f : left_from (at + 1) set ≡ [] = ap (λ n. members n (at + 1) set) z ∙ members_none (at + 1) set in
+    ap runs_of (left_at at set (omega arith) e) ∙ (ap (λ (as : List ℕ). joined at (runs_of as)) f ∙ ap (λ (as : List ℕ). run at at ∷ runs_of as) (sym f))
+
 last_run : (at : ℕ) (set : Words) → at < 4096 → set at ≡ true → (at ≡ 4095) ⊎ (set (at + 1) ≡ false) →
     runs_of (left_from at set) ≡ run at at ∷ runs_of (left_from (at + 1) set)
-last_run at set h e (inl end) =
-    let f : left_from (at + 1) set ≡ [] = (let z : 4096 - (at + 1) ≡ 0 = omega arith in ap (λ n. members n (at + 1) set) z ∙ members_none (at + 1) set) in
-    ap runs_of (left_at at set h e) ∙ rw f refl
+last_run at set h e (inl end) = end_run at set end e
 last_run at set h e (inr stops) = elim (cases_lt at 4095) [
-  | inl more ↦ (let f : left_from (at + 1) set ≡ left_from (at + 2) set =
-      left_past (at + 1) set (omega arith) stops ∙ (let z : at + 1 + 1 ≡ at + 2 = omega arith in ap (λ b. left_from b set) z) in
-      ap runs_of (left_at at set h e) ∙ not_joined at (runs_of (left_from (at + 1) set)) (rw f (begins_from (4096 - (at + 2)) (at + 2) set)))
-  | inr end ↦ last_run at set h e (inl (omega arith))
+  | inl more ↦ (let z : at + 1 + 1 ≡ at + 2 = omega arith in
+      let f : left_from (at + 1) set ≡ left_from (at + 2) set = left_past (at + 1) set (omega arith) stops ∙ ap (λ b. left_from b set) z in
+      ap runs_of (left_at at set h e) ∙ not_joined at (runs_of (left_from (at + 1) set))
+      (subst (λ (as : List ℕ). BeginsFrom (at + 2) (runs_of as)) (sym f) (begins_from (4096 - (at + 2)) (at + 2) set)))
+  | inr past ↦ end_run at set (omega arith) e
 ]
 
 -- a run with so many cells after its first one

@@ -12,7 +12,7 @@ use Rattle.streams.specs.Text.{text_lines}
 use Rattle.declaration.specs.Declaration.{Declaration}
 use Rattle.declaration.specs.Lines.{Subroutine, Line, Start, Main, Variables, Stops, Pauses, Machine, Reads, range_of, address_of, any_of, line_by, line_of}
 use Rattle.declaration.specs.Kept.{Kept, meaning, subroutine_of}
-use Rattle.declaration.specs.Text.{Contents, contents, Says, KeepsRules, AreGood, HasGoodLines, Declares, ListsRoutines, most_bytes}
+use Rattle.declaration.specs.Text.{Contents, contents, Says, KeepsRules, AreGood, HasGoodLines, Declares, ListsRoutines, most_bytes, most_routines}
 use Rattle.declaration.specs.Drafts.{with_line}
 use Rattle.declaration.specs.Written.{Run, runs_of, cells, run_text, ranges, addresses, spaced, rows, kind_text, start_text, profile_text, routine_text, reads_text, text_of}
 use Rattle.declaration.specs.Writing.{Each, IsKept, said_of}
@@ -96,7 +96,7 @@ text_spells d k =
     let a = profile_spells d.start (start_text d.start) d.profile (start_spells d.start k.declared.start_is_word) in
     let b = kind_spells (codes "main") (record { some = omega arith; plain = refl }) range_of Main named_main (λ c y. tt) (λ x. parts s p x [] nothing nothing nothing None) (λ z y. refl)
         (runs_of (cells m)) m (ranges m) _ refl (ranges_cover m (words_end d.main)) (words_end d.main) (runs_read (runs_of (cells m)) (ranges_fit m)) a in
-    let c = routines_spell (λ x. parts s p m x nothing nothing nothing None) (λ before q. refl) (λ before q few. few) d.routines [] _ k.formed k.few b in
+    let c = routines_spell (λ x. parts s p m x nothing nothing nothing None) (λ before q. refl) (λ before q few. few) d.routines [] _ k.formed (let few : length r ≤ most_routines = k.few in omega arith) b in
     let e = kind_spells (codes "var") (record { some = omega arith; plain = refl }) range_of Variables named_variables (λ c y. tt) (λ x. parts s p m r x nothing nothing None) (λ z y. refl)
         (runs_of (cells v)) v (ranges v) _ refl (ranges_cover v (words_end d.variables)) (words_end d.variables) (runs_read (runs_of (cells v)) (ranges_fit v)) c in
     let f = kind_spells (codes "stop") (record { some = omega arith; plain = refl }) address_of Stops named_stops (λ c y. tt) (λ x. parts s p m r v x nothing None) (λ z y. refl)

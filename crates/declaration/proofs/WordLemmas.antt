@@ -15,38 +15,38 @@ use Rattle.declaration.specs.Writing.{Each}
 -- ---- characters
 
 -- a dash, or a character from the digit 0 on; and one of these or a space
-abbrev pub plain : ℕ → Bool
-plain c = c == 45 || nat_le 48 c
+abbrev pub is_plain : ℕ → Bool
+is_plain c = c == 45 || nat_le 48 c
 
 abbrev pub in_line : ℕ → Bool
-in_line c = c == 32 || plain c
+in_line c = c == 32 || is_plain c
 
-plain_is : (c : ℕ) → plain c ≡ true → (c ≡ 45) ⊎ (48 ≤ c)
+plain_is : (c : ℕ) → is_plain c ≡ true → (c ≡ 45) ⊎ (48 ≤ c)
 plain_is c h = elim (or_cases (c == 45) (nat_le 48 c) h) [
   | inl e ↦ inl (eqb-true c 45 e)
   | inr e ↦ inr (leb-true 48 c e)
 ]
 
-other_plain : (c n : ℕ) → plain c ≡ true → n < 45 → (c == n) ≡ false
+other_plain : (c n : ℕ) → is_plain c ≡ true → n < 45 → (c == n) ≡ false
 other_plain c n h small = elim (plain_is c h) [
   | inl e ↦ ne_eqb c n (λ z. omega arith)
   | inr e ↦ ne_eqb c n (λ z. omega arith)
 ]
 
-pub not_blank : (c : ℕ) → plain c ≡ true → not (is_blank c) ≡ true
+pub not_blank : (c : ℕ) → is_plain c ≡ true → not (is_blank c) ≡ true
 not_blank c h = rw (other_plain c 32 h (omega arith), other_plain c 9 h (omega arith)) refl
 
-plain_in_line : (c : ℕ) → plain c ≡ true → in_line c ≡ true
-plain_in_line c h = or_right (c == 32) (plain c) h
+plain_in_line : (c : ℕ) → is_plain c ≡ true → in_line c ≡ true
+plain_in_line c h = or_right (c == 32) (is_plain c) h
 
 other_in_line : (c n : ℕ) → in_line c ≡ true → n < 32 → (c == n) ≡ false
-other_in_line c n h small = elim (or_cases (c == 32) (plain c) h) [
+other_in_line c n h small = elim (or_cases (c == 32) (is_plain c) h) [
   | inl e ↦ (let z : c ≡ 32 = eqb-true c 32 e in ne_eqb c n (λ y. omega arith))
   | inr e ↦ other_plain c n e (omega arith)
 ]
 
 not_slash : (c : ℕ) → in_line c ≡ true → not (is_slash c) ≡ true
-not_slash c h = elim (or_cases (c == 32) (plain c) h) [
+not_slash c h = elim (or_cases (c == 32) (is_plain c) h) [
   | inl e ↦ (let z : c ≡ 32 = eqb-true c 32 e in rw z refl)
   | inr e ↦ elim (plain_is c e) [
     | inl z ↦ rw z refl
@@ -67,8 +67,8 @@ split_at : (p : ℕ → Bool) (xs : List ℕ) (y : ℕ) (rest : List ℕ) → li
 split_at p [] y rest h e = rw e refl
 split_at p (x ∷ xs) y rest h e =
     let parts = and_parts (not (p x)) (list_all (λ c. not (p c)) xs) h in
-    let no : p x ≡ false = unnot (p x) parts.0 in
-    rw (no, split_at p xs y rest parts.1 e) refl
+    let fails : p x ≡ false = unnot (p x) parts.0 in
+    rw (fails, split_at p xs y rest parts.1 e) refl
   where
     unnot : (b : Bool) → not b ≡ true → b ≡ false
     unnot true f = sym f
@@ -78,8 +78,8 @@ split_none : (p : ℕ → Bool) (xs : List ℕ) → list_all (λ c. not (p c)) x
 split_none p [] h = refl
 split_none p (x ∷ xs) h =
     let parts = and_parts (not (p x)) (list_all (λ c. not (p c)) xs) h in
-    let no : p x ≡ false = unnot (p x) parts.0 in
-    rw (no, split_none p xs parts.1) refl
+    let fails : p x ≡ false = unnot (p x) parts.0 in
+    rw (fails, split_none p xs parts.1) refl
   where
     unnot : (b : Bool) → not b ≡ true → b ≡ false
     unnot true f = sym f
@@ -120,12 +120,12 @@ line_first line rest h =
 -- A word has a character, and no blank, slash or line end.
 pub record IsWord (word : List ℕ) : Type 0 where
   pub some : 0 < length word
-  pub plain : list_all plain word ≡ true
+  pub plain : list_all is_plain word ≡ true
 
-no_blanks : (word : List ℕ) → list_all plain word ≡ true → list_all (λ c. not (is_blank c)) word ≡ true
-no_blanks word h = weaker plain (λ c. not (is_blank c)) not_blank word h
+no_blanks : (word : List ℕ) → list_all is_plain word ≡ true → list_all (λ c. not (is_blank c)) word ≡ true
+no_blanks word h = weaker is_plain (λ c. not (is_blank c)) not_blank word h
 
-split_words : (word : List ℕ) (ws : List (List ℕ)) → list_all plain word ≡ true → Each IsWord ws → slice_split is_blank (word ++ spaced ws) ≡ word ∷ ws
+split_words : (word : List ℕ) (ws : List (List ℕ)) → list_all is_plain word ≡ true → Each IsWord ws → slice_split is_blank (word ++ spaced ws) ≡ word ∷ ws
 split_words word [] h each = rw (append-nil word) (split_none is_blank word (no_blanks word h))
 split_words word (w ∷ ws) h each =
     split_at is_blank word 32 (w ++ spaced ws) (no_blanks word h) refl ∙ ap (λ (l : List (List ℕ)). word ∷ l) (split_words w ws each.0.plain each.1)
@@ -141,11 +141,11 @@ words_of-line name ws is each = rw (split_words name ws is.plain each) (all_some
 spaced_in_line : (ws : List (List ℕ)) → Each IsWord ws → list_all in_line (spaced ws) ≡ true
 spaced_in_line [] each = refl
 spaced_in_line (w ∷ ws) each =
-    list_all-append in_line w (spaced ws) ∙ and_from (list_all in_line w) (list_all in_line (spaced ws)) (weaker plain in_line plain_in_line w each.0.plain) (spaced_in_line ws each.1)
+    list_all-append in_line w (spaced ws) ∙ and_from (list_all in_line w) (list_all in_line (spaced ws)) (weaker is_plain in_line plain_in_line w each.0.plain) (spaced_in_line ws each.1)
 
 pub is_line : (name : List ℕ) (ws : List (List ℕ)) → IsWord name → Each IsWord ws → list_all in_line (name ++ spaced ws) ≡ true
 is_line name ws is each =
-    list_all-append in_line name (spaced ws) ∙ and_from (list_all in_line name) (list_all in_line (spaced ws)) (weaker plain in_line plain_in_line name is.plain) (spaced_in_line ws each)
+    list_all-append in_line name (spaced ws) ∙ and_from (list_all in_line name) (list_all in_line (spaced ws)) (weaker is_plain in_line plain_in_line name is.plain) (spaced_in_line ws each)
 
 pub each_both : {X : Type 0} (P : X → Type 0) (xs ys : List X) → Each P xs → Each P ys → Each P (xs ++ ys)
 each_both P [] ys a b = b
@@ -153,31 +153,30 @@ each_both P (x ∷ xs) ys a b = (a.0, each_both P xs ys a.1 b)
 
 -- ---- numbers
 
-plain_digit : (n : ℕ) → plain (48 + n) ≡ true
+plain_digit : (n : ℕ) → is_plain (48 + n) ≡ true
 plain_digit n = or_right (48 + n == 45) (nat_le 48 (48 + n)) (le-leb 48 (48 + n) (omega arith))
 
 octal_digit : (n : ℕ) → n < 8 → is_octal_digit (48 + n) ≡ true
 octal_digit n h = and_from (nat_le 48 (48 + n)) (nat_le (48 + n) 55) (le-leb 48 (48 + n) (omega arith)) (le-leb (48 + n) 55 (omega arith))
 
-pub plain_octal : (a : ℕ) → list_all plain (octal_text a) ≡ true
-plain_octal a = rw (plain_digit (a / 512), plain_digit (a / 64 % 8), plain_digit (a / 8 % 8), plain_digit (a % 8)) refl
+pub plain_octal : (a : ℕ) → list_all is_plain (octal_text a) ≡ true
+plain_octal a = and_from _ _ (plain_digit (a / 512)) (and_from _ _ (plain_digit (a / 64 % 8)) (and_from _ _ (plain_digit (a / 8 % 8)) (and_from _ _ (plain_digit (a % 8)) refl)))
 
 pub word_octal : (a : ℕ) → IsWord (octal_text a)
 word_octal a = record { some = omega arith; plain = plain_octal a }
 
 pub word_digit : (o : ℕ) → IsWord ((48 + o) ∷ [])
-word_digit o = record { some = omega arith; plain = rw (plain_digit o) refl }
+word_digit o = record { some = omega arith; plain = and_from _ _ (plain_digit o) refl }
 
-four_digits : (a b c d n : ℕ) → a < 8 → b < 8 → c < 8 → d < 8 → a * 512 + b * 64 + c * 8 + d ≡ n → n < 4096 →
-    octal_word ((48 + a) ∷ (48 + b) ∷ (48 + c) ∷ (48 + d) ∷ []) ≡ Some n
-four_digits a b c d n ha hb hc hd is small =
-    let value : octal_value ((48 + a) ∷ (48 + b) ∷ (48 + c) ∷ (48 + d) ∷ []) ≡ n = omega arith in
-    rw (octal_digit a ha, octal_digit b hb, octal_digit c hc, octal_digit d hd, value, lt-ltb n 4096 small) refl
+digits_spell : (ds : List ℕ) (n : ℕ) → length ds ≤ 4 → 0 < length ds → list_all is_octal_digit ds ≡ true → octal_value ds ≡ n → n < 4096 → octal_word ds ≡ Some n
+digits_spell ds n few some all value small = rw (le-leb (length ds) 4 few, ne_eqb (length ds) 0 (λ z. omega arith), all, value, lt-ltb n 4096 small) refl
 
 pub octal_reads : (a : ℕ) → a < 4096 → octal_word (octal_text a) ≡ Some a
-octal_reads a h = four_digits (a / 512) (a / 64 % 8) (a / 8 % 8) (a % 8) a (omega arith) (omega arith) (omega arith) (omega arith) (omega arith) h
+octal_reads a h =
+    let all : list_all is_octal_digit (octal_text a) ≡ true =
+    and_from _ _ (octal_digit (a / 512) (omega arith)) (and_from _ _ (octal_digit (a / 64 % 8) (omega arith)) (and_from _ _ (octal_digit (a / 8 % 8) (omega arith))
+    (and_from _ _ (octal_digit (a % 8) (omega arith)) refl))) in
+    digits_spell (octal_text a) a (omega arith) (omega arith) all (omega arith) h
 
 pub digit_reads : (o : ℕ) → o < 8 → octal_word ((48 + o) ∷ []) ≡ Some o
-digit_reads o h =
-    let value : octal_value ((48 + o) ∷ []) ≡ o = omega arith in
-    rw (octal_digit o h, value, lt-ltb o 4096 (omega arith)) refl
+digit_reads o h = digits_spell ((48 + o) ∷ []) o (omega arith) (omega arith) (and_from _ _ (octal_digit o h) refl) (omega arith) (omega arith)

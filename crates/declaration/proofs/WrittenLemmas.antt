@@ -4,7 +4,7 @@ use Rattle.std.specs.Prelude.{nat_le, nat_lt, if◌then◌else◌, codes}
 use Rattle.std.specs.List.{list_any, list_all, position, position_or_len, before_first, after_first}
 use Rattle.std.specs.Option.{option_map}
 use Rattle.std.proofs.Math.Path.{fun_ext}
-use Rattle.std.proofs.lemmas.Bool.{true≢false, cases_Bool, cases_lt, eq-eqb, ne_eqb, eqb-true, le-leb}
+use Rattle.std.proofs.lemmas.Bool.{true≢false, and_from, cases_Bool, cases_lt, eq-eqb, ne_eqb, eqb-true, le-leb}
 use Rattle.std.proofs.lemmas.Grind.{flat_map-append}
 use Rattle.std.proofs.lemmas.List.{map-append}
 use Rattle.std.proofs.lemmas.List.Folds.{list_any-append, list_all-append}
@@ -22,7 +22,7 @@ use Rattle.declaration.specs.Written.{members, cells, Run, run, runs_of, run_tex
 use Rattle.declaration.specs.Writing.{Each, IsFormed, HasCell}
 use Rattle.declaration.proofs.DraftLemmas.{Gathers, Gathers-push}
 use Rattle.declaration.proofs.LineLemmas.{or_nothing, ranges_before-first, body_some, after_other, after_returns}
-use Rattle.declaration.proofs.WordLemmas.{in_line, plain, IsWord, line_first, words_of-line, is_line, each_both, plain_octal, word_octal, word_digit, octal_reads, digit_reads}
+use Rattle.declaration.proofs.WordLemmas.{in_line, is_plain, IsWord, line_first, words_of-line, is_line, each_both, plain_octal, word_octal, word_digit, octal_reads, digit_reads}
 use Rattle.declaration.proofs.RunLemmas.{IsRun, cover, alone, one_run, ranges_fit, ranges_cover, these_offsets, words_end, members_fit}
 
 -- ---- lines that were written
@@ -53,7 +53,7 @@ pub all_words : (read : List ℕ → Option Words) (rs : List Run) → Each (Rea
 all_words read [] h = tt
 all_words read (r ∷ rs) h = (h.0.word, all_words read rs h.1)
 
-pub all_reads : (read : List ℕ → Option Words) (rs : List Run) → Each (ReadsAs read) rs → all_read read (map run_text rs) ≡ Some (map (λ r. between r.low r.high) rs)
+pub all_reads : (read : List ℕ → Option Words) (rs : List Run) → Each (ReadsAs read) rs → all_read read (map run_text rs) ≡ Some (map (λ (r : Run). between r.low r.high) rs)
 all_reads read [] h = refl
 all_reads read (r ∷ rs) h = rw (h.0.is, all_reads read rs h.1) refl
 
@@ -63,8 +63,8 @@ no_dash n = ne_eqb (48 + n) 45 (λ z. omega arith)
 address_range : (a b c d : ℕ) → position is_dash ((48 + a) ∷ (48 + b) ∷ (48 + c) ∷ (48 + d) ∷ []) ≡ None
 address_range a b c d = rw (no_dash a, no_dash b, no_dash c, no_dash d) refl
 
-dash_in_pair : (a b c d : ℕ) (more : List ℕ) → position is_dash ((48 + a) ∷ (48 + b) ∷ (48 + c) ∷ (48 + d) ∷ 45 ∷ more) ≡ Some 4
-dash_in_pair a b c d more = rw (no_dash a, no_dash b, no_dash c, no_dash d) refl
+dash_in_pair : (a b c d e f g h : ℕ) → position is_dash ((48 + a) ∷ (48 + b) ∷ (48 + c) ∷ (48 + d) ∷ 45 ∷ (48 + e) ∷ (48 + f) ∷ (48 + g) ∷ (48 + h) ∷ []) ≡ Some 4
+dash_in_pair a b c d e f g h = rw (no_dash a, no_dash b, no_dash c, no_dash d) refl
 
 address_reads : (a : ℕ) → a < 4096 → address_of (octal_text a) ≡ Some (between a a)
 address_reads a h = ap (option_map one) (octal_reads a h) ∙ ap (λ (s : Words). Some s) (one_run a)
@@ -77,7 +77,7 @@ in_order low high h = rw (le-leb low high h) refl
 
 pair_reads : (low high : ℕ) → low ≤ high → high < 4096 → range_of (octal_text low ++ (45 ∷ octal_text high)) ≡ Some (between low high)
 pair_reads low high h small =
-    ap (range_split (octal_text low ++ (45 ∷ octal_text high))) (dash_in_pair (low / 512) (low / 64 % 8) (low / 8 % 8) (low % 8) (octal_text high)) ∙
+    ap (range_split (octal_text low ++ (45 ∷ octal_text high))) (dash_in_pair (low / 512) (low / 64 % 8) (low / 8 % 8) (low % 8) (high / 512) (high / 64 % 8) (high / 8 % 8) (high % 8)) ∙
     (ap (λ o. span o (octal_word (octal_text high))) (octal_reads low (omega arith)) ∙ (ap (λ o. span (Some low) o) (octal_reads high small) ∙ in_order low high h))
 
 single : (r : Run) → r.low ≡ r.high → run_text r ≡ octal_text r.low
@@ -87,7 +87,7 @@ double : (r : Run) → (r.low == r.high) ≡ false → run_text r ≡ octal_text
 double r e = rw e refl
 
 word_pair : (low high : ℕ) → IsWord (octal_text low ++ (45 ∷ octal_text high))
-word_pair low high = record { some = omega arith; plain = list_all-append plain (octal_text low) (45 ∷ octal_text high) ∙ rw (plain_octal low) (plain_octal high) }
+word_pair low high = record { some = omega arith; plain = list_all-append is_plain (octal_text low) (45 ∷ octal_text high) ∙ and_from _ _ (plain_octal low) (plain_octal high) }
 
 pub run_reads : (r : Run) → IsRun r → ReadsAs range_of r
 run_reads r h = elim (cases_Bool (r.low == r.high)) [
@@ -108,7 +108,7 @@ cell_reads r z small =
     let t : run_text r ≡ octal_text r.low = single r z in
     record { is = ap address_of t ∙ (address_reads r.low (omega arith) ∙ ap (λ b. Some (between r.low b)) z); word = subst IsWord (sym t) (word_octal r.low) }
 
-pub cells_read : (rs : List Run) → Each (λ r. (r.low ≡ r.high) × (r.high < 4096)) rs → Each (ReadsAs address_of) rs
+pub cells_read : (rs : List Run) → Each (λ (r : Run). (r.low ≡ r.high) × (r.high < 4096)) rs → Each (ReadsAs address_of) rs
 cells_read [] h = tt
 cells_read (r ∷ rs) h = (cell_reads r h.0.0 h.0.1, cells_read rs h.1)
 
@@ -160,7 +160,7 @@ module _ (name : List ℕ) (is : IsWord name) (read : List ℕ → Option Words)
       let ws : List (List ℕ) = map run_text done in
       let each : Each IsWord ws = all_words read done h in
       let says : Some (make (cover done)) ≡ line_of (name ++ spaced ws) =
-      named ws (map (λ r. between r.low r.high) done) (text_longer done some) (all_reads read done h) ∙ ap line_by (sym (words_of-line name ws is each)) in
+      named ws (map (λ (r : Run). between r.low r.high) done) (text_longer done some) (all_reads read done h) ∙ ap line_by (sym (words_of-line name ws is each)) in
       spells_line t (name ++ spaced ws) c (put (union x (cover done))) (make (cover done)) s (is_line name ws is each) says (follows c (cover done)) (first (cover done))
 
   -- rows of which the first has some words already
@@ -168,19 +168,28 @@ module _ (name : List ℕ) (is : IsWord name) (read : List ℕ → Option Words)
       ((y : Words) → put (union x y) ≡ with_line c (make y)) → Spells t c →
       Spells (t ++ (((name ++ spaced (map run_text done)) ++ in_rows name room (map run_text rs)) ++ 10 ∷ [])) (put (union x (cover (done ++ rs))))
   rows_spell [] done room t c x some h g first s =
-      rw (append-nil (name ++ spaced (map run_text done)), append-nil done) (row_spells done t c x some h first s)
+      subst₂ (λ (y : List ℕ) (l : List Run). Spells (t ++ (y ++ 10 ∷ [])) (put (union x (cover l)))) (sym (append-nil (name ++ spaced (map run_text done)))) (sym (append-nil done))
+      (row_spells done t c x some h first s)
   rows_spell (r ∷ rs) done room t c x some h g first s = elim (cases_Bool (room == 0)) [
     | inl e ↦
-        let next : Spells ((t ++ ((name ++ spaced (map run_text done)) ++ 10 ∷ [])) ++ (((name ++ ((32 ∷ run_text r) ++ [])) ++ in_rows name 6 (map run_text rs)) ++ 10 ∷ []))
-            (put (union (union x (cover done)) (cover (r ∷ rs)))) =
-        rows_spell rs (r ∷ []) 6 (t ++ ((name ++ spaced (map run_text done)) ++ 10 ∷ [])) (put (union x (cover done))) (union x (cover done)) (omega arith) (g.0, tt) g.1
+        (let p : List ℕ = name ++ spaced (map run_text done) in
+        let i : List ℕ = in_rows name 6 (map run_text rs) in
+        let next : Spells ((t ++ (p ++ 10 ∷ [])) ++ (((name ++ ((32 ∷ run_text r) ++ [])) ++ i) ++ 10 ∷ [])) (put (union (union x (cover done)) (cover (r ∷ rs)))) =
+        rows_spell rs (r ∷ []) 6 (t ++ (p ++ 10 ∷ [])) (put (union x (cover done))) (union x (cover done)) (omega arith) (g.0, tt) g.1
         (more (union x (cover done))) (row_spells done t c x some h first s) in
-        rw e (rw (row_ends t (name ++ spaced (map run_text done)) name (run_text r) (in_rows name 6 (map run_text rs)), sym (cover_both done (r ∷ rs) x)) next)
+        let shape : in_rows name room (map run_text (r ∷ rs)) ≡ (((10 ∷ name) ++ (32 ∷ [])) ++ run_text r) ++ i = rw e refl in
+        subst₂ (λ (y : List ℕ) (d : Contents). Spells y d) (sym (ap (λ (y : List ℕ). t ++ ((p ++ y) ++ 10 ∷ [])) shape ∙ row_ends t p name (run_text r) i))
+        (ap put (cover_both done (r ∷ rs) x)) next)
     | inr e ↦
-        let next : Spells (t ++ (((name ++ spaced (map run_text (done ++ r ∷ []))) ++ in_rows name (room - 1) (map run_text rs)) ++ 10 ∷ []))
-            (put (union x (cover ((done ++ r ∷ []) ++ rs)))) =
+        (let p : List ℕ = spaced (map run_text done) in
+        let i : List ℕ = in_rows name (room - 1) (map run_text rs) in
+        let next : Spells (t ++ (((name ++ spaced (map run_text (done ++ r ∷ []))) ++ i) ++ 10 ∷ [])) (put (union x (cover ((done ++ r ∷ []) ++ rs)))) =
         rows_spell rs (done ++ r ∷ []) (room - 1) t c x (longer done r) (each_both (ReadsAs read) done (r ∷ []) h (g.0, tt)) g.1 first s in
-        rw e (rw (row_goes_on name (spaced (map run_text done)) (run_text r) (in_rows name (room - 1) (map run_text rs)), sym (spaced_more done r), sym (append_assoc done (r ∷ []) rs)) next)
+        let shape : in_rows name room (map run_text (r ∷ rs)) ≡ (([] ++ (32 ∷ [])) ++ run_text r) ++ i = rw e refl in
+        subst₂ (λ (y : List ℕ) (d : Contents). Spells y d)
+        (sym (ap (λ (y : List ℕ). t ++ (((name ++ p) ++ y) ++ 10 ∷ [])) shape ∙
+        ap (λ (y : List ℕ). t ++ (y ++ 10 ∷ [])) (row_goes_on name p (run_text r) i ∙ ap (λ (y : List ℕ). (name ++ y) ++ i) (sym (spaced_more done r)))))
+        (ap (λ (l : List Run). put (union x (cover l))) (append_assoc done (r ∷ []) rs)) next)
   ]
 
   -- all rows of one word or more
@@ -190,7 +199,7 @@ module _ (name : List ℕ) (is : IsWord name) (read : List ℕ → Option Words)
   all_rows_spell (r ∷ rs) t c x some h first s =
       let next : Spells (t ++ (((name ++ ((32 ∷ run_text r) ++ [])) ++ in_rows name 6 (map run_text rs)) ++ 10 ∷ [])) (put (union x (cover (r ∷ rs)))) =
       rows_spell rs (r ∷ []) 6 t c x (omega arith) (h.0, tt) h.1 first s in
-      rw (begun name (run_text r) (in_rows name 6 (map run_text rs))) next
+      subst (λ (y : List ℕ). Spells (t ++ (y ++ 10 ∷ [])) (put (union x (cover (r ∷ rs))))) (sym (begun name (run_text r) (in_rows name 6 (map run_text rs)))) next
     where
       begun : (n w i : List ℕ) → n ++ ((([] ++ 32 ∷ []) ++ w) ++ i) ≡ (n ++ ((32 ∷ w) ++ [])) ++ i
       begun n w i = simp (append_assoc, append-nil)
@@ -234,7 +243,7 @@ run_not_returns r h =
       | inr e ↦ rw e (not_returns (r.low / 512) _ small)
     ]
 
-body_reads : (rs : List Run) (offs : List (List ℕ)) → Each IsRun rs → ranges_before (map run_text rs ++ codes "returns" ∷ offs) ≡ Some (map (λ r. between r.low r.high) rs)
+body_reads : (rs : List Run) (offs : List (List ℕ)) → Each IsRun rs → ranges_before (map run_text rs ++ codes "returns" ∷ offs) ≡ Some (map (λ (r : Run). between r.low r.high) rs)
 body_reads [] offs h = refl
 body_reads (r ∷ rs) offs h =
     ranges_before-first (run_text r) (map run_text rs ++ codes "returns" ∷ offs) (run_not_returns r h.0) ∙
@@ -252,7 +261,7 @@ after_body [] offs h = after_returns (codes "returns" ∷ offs) offs (codes "ret
 after_body (r ∷ rs) offs h =
     after_other (run_text r ∷ (map run_text rs ++ codes "returns" ∷ offs)) (map run_text rs ++ codes "returns" ∷ offs) (run_text r) refl (run_not_returns r h.0) ∙ after_body rs offs h.1
 
-digits_read : (os : List ℕ) → Each (λ o. o < 8) os → all_read offset_of (map offset_text os) ≡ Some os
+digits_read : (os : List ℕ) → Each (λ (o : ℕ). o < 8) os → all_read offset_of (map offset_text os) ≡ Some os
 digits_read [] h = refl
 digits_read (o ∷ os) h =
     ap (λ (x : Option ℕ). read_first x (all_read offset_of (map offset_text os))) (digit_reads o h.0) ∙ ap (read_first (Some o)) (digits_read os h.1)
@@ -274,9 +283,11 @@ sub_word = record { some = omega arith; plain = refl }
 routine_words_are : (r : Subroutine) → Each IsWord (routine_words r)
 routine_words_are r = (
   word_octal r.entry,
-  record { some = omega arith; plain = refl },
-  each_both IsWord (ranges r.body) (codes "returns" ∷ digits r.offsets) (all_words range_of (runs_of (cells r.body)) (runs_read (runs_of (cells r.body)) (ranges_fit r.body)))
-  (record { some = omega arith; plain = refl }, digit_words (members 8 0 r.offsets)),
+  (
+    record { some = omega arith; plain = refl },
+    each_both IsWord (ranges r.body) (codes "returns" ∷ digits r.offsets) (all_words range_of (runs_of (cells r.body)) (runs_read (runs_of (cells r.body)) (ranges_fit r.body)))
+    (record { some = omega arith; plain = refl }, digit_words (members 8 0 r.offsets)),
+  ),
 )
 
 routine_shape : (e b o : List ℕ) → (((((codes "sub " ++ e) ++ codes " body") ++ b) ++ codes " returns") ++ o) ≡

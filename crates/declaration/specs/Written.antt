@@ -9,6 +9,9 @@ use Rattle.wordset.specs.Words.{Words, has_some}
 use Rattle.wordset.specs.Lanes.{words}
 use Rattle.declaration.specs.Lines.{Subroutine}
 use Rattle.declaration.specs.Kept.{Kept, subroutine_of}
+use Rattle.declaration.specs.Declaration.{Declaration}
+use Rattle.declaration.specs.Text.{Declares, ListsRoutines}
+use Rattle.declaration.specs.declared.Routine.{Routine as KeptRoutine}
 use Rattle.declaration.specs.declared.written.WriteDeclarationFault.{WriteDeclarationFault}
 use Rattle.declaration.specs.declared.written.WriteDeclarationFault.TheVariants.{TooLong, WriteFault}
 
@@ -114,3 +117,8 @@ abbrev pub failed_to_write : Result Unit WriteDeclarationFault → Bool
 failed_to_write (Ok done) = false
 failed_to_write (Err TooLong) = false
 failed_to_write (Err WriteFault) = true
+
+-- A text has one declaration at most, and one list of routines.
+pub record OneDeclaration : Type 0 where
+  pub declaration : (text : List ℕ) (d e : Declaration) → Declares text d → Declares text e → d ≡ e
+  pub routines : (text : List ℕ) (rs qs : List KeptRoutine) → ListsRoutines text rs → ListsRoutines text qs → map subroutine_of rs ≡ map subroutine_of qs

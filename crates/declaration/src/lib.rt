@@ -7,7 +7,7 @@ ghost use Rattle.std.specs.List.{find};
 ghost use Rattle.std.specs.Option.{option_map};
 ghost use Rattle.declaration.specs.Declaration.{Declaration as Declared, Routine as MainOrEntry, IsDeclared, IsListed};
 ghost use Rattle.declaration.specs.Text.{Declares, Fails, ListsRoutines, is_entry, most_bytes, most_routines};
-ghost use Rattle.declaration.specs.Written.{text_of, failed_to_write};
+ghost use Rattle.declaration.specs.Written.{text_of, failed_to_write, OneDeclaration};
 ghost use Rattle.declaration.specs.Writing.{Each, IsFormed};
 ghost use Rattle.declaration.specs.declared.written.WriteDeclarationFault.TheVariants.{TooLong, WriteFault};
 ghost use Rattle.streams.specs.Bytes.{AppendsFront};
@@ -401,6 +401,12 @@ impl<A: Allocator> Declaration<A> {
         }
     }
 }
+
+/// A text has one declaration at most, and one list of routines. So what is written of a declaration
+/// is read back as this one, unless memory is refused.
+pub fn one_declaration()
+    ensures { OneDeclaration }
+{}
 
 /// The first routine whose body has a cell.
 fn routine_with(routines: &[Routine], at: Word) -> Option<Owner>

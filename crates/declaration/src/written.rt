@@ -52,7 +52,8 @@ fn last_before(others: &WordSet, low: Word) -> Word
 /// The last cell of the word that begins at a cell, by the cells that aren't in the set.
 fn last_of(form: Form, others: &WordSet, low: Word) -> Word
     requires { words others.now low ≡ false }
-    ensures { Ends form (words others.now) low result }
+    ensures ends { Ends form (words others.now) low result }
+    ensures order { low ≤ result }
 {
     match form {
         Form::Range => last_before(others, low),

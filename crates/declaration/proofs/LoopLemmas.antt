@@ -63,7 +63,7 @@ words_written old now name first room form set next h end =
     rw e at h.adds
   where
     no_word : (form : Form) → words_left form set next ≡ []
-    no_word Range = ap (λ (as : List ℕ). map run_text (runs_of as)) (left_none next set end)
+    no_word Range = ap (λ (bs : List ℕ). map run_text (runs_of bs)) (left_none next set end)
     no_word Address = ap (map octal_text) (left_none next set end)
 
 -- a row with room for all

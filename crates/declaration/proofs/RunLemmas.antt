@@ -26,7 +26,10 @@ member_no n at set e = rw e refl
 
 -- numbers that aren't in the set are passed over
 pub members_skip : (k n at : ℕ) (set : Words) → ((v : ℕ) → at ≤ v → v < at + k → set v ≡ false) → members (k + n) at set ≡ members n (at + k) set
-members_skip zero n at set none = let e : at + 0 ≡ at = omega arith in rw e refl
+members_skip zero n at set none =
+    let e : at ≡ at + 0 = omega arith in
+    let f : 0 + n ≡ n = omega arith in
+    ap (λ m. members m at set) f ∙ ap (λ b. members n b set) e
 members_skip (suc k) n at set none =
     let e : suc k + n ≡ suc (k + n) = omega arith in
     let f : at + 1 + k ≡ at + suc k = omega arith in
@@ -116,9 +119,9 @@ joined_runs at (first ∷ others) h fit = elim (cases_Bool (first.low == at + 1)
   | inr e ↦ rw e (record { order = omega arith; small = h }, fit)
 ]
 
-pub runs_fit : (as : List ℕ) → Each (λ (a : ℕ). a < 4096) as → Each IsRun (runs_of as)
+pub runs_fit : (bs : List ℕ) → Each (λ (a : ℕ). a < 4096) bs → Each IsRun (runs_of bs)
 runs_fit [] h = tt
-runs_fit (a ∷ as) h = joined_runs a (runs_of as) h.0 (runs_fit as h.1)
+runs_fit (a ∷ bs) h = joined_runs a (runs_of bs) h.0 (runs_fit bs h.1)
 
 pub ranges_fit : (set : Words) → Each IsRun (runs_of (cells set))
 ranges_fit set = runs_fit (cells set) (members_fit 4096 0 set 4096 (omega arith))
@@ -130,9 +133,9 @@ joined_few at (first ∷ others) = elim (cases_Bool (first.low == at + 1)) [
   | inr e ↦ rw e (omega arith)
 ]
 
-pub runs_few : (as : List ℕ) → length (runs_of as) ≤ length as
+pub runs_few : (bs : List ℕ) → length (runs_of bs) ≤ length bs
 runs_few [] = omega arith
-runs_few (a ∷ as) = omega (arith, joined_few a (runs_of as), runs_few as)
+runs_few (a ∷ bs) = omega (arith, joined_few a (runs_of bs), runs_few bs)
 
 -- The cells of a run and of runs.
 abbrev pub cover : List Run → Words
@@ -179,24 +182,24 @@ joined_cover at (first ∷ others) v fit = elim (cases_Bool (first.low == at + 1
   | inr e ↦ rw e (ap (λ b. b || cover (first ∷ others) v) (one_between at v))
 ]
 
-pub runs_cover : (as : List ℕ) (v : ℕ) → Each (λ (a : ℕ). a < 4096) as → cover (runs_of as) v ≡ these as v
+pub runs_cover : (bs : List ℕ) (v : ℕ) → Each (λ (a : ℕ). a < 4096) bs → cover (runs_of bs) v ≡ these bs v
 runs_cover [] v h = refl
-runs_cover (a ∷ as) v h = joined_cover a (runs_of as) v (runs_fit as h.1) ∙ ap (λ b. (a == v) || b) (runs_cover as v h.1)
+runs_cover (a ∷ bs) v h = joined_cover a (runs_of bs) v (runs_fit bs h.1) ∙ ap (λ b. (a == v) || b) (runs_cover bs v h.1)
 
 pub ranges_cover : (set : Words) → ((a : ℕ) → 4096 ≤ a → set a ≡ false) → cover (runs_of (cells set)) ≡ set
 ranges_cover set small = fun_ext (λ v. runs_cover (cells set) v (members_fit 4096 0 set 4096 (omega arith))) ∙ these_cells set small
 
 -- The runs of one cell each.
 abbrev pub alone : List ℕ → List Run
-alone as = map (λ a. run a a) as
+alone bs = map (λ a. run a a) bs
 
-pub alone_fit : (as : List ℕ) → Each (λ (a : ℕ). a < 4096) as → Each (λ (r : Run). (r.low ≡ r.high) × (r.high < 4096)) (alone as)
+pub alone_fit : (bs : List ℕ) → Each (λ (a : ℕ). a < 4096) bs → Each (λ (r : Run). (r.low ≡ r.high) × (r.high < 4096)) (alone bs)
 alone_fit [] h = tt
-alone_fit (a ∷ as) h = ((refl, h.0), alone_fit as h.1)
+alone_fit (a ∷ bs) h = ((refl, h.0), alone_fit bs h.1)
 
-alone_cover : (as : List ℕ) (v : ℕ) → cover (alone as) v ≡ these as v
+alone_cover : (bs : List ℕ) (v : ℕ) → cover (alone bs) v ≡ these bs v
 alone_cover [] v = refl
-alone_cover (a ∷ as) v = ap (λ b. b || cover (alone as) v) (one_between a v) ∙ ap (λ b. (a == v) || b) (alone_cover as v)
+alone_cover (a ∷ bs) v = ap (λ b. b || cover (alone bs) v) (one_between a v) ∙ ap (λ b. (a == v) || b) (alone_cover bs v)
 
 pub addresses_cover : (set : Words) → ((a : ℕ) → 4096 ≤ a → set a ≡ false) → cover (alone (cells set)) ≡ set
 addresses_cover set small = fun_ext (λ v. alone_cover (cells set) v) ∙ these_cells set small
@@ -264,7 +267,7 @@ end_run : (at : ℕ) (set : Words) → at ≡ 4095 → set at ≡ true → runs_
 end_run at set end e =
     let z : 4096 - (at + 1) ≡ 0 = omega arith in
     let f : left_from (at + 1) set ≡ [] = ap (λ n. members n (at + 1) set) z ∙ members_none (at + 1) set in
-    ap runs_of (left_at at set (omega arith) e) ∙ (ap (λ (as : List ℕ). joined at (runs_of as)) f ∙ ap (λ (as : List ℕ). run at at ∷ runs_of as) (sym f))
+    ap runs_of (left_at at set (omega arith) e) ∙ (ap (λ (bs : List ℕ). joined at (runs_of bs)) f ∙ ap (λ (bs : List ℕ). run at at ∷ runs_of bs) (sym f))
 
 last_run : (at : ℕ) (set : Words) → at < 4096 → set at ≡ true → (at ≡ 4095) ⊎ (set (at + 1) ≡ false) →
     runs_of (left_from at set) ≡ run at at ∷ runs_of (left_from (at + 1) set)
@@ -273,7 +276,7 @@ last_run at set h e (inr stops) = elim (cases_lt at 4095) [
   | inl more ↦ (let z : at + 1 + 1 ≡ at + 2 = omega arith in
       let f : left_from (at + 1) set ≡ left_from (at + 2) set = left_past (at + 1) set (omega arith) stops ∙ ap (λ b. left_from b set) z in
       ap runs_of (left_at at set h e) ∙ not_joined at (runs_of (left_from (at + 1) set))
-      (subst (λ (as : List ℕ). BeginsFrom (at + 2) (runs_of as)) (sym f) (begins_from (4096 - (at + 2)) (at + 2) set)))
+      (subst (λ (bs : List ℕ). BeginsFrom (at + 2) (runs_of bs)) (sym f) (begins_from (4096 - (at + 2)) (at + 2) set)))
   | inr past ↦ end_run at set (omega arith) e
 ]
 

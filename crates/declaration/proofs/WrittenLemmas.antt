@@ -1,5 +1,5 @@
 -- What the lines say that are written of a declaration.
-use Rattle.std.proofs.Common.{◌≡◌, ◌⊎◌, ℕ, zero, suc, ◌+◌, ◌-◌, ◌/◌, ◌<◌, ◌≤◌, ◌==◌, Bool, true, false, ◌||◌, ◌&&◌, not, List, [], ◌∷◌, ◌++◌, length, map, flat_map, refl, ap, ◌∙◌, sym, subst, subst₂, inl, inr, arith, append_assoc, append-nil, length-append, Some, None, Option}
+use Rattle.std.proofs.Common.{◌≡◌, ◌⊎◌, ℕ, zero, suc, ◌+◌, ◌-◌, ◌/◌, ◌%◌, ◌<◌, ◌≤◌, ◌==◌, Bool, true, false, ◌||◌, ◌&&◌, not, List, [], ◌∷◌, ◌++◌, length, map, flat_map, refl, ap, ◌∙◌, sym, subst, subst₂, inl, inr, arith, append_assoc, append-nil, length-append, Some, None, Option}
 use Rattle.std.specs.Prelude.{nat_le, nat_lt, if◌then◌else◌, codes}
 use Rattle.std.specs.List.{list_any, list_all, position, position_or_len, before_first, after_first}
 use Rattle.std.specs.Option.{option_map}
@@ -55,7 +55,8 @@ all_words read (r ∷ rs) h = (h.0.word, all_words read rs h.1)
 
 pub all_reads : (read : List ℕ → Option Words) (rs : List Run) → Each (ReadsAs read) rs → all_read read (map run_text rs) ≡ Some (map (λ (r : Run). between r.low r.high) rs)
 all_reads read [] h = refl
-all_reads read (r ∷ rs) h = rw (h.0.is, all_reads read rs h.1) refl
+all_reads read (r ∷ rs) h =
+    ap (λ o. read_first o (all_read read (map run_text rs))) h.0.is ∙ ap (read_first (Some (between r.low r.high))) (all_reads read rs h.1)
 
 no_dash : (n : ℕ) → is_dash (48 + n) ≡ false
 no_dash n = ne_eqb (48 + n) 45 (λ z. omega arith)
@@ -113,9 +114,9 @@ cells_read [] h = tt
 cells_read (r ∷ rs) h = (cell_reads r h.0.0 h.0.1, cells_read rs h.1)
 
 -- cells one by one are runs of one cell
-pub alone_text : (as : List ℕ) → map octal_text as ≡ map run_text (alone as)
+pub alone_text : (bs : List ℕ) → map octal_text bs ≡ map run_text (alone bs)
 alone_text [] = refl
-alone_text (a ∷ as) = rw (single (run a a) refl, alone_text as) refl
+alone_text (a ∷ bs) = ap (λ (w : List ℕ). w ∷ map octal_text bs) (sym (single (run a a) refl)) ∙ ap (λ (ws : List (List ℕ)). run_text (run a a) ∷ ws) (alone_text bs)
 
 -- ---- rows
 
@@ -239,8 +240,10 @@ run_not_returns : (r : Run) → IsRun r → is_returns (run_text r) ≡ false
 run_not_returns r h =
     let small : r.low / 512 < 8 = (let o : r.low ≤ r.high = h.order in let q : r.high < 4096 = h.small in omega arith) in
     elim (cases_Bool (r.low == r.high)) [
-      | inl e ↦ rw e (not_returns (r.low / 512) _ small)
-      | inr e ↦ rw e (not_returns (r.low / 512) _ small)
+      | inl e ↦ ap is_returns (single r (eqb-true r.low r.high e)) ∙
+          not_returns (r.low / 512) ((48 + r.low / 64 % 8) ∷ (48 + r.low / 8 % 8) ∷ (48 + r.low % 8) ∷ []) small
+      | inr e ↦ ap is_returns (double r e) ∙
+          not_returns (r.low / 512) ((48 + r.low / 64 % 8) ∷ (48 + r.low / 8 % 8) ∷ (48 + r.low % 8) ∷ 45 ∷ octal_text r.high) small
     ]
 
 body_reads : (rs : List Run) (offs : List (List ℕ)) → Each IsRun rs → ranges_before (map run_text rs ++ codes "returns" ∷ offs) ≡ Some (map (λ (r : Run). between r.low r.high) rs)

@@ -1,6 +1,6 @@
 //! The text of a declaration.
 
-ghost use Rattle.std.specs.Prelude.{ℕ, Some, None, ◌≡◌, ◌<◌, ◌≤◌, ◌+◌, ◌++◌, ◌==◌, [], ◌∷◌, map, flat_map, length, if◌then◌else◌};
+ghost use Rattle.std.specs.Prelude.{ℕ, Some, None, false, ◌≡◌, ◌<◌, ◌≤◌, ◌+◌, ◌++◌, ◌==◌, [], ◌∷◌, map, flat_map, length, if◌then◌else◌};
 ghost use Rattle.std.specs.Option.{option_map};
 ghost use Rattle.word12.specs.Words.{octal_text};
 ghost use Rattle.wordset.specs.Words.{has_some};
@@ -238,7 +238,7 @@ impl WrittenText {
     /// Adds the lines of the cells that may be read, where they are listed.
     fn reads(&mut self, reads: Option<&WordSet>)
         ensures { AddsText self.old.bytes.items self.new.bytes.items
-            (reads_text (option_map (λ set. words set.now) reads)) }
+            (reads_text (option_map (λ set. words set.now) reads.entry)) }
     {
         match reads {
             None => {}

@@ -2,15 +2,11 @@
 //! files beside them, which other programs made.
 #![tactic(auto)]
 
-use analyser::Turns;
-use bin_tape::read_tape;
 use commands::assembling::assemble;
 use commands::checking::check;
 use commands::running::{RunOptions, run_events};
 use commands::watching::watch;
-use declaration::Declaration;
 use instruct::Profile;
-use proposer::propose;
 use std::alloc::Global;
 use std::fs;
 use std::rt::Files;
@@ -133,29 +129,6 @@ fn checks<R: Files + AllocGlobal>(
     Ok(out.bytes() == file(rt, name, expected)?.as_slice())
 }
 
-/// The turns of a proposal.
-const MOST_TURNS: u32 = 20_000;
-
-/// Whether a declaration is proposed from a program's tape and start alone that it keeps, and how many
-/// variables it has, and how many its author's.
-fn tell_proposed<R: Files + AllocGlobal + Print>(
-    rt: &R,
-    name: &str,
-    profile: Profile,
-) -> anyhow::Result<()> {
-    let tape = tape_of(rt, name, ".pal", profile)?;
-    let image = read_tape(tape.bytes())?;
-    let text = file(rt, name, ".declaration")?;
-    let declaration = Declaration::parse(rt.alloc(), &text)?;
-    let mut turns = Turns::new(MOST_TURNS);
-    let proposal = propose(rt.alloc(), &image, declaration.start(), profile, &mut turns)?;
-    let safe = proposal.is_safe();
-    let variables = proposal.declaration.variables().count();
-    let authors = declaration.variables().count();
-    println!(rt; "{name}: proposed {safe} with {variables} variables, by its author {authors}")?;
-    Ok(())
-}
-
 fn main(rt: HostRuntime) -> anyhow::Result<()> {
     for (name, profile) in PROGRAMS.iter() {
         let run = runs(&rt, name, *profile)?;
@@ -165,7 +138,6 @@ fn main(rt: HostRuntime) -> anyhow::Result<()> {
         let no = checks(&rt, name, "-broken.pal", "-broken.check", *profile)?;
         println!(&rt; "{name}: run {run}, watched {clean}, broken variant watched {broken}")?;
         println!(&rt; "{name}: checked {yes}, broken variant checked {no}")?;
-        tell_proposed(&rt, name, *profile)?;
     }
     Ok(())
 }

@@ -3,13 +3,12 @@
 
 mod families;
 
-use crate::families::{certified_arguments, certified_hellos, proposed_garbage, rim_stuck_at};
-use analyser::{GuessFault, Turns, guess};
+use crate::families::{certified_arguments, certified_hellos};
+use analyser::{GuessFault, guess};
 use bin_tape::Image;
 use declaration::Declaration;
 use instruct::Profile;
 use judge::judge;
-use proposer::propose;
 use std::alloc::Global;
 use std::fs;
 use std::rt::Files;
@@ -110,32 +109,10 @@ fn stuck_at<R: Files + AllocGlobal>(rt: &R, name: &str) -> anyhow::Result<Option
     }
 }
 
-/// The turns of a proposal.
-const MOST_TURNS: u32 = 20_000;
-
-/// Whether a declaration is proposed from a program's words and start alone that it keeps, and how many
-/// variables it has, and how many its author's.
-fn tell_proposed<R: Files + AllocGlobal + Print>(
-    rt: &R,
-    name: &str,
-    profile: Profile,
-) -> anyhow::Result<()> {
-    let declaration = declared(rt, name)?;
-    let image = assembled(rt, name, profile)?;
-    let mut turns = Turns::new(MOST_TURNS);
-    let proposal = propose(rt.alloc(), &image, declaration.start(), profile, &mut turns)?;
-    let safe = proposal.is_safe();
-    let variables = proposal.declaration.variables().count();
-    let authors = declaration.variables().count();
-    println!(rt; "{name}: proposed {safe} with {variables} variables, by its author {authors}")?;
-    Ok(())
-}
-
 fn main(rt: HostRuntime) -> anyhow::Result<()> {
     for (name, profile) in SAFE.iter() {
         let certified = is_certified(&rt, name, *profile)?;
         println!(&rt; "{name}: certified {certified}")?;
-        tell_proposed(&rt, name, *profile)?;
     }
     for name in STUCK.iter() {
         match stuck_at(&rt, name)? {
@@ -150,11 +127,5 @@ fn main(rt: HostRuntime) -> anyhow::Result<()> {
         let certified = certified_arguments(&rt, argument)?;
         println!(&rt; "argument {argument}: certified on {certified} pages")?;
     }
-    match rim_stuck_at(&rt)? {
-        Some(at) => println!(&rt; "rim: proposed, stuck at {at}")?,
-        None => println!(&rt; "rim: not stuck")?,
-    }
-    let (proposed, refused) = proposed_garbage(&rt, 16)?;
-    println!(&rt; "garbage: {proposed} proposed, {refused} can't be declared")?;
     Ok(())
 }

@@ -271,7 +271,6 @@ fn the_first_input_with_a_fault_is_told(rt: HostRuntime) -> Result<(), Fail> {
 #[test]
 fn no_certificate_is_made_of_a_bad_input(rt: HostRuntime) -> Result<(), Fail> {
     for (words, told, opened) in [
-        ("pdp8: tape: NoWord\n", "bad.bin o.dcl "),
         // The certificate's file is made before anything is looked at, and stays empty.
         (
             "pdp8 guess bad.bin bad.dcl o.cert",

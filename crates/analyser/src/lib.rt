@@ -135,6 +135,3 @@ pub fn guess<A: Allocator + Copy, D: Allocator>(
     let mut turns = Turns::new(MOST_TURNS);
     guess_within(alloc, image, declaration, &mut turns)
 }
-
-#[cfg(test)]
-mod tests;

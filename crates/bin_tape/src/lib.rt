@@ -19,6 +19,3 @@ pub use read::{read_from, read_tape};
 pub use streams::{ByteSink, ByteSource, Failed, put};
 pub use word::TapeWord;
 pub use write::write_tape;
-
-#[cfg(test)]
-mod tests;

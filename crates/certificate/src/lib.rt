@@ -277,6 +277,3 @@ pub fn reading_law()
 pub fn fault_law()
     ensures { FaultLaw }
 {}
-
-#[cfg(test)]
-mod tests;

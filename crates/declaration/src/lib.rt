@@ -387,6 +387,3 @@ fn read_lines<A: Allocator>(alloc: A, text: &[u8]) -> Result<Draft<A>, Declarati
         Err(fault) => Err(fault),
     }
 }
-
-#[cfg(test)]
-mod tests;

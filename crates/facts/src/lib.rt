@@ -88,10 +88,3 @@ pub fn start_law()
 pub fn same_law()
     ensures { SameLaw }
 {}
-
-#[cfg(test)]
-mod asked_tests;
-#[cfg(test)]
-mod outcome_tests;
-#[cfg(test)]
-mod tests;

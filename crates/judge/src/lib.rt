@@ -36,6 +36,3 @@ pub fn headline()
     // Without a list of reads, the rule on reads and its condition ask nothing.
     ensures reads { UnlistedReadsAreFree }
 {}
-
-#[cfg(test)]
-mod tests;

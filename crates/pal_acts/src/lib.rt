@@ -18,6 +18,3 @@ pub use assembly::{Assembled, Refused, assemble};
 pub use code::Code;
 pub use permanent::permanent_table;
 pub use symbols::{SymbolTable, Symbols};
-
-#[cfg(test)]
-mod tests;

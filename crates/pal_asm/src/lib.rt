@@ -22,6 +22,3 @@ pub use fault::{AssembleFault, PalFault, WriteFault};
 pub use pal_acts::SymbolTable;
 pub use program::{Program, assemble};
 pub use translation::{Translation, translate};
-
-#[cfg(test)]
-mod tests;

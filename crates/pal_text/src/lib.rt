@@ -24,6 +24,3 @@ pub use names::Name;
 pub use part::{LONGEST, Part, statements};
 pub use reader::{Found, Reader};
 pub use tokens::{Kind, Token};
-
-#[cfg(test)]
-mod tests;

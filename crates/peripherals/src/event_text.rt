@@ -195,6 +195,3 @@ fn steps(number: &[u8]) -> Option<Repeated>
         times,
     })
 }
-
-#[cfg(test)]
-mod tests;

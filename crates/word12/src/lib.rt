@@ -372,6 +372,3 @@ fn octal_number(text: &[u8]) -> Option<u16>
     }
     Some(value)
 }
-
-#[cfg(test)]
-mod tests;

@@ -1,7 +1,7 @@
 //! Sources worked by hand from the rules of the language.
 
-use super::*;
 use instruct::Profile;
+use pal_acts::*;
 use std::alloc::Allocator;
 use std::test::Fail;
 use word12::Word;

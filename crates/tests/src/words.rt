@@ -1,6 +1,6 @@
 //! Values from the handbook's rules, worked by hand.
 
-use super::*;
+use word12::*;
 
 fn word(value: u16) -> Word {
     Word::new(value).unwrap_or(Word::ZERO)

@@ -1,6 +1,6 @@
 //! Tapes worked by hand from the description of the format, frame by frame.
 
-use crate::{
+use bin_tape::{
     ByteSink, ByteSource, Failed, Image, TapeFault, TapeWord, WriteTapeFault, put, read_from,
     read_tape, write_tape,
 };

@@ -1,6 +1,6 @@
 //! Texts of events worked by hand from the description of their lines.
 
-use crate::{Event, EventsFault, events};
+use peripherals::{Event, EventsFault, events};
 use std::test::Fail;
 use testing::Refusing;
 use word12::Word;

@@ -1,8 +1,8 @@
 //! The outcomes of each kind of word, worked by hand from their description, on both machines.
 
-use crate::{Equation, Fact, Known, Name, Offsets, Outcome, Place, Running, outcomes};
 use bin_tape::Image;
 use declaration::Declaration;
+use facts::{Equation, Fact, Known, Name, Offsets, Outcome, Place, Running, outcomes};
 use std::alloc::Allocator;
 use std::test::Fail;
 use word12::{Link, Word};

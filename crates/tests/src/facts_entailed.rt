@@ -2,9 +2,9 @@
 //! sets are met along its equations one step only, and a fact entails another where each set and
 //! each equation follows.
 
-use crate::{Equation, Fact, Name, Offsets, entails, entails_return, holds_before, narrowed};
 use bin_tape::Image;
 use declaration::Declaration;
+use facts::{Equation, Fact, Name, Offsets, entails, entails_return, holds_before, narrowed};
 use std::test::Fail;
 use word12::{Link, Word};
 use wordset::{Links, WordSet};

@@ -1,8 +1,8 @@
 //! Sources worked by hand from the rules of the language.
 
-use crate::{AssembleFault, PalFault, WriteFault, assemble, translate};
 use instruct::Profile;
 use pal_acts::Code;
+use pal_asm::{AssembleFault, PalFault, WriteFault, assemble, translate};
 use std::alloc::Allocator;
 use std::format;
 use std::test::Fail;

@@ -1,7 +1,7 @@
 //! Parts worked by hand from the rules of the language.
 
-use super::*;
-use crate::characters::is_character_code;
+use pal_text::characters::is_character_code;
+use pal_text::*;
 use std::test::Fail;
 
 /// A letter for a form.

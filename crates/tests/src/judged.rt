@@ -6,10 +6,10 @@ ghost use Rattle.wordset.specs.Links.{links_of};
 ghost use Rattle.facts.specs.Meaning.{meaning, offsets_of};
 ghost use Rattle.facts.specs.Statements.{fact_of, unknown};
 
-use crate::{Claims, Condition, Refusal, Routine, judge};
 use bin_tape::Image;
 use declaration::Declaration;
 use facts::{Fact, Offsets};
+use judge::{Claims, Condition, Refusal, Routine, judge};
 use std::test::Fail;
 use word12::Word;
 use wordset::{Links, WordSet};

@@ -1,6 +1,6 @@
 //! Guesses for small programs, which the judge accepts.
 
-use crate::{GuessFault, Turns, guess, guess_within};
+use analyser::{GuessFault, Turns, guess, guess_within};
 use bin_tape::{Image, write_tape};
 use certificate::{Certificate, Version};
 use declaration::Declaration;

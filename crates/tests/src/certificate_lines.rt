@@ -1,6 +1,6 @@
 //! The readers of a certificate, asked of a text that was worked by hand from the description of its lines.
 
-use crate::{Certificate, Version};
+use certificate::{Certificate, Version};
 use facts::Name;
 use std::test::Fail;
 use testing::MemorySink;

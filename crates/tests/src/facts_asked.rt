@@ -1,9 +1,9 @@
 //! What is asked of one word, worked by hand from its description: the cells that it may read,
 //! write and call, and the first condition that it breaks.
 
-use crate::{Condition, Fact, Offsets, Place, Running, post, reads};
 use bin_tape::Image;
 use declaration::Declaration;
+use facts::{Condition, Fact, Offsets, Place, Running, post, reads};
 use std::alloc::Allocator;
 use std::test::Fail;
 use word12::Word;

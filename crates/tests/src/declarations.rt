@@ -1,6 +1,6 @@
 //! Texts of declarations worked by hand from the description of their lines.
 
-use crate::{Declaration, DeclarationFault};
+use declaration::{Declaration, DeclarationFault};
 use instruct::Profile;
 use std::test::Fail;
 use testing::Refusing;

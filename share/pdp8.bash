@@ -2,7 +2,7 @@
 _pdp8() {
     local word=${COMP_WORDS[COMP_CWORD]} before=${COMP_WORDS[COMP_CWORD-1]} options=
     if [ "$COMP_CWORD" -eq 1 ]; then
-        COMPREPLY=($(compgen -W 'assemble list dump run watch check guess migrate help --help --version' -- "$word"))
+        COMPREPLY=($(compgen -W 'assemble list dump run watch declare guess check migrate help --help --version' -- "$word"))
         return
     fi
     case $before in
@@ -14,7 +14,7 @@ _pdp8() {
             return
             ;;
         help)
-            COMPREPLY=($(compgen -W 'assemble list dump run watch check guess migrate' -- "$word"))
+            COMPREPLY=($(compgen -W 'assemble list dump run watch declare guess check migrate' -- "$word"))
             return
             ;;
     esac
@@ -22,6 +22,7 @@ _pdp8() {
         assemble | list | dump) options='--profile --help' ;;
         run) options='--start --steps --events --reader --punch --keys --mark --teletype --switches --trace --profile --help' ;;
         check) options='--why --help' ;;
+        declare) options='--start --reads --profile --help' ;;
         watch | guess | migrate) options='--help' ;;
     esac
     if [[ $word == -* ]]; then

@@ -15,7 +15,7 @@ use Rattle.pal_asm.specs.declared.fault.PalFault.{PalFault}
 use Rattle.commands.specs.SourceTexts.{AreRead, IsShort, is_bad_number, FailsToReadPart, IsPartFault, ArePartsFault, IsLong}
 use Rattle.commands.specs.Faults.{fails_to_read}
 use Rattle.commands.specs.declared.status.Fault.{Fault}
-use Rattle.commands.specs.declared.status.Fault.TheVariants.{Tape, EmptyImage, Source, Declared, Certificate, Events, Guess, Device}
+use Rattle.commands.specs.declared.status.Fault.TheVariants.{Tape, EmptyImage, Source, Declared, Certificate, Events, Guess, Declare, Device}
 use Rattle.commands.specs.declared.status.Fault.TheVariants as fault
 use Rattle.commands.specs.declared.status.DeviceFault.TheVariants.{Read, Write}
 
@@ -189,6 +189,7 @@ parts_fault T mark remaining items ss os i d new vs (Declared x) short within sa
 parts_fault T mark remaining items ss os i d new vs (Certificate x) short within same number reads all marked is = is
 parts_fault T mark remaining items ss os i d new vs (Events x) short within same number reads all marked is = is
 parts_fault T mark remaining items ss os i d new vs (Guess x) short within same number reads all marked is = is
+parts_fault T mark remaining items ss os i d new vs (Declare x) short within same number reads all marked is = is
 parts_fault T mark remaining items ss os i d new vs (Device Read) short within same number reads all marked is =
     fails_to_read_part mark remaining items ss os i d new vs short within same number reads all marked is
 parts_fault T mark remaining items ss os i d new vs (Device Write) short within same number reads all marked is = is

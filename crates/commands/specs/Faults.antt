@@ -17,8 +17,10 @@ use Rattle.certificate.specs.declared.CertificateFault.{CertificateFault}
 use Rattle.certificate.specs.declared.CertificateFault.TheVariants as certificate_fault
 use Rattle.analyser.specs.declared.GuessFault.{GuessFault}
 use Rattle.analyser.specs.declared.GuessFault.TheVariants as guess_fault
+use Rattle.proposer.specs.declared.ProposeFault.{ProposeFault}
+use Rattle.proposer.specs.declared.ProposeFault.TheVariants as propose_fault
 use Rattle.commands.specs.declared.status.Fault.{Fault}
-use Rattle.commands.specs.declared.status.Fault.TheVariants.{Tape, Declared, Certificate, Events, Guess, Device}
+use Rattle.commands.specs.declared.status.Fault.TheVariants.{Tape, Declared, Certificate, Events, Guess, Declare, Device}
 use Rattle.commands.specs.declared.status.Fault.TheVariants as fault
 use Rattle.commands.specs.declared.status.DeviceFault.TheVariants.{Read, Write}
 use Rattle.commands.specs.Inputs.{Input, IsGoodTape, IsGoodDeclaration, IsGoodCertificate, FailsBefore, FailsInCertificate, FailsInTape, FailsInText}
@@ -69,6 +71,10 @@ fault_of_certificate fault = Certificate fault
 abbrev pub fault_of_guess : GuessFault → Fault
 fault_of_guess guess_fault.NoMemory = fault.NoMemory
 fault_of_guess fault = Guess fault
+
+abbrev pub fault_of_proposal : ProposeFault → Fault
+fault_of_proposal propose_fault.NoMemory = fault.NoMemory
+fault_of_proposal fault = Declare fault
 
 -- The text has this fault; a want of memory is none.
 abbrev pub IsEventsFault : List ℕ → EventsFault → Type 0
@@ -160,6 +166,16 @@ abbrev pub IsGuessFault : Input → Input → Fault → Type 0
 IsGuessFault tape text fault =
     IsTapeInputFault tape fault ⊎ (IsGoodTape tape.had × (IsDeclarationInputFault text fault
     ⊎ (IsGoodDeclaration text.had × IsSearchFault fault)))
+
+-- The tape is good, and what was found can't be declared, a write failed or memory was refused.
+abbrev pub IsProposeFault : Fault → Type 0
+IsProposeFault (Declare propose_fault.NoMemory) = ⊥
+IsProposeFault (Declare fault) = Unit {0}
+IsProposeFault fault = IsRunFault fault
+
+-- Why no declaration is proposed: the tape's fault, or after a good tape that of the work.
+abbrev pub IsDeclareFault : Input → Fault → Type 0
+IsDeclareFault tape fault = IsTapeInputFault tape fault ⊎ (IsGoodTape tape.had × IsProposeFault fault)
 
 -- Why a session has no result: each input is looked at where those before it are good, and so many frames and keys at most.
 abbrev pub IsSessionFault : ℕ → Input → Input → Input → Fault → Type 0

@@ -7,6 +7,7 @@ pub mod Follows
 pub mod Summary
 pub mod Course
 pub mod Running
+pub mod DeclareText
 pub mod Dumping
 pub mod WatchText
 pub mod CheckText

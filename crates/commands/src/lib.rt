@@ -3,6 +3,7 @@
 
 pub mod assembling;
 pub mod checking;
+pub mod declaring;
 pub mod explaining;
 pub mod follow;
 pub mod guessing;

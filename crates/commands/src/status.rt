@@ -3,7 +3,7 @@
 ghost use Rattle.std.specs.Prelude.{◌≡◌, ◌≤◌};
 ghost use Rattle.commands.specs.declared.status.Fault.TheVariants.{Device, NoMemory};
 ghost use Rattle.commands.specs.declared.status.DeviceFault.TheVariants.{Write};
-ghost use Rattle.commands.specs.Faults.{fault_of_certificate, fault_of_declaration, fault_of_events, fault_of_guess, fault_of_input, fault_of_tape};
+ghost use Rattle.commands.specs.Faults.{fault_of_certificate, fault_of_declaration, fault_of_events, fault_of_guess, fault_of_input, fault_of_proposal, fault_of_tape};
 ghost use Rattle.commands.specs.Statuses.{code_of, status_of_fault};
 
 use analyser::GuessFault;
@@ -12,6 +12,7 @@ use certificate::{CertificateFault, WriteFault};
 use declaration::DeclarationFault;
 use pal_asm::PalFault;
 use peripherals::{EventsFault, NoMemory};
+use proposer::ProposeFault;
 use std::alloc::AllocError;
 use streams::{Failed, InputFault};
 use thiserror::Error;
@@ -76,6 +77,9 @@ pub enum Fault {
     /// No certificate is found.
     #[error("pdp8: guess: {0}")]
     Guess(GuessFault),
+    /// No declaration is proposed.
+    #[error("pdp8: declare: {0}")]
+    Declare(ProposeFault),
     /// A device failed.
     #[error("pdp8: device: {0}")]
     Device(DeviceFault),
@@ -96,7 +100,8 @@ impl Fault {
             | Fault::Declared(_)
             | Fault::Certificate(_)
             | Fault::Events(_)
-            | Fault::Guess(_) => Status::Refused,
+            | Fault::Guess(_)
+            | Fault::Declare(_) => Status::Refused,
             Fault::Device(_) => Status::Device,
             Fault::NoMemory => Status::Memory,
         }
@@ -160,6 +165,18 @@ impl From<GuessFault> for Fault {
         match fault {
             GuessFault::NoMemory => Fault::NoMemory,
             _ => Fault::Guess(fault),
+        }
+    }
+}
+
+impl From<ProposeFault> for Fault {
+    ghost from_gives = { λ fault result. result ≡ fault_of_proposal fault };
+
+    /// A want of memory is not the program's fault.
+    fn from(fault: ProposeFault) -> Fault {
+        match fault {
+            ProposeFault::NoMemory => Fault::NoMemory,
+            _ => Fault::Declare(fault),
         }
     }
 }

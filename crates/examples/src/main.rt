@@ -1,7 +1,11 @@
 //! Assembles, runs, watches and checks the programs of `examples/`, and compares what is written with the
-//! files beside them, which other programs made.
+//! files beside them, which other programs made. Then it looks for certificates and declarations of its own,
+//! which must lead to the same verdicts.
 #![tactic(auto)]
 
+mod found;
+
+use crate::found::{is_declared, is_guessed, is_migrated, is_stuck_at_its_store};
 use commands::assembling::assemble;
 use commands::checking::check;
 use commands::running::{RunOptions, run_events};
@@ -41,17 +45,17 @@ static PROGRAMS: [(&str, Profile); 23] = [
 ];
 
 /// More bytes than any tape or text here has.
-const ROOM: usize = 65_536;
+pub const ROOM: usize = 65_536;
 
 /// A file of a program.
-fn file<R: Files + AllocGlobal>(rt: &R, name: &str, ending: &str) -> anyhow::Result<Vec<u8>> {
+pub fn file<R: Files + AllocGlobal>(rt: &R, name: &str, ending: &str) -> anyhow::Result<Vec<u8>> {
     let path = format!(in rt.alloc(); "{name}{ending}")?;
     let bytes = fs::read(rt, path.as_str())?;
     Ok(bytes)
 }
 
 /// The tape of a source.
-fn tape_of<R: Files + AllocGlobal>(
+pub fn tape_of<R: Files + AllocGlobal>(
     rt: &R,
     name: &str,
     ending: &str,
@@ -107,6 +111,24 @@ fn watches<R: Files + AllocGlobal>(
     Ok(out.bytes() == file(rt, name, expected)?.as_slice())
 }
 
+/// What is said of a tape, a declaration and a certificate.
+pub fn verdict<R: AllocGlobal>(
+    rt: &R,
+    tape: &[u8],
+    declaration: &[u8],
+    certificate: &[u8],
+) -> anyhow::Result<MemorySink<Global>> {
+    let mut out = MemorySink::new(rt.alloc(), ROOM);
+    check(
+        rt.alloc(),
+        &mut MemorySource::new(tape),
+        &mut MemorySource::new(declaration),
+        &mut MemorySource::new(certificate),
+        &mut out,
+    )?;
+    Ok(out)
+}
+
 /// Whether the verdict on the program's certificate is what it should be.
 fn checks<R: Files + AllocGlobal>(
     rt: &R,
@@ -118,15 +140,8 @@ fn checks<R: Files + AllocGlobal>(
     let tape = tape_of(rt, name, source, profile)?;
     let declaration = file(rt, name, ".declaration")?;
     let certificate = file(rt, name, ".certificate")?;
-    let mut out = MemorySink::new(rt.alloc(), ROOM);
-    check(
-        rt.alloc(),
-        &mut MemorySource::new(tape.bytes()),
-        &mut MemorySource::new(&declaration),
-        &mut MemorySource::new(&certificate),
-        &mut out,
-    )?;
-    Ok(out.bytes() == file(rt, name, expected)?.as_slice())
+    let said = verdict(rt, tape.bytes(), &declaration, &certificate)?;
+    Ok(said.bytes() == file(rt, name, expected)?.as_slice())
 }
 
 fn main(rt: HostRuntime) -> anyhow::Result<()> {
@@ -138,6 +153,12 @@ fn main(rt: HostRuntime) -> anyhow::Result<()> {
         let no = checks(&rt, name, "-broken.pal", "-broken.check", *profile)?;
         println!(&rt; "{name}: run {run}, watched {clean}, broken variant watched {broken}")?;
         println!(&rt; "{name}: checked {yes}, broken variant checked {no}")?;
+        let guessed = is_guessed(&rt, name, *profile)?;
+        let migrated = is_migrated(&rt, name, *profile)?;
+        let declared = is_declared(&rt, name, *profile)?;
+        println!(&rt; "{name}: guessed {guessed}, migrated {migrated}, declared {declared}")?;
     }
+    let told = is_stuck_at_its_store(&rt)?;
+    println!(&rt; "rim: not certified, for its store {told}")?;
     Ok(())
 }

@@ -1,9 +1,12 @@
-//! Small programs of which each is certified wherever it stands and with other words.
+//! Small programs of which each is certified wherever it stands and with other words, and tapes for which
+//! nothing is.
 
-use analyser::guess;
+use analyser::{Turns, guess};
 use bin_tape::Image;
 use declaration::Declaration;
+use instruct::Profile;
 use judge::judge;
+use proposer::{ProposeFault, Verdict, propose};
 use word12::Word;
 
 /// The words of a program that prints HELLO, from 0200 on.
@@ -19,6 +22,12 @@ const HELLO_DECLARED: &[u8] = b"start 0200\nmain 0200-0213\nsub 0214 body 0215-0
 /// A call with a word after it, which the routine adds, and returns past it.
 const ARGUMENT: [u16; 12] = [
     0o7300, 0o4210, 0o0005, 0o7402, 0, 0, 0, 0, 0o0000, 0o1610, 0o2210, 0o5610,
+];
+
+/// The loader that is toggled in by hand, from 7756 on: it stores wherever a tape says.
+const RIM: [u16; 17] = [
+    0o6032, 0o6031, 0o5357, 0o6036, 0o7106, 0o7006, 0o7510, 0o5357, 0o7006, 0o6031, 0o5367, 0o6034,
+    0o7420, 0o3776, 0o3376, 0o5356, 0o0000,
 ];
 
 /// The word of a number, modulo 4096.
@@ -104,4 +113,42 @@ pub fn certified_arguments<R: AllocGlobal>(rt: &R, argument: usize) -> anyhow::R
         }
     }
     Ok(certified)
+}
+
+/// Where the loader's proposal is stuck.
+pub fn rim_stuck_at<R: AllocGlobal>(rt: &R) -> anyhow::Result<Option<Word>> {
+    let tape = image(0o7756, &RIM);
+    let mut turns = Turns::new(20_000);
+    let proposal = propose(rt.alloc(), &tape, word(0o7756), Profile::Pdp8I, &mut turns)?;
+    match proposal.verdict {
+        Verdict::Stuck(at) => Ok(Some(at)),
+        _ => Ok(None),
+    }
+}
+
+/// Words in no order, on some share of all cells.
+fn garbage(seed: usize, share: usize) -> Image {
+    let mut image = Image::empty();
+    let mut state = seed;
+    for index in 0..4096usize {
+        state = state.wrapping_mul(1_103_515_245).wrapping_add(12_345) % 0x8000_0000;
+        if state / 0x1_0000 % 8 < share {
+            image.set(word(index), word(state / 0x1000));
+        }
+    }
+    image
+}
+
+/// How many of some tapes of words in no order have an answer: a proposal, or that none can be declared.
+pub fn answered_garbage<R: AllocGlobal>(rt: &R, count: usize) -> anyhow::Result<usize> {
+    let mut answered = 0usize;
+    for seed in 0..count {
+        let tape = garbage(seed, 1 + seed % 8);
+        let mut turns = Turns::new(200);
+        match propose(rt.alloc(), &tape, word(0o200), Profile::Pdp8E, &mut turns) {
+            Ok(_) | Err(ProposeFault::Undeclarable(_)) => answered = answered.saturating_add(1),
+            Err(fault) => return Err(fault.into()),
+        }
+    }
+    Ok(answered)
 }

@@ -3,12 +3,13 @@
 
 mod families;
 
-use crate::families::{certified_arguments, certified_hellos};
-use analyser::{GuessFault, guess};
+use crate::families::{answered_garbage, certified_arguments, certified_hellos, rim_stuck_at};
+use analyser::{GuessFault, Turns, guess};
 use bin_tape::Image;
 use declaration::Declaration;
 use instruct::Profile;
 use judge::judge;
+use proposer::{Verdict, propose};
 use std::alloc::Global;
 use std::fs;
 use std::rt::Files;
@@ -109,10 +110,30 @@ fn stuck_at<R: Files + AllocGlobal>(rt: &R, name: &str) -> anyhow::Result<Option
     }
 }
 
+/// How many turns a proposal may take.
+const MOST_TURNS: u32 = 200_000;
+
+/// Whether from a program's words and start alone a declaration is proposed that it keeps, with at most
+/// twice as many variables as its author's.
+fn is_declared<R: Files + AllocGlobal>(
+    rt: &R,
+    name: &str,
+    profile: Profile,
+) -> anyhow::Result<bool> {
+    let declaration = declared(rt, name)?;
+    let image = assembled(rt, name, profile)?;
+    let mut turns = Turns::new(MOST_TURNS);
+    let proposal = propose(rt.alloc(), &image, declaration.start(), profile, &mut turns)?;
+    let found = proposal.declaration.variables().count();
+    let most = declaration.variables().count().saturating_mul(2);
+    Ok(matches!(proposal.verdict, Verdict::Safe(_)) && found <= most)
+}
+
 fn main(rt: HostRuntime) -> anyhow::Result<()> {
     for (name, profile) in SAFE.iter() {
         let certified = is_certified(&rt, name, *profile)?;
-        println!(&rt; "{name}: certified {certified}")?;
+        let proposed = is_declared(&rt, name, *profile)?;
+        println!(&rt; "{name}: certified {certified}, declared {proposed}")?;
     }
     for name in STUCK.iter() {
         match stuck_at(&rt, name)? {
@@ -127,5 +148,11 @@ fn main(rt: HostRuntime) -> anyhow::Result<()> {
         let certified = certified_arguments(&rt, argument)?;
         println!(&rt; "argument {argument}: certified on {certified} pages")?;
     }
+    match rim_stuck_at(&rt)? {
+        Some(at) => println!(&rt; "rim: proposed, stuck at {at}")?,
+        None => println!(&rt; "rim: not stuck")?,
+    }
+    let answered = answered_garbage(&rt, 16)?;
+    println!(&rt; "garbage: {answered} tapes answered")?;
     Ok(())
 }

@@ -1,5 +1,5 @@
 -- What is promised of a proposal.
-use Rattle.std.specs.Prelude.{◌≡◌, ℕ, ⊤, List, Option}
+use Rattle.std.specs.Prelude.{◌≡◌, ℕ, ⊤, List, Option, is_some, true}
 use Rattle.instruct.specs.declared.Profile.{Profile}
 use Rattle.peripherals.specs.Loading.{image_of}
 use Rattle.declaration.specs.Declaration.{IsDeclared}
@@ -31,3 +31,8 @@ IsShown image d _ = ⊤
 -- Where the verdict is that the turns are spent, all of them are.
 abbrev pub IsSpentUp : {A : Type 0} → Count → Verdict A → Type 0
 IsSpentUp turns v = v ≡ TurnsSpent → turns.spent ≡ turns.limit
+
+-- Where a certificate is found the declaration lists the cells that may be read.
+abbrev pub IsListed : {A : Type 0} → Kept → Verdict A → Type 0
+IsListed d (Safe c) = is_some (meaning d).reads ≡ true
+IsListed d _ = ⊤

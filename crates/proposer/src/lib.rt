@@ -1,7 +1,7 @@
 //! Proposes declarations: what a program may do, from its tape and its start alone.
 #![tactic(auto)]
 
-ghost use Rattle.std.specs.Prelude.{ℕ, ◌≡◌, ◌≢◌, ◌≤◌, List, Option, IfOk, true};
+ghost use Rattle.std.specs.Prelude.{ℕ, ◌≡◌, ◌≢◌, ◌≤◌, List, Option, IfOk, is_some, true};
 ghost use Rattle.analyser.specs.Versions.{version_of};
 ghost use Rattle.analyser.specs.declared.GuessFault.TheVariants as guess_fault;
 ghost use Rattle.certificate.specs.Kept as certified;
@@ -9,7 +9,7 @@ ghost use Rattle.certificate.specs.Reading.{AreLines};
 ghost use Rattle.declaration.specs.Kept.{Kept, meaning};
 ghost use Rattle.declaration.specs.Text.{Declares};
 ghost use Rattle.proposer.specs.declared.Verdict.TheVariants.{TurnsSpent};
-ghost use Rattle.proposer.specs.Proposals.{Fits, IsShown, IsSpentUp};
+ghost use Rattle.proposer.specs.Proposals.{Fits, IsListed, IsShown, IsSpentUp};
 
 mod map;
 mod steps;
@@ -19,7 +19,8 @@ mod variables;
 mod walk;
 
 use crate::map::Map;
-use crate::variables::{Breadth, written};
+use crate::text::push_reads;
+use crate::variables::{Breadth, read, written};
 use analyser::{GuessFault, Turns, guess_within};
 use bin_tape::Image;
 use certificate::Certificate;
@@ -120,6 +121,82 @@ pub fn propose<A: Allocator + Copy>(
     Ok(proposal)
 }
 
+/// Proposes what a program may do as [`propose`] does, and lists the cells that it may read by the facts
+/// of the certificate, if one is found.
+///
+/// # Errors
+///
+/// Those of `propose`.
+pub fn propose_with_reads<A: Allocator + Copy>(
+    alloc: A,
+    image: &Image,
+    start: Word,
+    profile: Profile,
+    turns: &mut Turns,
+) -> Result<Proposal<A>, ProposeFault>
+    ensures fits { IfOk result (Fits start profile) }
+    ensures shown { IfOk result (λ p. IsShown image.now p.declaration p.verdict) }
+    // Where a certificate is found there is a list of reads.
+    ensures listed { IfOk result (λ p. IsListed p.declaration p.verdict) }
+    ensures spent { IfOk result (λ p. IsSpentUp turns.new p.verdict) }
+    ensures limit { turns.new.limit ≡ turns.old.limit }
+    ensures rises { turns.old.spent ≤ turns.new.spent }
+    ensures within { turns.new.spent ≤ turns.new.limit }
+{
+    let proposal = propose(alloc, image, start, profile, turns)?;
+    let Proposal {
+        declaration,
+        mut text,
+        unfollowed,
+        verdict,
+    } = proposal;
+    match verdict {
+        Verdict::Safe(certificate) => {
+            let cells = read(image, &declaration, &certificate);
+            let listing = relisted(alloc, &mut text, &cells, start, profile)?;
+            listing.is_declared();
+            let verdict = tested(image, &listing, certificate);
+            Ok(Proposal {
+                declaration: listing,
+                text,
+                unfollowed,
+                verdict,
+            })
+        }
+        verdict => Ok(Proposal {
+            declaration,
+            text,
+            unfollowed,
+            verdict,
+        }),
+    }
+}
+
+/// Adds a list of reads to a declaration's text, and gives what it declares then.
+fn relisted<A: Allocator + Copy>(
+    alloc: A,
+    text: &mut Vec<u8, A>,
+    cells: &WordSet,
+    start: Word,
+    profile: Profile,
+) -> Result<Declaration<A>, ProposeFault>
+    ensures start { IfOk result (λ d. (meaning d).start ≡ start) }
+    ensures profile { IfOk result (λ d. (meaning d).profile ≡ profile) }
+    ensures text { IfOk result (λ d. Declares text.new.items (meaning d)) }
+    ensures listed { IfOk result (λ d. is_some (meaning d).reads ≡ true) }
+{
+    let Ok(()) = push_reads(text, cells) else {
+        return Err(ProposeFault::NoMemory);
+    };
+    match Declaration::parse(alloc, text) {
+        Ok(declaration) if is_asked(&declaration, start, profile) && declaration.reads_listed() => {
+            Ok(declaration)
+        }
+        Ok(_) => Err(ProposeFault::Mismatch),
+        Err(fault) => Err(refused(fault)),
+    }
+}
+
 /// The proposal with the fewest variables of those that may be enough, or with the most.
 fn widened<A: Allocator + Copy>(
     alloc: A,
@@ -176,11 +253,11 @@ fn attempt<A: Allocator + Copy>(
 }
 
 /// Whether a declaration has the start and is for the machine that were asked.
-fn is_asked<A: Allocator>(declaration: &Declaration<A>, map: &Map) -> bool
-    ensures start { result ≡ true → (meaning declaration.now).start ≡ map.now.start }
-    ensures profile { result ≡ true → (meaning declaration.now).profile ≡ map.now.profile }
+fn is_asked<A: Allocator>(declaration: &Declaration<A>, start: Word, profile: Profile) -> bool
+    ensures start { result ≡ true → (meaning declaration.now).start ≡ start }
+    ensures profile { result ≡ true → (meaning declaration.now).profile ≡ profile }
 {
-    declaration.start() == map.start && declaration.profile() == map.profile
+    declaration.start() == start && declaration.profile() == profile
 }
 
 /// The proposal with this text, which declares this.
@@ -202,7 +279,7 @@ fn proposed<A: Allocator + Copy>(
 {
     let _spent = turns.spent();
     declaration.is_declared();
-    if !is_asked(&declaration, map) {
+    if !is_asked(&declaration, map.start, map.profile) {
         return Err(ProposeFault::Mismatch);
     }
     let verdict = judged(alloc, image, &declaration, turns)?;
@@ -274,7 +351,7 @@ fn unfound<A: Allocator>(fault: GuessFault) -> Result<Verdict<A>, ProposeFault>
 
 impl<A: Allocator> Proposal<A> {
     /// Whether a certificate is found that the judge accepts.
-    pub fn is_safe(&self) -> bool {
+    fn is_safe(&self) -> bool {
         matches!(&self.verdict, Verdict::Safe(_))
     }
 

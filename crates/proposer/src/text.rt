@@ -4,10 +4,14 @@ ghost use Rattle.std.specs.Prelude.{◌≤◌};
 
 use crate::map::Map;
 use bin_tape::Image;
-use instruct::Profile;
+use instruct::{Profile, name};
 use std::alloc::{AllocError, Allocator};
 use word12::Word;
 use wordset::WordSet;
+
+/// How many runs a line has at most where there may be several of its kind: with a kind of five letters
+/// it has 75 columns then.
+const MOST_RUNS: usize = 7;
 
 /// Adds a word in octal, after a space.
 fn push_word<A: Allocator>(text: &mut Vec<u8, A>, word: Word) -> Result<(), AllocError> {
@@ -46,32 +50,51 @@ fn push_runs<A: Allocator>(text: &mut Vec<u8, A>, set: &WordSet) -> Result<(), A
     Ok(())
 }
 
-/// Adds a line with the runs of a set, if it has a word.
-fn push_cells<A: Allocator>(
+/// Begins a line after so many runs, if there is none yet or the last is full.
+fn push_line_break<A: Allocator>(
     text: &mut Vec<u8, A>,
-    name: &[u8],
-    set: &WordSet,
+    kind: &[u8],
+    runs: usize,
 ) -> Result<(), AllocError> {
-    if set.is_empty() {
+    if runs % MOST_RUNS != 0 {
         return Ok(());
     }
-    text.extend_from_slice(name)?;
-    push_runs(text, set)?;
-    text.extend_from_slice(b"\n")
+    if runs != 0 {
+        text.extend_from_slice(b"\n")?;
+    }
+    text.extend_from_slice(kind)
 }
 
-/// Adds a line for each word of a set.
-fn push_each<A: Allocator>(
+/// Adds lines of a kind with the runs of a set, if it has a word.
+fn push_cells<A: Allocator>(
     text: &mut Vec<u8, A>,
-    name: &[u8],
+    kind: &[u8],
     set: &WordSet,
 ) -> Result<(), AllocError> {
     let mut next = 0usize;
-    while let Some(word) = set.first_from(next) {
-        push_cells(text, name, &WordSet::one(word))?;
-        next = word.index() + 1;
+    let mut runs = 0usize;
+    while let Some(low) = set.first_from(next) {
+        push_line_break(text, kind, runs)?;
+        let high = last_of_run(set, low);
+        push_run(text, low, high)?;
+        next = high.index() + 1;
+        runs = runs.saturating_add(1);
+    }
+    if runs != 0 {
+        text.extend_from_slice(b"\n")?;
     }
     Ok(())
+}
+
+/// Adds the lines of a list of cells that may be read; a list without a cell is a line too.
+pub(crate) fn push_reads<A: Allocator>(
+    text: &mut Vec<u8, A>,
+    cells: &WordSet,
+) -> Result<(), AllocError> {
+    if cells.is_empty() {
+        return text.extend_from_slice(b"read\n");
+    }
+    push_cells(text, b"read", cells)
 }
 
 impl Map {
@@ -92,9 +115,44 @@ impl Map {
         push_cells(&mut text, b"main", &again.follow_main(image))?;
         again.push_routines(&mut text, image)?;
         push_cells(&mut text, b"var", variables)?;
-        push_each(&mut text, b"stop", &self.round.halts.minus(&self.pauses))?;
-        push_each(&mut text, b"pause", &self.round.halts.meet(&self.pauses))?;
+        let stops = self.round.halts.minus(&self.pauses);
+        self.push_halts(&mut text, image, b"stop", &stops)?;
+        let pauses = self.round.halts.meet(&self.pauses);
+        self.push_halts(&mut text, image, b"pause", &pauses)?;
         Ok(text)
+    }
+
+    /// Adds a line for each halt of a set, with the name of its word.
+    fn push_halts<A: Allocator>(
+        &self,
+        text: &mut Vec<u8, A>,
+        image: &Image,
+        kind: &[u8],
+        halts: &WordSet,
+    ) -> Result<(), AllocError> {
+        let mut next = 0usize;
+        while let Some(at) = halts.first_from(next) {
+            text.extend_from_slice(kind)?;
+            push_word(text, at)?;
+            self.push_remark(text, image, b" / ", at)?;
+            next = at.index() + 1;
+        }
+        Ok(())
+    }
+
+    /// Ends a line with a comment that names the word at an address, if the tape has one.
+    fn push_remark<A: Allocator>(
+        &self,
+        text: &mut Vec<u8, A>,
+        image: &Image,
+        before: &[u8],
+        at: Word,
+    ) -> Result<(), AllocError> {
+        if let Some(word) = image.get(at) {
+            text.extend_from_slice(before)?;
+            text.extend_from_slice(name(word, self.profile).as_bytes())?;
+        }
+        text.extend_from_slice(b"\n")
     }
 
     /// Adds a line for each routine, whose bodies are followed again.
@@ -107,17 +165,18 @@ impl Map {
         while let Some(entry) = self.entries.first_from(next) {
             let body = self.follow_routine(image, entry);
             if !body.is_empty() {
-                self.push_routine(text, entry, &body)?;
+                self.push_routine(text, image, entry, &body)?;
             }
             next = entry.index() + 1;
         }
         Ok(())
     }
 
-    /// Adds the line of a routine.
+    /// Adds the line of a routine, with the name of its first word.
     fn push_routine<A: Allocator>(
         &self,
         text: &mut Vec<u8, A>,
+        image: &Image,
         entry: Word,
         body: &WordSet,
     ) -> Result<(), AllocError> {
@@ -132,6 +191,6 @@ impl Map {
                 text.push(b'0' + offset as u8)?;
             }
         }
-        text.extend_from_slice(b"\n")
+        self.push_remark(text, image, b" / begins with ", entry.increment())
     }
 }

@@ -1,11 +1,11 @@
-//! Which cells a program may change.
+//! Which cells a program may change, and which it may read.
 
 use crate::map::Map;
 use crate::trials::loaded;
 use bin_tape::Image;
 use certificate::{Certificate, Routine};
 use declaration::{Declaration, Owner};
-use facts::{Fact, Place, Running, writes};
+use facts::{Fact, Place, Running, reads, writes};
 use std::alloc::Allocator;
 use word12::Word;
 use wordset::WordSet;
@@ -54,6 +54,14 @@ impl Body {
             }),
         }
     }
+
+    /// Cells but the routine's own entry.
+    fn without_own(&self, cells: WordSet) -> WordSet {
+        match self {
+            Body::Main => cells,
+            Body::Of(entry, _) => cells.minus(&WordSet::one(*entry)),
+        }
+    }
 }
 
 /// Where a fact of a body stands.
@@ -88,27 +96,49 @@ fn body_at<A: Allocator, D: Allocator>(
     }
 }
 
-/// The cells that some possible word may write at the address of a fact.
-fn written_at<D: Allocator>(
-    image: &Image,
-    declaration: &Declaration<D>,
-    body: &Body,
+/// What a step does to a cell.
+#[derive(Clone, Copy)]
+enum Access {
+    Write,
+    Read,
+}
+
+impl Access {
+    /// The cells to which a word at the address of a fact may do it.
+    fn cells<D: Allocator>(
+        self,
+        fact: &Fact,
+        at: Word,
+        word: Word,
+        place: &Place<'_, D>,
+    ) -> WordSet {
+        match self {
+            Access::Write => writes(fact, at, word, place),
+            Access::Read => reads(fact, at, word, place),
+        }
+    }
+}
+
+/// The cells to which some possible word may do it at the address of a fact.
+fn touched_at<D: Allocator>(
+    access: Access,
     fact: &Fact,
     at: Word,
+    place: &Place<'_, D>,
 ) -> WordSet {
-    let place = place_in(image, declaration, body);
     let possible = place.possible_words(fact, at);
     let mut cells = WordSet::empty();
     let mut next = 0usize;
     while let Some(word) = possible.first_from(next) {
-        cells = cells.union(&writes(fact, at, word, &place));
+        cells = cells.union(&access.cells(fact, at, word, place));
         next = word.index() + 1;
     }
     cells
 }
 
-/// The cells that the program may write by the facts of a certificate, the entries apart.
-pub(crate) fn written<A: Allocator, D: Allocator>(
+/// The cells to which the program may do it by the facts of a certificate, a routine's own entry apart.
+fn touched<A: Allocator, D: Allocator>(
+    access: Access,
     image: &Image,
     declaration: &Declaration<D>,
     certificate: &Certificate<A>,
@@ -119,9 +149,30 @@ pub(crate) fn written<A: Allocator, D: Allocator>(
         let at = Word::from_index(index);
         if let Some(body) = body_at(declaration, certificate, at) {
             if certificate.fact_into(at, &mut fact) {
-                cells = cells.union(&written_at(image, declaration, &body, &fact, at));
+                let place = place_in(image, declaration, &body);
+                let found = touched_at(access, &fact, at, &place);
+                cells = cells.union(&body.without_own(found));
             }
         }
     }
+    cells
+}
+
+/// The variables that the program may write by the facts of a certificate.
+pub(crate) fn written<A: Allocator, D: Allocator>(
+    image: &Image,
+    declaration: &Declaration<D>,
+    certificate: &Certificate<A>,
+) -> WordSet {
+    let cells = touched(Access::Write, image, declaration, certificate);
     cells.meet(declaration.variables())
+}
+
+/// The cells that the program may read by the facts of a certificate.
+pub(crate) fn read<A: Allocator, D: Allocator>(
+    image: &Image,
+    declaration: &Declaration<D>,
+    certificate: &Certificate<A>,
+) -> WordSet {
+    touched(Access::Read, image, declaration, certificate)
 }

@@ -17,6 +17,7 @@ fn missing_words_are_told(rt: HostRuntime) -> Result<(), Fail> {
         "pdp8 list",
         "pdp8 watch halt.bin halt.dcl",
         "pdp8 check halt.bin halt.dcl",
+        "pdp8 declare halt.bin",
         "pdp8 guess halt.bin halt.dcl",
         "pdp8 migrate halt.cert",
     ] {
@@ -34,6 +35,7 @@ fn bad_words_are_told(rt: HostRuntime) -> Result<(), Fail> {
         ("pdp8 run a b", "error: unexpected argument 'b' found"),
         ("pdp8 dump a b", "error: unexpected argument 'b' found"),
         ("pdp8 watch a b c d", "error: unexpected argument 'd' found"),
+        ("pdp8 declare a b c", "error: unexpected argument 'c' found"),
         ("pdp8 guess a b c d", "error: unexpected argument 'd' found"),
         ("pdp8 migrate a b c", "error: unexpected argument 'c' found"),
         ("pdp8 run a --start 8", "error: bad value for '--start': "),
@@ -162,6 +164,7 @@ fn help_is_printed(rt: HostRuntime) -> Result<(), Fail> {
         "pdp8 -h",
         "pdp8 help run",
         "pdp8 list -h",
+        "pdp8 help declare",
         "pdp8 help guess",
         "pdp8 help migrate",
     ] {
@@ -202,6 +205,8 @@ fn files_are_opened_in_order_before_any_is_read(rt: HostRuntime) -> Result<(), F
             "bad.bin bad.dcl absent ",
         ),
         ("pdp8 assemble o.bin absent bad.pal", "o.bin absent "),
+        ("pdp8 declare absent o.dcl", "absent "),
+        ("pdp8 declare failing o.dcl", "failing o.dcl "),
         ("pdp8 guess absent bad.dcl o.cert", "absent "),
         ("pdp8 guess bad.bin absent o.cert", "bad.bin absent "),
         (
@@ -223,6 +228,8 @@ fn files_that_cannot_be_made_or_written_are_told(rt: HostRuntime) -> Result<(), 
     for (words, opened) in [
         ("pdp8 assemble absent/o bad.pal", "absent/o "),
         ("pdp8 assemble failing halt.pal", "failing halt.pal "),
+        ("pdp8 declare bad.bin absent/o", "bad.bin absent/o "),
+        ("pdp8 declare halt.bin failing", "halt.bin failing "),
         (
             "pdp8 guess bad.bin bad.dcl absent/o",
             "bad.bin bad.dcl absent/o ",
@@ -269,9 +276,14 @@ fn the_first_input_with_a_fault_is_told(rt: HostRuntime) -> Result<(), Fail> {
 }
 
 #[test]
-fn no_certificate_is_made_of_a_bad_input(rt: HostRuntime) -> Result<(), Fail> {
+fn nothing_is_made_of_a_bad_input(rt: HostRuntime) -> Result<(), Fail> {
     for (words, told, opened) in [
-        // The certificate's file is made before anything is looked at, and stays empty.
+        // The file of what comes out is made before anything is looked at, and stays empty.
+        (
+            "pdp8 declare bad.bin o.dcl",
+            "pdp8: tape: NoWord\n",
+            "bad.bin o.dcl ",
+        ),
         (
             "pdp8 guess bad.bin bad.dcl o.cert",
             "pdp8: tape: NoWord\n",
@@ -338,6 +350,34 @@ fn the_migrated_certificate_goes_where_it_is_asked_for(rt: HostRuntime) -> Resul
 }
 
 #[test]
+fn the_declaration_goes_where_it_is_asked_for(rt: HostRuntime) -> Result<(), Fail> {
+    let text = "start 0200\nmain 0200\nstop 0200 / HLT\n";
+    let listing = "start 0200\nmain 0200\nstop 0200 / HLT\nread\n";
+    for (words, written, printed) in [
+        ("pdp8 declare halt.bin o.dcl", text, ""),
+        ("pdp8 declare halt.bin o.dcl --reads", listing, ""),
+        ("pdp8 declare halt.bin -", "", text),
+    ] {
+        let end = run_program(rt.alloc(), words);
+        assert_eq!(rt; end.status, Status::Done.code(), "{words}");
+        assert_eq!(rt; end.written.as_slice(), written.as_bytes(), "{words}");
+        assert_eq!(rt; end.printed.as_slice(), printed.as_bytes(), "{words}");
+        assert!(rt; end.told.is_empty(), "{words}");
+    }
+    Ok(())
+}
+
+#[test]
+fn a_declaration_that_is_not_shown_says_why(rt: HostRuntime) -> Result<(), Fail> {
+    // No word is on the tape at 0300.
+    let end = run_program(rt.alloc(), "pdp8 declare halt.bin o.dcl --start 300");
+    assert_eq!(rt; end.status, Status::Refused.code());
+    assert!(rt; end.written.starts_with(b"/ No certificate is found: "));
+    assert!(rt; end.printed.is_empty() && end.told.is_empty());
+    Ok(())
+}
+
+#[test]
 fn the_guess_goes_where_it_is_asked_for(rt: HostRuntime) -> Result<(), Fail> {
     let first = "PDP8-CERTIFICATE 1\nfact 0200 ac 0000-7777 link 01 offsets -\nend\n";
     let second = "PDP8-CERTIFICATE 2\nfact 0200 ac 0000-7777 mq 0000-7777 link 01 offsets -\nend\n";
@@ -367,6 +407,7 @@ fn an_output_that_fails_is_told(rt: HostRuntime) -> Result<(), Fail> {
         "pdp8 list halt.pal",
         "pdp8 watch halt.bin halt.dcl step.ev",
         "pdp8 check halt.bin halt.dcl halt.cert",
+        "pdp8 declare halt.bin -",
         "pdp8 guess halt.bin halt.dcl -",
         "pdp8 migrate halt.cert -",
         "pdp8 help",

@@ -8,6 +8,7 @@ use crate::words::{Refused, Request, parse_words};
 use clap::Error;
 use commands::assembling::{assemble, list};
 use commands::checking::check;
+use commands::declaring::{DeclareOptions, declare};
 use commands::explaining::explain;
 use commands::guessing::guess;
 use commands::migrating::migrate;
@@ -136,6 +137,7 @@ fn answer<R: Files + Input + Print + Eprint>(
             certificate,
             explained,
         } => check_from(rt, alloc, tape, declaration, certificate, *explained),
+        Request::Declare { tape, out, options } => declare_from(rt, alloc, tape, out, *options),
         Request::Guess {
             tape,
             declaration,
@@ -226,6 +228,19 @@ fn check_from<R: Files + Input + Print>(
         return explain(alloc, &mut frames, &mut text, &mut claims, &mut out);
     }
     check(alloc, &mut frames, &mut text, &mut claims, &mut out)
+}
+
+/// Proposes a declaration for the tape of a file.
+fn declare_from<R: Files + Input + Print>(
+    rt: &R,
+    alloc: Global,
+    tape: &str,
+    out: &str,
+    options: DeclareOptions,
+) -> Result<Status, Fault> {
+    let mut frames = open_input(rt, tape)?;
+    let mut text = open_output(rt, out)?;
+    declare(alloc, &mut frames, options, &mut text)
 }
 
 /// Guesses a certificate for the tape of a file.

@@ -3,6 +3,7 @@
 use crate::operator::{Session, has_operator, session_of, with_operator};
 use clap::error::ErrorKind;
 use clap::{Arg, ArgAction, ArgMatches, Command, Error};
+use commands::declaring::DeclareOptions;
 use commands::running::RunOptions;
 use instruct::Profile;
 use std::alloc::{AllocError, Global};
@@ -21,7 +22,7 @@ const VERSION: &str = "1.0";
 /// What stands below the list of commands.
 const STATUSES: &str = "Exit status:
   0  done
-  1  an input was refused, a run got stuck or broke a rule, a condition failed, or no guess was found
+  1  an input was refused, a run got stuck or broke a rule, a condition failed, or no certificate was found
   2  bad words
   3  a file or a stream failed
   4  memory was refused
@@ -78,6 +79,15 @@ pub enum Request<'a> {
         certificate: &'a str,
         /// Whether it is said why the verdict is no.
         explained: bool,
+    },
+    /// To propose a declaration.
+    Declare {
+        /// The name of the tape's file.
+        tape: &'a str,
+        /// The name of the file that the declaration goes to.
+        out: &'a str,
+        /// What it's proposed for.
+        options: DeclareOptions,
     },
     /// To guess a certificate.
     Guess {
@@ -166,10 +176,13 @@ fn profile_word<'a>(alloc: Global) -> Arg<'a> {
         .help("8i or 8e: whose instructions are meant; 8i without it")
 }
 
-fn run_command<'a>(alloc: Global) -> Result<Command<'a>, AllocError> {
-    let start = Arg::new(alloc, "start").long("start").value_name("A").help(
+fn start_word<'a>(alloc: Global) -> Arg<'a> {
+    Arg::new(alloc, "start").long("start").value_name("A").help(
         "the octal address of the first instruction; 0200 without it",
-    );
+    )
+}
+
+fn run_command<'a>(alloc: Global) -> Result<Command<'a>, AllocError> {
     let steps = Arg::new(alloc, "steps")
         .long("steps")
         .value_name("N")
@@ -186,7 +199,7 @@ fn run_command<'a>(alloc: Global) -> Result<Command<'a>, AllocError> {
         .about("Runs a tape and writes where it ended and what it printed and punched")
         .after_help("Example:\n  pdp8 run hello.bin --start 200 --trace")
         .arg(tape_word(alloc))?
-        .arg(start)?
+        .arg(start_word(alloc))?
         .arg(steps)?
         .arg(events)?
         .arg(trace)?
@@ -262,6 +275,26 @@ fn check_command<'a>(alloc: Global) -> Result<Command<'a>, AllocError> {
         .arg(why)
 }
 
+fn declare_command<'a>(alloc: Global) -> Result<Command<'a>, AllocError> {
+    let out = Arg::new(alloc, "OUT").required(true).help(
+        "where the declaration goes, or - for standard output; it is emptied first",
+    );
+    let reads = Arg::new(alloc, "reads")
+        .long("reads")
+        .action(ArgAction::SetTrue)
+        .help("also lists the cells that the program may read");
+    Command::new(alloc, "declare")
+        .about("Proposes a declaration: what the program of a tape may do")
+        .after_help(
+            "OUT is another file: it is emptied before the tape is read. Where no certificate is found the declaration is written all the same, behind comments that say why, and the status is 1.\n\nExample:\n  pdp8 declare hello.bin hello.declaration",
+        )
+        .arg(tape_word(alloc))?
+        .arg(out)?
+        .arg(start_word(alloc))?
+        .arg(reads)?
+        .arg(profile_word(alloc))
+}
+
 fn guess_command<'a>(alloc: Global) -> Result<Command<'a>, AllocError> {
     Command::new(alloc, "guess")
         .about("Looks for a certificate that may show that no run breaks a declaration")
@@ -307,6 +340,7 @@ fn command<'a>(alloc: Global) -> Result<Command<'a>, AllocError> {
         .subcommand(list_command(alloc)?)?
         .subcommand(watch_command(alloc)?)?
         .subcommand(check_command(alloc)?)?
+        .subcommand(declare_command(alloc)?)?
         .subcommand(guess_command(alloc)?)?
         .subcommand(migrate_command(alloc)?)
 }
@@ -330,8 +364,12 @@ fn profile_of(found: &ArgMatches<'_>) -> Result<Profile, Refused> {
     }
 }
 
+fn start_of(found: &ArgMatches<'_>) -> Result<Word, Refused> {
+    Ok(Word::from_octal(found.get_str("start").unwrap_or("0200").as_bytes())?)
+}
+
 pub(crate) fn run_options(found: &ArgMatches<'_>) -> Result<RunOptions, Refused> {
-    let start = Word::from_octal(found.get_str("start").unwrap_or("0200").as_bytes())?;
+    let start = start_of(found)?;
     let rounds = match found.get_str("steps") {
         None => ROUNDS,
         Some(text) => rounds_of(text).ok_or(Refused::Steps)?,
@@ -423,6 +461,18 @@ fn check_request<'a>(found: &ArgMatches<'a>) -> Result<Request<'a>, Refused> {
     })
 }
 
+fn declare_request<'a>(found: &ArgMatches<'a>) -> Result<Request<'a>, Refused> {
+    Ok(Request::Declare {
+        tape: found.get_str("TAPE").unwrap_or("-"),
+        out: found.get_str("OUT").unwrap_or("-"),
+        options: DeclareOptions {
+            start: start_of(found)?,
+            profile: profile_of(found)?,
+            reads: found.get_flag("reads"),
+        },
+    })
+}
+
 fn guess_request<'a>(found: &ArgMatches<'a>) -> Result<Request<'a>, Refused> {
     let tape = found.get_str("TAPE").unwrap_or("-");
     let declaration = found.get_str("DECLARATION").unwrap_or("-");
@@ -455,6 +505,7 @@ pub fn parse_words<'a, S: AsStr>(alloc: Global, words: &'a [S]) -> Result<Reques
         Some(("list", found)) => list_request(alloc, found),
         Some(("watch", found)) => watch_request(found),
         Some(("check", found)) => check_request(found),
+        Some(("declare", found)) => declare_request(found),
         Some(("guess", found)) => guess_request(found),
         Some(("migrate", found)) => Ok(migrate_request(found)),
         Some((_, found)) => run_request(found),

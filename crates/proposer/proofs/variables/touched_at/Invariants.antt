@@ -1,5 +1,5 @@
 use Rattle.std.proofs.Common.{◌-◌, ◌≤◌}
-use Rattle.proposer.proofs.variables.written_at.Given as goal
+use Rattle.proposer.proofs.variables.touched_at.Given as goal
 
 abbrev pub invariant-loop-word : goal.invariant-loop-word
 invariant-loop-word g l = l.next ≤ 4096

@@ -1,0 +1,30 @@
+-- What `declare` writes.
+use Rattle.std.specs.Prelude.{ℕ, ◌≡◌, List, Option, is_some, true}
+use Rattle.peripherals.specs.Loading.{image_of}
+use Rattle.declaration.specs.Declaration.{Declaration}
+use Rattle.declaration.specs.Text.{Declares}
+use Rattle.policy.specs.Runs.{IsSafe}
+use Rattle.commands.specs.declared.declaring.DeclareOptions.{DeclareOptions}
+use Rattle.commands.specs.declared.status.Status.{Status}
+use Rattle.commands.specs.declared.status.Status.TheVariants.{Done}
+use Rattle.commands.specs.Inputs.{HasImage}
+
+-- The text declares a program that starts where it was asked to, on the machine that was asked for.
+pub record IsDeclarationFor (options : DeclareOptions) (text : List ℕ) : Type 0 where
+  pub declaration : Declaration
+  pub declares : Declares text declaration
+  pub start_is : declaration.start ≡ options.start
+  pub profile_is : declaration.profile ≡ options.profile
+
+-- The frames are a tape, and the text is such a declaration; where the command is done, no run of the tape's program breaks
+-- it, and it has a list of reads if one was asked for.
+pub record IsProposal (options : DeclareOptions) (frames : Option (List ℕ)) (status : Status) (text : List ℕ) : Type 0 where
+  pub image : List (Option ℕ)
+  pub tape : HasImage frames image
+  pub is : IsDeclarationFor options text
+  pub safe : status ≡ Done → IsSafe (image_of image) is.declaration
+  pub listed : status ≡ Done → options.reads ≡ true → is_some is.declaration.reads ≡ true
+
+-- The same with whichever status.
+abbrev pub IsProposed : DeclareOptions → Option (List ℕ) → List ℕ → Type 0
+IsProposed options frames text = (status : Status) × IsProposal options frames status text

@@ -28,11 +28,23 @@ use Rattle.commands.specs.declared.status.Fault.{Fault}
 use Rattle.commands.specs.declared.status.Status.{Status}
 use Rattle.commands.specs.Inputs.{AreFirst, HasImage}
 use Rattle.commands.specs.Running.{fresh, status_of}
-use Rattle.commands.specs.Session.{Comes, Over, Cut, Final, Then, Operated, BrokeOff, FrontsOf, IsPartOfSession, IsSession, IsSessionOf, NothingOrFronts, WritesAll, character, plan_for, printed_in, taken, Taken}
+use Rattle.commands.specs.Session.{Comes, Over, Cut, Final, Then, Operated, BrokeOff, FrontsOf, IsPartOfSession, IsSession, IsSessionOf, NothingOrFronts, WritesAll, character, plan_for, printed_in, taken, Taken, Failures, failures}
 use Rattle.commands.specs.Summary.{summary}
 use Rattle.commands.specs.SessionParts.{IsPartOf, Played, Unplayed, Faltered, PlayedFront, printed_from}
 use Rattle.commands.specs.Trace.{trace_of, traced}
 use Rattle.commands.proofs.FollowLemmas.{Leads, Came, came_none, came_all, joined, leads_both, leads_one, front_after, no_line, OneFollows, one_by}
+
+pub or_left : (a b : Bool) → a || b ≡ false → a ≡ false
+or_left true b is = is
+or_left false b is = refl
+
+pub or_right : (a b : Bool) → a || b ≡ false → b ≡ false
+or_right true b is = absurd (true≢false is)
+or_right false b is = is
+
+-- nothing is a front of a piece
+pub no_front : (a : Option (List ℕ)) (piece : List ℕ) → AppendsFront a a piece
+no_front a piece = record { count = 0; within = omega arith; out = Appends-nil a }
 
 -- what a printer put out stays, and something may come after it
 pub record Grows (old new : List ℕ) : Type 0 where
@@ -210,9 +222,9 @@ sat_to_stuck p trace plan now last e w x y n word outcome old mid new told tmid 
     }
 
 -- the run broke off before the event
-broke_before : (p : Profile) (trace : Bool) (plan now : Plan) (last : Option Event) (w x y : WorldState) (n : ℕ) (old mid new told tmid tells : Option (List ℕ)) →
-    Sat p trace plan now last w x n old mid told tmid → Unplayed x y mid new tmid tells → BrokeOff p trace plan w y old new told tells
-broke_before p trace plan now last w x y n old mid new told tmid tells sat un = rw (un.same, un.unwritten, un.unprinted) (record {
+broke_before : (p : Profile) (trace : Bool) (plan now : Plan) (last : Option Event) (w x y : WorldState) (n : ℕ) (reported typed : Bool) (old mid new told tmid tells : Option (List ℕ)) →
+    Sat p trace plan now last w x n old mid told tmid → Unplayed x y mid new tmid tells → BrokeOff p trace plan w y reported typed old new told tells
+broke_before p trace plan now last w x y n reported typed old mid new told tmid tells sat un = rw (un.same, un.unwritten, un.unprinted) (record {
   events = sat.events;
   come = let all : Comes p false plan None w (sat.events ++ []) = sat.come false [] (Cut now last x refl) in rw (append-nil sat.events) at all;
   lines = sat.came.lines;
@@ -222,6 +234,8 @@ broke_before p trace plan now last w x y n old mid new told tmid tells sat un = 
       rw (append-nil sat.events, append-nil sat.came.lines, add-zero n) at done;
   wrote = whole_front old mid (traced trace sat.came.lines) sat.came.wrote;
   printed = whole_front told tmid (printed_in x) sat.printed;
+  wrote_whole = λ no. sat.came.wrote;
+  printed_whole = λ no. sat.printed;
 })
 
 -- the events up to the one that is due
@@ -233,9 +247,9 @@ front_joined : (trace : Bool) (a b c : Option (List ℕ)) (first second : List �
 front_joined true a b c first second whole front = front_after a b c first second whole front
 front_joined false a b c first second whole front = front_after a b c [] [] whole front
 
-broke_after : (p : Profile) (trace : Bool) (plan now : Plan) (last : Option Event) (e : Event) (w x y : WorldState) (n : ℕ) (old mid new told tmid tells : Option (List ℕ)) →
-    Sat p trace plan now last w x n old mid told tmid → due now x last ≡ Some e → Faltered p trace x e y mid new tmid tells → BrokeOff p trace plan w y old new told tells
-broke_after p trace plan now last e w x y n old mid new told tmid tells sat is faltered =
+broke_after : (p : Profile) (trace : Bool) (plan now : Plan) (last : Option Event) (e : Event) (w x y : WorldState) (n : ℕ) (reported typed : Bool) (old mid new told tmid tells : Option (List ℕ)) →
+    Sat p trace plan now last w x n old mid told tmid → due now x last ≡ Some e → Faltered p trace x e y reported typed mid new tmid tells → BrokeOff p trace plan w y reported typed old new told tells
+broke_after p trace plan now last e w x y n reported typed old mid new told tmid tells sat is faltered =
     let one = one_by p true e x y (seen_of p x e) refl faltered.happens in
     record {
       events = sat.events ++ e ∷ [];
@@ -246,12 +260,37 @@ broke_after p trace plan now last e w x y n old mid new told tmid tells sat is f
       follows = sat.came.leads (e ∷ []) (trace_of p x e y) one.steps one.end y one.follows;
       wrote = front_joined trace old mid new sat.came.lines (trace_of p x e y) sat.came.wrote faltered.wrote;
       printed = rw (printed_more p x y e faltered.happens) (front_after told tmid tells (printed_in x) (printed_from x y) sat.printed faltered.printed);
+      wrote_whole = λ no. joined trace old mid new sat.came.lines (trace_of p x e y) sat.came.wrote (faltered.wrote_whole no);
+      printed_whole = λ no. printed_next p x y e told tmid tells faltered.happens sat.printed (faltered.printed_whole no);
     }
 
-pub sat_to_fault : (p : Profile) (trace : Bool) (plan now : Plan) (last : Option Event) (e : Event) (w x y : WorldState) (n : ℕ) (old mid new told tmid tells : Option (List ℕ)) →
-    Sat p trace plan now last w x n old mid told tmid → due now x last ≡ Some e → PlayedFront p trace x e y mid new tmid tells → BrokeOff p trace plan w y old new told tells
-sat_to_fault p trace plan now last e w x y n old mid new told tmid tells sat is (inl un) = broke_before p trace plan now last w x y n old mid new told tmid tells sat un
-sat_to_fault p trace plan now last e w x y n old mid new told tmid tells sat is (inr faltered) = broke_after p trace plan now last e w x y n old mid new told tmid tells sat is faltered
+pub sat_to_fault : (p : Profile) (trace : Bool) (plan now : Plan) (last : Option Event) (e : Event) (w x y : WorldState) (n : ℕ) (reported typed : Bool) (old mid new told tmid tells : Option (List ℕ)) →
+    Sat p trace plan now last w x n old mid told tmid → due now x last ≡ Some e → PlayedFront p trace x e y reported typed mid new tmid tells → BrokeOff p trace plan w y reported typed old new told tells
+sat_to_fault p trace plan now last e w x y n reported typed old mid new told tmid tells sat is (inl un) = broke_before p trace plan now last w x y n reported typed old mid new told tmid tells sat un
+sat_to_fault p trace plan now last e w x y n reported typed old mid new told tmid tells sat is (inr faltered) = broke_after p trace plan now last e w x y n reported typed old mid new told tmid tells sat is faltered
+
+-- the events of a whole run are the first ones too
+comes_first : (p : Profile) (plan : Plan) (last : Option Event) (w : WorldState) (es : List Event) → Comes p true plan last w es → Comes p false plan last w es
+comes_first p _ _ _ _ (Over plan last w none) = Over plan last w none
+comes_first p _ _ _ _ (Cut plan last w no) = absurd (true≢false no)
+comes_first p _ _ _ _ (Final plan last w e is ends) = Final plan last w e is ends
+comes_first p _ _ _ _ (Then plan last w m e es is goes happens rest) = Then plan last w m e es is goes happens (comes_first p (left_after e plan) (Some e) m es rest)
+
+-- a whole run, of which no more is told
+pub operated_broke : (p : Profile) (trace : Bool) (plan : Plan) (w : WorldState) (outcome : Outcome) (x : WorldState) (reported typed : Bool) (old new told tells : Option (List ℕ)) →
+    Operated p trace plan w outcome x old new told tells → BrokeOff p trace plan w x reported typed old new told tells
+operated_broke p trace plan w outcome x reported typed old new told tells done = record {
+  events = done.events;
+  come = comes_first p plan None w done.events done.come;
+  lines = done.ran.lines;
+  steps = outcome.steps;
+  end = outcome.end;
+  follows = done.ran.follows;
+  wrote = whole_front old new (traced trace done.ran.lines) done.ran.wrote;
+  printed = whole_front told tells (printed_in x) done.printed;
+  wrote_whole = λ no. done.ran.wrote;
+  printed_whole = λ no. done.printed;
+}
 
 -- how many events may come at most in the round that has begun
 abbrev rank : Option Event → ℕ
@@ -387,27 +426,28 @@ attended options plan image p w x outcome status old mid new told tells held hol
   to_punch = punched;
 }
 
-pub attended_front : (options : RunOptions) (plan : Plan) (image : List (Option ℕ)) (p : Profile) (w x : WorldState) (outcome : Outcome) (old mid new told tells held holds : Option (List ℕ)) →
-    p ≡ options.profile → w ≡ fresh image options.start → Operated p options.trace plan w outcome x old mid told tells → AppendsFront held holds x.devices.punch.output →
-    AppendsFront mid new (summary outcome.end x outcome.steps) → FrontsOf (IsPartOf options plan image) (taken old told held) (taken new tells holds)
-attended_front options plan image p w x outcome old mid new told tells held holds profile begins done punched front = record {
+-- the summary failed
+pub attended_front : (options : RunOptions) (plan : Plan) (image : List (Option ℕ)) (p : Profile) (w x : WorldState) (outcome : Outcome) (reported typed unpunched : Bool) (old mid new told tells held holds : Option (List ℕ)) →
+    p ≡ options.profile → w ≡ fresh image options.start → Operated p options.trace plan w outcome x old mid told tells → Appends held holds x.devices.punch.output →
+    AppendsFront mid new (summary outcome.end x outcome.steps) → reported ≡ true →
+    FrontsOf (IsPartOf options plan image) (failures reported typed unpunched) (taken old told held) (taken new tells holds)
+attended_front options plan image p w x outcome reported typed unpunched old mid new told tells held holds profile begins done punched front failed = record {
   text = traced options.trace done.ran.lines ++ summary outcome.end x outcome.steps;
   printed = printed_in x;
   punched = x.devices.punch.output;
   is = record { whole = true; status = status_of outcome.end; is = session_whole options plan image p w x outcome (status_of outcome.end) old mid told tells profile begins done refl };
   to_report = front_after old mid new (traced options.trace done.ran.lines) (summary outcome.end x outcome.steps) done.ran.wrote front;
   to_teletype = whole_front told tells (printed_in x) done.printed;
-  to_punch = punched;
+  to_punch = whole_front held holds x.devices.punch.output punched;
+  report_whole = λ no. absurd (true≢false (sym failed ∙ no));
+  teletype_whole = λ no. done.printed;
+  punch_whole = λ no. punched;
 }
 
--- nothing is a front of a piece
-pub no_front : (a : Option (List ℕ)) (piece : List ℕ) → AppendsFront a a piece
-no_front a piece = record { count = 0; within = omega arith; out = Appends-nil a }
-
-pub broke_front : (options : RunOptions) (plan : Plan) (image : List (Option ℕ)) (p : Profile) (w x : WorldState) (old new told tells held holds : Option (List ℕ)) →
-    p ≡ options.profile → w ≡ fresh image options.start → BrokeOff p options.trace plan w x old new told tells → AppendsFront held holds x.devices.punch.output →
-    FrontsOf (IsPartOf options plan image) (taken old told held) (taken new tells holds)
-broke_front options plan image p w x old new told tells held holds profile begins broke punched = record {
+pub broke_front : (options : RunOptions) (plan : Plan) (image : List (Option ℕ)) (p : Profile) (w x : WorldState) (reported typed unpunched : Bool) (old new told tells held holds : Option (List ℕ)) →
+    p ≡ options.profile → w ≡ fresh image options.start → BrokeOff p options.trace plan w x reported typed old new told tells → AppendsFront held holds x.devices.punch.output →
+    (unpunched ≡ false → Appends held holds x.devices.punch.output) → FrontsOf (IsPartOf options plan image) (failures reported typed unpunched) (taken old told held) (taken new tells holds)
+broke_front options plan image p w x reported typed unpunched old new told tells held holds profile begins broke punched whole = record {
   text = traced options.trace broke.lines ++ [];
   printed = printed_in x;
   punched = x.devices.punch.output;
@@ -431,22 +471,34 @@ broke_front options plan image p w x old new told tells held holds profile begin
   to_report = front_of_more old new (traced options.trace broke.lines) [] broke.wrote;
   to_teletype = broke.printed;
   to_punch = punched;
+  report_whole = λ no. subst (Appends old new) (sym (append-nil (traced options.trace broke.lines))) (broke.wrote_whole no);
+  teletype_whole = broke.printed_whole;
+  punch_whole = whole;
 }
 
+-- memory was refused for the summary
+pub summary_wanting : (options : RunOptions) (plan : Plan) (image : List (Option ℕ)) (p : Profile) (w x : WorldState) (outcome : Outcome) (reported typed unpunched : Bool) (old new told tells held holds : Option (List ℕ)) →
+    p ≡ options.profile → w ≡ fresh image options.start → Operated p options.trace plan w outcome x old new told tells → Appends held holds x.devices.punch.output →
+    FrontsOf (IsPartOf options plan image) (failures reported typed unpunched) (taken old told held) (taken new tells holds)
+summary_wanting options plan image p w x outcome reported typed unpunched old new told tells held holds profile begins done punched =
+    broke_front options plan image p w x reported typed unpunched old new told tells held holds profile begins (operated_broke p options.trace plan w outcome x reported typed old new told tells done)
+    (whole_front held holds x.devices.punch.output punched) (λ no. punched)
+
 -- the punch failed, whatever the run brought
-pub punch_front : (options : RunOptions) (plan : Plan) (image : List (Option ℕ)) (p : Profile) (w x : WorldState) (ran : Result Outcome Fault) (old new told tells held holds : Option (List ℕ)) →
-    p ≡ options.profile → w ≡ fresh image options.start → IfOk ran (λ outcome. Operated p options.trace plan w outcome x old new told tells) → OnErr ran (BrokeOff p options.trace plan w x old new told tells) →
-    AppendsFront held holds x.devices.punch.output → FrontsOf (IsPartOf options plan image) (taken old told held) (taken new tells holds)
-punch_front options plan image p w x (Ok outcome) old new told tells held holds profile begins done broke punched =
-    attended_front options plan image p w x outcome old new new told tells held holds profile begins done punched (no_front new (summary outcome.end x outcome.steps))
-punch_front options plan image p w x (Err fault) old new told tells held holds profile begins done broke punched =
-    broke_front options plan image p w x old new told tells held holds profile begins broke punched
+pub punch_front : (options : RunOptions) (plan : Plan) (image : List (Option ℕ)) (p : Profile) (w x : WorldState) (ran : Result Outcome Fault) (reported typed unpunched : Bool) (old new told tells held holds : Option (List ℕ)) →
+    p ≡ options.profile → w ≡ fresh image options.start → IfOk ran (λ outcome. Operated p options.trace plan w outcome x old new told tells) → OnErr ran (BrokeOff p options.trace plan w x reported typed old new told tells) →
+    AppendsFront held holds x.devices.punch.output → unpunched ≡ true → FrontsOf (IsPartOf options plan image) (failures reported typed unpunched) (taken old told held) (taken new tells holds)
+punch_front options plan image p w x (Ok outcome) reported typed unpunched old new told tells held holds profile begins done broke punched failed =
+    broke_front options plan image p w x reported typed unpunched old new told tells held holds profile begins (operated_broke p options.trace plan w outcome x reported typed old new told tells done)
+    punched (λ no. absurd (true≢false (sym failed ∙ no)))
+punch_front options plan image p w x (Err fault) reported typed unpunched old new told tells held holds profile begins done broke punched failed =
+    broke_front options plan image p w x reported typed unpunched old new told tells held holds profile begins broke punched (λ no. absurd (true≢false (sym failed ∙ no)))
 
 -- the inputs are good
-pub session_part : (options : SessionOptions) (tape reader keys : Option (List ℕ)) (image : List (Option ℕ)) (frames bytes : List ℕ) (plan : Plan) (old new : Taken) →
+pub session_part : (options : SessionOptions) (tape reader keys : Option (List ℕ)) (image : List (Option ℕ)) (frames bytes : List ℕ) (plan : Plan) (failed : Failures) (old new : Taken) →
     HasImage tape image → AreFirst options.run.rounds reader frames → AreFirst options.run.rounds keys bytes → plan ≡ plan_for options frames bytes →
-    FrontsOf (IsPartOf options.run plan image) old new → NothingOrFronts (IsPartOfSession options tape reader keys) old new
-session_part options tape reader keys image frames bytes plan old new has_image frames_are bytes_are is fronts = inr (record {
+    FrontsOf (IsPartOf options.run plan image) failed old new → NothingOrFronts (IsPartOfSession options tape reader keys) failed old new
+session_part options tape reader keys image frames bytes plan failed old new has_image frames_are bytes_are is fronts = inr (record {
   text = fronts.text;
   printed = fronts.printed;
   punched = fronts.punched;
@@ -466,6 +518,9 @@ session_part options tape reader keys image frames bytes plan old new has_image 
   to_report = fronts.to_report;
   to_teletype = fronts.to_teletype;
   to_punch = fronts.to_punch;
+  report_whole = fronts.report_whole;
+  teletype_whole = fronts.teletype_whole;
+  punch_whole = fronts.punch_whole;
 })
 
 pub session_is : (options : SessionOptions) (tape reader keys : Option (List ℕ)) (image : List (Option ℕ)) (frames bytes : List ℕ) (plan : Plan) (status : Status) (old new : Taken) →
@@ -490,23 +545,27 @@ session_is options tape reader keys image frames bytes plan status old new has_i
 }
 
 -- a line of the trace failed, or memory was refused
-pub play_front : (p : Profile) (trace : Bool) (w : WorldState) (e : Event) (x : WorldState) (old new told : Option (List ℕ)) (marked : Bool) →
+pub play_front : (p : Profile) (trace : Bool) (w : WorldState) (e : Event) (x : WorldState) (old new told : Option (List ℕ)) (marked typed : Bool) →
     (marked ≡ true → Happens p w e x) → (marked ≡ true → trace ≡ true) → (marked ≡ true → AppendsFront old new (trace_of p w e x)) → (marked ≡ false → x ≡ w) → (marked ≡ false → new ≡ old) →
-    PlayedFront p trace w e x old new told told
-play_front p trace w e x old new told true happens asked front same unwritten = inr (record {
+    PlayedFront p trace w e x marked typed old new told told
+play_front p trace w e x old new told true typed happens asked front same unwritten = inr (record {
   happens = happens refl;
   wrote = rw (asked refl) (front refl);
   printed = no_front told (printed_from w x);
+  wrote_whole = λ no. absurd (true≢false no);
+  printed_whole = λ no. absurd (true≢false no);
 })
-play_front p trace w e x old new told false happens asked front same unwritten = inl (record { same = same refl; unwritten = unwritten refl; unprinted = refl })
+play_front p trace w e x old new told false typed happens asked front same unwritten = inl (record { same = same refl; unwritten = unwritten refl; unprinted = refl })
 
 -- a character failed
-pub type_front : (p : Profile) (trace : Bool) (w : WorldState) (e : Event) (x : WorldState) (old new told tells : Option (List ℕ)) →
-    Happens p w e x → Appends old new (traced trace (trace_of p w e x)) → AppendsFront told tells (printed_from w x) → PlayedFront p trace w e x old new told tells
-type_front p trace w e x old new told tells happens wrote front = inr (record {
+pub type_front : (p : Profile) (trace : Bool) (w : WorldState) (e : Event) (x : WorldState) (marked typed : Bool) (old new told tells : Option (List ℕ)) →
+    Happens p w e x → Appends old new (traced trace (trace_of p w e x)) → AppendsFront told tells (printed_from w x) → typed ≡ true → PlayedFront p trace w e x marked typed old new told tells
+type_front p trace w e x marked typed old new told tells happens wrote front failed = inr (record {
   happens = happens;
   wrote = whole_front old new (traced trace (trace_of p w e x)) wrote;
   printed = front;
+  wrote_whole = λ no. wrote;
+  printed_whole = λ no. absurd (true≢false (sym failed ∙ or_right marked typed no));
 })
 
 -- an event that carries out no instruction
@@ -516,11 +575,3 @@ pub sat_still : (p : Profile) (trace : Bool) (plan now after : Plan) (last new_l
 sat_still p trace plan now after last new_last e w x y n what old mid new told tmid tells sat is left next played goes none =
     let more : Sat p trace plan after new_last w y (n + counted what) old new told tells = sat_more p trace plan now after last new_last e w x y n what old mid new told tmid tells sat is left next played goes in
     rw (none, add-zero n) at more
-
-pub or_left : (a b : Bool) → a || b ≡ false → a ≡ false
-or_left true b is = is
-or_left false b is = refl
-
-pub or_right : (a b : Bool) → a || b ≡ false → b ≡ false
-or_right true b is = absurd (true≢false is)
-or_right false b is = is

@@ -1,5 +1,5 @@
 -- A run with an operator: which events come, and what is written, printed and punched.
-use Rattle.std.specs.Prelude.{ℕ, ◌≡◌, ◌%◌, Bool, true, false, ◌⊎◌, if◌then◌else◌, Option, Some, None, List, [], ◌∷◌, ◌++◌, map}
+use Rattle.std.specs.Prelude.{ℕ, ◌≡◌, ◌%◌, Bool, true, false, ◌||◌, ◌⊎◌, if◌then◌else◌, Option, Some, None, List, [], ◌∷◌, ◌++◌, map}
 use Rattle.std.specs.Io.KnownBytes.{Appends}
 use Rattle.streams.specs.Bytes.{AppendsFront}
 use Rattle.instruct.specs.declared.Profile.{Profile}
@@ -51,8 +51,9 @@ pub record Operated (profile : Profile) (trace : Bool) (plan : Plan) (w : WorldS
   pub ran : Ran profile true trace events w outcome x old new
   pub printed : Appends told tells (printed_in x)
 
--- It broke off in x after some first events: fronts of the trace and of the characters went out.
-pub record BrokeOff (profile : Profile) (trace : Bool) (plan : Plan) (w x : WorldState) (old new told tells : Option (List ℕ)) : Type 0 where
+-- It broke off in x after some first events: fronts of the trace and of the characters went out. All of the trace did
+-- unless the report failed, and all the characters unless the report or the teletype did.
+pub record BrokeOff (profile : Profile) (trace : Bool) (plan : Plan) (w x : WorldState) (reported typed : Bool) (old new told tells : Option (List ℕ)) : Type 0 where
   pub events : List Event
   pub come : Comes profile false plan None w events
   pub lines : List ℕ
@@ -61,6 +62,8 @@ pub record BrokeOff (profile : Profile) (trace : Bool) (plan : Plan) (w x : Worl
   pub follows : Follows profile true events w lines steps end x
   pub wrote : AppendsFront old new (traced trace lines)
   pub printed : AppendsFront told tells (printed_in x)
+  pub wrote_whole : reported ≡ false → Appends old new (traced trace lines)
+  pub printed_whole : (reported || typed) ≡ false → Appends told tells (printed_in x)
 
 -- The summary stands after a whole run.
 abbrev pub summary_where : Bool → End → WorldState → ℕ → List ℕ
@@ -126,8 +129,18 @@ pub record WritesAll (P : List ℕ → List ℕ → List ℕ → Type 0) (old ne
   pub to_teletype : Appends old.teletype new.teletype printed
   pub to_punch : Appends old.punch new.punch punched
 
--- A front of each of three such texts was appended.
-pub record FrontsOf (P : List ℕ → List ℕ → List ℕ → Type 0) (old new : Taken) : Type 0 where
+-- Which of the three failed.
+pub record Failures : Type 0 where
+  pub report : Bool
+  pub teletype : Bool
+  pub punch : Bool
+
+abbrev pub failures : Bool → Bool → Bool → Failures
+failures report teletype punch = record { report = report; teletype = teletype; punch = punch }
+
+-- A front of each of three such texts was appended: all of the report and of what was punched unless the write of it failed,
+-- and all that was printed unless the teletype failed or the report did, which comes before it.
+pub record FrontsOf (P : List ℕ → List ℕ → List ℕ → Type 0) (failed : Failures) (old new : Taken) : Type 0 where
   pub text : List ℕ
   pub printed : List ℕ
   pub punched : List ℕ
@@ -135,7 +148,10 @@ pub record FrontsOf (P : List ℕ → List ℕ → List ℕ → Type 0) (old new
   pub to_report : AppendsFront old.report new.report text
   pub to_teletype : AppendsFront old.teletype new.teletype printed
   pub to_punch : AppendsFront old.punch new.punch punched
+  pub report_whole : failed.report ≡ false → Appends old.report new.report text
+  pub teletype_whole : (failed.report || failed.teletype) ≡ false → Appends old.teletype new.teletype printed
+  pub punch_whole : failed.punch ≡ false → Appends old.punch new.punch punched
 
 -- Nothing was written at all, or fronts of three such texts.
-abbrev pub NothingOrFronts : (List ℕ → List ℕ → List ℕ → Type 0) → Taken → Taken → Type 0
-NothingOrFronts P old new = (new ≡ old) ⊎ FrontsOf P old new
+abbrev pub NothingOrFronts : (List ℕ → List ℕ → List ℕ → Type 0) → Failures → Taken → Taken → Type 0
+NothingOrFronts P failed old new = (new ≡ old) ⊎ FrontsOf P failed old new

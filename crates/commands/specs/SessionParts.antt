@@ -1,5 +1,5 @@
 -- One event of an operator's run, and what a run leaves. Private contracts alone cite this.
-use Rattle.std.specs.Prelude.{ℕ, ◌≡◌, Bool, ◌⊎◌, List, Option, drop, length, map}
+use Rattle.std.specs.Prelude.{ℕ, ◌≡◌, Bool, false, ◌||◌, ◌⊎◌, List, Option, drop, length, map}
 use Rattle.std.specs.Io.KnownBytes.{Appends}
 use Rattle.streams.specs.Bytes.{AppendsFront}
 use Rattle.instruct.specs.declared.Profile.{Profile}
@@ -32,14 +32,16 @@ pub record Unplayed (w x : WorldState) (old new told tells : Option (List ℕ)) 
   pub unprinted : tells ≡ told
 
 -- The event happened, and a write of what it wrote or printed failed.
-pub record Faltered (profile : Profile) (trace : Bool) (w : WorldState) (e : Event) (x : WorldState) (old new told tells : Option (List ℕ)) : Type 0 where
+pub record Faltered (profile : Profile) (trace : Bool) (w : WorldState) (e : Event) (x : WorldState) (reported typed : Bool) (old new told tells : Option (List ℕ)) : Type 0 where
   pub happens : Happens profile w e x
   pub wrote : AppendsFront old new (traced trace (trace_of profile w e x))
   pub printed : AppendsFront told tells (printed_from w x)
+  pub wrote_whole : reported ≡ false → Appends old new (traced trace (trace_of profile w e x))
+  pub printed_whole : (reported || typed) ≡ false → Appends told tells (printed_from w x)
 
-abbrev pub PlayedFront : Profile → Bool → WorldState → Event → WorldState → Option (List ℕ) → Option (List ℕ) → Option (List ℕ) → Option (List ℕ) → Type 0
-PlayedFront profile trace w e x old new told tells =
-    Unplayed w x old new told tells ⊎ Faltered profile trace w e x old new told tells
+abbrev pub PlayedFront : Profile → Bool → WorldState → Event → WorldState → Bool → Bool → Option (List ℕ) → Option (List ℕ) → Option (List ℕ) → Option (List ℕ) → Type 0
+PlayedFront profile trace w e x reported typed old new told tells =
+    Unplayed w x old new told tells ⊎ Faltered profile trace w e x reported typed old new told tells
 
 -- What the events of a plan, or the first of them, leave.
 pub record IsPartOf (options : RunOptions) (plan : Plan) (image : List (Option ℕ)) (text printed punched : List ℕ) : Type 0 where

@@ -7,7 +7,7 @@ ghost use Rattle.peripherals.specs.Operator.{plan_of};
 ghost use Rattle.peripherals.specs.World.{view, profile_of};
 ghost use Rattle.commands.specs.Faults.{is_fault_of_tape, fails_to_read, fails_to_write, IsRunFault, IsSessionFault};
 ghost use Rattle.commands.specs.Inputs.{input};
-ghost use Rattle.commands.specs.Session.{BrokeOff, IsPartOfSession, IsSession, IsSessionOf, NothingOrFronts, Operated, FrontsOf, WritesAll, character, printed_in, taken};
+ghost use Rattle.commands.specs.Session.{BrokeOff, IsPartOfSession, IsSession, IsSessionOf, NothingOrFronts, Operated, FrontsOf, WritesAll, character, failures, printed_in, taken};
 ghost use Rattle.commands.specs.SessionParts.{IsPartOf, Played, PlayedFront};
 
 use crate::follow::{End, Outcome, advance, end_of};
@@ -83,6 +83,7 @@ fn play<A: Allocator, W: ByteSink, T: ByteSink, P>(
         (T.taken out.old.teletype) (T.taken out.new.teletype)) }
     ensures front { OnErr result
         (PlayedFront (profile_of world.old) trace (view world.old) event (view world.new)
+        (W.mark out.new.report) (T.mark out.new.teletype)
         (W.taken out.old.report) (W.taken out.new.report)
         (T.taken out.old.teletype) (T.taken out.new.teletype)) }
     ensures profile { profile_of world.new ≡ profile_of world.old }
@@ -114,7 +115,7 @@ fn operate<A: Allocator, W: ByteSink, T: ByteSink, P>(
         (T.taken out.old.teletype) (T.taken out.new.teletype)) }
     ensures broke { OnErr result
         (BrokeOff (profile_of world.old) trace (plan_of operator.old) (view world.old)
-        (view world.new) (W.taken out.old.report) (W.taken out.new.report)
+        (view world.new) (W.mark out.new.report) (T.mark out.new.teletype) (W.taken out.old.report) (W.taken out.new.report)
         (T.taken out.old.teletype) (T.taken out.new.teletype)) }
     ensures punch { out.new.punch ≡ out.old.punch }
     ensures faults { IfErr result IsRunFault }
@@ -171,6 +172,7 @@ fn attend<A: Allocator + Copy, W: ByteSink, T: ByteSink, P: ByteSink>(
         (taken (W.taken out.old.report) (T.taken out.old.teletype) (P.taken out.old.punch))
         (taken (W.taken out.new.report) (T.taken out.new.teletype) (P.taken out.new.punch))) }
     ensures front { OnErr result (FrontsOf (IsPartOf options (plan_of operator.old) image.now)
+        (failures (W.mark out.new.report) (T.mark out.new.teletype) (P.mark out.new.punch))
         (taken (W.taken out.old.report) (T.taken out.old.teletype) (P.taken out.old.punch))
         (taken (W.taken out.new.report) (T.taken out.new.teletype) (P.taken out.new.punch))) }
     ensures faults { IfErr result IsRunFault }
@@ -229,9 +231,11 @@ pub fn run_session<
         (input (R.mark tape.new) (R.remaining tape.old) (R.remaining tape.new))
         (input (F.mark reader.new) (F.remaining reader.old) (F.remaining reader.new))
         (input (K.mark keys.new) (K.remaining keys.old) (K.remaining keys.new))) }
-    // After a fault fronts of that went out, or of what the first events leave; or nothing at all,
+    // After a fault fronts of that went out, or of what the first events leave, and all of it where
+    // no write failed; or nothing at all,
     ensures front { OnErr result (NothingOrFronts (IsPartOfSession options (R.remaining tape.old)
         (F.remaining reader.old) (K.remaining keys.old))
+        (failures (W.mark out.new.report) (T.mark out.new.teletype) (P.mark out.new.punch))
         (taken (W.taken out.old.report) (T.taken out.old.teletype) (P.taken out.old.punch))
         (taken (W.taken out.new.report) (T.taken out.new.teletype) (P.taken out.new.punch))) }
     // as where the tape is refused or a read failed.

@@ -1,11 +1,11 @@
-use Rattle.std.proofs.Common.{rules, ◌≡◌}
+use Rattle.std.proofs.Common.{rules, ◌≡◌, true}
 use Rattle.std.specs.Io.KnownBytes.{Appends}
 use Rattle.streams.specs.Bytes.{AppendsFront}
 use Rattle.peripherals.specs.Operator.{plan_of}
 use Rattle.peripherals.specs.World.{view, profile_of}
 use Rattle.commands.specs.Running.{fresh}
 use Rattle.commands.specs.Summary.{summary}
-use Rattle.commands.proofs.SessionLemmas.{attended, attended_front, broke_front, no_front, punch_front, whole_front}
+use Rattle.commands.proofs.SessionLemmas.{attended, attended_front, broke_front, punch_front, summary_wanting, whole_front}
 use Rattle.commands.proofs.session.attend.Goals as goal
 
 pub returns-in_err-put-clause-front : goal.returns-in_err-put-clause-front
@@ -13,21 +13,22 @@ returns-in_err-put-clause-front g c =
     let profile : profile_of c.load-world.result ≡ c.args.options.profile = c.load-world.ensures.profile in
     let begins : view c.load-world.result ≡ fresh c.args.image.now c.args.options.start = search rules in
     let front : AppendsFront (g.P.ByteSink.taken c.args.out.now.punch) (g.P.ByteSink.taken c.put.new.sink) (view c.operate-ran.new.world).devices.punch.output = search rules in
-    search (rules, punch_front c.args.options (plan_of c.args.operator.now) c.args.image.now _ (view c.load-world.result) (view c.operate-ran.new.world) c.operate-ran.result _ _ _ _ _ _ profile begins c.operate-ran.ensures.ran c.operate-ran.ensures.broke front)
+    let failed : g.P.ByteSink.mark c.put.new.sink ≡ true = search rules in
+    search (rules, punch_front c.args.options (plan_of c.args.operator.now) c.args.image.now _ (view c.load-world.result) (view c.operate-ran.new.world) c.operate-ran.result (g.W.ByteSink.mark c.operate-ran.new.out.report) (g.T.ByteSink.mark c.operate-ran.new.out.teletype) (g.P.ByteSink.mark c.put.new.sink) _ _ _ _ _ _ profile begins c.operate-ran.ensures.ran c.operate-ran.ensures.broke front failed)
 
 pub returns-in_err-outcome-clause-front : goal.returns-in_err-outcome-clause-front
 returns-in_err-outcome-clause-front g c =
     let profile : profile_of c.load-world.result ≡ c.args.options.profile = c.load-world.ensures.profile in
     let begins : view c.load-world.result ≡ fresh c.args.image.now c.args.options.start = search rules in
     let punched : Appends (g.P.ByteSink.taken c.args.out.now.punch) (g.P.ByteSink.taken c.put.new.sink) (view c.operate-ran.new.world).devices.punch.output = search rules in
-    search (rules, broke_front c.args.options (plan_of c.args.operator.now) c.args.image.now _ (view c.load-world.result) (view c.operate-ran.new.world) _ _ _ _ _ _ profile begins c.in_err-outcome.ensures.broke (whole_front _ _ _ punched))
+    search (rules, broke_front c.args.options (plan_of c.args.operator.now) c.args.image.now _ (view c.load-world.result) (view c.operate-ran.new.world) (g.W.ByteSink.mark c.operate-ran.new.out.report) (g.T.ByteSink.mark c.operate-ran.new.out.teletype) (g.P.ByteSink.mark c.put.new.sink) _ _ _ _ _ _ profile begins c.in_err-outcome.ensures.broke (whole_front _ _ _ punched) (λ no. punched))
 
 pub returns-in_err-text-clause-front : goal.returns-in_err-text-clause-front
 returns-in_err-text-clause-front g c =
     let profile : profile_of c.load-world.result ≡ c.args.options.profile = c.load-world.ensures.profile in
     let begins : view c.load-world.result ≡ fresh c.args.image.now c.args.options.start = search rules in
     let punched : Appends (g.P.ByteSink.taken c.args.out.now.punch) (g.P.ByteSink.taken c.put.new.sink) (view c.operate-ran.new.world).devices.punch.output = search rules in
-    search (rules, attended_front c.args.options (plan_of c.args.operator.now) c.args.image.now _ (view c.load-world.result) (view c.operate-ran.new.world) c.in_ok-outcome.outcome _ _ _ _ _ _ _ profile begins c.in_ok-outcome.ensures.ran (whole_front _ _ _ punched) (no_front _ _))
+    search (rules, summary_wanting c.args.options (plan_of c.args.operator.now) c.args.image.now _ (view c.load-world.result) (view c.operate-ran.new.world) c.in_ok-outcome.outcome (g.W.ByteSink.mark c.operate-ran.new.out.report) (g.T.ByteSink.mark c.operate-ran.new.out.teletype) (g.P.ByteSink.mark c.put.new.sink) _ _ _ _ _ _ profile begins c.in_ok-outcome.ensures.ran punched)
 
 pub returns-in_err-put-2-clause-front : goal.returns-in_err-put-2-clause-front
 returns-in_err-put-2-clause-front g c =
@@ -35,7 +36,8 @@ returns-in_err-put-2-clause-front g c =
     let begins : view c.load-world.result ≡ fresh c.args.image.now c.args.options.start = search rules in
     let punched : Appends (g.P.ByteSink.taken c.args.out.now.punch) (g.P.ByteSink.taken c.put.new.sink) (view c.operate-ran.new.world).devices.punch.output = search rules in
     let front : AppendsFront (g.W.ByteSink.taken c.operate-ran.new.out.report) (g.W.ByteSink.taken c.put-2.new.sink) (summary c.in_ok-outcome.outcome.end (view c.operate-ran.new.world) c.in_ok-outcome.outcome.steps) = search rules in
-    search (rules, attended_front c.args.options (plan_of c.args.operator.now) c.args.image.now _ (view c.load-world.result) (view c.operate-ran.new.world) c.in_ok-outcome.outcome _ _ _ _ _ _ _ profile begins c.in_ok-outcome.ensures.ran (whole_front _ _ _ punched) front)
+    let failed : g.W.ByteSink.mark c.put-2.new.sink ≡ true = search rules in
+    search (rules, attended_front c.args.options (plan_of c.args.operator.now) c.args.image.now _ (view c.load-world.result) (view c.operate-ran.new.world) c.in_ok-outcome.outcome (g.W.ByteSink.mark c.put-2.new.sink) (g.T.ByteSink.mark c.operate-ran.new.out.teletype) (g.P.ByteSink.mark c.put.new.sink) _ _ _ _ _ _ _ profile begins c.in_ok-outcome.ensures.ran punched front failed)
 
 pub returns-clause-run : goal.returns-clause-run
 returns-clause-run g c =

@@ -22,8 +22,8 @@ returns-in_err-play-clause-broke g c =
     let inv = c.loop-event.invariant in
     let p = profile_of c.args.world.now in
     let is : due (plan_of c.loop-event.operator) (view c.loop-event.world) c.loop-event.operator.last ≡ Some c.in-Some.event = sym c.next.ensures.due ∙ c.in-Some.is in
-    let front : PlayedFront p c.args.trace (view c.loop-event.world) c.in-Some.event (view c.play.new.world) (g.W.ByteSink.taken c.loop-event.out.report) (g.W.ByteSink.taken c.play.new.out.report) (g.T.ByteSink.taken c.loop-event.out.teletype) (g.T.ByteSink.taken c.play.new.out.teletype) = rw inv.profile at c.in_err-play.ensures.front in
-    search (rules, sat_to_fault p c.args.trace (plan_of c.args.operator.now) (plan_of c.loop-event.operator) c.loop-event.operator.last c.in-Some.event (view c.args.world.now) (view c.loop-event.world) (view c.play.new.world) c.loop-event.steps _ _ _ _ _ _ inv.sat is front)
+    let front : PlayedFront p c.args.trace (view c.loop-event.world) c.in-Some.event (view c.play.new.world) (g.W.ByteSink.mark c.play.new.out.report) (g.T.ByteSink.mark c.play.new.out.teletype) (g.W.ByteSink.taken c.loop-event.out.report) (g.W.ByteSink.taken c.play.new.out.report) (g.T.ByteSink.taken c.loop-event.out.teletype) (g.T.ByteSink.taken c.play.new.out.teletype) = rw inv.profile at c.in_err-play.ensures.front in
+    search (rules, sat_to_fault p c.args.trace (plan_of c.args.operator.now) (plan_of c.loop-event.operator) c.loop-event.operator.last c.in-Some.event (view c.args.world.now) (view c.loop-event.world) (view c.play.new.world) c.loop-event.steps _ _ _ _ _ _ _ _ inv.sat is front)
 
 pub overflow_add-steps : goal.overflow_add-steps
 overflow_add-steps g c =

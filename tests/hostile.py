@@ -25,12 +25,14 @@ KINDS = {
     'certificate': 'Version|BadLine \\d+|Order \\d+|TooMany',
     'events': 'BadLine \\d+|TooMany',
     'guess': 'TurnsSpent|TooLong|Stuck [0-7]{4}',
+    'declare': 'Undeclarable [A-Z][A-Za-z]*( [0-7]+)?|Mismatch',
 }
 FAULT = re.compile('pdp8: (?:%s)\n' % '|'.join(f'{kind}: (?:{names})' for kind, names in KINDS.items()))
 SUMMARY = re.compile(r'(HALT|UNSUPPORTED|BOUND) [0-7]{4} AC=[0-7]{4} L=[01] PC=[0-7]{4} STEPS=\d+\n(PRINTED( [0-7]{3})+\n)?(PUNCHED( [0-7]{3})+\n)?')
 DUMP = re.compile(r'([0-7]{4} [0-7]{4} [A-Z0-9 ?]+\n)*')
 WATCH = re.compile(r'clean\n|broken: event \d+ rule [1-7]\n')
 CHECK = re.compile(r'yes: \d+ body cells, \d+ variable cells, \d+ entries, \d+ halts(, \d+ read cells)?\n|no: V\d+ at [0-7]{4}\n')
+DECLARED = re.compile(r'(/ [^\n]*\n)*(profile 8e\n)?start [0-7]{4}\n([a-z]+( [^\n]*)?\n)+')
 ANY = re.compile('.*', re.DOTALL)
 
 
@@ -98,14 +100,16 @@ def job(chance, programs):
     command = chance.choice(['dump', 'run', 'events', 'watch', 'check', 'check', 'check', 'list', 'assemble', *EXTRA])
     uses = {'dump': ['tape'], 'run': ['tape'], 'events': ['tape', 'events'], 'watch': ['tape', 'declaration', 'events'],
             'check': ['tape', 'declaration', 'certificate'], 'list': ['pal'], 'assemble': ['pal'],
-            'guess': ['tape', 'declaration'], 'migrate': ['certificate']}[command]
+            'guess': ['tape', 'declaration'], 'declare': ['tape'], 'migrate': ['certificate']}[command]
     files = {use: one[use] for use in uses}
     bad = uses[-1] if chance.random() < 0.6 else chance.choice(uses)
     files[bad] = noise(chance) if chance.random() < 0.1 else changed(chance, files[bad], other[bad])
     words = {'dump': ['dump', 'tape'], 'run': ['run', 'tape', '--steps', '2000'], 'events': ['run', 'tape', '--events', 'events'],
              'list': ['list', 'pal'], 'assemble': ['assemble', '-', 'pal'], 'guess': ['guess', 'tape', 'declaration', '-'],
+             'declare': ['declare', 'tape', '-', *chance.choice([[], ['--reads']]), *one['profile']],
              'migrate': ['migrate', 'certificate', '-']}.get(command, [command, *uses])
-    said = {'dump': DUMP, 'run': SUMMARY, 'events': SUMMARY, 'watch': WATCH, 'check': CHECK}.get(command, ANY)
+    said = {'dump': DUMP, 'run': SUMMARY, 'events': SUMMARY, 'watch': WATCH, 'check': CHECK,
+            'declare': DECLARED}.get(command, ANY)
     return one, words, files, bad, said
 
 
@@ -131,6 +135,15 @@ def fails(done, said):
     return None
 
 
+def broken_after(pdp8, folder, one, declaration):
+    """What is wrong with a declaration that is said to be kept, or nothing: a run by the program's events must be clean."""
+    for name, data in (('declaration', declaration), ('events', one['events'])):
+        with open(os.path.join(folder, name), 'wb') as file:
+            file.write(data)
+    seen = ended(pdp8, ['watch', 'tape', 'declaration', 'events'], folder)
+    return None if seen is not None and seen.stdout == b'clean\n' else 'its proposal is broken by a run'
+
+
 def part(task):
     """Runs some jobs; gives how many got a yes, how many were refused, and what failed."""
     pdp8, seed, count = task
@@ -154,6 +167,8 @@ def part(task):
                 seen = ended(pdp8, ['watch', 'tape', 'declaration', 'events'], folder)
                 if seen is None or seen.stdout != b'clean\n':
                     fault = 'it got a yes, and a run of it is broken'
+            if fault is None and words[0] == 'declare' and done.returncode == 0:
+                fault = broken_after(pdp8, folder, one, done.stdout)
             if fault is not None:
                 wrong.append(f'seed {seed}, run {number}: {" ".join(words)}, {bad} changed: {fault}')
     return yes, refused, wrong
@@ -167,7 +182,7 @@ def main():
     count = int(sys.argv[2]) if len(sys.argv) > 2 else 10_000
     seed = int(sys.argv[3]) if len(sys.argv) > 3 else 1
     told = subprocess.run([pdp8, '--help'], stdout=subprocess.PIPE, check=True).stdout.decode()
-    EXTRA = [name for name in ('guess', 'migrate') if re.search(rf'^\s*{name}\b', told, re.MULTILINE)]
+    EXTRA = [name for name in ('guess', 'declare', 'migrate') if re.search(rf'^\s*{name}\b', told, re.MULTILINE)]
     PROGRAMS = Programs(pdp8)
     tasks = [(pdp8, seed * 1_000_003 + n, min(500, count - 500 * n)) for n in range((count + 499) // 500)]
     with multiprocessing.Pool() as pool:

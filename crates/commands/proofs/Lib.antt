@@ -7,6 +7,7 @@ pub mod PartLemmas
 pub mod RunLemmas
 pub mod AssembleLemmas
 pub mod CheckLemmas
+pub mod DeclareLemmas
 pub mod LaterLemmas
 pub mod Answered
 pub mod SessionLemmas

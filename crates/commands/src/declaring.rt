@@ -79,12 +79,12 @@ fn push_verdict<A: Allocator, B: Allocator>(
 fn proposal_for<A: Allocator + Copy>(
     alloc: A,
     image: &Image,
-    options: DeclareOptions,
+    options: &DeclareOptions,
     turns: &mut Turns,
 ) -> Result<Proposal<A>, ProposeFault>
-    ensures fits { IfOk result (Fits options.start options.profile) }
+    ensures fits { IfOk result (Fits options.now.start options.now.profile) }
     ensures shown { IfOk result (λ p. IsShown image.now p.declaration p.verdict) }
-    ensures listed { options.reads ≡ true →
+    ensures listed { options.now.reads ≡ true →
         IfOk result (λ p. IsListed p.declaration p.verdict) }
 {
     if options.reads {
@@ -119,9 +119,9 @@ fn remarks_and_text<A: Allocator + Copy>(
 fn declares_for<A: Allocator + Copy>(
     alloc: A,
     text: &[u8],
-    options: DeclareOptions,
+    options: &DeclareOptions,
 ) -> Result<bool, Fault>
-    ensures declares { IfOk result (λ yes. yes ≡ true → IsDeclarationFor options text.now) }
+    ensures declares { IfOk result (λ yes. yes ≡ true → IsDeclarationFor options.now text.now) }
     ensures faults { IfErr result IsProposeFault }
     ensures wrote { fails_to_write result ≡ false }
     ensures read { fails_to_read result ≡ false }
@@ -137,12 +137,12 @@ fn declares_for<A: Allocator + Copy>(
 fn remarked<A: Allocator + Copy>(
     alloc: A,
     proposal: &Proposal<A>,
-    options: DeclareOptions,
+    options: &DeclareOptions,
 ) -> Result<Vec<u8, A>, Fault>
     requires text { Declares proposal.now.text.items (meaning proposal.now.declaration) }
-    requires start { (meaning proposal.now.declaration).start ≡ options.start }
-    requires profile { (meaning proposal.now.declaration).profile ≡ options.profile }
-    ensures declares { IfOk result (λ text. IsDeclarationFor options text.items) }
+    requires start { (meaning proposal.now.declaration).start ≡ options.now.start }
+    requires profile { (meaning proposal.now.declaration).profile ≡ options.now.profile }
+    ensures declares { IfOk result (λ text. IsDeclarationFor options.now text.items) }
     ensures faults { IfErr result IsProposeFault }
     ensures wrote { fails_to_write result ≡ false }
     ensures read { fails_to_read result ≡ false }
@@ -190,12 +190,12 @@ pub fn declare<A: Allocator + Copy, R: ByteSource, W: ByteSink>(
 {
     let image = tape_from(tape)?;
     let mut turns = Turns::new(MOST_TURNS);
-    let proposal = proposal_for(alloc, &image, options, &mut turns)?;
+    let proposal = proposal_for(alloc, &image, &options, &mut turns)?;
     if let Verdict::Safe(_) = &proposal.verdict {
         put(out, &proposal.text)?;
         return Ok(Status::Done);
     }
-    let text = remarked(alloc, &proposal, options)?;
+    let text = remarked(alloc, &proposal, &options)?;
     put(out, &text)?;
     Ok(Status::Refused)
 }

@@ -272,7 +272,7 @@ sat_to_fault p trace plan now last e w x y n reported typed old mid new told tmi
 -- the events of a whole run are the first ones too
 comes_first : (p : Profile) (plan : Plan) (last : Option Event) (w : WorldState) (es : List Event) → Comes p true plan last w es → Comes p false plan last w es
 comes_first p _ _ _ _ (Over plan last w none) = Over plan last w none
-comes_first p _ _ _ _ (Cut plan last w no) = absurd (true≢false no)
+comes_first p _ _ _ _ (Cut plan last w cut) = absurd (true≢false cut)
 comes_first p _ _ _ _ (Final plan last w e is ends) = Final plan last w e is ends
 comes_first p _ _ _ _ (Then plan last w m e es is goes happens rest) = Then plan last w m e es is goes happens (comes_first p (left_after e plan) (Some e) m es rest)
 

@@ -1,5 +1,5 @@
 -- An operator's run, event by event.
-use Rattle.std.proofs.Common.{ℕ, zero, suc, ◌≡◌, ◌+◌, ◌*◌, ◌%◌, ◌==◌, ◌<◌, ◌≤◌, Bool, true, false, ◌||◌, if◌then◌else◌, List, [], ◌∷◌, ◌++◌, length, drop, take, map, refl, sym, ◌∙◌, ap, inl, inr, append_assoc, append-nil, add-zero, add-one, take_all, length-append, get_or, le_refl, arith, Some, None, Option, Result, Ok, Err, IfOk, OnErr, true≢false, subst, unwrap_or}
+use Rattle.std.proofs.Common.{ℕ, zero, suc, ◌≡◌, ◌+◌, ◌*◌, ◌%◌, ◌==◌, ◌<◌, ◌≤◌, Bool, true, false, ◌||◌, if◌then◌else◌, List, [], ◌∷◌, ◌++◌, length, drop, map, refl, sym, ◌∙◌, ap, inl, inr, append_assoc, append-nil, add-zero, add-one, take_all, length-append, get_or, le_refl, arith, Some, None, Option, Result, Ok, Err, IfOk, OnErr, true≢false, subst, unwrap_or}
 use Rattle.std.specs.Io.KnownBytes.{Appends}
 use Rattle.std.proofs.KnownBytes.{Appends-nil, Appends-trans}
 use Rattle.std.proofs.Transfers.{drop-appended}
@@ -17,11 +17,9 @@ use Rattle.peripherals.specs.Devices.{Devices, Writer, WorldState, Instructs, wo
 use Rattle.peripherals.specs.Events.{Happens, Steps, done}
 use Rattle.peripherals.specs.Operator.{Plan, due, first_due, frame_due, key_due, left_after, round_due}
 use Rattle.peripherals.specs.Seen.{seen_of}
-use Rattle.commands.specs.declared.follow.End.{End}
 use Rattle.commands.specs.declared.follow.End.TheVariants.{Unsupported}
 use Rattle.commands.specs.declared.follow.Outcome.{Outcome}
-use Rattle.commands.specs.Course.{Ran}
-use Rattle.commands.specs.Follows.{Follows, Ended, Stuck, Stopped, Went, end_of, goes_on, counted}
+use Rattle.commands.specs.Follows.{Follows, Ended, Stuck, Stopped, end_of, goes_on, counted}
 use Rattle.commands.specs.declared.running.RunOptions.{RunOptions}
 use Rattle.commands.specs.declared.session.SessionOptions.{SessionOptions}
 use Rattle.commands.specs.declared.status.Fault.{Fault}
@@ -32,7 +30,7 @@ use Rattle.commands.specs.Session.{Comes, Over, Cut, Final, Then, Operated, Brok
 use Rattle.commands.specs.Summary.{summary}
 use Rattle.commands.specs.SessionParts.{IsPartOf, Played, Unplayed, Faltered, PlayedFront, printed_from}
 use Rattle.commands.specs.Trace.{trace_of, traced}
-use Rattle.commands.proofs.FollowLemmas.{Leads, Came, came_none, came_all, joined, leads_both, leads_one, front_after, no_line, OneFollows, one_by}
+use Rattle.commands.proofs.FollowLemmas.{Came, came_none, came_all, joined, leads_both, leads_one, front_after, no_line, one_by}
 
 pub or_left : (a b : Bool) → a || b ≡ false → a ≡ false
 or_left true b is = is

@@ -1,5 +1,4 @@
-use Rattle.std.proofs.Common.{rules, ◌≡◌, ◌+◌, ◌*◌, ◌<◌, ◌≤◌, ◌∙◌, Some, None, refl, sym, arith}
-use Rattle.peripherals.specs.declared.Event.{Event}
+use Rattle.std.proofs.Common.{rules, ◌≡◌, ◌+◌, ◌*◌, ◌<◌, ◌∙◌, Some, None, refl, sym, arith}
 use Rattle.peripherals.specs.declared.Seen.TheVariants.{NotEnabled, Changed, Ran, Halted, Unsupported}
 use Rattle.peripherals.specs.Operator.{due, plan_of}
 use Rattle.peripherals.specs.World.{view, profile_of}

@@ -1,4 +1,4 @@
-use Rattle.std.proofs.Common.{rules, ◌≡◌, ◌<◌, ◌≤◌, ◌%◌, [], ◌∷◌, get_or, length, refl}
+use Rattle.std.proofs.Common.{rules, ◌<◌, ◌≤◌, ◌%◌, [], ◌∷◌, get_or, length, refl}
 use Rattle.std.specs.Io.KnownBytes.{Appends}
 use Rattle.streams.specs.Bytes.{AppendsFront}
 use Rattle.commands.proofs.SessionLemmas.{typed_all, typed_front, typed_more, typed_none}

@@ -60,56 +60,56 @@ pub fn is_migrated<R: Files + AllocGlobal>(
     Ok(said.bytes() == file(rt, name, ".check")?.as_slice())
 }
 
-/// How many variables a declaration has.
-fn variables_of<R: AllocGlobal>(rt: &R, text: &[u8]) -> anyhow::Result<usize> {
-    let declaration = Declaration::parse(rt.alloc(), text)?;
-    Ok(declaration.variables().count())
+/// The text that is proposed for a tape, and whether no run of its program breaks it.
+fn proposal_for<R: AllocGlobal>(
+    rt: &R,
+    tape: &[u8],
+    options: DeclareOptions,
+) -> anyhow::Result<(MemorySink<Global>, bool)> {
+    let mut proposed = MemorySink::new(rt.alloc(), ROOM);
+    let status = declare(
+        rt.alloc(),
+        &mut MemorySource::new(tape),
+        options,
+        &mut proposed,
+    )?;
+    Ok((proposed, status == Status::Done))
 }
 
 /// Whether from the tape alone a declaration is proposed and a certificate found for it with a yes, and
-/// that declaration has at most twice as many variables as the author's.
+/// that declaration has at most twice as many variables as the author's, and a list of reads if that
+/// has one.
 pub fn is_declared<R: Files + AllocGlobal>(
     rt: &R,
     name: &str,
     profile: Profile,
 ) -> anyhow::Result<bool> {
     let tape = tape_of(rt, name, ".pal", profile)?;
+    let authors = Declaration::parse(rt.alloc(), &file(rt, name, ".declaration")?)?;
     let options = DeclareOptions {
         start: Word::from_index(0o200),
         profile,
+        reads: authors.reads_listed(),
     };
-    let mut proposed = MemorySink::new(rt.alloc(), ROOM);
-    let status = declare(
-        rt.alloc(),
-        &mut MemorySource::new(tape.bytes()),
-        options,
-        &mut proposed,
-    )?;
+    let (proposed, safe) = proposal_for(rt, tape.bytes(), options)?;
+    let found = Declaration::parse(rt.alloc(), proposed.bytes())?;
     let certificate = guess_for(rt, tape.bytes(), proposed.bytes())?;
     let said = verdict(rt, tape.bytes(), proposed.bytes(), certificate.bytes())?;
-    let authors = variables_of(rt, &file(rt, name, ".declaration")?)?;
-    let found = variables_of(rt, proposed.bytes())?;
-    Ok(
-        status == Status::Done
-            && said.bytes().starts_with(b"yes: ")
-            && found <= authors.saturating_mul(2),
-    )
+    let few = found.variables().count() <= authors.variables().count().saturating_mul(2);
+    let listed = found.reads_listed() == authors.reads_listed();
+    Ok(safe && said.bytes().starts_with(b"yes: ") && few && listed)
 }
 
-/// Whether of the loader, which stores wherever a tape says, it is told that this store is why nothing is found.
+/// Whether of the loader, which stores wherever a tape says, it is told that this store is why nothing is
+/// found.
 pub fn is_stuck_at_its_store<R: Files + AllocGlobal>(rt: &R) -> anyhow::Result<bool> {
     let tape = tape_of(rt, "rim", ".pal", Profile::Pdp8I)?;
     let options = DeclareOptions {
         start: Word::from_index(0o7756),
         profile: Profile::Pdp8I,
+        reads: false,
     };
-    let mut proposed = MemorySink::new(rt.alloc(), ROOM);
-    let status = declare(
-        rt.alloc(),
-        &mut MemorySource::new(tape.bytes()),
-        options,
-        &mut proposed,
-    )?;
+    let (proposed, safe) = proposal_for(rt, tape.bytes(), options)?;
     let told = b"/ No certificate is found: stuck at 7773.\n";
-    Ok(status == Status::Refused && proposed.bytes().starts_with(told))
+    Ok(!safe && proposed.bytes().starts_with(told))
 }

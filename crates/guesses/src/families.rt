@@ -6,7 +6,7 @@ use bin_tape::Image;
 use declaration::Declaration;
 use instruct::Profile;
 use judge::judge;
-use proposer::{ProposeFault, Verdict, propose};
+use proposer::{ProposeFault, propose};
 use word12::Word;
 
 /// The words of a program that prints HELLO, from 0200 on.
@@ -22,12 +22,6 @@ const HELLO_DECLARED: &[u8] = b"start 0200\nmain 0200-0213\nsub 0214 body 0215-0
 /// A call with a word after it, which the routine adds, and returns past it.
 const ARGUMENT: [u16; 12] = [
     0o7300, 0o4210, 0o0005, 0o7402, 0, 0, 0, 0, 0o0000, 0o1610, 0o2210, 0o5610,
-];
-
-/// The loader that is toggled in by hand, from 7756 on: it stores wherever a tape says.
-const RIM: [u16; 17] = [
-    0o6032, 0o6031, 0o5357, 0o6036, 0o7106, 0o7006, 0o7510, 0o5357, 0o7006, 0o6031, 0o5367, 0o6034,
-    0o7420, 0o3776, 0o3376, 0o5356, 0o0000,
 ];
 
 /// The word of a number, modulo 4096.
@@ -113,17 +107,6 @@ pub fn certified_arguments<R: AllocGlobal>(rt: &R, argument: usize) -> anyhow::R
         }
     }
     Ok(certified)
-}
-
-/// Where the loader's proposal is stuck.
-pub fn rim_stuck_at<R: AllocGlobal>(rt: &R) -> anyhow::Result<Option<Word>> {
-    let tape = image(0o7756, &RIM);
-    let mut turns = Turns::new(20_000);
-    let proposal = propose(rt.alloc(), &tape, word(0o7756), Profile::Pdp8I, &mut turns)?;
-    match proposal.verdict {
-        Verdict::Stuck(at) => Ok(Some(at)),
-        _ => Ok(None),
-    }
 }
 
 /// Words in no order, on some share of all cells.

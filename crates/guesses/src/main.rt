@@ -3,7 +3,7 @@
 
 mod families;
 
-use crate::families::{answered_garbage, certified_arguments, certified_hellos, rim_stuck_at};
+use crate::families::{answered_garbage, certified_arguments, certified_hellos};
 use analyser::{GuessFault, Turns, guess};
 use bin_tape::Image;
 use declaration::Declaration;
@@ -147,10 +147,6 @@ fn main(rt: HostRuntime) -> anyhow::Result<()> {
     for argument in [0, 1, 0o4000, 0o7777] {
         let certified = certified_arguments(&rt, argument)?;
         println!(&rt; "argument {argument}: certified on {certified} pages")?;
-    }
-    match rim_stuck_at(&rt)? {
-        Some(at) => println!(&rt; "rim: proposed, stuck at {at}")?,
-        None => println!(&rt; "rim: not stuck")?,
     }
     let answered = answered_garbage(&rt, 16)?;
     println!(&rt; "garbage: {answered} tapes answered")?;

@@ -8,11 +8,17 @@ use Rattle.declaration.specs.Text.{Declares}
 use Rattle.policy.specs.Runs.{IsSafe}
 use Rattle.certificate.specs.Kept as certified
 use Rattle.certificate.specs.Reading.{AreLines}
+use Rattle.certificate.specs.Spelling.{Lines}
+use Rattle.judge.specs.Conditions.{IsFirst, IsValid}
+use Rattle.judge.specs.Judged.{judged}
+use Rattle.declaration.specs.declared.DeclarationFault.TheVariants as declaration_fault
 use Rattle.analyser.specs.Counts.{Count}
 use Rattle.analyser.specs.Versions.{version_of}
 use Rattle.proposer.specs.declared.Proposal.{Proposal}
 use Rattle.proposer.specs.declared.Verdict.{Verdict}
-use Rattle.proposer.specs.declared.Verdict.TheVariants.{Safe, TurnsSpent}
+use Rattle.proposer.specs.declared.ProposeFault.{ProposeFault}
+use Rattle.proposer.specs.declared.ProposeFault.TheVariants.{Undeclarable}
+use Rattle.proposer.specs.declared.Verdict.TheVariants.{Safe, Refused, TurnsSpent}
 
 -- The declaration has this start and is for this machine, it keeps the overlap rules, and the text is one of its texts.
 pub record Fits {A : Type 0} (at : ℕ) (machine : Profile) (p : Proposal A) : Type 0 where
@@ -21,12 +27,21 @@ pub record Fits {A : Type 0} (at : ℕ) (machine : Profile) (p : Proposal A) : T
   pub declared : IsDeclared (meaning p.declaration)
   pub text : Declares p.text.items (meaning p.declaration)
 
--- With a certificate the program keeps the declaration in every run, and the certificate is one in the version of the
--- declared machine.
+-- A certificate in the version of the declared machine, as a text may have it.
+abbrev pub IsFor : Kept → Lines → Type 0
+IsFor d ls = AreLines ls × (ls.version ≡ version_of (meaning d).profile)
+
+-- With a certificate the program keeps the declaration in every run, and every condition holds of that certificate; a
+-- refusal names the first condition that fails, of some certificate, and where.
 abbrev pub IsShown : {A : Type 0} → List (Option ℕ) → Kept → Verdict A → Type 0
-IsShown image d (Safe c) = IsSafe (image_of image) (meaning d) × AreLines (certified.meaning c)
-    × ((certified.meaning c).version ≡ version_of (meaning d).profile)
+IsShown image d (Safe c) = IsSafe (image_of image) (meaning d) × IsFor d (certified.meaning c) × IsValid (judged image d (certified.claims c))
+IsShown image d (Refused r) = (c : certified.Kept) × IsFor d (certified.meaning c) × IsFirst (judged image d (certified.claims c)) r.condition r.address
 IsShown image d _ = ⊤
+
+-- A want of memory isn't told as a declaration's fault.
+abbrev pub IsTold : ProposeFault → Type 0
+IsTold (Undeclarable declaration_fault.NoMemory) = ⊥
+IsTold _ = ⊤
 
 -- Where the verdict is that the turns are spent, all of them are.
 abbrev pub IsSpentUp : {A : Type 0} → Count → Verdict A → Type 0

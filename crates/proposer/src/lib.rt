@@ -1,7 +1,7 @@
 //! Proposes declarations: what a program may do, from its tape and its start alone.
 #![tactic(auto)]
 
-ghost use Rattle.std.specs.Prelude.{ℕ, ◌≡◌, ◌≢◌, ◌≤◌, List, Option, IfOk, is_some, true};
+ghost use Rattle.std.specs.Prelude.{ℕ, ◌≡◌, ◌≢◌, ◌≤◌, List, Option, IfOk, IfErr, None, is_some, true};
 ghost use Rattle.analyser.specs.Versions.{version_of};
 ghost use Rattle.analyser.specs.declared.GuessFault.TheVariants as guess_fault;
 ghost use Rattle.certificate.specs.Kept as certified;
@@ -9,7 +9,7 @@ ghost use Rattle.certificate.specs.Reading.{AreLines};
 ghost use Rattle.declaration.specs.Kept.{Kept, meaning};
 ghost use Rattle.declaration.specs.Text.{Declares};
 ghost use Rattle.proposer.specs.declared.Verdict.TheVariants.{TurnsSpent};
-ghost use Rattle.proposer.specs.Proposals.{Fits, IsListed, IsShown, IsSpentUp};
+ghost use Rattle.proposer.specs.Proposals.{Fits, IsListed, IsShown, IsSpentUp, IsTold};
 
 mod map;
 mod steps;
@@ -101,7 +101,9 @@ pub fn propose<A: Allocator + Copy>(
 ) -> Result<Proposal<A>, ProposeFault>
     ensures fits { IfOk result (Fits start profile) }
     ensures shown { IfOk result (λ p. IsShown image.now p.declaration p.verdict) }
+    ensures unlisted { IfOk result (λ p. (meaning p.declaration).reads ≡ None) }
     ensures spent { IfOk result (λ p. IsSpentUp turns.new p.verdict) }
+    ensures faults { IfErr result IsTold }
     ensures limit { turns.new.limit ≡ turns.old.limit }
     ensures rises { turns.old.spent ≤ turns.new.spent }
     ensures within { turns.new.spent ≤ turns.new.limit }
@@ -139,6 +141,7 @@ pub fn propose_with_reads<A: Allocator + Copy>(
     // Where a certificate is found there is a list of reads.
     ensures listed { IfOk result (λ p. IsListed p.declaration p.verdict) }
     ensures spent { IfOk result (λ p. IsSpentUp turns.new p.verdict) }
+    ensures faults { IfErr result IsTold }
     ensures limit { turns.new.limit ≡ turns.old.limit }
     ensures rises { turns.old.spent ≤ turns.new.spent }
     ensures within { turns.new.spent ≤ turns.new.limit }
@@ -184,6 +187,7 @@ fn relisted<A: Allocator + Copy>(
     ensures profile { IfOk result (λ d. (meaning d).profile ≡ profile) }
     ensures text { IfOk result (λ d. Declares text.new.items (meaning d)) }
     ensures listed { IfOk result (λ d. is_some (meaning d).reads ≡ true) }
+    ensures faults { IfErr result IsTold }
 {
     let Ok(()) = push_reads(text, cells) else {
         return Err(ProposeFault::NoMemory);
@@ -206,7 +210,9 @@ fn widened<A: Allocator + Copy>(
 ) -> Result<Proposal<A>, ProposeFault>
     ensures fits { IfOk result (Fits map.now.start map.now.profile) }
     ensures shown { IfOk result (λ p. IsShown image.now p.declaration p.verdict) }
+    ensures unlisted { IfOk result (λ p. (meaning p.declaration).reads ≡ None) }
     ensures spent { IfOk result (λ p. IsSpentUp turns.new p.verdict) }
+    ensures faults { IfErr result IsTold }
     ensures limit { turns.new.limit ≡ turns.old.limit }
     ensures rises { turns.old.spent ≤ turns.new.spent }
     ensures within { turns.new.spent ≤ turns.new.limit }
@@ -237,7 +243,9 @@ fn attempt<A: Allocator + Copy>(
 ) -> Result<Proposal<A>, ProposeFault>
     ensures fits { IfOk result (Fits map.now.start map.now.profile) }
     ensures shown { IfOk result (λ p. IsShown image.now p.declaration p.verdict) }
+    ensures unlisted { IfOk result (λ p. (meaning p.declaration).reads ≡ None) }
     ensures spent { IfOk result (λ p. IsSpentUp turns.new p.verdict) }
+    ensures faults { IfErr result IsTold }
     ensures limit { turns.new.limit ≡ turns.old.limit }
     ensures rises { turns.old.spent ≤ turns.new.spent }
     ensures within { turns.new.spent ≤ turns.new.limit }
@@ -272,14 +280,16 @@ fn proposed<A: Allocator + Copy>(
     requires { Declares text.items (meaning declaration) }
     ensures fits { IfOk result (Fits map.now.start map.now.profile) }
     ensures shown { IfOk result (λ p. IsShown image.now p.declaration p.verdict) }
+    ensures unlisted { IfOk result (λ p. (meaning p.declaration).reads ≡ None) }
     ensures spent { IfOk result (λ p. IsSpentUp turns.new p.verdict) }
+    ensures faults { IfErr result IsTold }
     ensures limit { turns.new.limit ≡ turns.old.limit }
     ensures rises { turns.old.spent ≤ turns.new.spent }
     ensures within { turns.new.spent ≤ turns.new.limit }
 {
     let _spent = turns.spent();
     declaration.is_declared();
-    if !is_asked(&declaration, map.start, map.profile) {
+    if !is_asked(&declaration, map.start, map.profile) || declaration.reads_listed() {
         return Err(ProposeFault::Mismatch);
     }
     let verdict = judged(alloc, image, &declaration, turns)?;
@@ -292,7 +302,9 @@ fn proposed<A: Allocator + Copy>(
 }
 
 /// The fault of a declaration, as it's told.
-fn refused(fault: DeclarationFault) -> ProposeFault {
+fn refused(fault: DeclarationFault) -> ProposeFault
+    ensures { IsTold result }
+{
     match fault {
         DeclarationFault::NoMemory => ProposeFault::NoMemory,
         fault => ProposeFault::Undeclarable(fault),
@@ -308,6 +320,7 @@ fn judged<A: Allocator + Copy>(
 ) -> Result<Verdict<A>, ProposeFault>
     ensures shown { IfOk result (IsShown image.now declaration.now) }
     ensures spent { IfOk result (IsSpentUp turns.new) }
+    ensures faults { IfErr result IsTold }
     ensures limit { turns.new.limit ≡ turns.old.limit }
     ensures rises { turns.old.spent ≤ turns.new.spent }
     ensures within { turns.new.spent ≤ turns.new.limit }
@@ -340,6 +353,7 @@ fn tested<A: Allocator>(
 fn unfound<A: Allocator>(fault: GuessFault) -> Result<Verdict<A>, ProposeFault>
     ensures shown { (image : List (Option ℕ)) → (d : Kept) → IfOk result (IsShown image d) }
     ensures spent { IfOk result (λ v. v ≡ TurnsSpent → fault ≡ guess_fault.TurnsSpent) }
+    ensures faults { IfErr result IsTold }
 {
     match fault {
         GuessFault::Stuck(at) => Ok(Verdict::Stuck(at)),

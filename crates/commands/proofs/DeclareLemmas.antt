@@ -1,5 +1,5 @@
 -- What `declare` writes.
-use Rattle.std.proofs.Common.{ℕ, ◌≡◌, Bool, true, false, List, Option, sym, ap}
+use Rattle.std.proofs.Common.{ℕ, ◌≡◌, Bool, true, false, List, Option, None, sym, ap}
 use Rattle.std.proofs.lemmas.Bool.{true≢false}
 use Rattle.declaration.specs.Kept.{meaning}
 use Rattle.certificate.specs.declared.Certificate.{Certificate}
@@ -22,13 +22,13 @@ refused_not_done is = absurd (true≢false (sym (ap is_done is)))
 -- with a certificate
 pub shown_proposal : {A : Type 0} → (options : DeclareOptions) (frames : Option (List ℕ)) (image : List (Option ℕ)) (p : Proposal A) (c : Certificate A) →
     HasImage frames image → Fits options.start options.profile p → IsShown image p.declaration p.verdict → (options.reads ≡ true → IsListed p.declaration p.verdict) →
-    p.verdict ≡ Safe c → IsProposal options frames Done p.text.items
-shown_proposal {A = A} options frames image p c has fits shown listed is =
+    (options.reads ≡ false → (meaning p.declaration).reads ≡ None) → p.verdict ≡ Safe c → IsProposal options frames Done p.text.items
+shown_proposal {A = A} options frames image p c has fits shown listed unlisted is =
     let kept : IsShown {A = A} image p.declaration (Safe c) = rw is at shown in
     record {
       image = image;
       tape = has;
-      is = record { declaration = meaning p.declaration; declares = fits.text; start_is = fits.start; profile_is = fits.profile };
+      is = record { declaration = meaning p.declaration; declares = fits.text; start_is = fits.start; profile_is = fits.profile; unlisted = unlisted };
       safe = λ done. kept.0;
       listed = λ done asked. let lists : IsListed {A = A} p.declaration (Safe c) = rw is at listed asked in lists;
     }

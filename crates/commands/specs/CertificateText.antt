@@ -1,5 +1,5 @@
 -- What `migrate` and `guess` write.
-use Rattle.std.specs.Prelude.{ℕ, ◌≡◌, List, Option}
+use Rattle.std.specs.Prelude.{ℕ, ◌≡◌, ◌≤◌, List, Option, length}
 use Rattle.analyser.specs.Versions.{version_of}
 use Rattle.certificate.specs.Made.{migrated}
 use Rattle.certificate.specs.Reading.{AreLines}
@@ -14,7 +14,7 @@ pub record IsMigrated (certificate : Option (List ℕ)) (text : List ℕ) : Type
   pub text_is : text ≡ spelled (migrated lines)
 
 -- The frames are a tape, the text is that of a declaration; this is the text of some certificate, in the version of the
--- declared machine.
+-- declared machine, with no more bytes than are read of one.
 pub record IsGuess (frames text : Option (List ℕ)) (guess : List ℕ) : Type 0 where
   pub tape : IsGoodTape frames
   pub declaration : Declaration
@@ -23,3 +23,4 @@ pub record IsGuess (frames text : Option (List ℕ)) (guess : List ℕ) : Type 0
   pub lines_are : AreLines lines
   pub version_is : lines.version ≡ version_of declaration.profile
   pub guess_is : guess ≡ spelled lines
+  pub short : length guess ≤ 1048576

@@ -1,5 +1,5 @@
 -- What `declare` writes.
-use Rattle.std.specs.Prelude.{ℕ, ◌≡◌, List, Option, is_some, true}
+use Rattle.std.specs.Prelude.{ℕ, ◌≡◌, List, Option, None, is_some, false, true}
 use Rattle.peripherals.specs.Loading.{image_of}
 use Rattle.declaration.specs.Declaration.{Declaration}
 use Rattle.declaration.specs.Text.{Declares}
@@ -9,12 +9,14 @@ use Rattle.commands.specs.declared.status.Status.{Status}
 use Rattle.commands.specs.declared.status.Status.TheVariants.{Done}
 use Rattle.commands.specs.Inputs.{HasImage}
 
--- The text declares a program that starts where it was asked to, on the machine that was asked for.
+-- The text declares a program that starts where it was asked to, on the machine that was asked for, and lists no reads unless
+-- they were asked for.
 pub record IsDeclarationFor (options : DeclareOptions) (text : List ℕ) : Type 0 where
   pub declaration : Declaration
   pub declares : Declares text declaration
   pub start_is : declaration.start ≡ options.start
   pub profile_is : declaration.profile ≡ options.profile
+  pub unlisted : options.reads ≡ false → declaration.reads ≡ None
 
 -- The frames are a tape, and the text is such a declaration; where the command is done, no run of the tape's program breaks
 -- it, and it has a list of reads if one was asked for.

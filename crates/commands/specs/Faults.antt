@@ -170,6 +170,7 @@ IsGuessFault tape text fault =
 -- The tape is good, and what was found can't be declared, a write failed or memory was refused.
 abbrev pub IsProposeFault : Fault → Type 0
 IsProposeFault (Declare propose_fault.NoMemory) = ⊥
+IsProposeFault (Declare (propose_fault.Undeclarable declaration_fault.NoMemory)) = ⊥
 IsProposeFault (Declare fault) = Unit {0}
 IsProposeFault fault = IsRunFault fault
 

@@ -1,13 +1,14 @@
 //! The command that proposes a declaration.
 
-ghost use Rattle.std.specs.Prelude.{◌≡◌, false, true, IfOk, IfErr, OnErr};
+ghost use Rattle.std.specs.Prelude.{◌≡◌, ◌⊎◌, None, false, true, IfOk, IfErr, OnErr};
+ghost use Rattle.commands.specs.declared.status.Status.TheVariants.{Done, Refused};
 ghost use Rattle.commands.specs.DeclareText.{IsDeclarationFor, IsProposal, IsProposed};
 ghost use Rattle.commands.specs.Faults.{IsDeclareFault, IsProposeFault, fails_to_read, fails_to_write};
 ghost use Rattle.commands.specs.Inputs.{input};
 ghost use Rattle.commands.specs.Writes.{FrontOf, Writes};
 ghost use Rattle.declaration.specs.Kept.{meaning};
 ghost use Rattle.declaration.specs.Text.{Declares};
-ghost use Rattle.proposer.specs.Proposals.{Fits, IsListed, IsShown};
+ghost use Rattle.proposer.specs.Proposals.{Fits, IsListed, IsShown, IsTold};
 
 use crate::checking::condition_name;
 use crate::inputs::tape_from;
@@ -86,6 +87,9 @@ fn proposal_for<A: Allocator + Copy>(
     ensures shown { IfOk result (λ p. IsShown image.now p.declaration p.verdict) }
     ensures listed { options.now.reads ≡ true →
         IfOk result (λ p. IsListed p.declaration p.verdict) }
+    ensures unlisted { options.now.reads ≡ false →
+        IfOk result (λ p. (meaning p.declaration).reads ≡ None) }
+    ensures faults { IfErr result IsTold }
 {
     if options.reads {
         propose_with_reads(alloc, image, options.start, options.profile, turns)
@@ -127,7 +131,11 @@ fn declares_for<A: Allocator + Copy>(
     ensures read { fails_to_read result ≡ false }
 {
     match Declaration::parse(alloc, text) {
-        Ok(found) => Ok(found.start() == options.start && found.profile() == options.profile),
+        Ok(found) => Ok(
+            found.start() == options.start
+                && found.profile() == options.profile
+                && (options.reads || !found.reads_listed()),
+        ),
         Err(DeclarationFault::NoMemory) => Err(Fault::NoMemory),
         Err(_) => Ok(false),
     }
@@ -142,6 +150,8 @@ fn remarked<A: Allocator + Copy>(
     requires text { Declares proposal.now.text.items (meaning proposal.now.declaration) }
     requires start { (meaning proposal.now.declaration).start ≡ options.now.start }
     requires profile { (meaning proposal.now.declaration).profile ≡ options.now.profile }
+    requires unlisted { options.now.reads ≡ false →
+        (meaning proposal.now.declaration).reads ≡ None }
     ensures declares { IfOk result (λ text. IsDeclarationFor options.now text.items) }
     ensures faults { IfErr result IsProposeFault }
     ensures wrote { fails_to_write result ≡ false }
@@ -176,6 +186,7 @@ pub fn declare<A: Allocator + Copy, R: ByteSource, W: ByteSink>(
     // done the tape's program is safe, and there is a list of reads if one was asked for.
     ensures declared { IfOk result (λ status. Writes
         (IsProposal options (R.remaining tape.old) status) (W.taken out.old) (W.taken out.new)) }
+    ensures statuses { IfOk result (λ status. (status ≡ Done) ⊎ (status ≡ Refused)) }
     // A fault is that of the tape, or else of what was found or of a write.
     ensures faults { IfErr result (IsDeclareFault
         (input (R.mark tape.new) (R.remaining tape.old) (R.remaining tape.new))) }

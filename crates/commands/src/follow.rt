@@ -153,6 +153,7 @@ pub fn follow<A: Allocator, W: ByteSink>(
     ensures ran { IfOk result (λ outcome. Ran (profile_of world.old) (ends_at_halt course.now) trace
         (events_in course.now) (view world.old) outcome (view world.new)
         (W.taken out.old) (W.taken out.new)) }
+    ensures profile { profile_of world.new ≡ profile_of world.old }
     ensures faults { IfErr result IsRunFault }
     ensures marks { W.mark out.new ≡ fails_to_write result }
     ensures asked { W.mark out.new ≡ true → trace ≡ true }

@@ -55,23 +55,36 @@ fn hello_is_certified(rt: HostRuntime) -> Result<(), Fail> {
     Ok(())
 }
 
-#[test]
-fn an_argument_is_certified(rt: HostRuntime) -> Result<(), Fail> {
+/// A call with a word after it, which the routine adds, and returns past it.
+fn argument() -> Image {
     let mut tape = image(&[0o7300, 0o4210, 0o0005, 0o7402]);
     put(&mut tape, 0o0210, &[0o0000, 0o1610, 0o2210, 0o5610]);
-    let declared = b"start 0200\nmain 0200-0203\nsub 0210 body 0211-0213 returns 1\nstop 0203\n";
-    assert!(rt; is_certified(&rt, &tape, declared)?);
+    tape
+}
+
+const ARGUMENT_DECLARED: &[u8] =
+    b"start 0200\nmain 0200-0201 0203\nsub 0210 body 0211-0213 returns 1\nstop 0203\n";
+
+/// A program that makes one of two instructions of its own by what the switches say.
+fn written_code() -> Image {
+    let mut tape = image(&[
+        0o7604, 0o7640, 0o1211, 0o1212, 0o3205, 0o0000, 0o7402, 0o7402,
+    ]);
+    put(&mut tape, 0o0211, &[0o0001, 0o5206]);
+    tape
+}
+
+const WRITTEN_CODE_DECLARED: &[u8] = b"start 0200\nmain 0200-0207\nvar 0205\nstop 0206 0207\n";
+
+#[test]
+fn an_argument_is_certified(rt: HostRuntime) -> Result<(), Fail> {
+    assert!(rt; is_certified(&rt, &argument(), ARGUMENT_DECLARED)?);
     Ok(())
 }
 
 #[test]
 fn code_that_is_written_is_certified(rt: HostRuntime) -> Result<(), Fail> {
-    let mut tape = image(&[
-        0o7604, 0o7640, 0o1211, 0o1212, 0o3205, 0o0000, 0o7402, 0o7402,
-    ]);
-    put(&mut tape, 0o0211, &[0o0001, 0o5206]);
-    let declared = b"start 0200\nmain 0200-0207\nvar 0205\nstop 0206 0207\n";
-    assert!(rt; is_certified(&rt, &tape, declared)?);
+    assert!(rt; is_certified(&rt, &written_code(), WRITTEN_CODE_DECLARED)?);
     Ok(())
 }
 
@@ -106,26 +119,27 @@ fn text_of(rt: &HostRuntime, certificate: &Certificate<Global>) -> Result<Vec<u8
     Ok(sink.bytes().to_vec(rt.alloc())?)
 }
 
-/// The text of the certificate that is guessed for HELLO.
-fn hello_text(rt: &HostRuntime) -> Result<Vec<u8>, Fail> {
-    let declaration = Declaration::parse(rt.alloc(), HELLO_DECLARED)?;
-    let found = guess(rt.alloc(), &image(&HELLO), &declaration)?;
+/// The text of the certificate that is guessed for a program.
+fn guessed_text(rt: &HostRuntime, image: &Image, declared: &[u8]) -> Result<Vec<u8>, Fail> {
+    let declaration = Declaration::parse(rt.alloc(), declared)?;
+    let found = guess(rt.alloc(), image, &declaration)?;
     text_of(rt, &found)
 }
 
-/// The tape of HELLO.
-fn hello_tape(rt: &HostRuntime) -> Result<Vec<u8>, Fail> {
+/// The tape of a program.
+fn tape_of(rt: &HostRuntime, image: &Image) -> Result<Vec<u8>, Fail> {
     let mut sink = MemorySink::new(rt.alloc(), 65_536);
-    write_tape(&image(&HELLO), &mut sink)?;
+    write_tape(image, &mut sink)?;
     Ok(sink.bytes().to_vec(rt.alloc())?)
 }
 
 #[test]
 fn what_is_written_of_a_guess_is_certified(rt: HostRuntime) -> Result<(), Fail> {
-    let text = hello_text(&rt)?;
+    let hello = image(&HELLO);
+    let text = guessed_text(&rt, &hello, HELLO_DECLARED)?;
     let again = text_of(&rt, &Certificate::parse(rt.alloc(), &text)?)?;
     assert_eq!(rt; again.as_slice(), text.as_slice());
-    let tape = hello_tape(&rt)?;
+    let tape = tape_of(&rt, &hello)?;
     assert!(rt; certify(rt.alloc(), &tape, HELLO_DECLARED, &text).is_ok());
     Ok(())
 }
@@ -145,19 +159,15 @@ fn without(alloc: Global, text: &[u8], number: usize) -> Result<Vec<u8>, AllocEr
     Ok(left)
 }
 
-/// Forty-six rounds of a step and the ends of what the printer and the punch do.
-fn rounds() -> [Event; 138] {
-    let mut events = [Event::Step; 138];
-    for round in 0..46 {
-        events[3 * round + 1] = Event::PrinterDone;
-        events[3 * round + 2] = Event::PunchDone;
-    }
-    events
-}
-
-/// What the watcher finds in rounds of HELLO, where a text certifies it.
-fn watched(rt: &HostRuntime, tape: &[u8], text: &[u8]) -> Result<Option<Watched>, Fail> {
-    let Ok(certified) = certify(rt.alloc(), tape, HELLO_DECLARED, text) else {
+/// What the watcher finds in a run, where a text certifies its program.
+fn watched(
+    rt: &HostRuntime,
+    tape: &[u8],
+    declared: &[u8],
+    text: &[u8],
+    events: &[Event],
+) -> Result<Option<Watched>, Fail> {
+    let Ok(certified) = certify(rt.alloc(), tape, declared, text) else {
         return Ok(None);
     };
     let told = watch(
@@ -165,24 +175,71 @@ fn watched(rt: &HostRuntime, tape: &[u8], text: &[u8]) -> Result<Option<Watched>
         certified.image(),
         certified.declaration(),
         &Start::zero(),
-        &rounds(),
+        events,
     )?;
     Ok(Some(told))
 }
 
-#[test]
-fn what_is_certified_with_a_line_left_out_is_clean(rt: HostRuntime) -> Result<(), Fail> {
-    let tape = hello_tape(&rt)?;
-    let text = hello_text(&rt)?;
+/// Of the lines of what is guessed for a program, one left out at a time: how often the rest still
+/// certifies it, and how often the watcher then finds nothing in a run.
+fn spared_lines(
+    rt: &HostRuntime,
+    image: &Image,
+    declared: &[u8],
+    events: &[Event],
+) -> Result<(usize, usize), Fail> {
+    let tape = tape_of(rt, image)?;
+    let text = guessed_text(rt, image, declared)?;
+    let lines = text.iter().filter(|byte| **byte == b'\n').count();
+    let mut spared = 0usize;
     let mut clean = 0usize;
-    for number in 1..36usize {
-        let less = without(rt.alloc(), &text, number)?;
-        if let Some(told) = watched(&rt, &tape, &less)? {
-            assert_eq!(rt; told, Watched::Clean, "line {number}");
-            clean = clean.saturating_add(1);
+    for more in 0..lines {
+        let less = without(rt.alloc(), &text, more.saturating_add(1))?;
+        if let Some(told) = watched(rt, &tape, declared, &less, events)? {
+            spared = spared.saturating_add(1);
+            if told == Watched::Clean {
+                clean = clean.saturating_add(1);
+            }
         }
     }
-    assert_eq!(rt; clean, 7);
+    Ok((spared, clean))
+}
+
+/// Rounds of a step and the ends of what the printer and the punch do.
+fn rounds(alloc: Global, count: usize) -> Result<Vec<Event>, AllocError> {
+    let mut events = Vec::new(alloc);
+    for _ in 0..count {
+        events.push(Event::Step)?;
+        events.push(Event::PrinterDone)?;
+        events.push(Event::PunchDone)?;
+    }
+    Ok(events)
+}
+
+#[test]
+fn hello_with_a_line_left_out_is_clean(rt: HostRuntime) -> Result<(), Fail> {
+    let events = rounds(rt.alloc(), 46)?;
+    let counts = spared_lines(&rt, &image(&HELLO), HELLO_DECLARED, &events)?;
+    assert_eq!(rt; counts, (7, 7));
+    Ok(())
+}
+
+#[test]
+fn a_call_with_a_line_left_out_is_clean(rt: HostRuntime) -> Result<(), Fail> {
+    let events = rounds(rt.alloc(), 20)?;
+    let (spared, clean) = spared_lines(&rt, &argument(), ARGUMENT_DECLARED, &events)?;
+    assert_eq!(rt; spared, clean);
+    Ok(())
+}
+
+#[test]
+fn written_code_with_a_line_left_out_is_clean(rt: HostRuntime) -> Result<(), Fail> {
+    for switches in [0u16, 1] {
+        let mut events = [Event::Step; 21];
+        events[0] = Event::Switches(word(switches));
+        let (spared, clean) = spared_lines(&rt, &written_code(), WRITTEN_CODE_DECLARED, &events)?;
+        assert_eq!(rt; spared, clean);
+    }
     Ok(())
 }
 
@@ -229,14 +286,30 @@ fn turns_are_spent(rt: HostRuntime) -> Result<(), Fail> {
     Ok(())
 }
 
+/// What is answered for HELLO where memory is refused after so many requests, and whether it was.
+fn refused_at(
+    alloc: Global,
+    declaration: &Declaration<Global>,
+    count: u64,
+) -> (Option<GuessFault>, bool) {
+    let heap = Refusing::new(alloc, count);
+    let answer = guess(&heap, &image(&HELLO), declaration).err();
+    (answer, heap.has_refused())
+}
+
 #[test]
-fn a_refusal_of_memory_is_told(rt: HostRuntime) -> Result<(), Fail> {
+fn each_refusal_of_memory_is_told(rt: HostRuntime) -> Result<(), Fail> {
     let declaration = Declaration::parse(rt.alloc(), HELLO_DECLARED)?;
-    for count in [0, 1, 2, 5, 20] {
-        let heap = Refusing::new(rt.alloc(), count);
-        let found = guess(&heap, &image(&HELLO), &declaration);
-        assert_eq!(rt; found.err(), Some(GuessFault::NoMemory));
+    for count in 0..10_000u64 {
+        let (answer, refused) = refused_at(rt.alloc(), &declaration, count);
+        if !refused {
+            assert_eq!(rt; answer, None);
+            assert!(rt; count > 20);
+            return Ok(());
+        }
+        assert_eq!(rt; answer, Some(GuessFault::NoMemory));
     }
+    assert!(rt; false);
     Ok(())
 }
 

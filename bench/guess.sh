@@ -1,0 +1,21 @@
+#!/bin/bash
+# Times `pdp8 guess` on programs of 7, 14 and 28 pages that guess/make.py makes, the least of seven calls each, and sees
+# to it that `check` accepts each guess. Twice the program should take at most 2.2 times as long.
+# PDP8 names a built program in place of this repository's.
+set -euo pipefail
+top=$(cd "$(dirname "$0")/.." && pwd)
+program=${PDP8:-$top/crates/pdp8/out/pdp8}
+work=$(mktemp -d)
+trap 'rm -r "$work"' EXIT
+[ -x "$program" ] || (cd "$top/crates/pdp8" && rt run <stdin >"$work/built" 2>&1) || { cat "$work/built"; exit 1; }
+TIMEFORMAT=%U
+for pages in 7 14 28; do
+    python3 "$top/bench/guess/make.py" "$pages" "$work/$pages"
+    cd "$work/$pages"
+    "$program" assemble tape source.pal >assembled
+    for _ in 1 2 3 4 5 6 7; do
+        { time "$program" guess tape declaration certificate >guessed; } 2>&1
+    done | sort -n | head -1 >least
+    "$program" check tape declaration certificate | grep -q '^yes' || { echo "$pages pages: no"; exit 1; }
+    echo "$pages pages: $(cat least) seconds, $(wc -c <certificate) bytes"
+done

@@ -96,7 +96,8 @@ fn read_source<R: ByteSource>(source: &mut R) -> Result<Image, TapeFault>
 }
 
 /// The image of the tape that a source gives, as [`read_tape`] reads it. It reads only while it
-/// needs frames: at most 512 bytes at a time, and never more than are looked at.
+/// needs frames: at most 512 bytes at a time, and in all no more than are looked at and one, which
+/// tells that another follows.
 ///
 /// # Errors
 ///

@@ -253,6 +253,24 @@ fn a_wild_write_is_stuck(rt: HostRuntime) -> Result<(), Fail> {
     Ok(())
 }
 
+/// The declaration of HELLO with a list of the cells that it reads.
+const HELLO_READS: &[u8] = b"start 0200\nmain 0200-0213\nsub 0214 body 0215-0221 returns 0\n\
+    var 0010 0224\npause 0212\nread 0010 0222-0231\n";
+
+/// The same without the last of these cells.
+const HELLO_READS_TOO_MUCH: &[u8] =
+    b"start 0200\nmain 0200-0213\nsub 0214 body 0215-0221 returns 0\n\
+    var 0010 0224\npause 0212\nread 0010 0222-0230\n";
+
+#[test]
+fn a_read_off_the_list_is_stuck(rt: HostRuntime) -> Result<(), Fail> {
+    assert!(rt; is_certified(&rt, &image(&HELLO), HELLO_READS)?);
+    let declaration = Declaration::parse(rt.alloc(), HELLO_READS_TOO_MUCH)?;
+    let found = guess(rt.alloc(), &image(&HELLO), &declaration);
+    assert_eq!(rt; found.err(), Some(GuessFault::Stuck(word(0o206))));
+    Ok(())
+}
+
 /// Words that set 48 cells to words with every second bit alone, and then look at them all, so that
 /// facts have long sets.
 fn long_image() -> Image {

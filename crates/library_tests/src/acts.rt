@@ -28,16 +28,19 @@ fn number(sign: Sign, value: usize) -> Join {
     }
 }
 
+/// A few permanent symbols and their values.
+const PERMANENT: [(&[u8], usize); 4] = [
+    (b"TAD   ", 0o1000),
+    (b"I     ", 0o400),
+    (b"Z     ", 0),
+    (b"CLA   ", 0o7200),
+];
+
 /// A table of a few permanent symbols.
 fn permanent<A: Allocator + Copy>(alloc: A) -> Option<SymbolTable<A>> {
     let mut table = SymbolTable::new(alloc);
-    for (letters, value) in [
-        (b"TAD   ", 0o1000),
-        (b"I     ", 0o400),
-        (b"Z     ", 0),
-        (b"CLA   ", 0o7200),
-    ] {
-        table.insert(name(letters), Word::from_index(value)).ok()?;
+    for (letters, value) in &PERMANENT {
+        table.insert(name(letters), Word::from_index(*value)).ok()?;
     }
     Some(table)
 }
@@ -192,18 +195,20 @@ fn symbols_are_defined_in_order(rt: HostRuntime) -> Result<(), Fail> {
     Ok(())
 }
 
+/// Symbols, and their permanent values on the 8/I and on the 8/E.
+const SYMBOLS: [(&[u8], Option<usize>, Option<usize>); 6] = [
+    (b"TAD", Some(0o1000), Some(0o1000)),
+    (b"I", Some(0o400), Some(0o400)),
+    (b"TLS", Some(0o6046), Some(0o6046)),
+    (b"MQL", None, Some(0o7421)),
+    (b"TFL", None, Some(0o6040)),
+    (b"START", None, None),
+];
+
 #[test]
 fn permanent_symbols_are_those_of_the_profile(rt: HostRuntime) -> Result<(), Fail> {
-    let rows: [(&[u8], Option<usize>, Option<usize>); 6] = [
-        (b"TAD", Some(0o1000), Some(0o1000)),
-        (b"I", Some(0o400), Some(0o400)),
-        (b"TLS", Some(0o6046), Some(0o6046)),
-        (b"MQL", None, Some(0o7421)),
-        (b"TFL", None, Some(0o6040)),
-        (b"START", None, None),
-    ];
-    for (letters, under_8i, under_8e) in rows {
-        for (profile, expected) in [(Profile::Pdp8I, under_8i), (Profile::Pdp8E, under_8e)] {
+    for (letters, under_8i, under_8e) in &SYMBOLS {
+        for (profile, expected) in [(Profile::Pdp8I, *under_8i), (Profile::Pdp8E, *under_8e)] {
             let permanent = permanent_table(rt.alloc(), profile)?;
             let Ok(found) = assemble(rt.alloc(), &permanent, &[]) else {
                 panic!(rt; "refused");

@@ -108,29 +108,31 @@ fn faults_of_whole_texts(rt: HostRuntime) -> Result<(), Fail> {
     Ok(())
 }
 
+/// Texts where two things stand in one cell, and the cell.
+const OVERLAPS: [(&[u8], u16); 6] = [
+    (
+        b"start 1\nmain 1\nsub 2 body 3-7 returns\nsub 10 body 6-7 returns",
+        6,
+    ),
+    (b"start 1\nmain 1-7\nsub 2 body 3 returns", 2),
+    (b"start 1\nmain 1\nsub 2 body 3 returns\nvar 0-4", 2),
+    (
+        b"start 1\nmain 1\nsub 20 body 3 returns\nsub 20 body 4 returns",
+        0o20,
+    ),
+    (b"start 1\nmain 1-4\nstop 4 3 2\npause 3 4", 3),
+    (
+        b"start 7\nmain 1-5\nsub 6 body 3 returns\nsub 12 body 5 returns",
+        3,
+    ),
+];
+
 #[test]
 fn overlaps(rt: HostRuntime) -> Result<(), Fail> {
-    let texts: [(&[u8], u16); 6] = [
-        (
-            b"start 1\nmain 1\nsub 2 body 3-7 returns\nsub 10 body 6-7 returns",
-            6,
-        ),
-        (b"start 1\nmain 1-7\nsub 2 body 3 returns", 2),
-        (b"start 1\nmain 1\nsub 2 body 3 returns\nvar 0-4", 2),
-        (
-            b"start 1\nmain 1\nsub 20 body 3 returns\nsub 20 body 4 returns",
-            0o20,
-        ),
-        (b"start 1\nmain 1-4\nstop 4 3 2\npause 3 4", 3),
-        (
-            b"start 7\nmain 1-5\nsub 6 body 3 returns\nsub 12 body 5 returns",
-            3,
-        ),
-    ];
-    for (text, at) in texts {
+    for (text, at) in &OVERLAPS {
         assert_eq!(rt;
             fault(&rt, text),
-            Some(DeclarationFault::Overlap(word(at)?))
+            Some(DeclarationFault::Overlap(word(*at)?))
         );
     }
     Ok(())

@@ -49,27 +49,29 @@ fn ends_comments_and_blanks(rt: HostRuntime) -> Result<(), Fail> {
     Ok(())
 }
 
+/// Texts of one line that no events have.
+const BAD_LINES: [&[u8]; 16] = [
+    b"step 0",
+    b"step 1000001",
+    b"step +1",
+    b"step -1",
+    b"step 2 3",
+    b"step x",
+    b"key",
+    b"key 400",
+    b"key 0301",
+    b"key 8",
+    b"reader 0x1",
+    b"switches 10000",
+    b"switches 00017",
+    b"printer 1",
+    b"Step",
+    b"step\r",
+];
+
 #[test]
 fn bad_lines(rt: HostRuntime) {
-    let texts: [&[u8]; 16] = [
-        b"step 0",
-        b"step 1000001",
-        b"step +1",
-        b"step -1",
-        b"step 2 3",
-        b"step x",
-        b"key",
-        b"key 400",
-        b"key 0301",
-        b"key 8",
-        b"reader 0x1",
-        b"switches 10000",
-        b"switches 00017",
-        b"printer 1",
-        b"Step",
-        b"step\r",
-    ];
-    for text in texts {
+    for text in &BAD_LINES {
         assert_eq!(rt; fault(&rt, text), Some(EventsFault::BadLine(1)));
     }
     assert_eq!(rt;

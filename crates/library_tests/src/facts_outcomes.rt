@@ -468,13 +468,20 @@ fn isz_of_several_counts_an_unknown_one(rt: HostRuntime) -> Result<(), Fail> {
     Ok(())
 }
 
+/// The least and the most offset before an ISZ of the own entry, and after it.
+const COUNTED_OFFSETS: [(usize, usize, usize, usize); 4] = [
+    (0, 0, 1, 1),
+    (0, 1, 1, 2),
+    (0, 7, 1, 7),
+    (6, 7, 7, 7),
+];
+
 #[test]
 fn isz_of_the_own_entry_counts_offsets(rt: HostRuntime) -> Result<(), Fail> {
-    let table = [(0, 0, 1, 1), (0, 1, 1, 2), (0, 7, 1, 7), (6, 7, 7, 7)];
-    for (low, high, least, most) in table {
-        let found = in_routine(&rt, &in_call(up_to(low, high)), 0o2250)?;
+    for (low, high, least, most) in &COUNTED_OFFSETS {
+        let found = in_routine(&rt, &in_call(up_to(*low, *high)), 0o2250)?;
         let counted = Seen {
-            offsets: up_to(least, most),
+            offsets: up_to(*least, *most),
             ..same(one(5)).to(one(0o252))
         };
         assert_eq!(rt; found, alone(&counted));
@@ -773,6 +780,9 @@ fn mq_words_are_the_8e_s(rt: HostRuntime) -> Result<(), Fail> {
     Ok(())
 }
 
+/// The words that skip where the flag of a device is set.
+const SKIPS_ON_FLAGS: [usize; 4] = [0o6011, 0o6021, 0o6031, 0o6041];
+
 #[test]
 fn device_words_bring_any_flag_and_byte(rt: HostRuntime) -> Result<(), Fail> {
     let y = one(5);
@@ -787,8 +797,8 @@ fn device_words_bring_any_flag_and_byte(rt: HostRuntime) -> Result<(), Fail> {
         let found = in_main(&rt, ON_8I, &fact(y), 0o200, number)?;
         assert_eq!(rt; found, alone(&outcome));
     }
-    for number in [0o6011, 0o6021, 0o6031, 0o6041] {
-        let found = in_main(&rt, ON_8E, &fact(y), 0o200, number)?;
+    for number in &SKIPS_ON_FLAGS {
+        let found = in_main(&rt, ON_8E, &fact(y), 0o200, *number)?;
         let over = same(y).to(one(0o202));
         assert_eq!(rt; found, [Some(same(y)), Some(over), None, None]);
     }
@@ -823,6 +833,11 @@ fn some_words_have_a_meaning_on_one_machine(rt: HostRuntime) -> Result<(), Fail>
     Ok(())
 }
 
+/// A word of each of eight kinds.
+const KINDS_OF_WORDS: [usize; 8] = [
+    0o301, 0o1301, 0o3301, 0o4250, 0o5205, 0o7001, 0o7440, 0o6031,
+];
+
 #[test]
 fn what_cannot_come_about_is_left_out(rt: HostRuntime) -> Result<(), Fail> {
     let y = one(5);
@@ -834,12 +849,10 @@ fn what_cannot_come_about_is_left_out(rt: HostRuntime) -> Result<(), Fail> {
     unlinked.set_link(Links::none());
     let mut empty = fact(y);
     empty.set_mq(WordSet::empty());
-    for number in [
-        0o301, 0o1301, 0o3301, 0o4250, 0o5205, 0o7001, 0o7440, 0o6031,
-    ] {
-        assert_eq!(rt; in_main(&rt, ON_8I, &parted, 0o200, number)?, none);
-        assert_eq!(rt; in_main(&rt, ON_8I, &unlinked, 0o200, number)?, none);
-        assert_eq!(rt; in_main(&rt, ON_8I, &empty, 0o200, number)?, none);
+    for number in &KINDS_OF_WORDS {
+        assert_eq!(rt; in_main(&rt, ON_8I, &parted, 0o200, *number)?, none);
+        assert_eq!(rt; in_main(&rt, ON_8I, &unlinked, 0o200, *number)?, none);
+        assert_eq!(rt; in_main(&rt, ON_8I, &empty, 0o200, *number)?, none);
     }
     Ok(())
 }

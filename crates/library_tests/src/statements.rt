@@ -17,60 +17,64 @@ fn letter(form: Form) -> u8 {
     }
 }
 
+/// Parts, the letters of the forms of their statements, and how they end.
+const FORMS: [(&[u8], &[u8], Ending); 12] = [
+    (b"*200\nHLT\n$\n", b"*w.", Ending::Dollar),
+    (b"$", b".", Ending::Dollar),
+    (b"", b".", Ending::Bytes),
+    (b"A,B, C=-5;X,;TAD I 10", b"=.w", Ending::Bytes),
+    (b" DECIMAL ; OCTALS ; OCTAL", b"DwO", Ending::Bytes),
+    (b"A=5\r\nPAUSE / the end\r\n?", b"=P", Ending::Pause),
+    (b"PAUSE$", b"P", Ending::Pause),
+    (b"PAUSE,1;OCTAL=2", b"w=", Ending::Bytes),
+    (
+        b"TAD 10 / $ is a comment's\n/ and so is this",
+        b"w.",
+        Ending::Bytes,
+    ),
+    (b"300 5;1 2+1;-10;.-1 ", b"wwww", Ending::Bytes),
+    (b"* -1;HLT$? 8A", b"*w", Ending::Dollar),
+    (b"DECIMATE\t", b"D", Ending::Bytes),
+];
+
 #[test]
 fn statements_have_forms(rt: HostRuntime) -> Result<(), Fail> {
-    let rows: [(&[u8], &[u8], Ending); 12] = [
-        (b"*200\nHLT\n$\n", b"*w.", Ending::Dollar),
-        (b"$", b".", Ending::Dollar),
-        (b"", b".", Ending::Bytes),
-        (b"A,B, C=-5;X,;TAD I 10", b"=.w", Ending::Bytes),
-        (b" DECIMAL ; OCTALS ; OCTAL", b"DwO", Ending::Bytes),
-        (b"A=5\r\nPAUSE / the end\r\n?", b"=P", Ending::Pause),
-        (b"PAUSE$", b"P", Ending::Pause),
-        (b"PAUSE,1;OCTAL=2", b"w=", Ending::Bytes),
-        (
-            b"TAD 10 / $ is a comment's\n/ and so is this",
-            b"w.",
-            Ending::Bytes,
-        ),
-        (b"300 5;1 2+1;-10;.-1 ", b"wwww", Ending::Bytes),
-        (b"* -1;HLT$? 8A", b"*w", Ending::Dollar),
-        (b"DECIMATE\t", b"D", Ending::Bytes),
-    ];
-    for (source, expected, ending) in rows {
+    for (source, expected, ending) in &FORMS {
         let part = statements(rt.alloc(), source)?;
         assert_eq!(rt; part.statements.len(), expected.len());
-        for (statement, form) in part.statements.iter().zip(expected) {
+        for (statement, form) in part.statements.iter().zip(*expected) {
             assert_eq!(rt; letter(statement.form), *form);
         }
-        assert_eq!(rt; part.ending, ending);
+        assert_eq!(rt; part.ending, *ending);
     }
     Ok(())
 }
 
+/// Parts with a line that has no form, and the number of the first.
+const FORMLESS: [(&[u8], usize); 15] = [
+    (b"?", 1),
+    (b"HLT\n\nA B,\n?", 3),
+    (b"* 200", 1),
+    (b"5A", 1),
+    (b"A=PAUSE", 1),
+    (b"TAD DECIMAL", 1),
+    (b"X,\r\nTAD+\r\n", 2),
+    (b"\r\r\nA..", 3),
+    (b"A=", 1),
+    (b",", 1),
+    (b"A=5=6", 1),
+    (b"1+-2", 1),
+    (b"\n\n+$", 3),
+    (b"a", 1),
+    (b"HLT;*\nPAUSE", 1),
+];
+
 #[test]
 fn the_first_line_without_a_form_is_named(rt: HostRuntime) -> Result<(), Fail> {
-    let rows: [(&[u8], usize); 15] = [
-        (b"?", 1),
-        (b"HLT\n\nA B,\n?", 3),
-        (b"* 200", 1),
-        (b"5A", 1),
-        (b"A=PAUSE", 1),
-        (b"TAD DECIMAL", 1),
-        (b"X,\r\nTAD+\r\n", 2),
-        (b"\r\r\nA..", 3),
-        (b"A=", 1),
-        (b",", 1),
-        (b"A=5=6", 1),
-        (b"1+-2", 1),
-        (b"\n\n+$", 3),
-        (b"a", 1),
-        (b"HLT;*\nPAUSE", 1),
-    ];
-    for (source, line) in rows {
+    for (source, line) in &FORMLESS {
         match statements(rt.alloc(), source) {
             Ok(_) => assert!(rt; false),
-            Err(fault) => assert_eq!(rt; fault, TextFault::Illegal(line)),
+            Err(fault) => assert_eq!(rt; fault, TextFault::Illegal(*line)),
         }
     }
     Ok(())
@@ -99,26 +103,28 @@ fn a_token_lends_its_slice(rt: HostRuntime) -> Result<(), Fail> {
     Ok(())
 }
 
+/// Parts, how many lines they have, and where the last ends.
+const LINES: [(&[u8], usize, usize); 10] = [
+    (b"*200\x8dHLT\x8d$\x8d", 3, 10),
+    (b"*200\r\nHLT\r\n$\r\n", 3, 12),
+    (b"*200\r\xff\nHLT\r\xff\n$\r\xff\n", 3, 14),
+    (b"*200\nHLT\n$\n", 3, 10),
+    (b"", 0, 0),
+    (b"\n\x00\x7f", 1, 0),
+    (b"\r\n\nA", 2, 4),
+    (b" ", 1, 1),
+    (b"A;PAUSE / more\nB", 1, 7),
+    (b"A$B\nC", 1, 2),
+];
+
 #[test]
 fn lines_end_by_returns_and_feeds(rt: HostRuntime) -> Result<(), Fail> {
-    let rows: [(&[u8], usize, usize); 10] = [
-        (b"*200\x8dHLT\x8d$\x8d", 3, 10),
-        (b"*200\r\nHLT\r\n$\r\n", 3, 12),
-        (b"*200\r\xff\nHLT\r\xff\n$\r\xff\n", 3, 14),
-        (b"*200\nHLT\n$\n", 3, 10),
-        (b"", 0, 0),
-        (b"\n\x00\x7f", 1, 0),
-        (b"\r\n\nA", 2, 4),
-        (b" ", 1, 1),
-        (b"A;PAUSE / more\nB", 1, 7),
-        (b"A$B\nC", 1, 2),
-    ];
-    for (source, count, end) in rows {
+    for (source, count, end) in &LINES {
         let part = statements(rt.alloc(), source)?;
         let lines = part.lines(rt.alloc())?;
-        assert_eq!(rt; lines.len(), count);
+        assert_eq!(rt; lines.len(), *count);
         if let [.., last] = lines.as_slice() {
-            assert_eq!(rt; last.end, end);
+            assert_eq!(rt; last.end, *end);
         }
     }
     Ok(())
@@ -136,27 +142,33 @@ fn a_part_has_at_most_65536_bytes(rt: HostRuntime) -> Result<(), Fail> {
     Ok(())
 }
 
+/// The form, the line and the last token of each statement read, how many tokens there are then,
+/// and where its line closes.
+const READINGS: [(Form, usize, usize, usize, Option<usize>); 6] = [
+    (Form::Word, 1, 3, 3, None),
+    (Form::Empty, 2, 4, 0, Some(9)),
+    (Form::Word, 2, 6, 1, None),
+    (Form::Empty, 3, 7, 0, None),
+    (Form::Pause, 3, 9, 1, Some(17)),
+    (Form::Empty, 0, 0, 0, None),
+];
+
 #[test]
 fn a_reader_gives_one_statement_at_a_time(rt: HostRuntime) -> Result<(), Fail> {
     let mut reader = Reader::new(rt.alloc(), b"A, 5 \r\n $B\n;PAUSE");
-    let rows: [(Form, usize, usize, usize, Option<usize>); 6] = [
-        (Form::Word, 1, 3, 3, None),
-        (Form::Empty, 2, 4, 0, Some(9)),
-        (Form::Word, 2, 6, 1, None),
-        (Form::Empty, 3, 7, 0, None),
-        (Form::Pause, 3, 9, 1, Some(17)),
-        (Form::Empty, 0, 0, 0, None),
-    ];
-    for (form, line, last, count, stop) in rows {
+    for (form, line, last, count, stop) in &READINGS {
         match reader.read_next()? {
             Some(found) => {
-                assert_eq!(rt; found.statement.form, form);
-                assert_eq!(rt; (found.statement.line, found.statement.last), (line, last));
-                assert_eq!(rt; found.close.map(|close| close.stop), stop);
+                assert_eq!(rt; found.statement.form, *form);
+                assert_eq!(rt;
+                    (found.statement.line, found.statement.last),
+                    (*line, *last)
+                );
+                assert_eq!(rt; found.close.map(|close| close.stop), *stop);
             }
-            None => assert_eq!(rt; line, 0),
+            None => assert_eq!(rt; *line, 0),
         }
-        assert_eq!(rt; reader.tokens().len(), count);
+        assert_eq!(rt; reader.tokens().len(), *count);
     }
     Ok(())
 }

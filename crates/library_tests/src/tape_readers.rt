@@ -140,22 +140,24 @@ fn skipped_frames(rt: HostRuntime) -> Result<(), Fail> {
     Ok(())
 }
 
+/// Frames with a fault, and the fault.
+const FAULTY_FRAMES: [(&[u8], TapeFault); 6] = [
+    (&[0o200, 0o102, 0o000, 0o200], TapeFault::NoChecksum),
+    (&[0o200, 0o074, 0o002], TapeFault::NoOrigin),
+    (&[0o200, 0o102, 0o102], TapeFault::BadFrame(2)),
+    (&[0o200, 0o201], TapeFault::BadFrame(1)),
+    (&[0o200, 0o310], TapeFault::WrongField(1)),
+    (&[0o200, 0o377, 0o101], TapeFault::Truncated),
+];
+
 #[test]
 fn faults(rt: HostRuntime) -> Result<(), Fail> {
     let mut wrong = halt_tape();
     wrong[21] = 0o001;
     let checksum = TapeFault::Checksum(word(0o201)?, word(0o200)?);
     assert!(rt; fault_in_all_forms(&wrong)? == Some(checksum));
-    let cases: [(&[u8], TapeFault); 6] = [
-        (&[0o200, 0o102, 0o000, 0o200], TapeFault::NoChecksum),
-        (&[0o200, 0o074, 0o002], TapeFault::NoOrigin),
-        (&[0o200, 0o102, 0o102], TapeFault::BadFrame(2)),
-        (&[0o200, 0o201], TapeFault::BadFrame(1)),
-        (&[0o200, 0o310], TapeFault::WrongField(1)),
-        (&[0o200, 0o377, 0o101], TapeFault::Truncated),
-    ];
-    for (frames, want) in cases {
-        assert!(rt; fault_in_all_forms(frames)? == Some(want));
+    for (frames, want) in &FAULTY_FRAMES {
+        assert!(rt; fault_in_all_forms(frames)? == Some(*want));
     }
     let long = [0o200; 65_537];
     assert!(rt; fault(read_tape(&long)) == Some(TapeFault::TooLong));
@@ -264,16 +266,18 @@ fn written_tapes(rt: HostRuntime) -> Result<(), Fail> {
     Ok(())
 }
 
+/// The frames of a tape of two words, at 0000 and at 7777.
+const WRAPPED_FRAMES: [u8; 10] = [
+    0o100, 0o000, 0o074, 0o002, 0o177, 0o077, 0o040, 0o020, 0o005, 0o054,
+];
+
 #[test]
 fn no_run_wraps(rt: HostRuntime) -> Result<(), Fail> {
     let mut image = Image::empty();
     image.set(word(0o7777)?, word(0o4020)?);
     image.set(word(0o0000)?, word(0o7402)?);
     let mut tape = [0o200; 42];
-    let frames = [
-        0o100, 0o000, 0o074, 0o002, 0o177, 0o077, 0o040, 0o020, 0o005, 0o054,
-    ];
-    for (at, frame) in frames.iter().enumerate() {
+    for (at, frame) in WRAPPED_FRAMES.iter().enumerate() {
         tape[16 + at] = *frame;
     }
     let mut sink = MemorySink::new(rt.alloc(), 1000);

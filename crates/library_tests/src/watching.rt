@@ -191,32 +191,35 @@ fn a_routine_counts_its_own_entry_alone(rt: HostRuntime) -> Result<(), Fail> {
     Ok(())
 }
 
+/// Lists of reads for HELLO, and what watching it shows.
+const READS: [(&str, Watched); 4] = [
+    ("", Watched::Clean),
+    ("read 0010 0222-0231\n", Watched::Clean),
+    (
+        "read 0010 0222-0230\n",
+        Watched::Broken {
+            event: 114,
+            rule: Rule::ReadsListed,
+        },
+    ),
+    (
+        "read\n",
+        Watched::Broken {
+            event: 6,
+            rule: Rule::ReadsListed,
+        },
+    ),
+];
+
 #[test]
 fn listed_reads_are_kept(rt: HostRuntime) -> Result<(), Fail> {
-    for (reads, wanted) in [
-        ("", Watched::Clean),
-        ("read 0010 0222-0231\n", Watched::Clean),
-        (
-            "read 0010 0222-0230\n",
-            Watched::Broken {
-                event: 114,
-                rule: Rule::ReadsListed,
-            },
-        ),
-        (
-            "read\n",
-            Watched::Broken {
-                event: 6,
-                rule: Rule::ReadsListed,
-            },
-        ),
-    ] {
+    for (reads, wanted) in &READS {
         let text = format!(in rt.alloc();
             "start 0200\nmain 0200-0213\nsub 0214 body 0215-0221 returns 0\nvar 0010 0224\npause 0212\n{reads}"
         )?;
         assert_eq!(rt;
             shown(&rt, &image(&HELLO), text.as_bytes(), &rounds())?,
-            wanted
+            *wanted
         );
     }
     Ok(())
@@ -293,19 +296,25 @@ fn code_may_change_where_it_is_variable(rt: HostRuntime) -> Result<(), Fail> {
     Ok(())
 }
 
+/// First words, and the rule that each breaks.
+const FIRST_STEPS: [(u16, Rule); 5] = [
+    (0o7401, Rule::StaysInBody),
+    (0o3202, Rule::WritesDeclared),
+    (0o4205, Rule::CallsEntries),
+    (0o5610, Rule::ReturnsToItsCall),
+    (0o7402, Rule::HaltsDeclared),
+];
+
 #[test]
 fn first_steps_that_break_a_rule(rt: HostRuntime) -> Result<(), Fail> {
-    for (first, rule) in [
-        (0o7401, Rule::StaysInBody),
-        (0o3202, Rule::WritesDeclared),
-        (0o4205, Rule::CallsEntries),
-        (0o5610, Rule::ReturnsToItsCall),
-        (0o7402, Rule::HaltsDeclared),
-    ] {
+    for (first, rule) in &FIRST_STEPS {
         let declared = b"start 0200\nmain 0200\nsub 0210 body 0211 returns 0\n";
         assert_eq!(rt;
-            shown(&rt, &image(&[first]), declared, &[Event::Step])?,
-            Watched::Broken { event: 0, rule }
+            shown(&rt, &image(&[*first]), declared, &[Event::Step])?,
+            Watched::Broken {
+                event: 0,
+                rule: *rule
+            }
         );
     }
     Ok(())

@@ -73,12 +73,19 @@ fn octal_text_is_four_digits(rt: HostRuntime) {
     assert_eq!(rt; word(0o7402).to_octal(), *b"7402");
 }
 
+/// Texts that are no octal word, and their faults.
+const FAULTS: [(&[u8], OctalFault); 4] = [
+    (b"", OctalFault::Empty),
+    (b"08", OctalFault::NotOctal),
+    (b"10000", OctalFault::TooLarge),
+    (b"10008", OctalFault::NotOctal),
+];
+
 #[test]
 fn octal_digits_are_read(rt: HostRuntime) {
-    assert_eq!(rt; Word::from_octal(b""), Err(OctalFault::Empty));
-    assert_eq!(rt; Word::from_octal(b"08"), Err(OctalFault::NotOctal));
-    assert_eq!(rt; Word::from_octal(b"10000"), Err(OctalFault::TooLarge));
-    assert_eq!(rt; Word::from_octal(b"10008"), Err(OctalFault::NotOctal));
+    for (text, fault) in &FAULTS {
+        assert_eq!(rt; Word::from_octal(text), Err(*fault));
+    }
     assert_eq!(rt; Word::from_octal(b"00017"), Ok(word(0o0017)));
     assert_eq!(rt; Word::from_octal(b"7777"), Ok(word(0o7777)));
 }

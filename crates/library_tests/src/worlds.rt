@@ -78,16 +78,19 @@ fn a_call_at_the_last_cell_wraps(rt: HostRuntime) -> Result<(), Fail> {
     Ok(())
 }
 
+/// Events that are not enabled at first.
+const NOT_ENABLED: [Event; 4] = [
+    Event::Continue,
+    Event::PrinterDone,
+    Event::PunchDone,
+    Event::ReaderDone(1),
+];
+
 #[test]
 fn events_that_are_not_enabled_change_nothing(rt: HostRuntime) -> Result<(), Fail> {
     let mut world = load(rt.alloc(), &image(0o0200, &[0o7401]), 0o0200);
-    for event in [
-        Event::Continue,
-        Event::PrinterDone,
-        Event::PunchDone,
-        Event::ReaderDone(1),
-    ] {
-        assert_eq!(rt; world.apply(event)?, Seen::NotEnabled);
+    for event in &NOT_ENABLED {
+        assert_eq!(rt; world.apply(*event)?, Seen::NotEnabled);
     }
     assert_eq!(rt; world.apply(Event::Step)?, Seen::Unsupported(word(0o7401)));
     assert_eq!(rt; world.cpu().pc, word(0o0200));
@@ -109,6 +112,14 @@ fn a_halt_stands_until_continue(rt: HostRuntime) -> Result<(), Fail> {
     Ok(())
 }
 
+/// A step, the completion of the reader, and two steps.
+const FETCHED: [Event; 4] = [
+    Event::Step,
+    Event::ReaderDone(0o101),
+    Event::Step,
+    Event::Step,
+];
+
 #[test]
 fn a_fetch_clears_the_readers_buffer(rt: HostRuntime) -> Result<(), Fail> {
     for (second, ac) in [(0o6014, 0), (0o6012, 0o101)] {
@@ -117,13 +128,8 @@ fn a_fetch_clears_the_readers_buffer(rt: HostRuntime) -> Result<(), Fail> {
             &image(0o0200, &[0o6014, second, 0o6012]),
             0o0200,
         );
-        for event in [
-            Event::Step,
-            Event::ReaderDone(0o101),
-            Event::Step,
-            Event::Step,
-        ] {
-            world.apply(event)?;
+        for event in &FETCHED {
+            world.apply(*event)?;
         }
         assert_eq!(rt; world.cpu().ac, word(ac));
     }

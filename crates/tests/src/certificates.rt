@@ -1,7 +1,5 @@
 //! Certificates: the program that prints HELLO, with one change or another.
 
-ghost use Rattle.std.specs.Prelude.{◌<◌};
-
 use certificate::{Certificate, CertificateFault, Version};
 use std::alloc::{AllocError, Allocator, Global};
 use std::test::Fail;
@@ -68,11 +66,11 @@ fn fault_with(
     alloc: Global,
     number: usize,
     line: &'static str,
-) -> Result<Option<CertificateFault>, AllocError>
-    requires { number < 35 }
-{
+) -> Result<Option<CertificateFault>, AllocError> {
     let mut lines = HELLO;
-    lines[number] = line;
+    if let Some(place) = lines.get_mut(number) {
+        *place = line;
+    }
     fault(alloc, lines.as_slice())
 }
 
@@ -87,48 +85,47 @@ fn certificates_are_read_and_written(rt: HostRuntime) -> Result<(), Fail> {
     Ok(())
 }
 
+/// Lines that would tell the same as a fact, or more, but are spelled otherwise.
+const OTHER_SPELLINGS: [&str; 10] = [
+    "fact 0201 ac 0000 link 10 offsets -",
+    "fact 0201 ac 0000 link 0 offsets 10",
+    "fact 0201 ac 0000,0001 link 0 offsets -",
+    "fact 0201 ac 0000-0000 link 0 offsets -",
+    "fact 0201 ac - link 0 offsets -",
+    "fact 201 ac 0000 link 0 offsets -",
+    "fact 0201 ac 0000 link 0 offsets -\r",
+    "fact 0201 ac 0000 mq 0000-7777 link 0 offsets -",
+    "fact 0201  ac 0000 link 0 offsets -",
+    "",
+];
+
 #[test]
 fn lines_have_one_spelling(rt: HostRuntime) -> Result<(), Fail> {
     let bad = Some(CertificateFault::BadLine(4));
-    for line in [
-        "fact 0201 ac 0000 link 10 offsets -",
-        "fact 0201 ac 0000 link 0 offsets 10",
-        "fact 0201 ac 0000,0001 link 0 offsets -",
-        "fact 0201 ac 0000-0000 link 0 offsets -",
-        "fact 0201 ac - link 0 offsets -",
-        "fact 201 ac 0000 link 0 offsets -",
-        "fact 0201 ac 0000 link 0 offsets -\r",
-        "fact 0201 ac 0000 mq 0000-7777 link 0 offsets -",
-        "fact 0201  ac 0000 link 0 offsets -",
-        "",
-    ] {
+    for line in &OTHER_SPELLINGS {
         assert_eq!(rt; fault_with(rt.alloc(), 3, line)?, bad);
     }
     Ok(())
 }
 
+/// The place of a line of HELLO, another line in its place, and the fault.
+const FAULTY: [(usize, &str, CertificateFault); 5] = [
+    (0, "PDP8-CERTIFICATE 3", CertificateFault::Version),
+    (0, "PDP8-CERTIFICATE 2", CertificateFault::BadLine(3)),
+    (1, "cell 0010 0224", CertificateFault::BadLine(2)),
+    (
+        4,
+        "fact 0201 ac 0000 link 0 offsets -",
+        CertificateFault::Order(5),
+    ),
+    (33, "end", CertificateFault::BadLine(35)),
+];
+
 #[test]
 fn faults_are_told_in_order(rt: HostRuntime) -> Result<(), Fail> {
-    assert_eq!(rt;
-        fault_with(rt.alloc(), 0, "PDP8-CERTIFICATE 3")?,
-        Some(CertificateFault::Version)
-    );
-    assert_eq!(rt;
-        fault_with(rt.alloc(), 0, "PDP8-CERTIFICATE 2")?,
-        Some(CertificateFault::BadLine(3))
-    );
-    assert_eq!(rt;
-        fault_with(rt.alloc(), 1, "cell 0010 0224")?,
-        Some(CertificateFault::BadLine(2))
-    );
-    assert_eq!(rt;
-        fault_with(rt.alloc(), 4, "fact 0201 ac 0000 link 0 offsets -")?,
-        Some(CertificateFault::Order(5))
-    );
-    assert_eq!(rt;
-        fault_with(rt.alloc(), 33, "end")?,
-        Some(CertificateFault::BadLine(35))
-    );
+    for (number, line, told) in &FAULTY {
+        assert_eq!(rt; fault_with(rt.alloc(), *number, line)?, Some(*told));
+    }
     let front = &HELLO[..34];
     assert_eq!(rt;
         fault(rt.alloc(), front)?,

@@ -252,19 +252,22 @@ fn a_word_taken_from_a_set_is_missed(rt: HostRuntime) -> Result<(), Fail> {
     Ok(())
 }
 
+/// For the number of a line of the certificate another line in its place, and the verdict.
+const CHANGED: [(usize, &str, &str); 5] = [
+    (1, "PDP8-CERTIFICATE 2", "certificate: BadLine 3"),
+    (1, "PDP8-CERTIFICATE 3", "certificate: Version"),
+    (2, "routine 0214 rank 00 sites - writes -", "V9 at 0207"),
+    (2, "routine 0214 rank 05 sites 0207 writes -", "yes"),
+    (13, "cell 0224 7774-7777", "V4 at 0205"),
+];
+
 #[test]
 fn changes_of_a_certificate_are_seen(rt: HostRuntime) -> Result<(), Fail> {
     let tape = tape(rt.alloc(), &[(0o200, &PROGRAM)])?;
-    for (number, line, wanted) in [
-        (1, "PDP8-CERTIFICATE 2", "certificate: BadLine 3"),
-        (1, "PDP8-CERTIFICATE 3", "certificate: Version"),
-        (2, "routine 0214 rank 00 sites - writes -", "V9 at 0207"),
-        (2, "routine 0214 rank 05 sites 0207 writes -", "yes"),
-        (13, "cell 0224 7774-7777", "V4 at 0205"),
-    ] {
-        let text = changed(rt.alloc(), HELLO.as_slice(), number, line)?;
+    for (number, line, wanted) in &CHANGED {
+        let text = changed(rt.alloc(), HELLO.as_slice(), *number, line)?;
         let said = verdict(rt.alloc(), tape.bytes(), DECLARED, &text)?;
-        assert_eq!(rt; said.as_str(), wanted, "line {number}");
+        assert_eq!(rt; said.as_str(), *wanted, "line {number}");
     }
     Ok(())
 }
@@ -416,6 +419,14 @@ fn nothing_is_written_where_no_guess_is_found(rt: HostRuntime) -> Result<(), Fai
     Ok(())
 }
 
+/// Last lines of the declaration, and the verdicts.
+const LAST_DECLARED: [(&str, &str); 4] = [
+    ("read 0010 0222-0231\n", "yes"),
+    ("read 0010 0222-0230\n", "V15 at 0206"),
+    ("read\n", "V15 at 0202"),
+    ("profile 8e\n", "yes"),
+];
+
 #[test]
 fn declarations_of_hello_are_judged(rt: HostRuntime) -> Result<(), Fail> {
     let tape = tape(rt.alloc(), &[(0o200, &PROGRAM)])?;
@@ -434,17 +445,12 @@ fn declarations_of_hello_are_judged(rt: HostRuntime) -> Result<(), Fail> {
         let said = verdict(rt.alloc(), tape.bytes(), declared.as_bytes(), &text)?;
         assert_eq!(rt; said.as_str(), wanted);
     }
-    for (reads, wanted) in [
-        ("read 0010 0222-0231\n", "yes"),
-        ("read 0010 0222-0230\n", "V15 at 0206"),
-        ("read\n", "V15 at 0202"),
-        ("profile 8e\n", "yes"),
-    ] {
+    for (reads, wanted) in &LAST_DECLARED {
         let declared = format!(in rt.alloc();
             "start 0200\nmain 0200-0213\nsub 0214 body 0215-0221 returns 0\nvar 0010 0224\npause 0212\n{reads}"
         )?;
         let said = verdict(rt.alloc(), tape.bytes(), declared.as_bytes(), &text)?;
-        assert_eq!(rt; said.as_str(), wanted);
+        assert_eq!(rt; said.as_str(), *wanted);
     }
     Ok(())
 }
@@ -473,40 +479,51 @@ const COMPUTED: [&str; 11] = [
     "end",
 ];
 
+/// The words of that program, from 0200 on.
+const COMPUTED_WORDS: [u16; 8] = [
+    0o7604, 0o7640, 0o1211, 0o1212, 0o3205, 0o0000, 0o7402, 0o7402,
+];
+
+/// For the number of a line of that certificate that is left out, the verdict.
+const COMPUTED_LEFT_OUT: [(usize, &str); 12] = [
+    (0, "yes"),
+    (1, "certificate: Version"),
+    (2, "V1 at 0200"),
+    (3, "V4 at 0200"),
+    (4, "V4 at 0201"),
+    (5, "V4 at 0201"),
+    (6, "V4 at 0203"),
+    (7, "V4 at 0203"),
+    (8, "V3 at 0205"),
+    (9, "V4 at 0205"),
+    (10, "V4 at 0205"),
+    (11, "certificate: BadLine 11"),
+];
+
+/// For the number of a line of that certificate another line in its place, and the verdict.
+const COMPUTED_CHANGED: [(usize, &str, &str); 4] = [
+    (5, "fact 0203 ac 0000 link 01 offsets -", "V4 at 0202"),
+    (6, "fact 0204 ac 5206 link 01 offsets -", "V4 at 0203"),
+    (8, "cell 0205 5206", "V4 at 0204"),
+    (8, "cell 0205 0000-7777", "V3 at 0205"),
+];
+
 #[test]
 fn computed_words_are_bounded(rt: HostRuntime) -> Result<(), Fail> {
-    let words = [
-        0o7604, 0o7640, 0o1211, 0o1212, 0o3205, 0o0000, 0o7402, 0o7402,
-    ];
-    let tape = tape(rt.alloc(), &[(0o200, &words), (0o211, &[0o0001, 0o5206])])?;
+    let tape = tape(
+        rt.alloc(),
+        &[(0o200, &COMPUTED_WORDS), (0o211, &[0o0001, 0o5206])],
+    )?;
     let declared = b"start 0200\nmain 0200-0207\nvar 0205\nstop 0206 0207\n";
-    for (number, wanted) in [
-        (0, "yes"),
-        (1, "certificate: Version"),
-        (2, "V1 at 0200"),
-        (3, "V4 at 0200"),
-        (4, "V4 at 0201"),
-        (5, "V4 at 0201"),
-        (6, "V4 at 0203"),
-        (7, "V4 at 0203"),
-        (8, "V3 at 0205"),
-        (9, "V4 at 0205"),
-        (10, "V4 at 0205"),
-        (11, "certificate: BadLine 11"),
-    ] {
-        let text = without(rt.alloc(), COMPUTED.as_slice(), number)?;
+    for (number, wanted) in &COMPUTED_LEFT_OUT {
+        let text = without(rt.alloc(), COMPUTED.as_slice(), *number)?;
         let said = verdict(rt.alloc(), tape.bytes(), declared, &text)?;
-        assert_eq!(rt; said.as_str(), wanted, "line {number}");
+        assert_eq!(rt; said.as_str(), *wanted, "line {number}");
     }
-    for (number, line, wanted) in [
-        (5, "fact 0203 ac 0000 link 01 offsets -", "V4 at 0202"),
-        (6, "fact 0204 ac 5206 link 01 offsets -", "V4 at 0203"),
-        (8, "cell 0205 5206", "V4 at 0204"),
-        (8, "cell 0205 0000-7777", "V3 at 0205"),
-    ] {
-        let text = changed(rt.alloc(), COMPUTED.as_slice(), number, line)?;
+    for (number, line, wanted) in &COMPUTED_CHANGED {
+        let text = changed(rt.alloc(), COMPUTED.as_slice(), *number, line)?;
         let said = verdict(rt.alloc(), tape.bytes(), declared, &text)?;
-        assert_eq!(rt; said.as_str(), wanted, "line {number}");
+        assert_eq!(rt; said.as_str(), *wanted, "line {number}");
     }
     Ok(())
 }
@@ -525,6 +542,14 @@ const ARGUMENT: [&str; 10] = [
     "end",
 ];
 
+/// By what the routine returns, a last line of the declaration, and the verdict.
+const ARGUMENT_DECLARED: [(&str, &str, &str); 4] = [
+    ("1", "", "yes"),
+    ("0", "", "V12 at 0213"),
+    ("1", "read 0202\n", "yes"),
+    ("1", "read 0203\n", "V15 at 0211"),
+];
+
 #[test]
 fn a_routine_returns_past_its_argument(rt: HostRuntime) -> Result<(), Fail> {
     let tape = tape(
@@ -535,17 +560,12 @@ fn a_routine_returns_past_its_argument(rt: HostRuntime) -> Result<(), Fail> {
         ],
     )?;
     let text = without(rt.alloc(), ARGUMENT.as_slice(), 0)?;
-    for (offsets, reads, wanted) in [
-        ("1", "", "yes"),
-        ("0", "", "V12 at 0213"),
-        ("1", "read 0202\n", "yes"),
-        ("1", "read 0203\n", "V15 at 0211"),
-    ] {
+    for (offsets, reads, wanted) in &ARGUMENT_DECLARED {
         let declared = format!(in rt.alloc();
             "start 0200\nmain 0200-0201 0203\nsub 0210 body 0211-0213 returns {offsets}\nstop 0203\n{reads}"
         )?;
         let said = verdict(rt.alloc(), tape.bytes(), declared.as_bytes(), &text)?;
-        assert_eq!(rt; said.as_str(), wanted);
+        assert_eq!(rt; said.as_str(), *wanted);
     }
     Ok(())
 }
@@ -641,12 +661,14 @@ fn a_routine_leaves_entries_alone(rt: HostRuntime) -> Result<(), Fail> {
     Ok(())
 }
 
+/// The words of a program that clears cells by auto-index, and runs into its own pointer.
+const POINTER_WORDS: [u16; 9] = [
+    0o7200, 0o1207, 0o3010, 0o3410, 0o2210, 0o5203, 0o7402, 0o0277, 0o7773,
+];
+
 #[test]
 fn pointers_stay_among_the_variables(rt: HostRuntime) -> Result<(), Fail> {
-    let words = [
-        0o7200, 0o1207, 0o3010, 0o3410, 0o2210, 0o5203, 0o7402, 0o0277, 0o7773,
-    ];
-    let bounded = tape(rt.alloc(), &[(0o200, &words)])?;
+    let bounded = tape(rt.alloc(), &[(0o200, &POINTER_WORDS)])?;
     let said = verdict(
         rt.alloc(),
         bounded.bytes(),
@@ -763,37 +785,40 @@ fn line_of(
     Ok((ended, out))
 }
 
+/// Lines of the declaration, the status and the line of the verdict.
+const VERDICTS: [(&str, Status, &str); 4] = [
+    (
+        "var 0010 0224\n",
+        Status::Done,
+        "yes: 17 body cells, 2 variable cells, 1 entries, 1 halts\n",
+    ),
+    (
+        "var 0000-0177 0224\n",
+        Status::Done,
+        "yes: 17 body cells, 129 variable cells, 1 entries, 1 halts\n",
+    ),
+    (
+        "var 0010 0224\nread 0010 0222-0231\n",
+        Status::Done,
+        "yes: 17 body cells, 2 variable cells, 1 entries, 1 halts, 9 read cells\n",
+    ),
+    (
+        "var 0010 0224\nread 0010 0222-0230\n",
+        Status::Refused,
+        "no: V15 at 0206\n",
+    ),
+];
+
 #[test]
 fn a_verdict_is_a_line(rt: HostRuntime) -> Result<(), Fail> {
     let tape = tape(rt.alloc(), &[(0o200, &PROGRAM)])?;
     let text = without(rt.alloc(), HELLO.as_slice(), 0)?;
-    for (lines, status, line) in [
-        (
-            "var 0010 0224\n",
-            Status::Done,
-            "yes: 17 body cells, 2 variable cells, 1 entries, 1 halts\n",
-        ),
-        (
-            "var 0000-0177 0224\n",
-            Status::Done,
-            "yes: 17 body cells, 129 variable cells, 1 entries, 1 halts\n",
-        ),
-        (
-            "var 0010 0224\nread 0010 0222-0231\n",
-            Status::Done,
-            "yes: 17 body cells, 2 variable cells, 1 entries, 1 halts, 9 read cells\n",
-        ),
-        (
-            "var 0010 0224\nread 0010 0222-0230\n",
-            Status::Refused,
-            "no: V15 at 0206\n",
-        ),
-    ] {
+    for (lines, status, line) in &VERDICTS {
         let declared = format!(in rt.alloc();
             "start 0200\nmain 0200-0213\nsub 0214 body 0215-0221 returns 0\npause 0212\n{lines}"
         )?;
         let (ended, out) = line_of(rt.alloc(), tape.bytes(), declared.as_bytes(), &text)?;
-        assert_eq!(rt; ended, Ok(status));
+        assert_eq!(rt; ended, Ok(*status));
         assert_eq!(rt; out.bytes(), line.as_bytes());
     }
     Ok(())
@@ -801,10 +826,10 @@ fn a_verdict_is_a_line(rt: HostRuntime) -> Result<(), Fail> {
 
 #[test]
 fn a_yes_counts_cells(rt: HostRuntime) -> Result<(), Fail> {
-    let words = [
-        0o7604, 0o7640, 0o1211, 0o1212, 0o3205, 0o0000, 0o7402, 0o7402,
-    ];
-    let computed = tape(rt.alloc(), &[(0o200, &words), (0o211, &[0o0001, 0o5206])])?;
+    let computed = tape(
+        rt.alloc(),
+        &[(0o200, &COMPUTED_WORDS), (0o211, &[0o0001, 0o5206])],
+    )?;
     let text = without(rt.alloc(), COMPUTED.as_slice(), 0)?;
     let declared = b"start 0200\nmain 0200-0207\nvar 0205\nstop 0206 0207\n";
     let (ended, out) = line_of(rt.alloc(), computed.bytes(), declared, &text)?;

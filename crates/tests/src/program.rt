@@ -6,21 +6,24 @@ use commands::status::Status;
 use std::alloc::Global;
 use std::test::Fail;
 
+/// Words that lack some that are needed.
+const TOO_FEW_WORDS: [&str; 10] = [
+    "pdp8 run",
+    "pdp8 dump",
+    "pdp8 assemble",
+    "pdp8 assemble out.bin",
+    "pdp8 list",
+    "pdp8 watch halt.bin halt.dcl",
+    "pdp8 check halt.bin halt.dcl",
+    "pdp8 declare halt.bin",
+    "pdp8 guess halt.bin halt.dcl",
+    "pdp8 migrate halt.cert",
+];
+
 #[test]
 fn missing_words_are_told(rt: HostRuntime) -> Result<(), Fail> {
     let told = "error: the following required arguments were not provided:";
-    for words in [
-        "pdp8 run",
-        "pdp8 dump",
-        "pdp8 assemble",
-        "pdp8 assemble out.bin",
-        "pdp8 list",
-        "pdp8 watch halt.bin halt.dcl",
-        "pdp8 check halt.bin halt.dcl",
-        "pdp8 declare halt.bin",
-        "pdp8 guess halt.bin halt.dcl",
-        "pdp8 migrate halt.cert",
-    ] {
+    for words in &TOO_FEW_WORDS {
         let end = run_program(rt.alloc(), words);
         assert_eq!(rt; end.status, Status::Words.code(), "{words}");
         assert!(rt; end.told.starts_with(told.as_bytes()), "{words}");
@@ -28,35 +31,38 @@ fn missing_words_are_told(rt: HostRuntime) -> Result<(), Fail> {
     }
     Ok(())
 }
+
+/// Words and what is told of the bad one.
+const BAD_WORDS: [(&str, &str); 12] = [
+    ("pdp8 run a b", "error: unexpected argument 'b' found"),
+    ("pdp8 dump a b", "error: unexpected argument 'b' found"),
+    ("pdp8 watch a b c d", "error: unexpected argument 'd' found"),
+    ("pdp8 declare a b c", "error: unexpected argument 'c' found"),
+    ("pdp8 guess a b c d", "error: unexpected argument 'd' found"),
+    ("pdp8 migrate a b c", "error: unexpected argument 'c' found"),
+    ("pdp8 run a --start 8", "error: bad value for '--start': "),
+    ("pdp8 fly", "error: unrecognized subcommand 'fly'"),
+    (
+        "pdp8 run a --fast",
+        "error: unexpected argument '--fast' found",
+    ),
+    (
+        "pdp8 dump a --trace",
+        "error: unexpected argument '--trace' found",
+    ),
+    (
+        "pdp8 list a --start 1",
+        "error: unexpected argument '--start' found",
+    ),
+    (
+        "pdp8 run a --steps",
+        "error: a value is required for '--steps <N>'",
+    ),
+];
 
 #[test]
 fn bad_words_are_told(rt: HostRuntime) -> Result<(), Fail> {
-    for (words, told) in [
-        ("pdp8 run a b", "error: unexpected argument 'b' found"),
-        ("pdp8 dump a b", "error: unexpected argument 'b' found"),
-        ("pdp8 watch a b c d", "error: unexpected argument 'd' found"),
-        ("pdp8 declare a b c", "error: unexpected argument 'c' found"),
-        ("pdp8 guess a b c d", "error: unexpected argument 'd' found"),
-        ("pdp8 migrate a b c", "error: unexpected argument 'c' found"),
-        ("pdp8 run a --start 8", "error: bad value for '--start': "),
-        ("pdp8 fly", "error: unrecognized subcommand 'fly'"),
-        (
-            "pdp8 run a --fast",
-            "error: unexpected argument '--fast' found",
-        ),
-        (
-            "pdp8 dump a --trace",
-            "error: unexpected argument '--trace' found",
-        ),
-        (
-            "pdp8 list a --start 1",
-            "error: unexpected argument '--start' found",
-        ),
-        (
-            "pdp8 run a --steps",
-            "error: a value is required for '--steps <N>'",
-        ),
-    ] {
+    for (words, told) in &BAD_WORDS {
         let end = run_program(rt.alloc(), words);
         assert_eq!(rt; end.status, Status::Words.code(), "{words}");
         assert!(rt; end.told.starts_with(told.as_bytes()), "{words}");
@@ -65,29 +71,38 @@ fn bad_words_are_told(rt: HostRuntime) -> Result<(), Fail> {
     Ok(())
 }
 
+/// What is told of a bad machine.
+const BAD_PROFILE: &str = "error: bad value for '--profile': it is 8i or 8e\n";
+
+/// What is told of a bad number of steps.
+const BAD_STEPS: &str = "error: bad value for '--steps': it is a number from 1 to 1000000\n";
+
+/// What is told where standard input is asked for twice.
+pub(crate) const SHARED_INPUT: &str = "error: '-' stands for standard input in one place alone\n";
+
+/// Words and what is told of the bad value.
+const BAD_VALUES: [(&str, &str); 16] = [
+    ("pdp8 run a --profile 8f", BAD_PROFILE),
+    ("pdp8 dump a --profile 8", BAD_PROFILE),
+    ("pdp8 list a --profile pdp8", BAD_PROFILE),
+    ("pdp8 assemble o a --profile 8E", BAD_PROFILE),
+    ("pdp8 run a --steps 0", BAD_STEPS),
+    ("pdp8 run a --steps 1000001", BAD_STEPS),
+    ("pdp8 run a --steps +1", BAD_STEPS),
+    ("pdp8 run a --events b --steps x", BAD_STEPS),
+    ("pdp8 run - --events -", SHARED_INPUT),
+    ("pdp8 watch - - c", SHARED_INPUT),
+    ("pdp8 watch - b -", SHARED_INPUT),
+    ("pdp8 watch a - -", SHARED_INPUT),
+    ("pdp8 check - b -", SHARED_INPUT),
+    ("pdp8 guess - - -", SHARED_INPUT),
+    ("pdp8 list - a -", SHARED_INPUT),
+    ("pdp8 assemble - - -", SHARED_INPUT),
+];
+
 #[test]
 fn bad_values_are_told(rt: HostRuntime) -> Result<(), Fail> {
-    let profile = "error: bad value for '--profile': it is 8i or 8e\n";
-    let steps = "error: bad value for '--steps': it is a number from 1 to 1000000\n";
-    let shared = "error: '-' stands for standard input in one place alone\n";
-    for (words, told) in [
-        ("pdp8 run a --profile 8f", profile),
-        ("pdp8 dump a --profile 8", profile),
-        ("pdp8 list a --profile pdp8", profile),
-        ("pdp8 assemble o a --profile 8E", profile),
-        ("pdp8 run a --steps 0", steps),
-        ("pdp8 run a --steps 1000001", steps),
-        ("pdp8 run a --steps +1", steps),
-        ("pdp8 run a --events b --steps x", steps),
-        ("pdp8 run - --events -", shared),
-        ("pdp8 watch - - c", shared),
-        ("pdp8 watch - b -", shared),
-        ("pdp8 watch a - -", shared),
-        ("pdp8 check - b -", shared),
-        ("pdp8 guess - - -", shared),
-        ("pdp8 list - a -", shared),
-        ("pdp8 assemble - - -", shared),
-    ] {
+    for (words, told) in &BAD_VALUES {
         let end = run_program(rt.alloc(), words);
         assert_eq!(rt; end.status, Status::Words.code(), "{words}");
         assert_eq!(rt; end.told.as_slice(), told.as_bytes(), "{words}");
@@ -96,26 +111,33 @@ fn bad_values_are_told(rt: HostRuntime) -> Result<(), Fail> {
     Ok(())
 }
 
+/// How the run of a halt is told.
+const HALTED: &str = "HALT 0200 AC=0000 L=0 PC=0201 STEPS=1\n";
+
+/// The listing of a halt.
+const LISTING: &str = "            *200\n0200  7402  HLT\n            $\n\n";
+
+/// Words, the status and what is printed.
+const CARRIED_OUT: [(&str, Status, &str); 6] = [
+    ("pdp8 run halt.bin", Status::Done, HALTED),
+    (
+        "pdp8 run halt.bin --steps 1000000 --start 0200",
+        Status::Done,
+        HALTED,
+    ),
+    ("pdp8 run halt.bin --events step.ev", Status::Done, HALTED),
+    (
+        "pdp8 dump halt.bin --profile 8e",
+        Status::Done,
+        "0200 7402 HLT\n",
+    ),
+    ("pdp8 list -", Status::Done, LISTING),
+    ("pdp8 list halt.pal --profile 8i", Status::Done, LISTING),
+];
+
 #[test]
 fn words_are_carried_out(rt: HostRuntime) -> Result<(), Fail> {
-    let halted = "HALT 0200 AC=0000 L=0 PC=0201 STEPS=1\n";
-    let listing = "            *200\n0200  7402  HLT\n            $\n\n";
-    for (words, status, printed) in [
-        ("pdp8 run halt.bin", Status::Done, halted),
-        (
-            "pdp8 run halt.bin --steps 1000000 --start 0200",
-            Status::Done,
-            halted,
-        ),
-        ("pdp8 run halt.bin --events step.ev", Status::Done, halted),
-        (
-            "pdp8 dump halt.bin --profile 8e",
-            Status::Done,
-            "0200 7402 HLT\n",
-        ),
-        ("pdp8 list -", Status::Done, listing),
-        ("pdp8 list halt.pal --profile 8i", Status::Done, listing),
-    ] {
+    for (words, status, printed) in &CARRIED_OUT {
         let end = run_program(rt.alloc(), words);
         assert_eq!(rt; end.status, status.code(), "{words}");
         assert_eq!(rt; end.printed.as_slice(), printed.as_bytes(), "{words}");
@@ -123,31 +145,34 @@ fn words_are_carried_out(rt: HostRuntime) -> Result<(), Fail> {
     }
     Ok(())
 }
+
+/// Words, the status and the verdict that is printed.
+const VERDICTS: [(&str, Status, &str); 4] = [
+    (
+        "pdp8 watch halt.bin halt.dcl step.ev",
+        Status::Done,
+        "clean\n",
+    ),
+    (
+        "pdp8 watch halt.bin wild.dcl step.ev",
+        Status::Refused,
+        "broken: event 0 rule 5\n",
+    ),
+    (
+        "pdp8 check halt.bin halt.dcl halt.cert",
+        Status::Done,
+        "yes: 1 body cells, 0 variable cells, 0 entries, 1 halts\n",
+    ),
+    (
+        "pdp8 check halt.bin wild.dcl halt.cert",
+        Status::Refused,
+        "no: V13 at 0200\n",
+    ),
+];
 
 #[test]
 fn verdicts_are_printed(rt: HostRuntime) -> Result<(), Fail> {
-    for (words, status, printed) in [
-        (
-            "pdp8 watch halt.bin halt.dcl step.ev",
-            Status::Done,
-            "clean\n",
-        ),
-        (
-            "pdp8 watch halt.bin wild.dcl step.ev",
-            Status::Refused,
-            "broken: event 0 rule 5\n",
-        ),
-        (
-            "pdp8 check halt.bin halt.dcl halt.cert",
-            Status::Done,
-            "yes: 1 body cells, 0 variable cells, 0 entries, 1 halts\n",
-        ),
-        (
-            "pdp8 check halt.bin wild.dcl halt.cert",
-            Status::Refused,
-            "no: V13 at 0200\n",
-        ),
-    ] {
+    for (words, status, printed) in &VERDICTS {
         let end = run_program(rt.alloc(), words);
         assert_eq!(rt; end.status, status.code(), "{words}");
         assert_eq!(rt; end.printed.as_slice(), printed.as_bytes(), "{words}");
@@ -156,18 +181,21 @@ fn verdicts_are_printed(rt: HostRuntime) -> Result<(), Fail> {
     Ok(())
 }
 
+/// Words that ask for help.
+const HELP: [&str; 8] = [
+    "pdp8 help",
+    "pdp8 --help",
+    "pdp8 -h",
+    "pdp8 help run",
+    "pdp8 list -h",
+    "pdp8 help declare",
+    "pdp8 help guess",
+    "pdp8 help migrate",
+];
+
 #[test]
 fn help_is_printed(rt: HostRuntime) -> Result<(), Fail> {
-    for words in [
-        "pdp8 help",
-        "pdp8 --help",
-        "pdp8 -h",
-        "pdp8 help run",
-        "pdp8 list -h",
-        "pdp8 help declare",
-        "pdp8 help guess",
-        "pdp8 help migrate",
-    ] {
+    for words in &HELP {
         let end = run_program(rt.alloc(), words);
         assert_eq!(rt; end.status, Status::Done.code(), "{words}");
         assert!(rt; end.told.is_empty() && !end.printed.is_empty(), "{words}");
@@ -186,125 +214,142 @@ fn is_refused(alloc: Global, words: &str, status: Status, told: &str, opened: &s
         && end.written.is_empty()
 }
 
+/// Words with a file that cannot be read, and the files that are opened.
+const UNREAD_FILES: [(&str, &str); 16] = [
+    ("pdp8 run absent", "absent "),
+    ("pdp8 run bad.bin --events absent", "bad.bin absent "),
+    ("pdp8 dump failing", "failing "),
+    ("pdp8 list bad.pal absent", "bad.pal absent "),
+    ("pdp8 list bad.pal failing", "bad.pal failing "),
+    ("pdp8 watch bad.bin absent bad.ev", "bad.bin absent "),
+    (
+        "pdp8 watch bad.bin bad.dcl absent",
+        "bad.bin bad.dcl absent ",
+    ),
+    (
+        "pdp8 check bad.bin bad.dcl absent",
+        "bad.bin bad.dcl absent ",
+    ),
+    ("pdp8 assemble o.bin absent bad.pal", "o.bin absent "),
+    ("pdp8 declare absent o.dcl", "absent "),
+    ("pdp8 declare failing o.dcl", "failing o.dcl "),
+    ("pdp8 guess absent bad.dcl o.cert", "absent "),
+    ("pdp8 guess bad.bin absent o.cert", "bad.bin absent "),
+    (
+        "pdp8 guess halt.bin failing o.cert",
+        "halt.bin failing o.cert ",
+    ),
+    ("pdp8 migrate absent o.cert", "absent "),
+    ("pdp8 migrate failing o.cert", "failing o.cert "),
+];
+
 #[test]
 fn files_are_opened_in_order_before_any_is_read(rt: HostRuntime) -> Result<(), Fail> {
     let told = "pdp8: device: ReadFault\n";
-    for (words, opened) in [
-        ("pdp8 run absent", "absent "),
-        ("pdp8 run bad.bin --events absent", "bad.bin absent "),
-        ("pdp8 dump failing", "failing "),
-        ("pdp8 list bad.pal absent", "bad.pal absent "),
-        ("pdp8 list bad.pal failing", "bad.pal failing "),
-        ("pdp8 watch bad.bin absent bad.ev", "bad.bin absent "),
-        (
-            "pdp8 watch bad.bin bad.dcl absent",
-            "bad.bin bad.dcl absent ",
-        ),
-        (
-            "pdp8 check bad.bin bad.dcl absent",
-            "bad.bin bad.dcl absent ",
-        ),
-        ("pdp8 assemble o.bin absent bad.pal", "o.bin absent "),
-        ("pdp8 declare absent o.dcl", "absent "),
-        ("pdp8 declare failing o.dcl", "failing o.dcl "),
-        ("pdp8 guess absent bad.dcl o.cert", "absent "),
-        ("pdp8 guess bad.bin absent o.cert", "bad.bin absent "),
-        (
-            "pdp8 guess halt.bin failing o.cert",
-            "halt.bin failing o.cert ",
-        ),
-        ("pdp8 migrate absent o.cert", "absent "),
-        ("pdp8 migrate failing o.cert", "failing o.cert "),
-    ] {
+    for (words, opened) in &UNREAD_FILES {
         let refused = is_refused(rt.alloc(), words, Status::Device, told, opened);
         assert!(rt; refused, "{words}");
     }
     Ok(())
 }
+
+/// Words with a file that cannot be made or written, and the files that are opened.
+const UNWRITTEN_FILES: [(&str, &str); 8] = [
+    ("pdp8 assemble absent/o bad.pal", "absent/o "),
+    ("pdp8 assemble failing halt.pal", "failing halt.pal "),
+    ("pdp8 declare bad.bin absent/o", "bad.bin absent/o "),
+    ("pdp8 declare halt.bin failing", "halt.bin failing "),
+    (
+        "pdp8 guess bad.bin bad.dcl absent/o",
+        "bad.bin bad.dcl absent/o ",
+    ),
+    (
+        "pdp8 guess halt.bin halt.dcl failing",
+        "halt.bin halt.dcl failing ",
+    ),
+    ("pdp8 migrate bad.cert absent/o", "bad.cert absent/o "),
+    ("pdp8 migrate halt.cert failing", "halt.cert failing "),
+];
 
 #[test]
 fn files_that_cannot_be_made_or_written_are_told(rt: HostRuntime) -> Result<(), Fail> {
     let told = "pdp8: device: WriteFault\n";
-    for (words, opened) in [
-        ("pdp8 assemble absent/o bad.pal", "absent/o "),
-        ("pdp8 assemble failing halt.pal", "failing halt.pal "),
-        ("pdp8 declare bad.bin absent/o", "bad.bin absent/o "),
-        ("pdp8 declare halt.bin failing", "halt.bin failing "),
-        (
-            "pdp8 guess bad.bin bad.dcl absent/o",
-            "bad.bin bad.dcl absent/o ",
-        ),
-        (
-            "pdp8 guess halt.bin halt.dcl failing",
-            "halt.bin halt.dcl failing ",
-        ),
-        ("pdp8 migrate bad.cert absent/o", "bad.cert absent/o "),
-        ("pdp8 migrate halt.cert failing", "halt.cert failing "),
-    ] {
+    for (words, opened) in &UNWRITTEN_FILES {
         let refused = is_refused(rt.alloc(), words, Status::Device, told, opened);
         assert!(rt; refused, "{words}");
     }
     Ok(())
 }
 
+/// Words with bad files, what is told of the first, and the files that are opened.
+const FAULTY_INPUTS: [(&str, &str, &str); 5] = [
+    // Without words the tape is that of standard input, which has none here.
+    ("pdp8", "pdp8: tape: NoOrigin\n", ""),
+    (
+        "pdp8 run bad.bin --events bad.ev",
+        "pdp8: tape: NoWord\n",
+        "bad.bin bad.ev ",
+    ),
+    (
+        "pdp8 watch bad.bin bad.dcl bad.ev",
+        "pdp8: tape: NoWord\n",
+        "bad.bin bad.dcl bad.ev ",
+    ),
+    (
+        "pdp8 watch halt.bin bad.dcl failing",
+        "pdp8: declaration: BadLine 1\n",
+        "halt.bin bad.dcl failing ",
+    ),
+    // The tape's file is made before the source is looked at.
+    (
+        "pdp8 assemble o.bin bad.pal",
+        "pdp8: source: IR 1 1\n",
+        "o.bin bad.pal ",
+    ),
+];
+
 #[test]
 fn the_first_input_with_a_fault_is_told(rt: HostRuntime) -> Result<(), Fail> {
-    let tape = "pdp8: tape: NoWord\n";
-    let declaration = "pdp8: declaration: BadLine 1\n";
-    let source = "pdp8: source: IR 1 1\n";
-    for (words, told, opened) in [
-        // Without words the tape is that of standard input, which has none here.
-        ("pdp8", "pdp8: tape: NoOrigin\n", ""),
-        ("pdp8 run bad.bin --events bad.ev", tape, "bad.bin bad.ev "),
-        (
-            "pdp8 watch bad.bin bad.dcl bad.ev",
-            tape,
-            "bad.bin bad.dcl bad.ev ",
-        ),
-        (
-            "pdp8 watch halt.bin bad.dcl failing",
-            declaration,
-            "halt.bin bad.dcl failing ",
-        ),
-        // The tape's file is made before the source is looked at.
-        ("pdp8 assemble o.bin bad.pal", source, "o.bin bad.pal "),
-    ] {
+    for (words, told, opened) in &FAULTY_INPUTS {
         let refused = is_refused(rt.alloc(), words, Status::Refused, told, opened);
         assert!(rt; refused, "{words}");
     }
     Ok(())
 }
 
+/// Words with bad files, what is told of the first, and the files that are opened.
+const BAD_INPUTS: [(&str, &str, &str); 5] = [
+    // The file of what comes out is made before anything is looked at, and stays empty.
+    (
+        "pdp8 declare bad.bin o.dcl",
+        "pdp8: tape: NoWord\n",
+        "bad.bin o.dcl ",
+    ),
+    (
+        "pdp8 guess bad.bin bad.dcl o.cert",
+        "pdp8: tape: NoWord\n",
+        "bad.bin bad.dcl o.cert ",
+    ),
+    (
+        "pdp8 guess halt.bin bad.dcl o.cert",
+        "pdp8: declaration: BadLine 1\n",
+        "halt.bin bad.dcl o.cert ",
+    ),
+    (
+        "pdp8 guess halt.bin wild.dcl o.cert",
+        "pdp8: guess: Stuck 0200\n",
+        "halt.bin wild.dcl o.cert ",
+    ),
+    (
+        "pdp8 migrate bad.cert o.cert",
+        "pdp8: certificate: BadLine 2\n",
+        "bad.cert o.cert ",
+    ),
+];
+
 #[test]
 fn nothing_is_made_of_a_bad_input(rt: HostRuntime) -> Result<(), Fail> {
-    for (words, told, opened) in [
-        // The file of what comes out is made before anything is looked at, and stays empty.
-        (
-            "pdp8 declare bad.bin o.dcl",
-            "pdp8: tape: NoWord\n",
-            "bad.bin o.dcl ",
-        ),
-        (
-            "pdp8 guess bad.bin bad.dcl o.cert",
-            "pdp8: tape: NoWord\n",
-            "bad.bin bad.dcl o.cert ",
-        ),
-        (
-            "pdp8 guess halt.bin bad.dcl o.cert",
-            "pdp8: declaration: BadLine 1\n",
-            "halt.bin bad.dcl o.cert ",
-        ),
-        (
-            "pdp8 guess halt.bin wild.dcl o.cert",
-            "pdp8: guess: Stuck 0200\n",
-            "halt.bin wild.dcl o.cert ",
-        ),
-        (
-            "pdp8 migrate bad.cert o.cert",
-            "pdp8: certificate: BadLine 2\n",
-            "bad.cert o.cert ",
-        ),
-    ] {
+    for (words, told, opened) in &BAD_INPUTS {
         let refused = is_refused(rt.alloc(), words, Status::Refused, told, opened);
         assert!(rt; refused, "{words}");
     }
@@ -396,23 +441,26 @@ fn the_guess_goes_where_it_is_asked_for(rt: HostRuntime) -> Result<(), Fail> {
     Ok(())
 }
 
+/// Words by which something is printed.
+const WITH_OUTPUT: [&str; 13] = [
+    "pdp8 run halt.bin",
+    "pdp8 run halt.bin --trace",
+    "pdp8 run halt.bin --events step.ev",
+    "pdp8 dump halt.bin",
+    "pdp8 assemble - halt.pal",
+    "pdp8 list halt.pal",
+    "pdp8 watch halt.bin halt.dcl step.ev",
+    "pdp8 check halt.bin halt.dcl halt.cert",
+    "pdp8 declare halt.bin -",
+    "pdp8 guess halt.bin halt.dcl -",
+    "pdp8 migrate halt.cert -",
+    "pdp8 help",
+    "pdp8 run --help",
+];
+
 #[test]
 fn an_output_that_fails_is_told(rt: HostRuntime) -> Result<(), Fail> {
-    for words in [
-        "pdp8 run halt.bin",
-        "pdp8 run halt.bin --trace",
-        "pdp8 run halt.bin --events step.ev",
-        "pdp8 dump halt.bin",
-        "pdp8 assemble - halt.pal",
-        "pdp8 list halt.pal",
-        "pdp8 watch halt.bin halt.dcl step.ev",
-        "pdp8 check halt.bin halt.dcl halt.cert",
-        "pdp8 declare halt.bin -",
-        "pdp8 guess halt.bin halt.dcl -",
-        "pdp8 migrate halt.cert -",
-        "pdp8 help",
-        "pdp8 run --help",
-    ] {
+    for words in &WITH_OUTPUT {
         let end = run_with_room(rt.alloc(), words, 0, usize::MAX);
         assert_eq!(rt; end.status, 3, "{words}");
         assert_eq!(rt;
@@ -443,19 +491,22 @@ fn the_lines_of_a_trace_before_a_failure_are_there(rt: HostRuntime) -> Result<()
     Ok(())
 }
 
+/// Words of which something is told, and the status.
+const STATUSES: [(&str, u8); 7] = [
+    ("pdp8 run", 2),
+    ("pdp8 run a --steps 0", 2),
+    ("pdp8 fly", 2),
+    ("pdp8 run bad.bin", 1),
+    ("pdp8 list bad.pal", 1),
+    ("pdp8 run absent", 3),
+    ("pdp8 assemble absent/o halt.pal", 3),
+];
+
 #[test]
 fn a_standard_error_that_fails_leaves_the_status(rt: HostRuntime) -> Result<(), Fail> {
-    for (words, status) in [
-        ("pdp8 run", 2),
-        ("pdp8 run a --steps 0", 2),
-        ("pdp8 fly", 2),
-        ("pdp8 run bad.bin", 1),
-        ("pdp8 list bad.pal", 1),
-        ("pdp8 run absent", 3),
-        ("pdp8 assemble absent/o halt.pal", 3),
-    ] {
+    for (words, status) in &STATUSES {
         let end = run_with_room(rt.alloc(), words, usize::MAX, 0);
-        assert_eq!(rt; end.status, status, "{words}");
+        assert_eq!(rt; end.status, *status, "{words}");
         assert!(rt; end.told.is_empty() && end.printed.is_empty(), "{words}");
     }
     Ok(())

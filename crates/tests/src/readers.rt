@@ -178,41 +178,44 @@ fn with(alloc: Global, number: usize, line: &str) -> Result<Option<CertificateFa
     told(alloc, &changed)
 }
 
+/// Lines that spell no routine.
+const NO_ROUTINES: [&str; 31] = [
+    "routine 214 rank 00 sites 0207 writes -",
+    "routine 00214 rank 00 sites 0207 writes -",
+    "routine 0218 rank 00 sites 0207 writes -",
+    "routine 0214 rank 0 sites 0207 writes -",
+    "routine 0214 rank 000 sites 0207 writes -",
+    "routine 0214 rank 08 sites 0207 writes -",
+    "routine 0214 rank 80 sites 0207 writes -",
+    "routine 0214 rank 00 sites 0207,0206 writes -",
+    "routine 0214 rank 00 sites 0207,0207 writes -",
+    "routine 0214 rank 00 sites 0206,0207 writes -",
+    "routine 0214 rank 00 sites 0206-0207,0210 writes -",
+    "routine 0214 rank 00 sites 0207-0207 writes -",
+    "routine 0214 rank 00 sites 0207-0206 writes -",
+    "routine 0214 rank 00 sites 0207, writes -",
+    "routine 0214 rank 00 sites ,0207 writes -",
+    "routine 0214 rank 00 sites 0207- writes -",
+    "routine 0214 rank 00 sites -0207 writes -",
+    "routine 0214 rank 00 sites 207 writes -",
+    "routine 0214 rank 00 sites  writes -",
+    "routine 0214 rank 00 sites 0207 writes",
+    "routine 0214 rank 00 sites 0207 writes ",
+    "routine 0214 rank 00 sites 0207 writes --",
+    "routine 0214 rank 00 sites 0207 writes - ",
+    "routine 0214 rank 00 sites 0207 writes -\r",
+    "routine 0214 rank 00 sites 0207 writes -\0",
+    "routine 0214  rank 00 sites 0207 writes -",
+    "routine 0214 rank 00 sites\t0207 writes -",
+    " routine 0214 rank 00 sites 0207 writes -",
+    "Routine 0214 rank 00 sites 0207 writes -",
+    "routine",
+    "",
+];
+
 #[test]
 fn routines_that_no_line_spells(rt: HostRuntime) -> Result<(), Fail> {
-    for line in [
-        "routine 214 rank 00 sites 0207 writes -",
-        "routine 00214 rank 00 sites 0207 writes -",
-        "routine 0218 rank 00 sites 0207 writes -",
-        "routine 0214 rank 0 sites 0207 writes -",
-        "routine 0214 rank 000 sites 0207 writes -",
-        "routine 0214 rank 08 sites 0207 writes -",
-        "routine 0214 rank 80 sites 0207 writes -",
-        "routine 0214 rank 00 sites 0207,0206 writes -",
-        "routine 0214 rank 00 sites 0207,0207 writes -",
-        "routine 0214 rank 00 sites 0206,0207 writes -",
-        "routine 0214 rank 00 sites 0206-0207,0210 writes -",
-        "routine 0214 rank 00 sites 0207-0207 writes -",
-        "routine 0214 rank 00 sites 0207-0206 writes -",
-        "routine 0214 rank 00 sites 0207, writes -",
-        "routine 0214 rank 00 sites ,0207 writes -",
-        "routine 0214 rank 00 sites 0207- writes -",
-        "routine 0214 rank 00 sites -0207 writes -",
-        "routine 0214 rank 00 sites 207 writes -",
-        "routine 0214 rank 00 sites  writes -",
-        "routine 0214 rank 00 sites 0207 writes",
-        "routine 0214 rank 00 sites 0207 writes ",
-        "routine 0214 rank 00 sites 0207 writes --",
-        "routine 0214 rank 00 sites 0207 writes - ",
-        "routine 0214 rank 00 sites 0207 writes -\r",
-        "routine 0214 rank 00 sites 0207 writes -\0",
-        "routine 0214  rank 00 sites 0207 writes -",
-        "routine 0214 rank 00 sites\t0207 writes -",
-        " routine 0214 rank 00 sites 0207 writes -",
-        "Routine 0214 rank 00 sites 0207 writes -",
-        "routine",
-        "",
-    ] {
+    for line in &NO_ROUTINES {
         assert_eq!(rt;
             with(rt.alloc(), 2, line)?,
             Some(CertificateFault::BadLine(2))
@@ -232,30 +235,33 @@ fn routines_that_a_line_spells(rt: HostRuntime) -> Result<(), Fail> {
     Ok(())
 }
 
+/// Lines that spell no fact.
+const NO_FACTS: [&str; 20] = [
+    "fact 201 ac 0000 link 0 offsets -",
+    "fact 0201 ac - link 0 offsets -",
+    "fact 0201 ac  link 0 offsets -",
+    "fact 0201 ac 0000,0001 link 0 offsets -",
+    "fact 0201 ac 0000 mq 0000-7777 link 0 offsets -",
+    "fact 0201 ac 0000 link - offsets -",
+    "fact 0201 ac 0000 link  offsets -",
+    "fact 0201 ac 0000 link 2 offsets -",
+    "fact 0201 ac 0000 link 10 offsets -",
+    "fact 0201 ac 0000 link 00 offsets -",
+    "fact 0201 ac 0000 link 010 offsets -",
+    "fact 0201 ac 0000 link 0 offsets 10",
+    "fact 0201 ac 0000 link 0 offsets 11",
+    "fact 0201 ac 0000 link 0 offsets 8",
+    "fact 0201 ac 0000 link 0 offsets 0,1",
+    "fact 0201 ac 0000 link 0 offsets ",
+    "fact 0201 ac 0000 link 0 offsets -0",
+    "fact 0201 ac 0000 link 0",
+    "fact 0201 link 0 ac 0000 offsets -",
+    "exit 0201 0 ac 0000 link 0 offsets -",
+];
+
 #[test]
 fn facts_that_no_line_spells(rt: HostRuntime) -> Result<(), Fail> {
-    for line in [
-        "fact 201 ac 0000 link 0 offsets -",
-        "fact 0201 ac - link 0 offsets -",
-        "fact 0201 ac  link 0 offsets -",
-        "fact 0201 ac 0000,0001 link 0 offsets -",
-        "fact 0201 ac 0000 mq 0000-7777 link 0 offsets -",
-        "fact 0201 ac 0000 link - offsets -",
-        "fact 0201 ac 0000 link  offsets -",
-        "fact 0201 ac 0000 link 2 offsets -",
-        "fact 0201 ac 0000 link 10 offsets -",
-        "fact 0201 ac 0000 link 00 offsets -",
-        "fact 0201 ac 0000 link 010 offsets -",
-        "fact 0201 ac 0000 link 0 offsets 10",
-        "fact 0201 ac 0000 link 0 offsets 11",
-        "fact 0201 ac 0000 link 0 offsets 8",
-        "fact 0201 ac 0000 link 0 offsets 0,1",
-        "fact 0201 ac 0000 link 0 offsets ",
-        "fact 0201 ac 0000 link 0 offsets -0",
-        "fact 0201 ac 0000 link 0",
-        "fact 0201 link 0 ac 0000 offsets -",
-        "exit 0201 0 ac 0000 link 0 offsets -",
-    ] {
+    for line in &NO_FACTS {
         assert_eq!(rt;
             with(rt.alloc(), 4, line)?,
             Some(CertificateFault::BadLine(4))
@@ -270,26 +276,29 @@ fn facts_that_no_line_spells(rt: HostRuntime) -> Result<(), Fail> {
     Ok(())
 }
 
+/// Lines that spell no cell and no equation.
+const NO_DETAILS: [&str; 16] = [
+    "cell 10 0224",
+    "cell 0010 -",
+    "cell 0010 ",
+    "cell 0010",
+    "cell 0010 0224 ",
+    "cell AC 0224",
+    "cell 0010 0224,0223",
+    "equal 0010 0010 0000",
+    "equal 0224 0010 0231",
+    "equal 0010 AC 0231",
+    "equal AC AC 0000",
+    "equal 0010 0224 231",
+    "equal 0010 0224 00231",
+    "equal 0010 0224 -0231",
+    "equal 0010 0224",
+    "equal ac 0224 0231",
+];
+
 #[test]
 fn details_that_no_line_spells(rt: HostRuntime) -> Result<(), Fail> {
-    for line in [
-        "cell 10 0224",
-        "cell 0010 -",
-        "cell 0010 ",
-        "cell 0010",
-        "cell 0010 0224 ",
-        "cell AC 0224",
-        "cell 0010 0224,0223",
-        "equal 0010 0010 0000",
-        "equal 0224 0010 0231",
-        "equal 0010 AC 0231",
-        "equal AC AC 0000",
-        "equal 0010 0224 231",
-        "equal 0010 0224 00231",
-        "equal 0010 0224 -0231",
-        "equal 0010 0224",
-        "equal ac 0224 0231",
-    ] {
+    for line in &NO_DETAILS {
         assert_eq!(rt;
             with(rt.alloc(), 8, line)?,
             Some(CertificateFault::BadLine(8))
@@ -305,19 +314,22 @@ fn details_that_no_line_spells(rt: HostRuntime) -> Result<(), Fail> {
     Ok(())
 }
 
+/// Lines that spell no exit and no end.
+const NO_EXITS: [&str; 9] = [
+    "exit 0214 8 ac 0000 link 0",
+    "exit 0214 00 ac 0000 link 0",
+    "exit 0214 - ac 0000 link 0",
+    "exit 214 0 ac 0000 link 0",
+    "exit 0214 0 ac - link 0",
+    "exit 0214 0 ac 0000 link 0 offsets -",
+    "exit 0214 0 ac 0000 mq 0000-7777 link 0",
+    "end ",
+    "END",
+];
+
 #[test]
 fn exits_that_no_line_spells(rt: HostRuntime) -> Result<(), Fail> {
-    for line in [
-        "exit 0214 8 ac 0000 link 0",
-        "exit 0214 00 ac 0000 link 0",
-        "exit 0214 - ac 0000 link 0",
-        "exit 214 0 ac 0000 link 0",
-        "exit 0214 0 ac - link 0",
-        "exit 0214 0 ac 0000 link 0 offsets -",
-        "exit 0214 0 ac 0000 mq 0000-7777 link 0",
-        "end ",
-        "END",
-    ] {
+    for line in &NO_EXITS {
         assert_eq!(rt;
             with(rt.alloc(), 34, line)?,
             Some(CertificateFault::BadLine(34))
@@ -325,6 +337,18 @@ fn exits_that_no_line_spells(rt: HostRuntime) -> Result<(), Fail> {
     }
     Ok(())
 }
+
+/// Certificates with a line after the end.
+const AFTER_THE_END: [[&str; 3]; 4] = [
+    ["PDP8-CERTIFICATE 1", "end", ""],
+    ["PDP8-CERTIFICATE 1", "end", "end"],
+    [
+        "PDP8-CERTIFICATE 1",
+        "end",
+        "fact 0200 ac 0000 link 0 offsets -",
+    ],
+    ["PDP8-CERTIFICATE 1", "end", "PDP8-CERTIFICATE 1"],
+];
 
 #[test]
 fn lines_that_may_not_stand_there(rt: HostRuntime) -> Result<(), Fail> {
@@ -334,16 +358,7 @@ fn lines_that_may_not_stand_there(rt: HostRuntime) -> Result<(), Fail> {
             Some(CertificateFault::BadLine(2))
         );
     }
-    for lines in [
-        ["PDP8-CERTIFICATE 1", "end", ""],
-        ["PDP8-CERTIFICATE 1", "end", "end"],
-        [
-            "PDP8-CERTIFICATE 1",
-            "end",
-            "fact 0200 ac 0000 link 0 offsets -",
-        ],
-        ["PDP8-CERTIFICATE 1", "end", "PDP8-CERTIFICATE 1"],
-    ] {
+    for lines in &AFTER_THE_END {
         let answer = told_of(rt.alloc(), lines.as_slice())?;
         assert_eq!(rt; answer, Some(CertificateFault::BadLine(3)));
     }
@@ -356,18 +371,21 @@ fn lines_that_may_not_stand_there(rt: HostRuntime) -> Result<(), Fail> {
     Ok(())
 }
 
+/// Lines that are no first line.
+const NO_FIRST_LINES: [&str; 8] = [
+    "PDP8-CERTIFICATE 3",
+    "PDP8-CERTIFICATE",
+    "PDP8-CERTIFICATE 1 ",
+    "PDP8-CERTIFICATE 1\r",
+    "PDP8-CERTIFICATE 01",
+    "pdp8-certificate 1",
+    "",
+    "end",
+];
+
 #[test]
 fn first_lines_that_are_none(rt: HostRuntime) -> Result<(), Fail> {
-    for line in [
-        "PDP8-CERTIFICATE 3",
-        "PDP8-CERTIFICATE",
-        "PDP8-CERTIFICATE 1 ",
-        "PDP8-CERTIFICATE 1\r",
-        "PDP8-CERTIFICATE 01",
-        "pdp8-certificate 1",
-        "",
-        "end",
-    ] {
+    for line in &NO_FIRST_LINES {
         assert_eq!(rt; with(rt.alloc(), 1, line)?, Some(CertificateFault::Version));
     }
     assert_eq!(rt;
@@ -377,14 +395,17 @@ fn first_lines_that_are_none(rt: HostRuntime) -> Result<(), Fail> {
     Ok(())
 }
 
+/// Lines that are none in version 2, which tells of MQ after AC.
+const WITHOUT_MQ: [&str; 4] = [
+    "fact 0200 ac 0000 link 0 offsets -",
+    "fact 0200 ac 0000 mq - link 0 offsets -",
+    "fact 0200 mq 0000 ac 0000 link 0 offsets -",
+    "exit 0200 0 ac 0000 link 0",
+];
+
 #[test]
 fn version_2_tells_of_mq(rt: HostRuntime) -> Result<(), Fail> {
-    for line in [
-        "fact 0200 ac 0000 link 0 offsets -",
-        "fact 0200 ac 0000 mq - link 0 offsets -",
-        "fact 0200 mq 0000 ac 0000 link 0 offsets -",
-        "exit 0200 0 ac 0000 link 0",
-    ] {
+    for line in &WITHOUT_MQ {
         let lines = ["PDP8-CERTIFICATE 2", line, "end"];
         let answer = told_of(rt.alloc(), lines.as_slice())?;
         assert_eq!(rt; answer, Some(CertificateFault::BadLine(2)));
@@ -399,37 +420,49 @@ fn version_2_tells_of_mq(rt: HostRuntime) -> Result<(), Fail> {
     Ok(())
 }
 
+/// A line of a routine.
+const ROUTINE: &str = "routine 0214 rank 00 sites - writes -";
+
+/// A line of a fact.
+const FACT: &str = "fact 0214 ac 0000 link 0 offsets -";
+
+/// A line of an exit.
+const EXIT: &str = "exit 0214 1 ac 0000 link 0";
+
+/// Lines with heads that may not follow each other.
+const FALLING_HEADS: [(&str, &str); 10] = [
+    (ROUTINE, ROUTINE),
+    (ROUTINE, "routine 0213 rank 77 sites - writes -"),
+    (FACT, ROUTINE),
+    (FACT, FACT),
+    (FACT, "fact 0213 ac 0000 link 0 offsets -"),
+    (EXIT, ROUTINE),
+    (EXIT, "fact 0215 ac 0000 link 0 offsets -"),
+    (EXIT, EXIT),
+    (EXIT, "exit 0214 0 ac 0000 link 0"),
+    (EXIT, "exit 0213 7 ac 0000 link 0"),
+];
+
+/// Details of a fact that may not follow each other.
+const FALLING_DETAILS: [(&str, &str); 7] = [
+    ("cell 0010 0000", "cell 0010 0001"),
+    ("cell 0010 0000", "cell 0007 0000"),
+    ("equal AC 0000 0000", "cell 7777 0000"),
+    ("equal 0010 0224 0000", "equal 0010 0224 0001"),
+    ("equal 0010 0224 0000", "equal 0010 0223 0000"),
+    ("equal 0010 0224 0000", "equal 0007 0225 0000"),
+    ("equal 0000 0001 0000", "equal AC 7777 0000"),
+];
+
 #[test]
 fn lines_rise(rt: HostRuntime) -> Result<(), Fail> {
-    let routine = "routine 0214 rank 00 sites - writes -";
-    let fact = "fact 0214 ac 0000 link 0 offsets -";
-    let exit = "exit 0214 1 ac 0000 link 0";
-    for (first, second) in [
-        (routine, routine),
-        (routine, "routine 0213 rank 77 sites - writes -"),
-        (fact, routine),
-        (fact, fact),
-        (fact, "fact 0213 ac 0000 link 0 offsets -"),
-        (exit, routine),
-        (exit, "fact 0215 ac 0000 link 0 offsets -"),
-        (exit, exit),
-        (exit, "exit 0214 0 ac 0000 link 0"),
-        (exit, "exit 0213 7 ac 0000 link 0"),
-    ] {
+    for (first, second) in &FALLING_HEADS {
         let lines = ["PDP8-CERTIFICATE 1", first, second, "end"];
         let answer = told_of(rt.alloc(), lines.as_slice())?;
         assert_eq!(rt; answer, Some(CertificateFault::Order(3)));
     }
-    for (first, second) in [
-        ("cell 0010 0000", "cell 0010 0001"),
-        ("cell 0010 0000", "cell 0007 0000"),
-        ("equal AC 0000 0000", "cell 7777 0000"),
-        ("equal 0010 0224 0000", "equal 0010 0224 0001"),
-        ("equal 0010 0224 0000", "equal 0010 0223 0000"),
-        ("equal 0010 0224 0000", "equal 0007 0225 0000"),
-        ("equal 0000 0001 0000", "equal AC 7777 0000"),
-    ] {
-        let lines = ["PDP8-CERTIFICATE 1", fact, first, second, "end"];
+    for (first, second) in &FALLING_DETAILS {
+        let lines = ["PDP8-CERTIFICATE 1", FACT, first, second, "end"];
         let answer = told_of(rt.alloc(), lines.as_slice())?;
         assert_eq!(rt; answer, Some(CertificateFault::Order(4)));
     }

@@ -2,35 +2,40 @@
 //! punch.
 
 use crate::desk::{run_program, run_with_room};
+use crate::program::SHARED_INPUT;
 use commands::status::Status;
 use std::test::Fail;
 
+/// What is told where events stand beside the words of a session.
+const BESIDE_EVENTS: &str =
+    "error: '--events' can't stand beside the words for the reader, the punch, the teletype and the switches\n";
+
+/// Words of a session and what is told of the bad one.
+const BAD_WORDS: [(&str, &str); 10] = [
+    ("pdp8 run - --keys -", SHARED_INPUT),
+    ("pdp8 run a --reader - --keys -", SHARED_INPUT),
+    ("pdp8 run - --reader -", SHARED_INPUT),
+    ("pdp8 run a --events b --teletype", BESIDE_EVENTS),
+    ("pdp8 run a --events b --reader c", BESIDE_EVENTS),
+    ("pdp8 run a --events b --mark", BESIDE_EVENTS),
+    ("pdp8 run a --events b --switches 1", BESIDE_EVENTS),
+    (
+        "pdp8 run a --punch -",
+        "error: '--punch' takes the name of a file\n",
+    ),
+    (
+        "pdp8 run a --switches 8",
+        "error: bad value for '--switches': ",
+    ),
+    (
+        "pdp8 run a --keys b --steps 0",
+        "error: bad value for '--steps': it is a number from 1 to 1000000\n",
+    ),
+];
+
 #[test]
 fn bad_words_of_a_session_are_told(rt: HostRuntime) -> Result<(), Fail> {
-    let beside =
-        "error: '--events' can't stand beside the words for the reader, the punch, the teletype and the switches\n";
-    let shared = "error: '-' stands for standard input in one place alone\n";
-    for (words, told) in [
-        ("pdp8 run - --keys -", shared),
-        ("pdp8 run a --reader - --keys -", shared),
-        ("pdp8 run - --reader -", shared),
-        ("pdp8 run a --events b --teletype", beside),
-        ("pdp8 run a --events b --reader c", beside),
-        ("pdp8 run a --events b --mark", beside),
-        ("pdp8 run a --events b --switches 1", beside),
-        (
-            "pdp8 run a --punch -",
-            "error: '--punch' takes the name of a file\n",
-        ),
-        (
-            "pdp8 run a --switches 8",
-            "error: bad value for '--switches': ",
-        ),
-        (
-            "pdp8 run a --keys b --steps 0",
-            "error: bad value for '--steps': it is a number from 1 to 1000000\n",
-        ),
-    ] {
+    for (words, told) in &BAD_WORDS {
         let end = run_program(rt.alloc(), words);
         assert_eq!(rt; end.status, Status::Words.code(), "{words}");
         assert!(rt; end.told.starts_with(told.as_bytes()), "{words}");
@@ -90,33 +95,38 @@ fn keys_are_echoed(rt: HostRuntime) {
     assert!(rt; end.told.ends_with(b"\nPRINTED 000 310 311 215\n"));
 }
 
+/// Words of a session with a file that fails, what is told of it, and the files that are opened.
+const FAILING_FILES: [(&str, &str, &str); 5] = [
+    (
+        "pdp8 run a --keys hi.keys --mark",
+        "pdp8: device: ReadFault\n",
+        "a ",
+    ),
+    (
+        "pdp8 run halt.bin --reader a --punch b",
+        "pdp8: device: ReadFault\n",
+        "halt.bin a ",
+    ),
+    (
+        "pdp8 run halt.bin --keys failing --punch b",
+        "pdp8: device: ReadFault\n",
+        "halt.bin failing b ",
+    ),
+    (
+        "pdp8 run copier.bin --reader old.tape --punch failing",
+        "pdp8: device: WriteFault\n",
+        "copier.bin old.tape failing ",
+    ),
+    (
+        "pdp8 run halt.bin --punch absent/b",
+        "pdp8: device: WriteFault\n",
+        "halt.bin absent/b ",
+    ),
+];
+
 #[test]
 fn files_of_a_session_that_fail_are_told(rt: HostRuntime) -> Result<(), Fail> {
-    let read = "pdp8: device: ReadFault\n";
-    let write = "pdp8: device: WriteFault\n";
-    for (words, told, opened) in [
-        ("pdp8 run a --keys hi.keys --mark", read, "a "),
-        (
-            "pdp8 run halt.bin --reader a --punch b",
-            read,
-            "halt.bin a ",
-        ),
-        (
-            "pdp8 run halt.bin --keys failing --punch b",
-            read,
-            "halt.bin failing b ",
-        ),
-        (
-            "pdp8 run copier.bin --reader old.tape --punch failing",
-            write,
-            "copier.bin old.tape failing ",
-        ),
-        (
-            "pdp8 run halt.bin --punch absent/b",
-            write,
-            "halt.bin absent/b ",
-        ),
-    ] {
+    for (words, told, opened) in &FAILING_FILES {
         let end = run_program(rt.alloc(), words);
         assert_eq!(rt; end.status, Status::Device.code(), "{words}");
         assert_eq!(rt; end.told.as_slice(), told.as_bytes(), "{words}");

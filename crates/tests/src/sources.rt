@@ -28,7 +28,7 @@ pub(crate) fn halt_tape() -> [u8; 38] {
 }
 
 /// A program that prints HELLO: 26 words from 0200 on.
-static HELLO: &[u8] =
+const HELLO: &[u8] =
     b"/HELLO\n*200\nSTART, CLA CLL\n TLS\n TAD TABLE\n DCA 10\n TAD COUNT\n DCA LEFT\nLOOP, TAD I 10\n JMS TYPE\n ISZ LEFT\n JMP LOOP\n HLT\n JMP START\nTYPE, 0\n TSF\n JMP .-1\n TLS\n CLA\n JMP I TYPE\nTABLE, LEFT\nCOUNT, -5\nLEFT, 0\n 310;305;314;314;317\n$\n";
 
 fn fault(code: Code, part: usize, line: usize) -> Fault {
@@ -104,28 +104,54 @@ fn parts_are_one_source(rt: HostRuntime) -> Result<(), Fail> {
     Ok(())
 }
 
+/// Sources, the machines that they are for, and their first faults.
+const FIRST_FAULTS: [(&[u8], Profile, Fault); 5] = [
+    (b"$\n", Profile::Pdp8I, Fault::EmptyImage),
+    (
+        b"TAD 600",
+        Profile::Pdp8I,
+        Fault::Source(PalFault {
+            code: Code::IllegalReference,
+            part: 1,
+            line: 1,
+        }),
+    ),
+    (
+        b"X,1\nX,2\n",
+        Profile::Pdp8I,
+        Fault::Source(PalFault {
+            code: Code::DuplicateTag,
+            part: 1,
+            line: 2,
+        }),
+    ),
+    (
+        b"MQL\n",
+        Profile::Pdp8I,
+        Fault::Source(PalFault {
+            code: Code::Undefined,
+            part: 1,
+            line: 1,
+        }),
+    ),
+    (
+        b"BSW,\n",
+        Profile::Pdp8E,
+        Fault::Source(PalFault {
+            code: Code::DuplicateTag,
+            part: 1,
+            line: 1,
+        }),
+    ),
+];
+
 #[test]
 fn sources_are_refused_by_their_first_fault(rt: HostRuntime) -> Result<(), Fail> {
-    let rows: [(&[u8], Profile, Fault); 5] = [
-        (b"$\n", Profile::Pdp8I, Fault::EmptyImage),
-        (
-            b"TAD 600",
-            Profile::Pdp8I,
-            fault(Code::IllegalReference, 1, 1),
-        ),
-        (
-            b"X,1\nX,2\n",
-            Profile::Pdp8I,
-            fault(Code::DuplicateTag, 1, 2),
-        ),
-        (b"MQL\n", Profile::Pdp8I, fault(Code::Undefined, 1, 1)),
-        (b"BSW,\n", Profile::Pdp8E, fault(Code::DuplicateTag, 1, 1)),
-    ];
-    for (source, profile, expected) in rows {
+    for (source, profile, expected) in &FIRST_FAULTS {
         let mut out = MemorySink::new(rt.alloc(), 1000);
         let mut parts = [MemorySource::new(source)];
-        let ended = assemble(rt.alloc(), &mut parts, profile, &mut out);
-        assert_eq!(rt; ended, Err(expected));
+        let ended = assemble(rt.alloc(), &mut parts, *profile, &mut out);
+        assert_eq!(rt; ended, Err(*expected));
         assert!(rt; out.bytes().is_empty());
     }
     let mut out = MemorySink::new(rt.alloc(), 1000);
@@ -173,27 +199,70 @@ fn refused(alloc: Global, bytes: &[u8], parts: &[Given]) -> Result<Option<Fault>
     }
 }
 
+/// The parts of sources, and the first fault that is told of their sizes and reads.
+const SIZES_AND_READS: [(&[Given], Fault); 9] = [
+    (
+        &[],
+        Fault::Source(PalFault {
+            code: Code::TooLong,
+            part: 0,
+            line: 0,
+        }),
+    ),
+    (
+        &[(9, 0); 17],
+        Fault::Source(PalFault {
+            code: Code::TooLong,
+            part: 0,
+            line: 0,
+        }),
+    ),
+    (
+        &[(9, NEVER); 17],
+        Fault::Source(PalFault {
+            code: Code::TooLong,
+            part: 0,
+            line: 0,
+        }),
+    ),
+    (
+        &[(65_537, NEVER); 17],
+        Fault::Source(PalFault {
+            code: Code::TooLong,
+            part: 0,
+            line: 0,
+        }),
+    ),
+    (&[(9, 0); 16], Fault::Device(DeviceFault::Read)),
+    (
+        &[(65_537, NEVER), (9, 0)],
+        Fault::Source(PalFault {
+            code: Code::TooLong,
+            part: 1,
+            line: 0,
+        }),
+    ),
+    (&[(9, 0), (65_537, NEVER)], Fault::Device(DeviceFault::Read)),
+    (
+        &[(65_536, NEVER), (65_537, NEVER), (9, 0)],
+        Fault::Source(PalFault {
+            code: Code::TooLong,
+            part: 2,
+            line: 0,
+        }),
+    ),
+    // The read of the byte that is too many fails.
+    (
+        &[(65_537, 128), (65_537, NEVER)],
+        Fault::Device(DeviceFault::Read),
+    ),
+];
+
 #[test]
 fn the_first_of_sizes_and_reads_is_told(rt: HostRuntime) -> Result<(), Fail> {
     let bytes = vec![in rt.alloc(); b'/'; 65_537]?;
-    let fails = Fault::Device(DeviceFault::Read);
-    let rows: [(&[Given], Fault); 9] = [
-        (&[], fault(Code::TooLong, 0, 0)),
-        (&[(9, 0); 17], fault(Code::TooLong, 0, 0)),
-        (&[(9, NEVER); 17], fault(Code::TooLong, 0, 0)),
-        (&[(65_537, NEVER); 17], fault(Code::TooLong, 0, 0)),
-        (&[(9, 0); 16], fails),
-        (&[(65_537, NEVER), (9, 0)], fault(Code::TooLong, 1, 0)),
-        (&[(9, 0), (65_537, NEVER)], fails),
-        (
-            &[(65_536, NEVER), (65_537, NEVER), (9, 0)],
-            fault(Code::TooLong, 2, 0),
-        ),
-        // The read of the byte that is too many fails.
-        (&[(65_537, 128), (65_537, NEVER)], fails),
-    ];
-    for (parts, expected) in rows {
-        assert_eq!(rt; refused(rt.alloc(), &bytes, parts)?, Some(expected));
+    for (parts, expected) in &SIZES_AND_READS {
+        assert_eq!(rt; refused(rt.alloc(), &bytes, parts)?, Some(*expected));
     }
     Ok(())
 }
@@ -211,37 +280,41 @@ fn too_many_symbols<A: Allocator>(alloc: A, last: &[u8]) -> Result<Vec<u8, A>, A
     Ok(source)
 }
 
+/// Sources with two faults, and the code and the line of the first.
+const TWO_FAULTS: [(&[u8], Code, usize); 9] = [
+    (b"8\n?\n", Code::IllegalCharacter, 2),
+    (b"X,1\nX,8\n", Code::IllegalCharacter, 2),
+    (b"X,1\nX,10000\n", Code::NumberTooLarge, 2),
+    (b"X,1\nX,Y=Q\n", Code::DuplicateTag, 2),
+    (b"A=1\nA=Q\n", Code::Undefined, 2),
+    (b"A=1\nA=2;PAUSE\n", Code::Redefined, 2),
+    (b"TAD Q\nPAUSE\n", Code::PauseInLastPart, 2),
+    (b"TAD 600\nTAD Q\n", Code::IllegalReference, 1),
+    (b"TAD Q\nTAD 600\n", Code::Undefined, 1),
+];
+
+/// Last lines of a source that has as many symbols as there may be, and the codes of their faults.
+const LAST_LINES: [(&[u8], Code); 4] = [
+    (b"B=1\nPAUSE\n", Code::TableFull),
+    (b"B=Q\n", Code::Undefined),
+    (b"B,A0001=2\n", Code::TableFull),
+    (b"A0001=2;B=1\n", Code::Redefined),
+];
+
 #[test]
 fn of_two_faults_the_first_is_told(rt: HostRuntime) -> Result<(), Fail> {
-    let rows: [(&[u8], Code, usize); 9] = [
-        (b"8\n?\n", Code::IllegalCharacter, 2),
-        (b"X,1\nX,8\n", Code::IllegalCharacter, 2),
-        (b"X,1\nX,10000\n", Code::NumberTooLarge, 2),
-        (b"X,1\nX,Y=Q\n", Code::DuplicateTag, 2),
-        (b"A=1\nA=Q\n", Code::Undefined, 2),
-        (b"A=1\nA=2;PAUSE\n", Code::Redefined, 2),
-        (b"TAD Q\nPAUSE\n", Code::PauseInLastPart, 2),
-        (b"TAD 600\nTAD Q\n", Code::IllegalReference, 1),
-        (b"TAD Q\nTAD 600\n", Code::Undefined, 1),
-    ];
-    for (source, code, line) in rows {
+    for (source, code, line) in &TWO_FAULTS {
         let mut out = MemorySink::new(rt.alloc(), 1000);
         let mut parts = [MemorySource::new(source)];
         let ended = assemble(rt.alloc(), &mut parts, Profile::Pdp8I, &mut out);
-        assert_eq!(rt; ended, Err(fault(code, 1, line)));
+        assert_eq!(rt; ended, Err(fault(*code, 1, *line)));
     }
-    let full: [(&[u8], Code); 4] = [
-        (b"B=1\nPAUSE\n", Code::TableFull),
-        (b"B=Q\n", Code::Undefined),
-        (b"B,A0001=2\n", Code::TableFull),
-        (b"A0001=2;B=1\n", Code::Redefined),
-    ];
-    for (last, code) in full {
+    for (last, code) in &LAST_LINES {
         let source = too_many_symbols(rt.alloc(), last)?;
         let mut out = MemorySink::new(rt.alloc(), 1000);
         let mut parts = [MemorySource::new(&source)];
         let ended = assemble(rt.alloc(), &mut parts, Profile::Pdp8I, &mut out);
-        assert_eq!(rt; ended, Err(fault(code, 1, 1025)));
+        assert_eq!(rt; ended, Err(fault(*code, 1, 1025)));
     }
     Ok(())
 }
@@ -277,19 +350,21 @@ fn part_answers_in_turn<A: Allocator + Copy>(
     false
 }
 
+/// Parts of sources, and their faults where nothing is refused.
+const PARTS: [(&[u8], Option<TextFault>); 7] = [
+    (b"*10;TAD 20;$", None),
+    (b"DECIMAL;-10;OCTAL;10;300 5;1 2+1;$", None),
+    (b"A=5\nPAUSE\n", None),
+    (b"TA\xffD", None),
+    (HELLO, None),
+    (b"?", Some(TextFault::Illegal(1))),
+    (b"X,1\nX,2\nA=1;A=2\n8 ?\n", Some(TextFault::Illegal(4))),
+];
+
 #[test]
 fn each_growth_of_a_part_is_refused_in_turn(rt: HostRuntime) {
-    let rows: [(&[u8], Option<TextFault>); 7] = [
-        (b"*10;TAD 20;$", None),
-        (b"DECIMAL;-10;OCTAL;10;300 5;1 2+1;$", None),
-        (b"A=5\nPAUSE\n", None),
-        (b"TA\xffD", None),
-        (HELLO, None),
-        (b"?", Some(TextFault::Illegal(1))),
-        (b"X,1\nX,2\nA=1;A=2\n8 ?\n", Some(TextFault::Illegal(4))),
-    ];
-    for (source, expected) in rows {
-        assert!(rt; part_answers_in_turn(rt.alloc(), source, expected));
+    for (source, expected) in &PARTS {
+        assert!(rt; part_answers_in_turn(rt.alloc(), source, *expected));
     }
 }
 
@@ -339,15 +414,17 @@ fn each_request_for_a_full_table_is_refused_in_turn(rt: HostRuntime) -> Result<(
     Ok(())
 }
 
+/// A source with each end of a line.
+const LINE_ENDS: [&[u8]; 4] = [
+    b"*200\x8dHLT\x8d$\x8d",
+    b"*200\x8d\x8aHLT\x8d\x8a$\x8d\x8a",
+    b"*200\x8d\xff\x8aHLT\x8d\xff\x8a$\x8d\xff\x8a",
+    b"*200\nHLT\n$\n",
+];
+
 #[test]
 fn each_request_is_refused_in_turn_with_each_line_end(rt: HostRuntime) {
-    let rows: [&[u8]; 4] = [
-        b"*200\x8dHLT\x8d$\x8d",
-        b"*200\x8d\x8aHLT\x8d\x8a$\x8d\x8a",
-        b"*200\x8d\xff\x8aHLT\x8d\xff\x8a$\x8d\xff\x8a",
-        b"*200\nHLT\n$\n",
-    ];
-    for source in rows {
+    for source in &LINE_ENDS {
         assert!(rt; source_answers_in_turn(rt.alloc(), source, None));
     }
 }
@@ -479,88 +556,113 @@ fn watch_refused(
     }
 }
 
+/// How many bytes of the tape there are, the declaration, how many reads of the tape, the
+/// declaration and the events succeed, and the fault.
+const REFUSED_INPUTS: [(usize, &[u8], [usize; 3], Fault); 4] = [
+    (16, b"main 9", [NEVER, 0, 0], Fault::Tape(TapeFault::NoWord)),
+    (
+        38,
+        b"main 9",
+        [NEVER, NEVER, 0],
+        Fault::Declared(DeclarationFault::BadLine(1)),
+    ),
+    (
+        38,
+        b"start 200\nmain 201",
+        [NEVER, NEVER, 0],
+        Fault::Declared(DeclarationFault::StartNotInMain),
+    ),
+    (
+        38,
+        b"start 200\nmain 200",
+        [NEVER, NEVER, NEVER],
+        Fault::Events(peripherals::EventsFault::BadLine(1)),
+    ),
+];
+
 #[test]
 fn each_input_is_refused_before_the_next(rt: HostRuntime) -> Result<(), Fail> {
     let frames = halt_tape();
-    let cut = &frames[..16];
     let whole = frames.as_slice();
-    let good = b"start 200\nmain 200".as_slice();
-    let bad = b"main 9".as_slice();
-    let unstarted = b"start 200\nmain 201".as_slice();
-    let word = Fault::Tape(TapeFault::NoWord);
-    let line = Fault::Declared(DeclarationFault::BadLine(1));
-    let start = Fault::Declared(DeclarationFault::StartNotInMain);
-    let step = Fault::Events(peripherals::EventsFault::BadLine(1));
-    let rows: [(&[u8], &[u8], [usize; 3], Fault); 4] = [
-        (cut, bad, [NEVER, 0, 0], word),
-        (whole, bad, [NEVER, NEVER, 0], line),
-        (whole, unstarted, [NEVER, NEVER, 0], start),
-        (whole, good, [NEVER, NEVER, NEVER], step),
-    ];
-    for (tape, text, reads, expected) in rows {
-        let ended = watch_refused(rt.alloc(), tape, text, reads);
-        assert_eq!(rt; ended, Err(Some(expected)));
+    for (count, text, reads, expected) in &REFUSED_INPUTS {
+        let tape = &whole[..whole.len().min(*count)];
+        let ended = watch_refused(rt.alloc(), tape, text, *reads);
+        assert_eq!(rt; ended, Err(Some(*expected)));
     }
     Ok(())
 }
 
+/// How many bytes of the tape there are, the declaration, and how many reads of the tape, the
+/// declaration and the events succeed.
+const FAILING_READS: [(usize, &[u8], [usize; 3]); 5] = [
+    (16, b"main 9", [0, 0, 0]),
+    (38, b"main 9", [0, NEVER, NEVER]),
+    (38, b"main 9", [NEVER, 0, 0]),
+    (38, b"start 200\nmain 200", [NEVER, 0, NEVER]),
+    (38, b"start 200\nmain 200", [NEVER, NEVER, 0]),
+];
+
 #[test]
 fn a_read_of_each_input_may_fail(rt: HostRuntime) -> Result<(), Fail> {
     let frames = halt_tape();
-    let cut = &frames[..16];
     let whole = frames.as_slice();
-    let good = b"start 200\nmain 200".as_slice();
-    let bad = b"main 9".as_slice();
-    let rows: [(&[u8], &[u8], [usize; 3]); 5] = [
-        (cut, bad, [0, 0, 0]),
-        (whole, bad, [0, NEVER, NEVER]),
-        (whole, bad, [NEVER, 0, 0]),
-        (whole, good, [NEVER, 0, NEVER]),
-        (whole, good, [NEVER, NEVER, 0]),
-    ];
-    for (tape, text, reads) in rows {
-        let ended = watch_refused(rt.alloc(), tape, text, reads);
+    for (count, text, reads) in &FAILING_READS {
+        let tape = &whole[..whole.len().min(*count)];
+        let ended = watch_refused(rt.alloc(), tape, text, *reads);
         assert_eq!(rt; ended, Err(Some(Fault::Device(DeviceFault::Read))));
     }
     Ok(())
 }
 
+/// Faults that refuse what is given, and their lines.
+const REFUSALS: [(Fault, &str); 3] = [
+    (
+        Fault::Source(PalFault {
+            code: Code::IllegalReference,
+            part: 1,
+            line: 1,
+        }),
+        "pdp8: source: IR 1 1",
+    ),
+    (Fault::EmptyImage, "pdp8: tape: EmptyImage"),
+    (
+        Fault::Declared(DeclarationFault::TwoProfiles(3)),
+        "pdp8: declaration: TwoProfiles 3",
+    ),
+];
+
 #[test]
 fn these_faults_have_their_lines(rt: HostRuntime) -> Result<(), Fail> {
-    for (fault, line) in [
-        (fault(Code::IllegalReference, 1, 1), "pdp8: source: IR 1 1"),
-        (Fault::EmptyImage, "pdp8: tape: EmptyImage"),
-        (
-            Fault::Declared(DeclarationFault::Overlap(word(0o200))),
-            "pdp8: declaration: Overlap 0200",
-        ),
-        (
-            Fault::Declared(DeclarationFault::TwoProfiles(3)),
-            "pdp8: declaration: TwoProfiles 3",
-        ),
-    ] {
+    for (fault, line) in &REFUSALS {
         assert_eq!(rt; fault.status(), Status::Refused);
         let text = format!(in rt.alloc(); "{fault}")?;
-        assert_eq!(rt; text.as_str(), line);
+        assert_eq!(rt; text.as_str(), *line);
     }
+    let overlap = Fault::Declared(DeclarationFault::Overlap(word(0o200)));
+    assert_eq!(rt; overlap.status(), Status::Refused);
+    let text = format!(in rt.alloc(); "{overlap}")?;
+    assert_eq!(rt; text.as_str(), "pdp8: declaration: Overlap 0200");
     Ok(())
 }
 
+/// Codes, and the lines that are told of a fault with them.
+const LETTERS: [(Code, &str); 9] = [
+    (Code::IllegalCharacter, "pdp8: source: IC 2 31"),
+    (Code::Redefined, "pdp8: source: RD 2 31"),
+    (Code::DuplicateTag, "pdp8: source: DT 2 31"),
+    (Code::Undefined, "pdp8: source: UA 2 31"),
+    (Code::IllegalReference, "pdp8: source: IR 2 31"),
+    (Code::TableFull, "pdp8: source: ST 2 31"),
+    (Code::NumberTooLarge, "pdp8: source: NB 2 31"),
+    (Code::PauseInLastPart, "pdp8: source: PA 2 31"),
+    (Code::TooLong, "pdp8: source: TL 2 31"),
+];
+
 #[test]
 fn each_code_has_its_letters(rt: HostRuntime) -> Result<(), Fail> {
-    for (code, line) in [
-        (Code::IllegalCharacter, "pdp8: source: IC 2 31"),
-        (Code::Redefined, "pdp8: source: RD 2 31"),
-        (Code::DuplicateTag, "pdp8: source: DT 2 31"),
-        (Code::Undefined, "pdp8: source: UA 2 31"),
-        (Code::IllegalReference, "pdp8: source: IR 2 31"),
-        (Code::TableFull, "pdp8: source: ST 2 31"),
-        (Code::NumberTooLarge, "pdp8: source: NB 2 31"),
-        (Code::PauseInLastPart, "pdp8: source: PA 2 31"),
-        (Code::TooLong, "pdp8: source: TL 2 31"),
-    ] {
-        let text = format!(in rt.alloc(); "{}", fault(code, 2, 31))?;
-        assert_eq!(rt; text.as_str(), line);
+    for (code, line) in &LETTERS {
+        let text = format!(in rt.alloc(); "{}", fault(*code, 2, 31))?;
+        assert_eq!(rt; text.as_str(), *line);
     }
     Ok(())
 }

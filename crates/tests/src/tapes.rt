@@ -68,57 +68,62 @@ fn tapes_run_to_their_end(rt: HostRuntime) -> Result<(), Fail> {
     Ok(())
 }
 
+/// Machines, the status of a run of words of MQ, and what is told of it.
+const MACHINES: [(Profile, Status, &[u8]); 2] = [
+    (
+        Profile::Pdp8E,
+        Status::Done,
+        b"HALT 0204 AC=0001 L=0 PC=0205 STEPS=5\n",
+    ),
+    (
+        Profile::Pdp8I,
+        Status::Refused,
+        b"UNSUPPORTED 0200 AC=0000 L=0 PC=0200 STEPS=0\n",
+    ),
+];
+
 #[test]
 fn words_of_mq_are_the_8es_alone(rt: HostRuntime) -> Result<(), Fail> {
     let frames = tape(rt.alloc(), &[0o7621, 0o7001, 0o7421, 0o7501, 0o7402])?;
-    let rows: [(Profile, Status, &[u8]); 2] = [
-        (
-            Profile::Pdp8E,
-            Status::Done,
-            b"HALT 0204 AC=0001 L=0 PC=0205 STEPS=5\n",
-        ),
-        (
-            Profile::Pdp8I,
-            Status::Refused,
-            b"UNSUPPORTED 0200 AC=0000 L=0 PC=0200 STEPS=0\n",
-        ),
-    ];
-    for (profile, status, text) in rows {
+    for (profile, status, text) in &MACHINES {
         let mut out = MemorySink::new(rt.alloc(), 1000);
         let ended = run(
             rt.alloc(),
             &mut MemorySource::new(frames.bytes()),
-            options(profile, false),
+            options(*profile, false),
             &mut out,
         );
-        assert_eq!(rt; ended, Ok(status));
-        assert_eq!(rt; out.bytes(), text);
+        assert_eq!(rt; ended, Ok(*status));
+        assert_eq!(rt; out.bytes(), *text);
     }
     Ok(())
 }
 
+/// Machines, and the trace of a halt.
+const TRACES: [(Profile, &[u8]); 2] = [
+    (
+        Profile::Pdp8I,
+        b"0200 7402 HLT AC=0000 L=0\nHALT 0200 AC=0000 L=0 PC=0201 STEPS=1\n",
+    ),
+    (
+        Profile::Pdp8E,
+        b"0200 7402 HLT AC=0000 L=0 MQ=0000\nHALT 0200 AC=0000 L=0 PC=0201 STEPS=1\n",
+    ),
+];
+
 #[test]
 fn a_trace_has_a_line_for_each_instruction(rt: HostRuntime) -> Result<(), Fail> {
     let frames = tape(rt.alloc(), &[0o7402])?;
-    for (profile, text) in [
-        (
-            Profile::Pdp8I,
-            b"0200 7402 HLT AC=0000 L=0\nHALT 0200 AC=0000 L=0 PC=0201 STEPS=1\n".as_slice(),
-        ),
-        (
-            Profile::Pdp8E,
-            b"0200 7402 HLT AC=0000 L=0 MQ=0000\nHALT 0200 AC=0000 L=0 PC=0201 STEPS=1\n".as_slice(),
-        ),
-    ] {
+    for (profile, text) in &TRACES {
         let mut out = MemorySink::new(rt.alloc(), 1000);
         let ended = run(
             rt.alloc(),
             &mut MemorySource::new(frames.bytes()),
-            options(profile, true),
+            options(*profile, true),
             &mut out,
         );
         assert_eq!(rt; ended, Ok(Status::Done));
-        assert_eq!(rt; out.bytes(), text);
+        assert_eq!(rt; out.bytes(), *text);
     }
     Ok(())
 }
@@ -138,20 +143,20 @@ fn a_dump_names_each_word(rt: HostRuntime) -> Result<(), Fail> {
     Ok(())
 }
 
+/// Events, and what is told of a run with them.
+const EVENTS: [(&[u8], &[u8]); 2] = [
+    (
+        b"step 2\nkey 301\nstep 4 / one key\n",
+        b"HALT 0204 AC=0301 L=0 PC=0205 STEPS=6\nPRINTED 301\n",
+    ),
+    (b"step 4", b"BOUND 0200 AC=0000 L=0 PC=0200 STEPS=4\n"),
+];
+
 #[test]
 fn events_stand_in_place_of_rounds(rt: HostRuntime) -> Result<(), Fail> {
     // KSF, JMP .-1, KRB, TLS, HLT
     let frames = tape(rt.alloc(), &[0o6031, 0o5200, 0o6036, 0o6046, 0o7402])?;
-    for (events, text) in [
-        (
-            b"step 2\nkey 301\nstep 4 / one key\n".as_slice(),
-            b"HALT 0204 AC=0301 L=0 PC=0205 STEPS=6\nPRINTED 301\n".as_slice(),
-        ),
-        (
-            b"step 4".as_slice(),
-            b"BOUND 0200 AC=0000 L=0 PC=0200 STEPS=4\n".as_slice(),
-        ),
-    ] {
+    for (events, text) in &EVENTS {
         let mut out = MemorySink::new(rt.alloc(), 1000);
         let ended = run_events(
             rt.alloc(),
@@ -161,7 +166,7 @@ fn events_stand_in_place_of_rounds(rt: HostRuntime) -> Result<(), Fail> {
             &mut out,
         );
         assert_eq!(rt; ended, Ok(Status::Done));
-        assert_eq!(rt; out.bytes(), text);
+        assert_eq!(rt; out.bytes(), *text);
     }
     Ok(())
 }
@@ -204,24 +209,27 @@ fn faults_of_inputs_have_their_lines(rt: HostRuntime) -> Result<(), Fail> {
     Ok(())
 }
 
+/// Faults of devices and of memory, their statuses and their lines.
+const DEVICE_FAULTS: [(Fault, Status, &str); 3] = [
+    (
+        Fault::Device(DeviceFault::Read),
+        Status::Device,
+        "pdp8: device: ReadFault",
+    ),
+    (
+        Fault::Device(DeviceFault::Write),
+        Status::Device,
+        "pdp8: device: WriteFault",
+    ),
+    (Fault::NoMemory, Status::Memory, "pdp8: memory: NoMemory"),
+];
+
 #[test]
 fn faults_of_devices_and_memory_have_their_lines(rt: HostRuntime) -> Result<(), Fail> {
-    for (fault, status, line) in [
-        (
-            Fault::Device(DeviceFault::Read),
-            Status::Device,
-            "pdp8: device: ReadFault",
-        ),
-        (
-            Fault::Device(DeviceFault::Write),
-            Status::Device,
-            "pdp8: device: WriteFault",
-        ),
-        (Fault::NoMemory, Status::Memory, "pdp8: memory: NoMemory"),
-    ] {
-        assert_eq!(rt; fault.status(), status);
+    for (fault, status, line) in &DEVICE_FAULTS {
+        assert_eq!(rt; fault.status(), *status);
         let text = format!(in rt.alloc(); "{fault}")?;
-        assert_eq!(rt; text.as_str(), line);
+        assert_eq!(rt; text.as_str(), *line);
     }
     Ok(())
 }
@@ -254,14 +262,17 @@ fn refused_inputs_write_nothing(rt: HostRuntime) -> Result<(), Fail> {
     Ok(())
 }
 
+/// For how many bytes there is room.
+const ROOMS: [usize; 4] = [0, 1, 20, 37];
+
 #[test]
 fn a_sink_that_fails_has_a_prefix(rt: HostRuntime) -> Result<(), Fail> {
     let frames = tape(rt.alloc(), &[0o7402])?;
     let summary = b"HALT 0200 AC=0000 L=0 PC=0201 STEPS=1\n".as_slice();
     let traced = b"0200 7402 HLT AC=0000 L=0\nHALT 0200 AC=0000 L=0 PC=0201 STEPS=1\n".as_slice();
     for (trace, text) in [(false, summary), (true, traced)] {
-        for room in [0usize, 1, 20, 37] {
-            let mut out = MemorySink::new(rt.alloc(), room);
+        for room in &ROOMS {
+            let mut out = MemorySink::new(rt.alloc(), *room);
             let ended = run(
                 rt.alloc(),
                 &mut MemorySource::new(frames.bytes()),
@@ -270,7 +281,7 @@ fn a_sink_that_fails_has_a_prefix(rt: HostRuntime) -> Result<(), Fail> {
             );
             assert_eq!(rt; ended, Err(Fault::Device(DeviceFault::Write)));
             assert!(rt; text.starts_with(out.bytes()));
-            assert_eq!(rt; out.bytes().len(), room);
+            assert_eq!(rt; out.bytes().len(), *room);
         }
     }
     Ok(())

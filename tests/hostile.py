@@ -3,7 +3,7 @@
 
 Each input comes from the programs of crates/examples/data: tapes, sources, declarations, events and certificates, of which
 bytes are changed, left out, doubled, put in or exchanged with another file's, or from random bytes. A run that ends by a
-signal, takes more than ten seconds, or says something that isn't named is a failure. Where the answer is yes, the run by the
+signal, takes more than a minute, or says something that isn't named is a failure. Where the answer is yes, the run by the
 program's events is watched, and must be clean. The same seed gives the same runs.
 
 usage: tests/hostile.py PDP8 [COUNT [SEED]]    PDP8 is the built program, as crates/pdp8/out/pdp8
@@ -116,7 +116,7 @@ def job(chance, programs):
 def ended(pdp8, words, folder):
     try:
         return subprocess.run([pdp8, *words], cwd=folder, stdin=subprocess.DEVNULL, stdout=subprocess.PIPE,
-                              stderr=subprocess.PIPE, timeout=10)
+                              stderr=subprocess.PIPE, timeout=60)
     except subprocess.TimeoutExpired:
         return None
 
@@ -124,7 +124,7 @@ def ended(pdp8, words, folder):
 def fails(done, said):
     """What is wrong with a run, or nothing."""
     if done is None:
-        return 'it took more than ten seconds'
+        return 'it took more than a minute'
     if done.returncode not in (0, 1):
         return f'it ended with {done.returncode}: {done.stderr!r}'
     if done.stderr:

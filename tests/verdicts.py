@@ -26,12 +26,12 @@ DIGIT = re.compile(r"[0-7]")
 
 
 def is_sound(certificate):
-    """The lines are of their form: no set of AC, MQ or a cell is empty, an equation's first name comes before its second,
-    no two are of the same names, and nothing is past its limit."""
+    """The lines are of their form: no set of AC, MQ or a cell is empty, the link is 0 or 1, an equation's first name comes
+    before its second, no two are of the same names, and nothing is past its limit."""
     facts = [*certificate.facts.values(), *certificate.exits.values()]
     pairs = [[(x, y) for x, y, _ in fact.equations] for fact in facts]
     return (certificate.version in (1, 2) and len(certificate.routines) <= 64 and
-            all(fact.ac and fact.mq and all(fact.cells.values()) and len(fact.cells) <= 64 for fact in facts) and
+            all(fact.ac and fact.mq and fact.link <= {0, 1} and all(fact.cells.values()) and len(fact.cells) <= 64 for fact in facts) and
             all(len(set(two)) == len(two) <= 32 and all(x < y for x, y in two) for two in pairs))
 
 

@@ -1,6 +1,6 @@
 //! A guess: facts at addresses, and what is claimed of routines.
 
-ghost use Rattle.std.specs.Prelude.{◌≡◌, option_map};
+ghost use Rattle.std.specs.Prelude.{◌≡◌, length, option_map, IfOk};
 ghost use Rattle.analyser.specs.Claimed.{kept_at, row_at, exit_in};
 
 use crate::kept::Kept;
@@ -27,7 +27,9 @@ pub(crate) struct Guess<A: Allocator> {
 }
 
 /// So many places with nothing.
-fn nothing<T: Drop, A: Allocator>(alloc: A, count: usize) -> Result<Vec<Option<T>, A>, Halt> {
+fn nothing<T: Drop, A: Allocator>(alloc: A, count: usize) -> Result<Vec<Option<T>, A>, Halt>
+    ensures { IfOk result (λ places. length places.items ≡ count) }
+{
     let mut places = Vec::new(alloc);
     for _place in 0..count {
         let Ok(()) = places.push(None) else {

@@ -12,7 +12,7 @@ use Rattle.declaration.specs.Text.{Declares, FailsAtLine, FailsAtRule, Fails as 
 use Rattle.declaration.specs.declared.DeclarationFault.{DeclarationFault}
 use Rattle.declaration.specs.declared.DeclarationFault.TheVariants as fault
 use Rattle.commands.specs.Faults.{IsEventsFault, IsEventsInputFault, IsDeclarationFault, IsDeclarationInputFault, fault_of_events, fault_of_declaration}
-use Rattle.commands.specs.Inputs.{HasEvents, HasDeclaration, input}
+use Rattle.commands.specs.Inputs.{HasEvents, HasDeclaration, TakesAtMost, TakesCertificate, input}
 
 -- bytes that were read up to one more than a limit: all there are, or more than the limit
 pub all_or_more : (P : List ℕ → Type 0) (had : Option (List ℕ)) (text : List ℕ) (most : ℕ) → IfSome had (λ bytes. text ≡ take (most + 1) bytes) →
@@ -53,3 +53,12 @@ declaration_fault_is (fault.Overlap a) failed had left text is fails = at_rule (
 declaration_fault_is (fault.EntryInAutoIndex a) failed had left text is fails = at_rule (fault.EntryInAutoIndex a) had text is fails
 declaration_fault_is fault.StartNotInMain failed had left text is fails = at_rule fault.StartNotInMain had text is fails
 declaration_fault_is (fault.HaltNotInBody a) failed had left text is fails = at_rule (fault.HaltNotInBody a) had text is fails
+
+-- of a source that isn't read nothing is taken
+pub takes_no_text : (most : ℕ) (had : Option (List ℕ)) → TakesAtMost most had had
+takes_no_text most None = tt
+takes_no_text most (Some bytes) = ([], refl, omega arith)
+
+pub takes_no_certificate : (had : Option (List ℕ)) → TakesCertificate had had
+takes_no_certificate None = record { limit = tt; prompt = tt }
+takes_no_certificate (Some bytes) = record { limit = ([], refl, omega arith); prompt = ([], refl, λ n more. absurd (omega (arith, more))) }

@@ -428,12 +428,12 @@ attended options plan image p w x outcome status old mid new told tells held hol
 pub attended_front : (options : RunOptions) (plan : Plan) (image : List (Option ℕ)) (p : Profile) (w x : WorldState) (outcome : Outcome) (reported typed unpunched : Bool) (old mid new told tells held holds : Option (List ℕ)) →
     p ≡ options.profile → w ≡ fresh image options.start → Operated p options.trace plan w outcome x old mid told tells → Appends held holds x.devices.punch.output →
     AppendsFront mid new (summary outcome.end x outcome.steps) → reported ≡ true →
-    FrontsOf (IsPartOf options plan image) (failures reported typed unpunched) (taken old told held) (taken new tells holds)
+    FrontsOf (IsPartOf options reported plan image) (failures reported typed unpunched) (taken old told held) (taken new tells holds)
 attended_front options plan image p w x outcome reported typed unpunched old mid new told tells held holds profile begins done punched front failed = record {
   text = traced options.trace done.ran.lines ++ summary outcome.end x outcome.steps;
   printed = printed_in x;
   punched = x.devices.punch.output;
-  is = record { whole = true; status = status_of outcome.end; is = session_whole options plan image p w x outcome (status_of outcome.end) old mid told tells profile begins done refl };
+  is = record { whole = true; summed = λ all. failed; status = status_of outcome.end; is = session_whole options plan image p w x outcome (status_of outcome.end) old mid told tells profile begins done refl };
   to_report = front_after old mid new (traced options.trace done.ran.lines) (summary outcome.end x outcome.steps) done.ran.wrote front;
   to_teletype = whole_front told tells (printed_in x) done.printed;
   to_punch = whole_front held holds x.devices.punch.output punched;
@@ -444,13 +444,14 @@ attended_front options plan image p w x outcome reported typed unpunched old mid
 
 pub broke_front : (options : RunOptions) (plan : Plan) (image : List (Option ℕ)) (p : Profile) (w x : WorldState) (reported typed unpunched : Bool) (old new told tells held holds : Option (List ℕ)) →
     p ≡ options.profile → w ≡ fresh image options.start → BrokeOff p options.trace plan w x reported typed old new told tells → AppendsFront held holds x.devices.punch.output →
-    (unpunched ≡ false → Appends held holds x.devices.punch.output) → FrontsOf (IsPartOf options plan image) (failures reported typed unpunched) (taken old told held) (taken new tells holds)
+    (unpunched ≡ false → Appends held holds x.devices.punch.output) → FrontsOf (IsPartOf options reported plan image) (failures reported typed unpunched) (taken old told held) (taken new tells holds)
 broke_front options plan image p w x reported typed unpunched old new told tells held holds profile begins broke punched whole = record {
   text = traced options.trace broke.lines ++ [];
   printed = printed_in x;
   punched = x.devices.punch.output;
   is = record {
     whole = false;
+    summed = λ all. absurd (true≢false (sym all));
     status = status_of broke.end;
     is = record {
       events = broke.events;
@@ -477,7 +478,7 @@ broke_front options plan image p w x reported typed unpunched old new told tells
 -- memory was refused for the summary
 pub summary_wanting : (options : RunOptions) (plan : Plan) (image : List (Option ℕ)) (p : Profile) (w x : WorldState) (outcome : Outcome) (reported typed unpunched : Bool) (old new told tells held holds : Option (List ℕ)) →
     p ≡ options.profile → w ≡ fresh image options.start → Operated p options.trace plan w outcome x old new told tells → Appends held holds x.devices.punch.output →
-    FrontsOf (IsPartOf options plan image) (failures reported typed unpunched) (taken old told held) (taken new tells holds)
+    FrontsOf (IsPartOf options reported plan image) (failures reported typed unpunched) (taken old told held) (taken new tells holds)
 summary_wanting options plan image p w x outcome reported typed unpunched old new told tells held holds profile begins done punched =
     broke_front options plan image p w x reported typed unpunched old new told tells held holds profile begins (operated_broke p options.trace plan w outcome x reported typed old new told tells done)
     (whole_front held holds x.devices.punch.output punched) (λ no. punched)
@@ -485,7 +486,7 @@ summary_wanting options plan image p w x outcome reported typed unpunched old ne
 -- the punch failed, whatever the run brought
 pub punch_front : (options : RunOptions) (plan : Plan) (image : List (Option ℕ)) (p : Profile) (w x : WorldState) (ran : Result Outcome Fault) (reported typed unpunched : Bool) (old new told tells held holds : Option (List ℕ)) →
     p ≡ options.profile → w ≡ fresh image options.start → IfOk ran (λ outcome. Operated p options.trace plan w outcome x old new told tells) → OnErr ran (BrokeOff p options.trace plan w x reported typed old new told tells) →
-    AppendsFront held holds x.devices.punch.output → unpunched ≡ true → FrontsOf (IsPartOf options plan image) (failures reported typed unpunched) (taken old told held) (taken new tells holds)
+    AppendsFront held holds x.devices.punch.output → unpunched ≡ true → FrontsOf (IsPartOf options reported plan image) (failures reported typed unpunched) (taken old told held) (taken new tells holds)
 punch_front options plan image p w x (Ok outcome) reported typed unpunched old new told tells held holds profile begins done broke punched failed =
     broke_front options plan image p w x reported typed unpunched old new told tells held holds profile begins (operated_broke p options.trace plan w outcome x reported typed old new told tells done)
     punched (λ no. absurd (true≢false (sym failed ∙ no)))
@@ -495,13 +496,14 @@ punch_front options plan image p w x (Err fault) reported typed unpunched old ne
 -- the inputs are good
 pub session_part : (options : SessionOptions) (tape reader keys : Option (List ℕ)) (image : List (Option ℕ)) (frames bytes : List ℕ) (plan : Plan) (failed : Failures) (old new : Taken) →
     HasImage tape image → AreFirst options.run.rounds reader frames → AreFirst options.run.rounds keys bytes → plan ≡ plan_for options frames bytes →
-    FrontsOf (IsPartOf options.run plan image) failed old new → NothingOrFronts (IsPartOfSession options tape reader keys) failed old new
+    FrontsOf (IsPartOf options.run failed.report plan image) failed old new → NothingOrFronts (IsPartOfSession options failed.report tape reader keys) failed old new
 session_part options tape reader keys image frames bytes plan failed old new has_image frames_are bytes_are is fronts = inr (record {
   text = fronts.text;
   printed = fronts.printed;
   punched = fronts.punched;
   is = record {
     whole = fronts.is.whole;
+    summed = fronts.is.summed;
     status = fronts.is.status;
     is = record {
       image = image;

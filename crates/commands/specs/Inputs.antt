@@ -3,6 +3,7 @@ use Rattle.std.specs.Prelude.{ℕ, ◌≡◌, ◌≤◌, ◌<◌, Bool, true, If
 use Rattle.streams.specs.Bytes.{Gave}
 use Rattle.bin_tape.specs.Tape.{IsTape}
 use Rattle.bin_tape.specs.Refuses.{IsUnfinished}
+use Rattle.bin_tape.specs.Serving as tape
 use Rattle.peripherals.specs.declared.Event.{Event}
 use Rattle.peripherals.specs.EventText.{Spells}
 use Rattle.declaration.specs.Declaration.{Declaration}
@@ -12,6 +13,7 @@ use Rattle.certificate.specs.Spelling as certificate
 use Rattle.certificate.specs.Reading.{AreLines}
 use Rattle.certificate.specs.Faults.{most_bytes}
 use Rattle.certificate.specs.Serving.{IsUnanswered}
+use Rattle.certificate.specs.Serving as serving
 
 -- The frames are a tape with this image, whose trailer is within the limit of what is looked at.
 abbrev pub HasImage : Option (List ℕ) → List (Option ℕ) → Type 0
@@ -82,3 +84,18 @@ AreFirst most had first = IfSome had (λ bytes. first ≡ take most bytes)
 pub record FailsBefore (most : ℕ) (bytes : Input) : Type 0 where
   pub failed : bytes.failed ≡ true
   pub short : Gave bytes.had bytes.left (λ given. length given < most)
+
+-- So many bytes at most are taken of a source, whatever the answer.
+abbrev pub TakesAtMost : ℕ → Option (List ℕ) → Option (List ℕ) → Type 0
+TakesAtMost most had left = Gave had left (λ given. length given ≤ most)
+
+-- Of a tape no more bytes are taken than are looked at and one, which tells that another follows, and at most 511 past the
+-- one that brings the answer.
+pub record TakesTape (had left : Option (List ℕ)) : Type 0 where
+  pub limit : TakesAtMost 65537 had left
+  pub prompt : Gave had left (tape.IsPrompt 511)
+
+-- Of a certificate as many as it may have and one, and at most 511 past the one that brings the answer.
+pub record TakesCertificate (had left : Option (List ℕ)) : Type 0 where
+  pub limit : TakesAtMost 1048577 had left
+  pub prompt : Gave had left (serving.IsPrompt 511)

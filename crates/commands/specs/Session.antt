@@ -104,9 +104,12 @@ pub record IsSession (options : SessionOptions) (whole : Bool) (tape reader keys
   pub bytes_are : AreFirst options.run.rounds keys bytes
   pub session : IsSessionOf options.run whole (plan_for options frames bytes) image text printed punched status
 
--- What a run with an operator, whole or broken off, may be about to write, to print and to punch.
-pub record IsPartOfSession (options : SessionOptions) (tape reader keys : Option (List ℕ)) (text printed punched : List ℕ) : Type 0 where
+-- What a run with an operator that has a fault may be about to write, to print and to punch. The summary, which a whole run
+-- alone has, is written last: after it only that write itself can fail, so it's about to be written only where the report
+-- failed.
+pub record IsPartOfSession (options : SessionOptions) (reported : Bool) (tape reader keys : Option (List ℕ)) (text printed punched : List ℕ) : Type 0 where
   pub whole : Bool
+  pub summed : whole ≡ true → reported ≡ true
   pub status : Status
   pub is : IsSession options whole tape reader keys status text printed punched
 

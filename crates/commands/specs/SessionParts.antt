@@ -1,5 +1,5 @@
 -- One event of an operator's run, and what a run leaves. Private contracts alone cite this.
-use Rattle.std.specs.Prelude.{ℕ, ◌≡◌, Bool, false, ◌||◌, ◌⊎◌, List, Option, drop, length, map}
+use Rattle.std.specs.Prelude.{ℕ, ◌≡◌, Bool, true, false, ◌||◌, ◌⊎◌, List, Option, drop, length, map}
 use Rattle.std.specs.Io.KnownBytes.{Appends}
 use Rattle.streams.specs.Bytes.{AppendsFront}
 use Rattle.instruct.specs.declared.Profile.{Profile}
@@ -43,8 +43,9 @@ abbrev pub PlayedFront : Profile → Bool → WorldState → Event → WorldStat
 PlayedFront profile trace w e x reported typed old new told tells =
     Unplayed w x old new told tells ⊎ Faltered profile trace w e x reported typed old new told tells
 
--- What the events of a plan, or the first of them, leave.
-pub record IsPartOf (options : RunOptions) (plan : Plan) (image : List (Option ℕ)) (text printed punched : List ℕ) : Type 0 where
+-- What the events of a plan, or the first of them, leave; all of them with the summary, where the report failed.
+pub record IsPartOf (options : RunOptions) (reported : Bool) (plan : Plan) (image : List (Option ℕ)) (text printed punched : List ℕ) : Type 0 where
   pub whole : Bool
+  pub summed : whole ≡ true → reported ≡ true
   pub status : Status
   pub is : IsSessionOf options whole plan image text printed punched status

@@ -7,7 +7,7 @@ ghost use Rattle.wordset.specs.Lanes.{words};
 ghost use Rattle.declaration.specs.Kept.{meaning};
 ghost use Rattle.commands.specs.CheckText.{IsChecked, IsCheckedSo, condition_text, counted, in_bodies, is_halt, no_text, reads_text, verdict_status, verdict_text, yes_text};
 ghost use Rattle.commands.specs.Faults.{IsCheckFault, is_fault_of_declaration, is_fault_of_tape, fails_to_read, fails_to_write};
-ghost use Rattle.commands.specs.Inputs.{input};
+ghost use Rattle.commands.specs.Inputs.{TakesAtMost, TakesCertificate, TakesTape, input};
 ghost use Rattle.commands.specs.Writes.{FrontOf, Writes};
 
 use crate::inputs::{certificate_from, declaration_from, tape_from};
@@ -225,6 +225,7 @@ pub(crate) fn verdict_status(verdict: &Result<(), Refusal>) -> Status
 /// The fault of the tape, of the declaration or of the certificate's text: each is read and, if it
 /// has a fault, refused before the next is read; `Device` where a read or a write failed, after
 /// which a prefix of the line went out; `NoMemory`.
+#[tactic(auto, using(crate::proofs::InputLemmas::takes_no_text, crate::proofs::InputLemmas::takes_no_certificate))]
 pub fn check<A: Allocator + Copy, R: ByteSource, D: ByteSource, C: ByteSource, W: ByteSink>(
     alloc: A,
     tape: &mut R,
@@ -267,6 +268,12 @@ pub fn check<A: Allocator + Copy, R: ByteSource, D: ByteSource, C: ByteSource, W
         (declaration.new ≡ declaration.old) × (certificate.new ≡ certificate.old) }
     ensures unread_certificate_after_failure { D.mark declaration.new ≡ true →
         certificate.new ≡ certificate.old }
+    // No input is read past its limit.
+    ensures takes_tape { TakesTape (R.remaining tape.old) (R.remaining tape.new) }
+    ensures takes_declaration { TakesAtMost 16385
+        (D.remaining declaration.old) (D.remaining declaration.new) }
+    ensures takes_certificate { TakesCertificate
+        (C.remaining certificate.old) (C.remaining certificate.new) }
 {
     let image = tape_from(tape)?;
     let promised = declaration_from(alloc, declaration)?;

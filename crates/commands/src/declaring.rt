@@ -4,7 +4,7 @@ ghost use Rattle.std.specs.Prelude.{◌≡◌, ◌⊎◌, None, false, true, IfO
 ghost use Rattle.commands.specs.declared.status.Status.TheVariants.{Done, Refused};
 ghost use Rattle.commands.specs.DeclareText.{IsDeclarationFor, IsProposal, IsProposed};
 ghost use Rattle.commands.specs.Faults.{IsDeclareFault, IsProposeFault, fails_to_read, fails_to_write};
-ghost use Rattle.commands.specs.Inputs.{input};
+ghost use Rattle.commands.specs.Inputs.{TakesTape, input};
 ghost use Rattle.commands.specs.Writes.{FrontOf, Writes};
 ghost use Rattle.declaration.specs.Kept.{meaning};
 ghost use Rattle.declaration.specs.Text.{Declares};
@@ -198,6 +198,8 @@ pub fn declare<A: Allocator + Copy, R: ByteSource, W: ByteSink>(
     // A write failed exactly where the answer says so, and so did a read.
     ensures marks { W.mark out.new ≡ fails_to_write result }
     ensures reads { R.mark tape.new ≡ fails_to_read result }
+    // The tape is not read past its limit.
+    ensures takes_tape { TakesTape (R.remaining tape.old) (R.remaining tape.new) }
 {
     let image = tape_from(tape)?;
     let mut turns = Turns::new(MOST_TURNS);

@@ -3,7 +3,7 @@
 ghost use Rattle.std.specs.Prelude.{◌≡◌, ◌||◌, ◌++◌, false, true, IfOk, IfErr, OnErr};
 ghost use Rattle.judge.specs.Judged.{judged};
 ghost use Rattle.commands.specs.Faults.{IsCheckFault, is_fault_of_declaration, is_fault_of_tape, fails_to_read, fails_to_write};
-ghost use Rattle.commands.specs.Inputs.{input};
+ghost use Rattle.commands.specs.Inputs.{TakesAtMost, TakesCertificate, TakesTape, input};
 ghost use Rattle.commands.specs.WhyText.{IsExplained, IsExplainedSo, IsReason};
 ghost use Rattle.commands.specs.Writes.{FrontOf, Writes};
 
@@ -45,6 +45,7 @@ fn reason_of<D: Allocator, C: Claims>(
 /// The fault of the tape, of the declaration or of the certificate's text: each is read and, if it
 /// has a fault, refused before the next is read; `Device` where a read or a write failed, after
 /// which a prefix of the text went out; `NoMemory`.
+#[tactic(auto, using(crate::proofs::InputLemmas::takes_no_text, crate::proofs::InputLemmas::takes_no_certificate))]
 pub fn explain<A: Allocator + Copy, R: ByteSource, D: ByteSource, C: ByteSource, W: ByteSink>(
     alloc: A,
     tape: &mut R,
@@ -87,6 +88,12 @@ pub fn explain<A: Allocator + Copy, R: ByteSource, D: ByteSource, C: ByteSource,
         (declaration.new ≡ declaration.old) × (certificate.new ≡ certificate.old) }
     ensures unread_certificate_after_failure { D.mark declaration.new ≡ true →
         certificate.new ≡ certificate.old }
+    // No input is read past its limit.
+    ensures takes_tape { TakesTape (R.remaining tape.old) (R.remaining tape.new) }
+    ensures takes_declaration { TakesAtMost 16385
+        (D.remaining declaration.old) (D.remaining declaration.new) }
+    ensures takes_certificate { TakesCertificate
+        (C.remaining certificate.old) (C.remaining certificate.new) }
 {
     let image = tape_from(tape)?;
     let promised = declaration_from(alloc, declaration)?;

@@ -106,6 +106,7 @@ pub(crate) fn end_of<A: Allocator>(world: &World<A>) -> End
 }
 
 /// Applies one event. A trace has a line for each instruction that was carried out.
+#[inline(always)]
 pub(crate) fn advance<A: Allocator, W: ByteSink>(
     world: &mut World<A>,
     out: &mut W,

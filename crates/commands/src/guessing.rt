@@ -3,7 +3,7 @@
 ghost use Rattle.std.specs.Prelude.{◌≡◌, ◌||◌, false, true, IfOk, IfErr, OnErr, OnOk};
 ghost use Rattle.commands.specs.CertificateText.{IsGuess};
 ghost use Rattle.commands.specs.Faults.{IsGuessFault, is_fault_of_tape, fails_to_read, fails_to_write};
-ghost use Rattle.commands.specs.Inputs.{input};
+ghost use Rattle.commands.specs.Inputs.{TakesAtMost, TakesTape, input};
 ghost use Rattle.commands.specs.Writes.{FrontOf, Writes};
 ghost use Rattle.commands.specs.declared.status.Status.TheVariants.{Done};
 
@@ -21,6 +21,7 @@ use streams::{ByteSink, ByteSource};
 /// The fault of the tape or of the declaration: each is read and, if it has a fault, refused before
 /// the next is read; `Guess` where nothing is found; `Device` where a read or a write failed, after
 /// which a prefix of the text went out; `NoMemory`. Nothing is written but where a write failed.
+#[tactic(auto, using(crate::proofs::InputLemmas::takes_no_text))]
 pub fn guess<A: Allocator + Copy, R: ByteSource, D: ByteSource, W: ByteSink>(
     alloc: A,
     tape: &mut R,
@@ -53,6 +54,10 @@ pub fn guess<A: Allocator + Copy, R: ByteSource, D: ByteSource, W: ByteSink>(
     ensures unread { IfErr result (λ fault. is_fault_of_tape fault ≡ true →
         declaration.new ≡ declaration.old) }
     ensures unread_after_failure { R.mark tape.new ≡ true → declaration.new ≡ declaration.old }
+    // No input is read past its limit.
+    ensures takes_tape { TakesTape (R.remaining tape.old) (R.remaining tape.new) }
+    ensures takes_declaration { TakesAtMost 16385
+        (D.remaining declaration.old) (D.remaining declaration.new) }
 {
     let image = tape_from(tape)?;
     let promised = declaration_from(alloc, declaration)?;

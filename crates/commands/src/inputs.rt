@@ -4,7 +4,7 @@ ghost use Rattle.std.specs.Prelude.{◌≡◌, false, IfOk, IfErr};
 ghost use Rattle.declaration.specs.Kept.{meaning};
 ghost use Rattle.certificate.specs.Kept.{meaning as lines_of};
 ghost use Rattle.commands.specs.Faults.{IsTapeInputFault, IsCertificateInputFault, IsDeclarationInputFault, IsEventsInputFault, IsBytesFault, fails_to_read};
-ghost use Rattle.commands.specs.Inputs.{AreFirst, HasImage, HasCertificate, HasDeclaration, HasEvents, input};
+ghost use Rattle.commands.specs.Inputs.{AreFirst, HasImage, HasCertificate, HasDeclaration, HasEvents, TakesAtMost, TakesCertificate, TakesTape, input};
 
 use crate::status::Fault;
 use bin_tape::{Image, read_from};
@@ -28,6 +28,7 @@ pub(crate) fn tape_from<R: ByteSource>(source: &mut R) -> Result<Image, Fault>
     ensures faults { IfErr result (IsTapeInputFault
         (input (R.mark source.new) (R.remaining source.old) (R.remaining source.new))) }
     ensures marks { R.mark source.new ≡ fails_to_read result }
+    ensures takes { TakesTape (R.remaining source.old) (R.remaining source.new) }
 {
     match read_from(source) {
         Ok(image) => Ok(image),
@@ -45,6 +46,7 @@ pub(crate) fn declaration_from<A: Allocator + Copy, R: ByteSource>(
     ensures faults { IfErr result (IsDeclarationInputFault
         (input (R.mark source.new) (R.remaining source.old) (R.remaining source.new))) }
     ensures marks { R.mark source.new ≡ fails_to_read result }
+    ensures takes { TakesAtMost 16385 (R.remaining source.old) (R.remaining source.new) }
 {
     let text = read_at_most(alloc, source, MOST_DECLARATION)?;
     match Declaration::parse(alloc, &text) {
@@ -63,6 +65,7 @@ pub(crate) fn certificate_from<A: Allocator + Copy, R: ByteSource>(
     ensures faults { IfErr result (IsCertificateInputFault
         (input (R.mark source.new) (R.remaining source.old) (R.remaining source.new))) }
     ensures marks { R.mark source.new ≡ fails_to_read result }
+    ensures takes { TakesCertificate (R.remaining source.old) (R.remaining source.new) }
 {
     match Certificate::read_from(alloc, source) {
         Ok(certificate) => Ok(certificate),
@@ -81,6 +84,7 @@ pub(crate) fn bytes_from<A: Allocator, R: ByteSource>(
     ensures faults { IfErr result (IsBytesFault most
         (input (R.mark source.new) (R.remaining source.old) (R.remaining source.new))) }
     ensures marks { R.mark source.new ≡ fails_to_read result }
+    ensures takes { TakesAtMost most (R.remaining source.old) (R.remaining source.new) }
 {
     match read_at_most(alloc, source, most as usize) {
         Ok(bytes) => Ok(bytes),
@@ -98,6 +102,7 @@ pub(crate) fn events_from<A: Allocator + Copy, R: ByteSource>(
     ensures faults { IfErr result (IsEventsInputFault
         (input (R.mark source.new) (R.remaining source.old) (R.remaining source.new))) }
     ensures marks { R.mark source.new ≡ fails_to_read result }
+    ensures takes { TakesAtMost 65537 (R.remaining source.old) (R.remaining source.new) }
 {
     let text = read_at_most(alloc, source, MOST_EVENTS)?;
     match events(alloc, &text) {

@@ -2,7 +2,7 @@
 
 ghost use Rattle.std.specs.Prelude.{◌≡◌, false, true, IfOk, IfErr, OnErr, OnOk};
 ghost use Rattle.commands.specs.Faults.{IsMigrateFault, fails_to_read, fails_to_write};
-ghost use Rattle.commands.specs.Inputs.{input};
+ghost use Rattle.commands.specs.Inputs.{TakesCertificate, input};
 ghost use Rattle.commands.specs.CertificateText.{IsMigrated};
 ghost use Rattle.commands.specs.Writes.{FrontOf, Writes};
 ghost use Rattle.commands.specs.declared.status.Status.TheVariants.{Done};
@@ -44,6 +44,9 @@ pub fn migrate<A: Allocator + Copy, C: ByteSource, W: ByteSink>(
     // A write failed exactly where the answer says so, and so did a read.
     ensures marks { W.mark out.new ≡ fails_to_write result }
     ensures reads { C.mark certificate.new ≡ fails_to_read result }
+    // It is not read past its limit.
+    ensures takes_certificate { TakesCertificate
+        (C.remaining certificate.old) (C.remaining certificate.new) }
 {
     let claims = certificate_from(alloc, certificate)?;
     let migrated = claims.migrated();

@@ -4,7 +4,7 @@ ghost use Rattle.std.specs.Prelude.{◌≡◌, ◌||◌, true, false, IfOk, IfEr
 ghost use Rattle.commands.specs.Dumping.{IsDump};
 ghost use Rattle.commands.specs.Faults.{is_fault_of_tape, fails_to_read, fails_to_write, IsEventRunFault, IsRunFault, IsTapeFault};
 ghost use Rattle.commands.specs.Course.{ends_at_halt, events_in};
-ghost use Rattle.commands.specs.Inputs.{input};
+ghost use Rattle.commands.specs.Inputs.{TakesAtMost, TakesTape, input};
 ghost use Rattle.commands.specs.Running.{IsEventRun, IsPartOf, IsPartOfEventRun, IsPartOfRoundRun, IsRoundRun, IsRunOf, IsTraceOf, IsTraceOfEvents, IsTraceOfRounds, status_of};
 ghost use Rattle.commands.specs.Writes.{FrontOf, Writes, WritesNothingOr};
 ghost use Rattle.commands.specs.declared.status.Status.TheVariants.{Done};
@@ -112,6 +112,8 @@ pub fn run<A: Allocator + Copy, R: ByteSource, W: ByteSink>(
     // A write failed exactly where the answer says so, and so did a read.
     ensures marks { W.mark out.new ≡ fails_to_write result }
     ensures reads { R.mark tape.new ≡ fails_to_read result }
+    // The tape is not read past its limit.
+    ensures takes_tape { TakesTape (R.remaining tape.old) (R.remaining tape.new) }
 {
     let image = tape_from(tape)?;
     run_course(alloc, &image, options, &Course::Rounds(options.rounds), out)
@@ -123,6 +125,7 @@ pub fn run<A: Allocator + Copy, R: ByteSource, W: ByteSink>(
 /// # Errors
 ///
 /// As for [`run`], and the text's fault. The tape is read and, if it has a fault, refused first.
+#[tactic(auto, using(crate::proofs::InputLemmas::takes_no_text))]
 pub fn run_events<A: Allocator + Copy, R: ByteSource, E: ByteSource, W: ByteSink>(
     alloc: A,
     tape: &mut R,
@@ -152,6 +155,9 @@ pub fn run_events<A: Allocator + Copy, R: ByteSource, E: ByteSource, W: ByteSink
     // The text isn't read after a tape that is refused, or whose read failed.
     ensures unread { IfErr result (λ fault. is_fault_of_tape fault ≡ true → text.new ≡ text.old) }
     ensures unread_after_failure { R.mark tape.new ≡ true → text.new ≡ text.old }
+    // No input is read past its limit.
+    ensures takes_tape { TakesTape (R.remaining tape.old) (R.remaining tape.new) }
+    ensures takes_events { TakesAtMost 65537 (E.remaining text.old) (E.remaining text.new) }
 {
     let image = tape_from(tape)?;
     let list = events_from(alloc, text)?;
@@ -182,6 +188,8 @@ pub fn dump<A: Allocator + Copy, R: ByteSource, W: ByteSink>(
     ensures nothing { OnErr result (W.mark out.new ≡ false → W.taken out.new ≡ W.taken out.old) }
     ensures marks { W.mark out.new ≡ fails_to_write result }
     ensures reads { R.mark tape.new ≡ fails_to_read result }
+    // The tape is not read past its limit.
+    ensures takes_tape { TakesTape (R.remaining tape.old) (R.remaining tape.new) }
 {
     let image = tape_from(tape)?;
     let text = dump_of(alloc, &image, profile)?;

@@ -6,7 +6,7 @@ ghost use Rattle.streams.specs.Bytes.{AppendsFront};
 ghost use Rattle.peripherals.specs.Operator.{plan_of};
 ghost use Rattle.peripherals.specs.World.{view, profile_of};
 ghost use Rattle.commands.specs.Faults.{is_fault_of_tape, fails_to_read, fails_to_write, IsRunFault, IsSessionFault};
-ghost use Rattle.commands.specs.Inputs.{input};
+ghost use Rattle.commands.specs.Inputs.{TakesAtMost, TakesTape, input};
 ghost use Rattle.commands.specs.Session.{BrokeOff, IsPartOfSession, IsSession, IsSessionOf, NothingOrFronts, Operated, FrontsOf, WritesAll, character, failures, printed_in, taken};
 ghost use Rattle.commands.specs.SessionParts.{IsPartOf, Played, PlayedFront};
 
@@ -44,6 +44,7 @@ pub struct Outputs<W, T, P> {
 }
 
 /// Types the byte that was printed after so many others, if there is one.
+#[inline(always)]
 fn type_from<T: ByteSink>(bytes: &[u8], from: usize, teletype: &mut T) -> Result<(), Failed>
     requires unmarked { T.mark teletype.old ≡ false }
     ensures whole { OnOk result (Appends (T.taken teletype.old) (T.taken teletype.new)
@@ -69,6 +70,7 @@ fn character_at(bytes: &[u8], index: usize) -> [u8; 1]
 }
 
 /// Applies one event, adds its line to the trace if one is asked for, and types what it printed.
+#[inline(always)]
 fn play<A: Allocator, W: ByteSink, T: ByteSink, P>(
     world: &mut World<A>,
     out: &mut Outputs<W, T, P>,
@@ -171,7 +173,8 @@ fn attend<A: Allocator + Copy, W: ByteSink, T: ByteSink, P: ByteSink>(
         IsSessionOf options true (plan_of operator.old) image.now text printed punched status)
         (taken (W.taken out.old.report) (T.taken out.old.teletype) (P.taken out.old.punch))
         (taken (W.taken out.new.report) (T.taken out.new.teletype) (P.taken out.new.punch))) }
-    ensures front { OnErr result (FrontsOf (IsPartOf options (plan_of operator.old) image.now)
+    ensures front { OnErr result (FrontsOf
+        (IsPartOf options (W.mark out.new.report) (plan_of operator.old) image.now)
         (failures (W.mark out.new.report) (T.mark out.new.teletype) (P.mark out.new.punch))
         (taken (W.taken out.old.report) (T.taken out.old.teletype) (P.taken out.old.punch))
         (taken (W.taken out.new.report) (T.taken out.new.teletype) (P.taken out.new.punch))) }
@@ -199,6 +202,7 @@ fn attend<A: Allocator + Copy, W: ByteSink, T: ByteSink, P: ByteSink>(
 ///
 /// The tape's fault; `Device` where a read failed, or a write, after which a front went out of what
 /// was to be reported, typed and punched; `NoMemory`.
+#[tactic(auto, using(crate::proofs::InputLemmas::takes_no_text))]
 pub fn run_session<
     A: Allocator + Copy,
     R: ByteSource,
@@ -231,9 +235,10 @@ pub fn run_session<
         (input (R.mark tape.new) (R.remaining tape.old) (R.remaining tape.new))
         (input (F.mark reader.new) (F.remaining reader.old) (F.remaining reader.new))
         (input (K.mark keys.new) (K.remaining keys.old) (K.remaining keys.new))) }
-    // After a fault fronts of that went out, or of what the first events leave, and all of it where
-    // no write failed; or nothing at all,
-    ensures front { OnErr result (NothingOrFronts (IsPartOfSession options (R.remaining tape.old)
+    // After a fault fronts of what the first events leave went out, and all of it where no write
+    // failed, or of the whole with its summary where the report failed; or nothing at all,
+    ensures front { OnErr result (NothingOrFronts (IsPartOfSession options
+        (W.mark out.new.report) (R.remaining tape.old)
         (F.remaining reader.old) (K.remaining keys.old))
         (failures (W.mark out.new.report) (T.mark out.new.teletype) (P.mark out.new.punch))
         (taken (W.taken out.old.report) (T.taken out.old.teletype) (P.taken out.old.punch))
@@ -252,6 +257,13 @@ pub fn run_session<
     ensures unread_after_failure { R.mark tape.new ≡ true →
         (reader.new ≡ reader.old) × (keys.new ≡ keys.old) }
     ensures keys_unread_after_failure { F.mark reader.new ≡ true → keys.new ≡ keys.old }
+    // The tape is not read past its limit, and of frames and keys no more are taken than there are
+    // rounds.
+    ensures takes_tape { TakesTape (R.remaining tape.old) (R.remaining tape.new) }
+    ensures takes_frames { TakesAtMost options.run.rounds
+        (F.remaining reader.old) (F.remaining reader.new) }
+    ensures takes_keys { TakesAtMost options.run.rounds
+        (K.remaining keys.old) (K.remaining keys.new) }
 {
     let image = tape_from(tape)?;
     let frames = bytes_from(alloc, reader, options.run.rounds)?;

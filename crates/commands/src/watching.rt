@@ -2,7 +2,7 @@
 
 ghost use Rattle.std.specs.Prelude.{◌≡◌, ◌||◌, false, true, IfOk, IfErr, OnErr};
 ghost use Rattle.commands.specs.Faults.{IsWatchFault, is_fault_of_declaration, is_fault_of_tape, fails_to_read, fails_to_write};
-ghost use Rattle.commands.specs.Inputs.{input};
+ghost use Rattle.commands.specs.Inputs.{TakesAtMost, TakesTape, input};
 ghost use Rattle.commands.specs.WatchText.{IsWatched, IsWatchedSo, broken_text, watched_status, watched_text};
 ghost use Rattle.commands.specs.Writes.{FrontOf, Writes};
 
@@ -60,6 +60,7 @@ fn watched_status(watched: Watched) -> Status
 /// The fault of the tape, of the declaration or of the text of events: each is read and, if it has
 /// a fault, refused before the next is read; `Device` where a read or a write failed, after which a
 /// prefix of the line went out; `NoMemory`.
+#[tactic(auto, using(crate::proofs::InputLemmas::takes_no_text))]
 pub fn watch<A: Allocator + Copy, R: ByteSource, D: ByteSource, E: ByteSource, W: ByteSink>(
     alloc: A,
     tape: &mut R,
@@ -99,6 +100,11 @@ pub fn watch<A: Allocator + Copy, R: ByteSource, D: ByteSource, E: ByteSource, W
     ensures unread_after_failure { R.mark tape.new ≡ true →
         (declaration.new ≡ declaration.old) × (list.new ≡ list.old) }
     ensures unread_list_after_failure { D.mark declaration.new ≡ true → list.new ≡ list.old }
+    // No input is read past its limit.
+    ensures takes_tape { TakesTape (R.remaining tape.old) (R.remaining tape.new) }
+    ensures takes_declaration { TakesAtMost 16385
+        (D.remaining declaration.old) (D.remaining declaration.new) }
+    ensures takes_events { TakesAtMost 65537 (E.remaining list.old) (E.remaining list.new) }
 {
     let image = tape_from(tape)?;
     let promised = declaration_from(alloc, declaration)?;

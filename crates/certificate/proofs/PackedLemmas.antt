@@ -1,0 +1,259 @@
+-- Lines packed, and the runs of their sets.
+use Rattle.std.proofs.Common.{◌≡◌, ◌⊎◌, ℕ, zero, suc, ◌+◌, ◌-◌, ◌<◌, ◌≤◌, Bool, true, false, ◌&&◌, ◌||◌, List, [], ◌∷◌, ◌++◌, length, map, get_or, take, drop, Result, Ok, Err, refl, ap, ◌∙◌, sym, inl, inr, arith, append_assoc, append-nil, length-append}
+use Rattle.std.specs.Prelude.{not, nat_le, nat_lt, slice_range, IfOk, OnOk}
+use Rattle.std.specs.List.{AllByRecursion}
+use Rattle.std.proofs.lemmas.Bool.{true≢false, cases_lt}
+use Rattle.std.proofs.lemmas.Bool.Decides.{nat_tests}
+use Rattle.std.proofs.lemmas.List.{take_all, drop_at, drop_more, drop-append-le, take-append-le, length-drop, length-map}
+use native.Mathlib.Numerals.{unary_clauses}
+use Rattle.wordset.specs.Words.{Words, SameWords, all_words, difference, nothing, between, union, IsFirstFrom, HasNoneFrom}
+use Rattle.wordset.specs.Lanes.{words}
+use Rattle.wordset.specs.Links.{links_of}
+use Rattle.wordset.proofs.SetLemmas.{words_past, words_are, all_past}
+use Rattle.facts.specs.Meaning.{offsets_of, tracked_of}
+use Rattle.facts.specs.declared.fact.TrackedCell.{TrackedCell}
+use Rattle.facts.specs.declared.offsets.Offsets.{Offsets}
+use Rattle.certificate.specs.declared.line.RoutineLine.{RoutineLine}
+use Rattle.certificate.specs.declared.line.Registers.{Registers}
+use Rattle.certificate.specs.declared.packed.Run.{Run}
+use Rattle.certificate.specs.declared.packed.Span.{Span}
+use Rattle.certificate.specs.declared.packed.PackedRoutine.{PackedRoutine}
+use Rattle.certificate.specs.declared.packed.PackedRegisters.{PackedRegisters}
+use Rattle.certificate.specs.declared.packed.PackedLine.{PackedLine}
+use Rattle.certificate.specs.declared.packed.PackedLine.TheVariants as packed
+use Rattle.certificate.specs.Line.{Line, Registers as SaidRegisters, RoutineIs, FactIs, ExitIs, CellIs}
+use Rattle.certificate.specs.Meaning.{routine_of, registers_of}
+use Rattle.certificate.specs.Spelled.{IsLastOf}
+use Rattle.certificate.specs.Packed.{Begins, joined, set_at, routine_at, registers_at, said_at, lines_in, IsSpanWithin, AreWithin, LiesWithin, IsLaid, AreLaid, IsPacked}
+
+-- A run more.
+pub joined_more : (t : Words) (rs : List Run) (r : Run) → joined t (rs ++ r ∷ []) ≡ union (joined t rs) (between r.first r.last)
+joined_more t [] r = refl
+joined_more t (x ∷ rs) r = joined_more (union t (between x.first x.last)) rs r
+
+-- The runs of a set that were added so far: those of its words below n.
+pub record RunsSofar (old new : List Run) (set : Words) (n : ℕ) : Type 0 where
+  pub more : List Run
+  pub is : new ≡ old ++ more
+  pub few : n ≤ 4096
+  pub below : (v : ℕ) → v < n → joined nothing more v ≡ set v
+  pub above : (v : ℕ) → n ≤ v → joined nothing more v ≡ false
+
+pub no_runs : (old : List Run) (set : Words) → RunsSofar old old set 0
+no_runs old set = record {
+  more = [];
+  is = sym (append-nil old);
+  few = omega arith;
+  below = λ v h. absurd (omega arith);
+  above = λ v h. refl;
+}
+
+pub runs_begin : (old new : List Run) (set : Words) (n : ℕ) → RunsSofar old new set n → Begins old new
+runs_begin old new set n s = (s.more, s.is)
+
+in_between : (low high v : ℕ) → low ≤ v → v ≤ high → between low high v ≡ true
+in_between low high v a b = grind (arith, nat_tests)
+
+below_between : (low high v : ℕ) → v < low → between low high v ≡ false
+below_between low high v a = grind (arith, nat_tests)
+
+above_between : (low high v : ℕ) → high < v → between low high v ≡ false
+above_between low high v a = go (nat_le low v) (nat_le v high) (grind (arith, nat_tests))
+  where
+    go : (b c : Bool) → c ≡ false → (b && c) ≡ false
+    go true c e = e
+    go false c e = refl
+
+or_with : (a b c d : Bool) → a ≡ c → b ≡ d → (a || b) ≡ (c || d)
+or_with a b c d e f = ap (λ x. x || b) e ∙ ap (λ x. c || x) f
+
+or_false : (b : Bool) → (b || false) ≡ b
+or_false true = refl
+or_false false = refl
+
+or_true : (b : Bool) → (b || true) ≡ true
+or_true true = refl
+or_true false = refl
+
+-- A run is added, from the first word of a set from n on to the last one before a word that isn't in it.
+pub run_added : (old now new : List Run) (set others : Words) (n : ℕ) (run : Run) → RunsSofar old now set n → IsFirstFrom n set run.first →
+    IsLastOf others run.first run.last → others ≡ difference all_words set → new ≡ now ++ run ∷ [] → RunsSofar old new set (run.last + 1)
+run_added old now new set others n run s f l are e = record {
+  more = s.more ++ run ∷ [];
+  is = e ∙ (ap (λ x. x ++ run ∷ []) s.is ∙ append_assoc old s.more (run ∷ []));
+  few = (let q : run.last < 4096 = l.small in omega arith);
+  below = λ v h. at v ∙ elim (cases_lt v n) [
+    | inl a ↦ (let q : n ≤ run.first = f.reached in
+        or_with _ _ (set v) false (s.below v a) (below_between run.first run.last v (omega arith)) ∙ or_false (set v))
+    | inr a ↦ elim (cases_lt v run.first) [
+      | inl b ↦ or_with _ _ false false (s.above v a) (below_between run.first run.last v b) ∙ sym (f.before v a b)
+      | inr b ↦ or_with _ _ false true (s.above v a) (in_between run.first run.last v b (omega arith)) ∙
+          sym (there v (let q : run.last < 4096 = l.small in omega arith) (ap (λ (k : Words). k v) (sym are) ∙ l.inside v b (omega arith)))
+    ]
+  ];
+  above = λ v h. at v ∙ (let q : n ≤ run.first = f.reached in let o : run.first ≤ run.last = l.order in
+      or_with _ _ false false (s.above v (omega arith)) (above_between run.first run.last v (omega arith)));
+}
+  where
+    at : (v : ℕ) → joined nothing (s.more ++ run ∷ []) v ≡ (joined nothing s.more v || between run.first run.last v)
+    at v = ap (λ (k : Words). k v) (joined_more nothing s.more run)
+
+    there : (v : ℕ) → v < 4096 → difference all_words set v ≡ false → set v ≡ true
+    there v h e = go (set v) (all_words v) (grind (arith, nat_tests)) e
+      where
+        go : (b c : Bool) → c ≡ true → (c && not b) ≡ false → b ≡ true
+        go true c k q = refl
+        go false c k q = absurd (let z : true ≡ false = rw k at q in true≢false z)
+
+-- All of them were added.
+pub all_runs : (old new : List Run) (lanes : List ℕ) (n : ℕ) → RunsSofar old new (words lanes) n → HasNoneFrom n (words lanes) →
+    joined nothing (drop (length old) new) ≡ words lanes
+all_runs old new lanes n s none =
+    let e : drop (length old) new ≡ s.more = ap (drop (length old)) s.is ∙ drop_at old s.more (length old) refl in
+    ap (λ (rs : List Run). joined nothing rs) e ∙ sym (words_are lanes (joined nothing s.more) past same)
+  where
+    past : (v : ℕ) → 4096 ≤ v → joined nothing s.more v ≡ false
+    past v h = s.above v (let q : n ≤ 4096 = s.few in omega arith)
+
+    same : SameWords (words lanes) (joined nothing s.more)
+    same v h = elim (cases_lt v n) [
+      | inl a ↦ sym (s.below v a)
+      | inr a ↦ none v a h ∙ sym (s.above v a)
+    ]
+
+-- The words from 0000 to 7777 are all.
+pub all_between : (low high : ℕ) → low ≡ 0 → high ≡ 4095 → all_words ≡ between low high
+all_between low high e f = rw (e, f) (all_is (λ v. at v))
+  where
+    at : (v : ℕ) → all_words v ≡ between 0 4095 v
+    at v = grind (arith, nat_tests)
+
+    all_is : ((v : ℕ) → all_words v ≡ between 0 4095 v) → all_words ≡ between 0 4095
+    all_is h i v = h v i
+
+-- What is kept stays so where more runs are added.
+range_kept : {X : Type 0} (xs more : List X) (first last : ℕ) → first ≤ last → last ≤ length xs → slice_range (xs ++ more) first last ≡ slice_range xs first last
+range_kept xs more first last h k =
+    let room : last - first ≤ length (drop first xs) = omega (arith, length-drop first xs) in
+    ap (take (last - first)) (drop-append-le first xs more (omega arith)) ∙ take-append-le (last - first) (drop first xs) more room
+
+set_kept : (runs more : List Run) (s : Span) → IsSpanWithin (length runs) s → set_at (runs ++ more) s ≡ set_at runs s
+set_kept runs more s h = ap (λ (rs : List Run). joined nothing rs) (range_kept runs more s.first s.last h.forward h.inside)
+
+span_on : (n m : ℕ) (s : Span) → n ≤ m → IsSpanWithin n s → IsSpanWithin m s
+span_on n m s h w = record { forward = w.forward; inside = (let q : s.last ≤ n = w.inside in omega arith) }
+
+registers_kept : (runs more : List Run) (r : PackedRegisters) → AreWithin (length runs) r → registers_at (runs ++ more) r ≡ registers_at runs r
+registers_kept runs more r h = rw (set_kept runs more r.accumulator h.accumulator, set_kept runs more r.mq h.mq) refl
+
+line_kept : (runs more : List Run) (l : PackedLine) → LiesWithin (length runs) l → said_at (runs ++ more) l ≡ said_at runs l
+line_kept runs more (packed.Routine r) h = rw (set_kept runs more r.sites h.0, set_kept runs more r.writes h.1) refl
+line_kept runs more (packed.Fact a r m) h = ap (λ (g : SaidRegisters). FactIs a g (offsets_of m)) (registers_kept runs more r h)
+line_kept runs more (packed.Exit e o r) h = ap (λ (g : SaidRegisters). ExitIs e o g) (registers_kept runs more r h)
+line_kept runs more (packed.Cell a s) h = rw (set_kept runs more s h) refl
+line_kept runs more (packed.Equation q) h = refl
+line_kept runs more packed.End h = refl
+
+lines_kept : (runs more : List Run) (ls : List PackedLine) → AllByRecursion (LiesWithin (length runs)) ls →
+    lines_in (runs ++ more) ls ≡ lines_in runs ls
+lines_kept runs more [] h = refl
+lines_kept runs more (l ∷ ls) h = rw (line_kept runs more l h.0, lines_kept runs more ls h.1) refl
+
+within_on : (n m : ℕ) (l : PackedLine) → n ≤ m → LiesWithin n l → LiesWithin m l
+within_on n m (packed.Routine r) h w = (span_on n m r.sites h w.0, span_on n m r.writes h w.1)
+within_on n m (packed.Fact a r o) h w = record { accumulator = span_on n m r.accumulator h w.accumulator; mq = span_on n m r.mq h w.mq }
+within_on n m (packed.Exit e o r) h w = record { accumulator = span_on n m r.accumulator h w.accumulator; mq = span_on n m r.mq h w.mq }
+within_on n m (packed.Cell a s) h w = span_on n m s h w
+within_on n m (packed.Equation q) h w = tt
+within_on n m packed.End h w = tt
+
+all_on : (n m : ℕ) (ls : List PackedLine) (l : PackedLine) → n ≤ m → AllByRecursion (LiesWithin n) ls → LiesWithin m l →
+    AllByRecursion (LiesWithin m) (ls ++ l ∷ [])
+all_on n m [] l h w one = (one, tt)
+all_on n m (x ∷ ls) l h w one = (within_on n m x h w.0, all_on n m ls l h w.1 one)
+
+-- The runs of a set lie between the two lengths.
+pub laid : (old new : List Run) (s : Span) (set : Words) → Begins old new → s.first ≡ length old → s.last ≡ length new →
+    joined nothing (drop (length old) new) ≡ set → IsLaid new s set
+laid old new s set b first last is = record {
+  within = record { forward = (let q = longer old new b in omega arith); inside = omega arith };
+  is = (let e : slice_range new s.first s.last ≡ drop (length old) new =
+      rw (first, last) (take_all (length new - length old) (drop (length old) new) (omega (arith, length-drop (length old) new))) in
+      ap (λ (rs : List Run). joined nothing rs) e ∙ is);
+}
+  where
+    longer : (old new : List Run) → Begins old new → length old ≤ length new
+    longer old new b = let e : length new ≡ length (old ++ b.0) = ap length b.1 in omega (arith, length-append old b.0)
+
+-- Those that were laid before others were.
+laid_on : (old new : List Run) (s : Span) (set : Words) → Begins old new → IsLaid old s set → IsLaid new s set
+laid_on old new s set b l = rw b.1 (record {
+  within = span_on (length old) (length (old ++ b.0)) s (omega (arith, length-append old b.0)) l.within;
+  is = set_kept old b.0 s l.within ∙ l.is;
+})
+
+pub registers_laid : (old new : List Run) (r : PackedRegisters) (g : Registers) → Begins old new → IsLaid old r.accumulator (words g.accumulator) →
+    IsLaid new r.mq (words g.mq) → r.link ≡ g.link → AreLaid new r (registers_of g)
+registers_laid old new r g b first second link =
+    let a : IsLaid new r.accumulator (words g.accumulator) = laid_on old new r.accumulator (words g.accumulator) b first in
+    record { within = record { accumulator = a.within; mq = second.within }; is = rw (a.is, second.is, link) refl }
+
+pub routine_laid : (old new : List Run) (r : PackedRoutine) (g : RoutineLine) → Begins old new → IsLaid old r.sites (words g.sites) →
+    IsLaid new r.writes (words g.writes) → r.entry ≡ g.entry → r.rank ≡ g.rank → IsPacked new (packed.Routine r) (RoutineIs (routine_of g))
+routine_laid old new r g b first second entry rank =
+    let a : IsLaid new r.sites (words g.sites) = laid_on old new r.sites (words g.sites) b first in
+    record { within = (a.within, second.within); is = rw (a.is, second.is, entry, rank) refl }
+
+pub fact_laid : (runs : List Run) (at : ℕ) (r : PackedRegisters) (offsets : Offsets) (g : SaidRegisters) → AreLaid runs r g →
+    IsPacked runs (packed.Fact at r offsets) (FactIs at g (offsets_of offsets))
+fact_laid runs at r offsets g l = record { within = l.within; is = ap (λ (x : SaidRegisters). FactIs at x (offsets_of offsets)) l.is }
+
+pub exit_laid : (runs : List Run) (e o : ℕ) (r : PackedRegisters) (g : SaidRegisters) → AreLaid runs r g →
+    IsPacked runs (packed.Exit e o r) (ExitIs e o g)
+exit_laid runs e o r g l = record { within = l.within; is = ap (λ (x : SaidRegisters). ExitIs e o x) l.is }
+
+pub cell_laid : (runs : List Run) (s : Span) (t : TrackedCell) → IsLaid runs s (words t.set) →
+    IsPacked runs (packed.Cell t.cell s) (CellIs (tracked_of t))
+cell_laid runs s t l = record { within = l.within; is = rw l.is refl }
+
+-- A line more.
+pub line_added : (runs new : List Run) (ls after : List PackedLine) (l : PackedLine) (line : Line) → AllByRecursion (LiesWithin (length runs)) ls →
+    Begins runs new → IsPacked new l line → after ≡ ls ++ l ∷ [] → lines_in new after ≡ lines_in runs ls ++ line ∷ []
+line_added runs new ls after l line h b p e =
+    rw (e, b.1) (on ls ∙ (ap (λ (x : List Line). x ++ said_at (runs ++ b.0) l ∷ []) (lines_kept runs b.0 ls h) ∙
+    ap (λ (x : Line). lines_in runs ls ++ x ∷ []) (rw b.1 at p.is)))
+  where
+    on : (xs : List PackedLine) → lines_in (runs ++ b.0) (xs ++ l ∷ []) ≡ lines_in (runs ++ b.0) xs ++ said_at (runs ++ b.0) l ∷ []
+    on [] = refl
+    on (x ∷ xs) = ap (λ (y : List Line). said_at (runs ++ b.0) x ∷ y) (on xs)
+
+pub all_within : (runs new : List Run) (ls after : List PackedLine) (l : PackedLine) (line : Line) → AllByRecursion (LiesWithin (length runs)) ls →
+    Begins runs new → IsPacked new l line → after ≡ ls ++ l ∷ [] → AllByRecursion (LiesWithin (length new)) after
+all_within runs new ls after l line h b p e =
+    let q : length new ≡ length (runs ++ b.0) = ap length b.1 in
+    rw e (all_on (length runs) (length new) ls l (omega (arith, length-append runs b.0)) h p.within)
+
+-- The line at a place.
+pub lies_at : (n : ℕ) (ls : List PackedLine) (i : ℕ) (d : PackedLine) → AllByRecursion (LiesWithin n) ls → i < length ls → LiesWithin n (get_or ls i d)
+lies_at n [] i d h b = absurd (omega arith)
+lies_at n (l ∷ ls) zero d h b = h.0
+lies_at n (l ∷ ls) (suc i) d h b = lies_at n ls i d h.1 (omega arith)
+
+pub said_there : (runs : List Run) (ls : List PackedLine) (i : ℕ) (d : PackedLine) → i < length ls →
+    drop i (lines_in runs ls) ≡ said_at runs (get_or ls i d) ∷ drop (i + 1) (lines_in runs ls)
+said_there runs [] i d b = absurd (omega arith)
+said_there runs (l ∷ ls) zero d b = refl
+said_there runs (l ∷ ls) (suc i) d b = simp unary_clauses (said_there runs ls i d (omega arith))
+
+-- Lines in front of others.
+pub front_kept : (runs : List Run) (ls : List PackedLine) (n : ℕ) → lines_in runs (take n ls) ≡ take n (lines_in runs ls)
+front_kept runs [] zero = refl
+front_kept runs [] (suc n) = refl
+front_kept runs (l ∷ ls) zero = refl
+front_kept runs (l ∷ ls) (suc n) = ap (λ (x : List Line). said_at runs l ∷ x) (front_kept runs ls n)
+
+pub front_within : (m : ℕ) (ls : List PackedLine) (n : ℕ) → AllByRecursion (LiesWithin m) ls → AllByRecursion (LiesWithin m) (take n ls)
+front_within m [] zero h = tt
+front_within m [] (suc n) h = tt
+front_within m (l ∷ ls) zero h = tt
+front_within m (l ∷ ls) (suc n) h = (h.0, front_within m ls n h.1)

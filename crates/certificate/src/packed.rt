@@ -1,0 +1,310 @@
+//! Lines packed: each set by its runs of words, and the runs of all sets in one list.
+
+ghost use Rattle.std.specs.Prelude.{◌≡◌, ◌+◌, ◌<◌, [], ◌∷◌, ◌++◌, length, take, drop, false, IfOk, OnOk, OnErr};
+ghost use Rattle.wordset.specs.Words.{nothing, between};
+ghost use Rattle.wordset.specs.Lanes.{words};
+ghost use Rattle.certificate.specs.Line.{RoutineIs};
+ghost use Rattle.certificate.specs.Meaning.{said, registers_of, routine_of};
+ghost use Rattle.certificate.specs.Spelled.{IsLastOf};
+ghost use Rattle.certificate.specs.Packed.{Begins, joined, set_at, registers_at, said_at, said_lines, IsSpanWithin, AreWithin, LiesWithin, IsLaid, AreLaid, IsPacked};
+
+use crate::line::{Line, Registers, RoutineLine};
+use facts::{Equation, Offsets, TrackedCell};
+use std::alloc::{AllocError, Allocator};
+use std::marker::Model;
+use word12::Word;
+use wordset::{Links, WordSet};
+
+/// Words in a row: the first and the last one.
+#[derive(Clone, Copy)]
+pub struct Run {
+    pub first: Word,
+    pub last: Word,
+}
+
+/// Where the runs of a set lie among those of all: from `first` up to the one before `last`.
+#[derive(Clone, Copy)]
+pub struct Span {
+    pub first: u32,
+    pub last: u32,
+}
+
+/// What a line says of a routine, its sets packed.
+#[derive(Clone, Copy)]
+pub struct PackedRoutine {
+    pub entry: Word,
+    pub rank: usize,
+    pub sites: Span,
+    pub writes: Span,
+}
+
+/// The words that the accumulator and MQ may hold, packed, and the links.
+#[derive(Clone, Copy)]
+pub struct PackedRegisters {
+    pub accumulator: Span,
+    pub mq: Span,
+    pub link: Links,
+}
+
+/// What a line says, its sets packed.
+#[derive(Clone, Copy)]
+pub enum PackedLine {
+    Routine(PackedRoutine),
+    Fact(Word, PackedRegisters, Offsets),
+    Exit(Word, u8, PackedRegisters),
+    Cell(Word, Span),
+    Equation(Equation),
+    End,
+}
+
+/// Lines in their order, packed. The runs of all their sets lie in one list.
+#[derive(Drop)]
+pub struct PackedLines<A: Allocator> {
+    list: Vec<PackedLine, A>,
+    runs: Vec<Run, A>,
+}
+
+impl<A: Allocator> Model for PackedLines<A> {
+    ghost use Rattle.std.specs.Prelude.{List, length};
+    ghost use Rattle.std.specs.List.{AllByRecursion};
+    ghost use Rattle.certificate.specs.Packed.{Packed, LiesWithin};
+
+    ghost Value = { Packed };
+
+    ghost view = { λ p. record { list = p.list.items; runs = p.runs.items } };
+
+    // The runs of each set lie among those of all.
+    ghost invariant = { λ p. AllByRecursion (LiesWithin (length p.runs.items)) p.list.items };
+}
+
+/// The last word of the run that begins at a word, by the words that aren't in the set.
+pub fn last_before(others: &WordSet, low: Word) -> Word
+    requires { words others.now low ≡ false }
+    ensures { IsLastOf (words others.now) low result }
+{
+    match others.first_from(low.index()) {
+        Some(after) => Word::from_index(after.index() - 1),
+        None => Word::from_index(4095),
+    }
+}
+
+/// Adds the runs of a set in rising order; where that's refused, some of them.
+fn push_runs<A: Allocator>(runs: &mut Vec<Run, A>, set: &WordSet) -> Result<(), AllocError>
+    ensures front { Begins runs.old.items runs.new.items }
+    ensures whole { OnOk result
+        (joined nothing (drop (length runs.old.items) runs.new.items) ≡ words set.now) }
+{
+    let others = WordSet::all().minus(set);
+    let mut next = 0;
+    while let Some(first) = set.first_from(next) {
+        let last = last_before(&others, first);
+        runs.push(Run { first, last })?;
+        next = last.index() + 1;
+    }
+    Ok(())
+}
+
+/// The length of a list as it's kept, where it isn't too great.
+fn kept_length(length: usize) -> Result<u32, AllocError>
+    ensures { IfOk result (λ kept. kept ≡ length) }
+{
+    match u32::try_from(length) {
+        Ok(kept) => Ok(kept),
+        Err(_) => Err(AllocError),
+    }
+}
+
+/// Adds the runs of a set, and tells where they lie.
+fn lay<A: Allocator>(runs: &mut Vec<Run, A>, set: &WordSet) -> Result<Span, AllocError>
+    ensures front { Begins runs.old.items runs.new.items }
+    ensures laid { IfOk result (λ span. IsLaid runs.new.items span (words set.now)) }
+{
+    let first = kept_length(runs.len())?;
+    push_runs(runs, set)?;
+    let last = kept_length(runs.len())?;
+    Ok(Span { first, last })
+}
+
+/// Adds the runs of the accumulator's set and of MQ's.
+fn lay_registers<A: Allocator>(
+    runs: &mut Vec<Run, A>,
+    registers: &Registers,
+) -> Result<PackedRegisters, AllocError>
+    ensures front { Begins runs.old.items runs.new.items }
+    ensures laid { IfOk result (λ packed.
+        AreLaid runs.new.items packed (registers_of registers.now)) }
+{
+    let accumulator = lay(runs, &registers.accumulator)?;
+    let mq = lay(runs, &registers.mq)?;
+    Ok(PackedRegisters {
+        accumulator,
+        mq,
+        link: registers.link,
+    })
+}
+
+/// Adds the runs of a routine's sets.
+fn pack_routine<A: Allocator>(
+    runs: &mut Vec<Run, A>,
+    routine: &RoutineLine,
+) -> Result<PackedLine, AllocError>
+    ensures front { Begins runs.old.items runs.new.items }
+    ensures packed { IfOk result (λ l. IsPacked runs.new.items l (RoutineIs (routine_of routine.now))) }
+{
+    let sites = lay(runs, &routine.sites)?;
+    let writes = lay(runs, &routine.writes)?;
+    Ok(PackedLine::Routine(PackedRoutine {
+        entry: routine.entry,
+        rank: routine.rank,
+        sites,
+        writes,
+    }))
+}
+
+/// The line packed, after its sets' runs were added.
+fn pack<A: Allocator>(runs: &mut Vec<Run, A>, line: &Line) -> Result<PackedLine, AllocError>
+    ensures front { Begins runs.old.items runs.new.items }
+    ensures packed { IfOk result (λ l. IsPacked runs.new.items l (said line.now)) }
+{
+    match line {
+        Line::Routine(routine) => pack_routine(runs, routine),
+        Line::Fact(at, registers, offsets) => {
+            let packed = lay_registers(runs, registers)?;
+            Ok(PackedLine::Fact(*at, packed, *offsets))
+        }
+        Line::Exit(entry, offset, registers) => {
+            let packed = lay_registers(runs, registers)?;
+            Ok(PackedLine::Exit(*entry, *offset, packed))
+        }
+        Line::Cell(tracked) => {
+            let set = lay(runs, &tracked.set)?;
+            Ok(PackedLine::Cell(tracked.cell, set))
+        }
+        Line::Equation(equation) => Ok(PackedLine::Equation(*equation)),
+        Line::End => Ok(PackedLine::End),
+    }
+}
+
+/// The words from one to another; all of them aren't put in one by one.
+pub fn words_between(first: Word, last: Word) -> WordSet
+    ensures { words result ≡ between first last }
+{
+    if first.index() == 0 && last.index() == 4095 {
+        WordSet::all()
+    } else {
+        WordSet::range(first, last)
+    }
+}
+
+/// The set of which these are runs.
+fn set_of(runs: &[Run]) -> WordSet
+    ensures { words result ≡ joined nothing runs.now }
+{
+    let mut set = WordSet::empty();
+    for run in runs {
+        set = set.union(&words_between(run.first, run.last));
+    }
+    set
+}
+
+/// The set of which the runs lie here.
+fn set_in(runs: &[Run], span: Span) -> WordSet
+    requires { IsSpanWithin (length runs.now) span }
+    ensures { words result ≡ set_at runs.now span }
+{
+    set_of(&runs[span.first as usize..span.last as usize])
+}
+
+/// The registers of which the runs lie here.
+fn registers_in(runs: &[Run], packed: &PackedRegisters) -> Registers
+    requires { AreWithin (length runs.now) packed.now }
+    ensures { registers_of result ≡ registers_at runs.now packed.now }
+{
+    Registers {
+        accumulator: set_in(runs, packed.accumulator),
+        mq: set_in(runs, packed.mq),
+        link: packed.link,
+    }
+}
+
+/// The line that was packed so.
+fn unpack(runs: &[Run], packed: &PackedLine) -> Line
+    requires { LiesWithin (length runs.now) packed.now }
+    ensures { said result ≡ said_at runs.now packed.now }
+{
+    match packed {
+        PackedLine::Routine(routine) => Line::Routine(RoutineLine {
+            entry: routine.entry,
+            rank: routine.rank,
+            sites: set_in(runs, routine.sites),
+            writes: set_in(runs, routine.writes),
+        }),
+        PackedLine::Fact(at, registers, offsets) => {
+            Line::Fact(*at, registers_in(runs, registers), *offsets)
+        }
+        PackedLine::Exit(entry, offset, registers) => {
+            Line::Exit(*entry, *offset, registers_in(runs, registers))
+        }
+        PackedLine::Cell(cell, span) => Line::Cell(TrackedCell {
+            cell: *cell,
+            set: set_in(runs, *span),
+        }),
+        PackedLine::Equation(equation) => Line::Equation(*equation),
+        PackedLine::End => Line::End,
+    }
+}
+
+impl<A: Allocator + Copy> PackedLines<A> {
+    /// No line.
+    pub fn new(alloc: A) -> PackedLines<A>
+        ensures { said_lines result ≡ [] }
+    {
+        PackedLines {
+            list: Vec::new(alloc),
+            runs: Vec::new(alloc),
+        }
+    }
+}
+
+impl<A: Allocator> PackedLines<A> {
+    /// How many there are.
+    pub fn len(&self) -> usize
+        ensures { result ≡ length (said_lines self.now) }
+    {
+        self.list.len()
+    }
+
+    /// The line at a place.
+    pub fn line(&self, at: usize) -> Line
+        requires { at < length (said_lines self.now) }
+        ensures { drop at (said_lines self.now) ≡
+            said result ∷ drop (at + 1) (said_lines self.now) }
+    {
+        unpack(&self.runs, &self.list[at])
+    }
+
+    /// Adds a line, or leaves all as it is.
+    pub fn push(&mut self, line: &Line) -> Result<(), AllocError>
+        ensures added { OnOk result
+            (said_lines self.new ≡ said_lines self.old ++ said line.now ∷ []) }
+        ensures same { OnErr result (said_lines self.new ≡ said_lines self.old) }
+    {
+        let count = self.runs.len();
+        let Ok(packed) = pack(&mut self.runs, line) else {
+            self.runs.truncate(count);
+            return Err(AllocError);
+        };
+        let Ok(()) = self.list.push(packed) else {
+            self.runs.truncate(count);
+            return Err(AllocError);
+        };
+        Ok(())
+    }
+
+    /// Takes all but so many at the front away. Their runs stay until all is dropped.
+    pub fn truncate(&mut self, count: usize)
+        ensures { said_lines self.new ≡ take count (said_lines self.old) }
+    {
+        self.list.truncate(count);
+    }
+}

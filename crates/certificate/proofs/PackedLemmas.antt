@@ -4,7 +4,7 @@ use Rattle.std.specs.Prelude.{not, nat_le, nat_lt, slice_range, IfOk, OnOk}
 use Rattle.std.specs.List.{AllByRecursion}
 use Rattle.std.proofs.lemmas.Bool.{true≢false, cases_lt}
 use Rattle.std.proofs.lemmas.Bool.Decides.{nat_tests}
-use Rattle.std.proofs.lemmas.List.{take_all, drop_at, drop_more, drop-append-le, take-append-le, length-drop, length-map}
+use Rattle.std.proofs.lemmas.List.{take_all, take_more, drop_at, drop_more, drop-append-le, take-append-le, length-drop, length-map}
 use native.Mathlib.Numerals.{unary_clauses}
 use Rattle.wordset.specs.Words.{Words, SameWords, all_words, difference, nothing, between, union, IsFirstFrom, HasNoneFrom}
 use Rattle.wordset.specs.Lanes.{words}
@@ -30,6 +30,12 @@ use Rattle.certificate.specs.Packed.{Begins, joined, set_at, routine_at, registe
 pub joined_more : (t : Words) (rs : List Run) (r : Run) → joined t (rs ++ r ∷ []) ≡ union (joined t rs) (between r.first r.last)
 joined_more t [] r = refl
 joined_more t (x ∷ rs) r = joined_more (union t (between x.first x.last)) rs r
+
+-- The runs up to the one at an index, and that one.
+pub run_joined : (set after : Words) (rs : List Run) (i : ℕ) (r : Run) → i < length rs → r ≡ get_or rs i r → set ≡ joined nothing (take i rs) →
+    after ≡ union set (between r.first r.last) → after ≡ joined nothing (take (i + 1) rs)
+run_joined set after rs i r h at so e =
+    rw (take_more rs i r h, joined_more nothing (take i rs) (get_or rs i r), ← at, ← so) e
 
 -- The runs of a set that were added so far: those of its words below n.
 pub record RunsSofar (old new : List Run) (set : Words) (n : ℕ) : Type 0 where

@@ -33,7 +33,7 @@ pub struct Span {
 #[derive(Clone, Copy)]
 pub struct PackedRoutine {
     pub entry: Word,
-    pub rank: usize,
+    pub rank: u32,
     pub sites: Span,
     pub writes: Span,
 }
@@ -104,11 +104,11 @@ fn push_runs<A: Allocator>(runs: &mut Vec<Run, A>, set: &WordSet) -> Result<(), 
     Ok(())
 }
 
-/// The length of a list as it's kept, where it isn't too great.
-fn kept_length(length: usize) -> Result<u32, AllocError>
-    ensures { IfOk result (λ kept. kept ≡ length) }
+/// A number as it's kept, where it isn't too great.
+fn kept_number(number: usize) -> Result<u32, AllocError>
+    ensures { IfOk result (λ kept. kept ≡ number) }
 {
-    match u32::try_from(length) {
+    match u32::try_from(number) {
         Ok(kept) => Ok(kept),
         Err(_) => Err(AllocError),
     }
@@ -119,9 +119,9 @@ fn lay<A: Allocator>(runs: &mut Vec<Run, A>, set: &WordSet) -> Result<Span, Allo
     ensures front { Begins runs.old.items runs.new.items }
     ensures laid { IfOk result (λ span. IsLaid runs.new.items span (words set.now)) }
 {
-    let first = kept_length(runs.len())?;
+    let first = kept_number(runs.len())?;
     push_runs(runs, set)?;
-    let last = kept_length(runs.len())?;
+    let last = kept_number(runs.len())?;
     Ok(Span { first, last })
 }
 
@@ -151,11 +151,12 @@ fn pack_routine<A: Allocator>(
     ensures front { Begins runs.old.items runs.new.items }
     ensures packed { IfOk result (λ l. IsPacked runs.new.items l (RoutineIs (routine_of routine.now))) }
 {
+    let rank = kept_number(routine.rank)?;
     let sites = lay(runs, &routine.sites)?;
     let writes = lay(runs, &routine.writes)?;
     Ok(PackedLine::Routine(PackedRoutine {
         entry: routine.entry,
-        rank: routine.rank,
+        rank,
         sites,
         writes,
     }))
@@ -235,7 +236,7 @@ fn unpack(runs: &[Run], packed: &PackedLine) -> Line
     match packed {
         PackedLine::Routine(routine) => Line::Routine(RoutineLine {
             entry: routine.entry,
-            rank: routine.rank,
+            rank: routine.rank as usize,
             sites: set_in(runs, routine.sites),
             writes: set_in(runs, routine.writes),
         }),

@@ -4,7 +4,7 @@ use Rattle.std.specs.Prelude.{not, nat_le, nat_lt, slice_range, IfOk, OnOk}
 use Rattle.std.specs.List.{AllByRecursion}
 use Rattle.std.proofs.lemmas.Bool.{true≢false, cases_lt}
 use Rattle.std.proofs.lemmas.Bool.Decides.{nat_tests}
-use Rattle.std.proofs.lemmas.List.{take_all, take_more, drop_at, drop_more, drop-append-le, take-append-le, length-drop, length-map}
+use Rattle.std.proofs.lemmas.List.{take_all, take_at, take_more, drop_at, drop_more, drop-append-le, take-append-le, length-drop, length-map}
 use native.Mathlib.Numerals.{unary_clauses}
 use Rattle.wordset.specs.Words.{Words, SameWords, all_words, difference, nothing, between, union, IsFirstFrom, HasNoneFrom}
 use Rattle.wordset.specs.Lanes.{words}
@@ -239,6 +239,11 @@ all_within runs new ls after l line h b p e =
     let q : length new ≡ length (runs ++ b.0) = ap length b.1 in
     rw e (all_on (length runs) (length new) ls l (omega (arith, length-append runs b.0)) h p.within)
 
+-- The runs that were added are taken away.
+pub back_within : (runs new after : List Run) (ls now : List PackedLine) (n : ℕ) → AllByRecursion (LiesWithin (length runs)) ls → Begins runs new →
+    n ≡ length runs → after ≡ take n new → now ≡ ls → AllByRecursion (LiesWithin (length after)) now
+back_within runs new after ls now n h b k e same = rw (e, b.1, take_at runs b.0 n (sym k), same) h
+
 -- The line at a place.
 pub lies_at : (n : ℕ) (ls : List PackedLine) (i : ℕ) (d : PackedLine) → AllByRecursion (LiesWithin n) ls → i < length ls → LiesWithin n (get_or ls i d)
 lies_at n [] i d h b = absurd (omega arith)
@@ -249,7 +254,13 @@ pub said_there : (runs : List Run) (ls : List PackedLine) (i : ℕ) (d : PackedL
     drop i (lines_in runs ls) ≡ said_at runs (get_or ls i d) ∷ drop (i + 1) (lines_in runs ls)
 said_there runs [] i d b = absurd (omega arith)
 said_there runs (l ∷ ls) zero d b = refl
-said_there runs (l ∷ ls) (suc i) d b = simp unary_clauses (said_there runs ls i d (omega arith))
+said_there runs (l ∷ ls) (suc i) d b = simp unary_clauses (simp unary_clauses at (said_there runs ls i d (omega arith)))
+
+pub line_there : (runs : List Run) (ls : List PackedLine) (i : ℕ) (d : PackedLine) (l : Line) → d ≡ get_or ls i d → l ≡ said_at runs d →
+    i < length (lines_in runs ls) → drop i (lines_in runs ls) ≡ l ∷ drop (i + 1) (lines_in runs ls)
+line_there runs ls i d l at is h =
+    let b : i < length ls = omega (arith, length-map ls (said_at runs)) in
+    said_there runs ls i d b ∙ ap (λ (x : Line). x ∷ drop (i + 1) (lines_in runs ls)) (ap (said_at runs) (sym at) ∙ sym is)
 
 -- Lines in front of others.
 pub front_kept : (runs : List Run) (ls : List PackedLine) (n : ℕ) → lines_in runs (take n ls) ≡ take n (lines_in runs ls)

@@ -4,8 +4,8 @@ use Rattle.certificate.proofs.FoundLemmas.{places_of_order}
 use Rattle.certificate.proofs.ReaderLemmas.{fact_claims, fits}
 use Rattle.certificate.proofs.Certificate.fact_into.Goals as goal
 
-pub from-requires-clause-order : goal.from-requires-clause-order
-from-requires-clause-order g c = places_of_order c.self.inside.version c.self.inside.kept c.self.invariant.indexed c.self.invariant.order
+pub from-start-requires-clause-order : goal.from-start-requires-clause-order
+from-start-requires-clause-order g c = places_of_order c.self.inside.version c.self.inside.kept c.self.invariant.indexed c.self.invariant.order
 
 pub first_fact-requires : goal.first_fact-requires
 first_fact-requires g c = record {

@@ -17,5 +17,5 @@ pub returns : goal.returns
 returns g c = λ before h.
     rw (not_end (said c.args.line.now) before (sym c.if-is_end.ensures))
     (on_ok c.push-4.result _ _ (λ e. head_kept c.args.self.now (record { lines = c.push-4.new.self; places = c.push-2.new.self; starts = c.push-3.new.self })
-    (said c.args.line.now) before (sym c.if-is_detail.ensures) e (rw (← c.place_of.ensures.same) c.in_ok-push-2.ensures.items)
-    (c.in_ok-push-3.ensures.items ∙ ap (λ n. c.args.self.now.starts.items ++ n ∷ []) c.len.ensures) h) c.push-4.ensures.added)
+    (said c.args.line.now) before (sym c.if-is_detail.ensures) e (rw (← c.place_of.ensures.same) c.in_ok-push.ensures.items)
+    (c.in_ok-push-2.ensures.items ∙ ap (λ n. c.args.self.now.starts.items ++ n ∷ []) c.len.ensures) h) c.push-4.ensures.added)

@@ -18,7 +18,9 @@ returns-else-is_full-clause-seen g c = λ bytes h e. record { text = h.text; par
     c.if-byte-eq10.false (has_place _ _ c.if-is_full.ensures.value c.if-is_full.ensures.fits) c.push.ensures.items; }
 
 pub returns-in-None-clause-seen : goal.returns-in-None-clause-seen
-returns-in-None-clause-seen g c = λ bytes h e. c.end_first.ensures.seen bytes (record { text = h.text; parts = h.parts }) (omega (arith, c.requires.count, c.if-self-eq-MOST_BYTES.false))
+returns-in-None-clause-seen g c = λ bytes h e. rw c.if-byte-eq10.true
+    (c.end_first.ensures.seen bytes (record { text = h.text; parts = h.parts }) (omega (arith, c.requires.count, c.if-self-eq-MOST_BYTES.false)))
 
 pub returns-in-Some-clause-seen : goal.returns-in-Some-clause-seen
-returns-in-Some-clause-seen g c = λ bytes h e. c.end_next.ensures.seen bytes (record { text = h.text; parts = h.parts }) (omega (arith, c.requires.count, c.if-self-eq-MOST_BYTES.false))
+returns-in-Some-clause-seen g c = λ bytes h e. rw c.if-byte-eq10.true
+    (c.end_next.ensures.seen bytes (record { text = h.text; parts = h.parts }) (omega (arith, c.requires.count, c.if-self-eq-MOST_BYTES.false)))

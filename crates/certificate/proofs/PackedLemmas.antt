@@ -17,6 +17,7 @@ use Rattle.certificate.specs.declared.line.RoutineLine.{RoutineLine}
 use Rattle.certificate.specs.declared.line.Registers.{Registers}
 use Rattle.certificate.specs.declared.packed.Run.{Run}
 use Rattle.certificate.specs.declared.packed.Span.{Span}
+use Rattle.certificate.specs.declared.packed.Spans.{Spans}
 use Rattle.certificate.specs.declared.packed.PackedRoutine.{PackedRoutine}
 use Rattle.certificate.specs.declared.packed.PackedRegisters.{PackedRegisters}
 use Rattle.certificate.specs.declared.packed.PackedLine.{PackedLine}
@@ -24,7 +25,7 @@ use Rattle.certificate.specs.declared.packed.PackedLine.TheVariants as packed
 use Rattle.certificate.specs.Line.{Line, Registers as SaidRegisters, RoutineIs, FactIs, ExitIs, CellIs}
 use Rattle.certificate.specs.Meaning.{routine_of, registers_of}
 use Rattle.certificate.specs.Spelled.{IsLastOf}
-use Rattle.certificate.specs.Packed.{Begins, joined, set_at, routine_at, registers_at, said_at, lines_in, IsSpanWithin, AreWithin, LiesWithin, IsLaid, AreLaid, IsPacked}
+use Rattle.certificate.specs.Packed.{Begins, joined, set_at, one_at, other_at, registers_at, said_at, lines_in, IsSpan, AreWithin, LiesWithin, IsLaid, AreLaid, IsPacked}
 
 -- A run more.
 pub joined_more : (t : Words) (rs : List Run) (r : Run) → joined t (rs ++ r ∷ []) ≡ union (joined t rs) (between r.first r.last)
@@ -138,25 +139,32 @@ all_between low high e f = rw (e, f) (all_is (λ v. at v))
     all_is h i v = h v i
 
 -- What is kept stays so where more runs are added.
-range_kept : {X : Type 0} (xs more : List X) (first last : ℕ) → first ≤ last → last ≤ length xs → slice_range (xs ++ more) first last ≡ slice_range xs first last
-range_kept xs more first last h k =
-    let room : last - first ≤ length (drop first xs) = omega (arith, length-drop first xs) in
-    ap (take (last - first)) (drop-append-le first xs more (omega arith)) ∙ take-append-le (last - first) (drop first xs) more room
+range_kept : {X : Type 0} (xs more : List X) (first count : ℕ) → first + count ≤ length xs →
+    slice_range (xs ++ more) first (first + count) ≡ slice_range xs first (first + count)
+range_kept xs more first count k =
+    let room : first + count - first ≤ length (drop first xs) = omega (arith, length-drop first xs) in
+    ap (take (first + count - first)) (drop-append-le first xs more (omega arith)) ∙ take-append-le (first + count - first) (drop first xs) more room
 
-set_kept : (runs more : List Run) (s : Span) → IsSpanWithin (length runs) s → set_at (runs ++ more) s ≡ set_at runs s
-set_kept runs more s h = ap (λ (rs : List Run). joined nothing rs) (range_kept runs more s.first s.last h.forward h.inside)
+set_kept : (runs more : List Run) (first count : ℕ) → first + count ≤ length runs → set_at (runs ++ more) first count ≡ set_at runs first count
+set_kept runs more first count h = ap (λ (rs : List Run). joined nothing rs) (range_kept runs more first count h)
 
-span_on : (n m : ℕ) (s : Span) → n ≤ m → IsSpanWithin n s → IsSpanWithin m s
-span_on n m s h w = record { forward = w.forward; inside = (let q : s.last ≤ n = w.inside in omega arith) }
+one_kept : (runs more : List Run) (s : Spans) → AreWithin (length runs) s → one_at (runs ++ more) s ≡ one_at runs s
+one_kept runs more s h = set_kept runs more s.first s.one (let q = h.inside in omega (arith, q))
 
-registers_kept : (runs more : List Run) (r : PackedRegisters) → AreWithin (length runs) r → registers_at (runs ++ more) r ≡ registers_at runs r
-registers_kept runs more r h = rw (set_kept runs more r.accumulator h.accumulator, set_kept runs more r.mq h.mq) refl
+other_kept : (runs more : List Run) (s : Spans) → AreWithin (length runs) s → other_at (runs ++ more) s ≡ other_at runs s
+other_kept runs more s h = set_kept runs more (s.first + s.one) s.other h.inside
+
+registers_kept : (runs more : List Run) (r : PackedRegisters) → AreWithin (length runs) r.sets → registers_at (runs ++ more) r ≡ registers_at runs r
+registers_kept runs more r h = rw (one_kept runs more r.sets h, other_kept runs more r.sets h) refl
+
+within_on : (n m : ℕ) (s : Spans) → n ≤ m → AreWithin n s → AreWithin m s
+within_on n m s h w = record { inside = (let q = w.inside in omega (arith, q)) }
 
 line_kept : (runs more : List Run) (l : PackedLine) → LiesWithin (length runs) l → said_at (runs ++ more) l ≡ said_at runs l
-line_kept runs more (packed.Routine r) h = rw (set_kept runs more r.sites h.0, set_kept runs more r.writes h.1) refl
+line_kept runs more (packed.Routine r) h = rw (one_kept runs more r.sets h, other_kept runs more r.sets h) refl
 line_kept runs more (packed.Fact a r m) h = ap (λ (g : SaidRegisters). FactIs a g (offsets_of m)) (registers_kept runs more r h)
 line_kept runs more (packed.Exit e o r) h = ap (λ (g : SaidRegisters). ExitIs e o g) (registers_kept runs more r h)
-line_kept runs more (packed.Cell a s) h = rw (set_kept runs more s h) refl
+line_kept runs more (packed.Cell a s) h = rw (set_kept runs more s.first s.count h) refl
 line_kept runs more (packed.Equation q) h = refl
 line_kept runs more packed.End h = refl
 
@@ -165,62 +173,43 @@ lines_kept : (runs more : List Run) (ls : List PackedLine) → AllByRecursion (L
 lines_kept runs more [] h = refl
 lines_kept runs more (l ∷ ls) h = rw (line_kept runs more l h.0, lines_kept runs more ls h.1) refl
 
-within_on : (n m : ℕ) (l : PackedLine) → n ≤ m → LiesWithin n l → LiesWithin m l
-within_on n m (packed.Routine r) h w = (span_on n m r.sites h w.0, span_on n m r.writes h w.1)
-within_on n m (packed.Fact a r o) h w = record { accumulator = span_on n m r.accumulator h w.accumulator; mq = span_on n m r.mq h w.mq }
-within_on n m (packed.Exit e o r) h w = record { accumulator = span_on n m r.accumulator h w.accumulator; mq = span_on n m r.mq h w.mq }
-within_on n m (packed.Cell a s) h w = span_on n m s h w
-within_on n m (packed.Equation q) h w = tt
-within_on n m packed.End h w = tt
+line_on : (n m : ℕ) (l : PackedLine) → n ≤ m → LiesWithin n l → LiesWithin m l
+line_on n m (packed.Routine r) h w = within_on n m r.sets h w
+line_on n m (packed.Fact a r o) h w = within_on n m r.sets h w
+line_on n m (packed.Exit e o r) h w = within_on n m r.sets h w
+line_on n m (packed.Cell a s) h w = omega arith
+line_on n m (packed.Equation q) h w = tt
+line_on n m packed.End h w = tt
 
 all_on : (n m : ℕ) (ls : List PackedLine) (l : PackedLine) → n ≤ m → AllByRecursion (LiesWithin n) ls → LiesWithin m l →
     AllByRecursion (LiesWithin m) (ls ++ l ∷ [])
 all_on n m [] l h w one = (one, tt)
-all_on n m (x ∷ ls) l h w one = (within_on n m x h w.0, all_on n m ls l h w.1 one)
+all_on n m (x ∷ ls) l h w one = (line_on n m x h w.0, all_on n m ls l h w.1 one)
 
 -- The runs of a set lie between the two lengths.
-pub laid : (old new : List Run) (s : Span) (set : Words) → Begins old new → s.first ≡ length old → s.last ≡ length new →
+longer : {X : Type 0} (old new : List X) → Begins old new → length old ≤ length new
+longer old new b = let e : length new ≡ length (old ++ b.0) = ap length b.1 in omega (arith, length-append old b.0)
+
+pub laid : (old new : List Run) (s : Span) (set : Words) → Begins old new → IsSpan s (length old) (length new) →
     joined nothing (drop (length old) new) ≡ set → IsLaid new s set
-laid old new s set b first last is = record {
-  within = record { forward = (let q = longer old new b in omega arith); inside = omega arith };
-  is = (let e : slice_range new s.first s.last ≡ drop (length old) new =
-      rw (first, last) (take_all (length new - length old) (drop (length old) new) (omega (arith, length-drop (length old) new))) in
+laid old new s set b at is = record {
+  within = (let e = at.ends in omega (arith, e));
+  is = (let e : slice_range new s.first (s.first + s.count) ≡ drop (length old) new =
+      rw (at.ends, at.first_is) (take_all (length new - length old) (drop (length old) new) (omega (arith, length-drop (length old) new))) in
       ap (λ (rs : List Run). joined nothing rs) e ∙ is);
 }
-  where
-    longer : (old new : List Run) → Begins old new → length old ≤ length new
-    longer old new b = let e : length new ≡ length (old ++ b.0) = ap length b.1 in omega (arith, length-append old b.0)
 
--- Those that were laid before others were.
-laid_on : (old new : List Run) (s : Span) (set : Words) → Begins old new → IsLaid old s set → IsLaid new s set
-laid_on old new s set b l = rw b.1 (record {
-  within = span_on (length old) (length (old ++ b.0)) s (omega (arith, length-append old b.0)) l.within;
-  is = set_kept old b.0 s l.within ∙ l.is;
-})
-
-pub registers_laid : (old new : List Run) (r : PackedRegisters) (g : Registers) → Begins old new → IsLaid old r.accumulator (words g.accumulator) →
-    IsLaid new r.mq (words g.mq) → r.link ≡ g.link → AreLaid new r (registers_of g)
-registers_laid old new r g b first second link =
-    let a : IsLaid new r.accumulator (words g.accumulator) = laid_on old new r.accumulator (words g.accumulator) b first in
-    record { within = record { accumulator = a.within; mq = second.within }; is = rw (a.is, second.is, link) refl }
-
-pub routine_laid : (old new : List Run) (r : PackedRoutine) (g : RoutineLine) → Begins old new → IsLaid old r.sites (words g.sites) →
-    IsLaid new r.writes (words g.writes) → r.entry ≡ g.entry → r.rank ≡ g.rank → IsPacked new (packed.Routine r) (RoutineIs (routine_of g))
-routine_laid old new r g b first second entry rank =
-    let a : IsLaid new r.sites (words g.sites) = laid_on old new r.sites (words g.sites) b first in
-    record { within = (a.within, second.within); is = rw (a.is, second.is, entry, rank) refl }
-
-pub fact_laid : (runs : List Run) (at : ℕ) (r : PackedRegisters) (offsets : Offsets) (g : SaidRegisters) → AreLaid runs r g →
-    IsPacked runs (packed.Fact at r offsets) (FactIs at g (offsets_of offsets))
-fact_laid runs at r offsets g l = record { within = l.within; is = ap (λ (x : SaidRegisters). FactIs at x (offsets_of offsets)) l.is }
-
-pub exit_laid : (runs : List Run) (e o : ℕ) (r : PackedRegisters) (g : SaidRegisters) → AreLaid runs r g →
-    IsPacked runs (packed.Exit e o r) (ExitIs e o g)
-exit_laid runs e o r g l = record { within = l.within; is = ap (λ (x : SaidRegisters). ExitIs e o x) l.is }
-
-pub cell_laid : (runs : List Run) (s : Span) (t : TrackedCell) → IsLaid runs s (words t.set) →
-    IsPacked runs (packed.Cell t.cell s) (CellIs (tracked_of t))
-cell_laid runs s t l = record { within = l.within; is = rw l.is refl }
+-- Those of two sets lie one after the other.
+pub two_laid : (old middle new : List Run) (s t : Span) (all : Spans) (one other : Words) → Begins middle new → IsSpan s (length old) (length middle) →
+    IsSpan t (length middle) (length new) → IsLaid middle s one → IsLaid new t other → all.first ≡ s.first → all.one ≡ s.count → all.other ≡ t.count →
+    AreLaid new all one other
+two_laid old middle new s t all one other b at on first second f g h =
+    let joins : s.first + s.count ≡ t.first = at.ends ∙ sym on.first_is in
+    record {
+      within = record { inside = (let q = second.within in omega (arith, q, joins, f, g, h)) };
+      one_is = rw (f, g, b.1) (set_kept middle b.0 s.first s.count first.within ∙ first.is);
+      other_is = rw (f, g, h, joins) second.is;
+    }
 
 -- A line more.
 pub line_added : (runs new : List Run) (ls after : List PackedLine) (l : PackedLine) (line : Line) → AllByRecursion (LiesWithin (length runs)) ls →

@@ -1,12 +1,12 @@
 //! Lines packed: each set by its runs of words, and the runs of all sets in one list.
 
-ghost use Rattle.std.specs.Prelude.{◌≡◌, ◌+◌, ◌<◌, [], ◌∷◌, ◌++◌, length, take, drop, false, IfOk, OnOk, OnErr};
+ghost use Rattle.std.specs.Prelude.{◌≡◌, ◌+◌, ◌<◌, ◌≤◌, [], ◌∷◌, ◌++◌, length, take, drop, false, IfOk, OnOk, OnErr};
 ghost use Rattle.wordset.specs.Words.{nothing, between};
 ghost use Rattle.wordset.specs.Lanes.{words};
 ghost use Rattle.certificate.specs.Line.{RoutineIs};
 ghost use Rattle.certificate.specs.Meaning.{said, registers_of, routine_of};
 ghost use Rattle.certificate.specs.Spelled.{IsLastOf};
-ghost use Rattle.certificate.specs.Packed.{Begins, joined, set_at, registers_at, said_at, said_lines, IsSpanWithin, AreWithin, LiesWithin, IsLaid, AreLaid, IsPacked};
+ghost use Rattle.certificate.specs.Packed.{Begins, joined, set_at, one_at, other_at, registers_at, said_at, said_lines, IsSpan, AreWithin, LiesWithin, IsLaid, AreLaid, IsPacked};
 
 use crate::line::{Line, Registers, RoutineLine};
 use facts::{Equation, Offsets, TrackedCell};
@@ -22,27 +22,34 @@ pub struct Run {
     pub last: Word,
 }
 
-/// Where the runs of a set lie among those of all: from `first` up to the one before `last`.
+/// Where the runs of a set lie among those of all: so many from `first` on.
 #[derive(Clone, Copy)]
 pub struct Span {
     pub first: u32,
-    pub last: u32,
+    pub count: u16,
 }
 
-/// What a line says of a routine, its sets packed.
+/// Where the runs of two sets lie among those of all: from `first` on so many of the one, and then
+/// so many of the other.
+#[derive(Clone, Copy)]
+pub struct Spans {
+    pub first: u32,
+    pub one: u16,
+    pub other: u16,
+}
+
+/// What a line says of a routine, its sets packed: the sites, and then the written cells.
 #[derive(Clone, Copy)]
 pub struct PackedRoutine {
     pub entry: Word,
-    pub rank: u32,
-    pub sites: Span,
-    pub writes: Span,
+    pub rank: u8,
+    pub sets: Spans,
 }
 
-/// The words that the accumulator and MQ may hold, packed, and the links.
+/// The words that the accumulator and then those that MQ may hold, packed, and the links.
 #[derive(Clone, Copy)]
 pub struct PackedRegisters {
-    pub accumulator: Span,
-    pub mq: Span,
+    pub sets: Spans,
     pub link: Links,
 }
 
@@ -104,12 +111,16 @@ fn push_runs<A: Allocator>(runs: &mut Vec<Run, A>, set: &WordSet) -> Result<(), 
     Ok(())
 }
 
-/// A number as it's kept, where it isn't too great.
-fn kept_number(number: usize) -> Result<u32, AllocError>
-    ensures { IfOk result (λ kept. kept ≡ number) }
+/// The places from one number up to another as they're kept, where the numbers aren't too great.
+fn kept_span(first: usize, end: usize) -> Result<Span, AllocError>
+    requires { first ≤ end }
+    ensures { IfOk result (λ span. IsSpan span first end) }
 {
-    match u32::try_from(number) {
-        Ok(kept) => Ok(kept),
+    let Ok(count) = u16::try_from(end - first) else {
+        return Err(AllocError);
+    };
+    match u32::try_from(first) {
+        Ok(first) => Ok(Span { first, count }),
         Err(_) => Err(AllocError),
     }
 }
@@ -117,12 +128,31 @@ fn kept_number(number: usize) -> Result<u32, AllocError>
 /// Adds the runs of a set, and tells where they lie.
 fn lay<A: Allocator>(runs: &mut Vec<Run, A>, set: &WordSet) -> Result<Span, AllocError>
     ensures front { Begins runs.old.items runs.new.items }
+    ensures span { IfOk result (λ span.
+        IsSpan span (length runs.old.items) (length runs.new.items)) }
     ensures laid { IfOk result (λ span. IsLaid runs.new.items span (words set.now)) }
 {
-    let first = kept_number(runs.len())?;
+    let first = runs.len();
     push_runs(runs, set)?;
-    let last = kept_number(runs.len())?;
-    Ok(Span { first, last })
+    kept_span(first, runs.len())
+}
+
+/// Adds the runs of two sets, and tells where they lie.
+fn lay_two<A: Allocator>(
+    runs: &mut Vec<Run, A>,
+    one: &WordSet,
+    other: &WordSet,
+) -> Result<Spans, AllocError>
+    ensures front { Begins runs.old.items runs.new.items }
+    ensures laid { IfOk result (λ sets. AreLaid runs.new.items sets (words one.now) (words other.now)) }
+{
+    let front = lay(runs, one)?;
+    let back = lay(runs, other)?;
+    Ok(Spans {
+        first: front.first,
+        one: front.count,
+        other: back.count,
+    })
 }
 
 /// Adds the runs of the accumulator's set and of MQ's.
@@ -131,14 +161,13 @@ fn lay_registers<A: Allocator>(
     registers: &Registers,
 ) -> Result<PackedRegisters, AllocError>
     ensures front { Begins runs.old.items runs.new.items }
+    ensures within { IfOk result (λ packed. AreWithin (length runs.new.items) packed.sets) }
     ensures laid { IfOk result (λ packed.
-        AreLaid runs.new.items packed (registers_of registers.now)) }
+        registers_at runs.new.items packed ≡ registers_of registers.now) }
 {
-    let accumulator = lay(runs, &registers.accumulator)?;
-    let mq = lay(runs, &registers.mq)?;
+    let sets = lay_two(runs, &registers.accumulator, &registers.mq)?;
     Ok(PackedRegisters {
-        accumulator,
-        mq,
+        sets,
         link: registers.link,
     })
 }
@@ -151,14 +180,14 @@ fn pack_routine<A: Allocator>(
     ensures front { Begins runs.old.items runs.new.items }
     ensures packed { IfOk result (λ l. IsPacked runs.new.items l (RoutineIs (routine_of routine.now))) }
 {
-    let rank = kept_number(routine.rank)?;
-    let sites = lay(runs, &routine.sites)?;
-    let writes = lay(runs, &routine.writes)?;
+    let Ok(rank) = u8::try_from(routine.rank) else {
+        return Err(AllocError);
+    };
+    let sets = lay_two(runs, &routine.sites, &routine.writes)?;
     Ok(PackedLine::Routine(PackedRoutine {
         entry: routine.entry,
         rank,
-        sites,
-        writes,
+        sets,
     }))
 }
 
@@ -208,22 +237,39 @@ fn set_of(runs: &[Run]) -> WordSet
     set
 }
 
-/// The set of which the runs lie here.
-fn set_in(runs: &[Run], span: Span) -> WordSet
-    requires { IsSpanWithin (length runs.now) span }
-    ensures { words result ≡ set_at runs.now span }
+/// The set of which so many runs from here on are.
+fn set_in(runs: &[Run], first: usize, count: usize) -> WordSet
+    requires { first + count ≤ length runs.now }
+    ensures { words result ≡ set_at runs.now first count }
 {
-    set_of(&runs[span.first as usize..span.last as usize])
+    set_of(&runs[first..first + count])
+}
+
+/// The first one of two sets.
+fn one_in(runs: &[Run], sets: Spans) -> WordSet
+    requires { AreWithin (length runs.now) sets }
+    ensures { words result ≡ one_at runs.now sets }
+{
+    set_in(runs, sets.first as usize, usize::from(sets.one))
+}
+
+/// The other one.
+fn other_in(runs: &[Run], sets: Spans) -> WordSet
+    requires { AreWithin (length runs.now) sets }
+    ensures { words result ≡ other_at runs.now sets }
+{
+    let first = sets.first as usize + usize::from(sets.one);
+    set_in(runs, first, usize::from(sets.other))
 }
 
 /// The registers of which the runs lie here.
 fn registers_in(runs: &[Run], packed: &PackedRegisters) -> Registers
-    requires { AreWithin (length runs.now) packed.now }
+    requires { AreWithin (length runs.now) packed.now.sets }
     ensures { registers_of result ≡ registers_at runs.now packed.now }
 {
     Registers {
-        accumulator: set_in(runs, packed.accumulator),
-        mq: set_in(runs, packed.mq),
+        accumulator: one_in(runs, packed.sets),
+        mq: other_in(runs, packed.sets),
         link: packed.link,
     }
 }
@@ -236,9 +282,9 @@ fn unpack(runs: &[Run], packed: &PackedLine) -> Line
     match packed {
         PackedLine::Routine(routine) => Line::Routine(RoutineLine {
             entry: routine.entry,
-            rank: routine.rank as usize,
-            sites: set_in(runs, routine.sites),
-            writes: set_in(runs, routine.writes),
+            rank: usize::from(routine.rank),
+            sites: one_in(runs, routine.sets),
+            writes: other_in(runs, routine.sets),
         }),
         PackedLine::Fact(at, registers, offsets) => {
             Line::Fact(*at, registers_in(runs, registers), *offsets)
@@ -248,7 +294,7 @@ fn unpack(runs: &[Run], packed: &PackedLine) -> Line
         }
         PackedLine::Cell(cell, span) => Line::Cell(TrackedCell {
             cell: *cell,
-            set: set_in(runs, *span),
+            set: set_in(runs, span.first as usize, usize::from(span.count)),
         }),
         PackedLine::Equation(equation) => Line::Equation(*equation),
         PackedLine::End => Line::End,

@@ -9,7 +9,7 @@ use native.Mathlib.Numerals.{unary_clauses}
 use Rattle.wordset.specs.Words.{Words, SameWords, all_words, difference, nothing, between, union, IsFirstFrom, HasNoneFrom}
 use Rattle.wordset.specs.Lanes.{words}
 use Rattle.wordset.specs.Links.{links_of}
-use Rattle.wordset.proofs.SetLemmas.{words_past, words_are, all_past}
+use Rattle.wordset.proofs.SetLemmas.{words_are, all_past, all_everything}
 use Rattle.facts.specs.Meaning.{offsets_of, tracked_of}
 use Rattle.facts.specs.declared.fact.TrackedCell.{TrackedCell}
 use Rattle.facts.specs.declared.offsets.Offsets.{Offsets}
@@ -25,7 +25,7 @@ use Rattle.certificate.specs.declared.packed.PackedLine.TheVariants as packed
 use Rattle.certificate.specs.Line.{Line, Registers as SaidRegisters, RoutineIs, FactIs, ExitIs, CellIs}
 use Rattle.certificate.specs.Meaning.{routine_of, registers_of}
 use Rattle.certificate.specs.Spelled.{IsLastOf}
-use Rattle.certificate.specs.Packed.{Begins, joined, set_at, one_at, other_at, registers_at, said_at, lines_in, IsSpan, AreWithin, LiesWithin, IsLaid, AreLaid, IsPacked}
+use Rattle.certificate.specs.Packed.{Begins, joined, set_of_runs, set_at, one_at, other_at, registers_at, said_at, lines_in, IsSpan, AreWithin, LiesWithin, IsLaid, AreLaid, IsPacked}
 
 -- A run more.
 pub joined_more : (t : Words) (rs : List Run) (r : Run) → joined t (rs ++ r ∷ []) ≡ union (joined t rs) (between r.first r.last)
@@ -78,10 +78,6 @@ or_false : (b : Bool) → (b || false) ≡ b
 or_false true = refl
 or_false false = refl
 
-or_true : (b : Bool) → (b || true) ≡ true
-or_true true = refl
-or_true false = refl
-
 -- A run is added, from the first word of a set from n on to the last one before a word that isn't in it.
 pub run_added : (old now new : List Run) (set others : Words) (n : ℕ) (run : Run) → RunsSofar old now set n → IsFirstFrom n set run.first →
     IsLastOf others run.first run.last → others ≡ difference all_words set → new ≡ now ++ run ∷ [] → RunsSofar old new set (run.last + 1)
@@ -112,31 +108,34 @@ run_added old now new set others n run s f l are e = record {
         go true c k q = refl
         go false c k q = absurd (let z : true ≡ false = rw k at q in true≢false z)
 
+-- No set has a word past the last one that there is.
+pub runs_past : (rs : List Run) (v : ℕ) → 4096 ≤ v → set_of_runs rs v ≡ false
+unfolding set_of_runs
+runs_past rs v h = ap (λ b. b && joined nothing rs v) (all_past v h)
+
+runs_within : (rs : List Run) (v : ℕ) → v < 4096 → joined nothing rs v ≡ set_of_runs rs v
+unfolding set_of_runs
+runs_within rs v h = sym (ap (λ b. b && joined nothing rs v) (all_everything v h))
+
+pub set_is : (lanes : List ℕ) (rs : List Run) → SameWords (words lanes) (joined nothing rs) → words lanes ≡ set_of_runs rs
+set_is lanes rs same = words_are lanes (set_of_runs rs) (runs_past rs) (λ v h. same v h ∙ runs_within rs v h)
+
+-- The set of all runs, where it was that of those up to an index past them.
+pub all_joined : (lanes : List ℕ) (rs : List Run) (i : ℕ) → length rs ≤ i → words lanes ≡ joined nothing (take i rs) → words lanes ≡ set_of_runs rs
+all_joined lanes rs i h e = set_is lanes rs (λ v k. ap (λ (f : Words). f v) (rw (take_all i rs h) at e))
+
 -- All of them were added.
 pub all_runs : (old new : List Run) (lanes : List ℕ) (n : ℕ) → RunsSofar old new (words lanes) n → HasNoneFrom n (words lanes) →
-    joined nothing (drop (length old) new) ≡ words lanes
+    set_of_runs (drop (length old) new) ≡ words lanes
 all_runs old new lanes n s none =
     let e : drop (length old) new ≡ s.more = ap (drop (length old)) s.is ∙ drop_at old s.more (length old) refl in
-    ap (λ (rs : List Run). joined nothing rs) e ∙ sym (words_are lanes (joined nothing s.more) past same)
+    ap set_of_runs e ∙ sym (set_is lanes s.more same)
   where
-    past : (v : ℕ) → 4096 ≤ v → joined nothing s.more v ≡ false
-    past v h = s.above v (let q : n ≤ 4096 = s.few in omega arith)
-
     same : SameWords (words lanes) (joined nothing s.more)
     same v h = elim (cases_lt v n) [
       | inl a ↦ sym (s.below v a)
       | inr a ↦ none v a h ∙ sym (s.above v a)
     ]
-
--- The words from 0000 to 7777 are all.
-pub all_between : (low high : ℕ) → low ≡ 0 → high ≡ 4095 → all_words ≡ between low high
-all_between low high e f = rw (e, f) (all_is (λ v. at v))
-  where
-    at : (v : ℕ) → all_words v ≡ between 0 4095 v
-    at v = grind (arith, nat_tests)
-
-    all_is : ((v : ℕ) → all_words v ≡ between 0 4095 v) → all_words ≡ between 0 4095
-    all_is h i v = h v i
 
 -- What is kept stays so where more runs are added.
 range_kept : {X : Type 0} (xs more : List X) (first count : ℕ) → first + count ≤ length xs →
@@ -146,7 +145,7 @@ range_kept xs more first count k =
     ap (take (first + count - first)) (drop-append-le first xs more (omega arith)) ∙ take-append-le (first + count - first) (drop first xs) more room
 
 set_kept : (runs more : List Run) (first count : ℕ) → first + count ≤ length runs → set_at (runs ++ more) first count ≡ set_at runs first count
-set_kept runs more first count h = ap (λ (rs : List Run). joined nothing rs) (range_kept runs more first count h)
+set_kept runs more first count h = ap set_of_runs (range_kept runs more first count h)
 
 one_kept : (runs more : List Run) (s : Spans) → AreWithin (length runs) s → one_at (runs ++ more) s ≡ one_at runs s
 one_kept runs more s h = set_kept runs more s.first s.one (let q = h.inside in omega (arith, q))
@@ -186,31 +185,6 @@ all_on : (n m : ℕ) (ls : List PackedLine) (l : PackedLine) → n ≤ m → All
 all_on n m [] l h w one = (one, tt)
 all_on n m (x ∷ ls) l h w one = (line_on n m x h w.0, all_on n m ls l h w.1 one)
 
--- The runs of a set lie between the two lengths.
-longer : {X : Type 0} (old new : List X) → Begins old new → length old ≤ length new
-longer old new b = let e : length new ≡ length (old ++ b.0) = ap length b.1 in omega (arith, length-append old b.0)
-
-pub laid : (old new : List Run) (s : Span) (set : Words) → Begins old new → IsSpan s (length old) (length new) →
-    joined nothing (drop (length old) new) ≡ set → IsLaid new s set
-laid old new s set b at is = record {
-  within = (let e = at.ends in omega (arith, e));
-  is = (let e : slice_range new s.first (s.first + s.count) ≡ drop (length old) new =
-      rw (at.ends, at.first_is) (take_all (length new - length old) (drop (length old) new) (omega (arith, length-drop (length old) new))) in
-      ap (λ (rs : List Run). joined nothing rs) e ∙ is);
-}
-
--- Those of two sets lie one after the other.
-pub two_laid : (old middle new : List Run) (s t : Span) (all : Spans) (one other : Words) → Begins middle new → IsSpan s (length old) (length middle) →
-    IsSpan t (length middle) (length new) → IsLaid middle s one → IsLaid new t other → all.first ≡ s.first → all.one ≡ s.count → all.other ≡ t.count →
-    AreLaid new all one other
-two_laid old middle new s t all one other b at on first second f g h =
-    let joins : s.first + s.count ≡ t.first = at.ends ∙ sym on.first_is in
-    record {
-      within = record { inside = (let q = second.within in omega (arith, q, joins, f, g, h)) };
-      one_is = rw (f, g, b.1) (set_kept middle b.0 s.first s.count first.within ∙ first.is);
-      other_is = rw (f, g, h, joins) second.is;
-    }
-
 -- A line more.
 pub line_added : (runs new : List Run) (ls after : List PackedLine) (l : PackedLine) (line : Line) → AllByRecursion (LiesWithin (length runs)) ls →
     Begins runs new → IsPacked new l line → after ≡ ls ++ l ∷ [] → lines_in new after ≡ lines_in runs ls ++ line ∷ []
@@ -234,12 +208,7 @@ pub back_within : (runs new after : List Run) (ls now : List PackedLine) (n : �
 back_within runs new after ls now n h b k e same = rw (e, b.1, take_at runs b.0 n (sym k), same) h
 
 -- The line at a place.
-pub lies_at : (n : ℕ) (ls : List PackedLine) (i : ℕ) (d : PackedLine) → AllByRecursion (LiesWithin n) ls → i < length ls → LiesWithin n (get_or ls i d)
-lies_at n [] i d h b = absurd (omega arith)
-lies_at n (l ∷ ls) zero d h b = h.0
-lies_at n (l ∷ ls) (suc i) d h b = lies_at n ls i d h.1 (omega arith)
-
-pub said_there : (runs : List Run) (ls : List PackedLine) (i : ℕ) (d : PackedLine) → i < length ls →
+said_there : (runs : List Run) (ls : List PackedLine) (i : ℕ) (d : PackedLine) → i < length ls →
     drop i (lines_in runs ls) ≡ said_at runs (get_or ls i d) ∷ drop (i + 1) (lines_in runs ls)
 said_there runs [] i d b = absurd (omega arith)
 said_there runs (l ∷ ls) zero d b = refl
@@ -257,9 +226,3 @@ front_kept runs [] zero = refl
 front_kept runs [] (suc n) = refl
 front_kept runs (l ∷ ls) zero = refl
 front_kept runs (l ∷ ls) (suc n) = ap (λ (x : List Line). said_at runs l ∷ x) (front_kept runs ls n)
-
-pub front_within : (m : ℕ) (ls : List PackedLine) (n : ℕ) → AllByRecursion (LiesWithin m) ls → AllByRecursion (LiesWithin m) (take n ls)
-front_within m [] zero h = tt
-front_within m [] (suc n) h = tt
-front_within m (l ∷ ls) zero h = tt
-front_within m (l ∷ ls) (suc n) h = (h.0, front_within m ls n h.1)

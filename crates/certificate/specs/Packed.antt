@@ -1,6 +1,6 @@
 -- Packed lines, and what they say.
 use Rattle.std.specs.Prelude.{◌≡◌, ℕ, ◌+◌, ◌≤◌, List, [], ◌∷◌, ◌++◌, length, map, slice_range}
-use Rattle.wordset.specs.Words.{Words, nothing, between, union}
+use Rattle.wordset.specs.Words.{Words, all_words, nothing, between, union, meet}
 use Rattle.wordset.specs.Links.{links_of}
 use Rattle.facts.specs.Meaning.{offsets_of, equation_of}
 use Rattle.certificate.specs.declared.packed.Run.{Run}
@@ -22,9 +22,13 @@ abbrev pub joined : Words → List Run → Words
 joined set [] = set
 joined set (r ∷ rs) = joined (union set (between r.first r.last)) rs
 
+-- The set of which these are the runs; none of its words is past the last one that there is.
+unfoldable pub set_of_runs : List Run → Words
+set_of_runs runs = meet all_words (joined nothing runs)
+
 -- The set of which so many runs from a place on are.
 abbrev pub set_at : List Run → ℕ → ℕ → Words
-set_at runs first count = joined nothing (slice_range runs first (first + count))
+set_at runs first count = set_of_runs (slice_range runs first (first + count))
 
 -- The two sets of which the runs lie here.
 abbrev pub one_at : List Run → Spans → Words

@@ -1,12 +1,12 @@
 //! Lines packed: each set by its runs of words, and the runs of all sets in one list.
 
 ghost use Rattle.std.specs.Prelude.{◌≡◌, ◌+◌, ◌<◌, ◌≤◌, [], ◌∷◌, ◌++◌, length, take, drop, false, IfOk, OnOk, OnErr};
-ghost use Rattle.wordset.specs.Words.{nothing, between};
+ghost use Rattle.wordset.specs.Words.{between};
 ghost use Rattle.wordset.specs.Lanes.{words};
 ghost use Rattle.certificate.specs.Line.{RoutineIs};
 ghost use Rattle.certificate.specs.Meaning.{said, registers_of, routine_of};
 ghost use Rattle.certificate.specs.Spelled.{IsLastOf};
-ghost use Rattle.certificate.specs.Packed.{Begins, joined, set_at, one_at, other_at, registers_at, said_at, said_lines, IsSpan, AreWithin, LiesWithin, IsLaid, AreLaid, IsPacked};
+ghost use Rattle.certificate.specs.Packed.{Begins, set_of_runs, set_at, one_at, other_at, registers_at, said_at, said_lines, IsSpan, AreWithin, LiesWithin, IsLaid, AreLaid, IsPacked};
 
 use crate::line::{Line, Registers, RoutineLine};
 use facts::{Equation, Offsets, TrackedCell};
@@ -99,7 +99,7 @@ pub fn last_before(others: &WordSet, low: Word) -> Word
 fn push_runs<A: Allocator>(runs: &mut Vec<Run, A>, set: &WordSet) -> Result<(), AllocError>
     ensures front { Begins runs.old.items runs.new.items }
     ensures whole { OnOk result
-        (joined nothing (drop (length runs.old.items) runs.new.items) ≡ words set.now) }
+        (set_of_runs (drop (length runs.old.items) runs.new.items) ≡ words set.now) }
 {
     let others = WordSet::all().minus(set);
     let mut next = 0;
@@ -228,7 +228,7 @@ pub fn words_between(first: Word, last: Word) -> WordSet
 
 /// The set of which these are runs.
 fn set_of(runs: &[Run]) -> WordSet
-    ensures { words result ≡ joined nothing runs.now }
+    ensures { words result ≡ set_of_runs runs.now }
 {
     let mut set = WordSet::empty();
     for run in runs {

@@ -1,31 +1,23 @@
 -- Lines packed, and the runs of their sets.
-use Rattle.std.proofs.Common.{◌≡◌, ◌⊎◌, ℕ, zero, suc, ◌+◌, ◌-◌, ◌<◌, ◌≤◌, Bool, true, false, ◌&&◌, ◌||◌, List, [], ◌∷◌, ◌++◌, length, map, get_or, take, drop, Result, Ok, Err, refl, ap, ◌∙◌, sym, inl, inr, arith, append_assoc, append-nil, length-append}
-use Rattle.std.specs.Prelude.{not, nat_le, nat_lt, slice_range, IfOk, OnOk}
+use Rattle.std.proofs.Common.{◌≡◌, ℕ, zero, suc, ◌+◌, ◌-◌, ◌<◌, ◌≤◌, Bool, true, false, ◌&&◌, ◌||◌, List, [], ◌∷◌, ◌++◌, length, get_or, take, drop, refl, ap, ◌∙◌, sym, inl, inr, arith, append_assoc, append-nil, length-append}
+use Rattle.std.specs.Prelude.{not, nat_le, slice_range}
 use Rattle.std.specs.List.{AllByRecursion}
 use Rattle.std.proofs.lemmas.Bool.{true≢false, cases_lt}
 use Rattle.std.proofs.lemmas.Bool.Decides.{nat_tests}
-use Rattle.std.proofs.lemmas.List.{take_all, take_at, take_more, drop_at, drop_more, drop-append-le, take-append-le, length-drop, length-map}
+use Rattle.std.proofs.lemmas.List.{take_all, take_at, take_more, drop_at, drop-append-le, take-append-le, length-drop, length-map}
 use native.Mathlib.Numerals.{unary_clauses}
 use Rattle.wordset.specs.Words.{Words, SameWords, all_words, difference, nothing, between, union, IsFirstFrom, HasNoneFrom}
 use Rattle.wordset.specs.Lanes.{words}
-use Rattle.wordset.specs.Links.{links_of}
 use Rattle.wordset.proofs.SetLemmas.{words_are, all_past, all_everything}
-use Rattle.facts.specs.Meaning.{offsets_of, tracked_of}
-use Rattle.facts.specs.declared.fact.TrackedCell.{TrackedCell}
-use Rattle.facts.specs.declared.offsets.Offsets.{Offsets}
-use Rattle.certificate.specs.declared.line.RoutineLine.{RoutineLine}
-use Rattle.certificate.specs.declared.line.Registers.{Registers}
+use Rattle.facts.specs.Meaning.{offsets_of}
 use Rattle.certificate.specs.declared.packed.Run.{Run}
-use Rattle.certificate.specs.declared.packed.Span.{Span}
 use Rattle.certificate.specs.declared.packed.Spans.{Spans}
-use Rattle.certificate.specs.declared.packed.PackedRoutine.{PackedRoutine}
 use Rattle.certificate.specs.declared.packed.PackedRegisters.{PackedRegisters}
 use Rattle.certificate.specs.declared.packed.PackedLine.{PackedLine}
 use Rattle.certificate.specs.declared.packed.PackedLine.TheVariants as packed
-use Rattle.certificate.specs.Line.{Line, Registers as SaidRegisters, RoutineIs, FactIs, ExitIs, CellIs}
-use Rattle.certificate.specs.Meaning.{routine_of, registers_of}
+use Rattle.certificate.specs.Line.{Line, Registers as SaidRegisters, FactIs, ExitIs}
 use Rattle.certificate.specs.Spelled.{IsLastOf}
-use Rattle.certificate.specs.Packed.{Begins, joined, set_of_runs, set_at, one_at, other_at, registers_at, said_at, lines_in, IsSpan, AreWithin, LiesWithin, IsLaid, AreLaid, IsPacked}
+use Rattle.certificate.specs.Packed.{Begins, joined, set_of_runs, set_at, one_at, other_at, registers_at, said_at, lines_in, AreWithin, LiesWithin, IsPacked}
 
 -- A run more.
 pub joined_more : (t : Words) (rs : List Run) (r : Run) → joined t (rs ++ r ∷ []) ≡ union (joined t rs) (between r.first r.last)

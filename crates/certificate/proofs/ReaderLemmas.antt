@@ -1,15 +1,15 @@
 -- What the lines at a place say is what the certificate claims.
-use Rattle.std.proofs.Common.{◌≡◌, ℕ, ◌+◌, ◌*◌, ◌<◌, ◌≤◌, ◌==◌, Bool, true, false, List, [], ◌∷◌, refl, ◌∙◌, sym, inl, inr, arith}
-use Rattle.std.specs.Prelude.{if◌then◌else◌, map, Option, Some, None, IfSome}
+use Rattle.std.proofs.Common.{◌≡◌, ℕ, ◌+◌, ◌*◌, ◌<◌, ◌≤◌, ◌==◌, Bool, true, false, List, [], ◌∷◌, refl, sym, inl, inr, arith}
+use Rattle.std.specs.Prelude.{if◌then◌else◌, Option, Some, None, IfSome}
 use Rattle.std.proofs.lemmas.Bool.Decides.{eqb_tells}
 use Rattle.certificate.specs.declared.Version.{Version}
 use Rattle.certificate.specs.declared.lines.KeptLines.{KeptLines}
-use Rattle.certificate.specs.Spelling.{ExitLine, text}
+use Rattle.certificate.specs.Spelling.{ExitLine}
 use Rattle.certificate.specs.Reading.{Each, IsFactLine, IsExit, has_routine, has_fact_in, fact_in, has_exit_in, exit_in}
 use Rattle.certificate.specs.Line.{Line, RoutineIs, FactIs, ExitIs, CellIs, EquationIs, End, IsLine}
-use Rattle.certificate.specs.Gathered.{routines_of, facts_of, exits_of, gathered}
+use Rattle.certificate.specs.Gathered.{routines_of, facts_of, exits_of}
 use Rattle.certificate.specs.Found.{from_place, all_said, IsWhole, FitUnderFirst, begins_routine, begins_fact, begins_exit, first_fact, first_exit, SaysFirst}
-use Rattle.certificate.proofs.GatherLemmas.{Follow, follows, text_of_gathered}
+use Rattle.certificate.proofs.GatherLemmas.{Follow, follows}
 use Rattle.certificate.proofs.FormLemmas.{gathered_formed}
 
 each_formed : (v : Version) (before ls : List Line) → Follow v before ls → Each (IsLine v) ls

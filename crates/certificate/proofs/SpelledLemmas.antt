@@ -1,5 +1,5 @@
 -- The text of a line while it's written.
-use Rattle.std.proofs.Common.{◌≡◌, ◌⊎◌, ℕ, zero, suc, Option, drop, length-append, ◌+◌, ◌-◌, ◌<◌, ◌≤◌, ◌==◌, Bool, true, false, List, [], ◌∷◌, ◌++◌, length, refl, ap, ◌∙◌, sym, inl, inr, arith, append_assoc, append-nil, get_or, add-one, length-take-le}
+use Rattle.std.proofs.Common.{◌≡◌, ◌⊎◌, ℕ, zero, suc, Option, drop, length-append, ◌+◌, ◌-◌, ◌<◌, ◌≤◌, ◌==◌, Bool, true, false, List, [], ◌∷◌, ◌++◌, length, refl, ap, ◌∙◌, sym, inl, inr, arith, append_assoc, append-nil, get_or, length-take-le}
 use Rattle.std.specs.Prelude.{take, not, ◌&&◌, ◌||◌, if◌then◌else◌, IsTrue}
 use Rattle.std.proofs.lemmas.Bool.{true≢false, eq-eqb, ne_eqb, cases_lt}
 use Rattle.std.proofs.lemmas.Bool.Decides.{nat_tests}
@@ -11,13 +11,13 @@ use Rattle.streams.specs.Bytes.{AppendsFront}
 use Rattle.certificate.specs.declared.Version.{Version}
 use Rattle.certificate.specs.Reading.{Each}
 use Rattle.certificate.specs.Line.{Line, line_text, ended, all_ended}
-use Rattle.wordset.specs.Words.{Words, all_words, difference, some_below, has_some, IsFirstFrom, HasNoneFrom}
+use Rattle.wordset.specs.Words.{Words, all_words, difference, IsFirstFrom, HasNoneFrom}
 use Rattle.wordset.proofs.Tests.{IsSome}
-use Rattle.certificate.specs.Spelling.{marks, set_text, digits, offsets_text}
+use Rattle.certificate.specs.Spelling.{marks, digits, offsets_text}
 use Rattle.certificate.specs.Fields.{run_text}
 use Rattle.certificate.specs.Spelled.{Adds, IsLastOf}
 use Rattle.certificate.proofs.SetLemmas.{rest, comma, Run, whole_rest, none_rest, run_rest, StartsAt, starts_after}
-use Rattle.certificate.proofs.RunLemmas.{no_comma, comma_rest, full_text, empty_text}
+use Rattle.certificate.proofs.RunLemmas.{no_comma, comma_rest}
 use Rattle.certificate.proofs.DigitLemmas.{digits_more, digits_none, no_offsets, some_offsets, has_offset}
 
 take_twice : (xs ys : List ℕ) (n : ℕ) → take n (take n xs ++ ys) ≡ take n (xs ++ ys)

@@ -16,9 +16,12 @@ returns-in-Err-clause-seen g c = λ bytes h small.
     (c.in-Err.ensures.lines before k))
 
 pub returns-in-Ok-keep-clause-seen : goal.returns-in-Ok-keep-clause-seen
-returns-in-Ok-keep-clause-seen g c = λ bytes h small. record { text = h.text ++ c.args.self.now.line.items ++ 10 ∷ []; parts =
-    next_kept c.args.self.now.kept c.keep.new.self c.keep-in-Ok.new.self.kept (Ok tt) h.text
-    c.args.self.now.line.items (h.text ++ c.args.self.now.line.items ++ 10 ∷ []) c.keep-in-Ok.new.self.line.items bytes
-    c.args.self.now.progress c.keep-in-Ok.new.self.progress c.keep-in-Ok.new.self.is_long c.args.progress c.accept.new.self c.in-Ok.line c.requires.next
-    (rw c.if-self.false at h.parts) c.in-Ok.ensures.version (λ before k. rw c.deref.ensures.0 at (c.in-Ok.ensures.lines before k))
-    (refl, c.keep-in-Ok.ensures.kept.0, c.keep-in-Ok.ensures.kept.1, c.keep-in-Ok.ensures.kept.2) c.in-Ok-keep.ensures c.keep-in-Ok.ensures.lines; }
+returns-in-Ok-keep-clause-seen g c = λ bytes h small. record {
+  text = h.text ++ c.args.self.now.line.items ++ 10 ∷ [];
+  parts =
+      next_kept c.args.self.now.kept c.keep.new.self c.keep-in-Ok.new.self.kept (Ok tt) h.text
+      c.args.self.now.line.items (h.text ++ c.args.self.now.line.items ++ 10 ∷ []) c.keep-in-Ok.new.self.line.items bytes
+      c.args.self.now.progress c.keep-in-Ok.new.self.progress c.keep-in-Ok.new.self.is_long c.args.progress c.accept.new.self c.in-Ok.line c.requires.next
+      (rw c.if-self.false at h.parts) c.in-Ok.ensures.version (λ before k. rw c.deref.ensures.0 at (c.in-Ok.ensures.lines before k))
+      (refl, c.keep-in-Ok.ensures.kept.0, c.keep-in-Ok.ensures.kept.1, c.keep-in-Ok.ensures.kept.2) c.in-Ok-keep.ensures c.keep-in-Ok.ensures.lines;
+}

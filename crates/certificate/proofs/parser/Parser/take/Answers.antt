@@ -8,14 +8,20 @@ returns-then-self-eq-MOST_BYTES-clause-seen g c = λ bytes h e.
     c.args.self.now.count h.parts c.if-self-eq-MOST_BYTES.true e
 
 pub returns-then-is_full-clause-seen : goal.returns-then-is_full-clause-seen
-returns-then-is_full-clause-seen g c = λ bytes h e. record { text = h.text; parts =
-    passed c.args.self.now.kept h.text c.args.self.now.line.items bytes c.args.self.now.progress c.args.self.now.is_long c.args.byte h.parts
-    c.if-byte-eq10.false (is_full _ _ c.if-is_full.ensures.value); }
+returns-then-is_full-clause-seen g c = λ bytes h e. record {
+  text = h.text;
+  parts =
+      passed c.args.self.now.kept h.text c.args.self.now.line.items bytes c.args.self.now.progress c.args.self.now.is_long c.args.byte h.parts
+      c.if-byte-eq10.false (is_full _ _ c.if-is_full.ensures.value);
+}
 
 pub returns-else-is_full-clause-seen : goal.returns-else-is_full-clause-seen
-returns-else-is_full-clause-seen g c = λ bytes h e. record { text = h.text; parts =
-    pushed c.args.self.now.kept h.text c.args.self.now.line.items c.push.new.self.items bytes c.args.self.now.progress c.args.self.now.is_long c.args.byte h.parts
-    c.if-byte-eq10.false (has_place _ _ c.if-is_full.ensures.value c.if-is_full.ensures.fits) c.push.ensures.items; }
+returns-else-is_full-clause-seen g c = λ bytes h e. record {
+  text = h.text;
+  parts =
+      pushed c.args.self.now.kept h.text c.args.self.now.line.items c.push.new.self.items bytes c.args.self.now.progress c.args.self.now.is_long c.args.byte h.parts
+      c.if-byte-eq10.false (has_place _ _ c.if-is_full.ensures.value c.if-is_full.ensures.fits) c.push.ensures.items;
+}
 
 pub returns-in-None-clause-seen : goal.returns-in-None-clause-seen
 returns-in-None-clause-seen g c = λ bytes h e. rw c.if-byte-eq10.true

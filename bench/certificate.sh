@@ -1,6 +1,7 @@
 #!/bin/bash
 # Times `pdp8 check` on certificates of some 100 KB and 1 MB that certificate/make.py makes: the whole, and without their
-# end, where the text is read and nothing is judged. Each is the least of eleven calls, with the start of the program.
+# end, where the text is read and nothing is judged. Each is the least of eleven calls, with the start of the program. The
+# memory that a call takes at most is printed too.
 # PDP8 names a built program in place of this repository's.
 set -euo pipefail
 top=$(cd "$(dirname "$0")/.." && pwd)
@@ -17,9 +18,16 @@ least() {
         { time "$program" check tape declaration "$1" >/dev/null 2>&1 || true; } 2>&1
     done | sort -n | head -1
 }
+# The memory, in KB, that a call with this certificate takes at most.
+memory() {
+    python3 -c '
+import resource, subprocess, sys
+subprocess.run(sys.argv[1:], stdout=subprocess.DEVNULL, stderr=subprocess.DEVNULL)
+print(resource.getrusage(resource.RUSAGE_CHILDREN).ru_maxrss)' "$program" check tape declaration "$1"
+}
 for size in 110000 1040000; do
     python3 "$top/bench/certificate/make.py" "$size" "$work/$size"
     cd "$work/$size"
     bytes=$(wc -c <certificate)
-    echo "$bytes bytes: $(least cut 'pdp8: certificate: BadLine') seconds to read, $(least certificate yes) to read and judge"
+    echo "$bytes bytes: $(least cut 'pdp8: certificate: BadLine') seconds to read, $(least certificate yes) to read and judge, $(memory certificate) KB"
 done

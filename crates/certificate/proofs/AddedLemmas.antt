@@ -1,13 +1,13 @@
 -- What a call that adds a line leaves of a certificate.
-use Rattle.std.proofs.Common.{◌≡◌, ℕ, ◌+◌, ◌<◌, Bool, true, false, List, [], ◌∷◌, ◌++◌, length, refl, ap, ◌∙◌, sym, subst, arith}
+use Rattle.std.proofs.Common.{◌≡◌, ℕ, ◌+◌, ◌<◌, Bool, true, false, List, [], ◌∷◌, ◌++◌, length, refl, ap, ◌∙◌, arith}
 use Rattle.std.specs.Prelude.{map, if◌then◌else◌}
 use Rattle.wordset.specs.Words.{Words}
 use Rattle.facts.specs.Facts.{Equation}
 use Rattle.facts.specs.Statements.{TrackedCell}
 use Rattle.certificate.specs.declared.Version.{Version}
 use Rattle.certificate.specs.declared.lines.KeptLines.{KeptLines}
-use Rattle.certificate.specs.Spelling.{RoutineLine, FactLine, ExitLine, Lines}
-use Rattle.certificate.specs.Line.{Line, Registers, RoutineIs, FactIs, ExitIs, CellIs, EquationIs, registers_of, lines_of_fact, lines_of_exit}
+use Rattle.certificate.specs.Spelling.{RoutineLine, FactLine, ExitLine}
+use Rattle.certificate.specs.Line.{Line, Registers, RoutineIs, FactIs, ExitIs, CellIs, EquationIs, registers_of}
 use Rattle.certificate.specs.Gathered.{gathered}
 use Rattle.certificate.specs.Found.{newest_first, all_said, IsIndexed, Keeps, IsWhole}
 use Rattle.certificate.specs.Made.{no_lines, with_routine, with_fact, with_exit, MayAddRoutine, MayAddFact, MayAddExit}

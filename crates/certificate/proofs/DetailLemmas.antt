@@ -1,11 +1,10 @@
 -- The cells and equations at the front of lines, added to a statement one by one.
-use Rattle.std.proofs.Common.{◌≡◌, ℕ, ◌+◌, ◌<◌, ◌≤◌, List, [], ◌∷◌, ◌++◌, false, map, get_or, drop, add-one, drop-cons, length, refl, ap, arith, append_assoc, append-nil, length-append}
+use Rattle.std.proofs.Common.{◌≡◌, ℕ, ◌+◌, ◌<◌, ◌≤◌, List, [], ◌∷◌, ◌++◌, false, drop, length, refl, ap, arith, append_assoc, append-nil, length-append}
+use Rattle.std.proofs.lemmas.List.{drop_all}
 use Rattle.facts.specs.Facts.{Equation}
 use Rattle.facts.specs.Statements.{TrackedCell, Statement}
 use Rattle.certificate.specs.Line.{Line, RoutineIs, FactIs, ExitIs, CellIs, EquationIs, End}
 use Rattle.certificate.specs.Order.{is_detail}
-use Rattle.certificate.specs.declared.line.Line.{Line as ReadLine}
-use Rattle.certificate.specs.Meaning.{said}
 use Rattle.certificate.specs.Gathered.{cells_under, equations_under}
 use Rattle.certificate.specs.Found.{with_details}
 
@@ -43,9 +42,6 @@ none_under s (CellIs c) ls e = absurd (cc)
 none_under s (EquationIs q) ls e = absurd (cc)
 none_under s End ls e = rw (append-nil s.cells, append-nil s.equations) refl
 
--- The line at an index, and those after it.
-pub next_line : (lines : List ReadLine) (i : ℕ) (l m : ReadLine) → l ≡ get_or lines i l → l ≡ m → i < length lines →
-    map said (drop i lines) ≡ said m ∷ map said (drop (i + 1) lines)
-next_line lines i l m at is h =
-    let e : drop i lines ≡ get_or lines i l ∷ drop (i + 1) lines = rw (add-one, drop-cons lines i l) refl in
-    rw (e, ← at, is) refl
+-- Lines past the last one.
+pub nothing_from : (lines : List Line) (i : ℕ) → length lines ≤ i → drop i lines ≡ []
+nothing_from lines i h = drop_all i lines h

@@ -5,15 +5,12 @@ use Rattle.std.proofs.lemmas.Bool.{eq-eqb, cases_lt}
 use Rattle.std.proofs.lemmas.Bool.Decides.{eqb_tells}
 use Rattle.std.proofs.lemmas.List.Sorted.{searched}
 use Rattle.std.specs.List.Sorted.{IsBinarySearchResult}
-use Rattle.std.proofs.lemmas.List.{get_or_default, map_push, length-map}
-use Rattle.std.specs.List.{drop-map}
+use Rattle.std.proofs.lemmas.List.{get_or_default, map_push}
 use Rattle.certificate.specs.declared.Version.{Version}
-use Rattle.certificate.specs.declared.line.Line.{Line as ReadLine}
 use Rattle.certificate.specs.declared.lines.KeptLines.{KeptLines}
 use Rattle.certificate.specs.Reading.{RiseFrom}
 use Rattle.certificate.specs.Line.{Line, RoutineIs, FactIs, ExitIs, CellIs, EquationIs, End}
 use Rattle.certificate.specs.Order.{is_detail, is_end, heads, place, next_place, AreInOrder}
-use Rattle.certificate.specs.Meaning.{said}
 use Rattle.certificate.specs.Found.{newest_first, starts, from_place, all_said, IsIndexed, Keeps, unended}
 use Rattle.certificate.proofs.GatherLemmas.{Follow, follows}
 
@@ -49,15 +46,11 @@ starts_count n (l ∷ ls) = pick (is_detail l) (starts_count (n + 1) ls)
     pick true e = e
     pick false e = omega arith
 
-all_more : {A : Type 0} (k new : KeptLines A) (line : ReadLine) → new.lines.items ≡ k.lines.items ++ line ∷ [] →
-    all_said new ≡ all_said k ++ said line ∷ []
-all_more k new line e = ap (λ (x : List ReadLine). map said x) e ∙ map_push said k.lines.items line
-
-lines_more : {A : Type 0} (k new : KeptLines A) (line : ReadLine) (before : List Line) → new.lines.items ≡ k.lines.items ++ line ∷ [] →
-    Keeps k before → newest_first [] (all_said new) ≡ said line ∷ before
-lines_more k new line before e h =
-    ap (λ (x : List Line). newest_first [] x) (all_more k new line e) ∙
-    (reversed_more [] (all_said k) (said line) ∙ ap (λ (x : List Line). said line ∷ x) h.lines)
+lines_more : {A : Type 0} (k new : KeptLines A) (l : Line) (before : List Line) → all_said new ≡ all_said k ++ l ∷ [] →
+    Keeps k before → newest_first [] (all_said new) ≡ l ∷ before
+lines_more k new l before e h =
+    ap (λ (x : List Line). newest_first [] x) e ∙
+    (reversed_more [] (all_said k) l ∙ ap (λ (x : List Line). l ∷ x) h.lines)
 
 -- The end is known without being kept.
 pub end_kept : {A : Type 0} (k : KeptLines A) (l : Line) (before : List Line) → is_end l ≡ true → Keeps k before → Keeps k (unended (l ∷ before))
@@ -77,31 +70,28 @@ not_end (EquationIs q) before e = refl
 not_end End before e = absurd (cc)
 
 -- A detail was kept.
-pub detail_kept : {A : Type 0} (k new : KeptLines A) (line : ReadLine) (before : List Line) → is_detail (said line) ≡ true →
-    new.lines.items ≡ k.lines.items ++ line ∷ [] → new.places.items ≡ k.places.items → new.starts.items ≡ k.starts.items →
-    Keeps k before → Keeps new (said line ∷ before)
-detail_kept k new line before d e p s h = record {
-  lines = lines_more k new line before e h;
+pub detail_kept : {A : Type 0} (k new : KeptLines A) (l : Line) (before : List Line) → is_detail l ≡ true →
+    all_said new ≡ all_said k ++ l ∷ [] → new.places.items ≡ k.places.items → new.starts.items ≡ k.starts.items →
+    Keeps k before → Keeps new (l ∷ before)
+detail_kept k new l before d e p s h = record {
+  lines = lines_more k new l before e h;
   indexed = record {
-    places = p ∙ (h.indexed.places ∙ rw (all_more k new line e, heads_more (all_said k) (said line ∷ []), d, append-nil) refl);
-    starts = s ∙ (h.indexed.starts ∙ rw (all_more k new line e, starts_more 0 (length (all_said k)) (all_said k) (said line) (omega arith), d, append-nil) refl);
+    places = p ∙ (h.indexed.places ∙ rw (e, heads_more (all_said k) (l ∷ []), d, append-nil) refl);
+    starts = s ∙ (h.indexed.starts ∙ rw (e, starts_more 0 (length (all_said k)) (all_said k) l (omega arith), d, append-nil) refl);
   };
 }
 
 -- Another line was kept.
-pub head_kept : {A : Type 0} (k new : KeptLines A) (line : ReadLine) (before : List Line) → is_detail (said line) ≡ false →
-    new.lines.items ≡ k.lines.items ++ line ∷ [] → new.places.items ≡ k.places.items ++ place (said line) ∷ [] →
-    new.starts.items ≡ k.starts.items ++ length k.lines.items ∷ [] → Keeps k before → Keeps new (said line ∷ before)
-head_kept k new line before d e p s h = record {
-  lines = lines_more k new line before e h;
+pub head_kept : {A : Type 0} (k new : KeptLines A) (l : Line) (before : List Line) → is_detail l ≡ false →
+    all_said new ≡ all_said k ++ l ∷ [] → new.places.items ≡ k.places.items ++ place l ∷ [] →
+    new.starts.items ≡ k.starts.items ++ length (all_said k) ∷ [] → Keeps k before → Keeps new (l ∷ before)
+head_kept k new l before d e p s h = record {
+  lines = lines_more k new l before e h;
   indexed = record {
-    places = p ∙ rw (h.indexed.places, all_more k new line e, heads_more (all_said k) (said line ∷ []), d) (sym (map_push place (heads (all_said k)) (said line)));
-    starts = s ∙ rw (h.indexed.starts, all_more k new line e, starts_more 0 (length k.lines.items) (all_said k) (said line) (count k), d) refl;
+    places = p ∙ rw (h.indexed.places, e, heads_more (all_said k) (l ∷ []), d) (sym (map_push place (heads (all_said k)) l));
+    starts = s ∙ rw (h.indexed.starts, e, starts_more 0 (length (all_said k)) (all_said k) l (omega arith), d) refl;
   };
 }
-  where
-    count : {A : Type 0} (k : KeptLines A) → length k.lines.items ≡ 0 + length (all_said k)
-    count k = let z : length (all_said k) ≡ length k.lines.items = length-map k.lines.items said in omega arith
 
 -- Places that rise.
 rise_from : (xs : List ℕ) (low j : ℕ) → RiseFrom low xs → j < length xs → low ≤ get_or xs j 0
@@ -158,8 +148,8 @@ stands (l ∷ ls) n p i low h b e = go (stands ls (n + 1) p) (is_detail l) i low
 
 -- What stands at a place that was found.
 pub record IsFound {A : Type 0} (k : KeptLines A) (p s : ℕ) : Type 0 where
-  pub within : s ≤ length k.lines.items
-  pub rest : map said (drop s k.lines.items) ≡ from_place p (all_said k)
+  pub within : s ≤ length (all_said k)
+  pub rest : drop s (all_said k) ≡ from_place p (all_said k)
 
 pub found : {A : Type 0} (k : KeptLines A) (i p : ℕ) → IsIndexed k → RiseFrom 0 k.places.items → i < length k.places.items →
     get_or k.places.items i 0 ≡ p → IsFound k p (get_or k.starts.items i 0)
@@ -168,8 +158,8 @@ found k i p h rise b e =
     stands (all_said k) 0 p i 0 (rw h.places at rise) (rw h.places at b) (rw h.places at e) in
     let c : get_or k.starts.items i 0 ≡ g.count = rw h.starts (let z = g.is in omega arith) in
     rw c (record {
-      within = (let z : length (all_said k) ≡ length k.lines.items = length-map k.lines.items said in let w = g.within in omega arith);
-      rest = sym (drop-map said g.count k.lines.items) ∙ g.rest;
+      within = g.within;
+      rest = g.rest;
     })
 
 nowhere : (ls : List Line) (p : ℕ) → ((i : ℕ) → i < length (map place (heads ls)) → get_or (map place (heads ls)) i 0 ≢ p) → from_place p ls ≡ []

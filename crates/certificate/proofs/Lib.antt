@@ -16,6 +16,7 @@ pub mod SameTextLemmas
 pub mod SameMeaningLemmas
 pub mod GatherLemmas
 pub mod FormLemmas
+pub mod PackedLemmas
 pub mod FoundLemmas
 pub mod DetailLemmas
 pub mod ReaderLemmas

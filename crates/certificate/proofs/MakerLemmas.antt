@@ -1,28 +1,22 @@
 -- Lines added to those of a certificate.
-use Rattle.std.proofs.Common.{◌≡◌, ℕ, ◌+◌, ◌*◌, ◌<◌, ◌≤◌, zero, suc, Bool, true, false, List, [], ◌∷◌, ◌++◌, length, refl, ap, ◌∙◌, sym, arith, append_assoc, append-nil, length-append}
-use Rattle.std.specs.Prelude.{map, flat_map, take, not, ◌&&◌, ◌||◌, if◌then◌else◌, option_to_list, Option, Some, None}
-use Rattle.std.proofs.lemmas.List.{map_push, length-map, append_cancel_right}
+use Rattle.std.proofs.Common.{◌≡◌, ℕ, ◌+◌, ◌*◌, ◌<◌, ◌≤◌, Bool, true, false, List, [], ◌∷◌, ◌++◌, length, refl, ap, ◌∙◌, sym, arith, append_assoc, append-nil, length-append}
+use Rattle.std.specs.Prelude.{map, flat_map, take, if◌then◌else◌, Result, Ok, Err, OnOk}
+use Rattle.std.proofs.lemmas.List.{map_push, append_cancel_right}
 use Rattle.std.proofs.Math.Seq.{take-append_seam}
-use Rattle.std.proofs.lemmas.Bool.{true≢false, false≢true}
-use Rattle.facts.specs.declared.fact.TrackedCell.{TrackedCell as KeptCell}
-use Rattle.facts.specs.declared.names.Equation.{Equation as KeptEquation}
-use Rattle.facts.specs.Meaning.{tracked_of, equation_of}
-use Rattle.certificate.specs.declared.line.Line.TheVariants as kept
 use Rattle.facts.specs.Facts.{Equation}
-use Rattle.facts.specs.Statements.{TrackedCell, Statement}
-use Rattle.wordset.specs.Words.{Words, SameWords, everything, has_some}
+use Rattle.facts.specs.Statements.{TrackedCell}
+use Rattle.wordset.specs.Words.{Words}
 use Rattle.wordset.proofs.Tests.{some_from}
 use Rattle.certificate.specs.declared.Version.{Version}
 use Rattle.certificate.specs.declared.Version.TheVariants.{One, Two}
-use Rattle.certificate.specs.declared.line.Line.{Line as ReadLine}
 use Rattle.certificate.specs.declared.lines.KeptLines.{KeptLines}
 use Rattle.certificate.specs.Spelling.{RoutineLine, FactLine, ExitLine, Lines, version_text, text}
-use Rattle.certificate.specs.Reading.{RiseFrom, Each, FitsVersion, IsRoutine, IsFactLine, IsExit, IsStatement, AreLines}
-use Rattle.certificate.specs.Line.{Line, Registers, RoutineIs, FactIs, ExitIs, CellIs, EquationIs, End, IsLine, IsRegisters, line_text, registers_of, details, lines_of_fact, lines_of_exit, lines_of, ended, all_ended}
+use Rattle.certificate.specs.Reading.{RiseFrom, Each, FitsVersion, IsRoutine, IsFactLine, IsExit, AreLines}
+use Rattle.certificate.specs.Line.{Line, RoutineIs, FactIs, ExitIs, CellIs, EquationIs, End, IsLine, line_text, registers_of, details, lines_of_fact, lines_of_exit, lines_of, ended, all_ended}
 use Rattle.certificate.specs.Order.{any, is_end, is_detail, heads, place, next_place, IsNext, AreInOrder}
 use Rattle.certificate.specs.Gathered.{cells_under, equations_under, routines_of, facts_of, exits_of, gathered}
-use Rattle.certificate.specs.Meaning.{said}
-use Rattle.certificate.specs.Found.{newest_first, starts, all_said, IsIndexed, Keeps, IsWhole, Begins, HasMore}
+use Rattle.certificate.specs.Found.{newest_first, starts, all_said, IsIndexed, Keeps, IsWhole, HasMore}
+use Rattle.certificate.specs.Packed.{Begins}
 use Rattle.certificate.specs.Made.{with_routine, with_fact, with_exit, MayAddRoutine, MayAddFact, MayAddExit}
 use Rattle.certificate.proofs.TextLemmas.{text_law}
 use Rattle.certificate.proofs.TextOrderLemmas.{onto, body_of, body_order}
@@ -335,16 +329,13 @@ none_added v k new w e i = record {
 -- The lists of places and of where they stand, with a line more and its details.
 pub indexed_more : {A : Type 0} (k new : KeptLines A) (head : Line) (cs : List TrackedCell) (es : List Equation) → is_detail head ≡ false → IsIndexed k →
     all_said new ≡ all_said k ++ (head ∷ (map CellIs cs ++ map EquationIs es)) → new.places.items ≡ k.places.items ++ place head ∷ [] →
-    new.starts.items ≡ k.starts.items ++ length k.lines.items ∷ [] → IsIndexed new
+    new.starts.items ≡ k.starts.items ++ length (all_said k) ∷ [] → IsIndexed new
 indexed_more k new head cs es d h e p s = record {
   places = p ∙ rw (h.places, e, heads_more (all_said k) (head ∷ (map CellIs cs ++ map EquationIs es)), d, no_heads cs es)
       (sym (map_push place (heads (all_said k)) head));
-  starts = s ∙ rw (h.starts, e, starts_on 0 (length k.lines.items) (all_said k) (count k), no_starts (length k.lines.items + 1) cs es) refl;
+  starts = s ∙ rw (h.starts, e, starts_on 0 (length (all_said k)) (all_said k) (omega arith), no_starts (length (all_said k) + 1) cs es) refl;
 }
   where
-    count : {A : Type 0} (k : KeptLines A) → length k.lines.items ≡ 0 + length (all_said k)
-    count k = let z : length (all_said k) ≡ length k.lines.items = length-map k.lines.items said in omega arith
-
     starts_on : (n m : ℕ) (ls : List Line) → m ≡ n + length ls → starts n (ls ++ (head ∷ (map CellIs cs ++ map EquationIs es))) ≡
         starts n ls ++ (m ∷ starts (m + 1) (map CellIs cs ++ map EquationIs es))
     starts_on n m [] q = let z : n ≡ m = omega arith in rw (z, d) refl
@@ -357,42 +348,22 @@ indexed_more k new head cs es d h e p s = record {
         pick true g = g
         pick false g = ap (λ (x : List ℕ). n ∷ x) g
 
--- What is said of lines that are kept with their details.
-said_more : (xs : List ReadLine) (h : ReadLine) (cs : List KeptCell) (es : List KeptEquation) →
-    map said (xs ++ (h ∷ (map kept.Cell cs ++ map kept.Equation es))) ≡
-    map said xs ++ (said h ∷ (map CellIs (map tracked_of cs) ++ map EquationIs (map equation_of es)))
-said_more [] h cs es = ap (λ (x : List Line). said h ∷ x) (under cs)
-  where
-    last : (es : List KeptEquation) → map said (map kept.Equation es) ≡ map EquationIs (map equation_of es)
-    last [] = refl
-    last (e ∷ es) = ap (λ (x : List Line). EquationIs (equation_of e) ∷ x) (last es)
-
-    under : (cs : List KeptCell) → map said (map kept.Cell cs ++ map kept.Equation es) ≡ map CellIs (map tracked_of cs) ++ map EquationIs (map equation_of es)
-    under [] = last es
-    under (c ∷ cs) = ap (λ (x : List Line). CellIs (tracked_of c) ∷ x) (under cs)
-said_more (l ∷ xs) h cs es = ap (λ (x : List Line). said l ∷ x) (said_more xs h cs es)
-
-pub all_more : {A : Type 0} (k new : KeptLines A) (head : ReadLine) (cs : List KeptCell) (es : List KeptEquation) → HasMore k new head cs es →
-    all_said new ≡ all_said k ++ (said head ∷ (map CellIs (map tracked_of cs) ++ map EquationIs (map equation_of es)))
-all_more k new head cs es m = ap (λ (x : List ReadLine). map said x) m.lines ∙ said_more k.lines.items head cs es
-
-pub index_more : {A : Type 0} (k new : KeptLines A) (head : ReadLine) (cs : List KeptCell) (es : List KeptEquation) → is_detail (said head) ≡ false →
+pub index_more : {A : Type 0} (k new : KeptLines A) (head : Line) (cs : List TrackedCell) (es : List Equation) → is_detail head ≡ false →
     IsIndexed k → HasMore k new head cs es → IsIndexed new
-index_more k new head cs es d h m =
-    indexed_more k new (said head) (map tracked_of cs) (map equation_of es) d h (all_more k new head cs es m) m.places m.starts
+index_more k new head cs es d h m = indexed_more k new head cs es d h m.lines m.places m.starts
+
+-- What follows where a call succeeded.
+pub on_ok : {X E : Type 0} (r : Result X E) (P Q : Type 0) → (P → Q) → OnOk r P → OnOk r Q
+on_ok (Ok x) P Q to h = to h
+on_ok (Err e) P Q to h = tt
 
 -- Nothing was kept.
 pub cut_back : {X : Type 0} (old long cut : List X) (n : ℕ) → Begins old long → n ≡ length old → cut ≡ take n long → cut ≡ old
 cut_back old long cut n b e c = c ∙ rw (e, b.1) (take-append_seam old b.0)
 
-pub same_said : {A : Type 0} (k new : KeptLines A) → new.lines.items ≡ k.lines.items → all_said new ≡ all_said k
-same_said k new l = ap (λ (x : List ReadLine). map said x) l
-
-pub same_index : {A : Type 0} (k new : KeptLines A) → new.lines.items ≡ k.lines.items → new.places.items ≡ k.places.items →
+pub same_index : {A : Type 0} (k new : KeptLines A) → all_said new ≡ all_said k → new.places.items ≡ k.places.items →
     new.starts.items ≡ k.starts.items → IsIndexed k → IsIndexed new
-same_index k new l p s h =
-    let e : all_said new ≡ all_said k = same_said k new l in
-    record { places = p ∙ rw e h.places; starts = s ∙ rw e h.starts }
+same_index k new e p s h = record { places = p ∙ rw e h.places; starts = s ∙ rw e h.starts }
 
 -- One list begins with another, and that with a third.
 pub begins_same : {X : Type 0} (xs : List X) → Begins xs xs

@@ -22,7 +22,8 @@ use Rattle.certificate.proofs.GatherLemmas.{text_of_gathered}
 use Rattle.certificate.proofs.FormLemmas.{gathered_formed}
 use Rattle.certificate.proofs.FoundLemmas.{reversed_more, not_end}
 use Rattle.certificate.proofs.MakerLemmas.{gathered_end}
-use Rattle.certificate.specs.Parser.{Reached, HasRead, Parts, Refuses, IsParsed}
+use Rattle.certificate.specs.Parser.{Reached, HasRead, WasRead, Parts, Seen, Refuses, IsParsed}
+use Rattle.certificate.specs.declared.parser.Parser.{Parser}
 
 long_bad : (v : Version) (before : List Line) (bytes : List ℕ) → 32768 < length bytes → IsBad v before bytes
 long_bad v before bytes h l spells stands =
@@ -53,6 +54,25 @@ kept_parts new_kept text line new_text new_line bytes new long p e a b c d h = r
   same = λ q. b;
   long = λ q. absurd (true≢false (sym q ∙ d));
   full = λ q. absurd (true≢false (sym q ∙ d));
+}
+
+-- The whole lines that were seen were read.
+pub was_read : {A : Type 0} (p : Parser A) (bytes : List ℕ) → Seen p bytes → WasRead p.progress p.kept
+was_read p bytes s = record { text = s.text; read = s.parts.read }
+
+-- Before the first byte.
+pub nothing_seen : {A : Type 0} (p : Parser A) → Keeps p.kept [] → p.progress ≡ None → p.line.items ≡ [] → p.is_long ≡ false → Seen p []
+nothing_seen p keeps progress line short = record {
+  text = [];
+  parts = record {
+    tail = [];
+    split = refl;
+    read = rw progress (refl, keeps);
+    feed = tt;
+    same = λ q. line;
+    long = λ q. absurd (true≢false (sym q ∙ short));
+    full = λ q. absurd (true≢false (sym q ∙ short));
+  };
 }
 
 -- The line so far, where it isn't too long.
@@ -320,7 +340,7 @@ whole_kept kept text o p v same is h ended =
 pub whole_parsed : {A : Type 0} (kept : KeptLines A) (text line bytes : List ℕ) (o : Option Progress) (p : Progress) (long : Bool) (v : Version) →
     v ≡ p.version → o ≡ Some p → ((before : List Line) → Tracks p before → any is_end before ≡ true) →
     IsWhole v kept → Parts text kept o line long bytes → long ≡ false → line ≡ [] → length bytes ≤ most_bytes →
-    IsParsed bytes (record { version = v; lines = kept.lines.items })
+    IsParsed bytes (record { version = v; lines = kept.lines })
 whole_parsed kept text line bytes o p long v same is ended w h short none few =
     record {
       found = all ∙ (sym (ap (front v) lines) ∙

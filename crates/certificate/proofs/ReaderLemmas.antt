@@ -1,17 +1,15 @@
 -- What the lines at a place say is what the certificate claims.
-use Rattle.std.proofs.Common.{◌≡◌, ℕ, ◌+◌, ◌*◌, ◌<◌, ◌≤◌, ◌==◌, Bool, true, false, List, [], ◌∷◌, refl, ◌∙◌, sym, inl, inr, arith}
-use Rattle.std.specs.Prelude.{if◌then◌else◌, map, Option, Some, None, IfSome}
+use Rattle.std.proofs.Common.{◌≡◌, ℕ, ◌+◌, ◌*◌, ◌<◌, ◌≤◌, ◌==◌, Bool, true, false, List, [], ◌∷◌, refl, sym, inl, inr, arith}
+use Rattle.std.specs.Prelude.{if◌then◌else◌, Option, Some, None, IfSome}
 use Rattle.std.proofs.lemmas.Bool.Decides.{eqb_tells}
 use Rattle.certificate.specs.declared.Version.{Version}
-use Rattle.certificate.specs.declared.line.Line.{Line as ReadLine}
 use Rattle.certificate.specs.declared.lines.KeptLines.{KeptLines}
-use Rattle.certificate.specs.Spelling.{ExitLine, text}
+use Rattle.certificate.specs.Spelling.{ExitLine}
 use Rattle.certificate.specs.Reading.{Each, IsFactLine, IsExit, has_routine, has_fact_in, fact_in, has_exit_in, exit_in}
 use Rattle.certificate.specs.Line.{Line, RoutineIs, FactIs, ExitIs, CellIs, EquationIs, End, IsLine}
-use Rattle.certificate.specs.Meaning.{said}
-use Rattle.certificate.specs.Gathered.{routines_of, facts_of, exits_of, gathered}
+use Rattle.certificate.specs.Gathered.{routines_of, facts_of, exits_of}
 use Rattle.certificate.specs.Found.{from_place, all_said, IsWhole, FitUnderFirst, begins_routine, begins_fact, begins_exit, first_fact, first_exit, SaysFirst}
-use Rattle.certificate.proofs.GatherLemmas.{Follow, follows, text_of_gathered}
+use Rattle.certificate.proofs.GatherLemmas.{Follow, follows}
 use Rattle.certificate.proofs.FormLemmas.{gathered_formed}
 
 each_formed : (v : Version) (before ls : List Line) → Follow v before ls → Each (IsLine v) ls
@@ -148,21 +146,21 @@ told None P Q to h = tt
 pub formed : {A : Type 0} (v : Version) (k : KeptLines A) → IsWhole v k → Each (IsLine v) (all_said k)
 formed v k w = each_formed v [] (all_said k) (follows v [] (all_said k) w.order)
 
-pub routine_claims : {A : Type 0} (v : Version) (k : KeptLines A) (e : ℕ) (ls : List ReadLine) → IsWhole v k → e < 4096 →
-    map said ls ≡ from_place e (all_said k) →
-    (begins_routine (map said ls) ≡ has_routine (routines_of (all_said k)) e) × SaysFirst (routines_of (all_said k)) e (map said ls)
+pub routine_claims : {A : Type 0} (v : Version) (k : KeptLines A) (e : ℕ) (ls : List Line) → IsWhole v k → e < 4096 →
+    ls ≡ from_place e (all_said k) →
+    (begins_routine ls ≡ has_routine (routines_of (all_said k)) e) × SaysFirst (routines_of (all_said k)) e ls
 routine_claims v k e ls w b at =
     let f = routines_found v (all_said k) e (formed v k w) b in rw at (sym f.0, f.1)
 
-pub fact_claims : {A : Type 0} (v : Version) (k : KeptLines A) (a : ℕ) (ls : List ReadLine) → IsWhole v k → a < 4096 →
-    map said ls ≡ from_place (4096 + a) (all_said k) →
-    (begins_fact (map said ls) ≡ has_fact_in (facts_of (all_said k)) a) × (first_fact (map said ls) ≡ fact_in (facts_of (all_said k)) a)
+pub fact_claims : {A : Type 0} (v : Version) (k : KeptLines A) (a : ℕ) (ls : List Line) → IsWhole v k → a < 4096 →
+    ls ≡ from_place (4096 + a) (all_said k) →
+    (begins_fact ls ≡ has_fact_in (facts_of (all_said k)) a) × (first_fact ls ≡ fact_in (facts_of (all_said k)) a)
 fact_claims v k a ls w b at =
     let f = facts_found v (all_said k) a (formed v k w) b in rw at (sym f.0, sym f.1)
 
-pub exit_claims : {A : Type 0} (v : Version) (k : KeptLines A) (e o p : ℕ) (ls : List ReadLine) → IsWhole v k → e < 4096 → o < 8 →
-    p ≡ 8192 + (8 * e + o) → map said ls ≡ from_place p (all_said k) →
-    (begins_exit (map said ls) ≡ has_exit_in (exits_of (all_said k)) e o) × (first_exit (map said ls) ≡ exit_in (exits_of (all_said k)) e o)
+pub exit_claims : {A : Type 0} (v : Version) (k : KeptLines A) (e o p : ℕ) (ls : List Line) → IsWhole v k → e < 4096 → o < 8 →
+    p ≡ 8192 + (8 * e + o) → ls ≡ from_place p (all_said k) →
+    (begins_exit ls ≡ has_exit_in (exits_of (all_said k)) e o) × (first_exit ls ≡ exit_in (exits_of (all_said k)) e o)
 exit_claims v k e o p ls w b g same at =
     let f = exits_found v (all_said k) e o (formed v k w) b g in rw (at, same) (sym f.0, sym f.1)
 
@@ -170,7 +168,7 @@ pub no_claim : {A : Type 0} (v : Version) (k : KeptLines A) (e o : ℕ) → IsWh
     has_exit_in (exits_of (all_said k)) e o ≡ false
 no_claim v k e o w g = no_exit v (exits_of (all_said k)) e o (gathered_formed v (all_said k) w.order).exits g
 
-pub fits : {A : Type 0} (v : Version) (k : KeptLines A) (p : ℕ) (ls : List ReadLine) → IsWhole v k →
-    map said ls ≡ from_place p (all_said k) → FitUnderFirst (map said ls)
+pub fits : {A : Type 0} (v : Version) (k : KeptLines A) (p : ℕ) (ls : List Line) → IsWhole v k →
+    ls ≡ from_place p (all_said k) → FitUnderFirst ls
 fits v k p ls w at =
     let f = gathered_formed v (all_said k) w.order in rw at (fits_first v (all_said k) p f.facts f.exits)

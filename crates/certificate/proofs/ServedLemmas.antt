@@ -177,7 +177,7 @@ module _ {A : Type 0} (a b c : Option (List ℕ)) (p : Parser A) where
   came_open came =
       let e : p.count ≡ length came.given = came.count in
       let few : p.count ≤ most_bytes = came.small.count in
-      seen_open p.kept p.text.items p.line.items came.given p.is_long p.progress came.seen (omega arith)
+      seen_open p.kept came.seen.text p.line.items came.given p.is_long p.progress came.seen.parts (omega arith)
 
   pub serve_failed : CameTo a b p → Keeps b c → Serves a c (Err faults.ReadFault)
   serve_failed came keeps = record {

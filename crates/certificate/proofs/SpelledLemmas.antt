@@ -1,5 +1,5 @@
 -- The text of a line while it's written.
-use Rattle.std.proofs.Common.{◌≡◌, ◌⊎◌, ℕ, zero, suc, Option, map, drop, length-append, ◌+◌, ◌-◌, ◌<◌, ◌≤◌, ◌==◌, Bool, true, false, List, [], ◌∷◌, ◌++◌, length, refl, ap, ◌∙◌, sym, inl, inr, arith, append_assoc, append-nil, get_or, add-one, length-take-le}
+use Rattle.std.proofs.Common.{◌≡◌, ◌⊎◌, ℕ, zero, suc, Option, drop, length-append, ◌+◌, ◌-◌, ◌<◌, ◌≤◌, ◌==◌, Bool, true, false, List, [], ◌∷◌, ◌++◌, length, refl, ap, ◌∙◌, sym, inl, inr, arith, append_assoc, append-nil, get_or, length-take-le}
 use Rattle.std.specs.Prelude.{take, not, ◌&&◌, ◌||◌, if◌then◌else◌, IsTrue}
 use Rattle.std.proofs.lemmas.Bool.{true≢false, eq-eqb, ne_eqb, cases_lt}
 use Rattle.std.proofs.lemmas.Bool.Decides.{nat_tests}
@@ -9,17 +9,15 @@ use Rattle.std.specs.Io.KnownBytes.{Appends}
 use Rattle.std.proofs.KnownBytes.{Appends-trans}
 use Rattle.streams.specs.Bytes.{AppendsFront}
 use Rattle.certificate.specs.declared.Version.{Version}
-use Rattle.certificate.specs.declared.line.Line.{Line as ReadLine}
 use Rattle.certificate.specs.Reading.{Each}
-use Rattle.certificate.specs.Line.{line_text, ended, all_ended}
-use Rattle.certificate.specs.Meaning.{said}
-use Rattle.wordset.specs.Words.{Words, all_words, difference, some_below, has_some, IsFirstFrom, HasNoneFrom}
+use Rattle.certificate.specs.Line.{Line, line_text, ended, all_ended}
+use Rattle.wordset.specs.Words.{Words, all_words, difference, IsFirstFrom, HasNoneFrom}
 use Rattle.wordset.proofs.Tests.{IsSome}
-use Rattle.certificate.specs.Spelling.{marks, set_text, digits, offsets_text}
+use Rattle.certificate.specs.Spelling.{marks, digits, offsets_text}
 use Rattle.certificate.specs.Fields.{run_text}
 use Rattle.certificate.specs.Spelled.{Adds, IsLastOf}
 use Rattle.certificate.proofs.SetLemmas.{rest, comma, Run, whole_rest, none_rest, run_rest, StartsAt, starts_after}
-use Rattle.certificate.proofs.RunLemmas.{no_comma, comma_rest, full_text, empty_text}
+use Rattle.certificate.proofs.RunLemmas.{no_comma, comma_rest}
 use Rattle.certificate.proofs.DigitLemmas.{digits_more, digits_none, no_offsets, some_offsets, has_offset}
 
 take_twice : (xs ys : List ℕ) (n : ℕ) → take n (take n xs ++ ys) ≡ take n (xs ++ ys)
@@ -168,20 +166,20 @@ pub some_offset : (old now : List ℕ) (s : Words) → (((o : ℕ) → o < 8 →
 some_offset old now s some h = rw (some_offsets s (has_offset s some)) h
 
 -- Lines one after another.
-pub each_at : {A B : Type 0} (P : B → Type 0) (f : A → B) (xs : List A) (i : ℕ) (d : A) → Each P (map f xs) → i < length xs → P (f (get_or xs i d))
-each_at P f [] i d h b = absurd (omega arith)
-each_at P f (x ∷ xs) zero d h b = h.0
-each_at P f (x ∷ xs) (suc i) d h b = each_at P f xs i d h.1 (omega arith)
+pub each_at : {A : Type 0} (P : A → Type 0) (xs : List A) (i : ℕ) (d : A) → Each P xs → i < length xs → P (get_or xs i d)
+each_at P [] i d h b = absurd (omega arith)
+each_at P (x ∷ xs) zero d h b = h.0
+each_at P (x ∷ xs) (suc i) d h b = each_at P xs i d h.1 (omega arith)
 
-lines_more : (v : Version) (ls : List ReadLine) (i : ℕ) (d : ReadLine) → i < length ls →
-    all_ended v (map said (take (i + 1) ls)) ≡ all_ended v (map said (take i ls)) ++ ended (line_text v (said (get_or ls i d)))
+lines_more : (v : Version) (ls : List Line) (i : ℕ) (d : Line) → i < length ls →
+    all_ended v (take (i + 1) ls) ≡ all_ended v (take i ls) ++ ended (line_text v (get_or ls i d))
 lines_more v ls i d h = rw (take_more ls i d h) (on (take i ls) (get_or ls i d))
   where
-    on : (xs : List ReadLine) (x : ReadLine) →
-        all_ended v (map said (xs ++ x ∷ [])) ≡ all_ended v (map said xs) ++ ended (line_text v (said x))
-    on [] x = append-nil (ended (line_text v (said x)))
-    on (y ∷ ys) x = ap (λ (z : List ℕ). ended (line_text v (said y)) ++ z) (on ys x) ∙
-        sym (append_assoc (ended (line_text v (said y))) (all_ended v (map said ys)) (ended (line_text v (said x))))
+    on : (xs : List Line) (x : Line) →
+        all_ended v (xs ++ x ∷ []) ≡ all_ended v xs ++ ended (line_text v x)
+    on [] x = append-nil (ended (line_text v x))
+    on (y ∷ ys) x = ap (λ (z : List ℕ). ended (line_text v y) ++ z) (on ys x) ∙
+        sym (append_assoc (ended (line_text v y)) (all_ended v ys) (ended (line_text v x)))
 
 pub front_after : (a b c : Option (List ℕ)) (first second : List ℕ) → Appends a b first → AppendsFront b c second → AppendsFront a c (first ++ second)
 front_after a b c first second whole front = record {
@@ -197,26 +195,26 @@ front_more a b first second front = record {
   out = (let f : front.count ≤ length first = front.within in rw (take-append-le front.count first second f) front.out);
 }
 
-pub line_put : (a b c : Option (List ℕ)) (v : Version) (ls : List ReadLine) (i : ℕ) (d : ReadLine) (text : List ℕ) → i < length ls →
-    Appends a b (all_ended v (map said (take i ls))) → text ≡ ended (line_text v (said (get_or ls i d))) → Appends b c text →
-    Appends a c (all_ended v (map said (take (i + 1) ls)))
+pub line_put : (a b c : Option (List ℕ)) (v : Version) (ls : List Line) (i : ℕ) (d : Line) (text : List ℕ) → i < length ls →
+    Appends a b (all_ended v (take i ls)) → text ≡ ended (line_text v (get_or ls i d)) → Appends b c text →
+    Appends a c (all_ended v (take (i + 1) ls))
 line_put a b c v ls i d text h p e q =
-    rw (lines_more v ls i d h) (Appends-trans a b c (all_ended v (map said (take i ls))) (ended (line_text v (said (get_or ls i d)))) p (rw e at q))
+    rw (lines_more v ls i d h) (Appends-trans a b c (all_ended v (take i ls)) (ended (line_text v (get_or ls i d))) p (rw e at q))
 
-pub line_cut : (a b c : Option (List ℕ)) (v : Version) (ls : List ReadLine) (i : ℕ) (d : ReadLine) (text : List ℕ) → i < length ls →
-    Appends a b (all_ended v (map said (take i ls))) → text ≡ ended (line_text v (said (get_or ls i d))) → AppendsFront b c text →
-    AppendsFront a c (all_ended v (map said ls))
+pub line_cut : (a b c : Option (List ℕ)) (v : Version) (ls : List Line) (i : ℕ) (d : Line) (text : List ℕ) → i < length ls →
+    Appends a b (all_ended v (take i ls)) → text ≡ ended (line_text v (get_or ls i d)) → AppendsFront b c text →
+    AppendsFront a c (all_ended v ls)
 line_cut a b c v ls i d text h p e q =
-    let f : AppendsFront a c (all_ended v (map said (take (i + 1) ls))) =
-    rw (lines_more v ls i d h) (front_after a b c (all_ended v (map said (take i ls))) (ended (line_text v (said (get_or ls i d)))) p (rw e at q)) in
-    rw (sym (together (take (i + 1) ls) (drop (i + 1) ls)) ∙ ap (λ (x : List ReadLine). all_ended v (map said x)) (take-append-drop (i + 1) ls))
-    at (front_more a c (all_ended v (map said (take (i + 1) ls))) (all_ended v (map said (drop (i + 1) ls))) f)
+    let f : AppendsFront a c (all_ended v (take (i + 1) ls)) =
+    rw (lines_more v ls i d h) (front_after a b c (all_ended v (take i ls)) (ended (line_text v (get_or ls i d))) p (rw e at q)) in
+    rw (sym (together (take (i + 1) ls) (drop (i + 1) ls)) ∙ ap (λ (x : List Line). all_ended v x) (take-append-drop (i + 1) ls))
+    at (front_more a c (all_ended v (take (i + 1) ls)) (all_ended v (drop (i + 1) ls)) f)
   where
-    together : (xs ys : List ReadLine) → all_ended v (map said (xs ++ ys)) ≡ all_ended v (map said xs) ++ all_ended v (map said ys)
+    together : (xs ys : List Line) → all_ended v (xs ++ ys) ≡ all_ended v xs ++ all_ended v ys
     together [] ys = refl
-    together (x ∷ xs) ys = ap (λ (z : List ℕ). ended (line_text v (said x)) ++ z) (together xs ys) ∙
-        sym (append_assoc (ended (line_text v (said x))) (all_ended v (map said xs)) (all_ended v (map said ys)))
+    together (x ∷ xs) ys = ap (λ (z : List ℕ). ended (line_text v x) ++ z) (together xs ys) ∙
+        sym (append_assoc (ended (line_text v x)) (all_ended v xs) (all_ended v ys))
 
-pub lines_put : (a b : Option (List ℕ)) (v : Version) (ls : List ReadLine) (i : ℕ) → length ls ≤ i → i ≤ length ls →
-    Appends a b (all_ended v (map said (take i ls))) → Appends a b (all_ended v (map said ls))
+pub lines_put : (a b : Option (List ℕ)) (v : Version) (ls : List Line) (i : ℕ) → length ls ≤ i → i ≤ length ls →
+    Appends a b (all_ended v (take i ls)) → Appends a b (all_ended v ls)
 lines_put a b v ls i g h p = rw (take_all i ls g) at p

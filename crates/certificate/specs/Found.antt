@@ -1,21 +1,17 @@
 -- How a line is found by its place, and what stands there; it serves private contracts.
 use Rattle.std.specs.Prelude.{◌≡◌, ℕ, ◌+◌, ◌≤◌, ◌==◌, Bool, true, false, if◌then◌else◌, List, [], ◌∷◌, ◌++◌, length, map}
-use Rattle.facts.specs.Facts.{Fact}
+use Rattle.facts.specs.Facts.{Fact, Equation}
 use Rattle.wordset.specs.Words.{everything}
-use Rattle.facts.specs.Statements.{Statement, fact_of, unknown}
+use Rattle.facts.specs.Statements.{TrackedCell, Statement, fact_of, unknown}
 use Rattle.wordset.specs.Lanes.{words}
 use Rattle.certificate.specs.declared.Version.{Version}
 use Rattle.certificate.specs.declared.Routine.{Routine}
-use Rattle.facts.specs.declared.fact.TrackedCell.{TrackedCell}
-use Rattle.facts.specs.declared.names.Equation.{Equation}
-use Rattle.certificate.specs.declared.line.Line.{Line as ReadLine}
-use Rattle.certificate.specs.declared.line.Line.TheVariants as kept
 use Rattle.certificate.specs.declared.lines.KeptLines.{KeptLines}
 use Rattle.certificate.specs.Spelling.{RoutineLine}
 use Rattle.certificate.specs.Reading.{rank_in, sites_in, writes_in}
-use Rattle.certificate.specs.Line.{Line, RoutineIs, FactIs, ExitIs, End}
+use Rattle.certificate.specs.Line.{Line, RoutineIs, FactIs, ExitIs, CellIs, EquationIs, End}
 use Rattle.certificate.specs.Order.{is_detail, place, heads, any, is_end, AreInOrder}
-use Rattle.certificate.specs.Meaning.{said}
+use Rattle.certificate.specs.Packed.{Begins, said_lines}
 use Rattle.certificate.specs.Gathered.{cells_under, equations_under, stated}
 
 -- Lines of which the newest is the first, without the end.
@@ -41,7 +37,7 @@ from_place p (l ∷ ls) = if is_detail l then from_place p ls else (if place l =
 
 -- The lines that are kept.
 abbrev pub all_said : {A : Type 0} → KeptLines A → List Line
-all_said k = map said k.lines.items
+all_said k = said_lines k.lines
 
 -- The lists of places and of where they stand are those of the lines.
 pub record IsIndexed {A : Type 0} (k : KeptLines A) : Type 0 where
@@ -53,21 +49,17 @@ pub record Keeps {A : Type 0} (k : KeptLines A) (before : List Line) : Type 0 wh
   pub lines : newest_first [] (all_said k) ≡ before
   pub indexed : IsIndexed k
 
--- The list begins with another.
-abbrev pub Begins : {X : Type 0} → List X → List X → Type 0
-Begins {X = X} old new = (more : List X) × (new ≡ old ++ more)
-
 -- What is kept begins with what was.
 pub record Extends {A : Type 0} (old new : KeptLines A) : Type 0 where
-  pub lines : Begins old.lines.items new.lines.items
+  pub lines : Begins (all_said old) (all_said new)
   pub places : Begins old.places.items new.places.items
   pub starts : Begins old.starts.items new.starts.items
 
 -- A line that isn't a detail is kept too, with its cells and equations.
-pub record HasMore {A : Type 0} (old new : KeptLines A) (head : ReadLine) (cells : List TrackedCell) (equations : List Equation) : Type 0 where
-  pub lines : new.lines.items ≡ old.lines.items ++ (head ∷ (map kept.Cell cells ++ map kept.Equation equations))
-  pub places : new.places.items ≡ old.places.items ++ place (said head) ∷ []
-  pub starts : new.starts.items ≡ old.starts.items ++ length old.lines.items ∷ []
+pub record HasMore {A : Type 0} (old new : KeptLines A) (head : Line) (cells : List TrackedCell) (equations : List Equation) : Type 0 where
+  pub lines : all_said new ≡ all_said old ++ (head ∷ (map CellIs cells ++ map EquationIs equations))
+  pub places : new.places.items ≡ old.places.items ++ place head ∷ []
+  pub starts : new.starts.items ≡ old.starts.items ++ length (all_said old) ∷ []
 
 -- The lines that are kept are in order, and the end isn't among them.
 pub record IsWhole {A : Type 0} (v : Version) (k : KeptLines A) : Type 0 where

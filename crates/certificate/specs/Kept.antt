@@ -1,21 +1,19 @@
 -- How a certificate is kept, and what it says.
-use Rattle.std.specs.Prelude.{List, map}
 use Rattle.certificate.specs.declared.Version.{Version}
-use Rattle.certificate.specs.declared.line.Line.{Line}
 use Rattle.certificate.specs.Spelling.{Lines}
+use Rattle.certificate.specs.Packed.{Packed, said_lines}
 use Rattle.certificate.specs.Certificate.{Certificate}
 use Rattle.certificate.specs.Reading.{certificate_of}
-use Rattle.certificate.specs.Meaning.{said}
 use Rattle.certificate.specs.Gathered.{gathered}
 
--- A certificate as it's kept: the version of its text, and the lines after the first one, but for the end.
+-- A certificate as it's kept: the version of its text, and the lines after the first one, packed, but for the end.
 pub record Kept : Type 0 where
   pub version : Version
-  pub lines : List Line
+  pub lines : Packed
 
 -- What it says line by line.
 abbrev pub meaning : Kept → Lines
-meaning c = gathered c.version (map said c.lines)
+meaning c = gathered c.version (said_lines c.lines)
 
 -- What it claims.
 abbrev pub claims : Kept → Certificate

@@ -12,6 +12,7 @@ pub mod Parser
 pub mod Serving
 pub mod Served
 pub mod Gathered
+pub mod Packed
 pub mod Found
 pub mod Kept
 pub mod Exact

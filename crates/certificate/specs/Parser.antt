@@ -27,8 +27,7 @@ abbrev pub HasRead : {A : Type 0} → Option Progress → List ℕ → KeptLines
 HasRead None text kept = (text ≡ []) × Keeps kept []
 HasRead (Some p) text kept = Reached p text kept
 
--- The bytes are whole lines that were read, whose text is kept, and a line so far, whose bytes are kept unless there are
--- too many.
+-- The bytes are whole lines that were read, of this text, and a line so far, whose bytes are kept unless there are too many.
 pub record Parts {A : Type 0} (text : List ℕ) (kept : KeptLines A) (progress : Option Progress) (line : List ℕ) (is_long : Bool) (bytes : List ℕ) : Type 0 where
   pub tail : List ℕ
   pub split : bytes ≡ text ++ tail
@@ -38,8 +37,14 @@ pub record Parts {A : Type 0} (text : List ℕ) (kept : KeptLines A) (progress :
   pub long : is_long ≡ true → 32768 < length tail
   pub full : is_long ≡ true → 32768 ≤ length line
 
-abbrev pub Seen : {A : Type 0} → Parser A → List ℕ → Type 0
-Seen p bytes = Parts p.text.items p.kept p.progress p.line.items p.is_long bytes
+-- The same, whatever the text of the whole lines is.
+pub record Seen {A : Type 0} (p : Parser A) (bytes : List ℕ) : Type 0 where
+  pub text : List ℕ
+  pub parts : Parts text p.kept p.progress p.line.items p.is_long bytes
+
+pub record WasRead {A : Type 0} (progress : Option Progress) (kept : KeptLines A) : Type 0 where
+  pub text : List ℕ
+  pub read : HasRead progress text kept
 
 -- No more bytes than may be read, and no more lines than bytes.
 pub record IsSmall {A : Type 0} (p : Parser A) : Type 0 where

@@ -35,6 +35,7 @@ mod fields;
 mod line;
 mod lines;
 mod makers;
+mod packed;
 mod parser;
 mod pieces;
 mod progress;
@@ -78,7 +79,7 @@ impl<A: Allocator> Model for Certificate<A> {
 
     ghost Value = { Kept };
 
-    ghost view = { λ c. record { version = c.version; lines = c.kept.lines.items } };
+    ghost view = { λ c. record { version = c.version; lines = c.kept.lines } };
 
     // The lines are in order.
     ghost invariant = { λ c. IsWhole c.version c.kept };
@@ -156,7 +157,7 @@ impl<A: Allocator> Certificate<A> {
         ensures sites { IfSome result (λ r. words r.sites ≡ (claims self.now).sites entry) }
         ensures writes { IfSome result (λ r. words r.writes ≡ (claims self.now).writes entry) }
     {
-        first_routine(self.kept.from(entry.index()))
+        first_routine(self.kept.lines(), self.kept.from(entry.index()))
     }
 
     /// The fact at an address, if there is one.
@@ -178,7 +179,8 @@ impl<A: Allocator> Certificate<A> {
         ensures there { result ≡ (claims self.now).has_fact at }
         ensures fact { result ≡ true → fact_meaning fact.new ≡ (claims self.now).fact at }
     {
-        first_fact(self.kept.from(FIRST_FACT + at.index()), fact)
+        let start = self.kept.from(FIRST_FACT + at.index());
+        first_fact(self.kept.lines(), start, fact)
     }
 
     /// What holds when the routine of an entry returns by an offset, if that is said; it has all
@@ -211,7 +213,8 @@ impl<A: Allocator> Certificate<A> {
         if offset >= 8 {
             return false;
         }
-        first_exit(kept.from(FIRST_EXIT + 8 * entry.index() + offset), exit)
+        let start = kept.from(FIRST_EXIT + 8 * entry.index() + offset);
+        first_exit(kept.lines(), start, exit)
     }
 }
 

@@ -1,6 +1,6 @@
 //! The lines of a certificate as they are kept, and what is found in them.
 
-ghost use Rattle.std.specs.Prelude.{ℕ, ◌≡◌, ◌+◌, ◌<◌, ◌≤◌, List, [], ◌∷◌, ◌++◌, length, map, OnOk, IfSome, is_some, true, false};
+ghost use Rattle.std.specs.Prelude.{ℕ, ◌≡◌, ◌+◌, ◌<◌, ◌≤◌, ◌^◌, List, [], ◌∷◌, ◌++◌, length, map, drop, OnOk, IfSome, is_some, true, false};
 ghost use Rattle.std.specs.Prelude.{is_ok, if◌then◌else◌};
 ghost use Rattle.facts.specs.Meaning.{statement_of, offsets_of, tracked_of, equation_of, meaning as fact_meaning};
 ghost use Rattle.facts.specs.Statements.{fact_of};
@@ -9,14 +9,15 @@ ghost use Rattle.wordset.specs.Words.{everything};
 ghost use Rattle.certificate.specs.Spelling.{RoutineLine as SaidRoutine};
 ghost use Rattle.certificate.specs.Reading.{RiseFrom};
 ghost use Rattle.certificate.specs.Line.{Line as SaidLine, CellIs, EquationIs};
-ghost use Rattle.certificate.specs.declared.line.Line.TheVariants as kept;
 ghost use Rattle.certificate.specs.Order.{is_detail};
 ghost use Rattle.certificate.specs.Gathered.{cells_under, equations_under, stated};
 ghost use Rattle.certificate.specs.Meaning.{said, registers_of};
-ghost use Rattle.certificate.specs.Found.{from_place, all_said, Keeps, unended, Begins, Extends, HasMore, IsIndexed, FitUnder, FitUnderFirst, with_details, IsRoutineOf, begins_routine, begins_fact, begins_exit, first_fact, first_exit, SaysFirst};
+ghost use Rattle.certificate.specs.Packed.{Begins, said_lines};
+ghost use Rattle.certificate.specs.Found.{from_place, all_said, Keeps, unended, Extends, HasMore, IsIndexed, FitUnder, FitUnderFirst, with_details, IsRoutineOf, begins_routine, begins_fact, begins_exit, first_fact, first_exit, SaysFirst};
 
 use crate::Routine;
 use crate::line::{Line, Registers};
+use crate::packed::PackedLines;
 use crate::progress::{is_detail, is_end, place_of};
 use facts::{Equation, Fact, Offsets, TrackedCell};
 use std::alloc::{AllocError, Allocator};
@@ -25,8 +26,8 @@ use std::alloc::{AllocError, Allocator};
 /// are found by them.
 #[derive(Drop)]
 pub struct KeptLines<A: Allocator> {
-    lines: Vec<Line, A>,
-    places: Vec<usize, A>,
+    lines: PackedLines<A>,
+    places: Vec<u32, A>,
     starts: Vec<usize, A>,
 }
 
@@ -36,7 +37,7 @@ impl<A: Allocator + Copy> KeptLines<A> {
         ensures { Keeps result [] }
     {
         KeptLines {
-            lines: Vec::new(alloc),
+            lines: PackedLines::new(alloc),
             places: Vec::new(alloc),
             starts: Vec::new(alloc),
         }
@@ -45,8 +46,8 @@ impl<A: Allocator + Copy> KeptLines<A> {
 
 impl<A: Allocator> KeptLines<A> {
     /// The lines.
-    pub fn lines(&self) -> &[Line]
-        ensures { map said result.now ≡ all_said self.now }
+    pub fn lines(&self) -> &PackedLines<A>
+        ensures { said_lines result.now ≡ all_said self.now }
     {
         &self.lines
     }
@@ -60,13 +61,11 @@ impl<A: Allocator> KeptLines<A> {
             return Ok(());
         }
         if is_detail(line) {
-            self.lines.push(*line)?;
-            return Ok(());
+            return self.lines.push(line);
         }
-        self.places.push(place_of(line))?;
+        self.places.push(place_of(line) as u32)?;
         self.starts.push(self.lines.len())?;
-        self.lines.push(*line)?;
-        Ok(())
+        self.lines.push(line)
     }
 
     /// Keeps a line that isn't a detail, with its cells and equations: all of them, or none.
@@ -107,112 +106,124 @@ impl<A: Allocator> KeptLines<A> {
     ) -> Result<(), AllocError>
         ensures front { Extends self.old self.new }
         ensures whole { OnOk result
-            (HasMore self.old self.new head.now cells.now equations.now) }
+            (HasMore self.old self.new (said head.now) (map tracked_of cells.now)
+            (map equation_of equations.now)) }
     {
-        self.places.push(place_of(head))?;
+        self.places.push(place_of(head) as u32)?;
         self.starts.push(self.lines.len())?;
         push_all(&mut self.lines, head, cells, equations)
     }
 
-    /// The lines from the one of a place on, or none where no line has it.
-    pub fn from(&self, place: usize) -> &[Line]
+    /// Where the lines from the one of a place on begin, or past all where no line has it.
+    pub fn from(&self, place: usize) -> usize
         requires indexed { IsIndexed self.now }
         requires order { RiseFrom 0 self.now.places.items }
-        ensures { map said result.now ≡ from_place place (all_said self.now) }
+        requires small { place < 2 ^ 32 }
+        ensures { drop result (all_said self.now) ≡ from_place place (all_said self.now) }
     {
-        match self.places.binary_search(&place) {
-            Ok(at) => self.lines.split_at(self.starts[at]).1,
-            Err(_) => &[],
+        match self.places.binary_search(&(place as u32)) {
+            Ok(at) => self.starts[at],
+            Err(_) => self.lines.len(),
         }
     }
 }
 
 /// Adds a line and those of its cells and equations; where that's refused, some of them.
 fn push_all<A: Allocator>(
-    lines: &mut Vec<Line, A>,
+    lines: &mut PackedLines<A>,
     head: &Line,
     cells: &[TrackedCell],
     equations: &[Equation],
 ) -> Result<(), AllocError>
-    ensures whole { OnOk result (lines.new.items ≡ lines.old.items ++ (head.now ∷
-        (map kept.Cell cells.now ++ map kept.Equation equations.now))) }
-    ensures front { Begins lines.old.items lines.new.items }
+    ensures whole { OnOk result (said_lines lines.new ≡ said_lines lines.old ++ (said head.now ∷
+        (map CellIs (map tracked_of cells.now) ++ map EquationIs (map equation_of equations.now)))) }
+    ensures front { Begins (said_lines lines.old) (said_lines lines.new) }
 {
-    lines.push(*head)?;
+    lines.push(head)?;
     push_cells(lines, cells)?;
     push_equations(lines, equations)
 }
 
 /// Adds the lines of cells; where that's refused, some of them.
 fn push_cells<A: Allocator>(
-    lines: &mut Vec<Line, A>,
+    lines: &mut PackedLines<A>,
     cells: &[TrackedCell],
 ) -> Result<(), AllocError>
-    ensures whole { OnOk result (lines.new.items ≡ lines.old.items ++ map kept.Cell cells.now) }
-    ensures front { Begins lines.old.items lines.new.items }
+    ensures whole { OnOk result (said_lines lines.new ≡ said_lines lines.old ++
+        map CellIs (map tracked_of cells.now)) }
+    ensures front { Begins (said_lines lines.old) (said_lines lines.new) }
 {
     for cell in cells {
-        lines.push(Line::Cell(*cell))?;
+        lines.push(&Line::Cell(*cell))?;
     }
     Ok(())
 }
 
 /// Adds the lines of equations; where that's refused, some of them.
 fn push_equations<A: Allocator>(
-    lines: &mut Vec<Line, A>,
+    lines: &mut PackedLines<A>,
     equations: &[Equation],
 ) -> Result<(), AllocError>
-    ensures whole { OnOk result (lines.new.items ≡ lines.old.items ++
-        map kept.Equation equations.now) }
-    ensures front { Begins lines.old.items lines.new.items }
+    ensures whole { OnOk result (said_lines lines.new ≡ said_lines lines.old ++
+        map EquationIs (map equation_of equations.now)) }
+    ensures front { Begins (said_lines lines.old) (said_lines lines.new) }
 {
     for equation in equations {
-        lines.push(Line::Equation(*equation))?;
+        lines.push(&Line::Equation(*equation))?;
     }
     Ok(())
 }
 
-/// Adds the cells and equations at the front to a fact.
-fn add_details(fact: &mut Fact, lines: &[Line])
+/// Adds the cells and equations from a line on to a fact, up to the first line that is neither.
+fn add_details<A: Allocator>(fact: &mut Fact, lines: &PackedLines<A>, start: usize)
     requires cells { length (statement_of fact.old).cells +
-        length (cells_under (map said lines.now)) ≤ 64 }
+        length (cells_under (drop start (said_lines lines.now))) ≤ 64 }
     requires equations { length (statement_of fact.old).equations +
-        length (equations_under (map said lines.now)) ≤ 32 }
+        length (equations_under (drop start (said_lines lines.now))) ≤ 32 }
     ensures statement { statement_of fact.new ≡
-        with_details (statement_of fact.old) (map said lines.now) }
+        with_details (statement_of fact.old) (drop start (said_lines lines.now)) }
     ensures offsets { offsets_of fact.new.offsets ≡ offsets_of fact.old.offsets }
 {
-    for line in lines {
-        match line {
+    for at in start..lines.len() {
+        match lines.line(at) {
             Line::Cell(tracked) => fact.track(tracked.cell, tracked.set),
-            Line::Equation(equation) => fact.relate(*equation),
+            Line::Equation(equation) => fact.relate(equation),
             _ => return,
         }
     }
 }
 
-/// Makes a fact say what registers, offsets and the details at the front say.
-fn fill(fact: &mut Fact, registers: &Registers, offsets: Offsets, lines: &[Line])
-    requires fit { FitUnder (map said lines.now) }
+/// Makes a fact say what registers, offsets and the details from a line on say.
+fn fill<A: Allocator>(
+    fact: &mut Fact,
+    registers: &Registers,
+    offsets: Offsets,
+    lines: &PackedLines<A>,
+    start: usize,
+)
+    requires fit { FitUnder (drop start (said_lines lines.now)) }
     ensures { fact_meaning fact.new ≡
-        fact_of (stated (registers_of registers.now) (map said lines.now)) (offsets_of offsets) }
+        fact_of (stated (registers_of registers.now) (drop start (said_lines lines.now))) (offsets_of offsets) }
 {
     fact.forget();
     fact.set_accumulator(registers.accumulator);
     fact.set_mq(registers.mq);
     fact.set_link(registers.link);
     fact.set_offsets(offsets);
-    add_details(fact, lines);
+    add_details(fact, lines, start);
 }
 
-/// What the first line says of a routine, if it does.
-pub fn first_routine(lines: &[Line]) -> Option<Routine>
-    ensures there { is_some result ≡ begins_routine (map said lines.now) }
-    ensures says { (rs : List SaidRoutine) (e : ℕ) → SaysFirst rs e (map said lines.now) →
+/// What the line at a place says of a routine, if there is one and it does.
+pub fn first_routine<A: Allocator>(lines: &PackedLines<A>, start: usize) -> Option<Routine>
+    ensures there { is_some result ≡ begins_routine (drop start (said_lines lines.now)) }
+    ensures says { (rs : List SaidRoutine) (e : ℕ) → SaysFirst rs e (drop start (said_lines lines.now)) →
         IfSome result (λ r. IsRoutineOf rs e r) }
 {
-    match lines.first() {
-        Some(Line::Routine(routine)) => Some(Routine {
+    if start >= lines.len() {
+        return None;
+    }
+    match lines.line(start) {
+        Line::Routine(routine) => Some(Routine {
             rank: routine.rank,
             sites: routine.sites,
             writes: routine.writes,
@@ -221,33 +232,39 @@ pub fn first_routine(lines: &[Line]) -> Option<Routine>
     }
 }
 
-/// Whether the first line is a fact's, which the lent fact then says.
-pub fn first_fact(lines: &[Line], fact: &mut Fact) -> bool
-    requires fit { FitUnderFirst (map said lines.now) }
-    ensures there { result ≡ begins_fact (map said lines.now) }
-    ensures fact { result ≡ true → fact_meaning fact.new ≡ first_fact (map said lines.now) }
+/// Whether the line at a place is a fact's, which the lent fact then says.
+pub fn first_fact<A: Allocator>(lines: &PackedLines<A>, start: usize, fact: &mut Fact) -> bool
+    requires fit { FitUnderFirst (drop start (said_lines lines.now)) }
+    ensures there { result ≡ begins_fact (drop start (said_lines lines.now)) }
+    ensures fact { result ≡ true → fact_meaning fact.new ≡ first_fact (drop start (said_lines lines.now)) }
 {
-    match lines.split_first() {
-        Some((Line::Fact(_, registers, offsets), details)) => {
-            fill(fact, registers, *offsets, details);
+    if start >= lines.len() {
+        return false;
+    }
+    match lines.line(start) {
+        Line::Fact(_, registers, offsets) => {
+            fill(fact, &registers, offsets, lines, start + 1);
             true
         }
         _ => false,
     }
 }
 
-/// Whether the first line is an exit's, which the lent fact then says, with all offsets.
-pub fn first_exit(lines: &[Line], exit: &mut Fact) -> bool
-    requires fit { FitUnderFirst (map said lines.now) }
-    ensures there { result ≡ begins_exit (map said lines.now) }
+/// Whether the line at a place is an exit's, which the lent fact then says, with all offsets.
+pub fn first_exit<A: Allocator>(lines: &PackedLines<A>, start: usize, exit: &mut Fact) -> bool
+    requires fit { FitUnderFirst (drop start (said_lines lines.now)) }
+    ensures there { result ≡ begins_exit (drop start (said_lines lines.now)) }
     ensures fact { result ≡ true → with_offsets everything (fact_meaning exit.new) ≡
-        first_exit (map said lines.now) }
+        first_exit (drop start (said_lines lines.now)) }
     ensures offsets { result ≡ true → (o : ℕ) → o < 8 →
         (fact_meaning exit.new).offsets o ≡ true }
 {
-    match lines.split_first() {
-        Some((Line::Exit(_, _, registers), details)) => {
-            fill(exit, registers, Offsets::all(), details);
+    if start >= lines.len() {
+        return false;
+    }
+    match lines.line(start) {
+        Line::Exit(_, _, registers) => {
+            fill(exit, &registers, Offsets::all(), lines, start + 1);
             true
         }
         _ => false,

@@ -3,10 +3,9 @@
 ghost use Rattle.std.specs.Prelude.{ℕ, ◌≡◌, ◌+◌, ◌<◌, ◌≤◌, ◌⊎◌, ◌^◌, List, [], ◌∷◌, ◌++◌, length, IfOk, IfErr, MatchResult, Some, None};
 ghost use Rattle.std.specs.Prelude.{IfSome, false};
 ghost use Rattle.certificate.specs.declared.Version.{Version as Spelled};
-ghost use Rattle.certificate.specs.declared.CertificateFault.TheVariants.{NoMemory};
 ghost use Rattle.certificate.specs.Spelling.{version_text};
 ghost use Rattle.certificate.specs.Faults.{most_bytes, HasFault};
-ghost use Rattle.certificate.specs.Parser.{HasRead, Seen, IsSmall, Refuses, IsParsed};
+ghost use Rattle.certificate.specs.Parser.{WasRead, Seen, IsSmall, Refuses, IsParsed};
 
 use crate::lines::KeptLines;
 use crate::progress::Progress;
@@ -20,11 +19,10 @@ const MOST_BYTES: usize = 1_048_576;
 /// No line of a certificate has more bytes.
 const MOST_OF_A_LINE: usize = 32_768;
 
-/// A certificate's text as far as it was taken: the whole lines, what they say and what that means
-/// for those that follow, and the bytes of the line since then, of which there may be too many.
+/// A certificate's text as far as it was taken: what its whole lines say and what that means for
+/// those that follow, and the bytes of the line since then, of which there may be too many.
 #[derive(Drop)]
 pub struct Parser<A: Allocator> {
-    text: Vec<u8, A>,
     kept: KeptLines<A>,
     progress: Option<Progress>,
     line: ArrayVec<u8, MOST_OF_A_LINE>,
@@ -54,7 +52,6 @@ impl<A: Allocator + Copy> Parser<A> {
         ensures count { result.count ≡ 0 }
     {
         Parser {
-            text: Vec::new(alloc),
             kept: KeptLines::new(alloc),
             progress: None,
             line: ArrayVec::new(),
@@ -65,26 +62,16 @@ impl<A: Allocator + Copy> Parser<A> {
 }
 
 impl<A: Allocator> Parser<A> {
-    /// Keeps the text of the line and what it says for those that follow.
-    fn keep(&mut self, progress: Progress) -> Result<(), CertificateFault>
+    /// Goes on to the next line, after one that is followed by this.
+    fn keep(&mut self, progress: Progress)
         ensures same { self.new.count ≡ self.old.count }
         ensures lines { self.new.kept ≡ self.old.kept }
-        ensures kept { MatchResult result
-            (λ u. (self.new.text.items ≡ self.old.text.items ++ self.old.line.items ++ 10 ∷ []) ×
-            (self.new.line.items ≡ []) × (self.new.progress ≡ Some progress) ×
-            (self.new.is_long ≡ false))
-            (λ e. (e ≡ NoMemory) × (self.new.progress ≡ self.old.progress)) }
+        ensures kept { (self.new.line.items ≡ []) × (self.new.progress ≡ Some progress) ×
+            (self.new.is_long ≡ false) }
     {
-        let Ok(()) = self.text.extend_from_slice(&self.line) else {
-            return Err(CertificateFault::NoMemory);
-        };
-        let Ok(()) = self.text.push(b'\n') else {
-            return Err(CertificateFault::NoMemory);
-        };
         self.line.clear();
         self.is_long = false;
         self.progress = Some(progress);
-        Ok(())
     }
 
     /// Ends the first line.
@@ -98,7 +85,10 @@ impl<A: Allocator> Parser<A> {
             (Refuses (bytes ++ 10 ∷ [])) }
     {
         match version_of(&self.line) {
-            Some(version) if !self.is_long => self.keep(Progress::start(version)),
+            Some(version) if !self.is_long => {
+                self.keep(Progress::start(version));
+                Ok(())
+            }
             _ => Err(CertificateFault::Version),
         }
     }
@@ -123,7 +113,8 @@ impl<A: Allocator> Parser<A> {
                 let Ok(()) = self.kept.keep(&line) else {
                     return Err(CertificateFault::NoMemory);
                 };
-                self.keep(next)
+                self.keep(next);
+                Ok(())
             }
             Err(fault) => Err(fault),
         }
@@ -176,12 +167,11 @@ impl<A: Allocator> Parser<A> {
     /// The certificate, where the bytes are a whole one.
     pub fn finish(self) -> Result<Certificate<A>, CertificateFault>
         requires small { IsSmall self }
-        requires read { HasRead self.progress self.text.items self.kept }
+        requires read { WasRead self.progress self.kept }
         ensures { (bytes : List ℕ) → Seen self bytes → self.count ≡ length bytes →
             MatchResult result (IsParsed bytes) (HasFault bytes) }
     {
         let Parser {
-            text: _,
             kept,
             progress,
             line,

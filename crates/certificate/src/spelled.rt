@@ -1,6 +1,6 @@
 //! The text of a line.
 
-ghost use Rattle.std.specs.Prelude.{ℕ, ◌≡◌, ◌<◌, ◌≤◌, [], ◌∷◌, ◌+◌, ◌==◌, length, map, codes, if◌then◌else◌};
+ghost use Rattle.std.specs.Prelude.{ℕ, ◌≡◌, ◌<◌, ◌≤◌, [], ◌∷◌, ◌+◌, ◌==◌, length, codes, if◌then◌else◌};
 ghost use Rattle.std.specs.Prelude.{OnOk, OnErr, is_err, false, ◌++◌};
 ghost use Rattle.std.specs.Io.KnownBytes.{Appends};
 ghost use Rattle.streams.specs.Bytes.{AppendsFront};
@@ -15,29 +15,21 @@ ghost use Rattle.certificate.specs.Line.{FactIs, ExitIs, IsLine};
 ghost use Rattle.certificate.specs.Reading.{Each};
 ghost use Rattle.certificate.specs.Fields.{run_text};
 ghost use Rattle.certificate.specs.Meaning.{said, routine_of, registers_of};
-ghost use Rattle.certificate.specs.Spelled.{Adds, IsLastOf};
+ghost use Rattle.certificate.specs.Spelled.{Adds};
+ghost use Rattle.certificate.specs.Packed.{said_lines};
 
 use crate::Version;
 use crate::line::{Line, Registers, RoutineLine};
+use crate::packed::{PackedLines, last_before};
 use arrayvec::ArrayVec;
 use facts::{Equation, Name, Offsets, TrackedCell};
+use std::alloc::Allocator;
 use streams::{ByteSink, Failed, put};
 use word12::Word;
 use wordset::{Links, WordSet};
 
 /// No line has more bytes, its line feed included.
 const MOST: usize = 32_769;
-
-/// The last word of the run that begins at a word, by the words that aren't in the set.
-fn last_before(others: &WordSet, low: Word) -> Word
-    requires { words others.now low ≡ false }
-    ensures { IsLastOf (words others.now) low result }
-{
-    match others.first_from(low.index()) {
-        Some(after) => Word::from_index(after.index() - 1),
-        None => Word::from_index(4095),
-    }
-}
 
 /// The text of a line as far as it's written.
 #[derive(Drop)]
@@ -327,18 +319,22 @@ fn first_line(version: Version) -> &'static [u8]
 }
 
 /// Writes the lines after the first one.
-fn put_lines<W: ByteSink>(sink: &mut W, version: Version, lines: &[Line]) -> Result<(), Failed>
+fn put_lines<A: Allocator, W: ByteSink>(
+    sink: &mut W,
+    version: Version,
+    lines: &PackedLines<A>,
+) -> Result<(), Failed>
     requires unmarked { W.mark sink.old ≡ false }
-    requires form { Each (IsLine version) (map said lines.now) }
+    requires form { Each (IsLine version) (said_lines lines.now) }
     ensures whole { OnOk result (Appends (W.taken sink.old) (W.taken sink.new)
-        (all_ended version (map said lines.now))) }
+        (all_ended version (said_lines lines.now))) }
     ensures front { OnErr result (AppendsFront (W.taken sink.old) (W.taken sink.new)
-        (all_ended version (map said lines.now))) }
+        (all_ended version (said_lines lines.now))) }
     ensures marks { W.mark sink.new ≡ is_err result }
 {
     let mut text = LineText::new();
-    for line in lines {
-        text.put_line(version, line);
+    for at in 0..lines.len() {
+        text.put_line(version, &lines.line(at));
         if let Err(failed) = put(sink, &text.bytes) {
             return Err(failed);
         }
@@ -347,14 +343,18 @@ fn put_lines<W: ByteSink>(sink: &mut W, version: Version, lines: &[Line]) -> Res
 }
 
 /// Writes a certificate's text: its first line, these lines and the end.
-pub fn put_text<W: ByteSink>(sink: &mut W, version: Version, lines: &[Line]) -> Result<(), Failed>
+pub fn put_text<A: Allocator, W: ByteSink>(
+    sink: &mut W,
+    version: Version,
+    lines: &PackedLines<A>,
+) -> Result<(), Failed>
     requires unmarked { W.mark sink.old ≡ false }
-    requires form { Each (IsLine version) (map said lines.now) }
+    requires form { Each (IsLine version) (said_lines lines.now) }
     ensures whole { OnOk result (Appends (W.taken sink.old) (W.taken sink.new)
-        (ended (version_text version) ++ all_ended version (map said lines.now) ++
+        (ended (version_text version) ++ all_ended version (said_lines lines.now) ++
         ended (codes "end"))) }
     ensures front { OnErr result (AppendsFront (W.taken sink.old) (W.taken sink.new)
-        (ended (version_text version) ++ all_ended version (map said lines.now) ++
+        (ended (version_text version) ++ all_ended version (said_lines lines.now) ++
         ended (codes "end"))) }
     ensures marks { W.mark sink.new ≡ is_err result }
 {

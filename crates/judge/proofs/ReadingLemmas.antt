@@ -5,8 +5,7 @@ use Rattle.std.proofs.lemmas.Bool.{cases_order}
 use Rattle.std.specs.Prelude.{if◌then◌else◌}
 use Rattle.instruct.specs.declared.Profile.{Profile}
 use Rattle.wordset.specs.Words.{Words}
-use Rattle.wordset.specs.Lanes.{words}
-use Rattle.wordset.proofs.SetLemmas.{equal_words, words_past}
+use Rattle.wordset.proofs.SetLemmas.{equal_words}
 use Rattle.processor.specs.Runs.{Image}
 use Rattle.peripherals.specs.Loading.{image_of}
 use Rattle.declaration.specs.Declaration.{Routine, Declaration}
@@ -15,17 +14,19 @@ use Rattle.declaration.specs.Text.{Contents, contents, Says, Declares, ListsRout
 use Rattle.facts.specs.Facts.{Fact}
 use Rattle.facts.specs.declared.Condition.{Condition}
 use Rattle.facts.specs.declared.Condition.TheVariants.{V1, V2, V3, V4, V5, V6, V7, V8, V9, V10, V11, V12, V13, V14, V15}
-use Rattle.certificate.specs.declared.line.Line.{Line as CertificateLine}
-use Rattle.certificate.specs.declared.line.Line.TheVariants as kept
+use Rattle.certificate.specs.declared.packed.Run.{Run}
+use Rattle.certificate.specs.declared.packed.PackedLine.{PackedLine}
+use Rattle.certificate.specs.declared.packed.PackedLine.TheVariants as packed
 use Rattle.certificate.specs.Exact.{SameLines, SameCertificate}
 use Rattle.certificate.specs.Faults.{IsText, most_bytes}
 use Rattle.certificate.specs.Gathered.{routines_of}
 use Rattle.certificate.specs.Kept as certified
-use Rattle.certificate.specs.Meaning.{said}
+use Rattle.certificate.specs.Packed.{one_at, other_at, lines_in}
 use Rattle.certificate.specs.Reading.{AreLines, sites_in, writes_in}
 use Rattle.certificate.specs.Spelling.{text}
 use Rattle.certificate.specs.declared.Version.{Version}
 use Rattle.certificate.proofs.FromOrderLemmas.{reading_law}
+use Rattle.certificate.proofs.PackedLemmas.{runs_past}
 use Rattle.certificate.proofs.SameMeaningLemmas.{meaning_law}
 use Rattle.certificate.proofs.SameTextLemmas.{spelling_law}
 use Rattle.judge.specs.Conditions.{Case, HoldsAt, IsAsked, IsFirst, IsValid, is_first_condition, order, place_among}
@@ -85,28 +86,30 @@ one_declaration bytes d e s t =
 
 -- ---- a text claims one certificate, but that facts have the same words alone
 
--- sets that are kept by lanes have no number past the last word
+-- sets that are kept by their runs have no number past the last word
 either_past : (b : Bool) (s t : Words) (v : ℕ) → s v ≡ false → t v ≡ false → (let x : Words = if b then s else t in x v ≡ false)
 either_past true s t v e f = e
 either_past false s t v e f = f
 
-sites_past : (ls : List CertificateLine) (e v : ℕ) → 4096 ≤ v → sites_in (routines_of (map said ls)) e v ≡ false
-sites_past [] e v h = refl
-sites_past (kept.Routine r ∷ ls) e v h = either_past (r.entry == e) (words r.sites) (sites_in (routines_of (map said ls)) e) v (words_past r.sites v h) (sites_past ls e v h)
-sites_past (kept.Fact a r offsets ∷ ls) e v h = sites_past ls e v h
-sites_past (kept.Exit x o r ∷ ls) e v h = sites_past ls e v h
-sites_past (kept.Cell c ∷ ls) e v h = sites_past ls e v h
-sites_past (kept.Equation q ∷ ls) e v h = sites_past ls e v h
-sites_past (kept.End ∷ ls) e v h = sites_past ls e v h
+sites_past : (runs : List Run) (ls : List PackedLine) (e v : ℕ) → 4096 ≤ v → sites_in (routines_of (lines_in runs ls)) e v ≡ false
+sites_past runs [] e v h = refl
+sites_past runs (packed.Routine r ∷ ls) e v h =
+    either_past (r.entry == e) (one_at runs r.sets) (sites_in (routines_of (lines_in runs ls)) e) v (runs_past _ v h) (sites_past runs ls e v h)
+sites_past runs (packed.Fact a r offsets ∷ ls) e v h = sites_past runs ls e v h
+sites_past runs (packed.Exit x o r ∷ ls) e v h = sites_past runs ls e v h
+sites_past runs (packed.Cell a s ∷ ls) e v h = sites_past runs ls e v h
+sites_past runs (packed.Equation q ∷ ls) e v h = sites_past runs ls e v h
+sites_past runs (packed.End ∷ ls) e v h = sites_past runs ls e v h
 
-writes_past : (ls : List CertificateLine) (e v : ℕ) → 4096 ≤ v → writes_in (routines_of (map said ls)) e v ≡ false
-writes_past [] e v h = refl
-writes_past (kept.Routine r ∷ ls) e v h = either_past (r.entry == e) (words r.writes) (writes_in (routines_of (map said ls)) e) v (words_past r.writes v h) (writes_past ls e v h)
-writes_past (kept.Fact a r offsets ∷ ls) e v h = writes_past ls e v h
-writes_past (kept.Exit x o r ∷ ls) e v h = writes_past ls e v h
-writes_past (kept.Cell c ∷ ls) e v h = writes_past ls e v h
-writes_past (kept.Equation q ∷ ls) e v h = writes_past ls e v h
-writes_past (kept.End ∷ ls) e v h = writes_past ls e v h
+writes_past : (runs : List Run) (ls : List PackedLine) (e v : ℕ) → 4096 ≤ v → writes_in (routines_of (lines_in runs ls)) e v ≡ false
+writes_past runs [] e v h = refl
+writes_past runs (packed.Routine r ∷ ls) e v h =
+    either_past (r.entry == e) (other_at runs r.sets) (writes_in (routines_of (lines_in runs ls)) e) v (runs_past _ v h) (writes_past runs ls e v h)
+writes_past runs (packed.Fact a r offsets ∷ ls) e v h = writes_past runs ls e v h
+writes_past runs (packed.Exit x o r ∷ ls) e v h = writes_past runs ls e v h
+writes_past runs (packed.Cell a s ∷ ls) e v h = writes_past runs ls e v h
+writes_past runs (packed.Equation q ∷ ls) e v h = writes_past runs ls e v h
+writes_past runs (packed.End ∷ ls) e v h = writes_past runs ls e v h
 
 abbrev judged : Image → Declaration → Words → (ℕ → ℕ) → (ℕ → Words) → (ℕ → Words) → Words → (ℕ → Fact) → (ℕ → Words) → (ℕ → ℕ → Fact) → Case
 judged i d l r s w h f x g = record {
@@ -139,9 +142,9 @@ restated_is {t} {d} {c} p q image one other =
     let listed : (certified.claims p.certificate).listed ≡ (certified.claims q.certificate).listed = fun_ext (λ e. same.listed e) in
     let rank : (certified.claims p.certificate).rank ≡ (certified.claims q.certificate).rank = fun_ext (λ e. same.rank e) in
     let sites : (certified.claims p.certificate).sites ≡ (certified.claims q.certificate).sites =
-    fun_ext (λ e. equal_words ((certified.claims p.certificate).sites e) ((certified.claims q.certificate).sites e) (sites_past p.certificate.lines e) (sites_past q.certificate.lines e) (same.sites e)) in
+    fun_ext (λ e. equal_words ((certified.claims p.certificate).sites e) ((certified.claims q.certificate).sites e) (sites_past p.certificate.lines.runs p.certificate.lines.list e) (sites_past q.certificate.lines.runs q.certificate.lines.list e) (same.sites e)) in
     let writes : (certified.claims p.certificate).writes ≡ (certified.claims q.certificate).writes =
-    fun_ext (λ e. equal_words ((certified.claims p.certificate).writes e) ((certified.claims q.certificate).writes e) (writes_past p.certificate.lines e) (writes_past q.certificate.lines e) (same.writes e)) in
+    fun_ext (λ e. equal_words ((certified.claims p.certificate).writes e) ((certified.claims q.certificate).writes e) (writes_past p.certificate.lines.runs p.certificate.lines.list e) (writes_past q.certificate.lines.runs q.certificate.lines.list e) (same.writes e)) in
     let there : (certified.claims p.certificate).has_fact ≡ (certified.claims q.certificate).has_fact = fun_ext (λ a. same.has_fact a) in
     let exits : (certified.claims p.certificate).has_exit ≡ (certified.claims q.certificate).has_exit = fun_ext (λ e. fun_ext (λ o. same.has_exit e o)) in
     same_judged (certified.claims q.certificate).fact (certified.claims q.certificate).exit at promised listed rank sites writes there exits

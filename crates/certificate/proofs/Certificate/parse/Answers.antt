@@ -4,6 +4,7 @@ use Rattle.certificate.specs.Reading.{AreLines}
 use Rattle.certificate.specs.Kept.{meaning}
 use Rattle.certificate.specs.Faults.{IsText}
 use Rattle.certificate.proofs.ReadLemmas.{taken_all, of_refused, of_finished, answers_found, answers_refused, answers_only, answers_exact}
+use Rattle.certificate.proofs.ParserLemmas.{was_read}
 use Rattle.certificate.proofs.Certificate.parse.Goals as goal
 
 pub returns-in-Err-clause-only : goal.returns-in-Err-clause-only
@@ -19,7 +20,7 @@ returns-in-Err-clause-exact g c =
     answers_exact c.args.bytes.now (Err c.in-Err.fault) (of_refused c.args.bytes.now c.in-Err.fault (c.in-Err.ensures.seen [] c.new-parser.ensures.seen c.new-parser.ensures.count))
 
 pub finish-requires-clause-read : goal.finish-requires-clause-read
-finish-requires-clause-read g c = (c.in_default.ensures.seen [] c.new-parser.ensures.seen c.new-parser.ensures.count).read
+finish-requires-clause-read g c = was_read c.take_all.new.self c.args.bytes.now (c.in_default.ensures.seen [] c.new-parser.ensures.seen c.new-parser.ensures.count)
 
 pub returns-clause-found : goal.returns-clause-found
 returns-clause-found g c =

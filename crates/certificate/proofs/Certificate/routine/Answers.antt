@@ -1,8 +1,9 @@
-use Rattle.std.proofs.Common.{◌≡◌, ◌∙◌}
+use Rattle.std.proofs.Common.{drop, ◌≡◌, ◌∙◌}
 use Rattle.wordset.specs.Lanes.{words}
 use Rattle.certificate.specs.Reading.{rank_in, sites_in, writes_in}
 use Rattle.certificate.specs.Gathered.{routines_of}
 use Rattle.certificate.specs.Found.{all_said, IsRoutineOf}
+use Rattle.certificate.specs.Packed.{said_lines}
 use Rattle.certificate.proofs.FoundLemmas.{places_of_order}
 use Rattle.certificate.proofs.ReaderLemmas.{told, routine_claims}
 use Rattle.certificate.proofs.Certificate.routine.Goals as goal
@@ -12,12 +13,12 @@ from-requires-clause-order g c = places_of_order c.self.inside.version c.self.in
 
 pub returns-clause-listed : goal.returns-clause-listed
 returns-clause-listed g c =
-    let f = routine_claims c.self.inside.version c.self.inside.kept c.index.result c.from.result.now c.self.invariant c.index.ensures.small c.from.ensures in
+    let f = routine_claims c.self.inside.version c.self.inside.kept c.index.result (drop c.from.result (said_lines c.lines.result.now)) c.self.invariant c.index.ensures.small (rw c.lines.ensures c.from.ensures) in
     rw (← c.self.view_is, ← c.index.ensures.same) (c.first_routine.ensures.there ∙ f.0)
 
 pub returns-clause-rank : goal.returns-clause-rank
 returns-clause-rank g c =
-    let f = routine_claims c.self.inside.version c.self.inside.kept c.index.result c.from.result.now c.self.invariant c.index.ensures.small c.from.ensures in
+    let f = routine_claims c.self.inside.version c.self.inside.kept c.index.result (drop c.from.result (said_lines c.lines.result.now)) c.self.invariant c.index.ensures.small (rw c.lines.ensures c.from.ensures) in
     let rs = routines_of (all_said c.self.inside.kept) in
     rw (← c.self.view_is, ← c.index.ensures.same)
     (told c.first_routine.result (IsRoutineOf rs c.index.result) (λ r. r.rank ≡ rank_in rs c.index.result) (λ r s. s.rank)
@@ -25,7 +26,7 @@ returns-clause-rank g c =
 
 pub returns-clause-sites : goal.returns-clause-sites
 returns-clause-sites g c =
-    let f = routine_claims c.self.inside.version c.self.inside.kept c.index.result c.from.result.now c.self.invariant c.index.ensures.small c.from.ensures in
+    let f = routine_claims c.self.inside.version c.self.inside.kept c.index.result (drop c.from.result (said_lines c.lines.result.now)) c.self.invariant c.index.ensures.small (rw c.lines.ensures c.from.ensures) in
     let rs = routines_of (all_said c.self.inside.kept) in
     rw (← c.self.view_is, ← c.index.ensures.same)
     (told c.first_routine.result (IsRoutineOf rs c.index.result) (λ r. words r.sites ≡ sites_in rs c.index.result) (λ r s. s.sites)
@@ -33,7 +34,7 @@ returns-clause-sites g c =
 
 pub returns-clause-writes : goal.returns-clause-writes
 returns-clause-writes g c =
-    let f = routine_claims c.self.inside.version c.self.inside.kept c.index.result c.from.result.now c.self.invariant c.index.ensures.small c.from.ensures in
+    let f = routine_claims c.self.inside.version c.self.inside.kept c.index.result (drop c.from.result (said_lines c.lines.result.now)) c.self.invariant c.index.ensures.small (rw c.lines.ensures c.from.ensures) in
     let rs = routines_of (all_said c.self.inside.kept) in
     rw (← c.self.view_is, ← c.index.ensures.same)
     (told c.first_routine.result (IsRoutineOf rs c.index.result) (λ r. words r.writes ≡ writes_in rs c.index.result) (λ r s. s.writes)

@@ -3,6 +3,7 @@ use Rattle.std.proofs.lemmas.List.{length-take-le, take-append-le, length-drop}
 use Rattle.certificate.specs.Faults.{most_bytes}
 use Rattle.certificate.specs.Parser.{IsParsed}
 use Rattle.certificate.proofs.ServedLemmas.{came_none, came_on, serve_failed, serve_end, serve_refused, no_read_parsed, no_read_refused}
+use Rattle.certificate.proofs.ParserLemmas.{was_read}
 use Rattle.certificate.proofs.pieces.read_source.Goals as goal
 
 pub loop-parser-init : goal.loop-parser-init
@@ -25,7 +26,7 @@ pub finish-requires-clause-small : goal.finish-requires-clause-small
 finish-requires-clause-small g c = c.loop-parser.invariant.came.small
 
 pub finish-requires-clause-read : goal.finish-requires-clause-read
-finish-requires-clause-read g c = c.loop-parser.invariant.came.seen.read
+finish-requires-clause-read g c = was_read _ _ c.loop-parser.invariant.came.seen
 
 pub returns-in-Ok-eq0-clause-serves : goal.returns-in-Ok-eq0-clause-serves
 returns-in-Ok-eq0-clause-serves g c =

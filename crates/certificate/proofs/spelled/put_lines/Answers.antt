@@ -1,18 +1,30 @@
 use Rattle.std.proofs.Common.{◌≡◌, ◌∙◌, ap, get_or}
-use Rattle.certificate.specs.declared.line.Line.{Line as ReadLine}
-use Rattle.certificate.specs.Line.{IsLine, line_text, ended}
+use Rattle.certificate.specs.Line.{Line, IsLine, line_text, ended}
 use Rattle.certificate.specs.Meaning.{said}
-use Rattle.certificate.proofs.SpelledLemmas.{line_cut}
-use Rattle.certificate.proofs.PutLemmas.{each_item}
+use Rattle.certificate.specs.Packed.{said_lines}
+use Rattle.certificate.proofs.SpelledLemmas.{line_cut, line_put}
+use Rattle.certificate.proofs.PutLemmas.{line_there, each_line}
 use Rattle.certificate.proofs.spelled.put_lines.Goals as goal
 
 pub put_line-requires : goal.put_line-requires
 put_line-requires g c =
-    each_item (IsLine c.args.version) said c.args.lines.now c.loop-line.line-index c.line-item.result c.requires.form c.loop-line-test.true c.line-item.is
+    each_line (IsLine c.args.version) (said_lines c.args.lines.now) c.loop-at.at (said c.line.result) c.requires.form (rw c.len-at-end.ensures at c.loop-at-test.true) c.line.ensures
 
 pub returns-in-Err-clause-front : goal.returns-in-Err-clause-front
 returns-in-Err-clause-front g c =
-    let e : c.deref.result.now ≡ ended (line_text c.args.version (said (get_or c.args.lines.now c.loop-line.line-index c.line-item.result))) =
-    c.deref.ensures.0 ∙ (c.put_line.ensures ∙ ap (λ (l : ReadLine). ended (line_text c.args.version (said l))) c.line-item.is) in
-    line_cut (g.W.ByteSink.taken c.args.sink.now) (g.W.ByteSink.taken c.loop-line.sink) (g.W.ByteSink.taken c.put.new.sink) c.args.version c.args.lines.now
-    c.loop-line.line-index c.line-item.result c.deref.result.now c.loop-line-test.true c.loop-line.invariant.whole e c.in-Err.ensures.front
+    let e : c.deref.result.now ≡ ended (line_text c.args.version (get_or (said_lines c.args.lines.now) c.loop-at.at (said c.line.result))) =
+    c.deref.ensures.0 ∙ (c.put_line.ensures ∙ ap (λ (l : Line). ended (line_text c.args.version l))
+    (line_there (said_lines c.args.lines.now) c.loop-at.at (said c.line.result) (rw c.len-at-end.ensures at c.loop-at-test.true) c.line.ensures)) in
+    line_cut (g.W.ByteSink.taken c.args.sink.now) (g.W.ByteSink.taken c.loop-at.sink) (g.W.ByteSink.taken c.put.new.sink) c.args.version (said_lines c.args.lines.now)
+    c.loop-at.at (said c.line.result) c.deref.result.now (rw c.len-at-end.ensures at c.loop-at-test.true) c.loop-at.invariant.whole e c.in-Err.ensures.front
+
+pub loop-at-preserved : goal.loop-at-preserved
+loop-at-preserved g c =
+    let e : c.deref.result.now ≡ ended (line_text c.args.version (get_or (said_lines c.args.lines.now) c.loop-at.at (said c.line.result))) =
+    c.deref.ensures.0 ∙ (c.put_line.ensures ∙ ap (λ (l : Line). ended (line_text c.args.version l))
+    (line_there (said_lines c.args.lines.now) c.loop-at.at (said c.line.result) (rw c.len-at-end.ensures at c.loop-at-test.true) c.line.ensures)) in
+    record {
+      whole = line_put (g.W.ByteSink.taken c.args.sink.now) (g.W.ByteSink.taken c.loop-at.sink) (g.W.ByteSink.taken c.put.new.sink) c.args.version (said_lines c.args.lines.now)
+          c.loop-at.at (said c.line.result) c.deref.result.now (rw c.len-at-end.ensures at c.loop-at-test.true) c.loop-at.invariant.whole e c.in_default.ensures.whole;
+      mark = c.in_default.ensures.marks;
+    }

@@ -1,11 +1,11 @@
-use Rattle.std.proofs.Common.{◌≡◌, false, map, take}
+use Rattle.std.proofs.Common.{◌≡◌, false, take}
 use Rattle.std.specs.Io.KnownBytes.{Appends}
 use Rattle.certificate.specs.Line.{all_ended}
-use Rattle.certificate.specs.Meaning.{said}
+use Rattle.certificate.specs.Packed.{said_lines}
 use Rattle.certificate.proofs.spelled.put_lines.Given as goal
 
-abbrev pub invariant-loop-line : goal.invariant-loop-line
-invariant-loop-line g l = record {
-  whole : Appends (g.W.ByteSink.taken l.fn.sink) (g.W.ByteSink.taken l.sink) (all_ended l.version (map said (take l.line-index l.lines)));
+abbrev pub invariant-loop-at : goal.invariant-loop-at
+invariant-loop-at g l = record {
+  whole : Appends (g.W.ByteSink.taken l.fn.sink) (g.W.ByteSink.taken l.sink) (all_ended l.version (take l.at (said_lines l.lines)));
   mark : g.W.ByteSink.mark l.sink ≡ false;
 }

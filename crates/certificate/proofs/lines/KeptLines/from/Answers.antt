@@ -1,6 +1,7 @@
-use Rattle.std.proofs.Common.{◌≡◌, sym}
-use Rattle.std.specs.Prelude.{drop}
+use Rattle.std.proofs.Common.{◌∙◌, sym, arith}
+use Rattle.certificate.specs.Found.{all_said}
 use Rattle.certificate.proofs.FoundLemmas.{sought, sought_none}
+use Rattle.certificate.proofs.DetailLemmas.{nothing_from}
 use Rattle.certificate.proofs.lines.KeptLines.from.Goals as goal
 
 pub index-requires : goal.index-requires
@@ -8,20 +9,14 @@ index-requires g c = rw c.args.self.now.starts.ok.0
     (sought c.args.self.now c.deref.result.now c.args.place c.in-Ok.at 0 c.binary_search.result c.deref.ensures.value c.in-Ok.is
     c.binary_search.ensures.position c.requires.indexed c.requires.order).0
 
-pub split_at-requires : goal.split_at-requires
-split_at-requires g c =
-    let s = sought c.args.self.now c.deref.result.now c.args.place c.in-Ok.at c.index.result.now c.binary_search.result c.deref.ensures.value c.in-Ok.is
-    c.binary_search.ensures.position c.requires.indexed c.requires.order in
-    rw (c.deref-in-Ok.ensures.value, c.index.ensures) s.1.within
-
 pub returns-in-Ok : goal.returns-in-Ok
 returns-in-Ok g c =
     let s = sought c.args.self.now c.deref.result.now c.args.place c.in-Ok.at c.index.result.now c.binary_search.result c.deref.ensures.value c.in-Ok.is
     c.binary_search.ensures.position c.requires.indexed c.requires.order in
-    let e : c.split_at.result.1.now ≡ drop c.index.result.now c.args.self.now.lines.items = rw (← c.deref-in-Ok.ensures.value) c.split_at.ensures.back in
-    rw (e, c.index.ensures) s.1.rest
+    rw c.index.ensures s.1.rest
 
 pub returns-in-Err : goal.returns-in-Err
 returns-in-Err g c =
+    nothing_from (all_said c.args.self.now) c.len.result (let e = c.len.ensures in omega (arith, e)) ∙
     sym (sought_none c.args.self.now c.deref.result.now c.args.place c.in-Err.field-0 c.binary_search.result c.deref.ensures.value c.in-Err.is
     c.binary_search.ensures.position c.requires.indexed c.requires.order)

@@ -1,7 +1,7 @@
-use Rattle.std.proofs.Common.{refl, sym, ap, ◌∙◌, []}
-use Rattle.std.specs.Prelude.{◌∷◌, ◌++◌}
+use Rattle.std.proofs.Common.{sym, refl, ap, ◌∙◌, [], ◌∷◌, ◌++◌}
 use Rattle.certificate.specs.Meaning.{said}
 use Rattle.certificate.proofs.FoundLemmas.{detail_kept, head_kept, end_kept, not_end}
+use Rattle.certificate.proofs.MakerLemmas.{on_ok}
 use Rattle.certificate.proofs.lines.KeptLines.keep.Goals as goal
 
 pub returns-then-is_end : goal.returns-then-is_end
@@ -10,12 +10,12 @@ returns-then-is_end g c = λ before h. end_kept c.args.self.now (said c.args.lin
 pub returns-then-is_detail : goal.returns-then-is_detail
 returns-then-is_detail g c = λ before h.
     rw (not_end (said c.args.line.now) before (sym c.if-is_end.ensures))
-    (detail_kept c.args.self.now (record { lines = c.push.new.self; places = c.args.self.now.places; starts = c.args.self.now.starts }) c.args.line.now before
-    (sym c.if-is_detail.ensures) c.in_ok-push.ensures.items refl refl h)
+    (on_ok c.push.result _ _ (λ e. detail_kept c.args.self.now (record { lines = c.push.new.self; places = c.args.self.now.places; starts = c.args.self.now.starts })
+    (said c.args.line.now) before (sym c.if-is_detail.ensures) e refl refl h) c.push.ensures.added)
 
 pub returns : goal.returns
 returns g c = λ before h.
     rw (not_end (said c.args.line.now) before (sym c.if-is_end.ensures))
-    (head_kept c.args.self.now (record { lines = c.push-4.new.self; places = c.push-2.new.self; starts = c.push-3.new.self }) c.args.line.now before
-    (sym c.if-is_detail.ensures) c.in_ok-push-4.ensures.items (rw (← c.place_of.ensures.same) c.in_ok-push-2.ensures.items)
-    (c.in_ok-push-3.ensures.items ∙ ap (λ n. c.args.self.now.starts.items ++ n ∷ []) (c.len.ensures ∙ c.args.self.now.lines.ok.0)) h)
+    (on_ok c.push-4.result _ _ (λ e. head_kept c.args.self.now (record { lines = c.push-4.new.self; places = c.push-2.new.self; starts = c.push-3.new.self })
+    (said c.args.line.now) before (sym c.if-is_detail.ensures) e (rw (← c.place_of.ensures.same) c.in_ok-push.ensures.items)
+    (c.in_ok-push-2.ensures.items ∙ ap (λ n. c.args.self.now.starts.items ++ n ∷ []) c.len.ensures) h) c.push-4.ensures.added)

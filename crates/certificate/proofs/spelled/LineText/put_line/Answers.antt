@@ -1,4 +1,4 @@
-use Rattle.std.proofs.Common.{◌≤◌, ◌+◌, ◌++◌, [], ◌∷◌, length, length-append, arith}
+use Rattle.std.proofs.Common.{◌≤◌, [], ◌∷◌, length, length-append, arith}
 use Rattle.certificate.specs.Line.{line_text}
 use Rattle.certificate.specs.Meaning.{said}
 use Rattle.certificate.proofs.LengthLemmas.{line_short}

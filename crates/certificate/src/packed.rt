@@ -1,0 +1,357 @@
+//! Lines packed: each set by its runs of words, and the runs of all sets in one list.
+
+ghost use Rattle.std.specs.Prelude.{◌≡◌, ◌+◌, ◌<◌, ◌≤◌, [], ◌∷◌, ◌++◌, length, take, drop, false, IfOk, OnOk, OnErr};
+ghost use Rattle.wordset.specs.Words.{between};
+ghost use Rattle.wordset.specs.Lanes.{words};
+ghost use Rattle.certificate.specs.Line.{RoutineIs};
+ghost use Rattle.certificate.specs.Meaning.{said, registers_of, routine_of};
+ghost use Rattle.certificate.specs.Spelled.{IsLastOf};
+ghost use Rattle.certificate.specs.Packed.{Begins, set_of_runs, set_at, one_at, other_at, registers_at, said_at, said_lines, IsSpan, AreWithin, LiesWithin, IsLaid, AreLaid, IsPacked};
+
+use crate::line::{Line, Registers, RoutineLine};
+use facts::{Equation, Offsets, TrackedCell};
+use std::alloc::{AllocError, Allocator};
+use std::marker::Model;
+use word12::Word;
+use wordset::{Links, WordSet};
+
+/// Words in a row: the first and the last one.
+#[derive(Clone, Copy)]
+pub struct Run {
+    pub first: Word,
+    pub last: Word,
+}
+
+/// Where the runs of a set lie among those of all: so many from `first` on.
+#[derive(Clone, Copy)]
+pub struct Span {
+    pub first: u32,
+    pub count: u16,
+}
+
+/// Where the runs of two sets lie among those of all: from `first` on so many of the one, and then
+/// so many of the other.
+#[derive(Clone, Copy)]
+pub struct Spans {
+    pub first: u32,
+    pub one: u16,
+    pub other: u16,
+}
+
+/// What a line says of a routine, its sets packed: the sites, and then the written cells.
+#[derive(Clone, Copy)]
+pub struct PackedRoutine {
+    pub entry: Word,
+    pub rank: u8,
+    pub sets: Spans,
+}
+
+/// The words that the accumulator and then those that MQ may hold, packed, and the links.
+#[derive(Clone, Copy)]
+pub struct PackedRegisters {
+    pub sets: Spans,
+    pub link: Links,
+}
+
+/// What a line says, its sets packed.
+#[derive(Clone, Copy)]
+pub enum PackedLine {
+    Routine(PackedRoutine),
+    Fact(Word, PackedRegisters, Offsets),
+    Exit(Word, u8, PackedRegisters),
+    Cell(Word, Span),
+    Equation(Equation),
+    End,
+}
+
+/// Lines in their order, packed. The runs of all their sets lie in one list.
+#[derive(Drop)]
+pub struct PackedLines<A: Allocator> {
+    list: Vec<PackedLine, A>,
+    runs: Vec<Run, A>,
+}
+
+impl<A: Allocator> Model for PackedLines<A> {
+    ghost use Rattle.std.specs.Prelude.{List, length};
+    ghost use Rattle.std.specs.List.{AllByRecursion};
+    ghost use Rattle.certificate.specs.Packed.{Packed, LiesWithin};
+
+    ghost Value = { Packed };
+
+    ghost view = { λ p. record { list = p.list.items; runs = p.runs.items } };
+
+    // The runs of each set lie among those of all.
+    ghost invariant = { λ p. AllByRecursion (LiesWithin (length p.runs.items)) p.list.items };
+}
+
+/// The last word of the run that begins at a word, by the words that aren't in the set.
+pub fn last_before(others: &WordSet, low: Word) -> Word
+    requires { words others.now low ≡ false }
+    ensures { IsLastOf (words others.now) low result }
+{
+    match others.first_from(low.index()) {
+        Some(after) => Word::from_index(after.index() - 1),
+        None => Word::from_index(4095),
+    }
+}
+
+/// Adds the runs of a set in rising order; where that's refused, some of them.
+fn push_runs<A: Allocator>(runs: &mut Vec<Run, A>, set: &WordSet) -> Result<(), AllocError>
+    ensures front { Begins runs.old.items runs.new.items }
+    ensures whole { OnOk result
+        (set_of_runs (drop (length runs.old.items) runs.new.items) ≡ words set.now) }
+{
+    let others = WordSet::all().minus(set);
+    let mut next = 0;
+    while let Some(first) = set.first_from(next) {
+        let last = last_before(&others, first);
+        runs.push(Run { first, last })?;
+        next = last.index() + 1;
+    }
+    Ok(())
+}
+
+/// The places from one number up to another as they're kept, where the numbers aren't too great.
+fn kept_span(first: usize, end: usize) -> Result<Span, AllocError>
+    requires { first ≤ end }
+    ensures { IfOk result (λ span. IsSpan span first end) }
+{
+    let Ok(count) = u16::try_from(end - first) else {
+        return Err(AllocError);
+    };
+    match u32::try_from(first) {
+        Ok(first) => Ok(Span { first, count }),
+        Err(_) => Err(AllocError),
+    }
+}
+
+/// Adds the runs of a set, and tells where they lie.
+fn lay<A: Allocator>(runs: &mut Vec<Run, A>, set: &WordSet) -> Result<Span, AllocError>
+    ensures front { Begins runs.old.items runs.new.items }
+    ensures span { IfOk result (λ span.
+        IsSpan span (length runs.old.items) (length runs.new.items)) }
+    ensures laid { IfOk result (λ span. IsLaid runs.new.items span (words set.now)) }
+{
+    let first = runs.len();
+    push_runs(runs, set)?;
+    kept_span(first, runs.len())
+}
+
+/// Adds the runs of two sets, and tells where they lie.
+fn lay_two<A: Allocator>(
+    runs: &mut Vec<Run, A>,
+    one: &WordSet,
+    other: &WordSet,
+) -> Result<Spans, AllocError>
+    ensures front { Begins runs.old.items runs.new.items }
+    ensures laid { IfOk result (λ sets. AreLaid runs.new.items sets (words one.now) (words other.now)) }
+{
+    let front = lay(runs, one)?;
+    let back = lay(runs, other)?;
+    Ok(Spans {
+        first: front.first,
+        one: front.count,
+        other: back.count,
+    })
+}
+
+/// Adds the runs of the accumulator's set and of MQ's.
+fn lay_registers<A: Allocator>(
+    runs: &mut Vec<Run, A>,
+    registers: &Registers,
+) -> Result<PackedRegisters, AllocError>
+    ensures front { Begins runs.old.items runs.new.items }
+    ensures within { IfOk result (λ packed. AreWithin (length runs.new.items) packed.sets) }
+    ensures laid { IfOk result (λ packed.
+        registers_at runs.new.items packed ≡ registers_of registers.now) }
+{
+    let sets = lay_two(runs, &registers.accumulator, &registers.mq)?;
+    Ok(PackedRegisters {
+        sets,
+        link: registers.link,
+    })
+}
+
+/// Adds the runs of a routine's sets.
+fn pack_routine<A: Allocator>(
+    runs: &mut Vec<Run, A>,
+    routine: &RoutineLine,
+) -> Result<PackedLine, AllocError>
+    ensures front { Begins runs.old.items runs.new.items }
+    ensures packed { IfOk result (λ l. IsPacked runs.new.items l (RoutineIs (routine_of routine.now))) }
+{
+    let Ok(rank) = u8::try_from(routine.rank) else {
+        return Err(AllocError);
+    };
+    let sets = lay_two(runs, &routine.sites, &routine.writes)?;
+    Ok(PackedLine::Routine(PackedRoutine {
+        entry: routine.entry,
+        rank,
+        sets,
+    }))
+}
+
+/// The line packed, after its sets' runs were added.
+fn pack<A: Allocator>(runs: &mut Vec<Run, A>, line: &Line) -> Result<PackedLine, AllocError>
+    ensures front { Begins runs.old.items runs.new.items }
+    ensures packed { IfOk result (λ l. IsPacked runs.new.items l (said line.now)) }
+{
+    match line {
+        Line::Routine(routine) => pack_routine(runs, routine),
+        Line::Fact(at, registers, offsets) => {
+            let packed = lay_registers(runs, registers)?;
+            Ok(PackedLine::Fact(*at, packed, *offsets))
+        }
+        Line::Exit(entry, offset, registers) => {
+            let packed = lay_registers(runs, registers)?;
+            Ok(PackedLine::Exit(*entry, *offset, packed))
+        }
+        Line::Cell(tracked) => {
+            let set = lay(runs, &tracked.set)?;
+            Ok(PackedLine::Cell(tracked.cell, set))
+        }
+        Line::Equation(equation) => Ok(PackedLine::Equation(*equation)),
+        Line::End => Ok(PackedLine::End),
+    }
+}
+
+/// The words from one to another; all of them aren't put in one by one.
+pub fn words_between(first: Word, last: Word) -> WordSet
+    ensures { words result ≡ between first last }
+{
+    if first.index() == 0 && last.index() == 4095 {
+        WordSet::all()
+    } else {
+        WordSet::range(first, last)
+    }
+}
+
+/// The set of which these are runs.
+fn set_of(runs: &[Run]) -> WordSet
+    ensures { words result ≡ set_of_runs runs.now }
+{
+    let mut set = WordSet::empty();
+    for run in runs {
+        set = set.union(&words_between(run.first, run.last));
+    }
+    set
+}
+
+/// The set of which so many runs from here on are.
+fn set_in(runs: &[Run], first: usize, count: usize) -> WordSet
+    requires { first + count ≤ length runs.now }
+    ensures { words result ≡ set_at runs.now first count }
+{
+    set_of(&runs[first..first + count])
+}
+
+/// The first one of two sets.
+fn one_in(runs: &[Run], sets: Spans) -> WordSet
+    requires { AreWithin (length runs.now) sets }
+    ensures { words result ≡ one_at runs.now sets }
+{
+    set_in(runs, sets.first as usize, usize::from(sets.one))
+}
+
+/// The other one.
+fn other_in(runs: &[Run], sets: Spans) -> WordSet
+    requires { AreWithin (length runs.now) sets }
+    ensures { words result ≡ other_at runs.now sets }
+{
+    let first = sets.first as usize + usize::from(sets.one);
+    set_in(runs, first, usize::from(sets.other))
+}
+
+/// The registers of which the runs lie here.
+fn registers_in(runs: &[Run], packed: &PackedRegisters) -> Registers
+    requires { AreWithin (length runs.now) packed.now.sets }
+    ensures { registers_of result ≡ registers_at runs.now packed.now }
+{
+    Registers {
+        accumulator: one_in(runs, packed.sets),
+        mq: other_in(runs, packed.sets),
+        link: packed.link,
+    }
+}
+
+/// The line that was packed so.
+fn unpack(runs: &[Run], packed: &PackedLine) -> Line
+    requires { LiesWithin (length runs.now) packed.now }
+    ensures { said result ≡ said_at runs.now packed.now }
+{
+    match packed {
+        PackedLine::Routine(routine) => Line::Routine(RoutineLine {
+            entry: routine.entry,
+            rank: usize::from(routine.rank),
+            sites: one_in(runs, routine.sets),
+            writes: other_in(runs, routine.sets),
+        }),
+        PackedLine::Fact(at, registers, offsets) => {
+            Line::Fact(*at, registers_in(runs, registers), *offsets)
+        }
+        PackedLine::Exit(entry, offset, registers) => {
+            Line::Exit(*entry, *offset, registers_in(runs, registers))
+        }
+        PackedLine::Cell(cell, span) => Line::Cell(TrackedCell {
+            cell: *cell,
+            set: set_in(runs, span.first as usize, usize::from(span.count)),
+        }),
+        PackedLine::Equation(equation) => Line::Equation(*equation),
+        PackedLine::End => Line::End,
+    }
+}
+
+impl<A: Allocator + Copy> PackedLines<A> {
+    /// No line.
+    pub fn new(alloc: A) -> PackedLines<A>
+        ensures { said_lines result ≡ [] }
+    {
+        PackedLines {
+            list: Vec::new(alloc),
+            runs: Vec::new(alloc),
+        }
+    }
+}
+
+impl<A: Allocator> PackedLines<A> {
+    /// How many there are.
+    pub fn len(&self) -> usize
+        ensures { result ≡ length (said_lines self.now) }
+    {
+        self.list.len()
+    }
+
+    /// The line at a place.
+    pub fn line(&self, at: usize) -> Line
+        requires { at < length (said_lines self.now) }
+        ensures { drop at (said_lines self.now) ≡
+            said result ∷ drop (at + 1) (said_lines self.now) }
+    {
+        unpack(&self.runs, &self.list[at])
+    }
+
+    /// Adds a line, or leaves all as it is.
+    pub fn push(&mut self, line: &Line) -> Result<(), AllocError>
+        ensures added { OnOk result
+            (said_lines self.new ≡ said_lines self.old ++ said line.now ∷ []) }
+        ensures same { OnErr result (said_lines self.new ≡ said_lines self.old) }
+    {
+        let count = self.runs.len();
+        let Ok(packed) = pack(&mut self.runs, line) else {
+            self.runs.truncate(count);
+            return Err(AllocError);
+        };
+        let Ok(()) = self.list.push(packed) else {
+            self.runs.truncate(count);
+            return Err(AllocError);
+        };
+        Ok(())
+    }
+
+    /// Takes all but so many at the front away. Their runs stay until all is dropped.
+    pub fn truncate(&mut self, count: usize)
+        ensures { said_lines self.new ≡ take count (said_lines self.old) }
+    {
+        self.list.truncate(count);
+    }
+}

@@ -13,7 +13,6 @@ ghost use Rattle.certificate.specs.Reading.{place_of_name};
 ghost use Rattle.certificate.specs.Line.{rank_text};
 ghost use Rattle.certificate.specs.Fields.{left, WasFirst, run_text, NoDash, EndsField};
 
-use crate::packed::words_between;
 use facts::{Name, Offsets};
 use word12::{Link, Word};
 use wordset::{Links, WordSet};
@@ -147,11 +146,11 @@ impl<'a> Fields<'a> {
             SameWords (words result) s × (left self.new ≡ Some rest) }
     {
         let (low, high) = self.run(0);
-        let mut set = words_between(low, high);
+        let mut set = WordSet::range(low, high);
         let mut next = high.index() + 2;
         while self.takes(b',') {
             let (low, high) = self.run(next);
-            set = set.union(&words_between(low, high));
+            set = set.union(&WordSet::range(low, high));
             next = high.index() + 2;
         }
         set

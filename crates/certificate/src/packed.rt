@@ -1,7 +1,6 @@
 //! Lines packed: each set by its runs of words, and the runs of all sets in one list.
 
 ghost use Rattle.std.specs.Prelude.{◌≡◌, ◌+◌, ◌<◌, ◌≤◌, [], ◌∷◌, ◌++◌, length, take, drop, false, IfOk, OnOk, OnErr};
-ghost use Rattle.wordset.specs.Words.{between};
 ghost use Rattle.wordset.specs.Lanes.{words};
 ghost use Rattle.certificate.specs.Line.{RoutineIs};
 ghost use Rattle.certificate.specs.Meaning.{said, registers_of, routine_of};
@@ -215,24 +214,13 @@ fn pack<A: Allocator>(runs: &mut Vec<Run, A>, line: &Line) -> Result<PackedLine,
     }
 }
 
-/// The words from one to another; all of them aren't put in one by one.
-pub fn words_between(first: Word, last: Word) -> WordSet
-    ensures { words result ≡ between first last }
-{
-    if first.index() == 0 && last.index() == 4095 {
-        WordSet::all()
-    } else {
-        WordSet::range(first, last)
-    }
-}
-
 /// The set of which these are runs.
 fn set_of(runs: &[Run]) -> WordSet
     ensures { words result ≡ set_of_runs runs.now }
 {
     let mut set = WordSet::empty();
     for run in runs {
-        set = set.union(&words_between(run.first, run.last));
+        set = set.union(&WordSet::range(run.first, run.last));
     }
     set
 }

@@ -1,8 +1,15 @@
-use Rattle.std.proofs.Common.{◌≡◌, ℕ, ◌+◌, ◌<◌, ◌≤◌, ◌==◌, Bool, true, false, ◌&&◌, ◌||◌, inl, inr, arith, nat_lt}
-use Rattle.std.specs.Prelude.{nat_le, max}
+use Rattle.std.proofs.Common.{◌≡◌, ℕ, ◌+◌, ◌-◌, ◌*◌, ◌/◌, ◌%◌, ◌^◌, ◌<◌, ◌≤◌, ◌==◌, Bool, true, false, not, ◌&&◌, inl, inr, arith, nat_lt, ap, sym, ◌∙◌, ◌⊎◌, lit<, List, get_or, w64}
+use Rattle.std.specs.Prelude.{nat_le, bit_and}
+use Rattle.std.specs.Int.{bit_at, bit_not}
 use Rattle.std.proofs.lemmas.Bool.Decides.{nat_tests}
-use Rattle.std.proofs.lemmas.Bool.{cases_eq}
-use Rattle.wordset.proofs.Tests.{both_ways, or_cases, or_left, or_right, and_both, and_first, and_second}
+use Rattle.std.proofs.lemmas.Bool.{cases_lt}
+use Rattle.std.proofs.lemmas.Nat.{shr-shr}
+use Rattle.std.proofs.lemmas.Nat.Bits.{bit_at_ones, bit_at_cat_high, bit_at-zero}
+use Rattle.wordset.specs.Words.{between}
+use Rattle.wordset.specs.Lanes.{words}
+use Rattle.wordset.proofs.SetLemmas.{words_bit}
+use Rattle.wordset.proofs.LaneBits.{and_bit, not_bit}
+use Rattle.wordset.proofs.Tests.{both_ways, and_both, and_first, and_second, true_false}
 
 to_le : (a b : ℕ) → nat_le a b ≡ true → a ≤ b
 to_le a b e = grind (arith, nat_tests)
@@ -16,37 +23,64 @@ to_lt a b e = grind (arith, nat_tests)
 lt_to : (a b : ℕ) → a < b → nat_lt a b ≡ true
 lt_to a b h = grind (arith, nat_tests)
 
-to_eq : (a b : ℕ) → (a == b) ≡ true → a ≡ b
-to_eq a b e = grind (arith, nat_tests)
+not_lt : (a b : ℕ) → b ≤ a → nat_lt a b ≡ false
+not_lt a b h = grind (arith, nat_tests)
 
-eq_to : (a b : ℕ) → a ≡ b → (a == b) ≡ true
-eq_to a b e = grind (arith, nat_tests)
+-- bit j of a lane of ones moved down by s
+ones_moved : (s j : ℕ) → s ≤ 64 → j < 64 → (bit_at ((2 ^ 64 - 1) / 2 ^ s) j == 1) ≡ nat_lt j (64 - s)
+ones_moved s j h g = ap (λ x. x % 2 == 1) (shr-shr (2 ^ 64 - 1) s j) ∙ elim (cases_lt (s + j) 64) [
+  | inl l ↦ ap (λ x. x == 1) (bit_at_ones 64 (s + j) l) ∙ sym (lt_to j (64 - s) (omega arith))
+  | inr m ↦ ap (λ x. x == 1) (bit_at_cat_high 0 64 (2 ^ 64 - 1) (s + j) (lit< tt) m ∙ bit_at-zero (s + j - 64)) ∙ sym (not_lt j (64 - s) (omega arith))
+]
 
--- the words from low on and below n
-abbrev pub from_to : ℕ → ℕ → ℕ → Bool
-from_to low n v = nat_le low v && nat_lt v n
+-- a lane all of whose words are less than a number
+pub lane_whole : (end i j : ℕ) → 64 * i + 64 ≤ end → j < 64 → (bit_at (2 ^ 64 - 1) j == 1) ≡ nat_lt (64 * i + j) end
+lane_whole end i j h g = ap (λ x. x == 1) (bit_at_ones 64 j g) ∙ sym (lt_to (64 * i + j) end (omega arith))
 
-pub range_none : (low v : ℕ) → false ≡ from_to low low v
-range_none low v = both_ways false (from_to low low v) (λ e. absurd (let z : ⊥ = cc in z))
-    (λ e. let a : low ≤ v = to_le low v (and_first (nat_le low v) (nat_lt v low) e) in let b : v < low = to_lt v low (and_second (nat_le low v) (nat_lt v low) e) in absurd (omega arith))
+-- one of which some are
+pub lane_part : (end i j : ℕ) → 64 * i < end → end < 64 * i + 64 → j < 64 → (bit_at ((2 ^ 64 - 1) / 2 ^ (64 * i + 64 - end)) j == 1) ≡ nat_lt (64 * i + j) end
+lane_part end i j h k g = ones_moved (64 * i + 64 - end) j (omega arith) g ∙ both_ways (nat_lt j (64 - (64 * i + 64 - end))) (nat_lt (64 * i + j) end)
+    (λ e. let l : j < 64 - (64 * i + 64 - end) = to_lt j (64 - (64 * i + 64 - end)) e in lt_to (64 * i + j) end (omega arith))
+    (λ e. let l : 64 * i + j < end = to_lt (64 * i + j) end e in lt_to j (64 - (64 * i + 64 - end)) (omega arith))
 
-pub range_more : (low n v : ℕ) → low ≤ n → (from_to low n v || (v == n)) ≡ from_to low (n + 1) v
-range_more low n v h = both_ways (from_to low n v || (v == n)) (from_to low (n + 1) v)
-    (λ e. elim (or_cases (from_to low n v) (v == n) e) [
-      | inl t ↦ (let b : v < n = to_lt v n (and_second (nat_le low v) (nat_lt v n) t) in and_both (nat_le low v) (nat_lt v (n + 1)) (and_first (nat_le low v) (nat_lt v n) t) (lt_to v (n + 1) (omega arith)))
-      | inr t ↦ (let q : v ≡ n = to_eq v n t in and_both (nat_le low v) (nat_lt v (n + 1)) (le_to low v (omega arith)) (lt_to v (n + 1) (omega arith)))
+-- below the one end, and not below the other
+between_of : (low high v : ℕ) → (nat_lt v (high + 1) && not (nat_lt v low)) ≡ between low high v
+between_of low high v = both_ways (nat_lt v (high + 1) && not (nat_lt v low)) (between low high v)
+    (λ e. let a : v < high + 1 = to_lt v (high + 1) (and_first (nat_lt v (high + 1)) (not (nat_lt v low)) e) in
+    elim (cases_lt v low) [
+      | inl l ↦ absurd (clash (nat_lt v low) (lt_to v low l) (and_second (nat_lt v (high + 1)) (not (nat_lt v low)) e))
+      | inr g ↦ and_both (nat_le low v) (nat_le v high) (le_to low v g) (le_to v high (omega arith))
     ])
-    (λ e. let b : v < n + 1 = to_lt v (n + 1) (and_second (nat_le low v) (nat_lt v (n + 1)) e) in elim (cases_eq v n) [
-      | inl q ↦ or_right (from_to low n v) (v == n) (eq_to v n q)
-      | inr q ↦ or_left (from_to low n v) (v == n) (and_both (nat_le low v) (nat_lt v n) (and_first (nat_le low v) (nat_lt v (n + 1)) e) (lt_to v n (omega arith)))
-    ])
+    (λ e. let a : low ≤ v = to_le low v (and_first (nat_le low v) (nat_le v high) e) in
+    let b : v ≤ high = to_le v high (and_second (nat_le low v) (nat_le v high) e) in
+    and_both (nat_lt v (high + 1)) (not (nat_lt v low)) (lt_to v (high + 1) (omega arith)) (ap not (not_lt v low a)))
+  where
+    clash : (p : Bool) → p ≡ true → not p ≡ true → ⊥
+    clash true e f = let z : ⊥ = cc in z
+    clash false e f = let z : ⊥ = cc in z
 
-pub range_all : (low high n v : ℕ) → low ≤ n → n ≤ max low (high + 1) → high + 1 ≤ n → from_to low n v ≡ (nat_le low v && nat_le v high)
-range_all low high n v h g k = both_ways (from_to low n v) (nat_le low v && nat_le v high)
-    (λ e. let a : low ≤ v = to_le low v (and_first (nat_le low v) (nat_lt v n) e) in let b : v < n = to_lt v n (and_second (nat_le low v) (nat_lt v n) e) in
-    and_both (nat_le low v) (nat_le v high) (le_to low v a) (le_to v high (omega arith)))
-    (λ e. let a : low ≤ v = to_le low v (and_first (nat_le low v) (nat_le v high) e) in let b : v ≤ high = to_le v high (and_second (nat_le low v) (nat_le v high) e) in
-    and_both (nat_le low v) (nat_lt v n) (le_to low v a) (lt_to v n (omega arith)))
+-- a lane of a range
+pub lane_between : (low high v x y j : ℕ) → y < 2 ^ 64 → j < 64 → (bit_at x j == 1) ≡ nat_lt v (high + 1) → (bit_at y j == 1) ≡ nat_lt v low
+    → (bit_at (bit_and x (bit_not w64 y)) j == 1) ≡ between low high v
+lane_between low high v x y j fit g e f = and_bit x (bit_not w64 y) j ∙ ap (λ p. p && (bit_at (bit_not w64 y) j == 1)) e
+    ∙ ap (λ p. nat_lt v (high + 1) && p) (not_bit y j fit g ∙ ap not f) ∙ between_of low high v
+
+-- a lane of no word: all its words lie outside
+pub lane_outside : (low high v x j : ℕ) → x ≡ 0 → (v < low) ⊎ (high < v) → (bit_at x j == 1) ≡ between low high v
+lane_outside low high v x j z out = ap (λ n. bit_at n j == 1) z ∙ ap (λ n. n == 1) (bit_at-zero j) ∙ both_ways false (between low high v)
+    (λ e. absurd (let q : ⊥ = cc in q))
+    (λ e. absurd (no out (to_le low v (and_first (nat_le low v) (nat_le v high) e)) (to_le v high (and_second (nat_le low v) (nat_le v high) e))))
+  where
+    no : (v < low) ⊎ (high < v) → low ≤ v → v ≤ high → ⊥
+    no (inl a) b c = omega arith
+    no (inr a) b c = omega arith
+
+-- every word of the lanes
+pub words_of_lanes : (lanes : List ℕ) (low high : ℕ) → ((i j : ℕ) → i < 64 → j < 64 → (bit_at (get_or lanes i 0) j == 1) ≡ between low high (64 * i + j))
+    → (v : ℕ) → v < 4096 → words lanes v ≡ between low high v
+words_of_lanes lanes low high all v h =
+    let back : 64 * (v / 64) + v % 64 ≡ v = omega arith in
+    words_bit lanes v h ∙ all (v / 64) (v % 64) (omega arith) (omega arith) ∙ ap (between low high) back
 
 -- no word of a range is above its end
 pub range_past : (low high v : ℕ) → high < 4096 → 4096 ≤ v → (nat_le low v && nat_le v high) ≡ false

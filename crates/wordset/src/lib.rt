@@ -4,7 +4,7 @@
 //! its mathematical image. No call takes memory.
 #![tactic(auto)]
 
-ghost use Rattle.std.specs.Prelude.{◌≡◌, ◌<◌, ◌≤◌, ◌+◌, ◌-◌, ◌*◌, ◌/◌, ◌%◌, ◌^◌, ◌==◌, ◌↔◌, ℕ, map, bit_and, bit_or, length, not, slice_index, IsTrue, MatchOption};
+ghost use Rattle.std.specs.Prelude.{◌≡◌, ◌<◌, ◌≤◌, ◌+◌, ◌-◌, ◌*◌, ◌/◌, ◌%◌, ◌^◌, ◌==◌, ◌↔◌, ℕ, nat_lt, map, bit_and, bit_or, length, not, slice_index, IsTrue, MatchOption};
 ghost use Rattle.std.specs.Int.{bit_at};
 ghost use Rattle.std.specs.Simd.Lanes.{zip2, chunk, put_chunk};
 ghost use Rattle.wordset.specs.Words.{SameWords, IsWithin, nothing, everything, all_words, one, between, with_word, without, union, meet, difference, shifted, has_some, how_many, first_below, only, mirrored, IsFirstFrom, HasNoneFrom, IsGreatest};
@@ -70,11 +70,12 @@ impl WordSet {
     pub fn range(low: Word, high: Word) -> WordSet
         ensures { words result ≡ between low high }
     {
-        let mut set = WordSet::empty();
-        for v in low.index()..high.index() + 1 {
-            set.insert(Word::from_index(v));
+        let end = high.index() + 1;
+        let mut lanes = [0u64; 64];
+        for i in low.index() / 64..high.index() / 64 + 1 {
+            lanes[i] = lane_below(end, i) & !lane_below(low.index(), i);
         }
-        set
+        WordSet { lanes }
     }
 
     /// The lanes of the set: bit j of lane i, the least bit being bit 0, is set exactly where the
@@ -279,6 +280,21 @@ impl WordSet {
             lanes[i] = self.lanes[63 - i].reverse_bits();
         }
         WordSet { lanes }
+    }
+}
+
+/// The words of lane i that are less than a number.
+fn lane_below(end: usize, i: usize) -> u64
+    requires { i < 64 }
+    ensures { (j : ℕ) → j < 64 → (bit_at result j == 1) ≡ nat_lt (64 * i + j) end }
+{
+    let first = 64 * i;
+    if end <= first {
+        0
+    } else if first + 64 <= end {
+        u64::MAX
+    } else {
+        u64::MAX >> (first + 64 - end)
     }
 }
 

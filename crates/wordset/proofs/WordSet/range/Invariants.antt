@@ -1,9 +1,12 @@
-use Rattle.std.proofs.Common.{◌≤◌}
-use Rattle.std.specs.Prelude.{max}
-use Rattle.wordset.specs.Words.{SameWords}
-use Rattle.wordset.specs.Lanes.{words}
-use Rattle.wordset.proofs.Ranges.{from_to}
+use Rattle.std.proofs.Common.{◌≡◌, ◌<◌, ◌≤◌, ◌+◌, ◌*◌, ◌==◌, ℕ, get_or}
+use Rattle.std.specs.Int.{bit_at}
+use Rattle.wordset.specs.Words.{between}
+use Rattle.wordset.specs.Lanes.{AreLanes}
 use Rattle.wordset.proofs.WordSet.range.Given as goal
 
-abbrev pub invariant-loop-v : goal.invariant-loop-v
-invariant-loop-v l = SameWords (words l.set) (from_to l.fn.low l.v) × (l.v ≤ max l.fn.low l.v-end)
+abbrev pub invariant-loop-i : goal.invariant-loop-i
+invariant-loop-i l = record {
+  are : AreLanes l.lanes;
+  done : (k : ℕ) → k < l.i → (j : ℕ) → j < 64 → (bit_at (get_or l.lanes k 0) j == 1) ≡ between l.fn.low l.fn.high (64 * k + j);
+  rest : (k : ℕ) → l.i ≤ k → get_or l.lanes k 0 ≡ 0;
+}

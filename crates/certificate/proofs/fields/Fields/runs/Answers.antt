@@ -6,18 +6,18 @@ use Rattle.certificate.proofs.fields.Fields.runs.Goals as goal
 
 pub loop-self-init : goal.loop-self-init
 loop-self-init c =
-    begun_with (left c.args.self.now) (left c.run-low.new.self) (words c.words_between-set.result) c.run-low.result.0 c.run-low.result.1 c.index-next.result
+    begun_with (left c.args.self.now) (left c.run-low.new.self) (words c.range-set.result) c.run-low.result.0 c.run-low.result.1 c.index-next.result
     (record { read = c.run-low.ensures.read; order = c.run-low.ensures.order; only = c.run-low.ensures.only })
-    c.index-next.ensures.same c.index-next.ensures.small c.words_between-set.ensures
+    c.index-next.ensures.same c.index-next.ensures.small c.range-set.ensures
 
 pub loop-self-preserved : goal.loop-self-preserved
 loop-self-preserved c =
     going_on (left c.args.self.now) (left c.loop-self.self) (left c.takes.new.self) (left c.run-low-in-loop-self.new.self)
-    (words c.loop-self.set) (words c.words_between.result) (words c.union-set.result) c.loop-self.next
+    (words c.loop-self.set) (words c.range.result) (words c.union-set.result) c.loop-self.next
     c.run-low-in-loop-self.result.0 c.run-low-in-loop-self.result.1 c.index-next-in-loop-self.result
     c.loop-self.invariant (c.loop-self-test.ensures.taken refl) c.loop-self-test.ensures.only
     (record { read = c.run-low-in-loop-self.ensures.read; order = c.run-low-in-loop-self.ensures.order; only = c.run-low-in-loop-self.ensures.only })
-    c.index-next-in-loop-self.ensures.same c.index-next-in-loop-self.ensures.small c.words_between.ensures c.union-set.ensures
+    c.index-next-in-loop-self.ensures.same c.index-next-in-loop-self.ensures.small c.range.ensures c.union-set.ensures
 
 pub loop-self-smaller : goal.loop-self-smaller
 loop-self-smaller c =

@@ -173,11 +173,12 @@ impl<A: Allocator> Certificate<A> {
         }
     }
 
-    /// Whether there is a fact at an address, which the lent one then says. So the same one can be
-    /// asked for many, each of some 34,000 bytes.
+    /// Whether there is a fact at an address, which the lent one then says; else it's left as it is. So
+    /// the same one can be asked for many, each of some 34,000 bytes.
     pub fn fact_into(&self, at: Word, fact: &mut Fact) -> bool
         ensures there { result ≡ (claims self.now).has_fact at }
         ensures fact { result ≡ true → fact_meaning fact.new ≡ (claims self.now).fact at }
+        ensures kept { result ≡ false → fact.new ≡ fact.old }
     {
         let start = self.kept.from(FIRST_FACT + at.index());
         first_fact(self.kept.lines(), start, fact)
@@ -201,13 +202,14 @@ impl<A: Allocator> Certificate<A> {
     }
 
     /// Whether it is said what holds when the routine of an entry returns by an offset, which the
-    /// lent fact then says, with all offsets.
+    /// lent fact then says, with all offsets; else it's left as it is.
     pub fn exit_into(&self, entry: Word, offset: usize, exit: &mut Fact) -> bool
         ensures there { result ≡ (claims self.now).has_exit entry offset }
         ensures fact { result ≡ true → with_offsets everything (fact_meaning exit.new) ≡
             (claims self.now).exit entry offset }
         ensures offsets { result ≡ true → (o : ℕ) → o < 8 →
             (fact_meaning exit.new).offsets o ≡ true }
+        ensures kept { result ≡ false → exit.new ≡ exit.old }
     {
         let kept = &self.kept;
         if offset >= 8 {

@@ -237,6 +237,7 @@ pub fn first_fact<A: Allocator>(lines: &PackedLines<A>, start: usize, fact: &mut
     requires fit { FitUnderFirst (drop start (said_lines lines.now)) }
     ensures there { result ≡ begins_fact (drop start (said_lines lines.now)) }
     ensures fact { result ≡ true → fact_meaning fact.new ≡ first_fact (drop start (said_lines lines.now)) }
+    ensures kept { result ≡ false → fact.new ≡ fact.old }
 {
     if start >= lines.len() {
         return false;
@@ -258,6 +259,7 @@ pub fn first_exit<A: Allocator>(lines: &PackedLines<A>, start: usize, exit: &mut
         first_exit (drop start (said_lines lines.now)) }
     ensures offsets { result ≡ true → (o : ℕ) → o < 8 →
         (fact_meaning exit.new).offsets o ≡ true }
+    ensures kept { result ≡ false → exit.new ≡ exit.old }
 {
     if start >= lines.len() {
         return false;

@@ -57,7 +57,7 @@ CallBreaks c pl f a e call.NoSite = c.sites e a ≡ false
 CallBreaks c pl f a e call.TooHigh = 4087 < a
 CallBreaks c pl f a e (call.Enters l) = Misses c pl.declaration (Some e) (plus e 1) (with_offsets (one 0) f) l
 CallBreaks c pl f a e (call.Returns o l) =
-    (c.has_exit e o ≡ true) × Misses c pl.declaration pl.routine (plus (a + 1) o) (joined f (c.exit e o) (c.writes e)) l
+    (o < 8) × (c.has_exit e o ≡ true) × Misses c pl.declaration pl.routine (plus (a + 1) o) (joined f (c.exit e o) (c.writes e)) l
 
 -- What a return through e breaks.
 abbrev pub ReturnBreaks : Certificate → Place → Fact → ℕ → ReturnBreach → Type 0

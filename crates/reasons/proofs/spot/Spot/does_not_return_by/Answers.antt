@@ -16,6 +16,7 @@ returns-in-Some g c =
     let o = c.args.offset in (
       refl,
       (
+        c.requires,
         sym c.in_ok-exit.ensures.there,
         misses_equally claims (here s).declaration c.owner.result (here s).routine c.add-next.result (plus (s.at + 1) o) (known_of c.after_call-known.result)
             (joined (fact_of s) (meaning c.in_ok-exit.exit) (words c.claimed-written.result.writes)) (joined (fact_of s) (claims.exit e o) (claims.writes e)) c.in-Some.landing c.owner.ensures

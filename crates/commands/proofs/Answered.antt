@@ -31,10 +31,10 @@ use Rattle.commands.specs.Summary.{summary}
 use Rattle.commands.specs.Trace.{trace_of, traced}
 
 -- what the devices may tell is a byte, and the switches show a word
-record Tells (v : Devices) : Type 0 where
-  key : v.keyboard.buffer < 256
-  frame : v.reader.buffer < 256
-  switches : v.switches < 4096
+pub record Tells (v : Devices) : Type 0 where
+  pub key : v.keyboard.buffer < 256
+  pub frame : v.reader.buffer < 256
+  pub switches : v.switches < 4096
 
 -- the word of an operation
 found_by : {X : Type 0} (test : X → Bool) (b : Bool) (x o : X) (rest : Option X) → test x ≡ b → (if b then Some x else rest) ≡ Some o →
@@ -147,7 +147,7 @@ frame_if true x y first second = first
 frame_if false x y first second = second
 
 -- an event leads somewhere, and the devices still tell bytes
-abbrev Goes : Profile → WorldState → Event → Type 0
+abbrev pub Goes : Profile → WorldState → Event → Type 0
 Goes p w e = (x : WorldState) × Happens p w e x × Tells x.devices
 
 carried : (p : Profile) (w : WorldState) (m : Meaning) → instruction p w.state ≡ m → (m ≡ Undefined → ⊥) → Tells w.devices → (x : WorldState) × Instructs p w x × Tells x.devices
@@ -178,7 +178,7 @@ stepped p w None running tells =
     let done = instructed p w (instruction p w.state) refl tells in
     (done.0, record { runs = λ so. done.1; halted = λ here is. cc }, done.2)
 
-goes : (p : Profile) (w : WorldState) (e : Event) → Carries e → Tells w.devices → Goes p w e
+pub goes : (p : Profile) (w : WorldState) (e : Event) → Carries e → Tells w.devices → Goes p w e
 goes p w Step carries tells = stepped p w w.halted_at refl tells
 goes p w (Key byte) carries tells =
     (with_devices w (struck byte w.devices), (carries, refl), record { key = carries; frame = tells.frame; switches = tells.switches })
@@ -196,7 +196,7 @@ goes p w (Switches word) carries tells =
 goes p w Continue carries tells = (record w { halted_at = None }, refl, tells)
 
 -- a run of events
-abbrev Ends : Profile → Bool → List Event → WorldState → Type 0
+abbrev pub Ends : Profile → Bool → List Event → WorldState → Type 0
 Ends p ends es w = (lines : List ℕ) × (n : ℕ) × (end : End) × (x : WorldState) × Follows p ends es w lines n end x
 
 went : (p : Profile) (ends : Bool) (e : Event) (es : List Event) (w m : WorldState) (what : Seen) → seen_of p w e ≡ what → goes_on ends what ≡ true → Happens p w e m →

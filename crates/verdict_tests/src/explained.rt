@@ -11,14 +11,17 @@ use reasons::why;
 use std::test::Fail;
 use testing::memory::{MemorySink, MemorySource};
 
-/// For the number of a line of the certificate another line in its place, and what is told then.
-const BROKEN: [(usize, &str, &str); 5] = [
+/// For the number of a line of the certificate another line in its place, what is told then, and the
+/// numbers of the first and the last line of the fact that is shown.
+const BROKEN: [(usize, &str, &str, usize, usize); 5] = [
     (
         3,
         "fact 0200 ac 0000-7776 link 01 offsets -",
         "no: V1 at 0200\n0200 7300 CLA CLL\n\
         V1 asks: there is a fact at the start, and it holds of every start\n\
         at a start AC may be 7777, which the fact there excludes\n",
+        3,
+        3,
     ),
     (
         13,
@@ -26,6 +29,8 @@ const BROKEN: [(usize, &str, &str); 5] = [
         "no: V4 at 0211\n0211 5206 JMP C006\n\
         V4 asks: wherever a word goes on there is a fact in the same body that allows what is possible\n\
         it may go on at 0206: the cell 0224 may be 7777, which the fact there excludes\n",
+        23,
+        26,
     ),
     (
         2,
@@ -33,6 +38,8 @@ const BROKEN: [(usize, &str, &str); 5] = [
         "no: V9 at 0207\n0207 4214 JMS C014\n\
         V9 asks: a JMS is at a listed site of its callee, and at most at 7767\n\
         it calls 0214, and the address isn't one of its sites\n",
+        15,
+        18,
     ),
     (
         29,
@@ -40,6 +47,8 @@ const BROKEN: [(usize, &str, &str); 5] = [
         "no: V10 at 0207\n0207 4214 JMS C014\n\
         V10 asks: the fact at the callee's first address allows what is possible\n\
         it calls 0214 and enters it: AC may be 0317, which the fact there excludes\n",
+        15,
+        18,
     ),
     (
         34,
@@ -47,13 +56,15 @@ const BROKEN: [(usize, &str, &str); 5] = [
         "no: V11 at 0207\n0207 4214 JMS C014\n\
         V11 asks: the fact at each return address allows what is possible\n\
         it calls 0214, which returns by offset 1: the cell 0224 may be 7773, which the fact there excludes\n",
+        15,
+        18,
     ),
 ];
 
 #[test]
 fn what_breaks_a_condition_is_told(rt: HostRuntime) -> Result<(), Fail> {
     let tape = tape(rt.alloc(), &[(0o200, &PROGRAM)])?;
-    for (number, line, wanted) in BROKEN {
+    for (number, line, wanted, first, last) in BROKEN {
         let text = changed(rt.alloc(), HELLO.as_slice(), number, line)?;
         let mut out = MemorySink::new(rt.alloc(), 1000);
         let ended = explain(
@@ -64,7 +75,14 @@ fn what_breaks_a_condition_is_told(rt: HostRuntime) -> Result<(), Fail> {
             &mut out,
         );
         assert_eq!(rt; ended, Ok(Status::Refused), "line {number}");
-        assert_eq!(rt; out.bytes(), wanted.as_bytes(), "line {number}");
+        let mut told = Vec::new(rt.alloc());
+        told.extend_from_slice(wanted.as_bytes())?;
+        for at in first..last + 1 {
+            let shown = if at == number { line } else { HELLO[at - 1] };
+            told.extend_from_slice(shown.as_bytes())?;
+            told.push(b'\n')?;
+        }
+        assert_eq!(rt; out.bytes(), told.as_slice(), "line {number}");
     }
     Ok(())
 }

@@ -46,9 +46,15 @@ loop-source-preserved g c =
     within short inv.4 inv.0 c.in-Ok.ensures.read in
     let fit : AllByRecursion IsShort (map (λ part. part.items) (c.loop-source.parts.items ++ c.in-Ok.part ∷ [])) =
     rw (map-append (λ part. part.items) c.loop-source.parts.items (c.in-Ok.part ∷ [])) (all_push IsShort (map (λ part. part.items) c.loop-source.parts.items) c.in-Ok.part.items inv.1 c.in-Ok.ensures.fits) in
-    let none = none_more g.R.ByteSource.mark c.loop-source.sources c.loop-source.source-index c.read_part.new.source within inv.2 (search rules) in
-    (rw pushed reads, rw pushed fit, none, search (rules, unmarked_next), same_next c.loop-source.sources c.args.sources.now c.loop-source.source-index c.read_part.new.source within short inv.4, inv.5,
-        takes_next 65537 g.R.ByteSource.remaining c.loop-source.sources c.args.sources.now c.loop-source.source-index c.source-item.result c.read_part.new.source within short inv.4 inv.6 c.in-Ok.ensures.takes)
+    let none = none_more g.R.ByteSource.mark c.loop-source.sources c.loop-source.source-index c.read_part.new.source within inv.2 (search rules) in (
+      rw pushed reads,
+      rw pushed fit,
+      none,
+      search (rules, unmarked_next),
+      same_next c.loop-source.sources c.args.sources.now c.loop-source.source-index c.read_part.new.source within short inv.4,
+      inv.5,
+      takes_next 65537 g.R.ByteSource.remaining c.loop-source.sources c.args.sources.now c.loop-source.source-index c.source-item.result c.read_part.new.source within short inv.4 inv.6 c.in-Ok.ensures.takes,
+    )
 
 pub returns-then-is_err-clause-unread : goal.returns-then-is_err-clause-unread
 returns-then-is_err-clause-unread g c = λ at long.

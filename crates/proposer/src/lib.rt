@@ -6,8 +6,8 @@ ghost use Rattle.analyser.specs.Versions.{version_of};
 ghost use Rattle.analyser.specs.declared.GuessFault.TheVariants as guess_fault;
 ghost use Rattle.certificate.specs.Kept as certified;
 ghost use Rattle.certificate.specs.Reading.{AreLines};
-ghost use Rattle.declaration.specs.Kept.{Kept, meaning};
-ghost use Rattle.declaration.specs.Text.{Declares};
+ghost use Rattle.declaration.specs.Kept.{Kept, meaning, routines_of};
+ghost use Rattle.declaration.specs.Text.{Declares, ListsRoutines};
 ghost use Rattle.proposer.specs.declared.Verdict.TheVariants.{TurnsSpent};
 ghost use Rattle.proposer.specs.Proposals.{Fits, IsListed, IsShown, IsSpentUp, IsTold};
 
@@ -277,7 +277,8 @@ fn proposed<A: Allocator + Copy>(
     declaration: Declaration<A>,
     turns: &mut Turns,
 ) -> Result<Proposal<A>, ProposeFault>
-    requires { Declares text.items (meaning declaration) }
+    requires text { Declares text.items (meaning declaration) }
+    requires routines { ListsRoutines text.items (routines_of declaration) }
     ensures fits { IfOk result (Fits map.now.start map.now.profile) }
     ensures shown { IfOk result (λ p. IsShown image.now p.declaration p.verdict) }
     ensures unlisted { IfOk result (λ p. (meaning p.declaration).reads ≡ None) }

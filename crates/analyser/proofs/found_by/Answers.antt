@@ -2,7 +2,7 @@ use Rattle.std.proofs.Common.{◌≡◌, subst, sym}
 use Rattle.std.proofs.lemmas.Result.{IfOk-weaker}
 use Rattle.certificate.specs.Kept.{meaning}
 use Rattle.certificate.specs.Reading.{AreLines}
-use Rattle.analyser.proofs.guess_within.Goals as goal
+use Rattle.analyser.proofs.found_by.Goals as goal
 
 pub returns-in-Ok-finish-clause-lines : goal.returns-in-Ok-finish-clause-lines
 returns-in-Ok-finish-clause-lines g c =

@@ -77,13 +77,7 @@ pub fn guess_or_explain<
     D: ByteSource,
     W: ByteSink,
     E: ByteSink,
->(
-    alloc: A,
-    tape: &mut R,
-    declaration: &mut D,
-    out: &mut W,
-    report: &mut E,
-) -> Result<Status, Fault>
+>(alloc: A, tape: &mut R, declaration: &mut D, out: &mut W, report: &mut E) -> Result<Status, Fault>
     requires readable { R.mark tape.old ≡ false }
     requires declaration_readable { D.mark declaration.old ≡ false }
     requires writable { W.mark out.old ≡ false }

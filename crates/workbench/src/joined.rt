@@ -51,7 +51,7 @@ impl<R: Eprint> io::Write for Teller<'_, R> {
 }
 
 /// Standard error, as a sink of text.
-pub fn teller<'r, R: Eprint>(rt: &'r R) -> Writes<Teller<'r, R>>
+pub fn tell_to<'r, R: Eprint>(rt: &'r R) -> Writes<Teller<'r, R>>
     ensures { result.failed ≡ false }
 {
     Writes::new(Teller { to: rt })

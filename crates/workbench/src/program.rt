@@ -3,7 +3,7 @@
 ghost use Rattle.std.specs.Prelude.{◌≤◌};
 
 use crate::files::{open_input, open_inputs, open_output};
-use crate::joined::{hold_session, teller};
+use crate::joined::{hold_session, tell_to};
 use crate::words::{Refused, Request, parse_words};
 use clap::Error;
 use commands::assembling::{assemble, list};
@@ -259,14 +259,8 @@ fn guess_from<R: Files + Input + Print + Eprint>(
     let mut text = open_input(rt, declaration)?;
     let mut certificate = open_output(rt, out)?;
     if explained {
-        let mut report = teller(rt);
-        return guess_or_explain(
-            alloc,
-            &mut frames,
-            &mut text,
-            &mut certificate,
-            &mut report,
-        );
+        let mut report = tell_to(rt);
+        return guess_or_explain(alloc, &mut frames, &mut text, &mut certificate, &mut report);
     }
     guess(alloc, &mut frames, &mut text, &mut certificate)
 }

@@ -1,6 +1,6 @@
 //! Why a search for a certificate is stuck at an address, by a draft of what it found until then.
 
-ghost use Rattle.std.specs.Prelude.{◌≡◌, false, IfSome};
+ghost use Rattle.std.specs.Prelude.{◌≡◌, false, true, IfSome, Some};
 ghost use Rattle.declaration.specs.Kept as declared;
 ghost use Rattle.facts.specs.declared.Condition.TheVariants.{V7};
 ghost use Rattle.judge.specs.Judged.{judged};

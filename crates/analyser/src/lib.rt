@@ -115,20 +115,23 @@ fn found_by<A: Allocator + Copy, D: Allocator>(
     }
 }
 
-/// The draft of a search that is stuck at an address, if there is one.
+/// The draft of a search that found nothing, if it is stuck and there is one; else its fault.
 fn drafted_by<A: Allocator + Copy, D: Allocator>(
     search: &mut Search<A>,
     program: &Program<'_, D>,
     version: Version,
-    at: Word,
+    fault: &GuessFault,
 ) -> Result<Attempt<A>, GuessFault>
     ensures lines { IfOk result (λ a. AreLines (meaning (claimed_by a))) }
     ensures version { IfOk result (λ a. (meaning (claimed_by a)).version ≡ version) }
     ensures short { IfOk result IsShortIfFound }
 {
+    let GuessFault::Stuck(at) = fault else {
+        return Err(*fault);
+    };
     match search.draft(program, version) {
-        Ok(draft) => Ok(Attempt::Stuck(at, draft)),
-        Err(Halt::Stuck(_)) => Err(GuessFault::Stuck(at)),
+        Ok(draft) => Ok(Attempt::Stuck(*at, draft)),
+        Err(Halt::Stuck(_)) => Err(*fault),
         Err(Halt::NoMemory) => Err(GuessFault::NoMemory),
     }
 }
@@ -210,7 +213,6 @@ pub fn guess_or_draft<A: Allocator + Copy, D: Allocator>(
     let version = version_of(declaration.profile());
     match found_by(alloc, &mut search, &program, version, &mut turns) {
         Ok(certificate) => Ok(Attempt::Found(certificate)),
-        Err(GuessFault::Stuck(at)) => drafted_by(&mut search, &program, version, at),
-        Err(fault) => Err(fault),
+        Err(fault) => drafted_by(&mut search, &program, version, &fault),
     }
 }

@@ -11,3 +11,4 @@ pub mod DeclareLemmas
 pub mod LaterLemmas
 pub mod Answered
 pub mod SessionLemmas
+pub mod StuckLemmas

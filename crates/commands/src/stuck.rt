@@ -61,6 +61,30 @@ fn stuck_lines<A: Allocator, D: Allocator, C: Allocator>(
     Ok(text)
 }
 
+/// Reports that a search is stuck at an address, and why, by the draft of what it found.
+fn report_stuck<A: Allocator, D: Allocator, C: Allocator, E: ByteSink>(
+    alloc: A,
+    image: &Image,
+    declaration: &Declaration<D>,
+    draft: &Certificate<C>,
+    at: Word,
+    report: &mut E,
+) -> Result<(), AllocError>
+    requires { E.mark report.old ≡ false }
+    ensures told { OnOk result (E.mark report.new ≡ false → Writes
+        (IsReport image.now (meaning declaration.now) (lines_of draft.now))
+        (E.taken report.old) (E.taken report.new)) }
+    ensures front { E.mark report.new ≡ true → FrontOf
+        (IsReport image.now (meaning declaration.now) (lines_of draft.now))
+        (E.taken report.old) (E.taken report.new) }
+    ensures nothing { OnErr result (report.new ≡ report.old) }
+{
+    let text = stuck_lines(alloc, image, declaration, draft, at)?;
+    match put(report, &text) {
+        Ok(()) | Err(_) => Ok(()),
+    }
+}
+
 /// Looks for a certificate as [`guess`](crate::guessing::guess) does. Where the search is stuck, and
 /// there is a draft of what it found until then, the line of that fault goes to the report, and
 /// behind it why, as far as that is found and as [`explain`](crate::explaining::explain) says it:
@@ -132,10 +156,8 @@ pub fn guess_or_explain<
             Ok(Status::Done)
         }
         Attempt::Stuck(at, draft) => {
-            let text = stuck_lines(alloc, &image, &promised, draft, *at)?;
-            match put(report, &text) {
-                Ok(()) | Err(_) => Ok(Status::Refused),
-            }
+            report_stuck(alloc, &image, &promised, draft, *at, report)?;
+            Ok(Status::Refused)
         }
     }
 }

@@ -318,7 +318,7 @@ fn the_first_input_with_a_fault_is_told(rt: HostRuntime) -> Result<(), Fail> {
 }
 
 /// Words with bad files, what is told of the first, and the files that are opened.
-const BAD_INPUTS: [(&str, &str, &str); 5] = [
+const BAD_INPUTS: [(&str, &str, &str); 6] = [
     // The file of what comes out is made before anything is looked at, and stays empty.
     (
         "pdp8 declare bad.bin o.dcl",
@@ -338,6 +338,14 @@ const BAD_INPUTS: [(&str, &str, &str); 5] = [
     (
         "pdp8 guess halt.bin wild.dcl o.cert",
         "pdp8: guess: Stuck 0200\n",
+        "halt.bin wild.dcl o.cert ",
+    ),
+    // No halt is declared, which is said after the line of the fault.
+    (
+        "pdp8 guess halt.bin wild.dcl o.cert --why",
+        "pdp8: guess: Stuck 0200\n0200 7402 HLT\n\
+        V13 asks: a HLT is at a declared halt\n\
+        it halts, and no halt is declared there\n",
         "halt.bin wild.dcl o.cert ",
     ),
     (
@@ -428,6 +436,7 @@ fn the_guess_goes_where_it_is_asked_for(rt: HostRuntime) -> Result<(), Fail> {
     let second = "PDP8-CERTIFICATE 2\nfact 0200 ac 0000-7777 mq 0000-7777 link 01 offsets -\nend\n";
     for (words, to_file, guess) in [
         ("pdp8 guess halt.bin halt.dcl o.cert", true, first),
+        ("pdp8 guess halt.bin halt.dcl o.cert --why", true, first),
         ("pdp8 guess halt.bin 8e.dcl o.cert", true, second),
         ("pdp8 guess halt.bin halt.dcl -", false, first),
     ] {
@@ -492,12 +501,13 @@ fn the_lines_of_a_trace_before_a_failure_are_there(rt: HostRuntime) -> Result<()
 }
 
 /// Words of which something is told, and the status.
-const STATUSES: [(&str, u8); 7] = [
+const STATUSES: [(&str, u8); 8] = [
     ("pdp8 run", 2),
     ("pdp8 run a --steps 0", 2),
     ("pdp8 fly", 2),
     ("pdp8 run bad.bin", 1),
     ("pdp8 list bad.pal", 1),
+    ("pdp8 guess halt.bin wild.dcl o.cert --why", 1),
     ("pdp8 run absent", 3),
     ("pdp8 assemble absent/o halt.pal", 3),
 ];

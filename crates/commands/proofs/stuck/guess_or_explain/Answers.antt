@@ -1,0 +1,15 @@
+use Rattle.std.proofs.Common.{◌≡◌}
+use Rattle.declaration.specs.Kept.{meaning}
+use Rattle.certificate.specs.Kept.{meaning as lines_of}
+use Rattle.commands.proofs.StuckLemmas.{writes_stuck, front_of_stuck}
+use Rattle.commands.proofs.stuck.guess_or_explain.Goals as goal
+
+pub returns-clause-stuck : goal.returns-clause-stuck
+returns-clause-stuck g c = λ refused unmarked.
+    writes_stuck _ _ c.in_ok-image.image (meaning c.in_ok-promised.promised) (lines_of c.in-Stuck.draft) _ _ c.in_ok-image.ensures.tape c.in_ok-promised.ensures.declares
+    (rw c.in-Stuck.is at c.in_ok-attempt.ensures.lines) (rw c.in-Stuck.is at c.in_ok-attempt.ensures.version) (c.in_ok-report_stuck-in-Stuck.ensures.told unmarked)
+
+pub returns-clause-front_of_report : goal.returns-clause-front_of_report
+returns-clause-front_of_report g c = λ marked.
+    front_of_stuck _ _ c.in_ok-image.image (meaning c.in_ok-promised.promised) (lines_of c.in-Stuck.draft) _ _ c.in_ok-image.ensures.tape c.in_ok-promised.ensures.declares
+    (rw c.in-Stuck.is at c.in_ok-attempt.ensures.lines) (rw c.in-Stuck.is at c.in_ok-attempt.ensures.version) (c.report_stuck.ensures.front marked)

@@ -1,6 +1,6 @@
 //! The whole program: its words, the files that it opens, and its statuses.
 
-use crate::desk::{run_program, run_with_room};
+use crate::desk::{run_program, run_spoiled, run_with_room};
 use crate::sources::halt_tape;
 use commands::status::Status;
 use std::alloc::Global;
@@ -518,6 +518,21 @@ fn a_standard_error_that_fails_leaves_the_status(rt: HostRuntime) -> Result<(), 
         let end = run_with_room(rt.alloc(), words, usize::MAX, 0);
         assert_eq!(rt; end.status, *status, "{words}");
         assert!(rt; end.told.is_empty() && end.printed.is_empty(), "{words}");
+    }
+    Ok(())
+}
+
+#[test]
+fn a_word_that_is_no_text_is_told(rt: HostRuntime) -> Result<(), Fail> {
+    for at in [1, 2] {
+        let end = run_spoiled(rt.alloc(), "pdp8 run halt.bin", at);
+        assert_eq!(rt; end.status, 2, "word {at}");
+        let told = b"error: a word of the command line isn't text\n".as_slice();
+        assert_eq!(rt; end.told.as_slice(), told, "word {at}");
+        assert!(rt;
+            end.printed.is_empty() && end.opened.is_empty(),
+            "word {at}"
+        );
     }
     Ok(())
 }

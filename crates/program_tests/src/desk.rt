@@ -360,16 +360,22 @@ pub fn run_program(alloc: Global, words: &str) -> Ended {
 /// Runs the program with these words where standard output fails at a write past so many bytes, and
 /// standard error past so many.
 pub fn run_with_room(alloc: Global, words: &str, printed: usize, told: usize) -> Ended {
-    ended(alloc, words, None, printed, told)
+    collected(alloc, words, None, printed, told)
 }
 
 /// Runs the program with these words, of which the one at a place isn't text.
 pub fn run_spoiled(alloc: Global, words: &str, at: usize) -> Ended {
-    ended(alloc, words, Some(at), usize::MAX, usize::MAX)
+    collected(alloc, words, Some(at), usize::MAX, usize::MAX)
 }
 
 /// Runs the program, and collects what it wrote.
-fn ended(alloc: Global, words: &str, spoiled: Option<usize>, printed: usize, told: usize) -> Ended {
+fn collected(
+    alloc: Global,
+    words: &str,
+    spoiled: Option<usize>,
+    printed: usize,
+    told: usize,
+) -> Ended {
     let pages = Pages {
         printed: Page::new(alloc, printed),
         told: Page::new(alloc, told),

@@ -21,9 +21,9 @@ _pdp8() {
     case ${COMP_WORDS[1]} in
         assemble | list | dump) options='--profile --help' ;;
         run) options='--start --steps --events --reader --punch --keys --mark --teletype --switches --trace --profile --help' ;;
-        check) options='--why --help' ;;
+        check | guess) options='--why --help' ;;
         declare) options='--start --reads --profile --help' ;;
-        watch | guess | migrate) options='--help' ;;
+        watch | migrate) options='--help' ;;
     esac
     if [[ $word == -* ]]; then
         COMPREPLY=($(compgen -W "$options" -- "$word"))

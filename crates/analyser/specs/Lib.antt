@@ -1,3 +1,4 @@
+pub mod Attempts
 pub mod Claimed
 pub mod Counts
 pub mod Making

@@ -7,6 +7,7 @@ ghost use Rattle.certificate.specs.Kept.{meaning};
 ghost use Rattle.certificate.specs.Spelling.{text};
 ghost use Rattle.certificate.specs.Reading.{AreLines};
 ghost use Rattle.analyser.specs.declared.GuessFault.TheVariants.{TurnsSpent};
+ghost use Rattle.analyser.specs.Attempts.{IsShortIfFound, claimed_by};
 ghost use Rattle.analyser.specs.Counts.{IsSpentUp};
 ghost use Rattle.analyser.specs.Versions.{version_of};
 
@@ -25,6 +26,7 @@ mod widening;
 use crate::length::is_short;
 use crate::program::Program;
 use crate::search::Search;
+use crate::turns::Halt;
 use bin_tape::Image;
 use certificate::{Certificate, Version};
 use declaration::Declaration;
@@ -54,6 +56,16 @@ pub enum GuessFault {
     NoMemory,
 }
 
+/// What a search came to.
+#[derive(Drop)]
+pub enum Attempt<A: Allocator> {
+    /// This certificate is found.
+    Found(Certificate<A>),
+    /// At this address an instruction was met that the checker would refuse. The draft has what was
+    /// found until then, and lacks what wasn't come to.
+    Stuck(Word, Certificate<A>),
+}
+
 /// The version of the certificates for a machine.
 fn version_of(profile: Profile) -> Version
     ensures { result ≡ version_of profile }
@@ -77,6 +89,50 @@ fn short<A: Allocator + Copy>(
         Ok(true) => Ok(certificate),
         Ok(false) => Err(GuessFault::TooLong),
         Err(halt) => Err(halt.fault()),
+    }
+}
+
+/// Searches, and gives the certificate of what was found.
+fn found_by<A: Allocator + Copy, D: Allocator>(
+    alloc: A,
+    search: &mut Search<A>,
+    program: &Program<'_, D>,
+    version: Version,
+    turns: &mut Turns,
+) -> Result<Certificate<A>, GuessFault>
+    ensures lines { IfOk result (λ c. AreLines (meaning c)) }
+    ensures version { IfOk result (λ c. (meaning c).version ≡ version) }
+    ensures short { IfOk result (λ c. length (text (meaning c)) ≤ 1048576) }
+    ensures limit { turns.new.limit ≡ turns.old.limit }
+    ensures rises { turns.old.spent ≤ turns.new.spent }
+    ensures within { turns.new.spent ≤ turns.new.limit }
+    ensures spent { IfErr result (IsSpentUp turns.new) }
+{
+    search.run_all(program, turns)?;
+    match search.finish(program, version) {
+        Ok(certificate) => short(alloc, certificate),
+        Err(halt) => Err(halt.fault()),
+    }
+}
+
+/// The draft of a search that found nothing, if it is stuck and there is one; else its fault.
+fn drafted_by<A: Allocator + Copy, D: Allocator>(
+    search: &mut Search<A>,
+    program: &Program<'_, D>,
+    version: Version,
+    fault: &GuessFault,
+) -> Result<Attempt<A>, GuessFault>
+    ensures lines { IfOk result (λ a. AreLines (meaning (claimed_by a))) }
+    ensures version { IfOk result (λ a. (meaning (claimed_by a)).version ≡ version) }
+    ensures short { IfOk result IsShortIfFound }
+{
+    let GuessFault::Stuck(at) = fault else {
+        return Err(*fault);
+    };
+    match search.draft(program, version) {
+        Ok(draft) => Ok(Attempt::Stuck(*at, draft)),
+        Err(Halt::Stuck(_)) => Err(*fault),
+        Err(Halt::NoMemory) => Err(GuessFault::NoMemory),
     }
 }
 
@@ -110,11 +166,8 @@ pub fn guess_within<A: Allocator + Copy, D: Allocator>(
     let Ok(mut search) = Search::new(alloc) else {
         return Err(GuessFault::NoMemory);
     };
-    search.run_all(&program, turns)?;
-    match search.finish(&program, version_of(declaration.profile())) {
-        Ok(certificate) => short(alloc, certificate),
-        Err(halt) => Err(halt.fault()),
-    }
+    let version = version_of(declaration.profile());
+    found_by(alloc, &mut search, &program, version, turns)
 }
 
 /// Looks for a guess within 2,000,000 turns.
@@ -134,4 +187,32 @@ pub fn guess<A: Allocator + Copy, D: Allocator>(
 {
     let mut turns = Turns::new(MOST_TURNS);
     guess_within(alloc, image, declaration, &mut turns)
+}
+
+/// Looks for a guess within 2,000,000 turns, and gives a draft of one where it is stuck: a
+/// certificate of what was found until then, which says what is known where it is stuck.
+///
+/// # Errors
+///
+/// As `guess_within`, but `Stuck` where there is no draft alone.
+pub fn guess_or_draft<A: Allocator + Copy, D: Allocator>(
+    alloc: A,
+    image: &Image,
+    declaration: &Declaration<D>,
+) -> Result<Attempt<A>, GuessFault>
+    ensures lines { IfOk result (λ a. AreLines (meaning (claimed_by a))) }
+    ensures version { IfOk result (λ a. (meaning (claimed_by a)).version ≡
+        version_of (declared declaration.now).profile) }
+    ensures short { IfOk result IsShortIfFound }
+{
+    let mut turns = Turns::new(MOST_TURNS);
+    let program = Program::of(image, declaration);
+    let Ok(mut search) = Search::new(alloc) else {
+        return Err(GuessFault::NoMemory);
+    };
+    let version = version_of(declaration.profile());
+    match found_by(alloc, &mut search, &program, version, &mut turns) {
+        Ok(certificate) => Ok(Attempt::Found(certificate)),
+        Err(fault) => drafted_by(&mut search, &program, version, &fault),
+    }
 }

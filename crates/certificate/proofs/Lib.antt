@@ -24,5 +24,6 @@ pub mod SpelledLemmas
 pub mod MakerLemmas
 pub mod AddedLemmas
 pub mod PutLemmas
+pub mod FactTextLemmas
 pub mod ReadLemmas
 pub mod ServedLemmas

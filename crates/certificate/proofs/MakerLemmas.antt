@@ -117,7 +117,7 @@ gathered_end v ls =
     gathered_more v ls End [] refl ∙ rw (append-nil (routines_of ls), append-nil (facts_of ls), append-nil (exits_of ls)) refl
 
 -- Lines in order are those of what they say.
-kept_body : (v : Version) (ls : List Line) → AreInOrder v (newest_first [] ls) → any is_end (newest_first [] ls) ≡ false →
+pub kept_body : (v : Version) (ls : List Line) → AreInOrder v (newest_first [] ls) → any is_end (newest_first [] ls) ≡ false →
     ls ≡ body_of (gathered v ls)
 kept_body v ls h e =
     let c : Closed v ls = closed v ls h e in

@@ -24,7 +24,7 @@ tests_alike a b c d to from = elim (eqb_tells a b) [
 ]
 
 -- Numbers that differ.
-untrue : (a b : ℕ) → (a ≡ b → ⊥) → (a == b) ≡ false
+pub untrue : (a b : ℕ) → (a ≡ b → ⊥) → (a == b) ≡ false
 untrue a b n = elim (eqb_tells a b) [ inl t ↦ absurd (n t.1) | inr t ↦ t.0 ]
 
 routines_found : (v : Version) (ls : List Line) (e : ℕ) → Each (IsLine v) ls → e < 4096 →

@@ -39,7 +39,7 @@ routines_ended v (r ∷ rs) = joined (routine_ended v r) (routines_ended v rs)
 pub seam : (a b : List ℕ) → a ++ 10 ∷ b ≡ ended a ++ b
 seam a b = sym (append_assoc a (10 ∷ []) b)
 
-fact_ended : (v : Version) (f : FactLine) → fact_text v f ≡ all_ended v (lines_of_fact f)
+pub fact_ended : (v : Version) (f : FactLine) → fact_text v f ≡ all_ended v (lines_of_fact f)
 fact_ended v f =
     seam (line_text v (FactIs f.address (registers_of f.statement) f.offsets)) (details_text f.statement) ∙
     ap (λ (rest : List ℕ). ended (line_text v (FactIs f.address (registers_of f.statement) f.offsets)) ++ rest) (details_ended v f.statement)

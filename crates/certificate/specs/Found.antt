@@ -10,7 +10,7 @@ use Rattle.certificate.specs.declared.lines.KeptLines.{KeptLines}
 use Rattle.certificate.specs.Spelling.{RoutineLine}
 use Rattle.certificate.specs.Reading.{rank_in, sites_in, writes_in}
 use Rattle.certificate.specs.Line.{Line, RoutineIs, FactIs, ExitIs, CellIs, EquationIs, End}
-use Rattle.certificate.specs.Order.{is_detail, place, heads, any, is_end, AreInOrder}
+use Rattle.certificate.specs.Order.{is_detail, place, heads, any, is_end, details_of_last, AreInOrder}
 use Rattle.certificate.specs.Packed.{Begins, said_lines}
 use Rattle.certificate.specs.Gathered.{cells_under, equations_under, stated}
 
@@ -126,3 +126,8 @@ abbrev pub SaysFirst : List RoutineLine → ℕ → List Line → Type 0
 SaysFirst rs e [] = Unit {0}
 SaysFirst rs e (RoutineIs r ∷ ls) = SaysOf rs e r
 SaysFirst rs e (_ ∷ ls) = Unit {0}
+
+-- The first line with the cells and equations under it.
+abbrev pub first_with_details : List Line → List Line
+first_with_details [] = []
+first_with_details (l ∷ ls) = l ∷ details_of_last ls

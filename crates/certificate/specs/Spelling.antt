@@ -106,6 +106,10 @@ fact_text v f =
     codes "fact " ++ octal_text f.address ++ registers_text v f.statement ++ codes " offsets " ++
     offsets_text f.offsets ++ 10 ∷ details_text f.statement
 
+-- What is said of an address in lines of facts: the lines of its fact, if there is one.
+abbrev pub fact_text_in : Version → List FactLine → ℕ → List ℕ
+fact_text_in v facts a = flat_map (λ f. if f.address == a then fact_text v f else []) facts
+
 -- The lines of an exit.
 abbrev pub exit_text : Version → ExitLine → List ℕ
 exit_text v e =
@@ -123,3 +127,7 @@ text c =
     version_text c.version ++ 10 ∷
     (flat_map routine_text c.routines ++ flat_map (fact_text c.version) c.facts ++
     flat_map (exit_text c.version) c.exits ++ codes "end" ++ 10 ∷ [])
+
+-- The lines of the fact at an address, as they stand in the text; nothing where there is none.
+abbrev pub fact_text_at : Lines → ℕ → List ℕ
+fact_text_at c a = fact_text_in c.version c.facts a

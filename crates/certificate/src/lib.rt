@@ -12,7 +12,7 @@ ghost use Rattle.wordset.specs.Words.{everything};
 ghost use Rattle.wordset.specs.Lanes.{words};
 ghost use Rattle.facts.specs.Changes.{with_offsets};
 ghost use Rattle.facts.specs.Meaning.{meaning as fact_meaning};
-ghost use Rattle.certificate.specs.Spelling.{text};
+ghost use Rattle.certificate.specs.Spelling.{fact_text_at, text};
 ghost use Rattle.certificate.specs.Reading.{AreLines};
 ghost use Rattle.certificate.specs.Kept.{meaning, claims};
 ghost use Rattle.certificate.specs.Sample.{SampleLaw};
@@ -22,7 +22,7 @@ ghost use Rattle.certificate.specs.Exact.{SpellingLaw, MeaningLaw, ReadingLaw, F
 use crate::lines::{KeptLines, first_exit, first_fact, first_routine};
 use crate::parser::Parser;
 use crate::progress::{FIRST_EXIT, FIRST_FACT};
-use crate::spelled::put_text;
+use crate::spelled::{put_text, put_with_details};
 use facts::Fact;
 use std::alloc::Allocator;
 use std::marker::Model;
@@ -145,6 +145,27 @@ impl<A: Allocator> Certificate<A> {
         ensures marks { W.mark sink.new ≡ is_err result }
     {
         match put_text(sink, self.version, self.kept.lines()) {
+            Ok(()) => Ok(()),
+            Err(_) => Err(WriteFault),
+        }
+    }
+
+    /// Writes the lines of the fact at an address as its text has them, and nothing where there is
+    /// none. The sink has met no failure yet.
+    ///
+    /// # Errors
+    ///
+    /// As `write`.
+    pub fn write_fact<W: ByteSink>(&self, at: Word, sink: &mut W) -> Result<(), WriteFault>
+        requires unmarked { W.mark sink.old ≡ false }
+        ensures whole { OnOk result (Appends (W.taken sink.old) (W.taken sink.new)
+            (fact_text_at (meaning self.now) at)) }
+        ensures front { OnErr result (AppendsFront (W.taken sink.old) (W.taken sink.new)
+            (fact_text_at (meaning self.now) at)) }
+        ensures marks { W.mark sink.new ≡ is_err result }
+    {
+        let start = self.kept.from(FIRST_FACT + at.index());
+        match put_with_details(sink, self.version, self.kept.lines(), start) {
             Ok(()) => Ok(()),
             Err(_) => Err(WriteFault),
         }

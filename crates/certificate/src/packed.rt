@@ -251,6 +251,7 @@ fn other_in(runs: &[Run], sets: Spans) -> WordSet
 }
 
 /// The registers of which the runs lie here.
+#[inline(always)]
 fn registers_in(runs: &[Run], packed: &PackedRegisters) -> Registers
     requires { AreWithin (length runs.now) packed.now.sets }
     ensures { registers_of result ≡ registers_at runs.now packed.now }

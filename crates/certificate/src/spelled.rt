@@ -1,7 +1,7 @@
 //! The text of a line.
 
 ghost use Rattle.std.specs.Prelude.{ℕ, ◌≡◌, ◌<◌, ◌≤◌, [], ◌∷◌, ◌+◌, ◌==◌, length, codes, if◌then◌else◌};
-ghost use Rattle.std.specs.Prelude.{OnOk, OnErr, is_err, false, ◌++◌};
+ghost use Rattle.std.specs.Prelude.{OnOk, OnErr, is_err, false, ◌++◌, drop};
 ghost use Rattle.std.specs.Io.KnownBytes.{Appends};
 ghost use Rattle.streams.specs.Bytes.{AppendsFront};
 ghost use Rattle.word12.specs.Words.{octal_text};
@@ -17,10 +17,13 @@ ghost use Rattle.certificate.specs.Fields.{run_text};
 ghost use Rattle.certificate.specs.Meaning.{said, routine_of, registers_of};
 ghost use Rattle.certificate.specs.Spelled.{Adds};
 ghost use Rattle.certificate.specs.Packed.{said_lines};
+ghost use Rattle.certificate.specs.Order.{details_of_last};
+ghost use Rattle.certificate.specs.Found.{first_with_details};
 
 use crate::Version;
 use crate::line::{Line, Registers, RoutineLine};
 use crate::packed::{PackedLines, last_before};
+use crate::progress::is_detail;
 use arrayvec::ArrayVec;
 use facts::{Equation, Name, Offsets, TrackedCell};
 use std::alloc::Allocator;
@@ -340,6 +343,59 @@ fn put_lines<A: Allocator, W: ByteSink>(
         }
     }
     Ok(())
+}
+
+/// Writes the lines of cells and equations from a place on, up to the first other line.
+fn put_details<A: Allocator, W: ByteSink>(
+    sink: &mut W,
+    version: Version,
+    lines: &PackedLines<A>,
+    start: usize,
+) -> Result<(), Failed>
+    requires unmarked { W.mark sink.old ≡ false }
+    requires form { Each (IsLine version) (said_lines lines.now) }
+    ensures whole { OnOk result (Appends (W.taken sink.old) (W.taken sink.new)
+        (all_ended version (details_of_last (drop start (said_lines lines.now))))) }
+    ensures front { OnErr result (AppendsFront (W.taken sink.old) (W.taken sink.new)
+        (all_ended version (details_of_last (drop start (said_lines lines.now))))) }
+    ensures marks { W.mark sink.new ≡ is_err result }
+{
+    let mut text = LineText::new();
+    for at in start..lines.len() {
+        let line = lines.line(at);
+        if !is_detail(&line) {
+            return Ok(());
+        }
+        text.put_line(version, &line);
+        if let Err(failed) = put(sink, &text.bytes) {
+            return Err(failed);
+        }
+    }
+    Ok(())
+}
+
+/// Writes the line at a place with the cells and equations under it; nothing past the last one.
+pub fn put_with_details<A: Allocator, W: ByteSink>(
+    sink: &mut W,
+    version: Version,
+    lines: &PackedLines<A>,
+    start: usize,
+) -> Result<(), Failed>
+    requires unmarked { W.mark sink.old ≡ false }
+    requires form { Each (IsLine version) (said_lines lines.now) }
+    ensures whole { OnOk result (Appends (W.taken sink.old) (W.taken sink.new)
+        (all_ended version (first_with_details (drop start (said_lines lines.now))))) }
+    ensures front { OnErr result (AppendsFront (W.taken sink.old) (W.taken sink.new)
+        (all_ended version (first_with_details (drop start (said_lines lines.now))))) }
+    ensures marks { W.mark sink.new ≡ is_err result }
+{
+    if start >= lines.len() {
+        return Ok(());
+    }
+    let mut text = LineText::new();
+    text.put_line(version, &lines.line(start));
+    put(sink, &text.bytes)?;
+    put_details(sink, version, lines, start + 1)
 }
 
 /// Writes a certificate's text: its first line, these lines and the end.

@@ -12,3 +12,4 @@ pub mod LaterLemmas
 pub mod Answered
 pub mod SessionLemmas
 pub mod SessionsAnswered
+pub mod StuckLemmas

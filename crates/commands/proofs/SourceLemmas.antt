@@ -1,9 +1,11 @@
 -- Sources that are read one after the other.
-use Rattle.std.proofs.Common.{ℕ, ◌≡◌, ◌+◌, ◌<◌, List, [], ◌∷◌, ◌++◌, map, take, drop, get_or, length, slice_set, arith, sym, ◌∙◌, ap, subst}
-use Rattle.std.specs.Prelude.{Option, IfSome}
+use Rattle.std.proofs.Common.{zero, suc, refl, ℕ, ◌≡◌, ◌+◌, ◌<◌, List, [], ◌∷◌, ◌++◌, map, take, drop, get_or, length, slice_set, arith, sym, ◌∙◌, ap, subst}
+use Rattle.std.specs.Prelude.{◌≤◌, Option, Some, None, IfSome}
 use Rattle.std.specs.List.{AllByRecursion}
 use Rattle.std.proofs.lemmas.List.{take_more, map-append, drop-set-lt, drop_more}
-use Rattle.commands.specs.SourceTexts.{AreRead}
+use Rattle.streams.specs.Bytes.{Gave}
+use Rattle.commands.specs.Inputs.{TakesAtMost}
+use Rattle.commands.specs.SourceTexts.{AreRead, EachTakesAtMost}
 
 are_read_push : (xs : List (Option (List ℕ))) (ys : List (List ℕ)) (x : Option (List ℕ)) (y : List ℕ) →
     AreRead xs ys → IfSome x (λ bytes. y ≡ bytes) → AreRead (xs ++ x ∷ []) (ys ++ y ∷ [])
@@ -30,3 +32,23 @@ unmarked_next P ss i new within all =
 pub same_next : {S : Type 0} (ss os : List S) (i : ℕ) (new : S) → i < length ss → i < length os → drop i ss ≡ drop i os → drop (i + 1) (slice_set ss i new) ≡ drop (i + 1) os
 same_next ss os i new within short same =
     drop-set-lt (i + 1) ss i new (omega arith) ∙ ap (drop 1) (sym (drop_more ss i new within) ∙ same ∙ drop_more os i new short)
+
+-- nothing was taken of any
+untaken : (most : ℕ) (source : Option (List ℕ)) → TakesAtMost most source source
+untaken most None = tt
+untaken most (Some bytes) = ([], refl, omega arith)
+
+pub none_taken : (most : ℕ) (sources : List (Option (List ℕ))) → EachTakesAtMost most sources sources
+none_taken most [] = tt
+none_taken most (source ∷ sources) = (untaken most source, none_taken most sources)
+
+-- one source more was read
+pub takes_next : {S : Type 0} (most : ℕ) (remaining : S → Option (List ℕ)) (ss os : List S) (i : ℕ) (d new : S) → i < length ss → i < length os → drop i ss ≡ drop i os →
+    EachTakesAtMost most (map remaining os) (map remaining ss) → TakesAtMost most (remaining (get_or ss i d)) (remaining new) →
+    EachTakesAtMost most (map remaining os) (map remaining (slice_set ss i new))
+takes_next most remaining [] os i d new short within same each takes = absurd (omega arith)
+takes_next most remaining (s ∷ ss) [] i d new short within same each takes = absurd (omega arith)
+takes_next most remaining (s ∷ ss) (o ∷ os) zero d new short within same each takes =
+    (subst (λ x. TakesAtMost most (remaining x) (remaining new)) (ap (λ l. get_or l 0 d) same) takes, each.1)
+takes_next most remaining (s ∷ ss) (o ∷ os) (suc i) d new short within same each takes =
+    (each.0, takes_next most remaining ss os i d new (omega arith) (omega arith) same each.1 takes)

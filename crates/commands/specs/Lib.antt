@@ -16,5 +16,6 @@ pub mod SourceTexts
 pub mod AssembleText
 pub mod Laws
 pub mod WhyText
+pub mod StuckText
 pub mod Session
 pub mod SessionParts

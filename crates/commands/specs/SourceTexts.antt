@@ -5,6 +5,7 @@ use Rattle.streams.specs.Bytes.{Gave}
 use Rattle.pal_acts.specs.declared.code.Code.TheVariants.{TooLong}
 use Rattle.pal_asm.specs.Sources.{fault_at, size_fault}
 use Rattle.commands.specs.declared.status.Fault.{Fault}
+use Rattle.commands.specs.Inputs.{TakesAtMost}
 use Rattle.commands.specs.declared.status.Fault.TheVariants.{Source, Device}
 use Rattle.commands.specs.declared.status.Fault.TheVariants as fault
 use Rattle.commands.specs.declared.status.DeviceFault.TheVariants.{Read}
@@ -58,6 +59,12 @@ ArePartsFault marks sources left (Source fault) =
 ArePartsFault marks sources left (Device Read) = FailsToReadPart marks sources left
 ArePartsFault marks sources left fault.NoMemory = is_bad_number (length sources) ≡ false
 ArePartsFault marks sources left _ = ⊥
+
+-- Of each of these sources, which had these bytes and have those left, so many bytes at most were taken.
+abbrev pub EachTakesAtMost : ℕ → List (Option (List ℕ)) → List (Option (List ℕ)) → Type 0
+EachTakesAtMost most [] left = Unit {0}
+EachTakesAtMost most (had ∷ sources) [] = ⊥
+EachTakesAtMost most (had ∷ sources) (has ∷ left) = TakesAtMost most had has × EachTakesAtMost most sources left
 
 -- Of sources with these bytes, this one holds a part that is too long.
 pub record IsLongAt (sources : List (Option (List ℕ))) (at : ℕ) : Type 0 where

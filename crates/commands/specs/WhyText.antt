@@ -10,7 +10,7 @@ use Rattle.facts.specs.declared.Condition.TheVariants as condition
 use Rattle.facts.specs.declared.names.Name.{Name}
 use Rattle.facts.specs.declared.names.Name.TheVariants as name
 use Rattle.facts.specs.declared.names.Equation.{Equation}
-use Rattle.certificate.specs.Spelling.{Lines}
+use Rattle.certificate.specs.Spelling.{Lines, fact_text_at}
 use Rattle.judge.specs.Conditions.{Case}
 use Rattle.judge.specs.declared.judging.Refusal.{Refusal}
 use Rattle.reasons.specs.Reasons.{Explains}
@@ -144,12 +144,18 @@ why_text profile image (Err r) reason =
     dump_line profile r.address (word_shown image r.address reason) ++
     (condition_text r.condition ++ codes " asks: " ++ asked_text r.condition ++ codes "\n") ++ reason_line reason
 
+-- The lines of the fact at the address of a refusal, as the certificate has them, if it has one there.
+abbrev pub fact_shown : Lines → Result (Unit {0}) Refusal → List ℕ
+fact_shown lines (Ok _) = []
+fact_shown lines (Err r) = fact_text_at lines r.address
+
 -- The reason is why the verdict is no.
 abbrev pub IsReason : Case → Result (Unit {0}) Refusal → Option Reason → Type 0
 IsReason j (Ok _) reason = reason ≡ None
 IsReason j (Err r) reason = IfSome reason (Explains j r.condition r.address)
 
--- The frames are a tape, the texts a declaration and a certificate; the text is the line of their verdict and why it is.
+-- The frames are a tape, the texts a declaration and a certificate; the text is the line of their verdict, why it is, and the
+-- fact there.
 pub record IsExplainedSo (frames text certificate : Option (List ℕ)) (line : List ℕ) (status : Status) : Type 0 where
   pub image : List (Option ℕ)
   pub tape : HasImage frames image
@@ -161,7 +167,7 @@ pub record IsExplainedSo (frames text certificate : Option (List ℕ)) (line : L
   pub is : IsVerdict (checked_case image declaration lines) verdict
   pub reason : Option Reason
   pub why : IsReason (checked_case image declaration lines) verdict reason
-  pub line_is : line ≡ verdict_text declaration verdict ++ why_text declaration.profile image verdict reason
+  pub line_is : line ≡ verdict_text declaration verdict ++ why_text declaration.profile image verdict reason ++ fact_shown lines verdict
   pub status_is : status ≡ verdict_status verdict
 
 -- The same with whichever status.

@@ -1,10 +1,13 @@
 //! The command that checks a certificate and says why a verdict is no.
 
-ghost use Rattle.std.specs.Prelude.{◌≡◌, ◌||◌, ◌++◌, false, true, IfOk, IfErr, OnErr};
+ghost use Rattle.std.specs.Prelude.{◌≡◌, ◌||◌, ◌++◌, false, true, is_err, IfOk, IfErr, OnErr, OnOk};
+ghost use Rattle.std.specs.Io.KnownBytes.{Appends};
+ghost use Rattle.streams.specs.Bytes.{AppendsFront};
+ghost use Rattle.certificate.specs.Kept.{meaning as lines_of};
 ghost use Rattle.judge.specs.Judged.{judged};
 ghost use Rattle.commands.specs.Faults.{IsCheckFault, is_fault_of_declaration, is_fault_of_tape, fails_to_read, fails_to_write};
 ghost use Rattle.commands.specs.Inputs.{TakesAtMost, TakesCertificate, TakesTape, input};
-ghost use Rattle.commands.specs.WhyText.{IsExplained, IsExplainedSo, IsReason};
+ghost use Rattle.commands.specs.WhyText.{IsExplained, IsExplainedSo, IsReason, fact_shown};
 ghost use Rattle.commands.specs.Writes.{FrontOf, Writes};
 
 use crate::checking::{verdict_line, verdict_status};
@@ -12,6 +15,7 @@ use crate::inputs::{certificate_from, declaration_from, tape_from};
 use crate::reason_text::push_why;
 use crate::status::{Fault, Status};
 use bin_tape::Image;
+use certificate::{Certificate, WriteFault};
 use declaration::Declaration;
 use judge::{Claims, Refusal, judge};
 use reasons::{Reason, why};
@@ -34,11 +38,30 @@ fn reason_of<D: Allocator, C: Claims>(
     }
 }
 
+/// Writes the lines of the fact at the address of a refusal as the certificate has them.
+fn put_fact<A: Allocator, W: ByteSink>(
+    out: &mut W,
+    certificate: &Certificate<A>,
+    verdict: &Result<(), Refusal>,
+) -> Result<(), WriteFault>
+    requires { W.mark out.old ≡ false }
+    ensures whole { OnOk result (Appends (W.taken out.old) (W.taken out.new)
+        (fact_shown (lines_of certificate.now) verdict.now)) }
+    ensures front { OnErr result (AppendsFront (W.taken out.old) (W.taken out.new)
+        (fact_shown (lines_of certificate.now) verdict.now)) }
+    ensures marks { W.mark out.new ≡ is_err result }
+{
+    match verdict {
+        Ok(()) => Ok(()),
+        Err(refusal) => certificate.write_fact(refusal.address, out),
+    }
+}
+
 /// Checks a certificate of a tape and a declaration, and writes the verdict: yes, with the numbers of
 /// cells in bodies, of variables, of entries, of declared halts and, where they are listed, of cells
 /// that may be read; or the first condition that fails and its address, and then the status is
 /// `Refused`, and lines follow that say why: the address with its word and name, what the condition
-/// asks, and what breaks it.
+/// asks, what breaks it, and the lines of the fact there.
 ///
 /// # Errors
 ///
@@ -103,5 +126,6 @@ pub fn explain<A: Allocator + Copy, R: ByteSource, D: ByteSource, C: ByteSource,
     let mut text = verdict_line(alloc, &promised, &verdict)?;
     push_why(&mut text, promised.profile(), &image, &verdict, &reason)?;
     put(out, &text)?;
+    put_fact(out, &claims, &verdict)?;
     Ok(verdict_status(&verdict))
 }

@@ -15,6 +15,7 @@ pub mod running;
 pub mod session;
 mod sources;
 pub mod status;
+pub mod stuck;
 mod text;
 mod trace;
 pub mod watching;

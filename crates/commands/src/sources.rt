@@ -6,7 +6,8 @@ ghost use Rattle.pal_acts.specs.declared.code.Code.TheVariants.{TooLong};
 ghost use Rattle.pal_asm.specs.Sources.{fault_at, texts};
 ghost use Rattle.commands.specs.declared.status.Fault.TheVariants.{Source};
 ghost use Rattle.commands.specs.Faults.{fails_to_read};
-ghost use Rattle.commands.specs.SourceTexts.{AreRead, IsShort, IsPartFault, ArePartsFault, IsLongAt, LeavesThoseAfter, is_bad_number};
+ghost use Rattle.commands.specs.Inputs.{TakesAtMost};
+ghost use Rattle.commands.specs.SourceTexts.{AreRead, EachTakesAtMost, IsShort, IsPartFault, ArePartsFault, IsLongAt, LeavesThoseAfter, is_bad_number};
 
 use crate::status::Fault;
 use pal_acts::Code;
@@ -51,6 +52,7 @@ fn read_part<A: Allocator, R: ByteSource>(
     ensures faults { IfErr result
         (IsPartFault number (R.remaining source.old) (R.remaining source.new)) }
     ensures marks { R.mark source.new ≡ fails_to_read result }
+    ensures takes { TakesAtMost 65537 (R.remaining source.old) (R.remaining source.new) }
 {
     let part = read_at_most(alloc, source, MOST_PART)?;
     if part.len() >= MOST_PART {
@@ -61,6 +63,7 @@ fn read_part<A: Allocator, R: ByteSource>(
 
 /// Reads the parts of a source, in order, up to the first that is too long or whose read fails. The
 /// number of parts is looked at before the first is read.
+#[tactic(auto, using(crate::proofs::SourceLemmas::none_taken))]
 pub(crate) fn read_parts<A: Allocator + Copy, R: ByteSource>(
     alloc: A,
     sources: &mut [R],
@@ -80,6 +83,9 @@ pub(crate) fn read_parts<A: Allocator + Copy, R: ByteSource>(
         LeavesThoseAfter at sources.old sources.new }
     ensures unread_after_failure { (at : ℕ) → slice_get (map R.mark sources.new) at ≡ Some true →
         LeavesThoseAfter at sources.old sources.new }
+    // Of a part no more is taken than it may have and a byte, which tells that it's too long.
+    ensures takes { EachTakesAtMost 65537 (map R.remaining sources.old)
+        (map R.remaining sources.new) }
 {
     if is_bad_number(sources.len()) {
         return Err(too_long(0));

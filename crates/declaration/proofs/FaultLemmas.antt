@@ -38,9 +38,9 @@ at_line text StartNotInMain f = absurd f.fails
 at_line text (HaltNotInBody a) f = absurd f.fails
 
 -- what is refused first is a fault of the text
-pub fails_text : {S : Type 0} (say : S → Contents) (s : S) (text : List ℕ) (fault : DeclarationFault) → length text ≤ most_bytes → say s ≡ contents []
-    → RefusesFirst (λ x line y. Adds (say x) line (say y)) (λ x number line. LineFails (say x) number (line_of line)) s (text_lines text) fault → Fails text fault
-fails_text say s text fault short none f =
+pub fails_text : {S : Type 0} (say : S → Contents) (s u : S) (text : List ℕ) (fault : DeclarationFault) → length text ≤ most_bytes → say s ≡ contents []
+    → RefusesFirst (λ x line y. Adds (say x) line (say y)) (λ x number line f y. LineFails (say x) number (line_of line) f) s (text_lines text) fault u → Fails text fault
+fails_text say s u text fault short none f =
     let g = gathers say s f.t f.before none f.taken in
     at_line text fault (record {
       lines = g.lines;

@@ -220,7 +220,8 @@ impl<A: Allocator> LineTaker for Draft<A> {
 
     ghost takes = { λ old line new. Adds (gathered old) line (gathered new) };
 
-    ghost refuses = { λ old number line. LineFails (gathered old) number (line_of line) };
+    ghost refuses = { λ old number line fault _.
+        LineFails (gathered old) number (line_of line) fault };
 
     fn take(&mut self, number: usize, line: &[u8]) -> Result<(), DeclarationFault> {
         match read_line(line) {

@@ -29,6 +29,9 @@ pub struct TrackedCell {
 }
 
 impl Default for TrackedCell {
+    // The cell 0000, which may hold no word.
+    ghost is_default = { λ it. tracked_of it ≡ record { address = 0; set = nothing } };
+
     fn default() -> Self {
         TrackedCell {
             cell: Word::ZERO,

@@ -2,7 +2,7 @@
 
 ghost use Rattle.std.specs.Prelude.{◌≡◌, ◌↔◌, IsTrue};
 ghost use Rattle.wordset.specs.Words.{plus, minus};
-ghost use Rattle.facts.specs.Facts.{same};
+ghost use Rattle.facts.specs.Facts.{Ac, Cell, same};
 ghost use Rattle.facts.specs.Changes.{oriented};
 ghost use Rattle.facts.specs.Meaning.{name_of, equation_of};
 
@@ -33,6 +33,10 @@ pub struct Equation {
 }
 
 impl Default for Equation {
+    // The accumulator and the cell 0000 are equal.
+    ghost is_default = { λ it. equation_of it ≡
+        record { left = Ac; right = Cell 0; more = 0 } };
+
     fn default() -> Self {
         Equation {
             left: Name::Accumulator,

@@ -1,6 +1,6 @@
 //! What the checker asks of a certificate.
 
-ghost use Rattle.std.specs.Prelude.{ℕ, ◌≡◌, ◌<◌, true, is_some, IfSome, IfNone};
+ghost use Rattle.std.specs.Prelude.{ℕ, ◌≡◌, ◌<◌, true, false, is_some, IfSome, IfNone};
 ghost use Rattle.wordset.specs.Words.{everything, nothing};
 ghost use Rattle.wordset.specs.Lanes.{words};
 ghost use Rattle.facts.specs.Changes.{with_offsets};
@@ -29,19 +29,21 @@ pub trait Claims {
         ensures no_sites { IfNone result ((claims self.now).sites entry ≡ nothing) }
         ensures no_writes { IfNone result ((claims self.now).writes entry ≡ nothing) };
 
-    /// Whether there is a fact at an address, which the lent one then says. A fact has some 34,000
-    /// bytes, so none is made for each question.
+    /// Whether there is a fact at an address, which the lent one then says; else it's left as it is. A
+    /// fact has some 34,000 bytes, so none is made for each question.
     fn fact_into(&self, at: Word, fact: &mut Fact) -> bool
         ensures there { result ≡ (claims self.now).has_fact at }
-        ensures fact { result ≡ true → meaning fact.new ≡ (claims self.now).fact at };
+        ensures fact { result ≡ true → meaning fact.new ≡ (claims self.now).fact at }
+        ensures kept { result ≡ false → fact.new ≡ fact.old };
 
     /// Whether it is claimed what holds when the routine of an entry returns by an offset, which the
-    /// lent fact then says. It has all offsets, since nothing is asked of them.
+    /// lent fact then says; else it's left as it is. It has all offsets, since nothing is asked of them.
     fn exit_into(&self, entry: Word, offset: usize, exit: &mut Fact) -> bool
         ensures there { result ≡ (claims self.now).has_exit entry offset }
         ensures fact { result ≡ true →
             with_offsets everything (meaning exit.new) ≡ (claims self.now).exit entry offset }
-        ensures offsets { result ≡ true → (o : ℕ) → o < 8 → (meaning exit.new).offsets o ≡ true };
+        ensures offsets { result ≡ true → (o : ℕ) → o < 8 → (meaning exit.new).offsets o ≡ true }
+        ensures kept { result ≡ false → exit.new ≡ exit.old };
 }
 
 impl<A: Allocator> Claims for Certificate<A> {

@@ -107,3 +107,21 @@ added_end next (t ∷ ts) h = ap (one_or_both next t ts) (joined_end t next h) �
   | inl space ↦ ap (λ s. one_or_both next t ts (if s && true then Some next else None)) space ∙ sym (ap (λ s. next ∷ (if s then ts else t ∷ ts)) space)
   | inr other ↦ ap (λ s. one_or_both next t ts (if s && true then Some next else None)) other ∙ sym (ap (λ s. next ∷ (if s then ts else t ∷ ts)) other)
 ]
+
+-- the end of the part comes after all tokens that were there before
+pub record Ends (before after : List Token) : Type 0 where
+  pub mark : Token
+  pub more : List Token
+  pub is : after ≡ mark ∷ more ++ before
+  pub is_mark : is_end mark.kind ≡ true
+
+pub ended_on : (bytes before : List ℕ) → IsCut (tokens before) → Ends (tokens before) (ended (bytes ++ before))
+ended_on bytes before h =
+    let m : Token = end_token (bytes ++ before) in
+    let l : Later (tokens before) (tokens (bytes ++ before)) = tokens_later bytes before h in
+    record {
+      mark = m;
+      more = trimmed l.more;
+      is = ap (added m) l.is ∙ added_apart m l.more (tokens before) h ∙ ap (λ ts. ts ++ tokens before) (added_end m l.more refl);
+      is_mark = refl;
+    }

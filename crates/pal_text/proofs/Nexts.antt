@@ -23,7 +23,7 @@ use Rattle.pal_text.specs.Reading.{kinds, shape}
 use Rattle.pal_text.specs.Statements.{is_end, piece, pieces, closing}
 use Rattle.pal_text.specs.Readers.{rest, IsNext, IsBroken}
 use Rattle.pal_text.specs.Scan.{front, mark_kind, line_past, trimmed, mark, next_place, Closes, IsStop, IsCut, IsOpen, IsPlaceIn, IsStanding, IsOwn}
-use Rattle.pal_text.proofs.Apart.{added_apart, added_end, Later, ended_later}
+use Rattle.pal_text.proofs.Apart.{added_apart, added_end, Later, ended_later, Ends, ended_on}
 use Rattle.pal_text.proofs.Cuts.{made, made_fills, none_read}
 use Rattle.pal_text.proofs.Fronts.{next_front}
 use Rattle.pal_text.proofs.Grows.{turned}
@@ -323,3 +323,37 @@ next_standing source count size raw next n h = let P : ℕ → Type 0 = λ w. Is
 
 pub next_within : (source : List ℕ) (count : ℕ) (raw own_tokens : List Token) (m : Token) → Stands source count (map (named source) raw) m → own_tokens ≡ map (named source) raw → AllByRecursion (IsWithin (length source)) own_tokens
 next_within source count raw own_tokens m h is = let P : List Token → Type 0 = λ l. AllByRecursion (IsWithin (length source)) l in subst P (sym is) h.within
+
+-- tokens whose last ends a statement have a piece
+pieces_some : (first at : ℕ) (ts : List Token) (m : Token) → is_end m.kind ≡ true → pieces first at (ts ++ m ∷ []) ≡ [] → ⊥
+pieces_some first at [] m e none =
+    let some : pieces first at (m ∷ []) ≡ piece first at m ∷ [] = ap (λ b. if b then piece first at m ∷ [] else []) e in
+    absurd (cc)
+pieces_some first at (t ∷ ts) m e none = elim (cases_Bool (is_end t.kind)) [
+  | inl ends ↦ (let some : pieces first at (t ∷ (ts ++ m ∷ [])) ≡ piece first at t ∷ pieces (at + 1) (at + 1) (ts ++ m ∷ []) =
+      ap (λ b. if b then piece first at t ∷ pieces (at + 1) (at + 1) (ts ++ m ∷ []) else pieces first (at + 1) (ts ++ m ∷ [])) ends in
+      absurd (cc))
+  | inr open' ↦ (let on : pieces first at (t ∷ (ts ++ m ∷ [])) ≡ pieces first (at + 1) (ts ++ m ∷ []) =
+      ap (λ b. if b then piece first at t ∷ pieces (at + 1) (at + 1) (ts ++ m ∷ []) else pieces first (at + 1) (ts ++ m ∷ [])) open' in
+      pieces_some first (at + 1) ts m e (sym on ∙ none))
+]
+
+-- where a statement begins, one is left
+left_at : (source : List ℕ) (place : Place) (count : ℕ) → IsPlaceIn source place → count ≡ length (tokens (front source place.at)) → rest source count ≡ [] → ⊥
+left_at source place count p n none =
+    let b : List Token = tokens (front source place.at) in
+    let k : Ends b (ended (reverse (drop place.at source) ++ front source place.at)) = ended_on (reverse (drop place.at source)) (front source place.at) p.cut in
+    let all : all_tokens source ≡ reverse b ++ (reverse k.more ++ k.mark ∷ []) =
+    ap (λ f. reverse (ended f)) (split_source source place.at) ∙ ap reverse k.is ∙ reverse-append (k.mark ∷ k.more) b ∙ ap (λ l. reverse b ++ l) (reverse-append (k.mark ∷ []) k.more) in
+    let is : part_tokens source ≡ map (named source) (reverse b) ++ (map (named source) (reverse k.more) ++ named source k.mark ∷ []) =
+    ap (map (named source)) all
+    ∙ map-append (named source) (reverse b) (reverse k.more ++ k.mark ∷ [])
+    ∙ ap (λ l. map (named source) (reverse b) ++ l) (map-append (named source) (reverse k.more) (k.mark ∷ [])) in
+    let size : length (map (named source) (reverse b)) ≡ count = length-map (reverse b) (named source) ∙ length-reverse b ∙ sym n in
+    let here : drop count (part_tokens source) ≡ map (named source) (reverse k.more) ++ named source k.mark ∷ [] =
+    ap (drop count) is ∙ ap (λ j. drop j (map (named source) (reverse b) ++ (map (named source) (reverse k.more) ++ named source k.mark ∷ []))) (sym size) ∙ drop-append_seam (map (named source) (reverse b)) (map (named source) (reverse k.more) ++ named source k.mark ∷ []) in
+    pieces_some count count (map (named source) (reverse k.more)) (named source k.mark) (ap (λ t. is_end t.kind) (named_mark source k.mark k.is_mark) ∙ k.is_mark) (sym (ap (pieces count count) here) ∙ none)
+
+pub one_left : (source : List ℕ) (count : ℕ) (o : Option Place) (place : Place) → o ≡ Some place → IsStanding source count o → rest source count ≡ [] → ⊥
+one_left source count None place is standing none = cc
+one_left source count (Some p) place is standing none = left_at source p count standing.0 standing.1 none

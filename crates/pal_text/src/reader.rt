@@ -5,7 +5,7 @@ ghost use Rattle.std.specs.List.{AllByRecursion};
 ghost use Rattle.pal_text.specs.Names.{IsWithin};
 ghost use Rattle.pal_text.specs.Tokens.{tokens};
 ghost use Rattle.pal_text.specs.Scan.{front, IsPlaceIn, IsStanding};
-ghost use Rattle.pal_text.specs.Readers.{IsNext, Finds, BreaksNext};
+ghost use Rattle.pal_text.specs.Readers.{rest, IsNext, Finds, BreaksNext};
 
 use crate::cut::{Close, Statement, close_of};
 use crate::fault::TextFault;
@@ -149,6 +149,8 @@ impl<'s, A: Allocator + Copy> Reader<'s, A> {
         ensures found { IfOk result (λ found. Finds self.old.source self.old.count found
             self.new.own self.new.count) }
         ensures ended { result ≡ Ok None → (self.new.count ≡ self.old.count) × (self.new.own ≡ []) }
+        // Where no statement is left it says so, and nothing else, so also whenever it is asked again.
+        ensures over { rest self.old.source self.old.count ≡ [] → result ≡ Ok None }
         ensures within { OnOk result (AllByRecursion (IsWithin (length self.old.source))
             self.new.own) }
         ensures fault { IfErr result (BreaksNext self.old.source self.old.count) }

@@ -107,8 +107,8 @@ at_line text (BadLine n) f = f
 at_line text TooMany f = inr f
 at_line text NoMemory f = f
 
-pub fails_text : {S : Type 0} (list : S → List Event) (s : S) (text : List ℕ) (fault : EventsFault) → length text ≤ most_bytes → list s ≡ []
-    → RefusesFirst (λ x line y. Adds (list x) line (list y)) (λ x. LineFails (list x)) s (text_lines text) fault → Fails text fault
-fails_text list s text fault short none f =
+pub fails_text : {S : Type 0} (list : S → List Event) (s u : S) (text : List ℕ) (fault : EventsFault) → length text ≤ most_bytes → list s ≡ []
+    → RefusesFirst (λ x line y. Adds (list x) line (list y)) (λ x number line f y. LineFails (list x) number line f) s (text_lines text) fault u → Fails text fault
+fails_text list s u text fault short none f =
     let good = spelt list s f.t f.before none f.taken in
     at_line text fault (record { before = f.before; line = f.line; number = f.number; events = list f.t; good = record { short = short; stands = f.stands; spells = good.0; few = good.1 }; fails = f.refused })

@@ -113,7 +113,8 @@ impl<A: Allocator> LineTaker for EventList<A> {
 
     ghost takes = { λ old line new. Adds old.events.items line new.events.items };
 
-    ghost refuses = { λ old. LineFails old.events.items };
+    ghost refuses = { λ old number line fault _.
+        LineFails old.events.items number line fault };
 
     fn take(&mut self, number: usize, line: &[u8]) -> Result<(), EventsFault> {
         match read_line(line) {

@@ -107,7 +107,8 @@ impl<'t> Operator<'t> {
         }
     }
 
-    /// The event that is due in a world; none where no round is left. What it uses up is gone then.
+    /// The event that is due in a world; none where a round would begin and none is left. What it uses
+    /// up is gone then.
     pub fn next<A: Allocator>(&mut self, world: &World<A>) -> Option<Event>
         ensures due { result ≡ due (plan_of self.old) (view world.now) self.old.last }
         ensures left { IfSome result (λ e. plan_of self.new ≡ left_after e (plan_of self.old)) }

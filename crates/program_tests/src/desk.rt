@@ -183,11 +183,13 @@ struct Pages {
     written: Page,
 }
 
-/// The runtime. Its words are those of a text, separated by spaces.
+/// The runtime. Its words are those of a text, separated by spaces; one of them may begin with a byte
+/// with which no text begins.
 #[derive(Drop)]
 struct Desk<'d> {
     alloc: Global,
     words: &'d str,
+    spoiled: Option<usize>,
     pages: &'d Pages,
 }
 
@@ -209,6 +211,9 @@ impl Env for Desk<'_> {
             return Err(FillError::TooLong);
         }
         buf[..bytes.len()].copy_from_slice(bytes);
+        if Some(i) == self.spoiled && !bytes.is_empty() {
+            buf[0] = 0xff;
+        }
         Ok(bytes.len())
     }
 
@@ -355,6 +360,22 @@ pub fn run_program(alloc: Global, words: &str) -> Ended {
 /// Runs the program with these words where standard output fails at a write past so many bytes, and
 /// standard error past so many.
 pub fn run_with_room(alloc: Global, words: &str, printed: usize, told: usize) -> Ended {
+    collected(alloc, words, None, printed, told)
+}
+
+/// Runs the program with these words, of which the one at a place isn't text.
+pub fn run_spoiled(alloc: Global, words: &str, at: usize) -> Ended {
+    collected(alloc, words, Some(at), usize::MAX, usize::MAX)
+}
+
+/// Runs the program, and collects what it wrote.
+fn collected(
+    alloc: Global,
+    words: &str,
+    spoiled: Option<usize>,
+    printed: usize,
+    told: usize,
+) -> Ended {
     let pages = Pages {
         printed: Page::new(alloc, printed),
         told: Page::new(alloc, told),
@@ -364,6 +385,7 @@ pub fn run_with_room(alloc: Global, words: &str, printed: usize, told: usize) ->
     let status = exit_status(&Desk {
         alloc,
         words,
+        spoiled,
         pages: &pages,
     });
     let Pages {

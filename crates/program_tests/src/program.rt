@@ -1,6 +1,6 @@
 //! The whole program: its words, the files that it opens, and its statuses.
 
-use crate::desk::{run_program, run_with_room};
+use crate::desk::{run_program, run_spoiled, run_with_room};
 use crate::sources::halt_tape;
 use commands::status::Status;
 use std::alloc::Global;
@@ -318,7 +318,7 @@ fn the_first_input_with_a_fault_is_told(rt: HostRuntime) -> Result<(), Fail> {
 }
 
 /// Words with bad files, what is told of the first, and the files that are opened.
-const BAD_INPUTS: [(&str, &str, &str); 5] = [
+const BAD_INPUTS: [(&str, &str, &str); 6] = [
     // The file of what comes out is made before anything is looked at, and stays empty.
     (
         "pdp8 declare bad.bin o.dcl",
@@ -338,6 +338,14 @@ const BAD_INPUTS: [(&str, &str, &str); 5] = [
     (
         "pdp8 guess halt.bin wild.dcl o.cert",
         "pdp8: guess: Stuck 0200\n",
+        "halt.bin wild.dcl o.cert ",
+    ),
+    // No halt is declared, which is said after the line of the fault.
+    (
+        "pdp8 guess halt.bin wild.dcl o.cert --why",
+        "pdp8: guess: Stuck 0200\n0200 7402 HLT\n\
+        V13 asks: a HLT is at a declared halt\n\
+        it halts, and no halt is declared there\n",
         "halt.bin wild.dcl o.cert ",
     ),
     (
@@ -428,6 +436,7 @@ fn the_guess_goes_where_it_is_asked_for(rt: HostRuntime) -> Result<(), Fail> {
     let second = "PDP8-CERTIFICATE 2\nfact 0200 ac 0000-7777 mq 0000-7777 link 01 offsets -\nend\n";
     for (words, to_file, guess) in [
         ("pdp8 guess halt.bin halt.dcl o.cert", true, first),
+        ("pdp8 guess halt.bin halt.dcl o.cert --why", true, first),
         ("pdp8 guess halt.bin 8e.dcl o.cert", true, second),
         ("pdp8 guess halt.bin halt.dcl -", false, first),
     ] {
@@ -492,12 +501,13 @@ fn the_lines_of_a_trace_before_a_failure_are_there(rt: HostRuntime) -> Result<()
 }
 
 /// Words of which something is told, and the status.
-const STATUSES: [(&str, u8); 7] = [
+const STATUSES: [(&str, u8); 8] = [
     ("pdp8 run", 2),
     ("pdp8 run a --steps 0", 2),
     ("pdp8 fly", 2),
     ("pdp8 run bad.bin", 1),
     ("pdp8 list bad.pal", 1),
+    ("pdp8 guess halt.bin wild.dcl o.cert --why", 1),
     ("pdp8 run absent", 3),
     ("pdp8 assemble absent/o halt.pal", 3),
 ];
@@ -508,6 +518,21 @@ fn a_standard_error_that_fails_leaves_the_status(rt: HostRuntime) -> Result<(), 
         let end = run_with_room(rt.alloc(), words, usize::MAX, 0);
         assert_eq!(rt; end.status, *status, "{words}");
         assert!(rt; end.told.is_empty() && end.printed.is_empty(), "{words}");
+    }
+    Ok(())
+}
+
+#[test]
+fn a_word_that_is_no_text_is_told(rt: HostRuntime) -> Result<(), Fail> {
+    for at in [1, 2] {
+        let end = run_spoiled(rt.alloc(), "pdp8 run halt.bin", at);
+        assert_eq!(rt; end.status, 2, "word {at}");
+        let told = b"error: a word of the command line isn't text\n".as_slice();
+        assert_eq!(rt; end.told.as_slice(), told, "word {at}");
+        assert!(rt;
+            end.printed.is_empty() && end.opened.is_empty(),
+            "word {at}"
+        );
     }
     Ok(())
 }

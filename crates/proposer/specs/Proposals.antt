@@ -1,14 +1,14 @@
 -- What is promised of a proposal.
-use Rattle.std.specs.Prelude.{◌≡◌, ℕ, ⊤, List, Option, is_some, true}
+use Rattle.std.specs.Prelude.{◌≡◌, ◌≤◌, ℕ, ⊤, length, List, Option, is_some, true}
 use Rattle.instruct.specs.declared.Profile.{Profile}
 use Rattle.peripherals.specs.Loading.{image_of}
 use Rattle.declaration.specs.Declaration.{IsDeclared}
-use Rattle.declaration.specs.Kept.{Kept, meaning}
-use Rattle.declaration.specs.Text.{Declares}
+use Rattle.declaration.specs.Kept.{Kept, meaning, routines_of}
+use Rattle.declaration.specs.Text.{Declares, ListsRoutines}
 use Rattle.policy.specs.Runs.{IsSafe}
 use Rattle.certificate.specs.Kept as certified
 use Rattle.certificate.specs.Reading.{AreLines}
-use Rattle.certificate.specs.Spelling.{Lines}
+use Rattle.certificate.specs.Spelling.{Lines, text}
 use Rattle.judge.specs.Conditions.{IsFirst, IsValid}
 use Rattle.judge.specs.Judged.{judged}
 use Rattle.declaration.specs.declared.DeclarationFault.TheVariants as declaration_fault
@@ -20,16 +20,18 @@ use Rattle.proposer.specs.declared.ProposeFault.{ProposeFault}
 use Rattle.proposer.specs.declared.ProposeFault.TheVariants.{Undeclarable}
 use Rattle.proposer.specs.declared.Verdict.TheVariants.{Safe, Refused, TurnsSpent}
 
--- The declaration has this start and is for this machine, it keeps the overlap rules, and the text is one of its texts.
+-- The declaration has this start and is for this machine, it keeps the overlap rules, and the text is one of its texts, with
+-- the routines in its order.
 pub record Fits {A : Type 0} (at : ℕ) (machine : Profile) (p : Proposal A) : Type 0 where
   pub start : (meaning p.declaration).start ≡ at
   pub profile : (meaning p.declaration).profile ≡ machine
   pub declared : IsDeclared (meaning p.declaration)
   pub text : Declares p.text.items (meaning p.declaration)
+  pub routines : ListsRoutines p.text.items (routines_of p.declaration)
 
--- A certificate in the version of the declared machine, as a text may have it.
+-- A certificate in the version of the declared machine, of which the text isn't longer than what is read of one.
 abbrev pub IsFor : Kept → Lines → Type 0
-IsFor d ls = AreLines ls × (ls.version ≡ version_of (meaning d).profile)
+IsFor d ls = AreLines ls × (ls.version ≡ version_of (meaning d).profile) × (length (text ls) ≤ 1048576)
 
 -- With a certificate the program keeps the declaration in every run, and every condition holds of that certificate; a
 -- refusal names the first condition that fails, of some certificate, and where.

@@ -1,13 +1,14 @@
 //! Proposes declarations: what a program may do, from its tape and its start alone.
 #![tactic(auto)]
 
-ghost use Rattle.std.specs.Prelude.{ℕ, ◌≡◌, ◌≢◌, ◌≤◌, List, Option, IfOk, IfErr, None, is_some, true};
+ghost use Rattle.std.specs.Prelude.{ℕ, ◌≡◌, ◌≢◌, ◌≤◌, length, List, Option, IfOk, IfErr, None, is_some, true};
 ghost use Rattle.analyser.specs.Versions.{version_of};
 ghost use Rattle.analyser.specs.declared.GuessFault.TheVariants as guess_fault;
 ghost use Rattle.certificate.specs.Kept as certified;
 ghost use Rattle.certificate.specs.Reading.{AreLines};
-ghost use Rattle.declaration.specs.Kept.{Kept, meaning};
-ghost use Rattle.declaration.specs.Text.{Declares};
+ghost use Rattle.certificate.specs.Spelling.{text};
+ghost use Rattle.declaration.specs.Kept.{Kept, meaning, routines_of};
+ghost use Rattle.declaration.specs.Text.{Declares, ListsRoutines};
 ghost use Rattle.proposer.specs.declared.Verdict.TheVariants.{TurnsSpent};
 ghost use Rattle.proposer.specs.Proposals.{Fits, IsListed, IsShown, IsSpentUp, IsTold};
 
@@ -186,6 +187,7 @@ fn relisted<A: Allocator + Copy>(
     ensures start { IfOk result (λ d. (meaning d).start ≡ start) }
     ensures profile { IfOk result (λ d. (meaning d).profile ≡ profile) }
     ensures text { IfOk result (λ d. Declares text.new.items (meaning d)) }
+    ensures routines { IfOk result (λ d. ListsRoutines text.new.items (routines_of d)) }
     ensures listed { IfOk result (λ d. is_some (meaning d).reads ≡ true) }
     ensures faults { IfErr result IsTold }
 {
@@ -277,7 +279,8 @@ fn proposed<A: Allocator + Copy>(
     declaration: Declaration<A>,
     turns: &mut Turns,
 ) -> Result<Proposal<A>, ProposeFault>
-    requires { Declares text.items (meaning declaration) }
+    requires text { Declares text.items (meaning declaration) }
+    requires routines { ListsRoutines text.items (routines_of declaration) }
     ensures fits { IfOk result (Fits map.now.start map.now.profile) }
     ensures shown { IfOk result (λ p. IsShown image.now p.declaration p.verdict) }
     ensures unlisted { IfOk result (λ p. (meaning p.declaration).reads ≡ None) }
@@ -340,6 +343,7 @@ fn tested<A: Allocator>(
     requires lines { AreLines (certified.meaning certificate) }
     requires version { (certified.meaning certificate).version ≡
         version_of (meaning declaration.now).profile }
+    requires short { length (text (certified.meaning certificate)) ≤ 1048576 }
     ensures shown { IsShown image.now declaration.now result }
     ensures spent { result ≢ TurnsSpent }
 {

@@ -10,9 +10,11 @@ mod lines;
 mod reason;
 mod returns;
 mod spot;
+mod stuck;
 mod told;
 mod words;
 
 pub use breach::{Breach, CallBreach, Landing, ReturnBreach};
 pub use gap::Gap;
 pub use reason::{Reason, why};
+pub use stuck::why_stuck;

@@ -12,13 +12,13 @@ abbrev pub TakesAll : {S : Type 0} → (S → List ℕ → S → Type 0) → S �
 TakesAll takes s [] t = s ≡ t
 TakesAll takes s (line ∷ lines) t = (m : _) × takes s line m × TakesAll takes m lines t
 
--- The first of these lines that isn't taken is refused so, and all before it are taken.
-pub record RefusesFirst {S F : Type 0} (takes : S → List ℕ → S → Type 0) (refuses : S → ℕ → List ℕ → F → Type 0)
-    (s : S) (lines : List (List ℕ)) (fault : F) : Type 0 where
+-- The first of these lines that isn't taken is refused so, and all before it are taken; nothing more is done then.
+pub record RefusesFirst {S F : Type 0} (takes : S → List ℕ → S → Type 0) (refuses : S → ℕ → List ℕ → F → S → Type 0)
+    (s : S) (lines : List (List ℕ)) (fault : F) (u : S) : Type 0 where
   pub before : List (List ℕ)
   pub line : List ℕ
   pub number : ℕ
   pub stands : StandsAt lines before line number
   pub t : S
   pub taken : TakesAll takes s before t
-  pub refused : refuses t number line fault
+  pub refused : refuses t number line fault u

@@ -24,11 +24,13 @@ pub trait ByteSource {
 
     /// Fills the front of a piece, and says how much of it. To fill nothing of a piece that isn't
     /// empty is the end of input, and after it there is nothing to read and nothing that can fail.
+    /// Nobody reads on after a read that failed.
     ///
     /// # Errors
     ///
     /// `Failed`, and then the mark is set; no byte that was still to come is lost.
     fn read(&mut self, piece: &mut [u8]) -> Result<usize, Failed>
+        requires { mark self.old ≡ false }
         ensures count { IfOk result (λ n. n ≤ length piece.new) }
         ensures bytes { ReadConsumes (remaining self.old) (remaining self.new) result piece.new }
         ensures marks { mark self.new ≡ (mark self.old || is_err result) }
@@ -50,12 +52,13 @@ pub trait ByteSink {
     ghost mark: { Self → Bool };
 
     /// Takes the front of a piece, and says how much of it. To take nothing of a piece that isn't
-    /// empty counts as a failure, and sets the mark.
+    /// empty counts as a failure, and sets the mark. Nobody writes on after a write that failed.
     ///
     /// # Errors
     ///
     /// `Failed`, and then nothing of the piece was taken and the mark is set.
     fn write(&mut self, piece: &[u8]) -> Result<usize, Failed>
+        requires { mark self.old ≡ false }
         ensures count { IfOk result (λ n. n ≤ length piece.now) }
         ensures bytes { WriteAppends (taken self.old) (taken self.new) result piece.now }
         ensures marks { mark self.new ≡ (mark self.old || write_fails result piece.now) };

@@ -14,8 +14,8 @@ pub trait LineTaker {
     /// How a line that is taken changes the taker.
     ghost takes: { Self → List ℕ → Self → Type 0 };
 
-    /// Why a line of some number may be refused.
-    ghost refuses: { Self → ℕ → List ℕ → Self.Fault → Type 0 };
+    /// Why a line of some number may be refused, and how the taker is changed then.
+    ghost refuses: { Self → ℕ → List ℕ → Self.Fault → Self → Type 0 };
 
     /// Takes a line, whose number counts from 1.
     ///
@@ -24,11 +24,12 @@ pub trait LineTaker {
     /// Why the line is refused.
     fn take(&mut self, number: usize, line: &[u8]) -> Result<(), Self::Fault>
         ensures taken { OnOk result (takes self.old line.now self.new) }
-        ensures refused { IfErr result (refuses self.old number line.now) };
+        ensures refused { IfErr result
+            (λ fault. refuses self.old number line.now fault self.new) };
 }
 
-/// Gives the lines of a text to a taker, in order, up to the first that is refused. What the taker
-/// is left with after a refusal isn't said.
+/// Gives the lines of a text to a taker, in order, up to the first that is refused: each of them
+/// once, and none after that one.
 ///
 /// # Errors
 ///
@@ -36,8 +37,8 @@ pub trait LineTaker {
 pub fn take_lines<T: LineTaker>(taker: &mut T, text: &[u8]) -> Result<(), T::Fault>
     requires { length text.now < 2 ^ 63 }
     ensures taken { OnOk result (TakesAll T.takes taker.old (text_lines text.now) taker.new) }
-    ensures refused { IfErr result
-        (RefusesFirst T.takes T.refuses taker.old (text_lines text.now)) }
+    ensures refused { IfErr result (λ fault.
+        RefusesFirst T.takes T.refuses taker.old (text_lines text.now) fault taker.new) }
 {
     for (index, line) in Lines::of(text).enumerate() {
         if let Err(fault) = taker.take(index + 1, line) {

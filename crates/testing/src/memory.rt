@@ -69,6 +69,13 @@ impl<'a> MemorySource<'a> {
             ended: self.ended,
         }
     }
+
+    /// The bytes still to give.
+    pub fn rest(&self) -> &[u8]
+        ensures { result.now ≡ self.now.rest.now }
+    {
+        self.rest
+    }
 }
 
 impl ByteSource for MemorySource<'_> {

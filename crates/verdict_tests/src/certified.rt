@@ -153,6 +153,27 @@ fn a_certified_program_runs(rt: HostRuntime) -> Result<(), Fail> {
     Ok(())
 }
 
+#[test]
+fn each_request_of_a_certification_may_be_refused(rt: HostRuntime) -> Result<(), Fail> {
+    let tape = tape(rt.alloc(), &[(0o200, &PROGRAM)])?;
+    let text = without(rt.alloc(), HELLO.as_slice(), 0)?;
+    for count in 0..200 {
+        let heap = Refusing::new(rt.alloc(), count);
+        match certify(&heap, tape.bytes(), DECLARED, &text) {
+            Ok(_) => {
+                assert!(rt; count > 1 && !heap.has_refused());
+                return Ok(());
+            }
+            Err(fault) => {
+                assert_eq!(rt; fault, CertifyFault::NoMemory, "request {count}");
+                assert!(rt; heap.has_refused());
+            }
+        }
+    }
+    assert!(rt; false);
+    Ok(())
+}
+
 /// For the number of a line of the certificate that is left out, the verdict.
 const LEFT_OUT: [(usize, &str); 35] = [
     (1, "certificate: Version"),

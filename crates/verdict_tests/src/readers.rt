@@ -139,10 +139,7 @@ fn no_more_is_read_than_the_answer_needs(rt: HostRuntime) -> Result<(), Fail> {
         Certificate::read_from(rt.alloc(), &mut source).err(),
         Some(CertificateFault::TooMany)
     );
-    assert_eq!(rt;
-        bytes_left(&mut source),
-        endless.len().saturating_sub(MOST + 1)
-    );
+    assert_eq!(rt; source.rest().len(), endless.len().saturating_sub(MOST + 1));
     let mut wrong = text(rt.alloc(), &["PDP8-CERTIFICATE 3"])?;
     wrong.extend_from_slice(&endless)?;
     let mut source = MemorySource::new(&wrong);
@@ -150,21 +147,8 @@ fn no_more_is_read_than_the_answer_needs(rt: HostRuntime) -> Result<(), Fail> {
         Certificate::read_from(rt.alloc(), &mut source).err(),
         Some(CertificateFault::Version)
     );
-    assert_eq!(rt; bytes_left(&mut source), wrong.len().saturating_sub(512));
+    assert_eq!(rt; source.rest().len(), wrong.len().saturating_sub(512));
     Ok(())
-}
-
-/// How many bytes a source still gives, up to some four million.
-fn bytes_left(source: &mut MemorySource) -> usize {
-    let mut piece = [0u8; 512];
-    let mut left = 0usize;
-    for _ in 0..8_192u32 {
-        match source.read(&mut piece) {
-            Ok(0) | Err(_) => return left,
-            Ok(count) => left = left.saturating_add(count),
-        }
-    }
-    left
 }
 
 /// The fault of HELLO with another line in place of the one of this number, which counts from 1.

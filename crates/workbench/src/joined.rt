@@ -50,6 +50,13 @@ impl<R: Eprint> io::Write for Teller<'_, R> {
     }
 }
 
+/// Standard error, as a sink of text.
+pub fn tell_to<'r, R: Eprint>(rt: &'r R) -> Writes<Teller<'r, R>>
+    ensures { result.failed ≡ false }
+{
+    Writes::new(Teller { to: rt })
+}
+
 /// Opens an input that may be left out, and then gives no byte.
 fn open_input_if<R: Files + Input>(
     rt: &R,

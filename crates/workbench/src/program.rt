@@ -3,7 +3,7 @@
 ghost use Rattle.std.specs.Prelude.{◌≤◌};
 
 use crate::files::{open_input, open_inputs, open_output};
-use crate::joined::hold_session;
+use crate::joined::{hold_session, tell_to};
 use crate::words::{Refused, Request, parse_words};
 use clap::Error;
 use commands::assembling::{assemble, list};
@@ -14,6 +14,7 @@ use commands::guessing::guess;
 use commands::migrating::migrate;
 use commands::running::{RunOptions, dump, run, run_events};
 use commands::status::{DeviceFault, Fault, Status};
+use commands::stuck::guess_or_explain;
 use commands::watching::watch;
 use instruct::Profile;
 use std::alloc::Global;
@@ -142,7 +143,8 @@ fn answer<R: Files + Input + Print + Eprint>(
             tape,
             declaration,
             out,
-        } => guess_from(rt, alloc, tape, declaration, out),
+            explained,
+        } => guess_from(rt, alloc, tape, declaration, out, *explained),
         Request::Migrate { certificate, out } => migrate_from(rt, alloc, certificate, out),
     }
 }
@@ -243,17 +245,23 @@ fn declare_from<R: Files + Input + Print>(
     declare(alloc, &mut frames, options, &mut text)
 }
 
-/// Guesses a certificate for the tape of a file.
-fn guess_from<R: Files + Input + Print>(
+/// Guesses a certificate for the tape of a file, and says on standard error why the search is stuck
+/// where that is asked for.
+fn guess_from<R: Files + Input + Print + Eprint>(
     rt: &R,
     alloc: Global,
     tape: &str,
     declaration: &str,
     out: &str,
+    explained: bool,
 ) -> Result<Status, Fault> {
     let mut frames = open_input(rt, tape)?;
     let mut text = open_input(rt, declaration)?;
     let mut certificate = open_output(rt, out)?;
+    if explained {
+        let mut report = tell_to(rt);
+        return guess_or_explain(alloc, &mut frames, &mut text, &mut certificate, &mut report);
+    }
     guess(alloc, &mut frames, &mut text, &mut certificate)
 }
 

@@ -97,6 +97,8 @@ pub enum Request<'a> {
         declaration: &'a str,
         /// The name of the file that the certificate goes to.
         out: &'a str,
+        /// Whether it is said why the search is stuck.
+        explained: bool,
     },
     /// To migrate a certificate.
     Migrate {
@@ -296,6 +298,10 @@ fn declare_command<'a>(alloc: Global) -> Result<Command<'a>, AllocError> {
 }
 
 fn guess_command<'a>(alloc: Global) -> Result<Command<'a>, AllocError> {
+    let why = Arg::new(alloc, "why")
+        .long("why")
+        .action(ArgAction::SetTrue)
+        .help("where the search is stuck, writes what the condition asks and what breaks it");
     Command::new(alloc, "guess")
         .about("Looks for a certificate that may show that no run breaks a declaration")
         .after_help(
@@ -303,7 +309,8 @@ fn guess_command<'a>(alloc: Global) -> Result<Command<'a>, AllocError> {
         )
         .arg(tape_word(alloc))?
         .arg(declaration_word(alloc))?
-        .arg(certificate_out_word(alloc))
+        .arg(certificate_out_word(alloc))?
+        .arg(why)
 }
 
 fn migrate_command<'a>(alloc: Global) -> Result<Command<'a>, AllocError> {
@@ -483,6 +490,7 @@ fn guess_request<'a>(found: &ArgMatches<'a>) -> Result<Request<'a>, Refused> {
         tape,
         declaration,
         out: found.get_str("OUT").unwrap_or("-"),
+        explained: found.get_flag("why"),
     })
 }
 

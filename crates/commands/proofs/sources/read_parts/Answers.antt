@@ -5,7 +5,7 @@ use Rattle.std.proofs.lemmas.List.{map-append}
 use Rattle.commands.specs.SourceTexts.{IsShort}
 use Rattle.commands.proofs.PartLemmas.{all_push, none_marked, one_tells, none_more, bad_number, parts_fault}
 use Rattle.commands.proofs.LaterLemmas.{unread_long, unread_failed, read_whole, marked_whole}
-use Rattle.commands.proofs.SourceLemmas.{reads_next, unmarked_next, same_next}
+use Rattle.commands.proofs.SourceLemmas.{reads_next, unmarked_next, same_next, none_taken, takes_next}
 use Rattle.commands.proofs.sources.read_parts.Goals as goal
 
 pub returns-then-is_bad_number-clause-faults : goal.returns-then-is_bad_number-clause-faults
@@ -46,8 +46,15 @@ loop-source-preserved g c =
     within short inv.4 inv.0 c.in-Ok.ensures.read in
     let fit : AllByRecursion IsShort (map (λ part. part.items) (c.loop-source.parts.items ++ c.in-Ok.part ∷ [])) =
     rw (map-append (λ part. part.items) c.loop-source.parts.items (c.in-Ok.part ∷ [])) (all_push IsShort (map (λ part. part.items) c.loop-source.parts.items) c.in-Ok.part.items inv.1 c.in-Ok.ensures.fits) in
-    let none = none_more g.R.ByteSource.mark c.loop-source.sources c.loop-source.source-index c.read_part.new.source within inv.2 (search rules) in
-    (rw pushed reads, rw pushed fit, none, search (rules, unmarked_next), same_next c.loop-source.sources c.args.sources.now c.loop-source.source-index c.read_part.new.source within short inv.4, inv.5)
+    let none = none_more g.R.ByteSource.mark c.loop-source.sources c.loop-source.source-index c.read_part.new.source within inv.2 (search rules) in (
+      rw pushed reads,
+      rw pushed fit,
+      none,
+      search (rules, unmarked_next),
+      same_next c.loop-source.sources c.args.sources.now c.loop-source.source-index c.read_part.new.source within short inv.4,
+      inv.5,
+      takes_next 65537 g.R.ByteSource.remaining c.loop-source.sources c.args.sources.now c.loop-source.source-index c.source-item.result c.read_part.new.source within short inv.4 inv.6 c.in-Ok.ensures.takes,
+    )
 
 pub returns-then-is_err-clause-unread : goal.returns-then-is_err-clause-unread
 returns-then-is_err-clause-unread g c = λ at long.
@@ -82,3 +89,23 @@ returns-clause-unread_after_failure g c = λ at there.
     let inv = c.loop-source.invariant in
     let past : length c.loop-source.sources ≤ c.loop-source.source-index = search rules in
     marked_whole g.R.ByteSource.mark c.loop-source.sources c.args.sources.now c.loop-source.source-index at past inv.2 there
+
+pub returns-then-is_bad_number-clause-takes : goal.returns-then-is_bad_number-clause-takes
+returns-then-is_bad_number-clause-takes g c = none_taken 65537 (map g.R.ByteSource.remaining c.args.sources.now)
+
+pub returns-then-is_err-clause-takes : goal.returns-then-is_err-clause-takes
+returns-then-is_err-clause-takes g c =
+    let inv = c.loop-source.invariant in
+    let within : c.loop-source.source-index < length c.loop-source.sources = search rules in
+    let short : c.loop-source.source-index < length c.args.sources.now = search rules in
+    takes_next 65537 g.R.ByteSource.remaining c.loop-source.sources c.args.sources.now c.loop-source.source-index c.source-item.result c.read_part.new.source within short inv.4 inv.6 c.in-Ok.ensures.takes
+
+pub returns-in-Err-clause-takes : goal.returns-in-Err-clause-takes
+returns-in-Err-clause-takes g c =
+    let inv = c.loop-source.invariant in
+    let within : c.loop-source.source-index < length c.loop-source.sources = search rules in
+    let short : c.loop-source.source-index < length c.args.sources.now = search rules in
+    takes_next 65537 g.R.ByteSource.remaining c.loop-source.sources c.args.sources.now c.loop-source.source-index c.source-item.result c.read_part.new.source within short inv.4 inv.6 c.in-Err.ensures.takes
+
+pub returns-clause-takes : goal.returns-clause-takes
+returns-clause-takes g c = c.loop-source.invariant.6

@@ -5,4 +5,4 @@ pub returns-in-Ok-clause-found : goal.returns-in-Ok-clause-found
 returns-in-Ok-clause-found g c = spells_text (λ list. list.events.items) _ c.take_lines.new.taker c.args.text.now c.requires c.new.ensures.items c.in-Ok.ensures.taken
 
 pub returns-in-Err-clause-refused : goal.returns-in-Err-clause-refused
-returns-in-Err-clause-refused g c = fails_text (λ list. list.events.items) _ c.args.text.now c.in-Err.fault c.requires c.new.ensures.items c.in-Err.ensures.refused
+returns-in-Err-clause-refused g c = fails_text (λ list. list.events.items) _ c.take_lines.new.taker c.args.text.now c.in-Err.fault c.requires c.new.ensures.items c.in-Err.ensures.refused

@@ -1,0 +1,43 @@
+use Rattle.std.proofs.Common.{◌≡◌, ◌++◌, ◌∙◌, ap, subst, drop, refl, [], sym, List, ℕ}
+use Rattle.std.proofs.KnownBytes.{Appends-nil, Appends-trans}
+use Rattle.std.specs.Io.KnownBytes.{Appends}
+use Rattle.certificate.specs.Line.{Line, IsLine, line_text, ended, all_ended}
+use Rattle.certificate.specs.Meaning.{said}
+use Rattle.certificate.specs.Order.{details_of_last}
+use Rattle.certificate.specs.Packed.{said_lines}
+use Rattle.certificate.proofs.PutLemmas.{each_line}
+use Rattle.certificate.proofs.FactTextLemmas.{detail_next, detail_over, detail_past, detail_cut}
+use Rattle.certificate.proofs.spelled.put_details.Goals as goal
+
+pub put_line-requires : goal.put_line-requires
+put_line-requires g c =
+    each_line (IsLine c.args.version) (said_lines c.args.lines.now) c.loop-at.at (said c.line-line.result) c.requires.form (rw c.len-at-end.ensures at c.loop-at-test.true) c.line-line.ensures
+
+pub loop-at-init : goal.loop-at-init
+loop-at-init g c = record {
+  wrote = [];
+  whole = Appends-nil (g.W.ByteSink.taken c.args.sink.now);
+  left = refl;
+  mark = c.requires.unmarked;
+}
+
+pub loop-at-preserved : goal.loop-at-preserved
+loop-at-preserved g c =
+    let l = said c.line-line.result in
+    let e : c.deref.result.now ≡ ended (line_text c.args.version l) = c.deref.ensures.0 ∙ c.put_line.ensures in
+    record {
+      wrote = c.loop-at.invariant.wrote ++ ended (line_text c.args.version l);
+      whole = Appends-trans (g.W.ByteSink.taken c.args.sink.now) (g.W.ByteSink.taken c.loop-at.sink) (g.W.ByteSink.taken c.put.new.sink) c.loop-at.invariant.wrote (ended (line_text c.args.version l))
+          c.loop-at.invariant.whole (rw e at c.in_default.ensures.whole);
+      left = detail_next c.args.version (said_lines c.args.lines.now) c.loop-at.at l c.loop-at.invariant.wrote _ c.line-line.ensures (sym c.is_detail.ensures ∙ c.if-not-is_detail.false) c.loop-at.invariant.left;
+      mark = c.in_default.ensures.marks;
+    }
+
+pub returns-in-Err-clause-front : goal.returns-in-Err-clause-front
+returns-in-Err-clause-front g c =
+    let v = c.args.version in
+    let ls = said_lines c.args.lines.now in
+    let l = said c.line-line.result in
+    let e : c.deref.result.now ≡ ended (line_text v l) = c.deref.ensures.0 ∙ c.put_line.ensures in
+    detail_cut (g.W.ByteSink.taken c.args.sink.now) (g.W.ByteSink.taken c.loop-at.sink) (g.W.ByteSink.taken c.put.new.sink) v ls c.loop-at.at l c.loop-at.invariant.wrote
+    (all_ended v (details_of_last (drop c.args.start ls))) c.deref.result.now c.line-line.ensures (sym c.is_detail.ensures ∙ c.if-not-is_detail.false) c.loop-at.invariant.left c.loop-at.invariant.whole e c.in-Err.ensures.front

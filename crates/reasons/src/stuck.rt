@@ -1,0 +1,201 @@
+//! Why a search for a certificate is stuck at an address, by a draft of what it found until then.
+
+ghost use Rattle.std.specs.Prelude.{◌≡◌, false, true, IfSome, Some};
+ghost use Rattle.declaration.specs.Kept as declared;
+ghost use Rattle.facts.specs.declared.Condition.TheVariants.{V7};
+ghost use Rattle.judge.specs.Judged.{judged};
+ghost use Rattle.reasons.specs.Reasons.{Explains};
+ghost use Rattle.reasons.specs.Stuck.{IsToldOf, is_of_lines, is_call_of_lines, is_landing_of_lines, is_return_of_lines, is_word_of_lines};
+
+use crate::breach::{Breach, CallBreach, Landing, ReturnBreach};
+use crate::reason::{Reason, why};
+use bin_tape::Image;
+use declaration::Declaration;
+use facts::Condition;
+use judge::{Claims, Refusal};
+use std::alloc::Allocator;
+use word12::Word;
+
+/// The conditions in the order in which they are asked: first those that a word breaks by itself, then
+/// those on calls and returns, then those on where a run goes on.
+const ORDER: [Condition; 11] = [
+    Condition::V3,
+    Condition::V5,
+    Condition::V14,
+    Condition::V13,
+    Condition::V15,
+    Condition::V7,
+    Condition::V9,
+    Condition::V12,
+    Condition::V4,
+    Condition::V10,
+    Condition::V11,
+];
+
+impl Landing {
+    /// Whether the fact is missing or too narrow.
+    fn is_of_lines(&self) -> bool
+        ensures { result ≡ is_landing_of_lines self.now }
+    {
+        match self {
+            Landing::NoFact | Landing::Excluded(_) => true,
+            Landing::OtherBody => false,
+        }
+    }
+}
+
+impl CallBreach {
+    /// Whether a line is missing or too narrow.
+    fn is_of_lines(&self) -> bool
+        ensures { result ≡ is_call_of_lines self.now }
+    {
+        match self {
+            CallBreach::NoEntry | CallBreach::TooHigh => false,
+            CallBreach::NotListed
+            | CallBreach::NotLower(_, _)
+            | CallBreach::Writes(_)
+            | CallBreach::EntryNotWritten
+            | CallBreach::WritesCaller
+            | CallBreach::NoSite => true,
+            CallBreach::Enters(landing) | CallBreach::Returns(_, landing) => landing.is_of_lines(),
+        }
+    }
+}
+
+impl ReturnBreach {
+    /// Whether a line is missing or too narrow.
+    fn is_of_lines(&self) -> bool
+        ensures { result ≡ is_return_of_lines self.now }
+    {
+        match self {
+            ReturnBreach::OtherRoutine | ReturnBreach::NotDeclared(_) => false,
+            ReturnBreach::NoExit(_) | ReturnBreach::Excluded(_, _) => true,
+        }
+    }
+}
+
+impl Breach {
+    /// Whether a line is missing or too narrow.
+    fn is_of_lines(&self) -> bool
+        ensures { result ≡ is_word_of_lines self.now }
+    {
+        match self {
+            Breach::WritesUnlisted(_) => true,
+            Breach::Calls(_, call) => call.is_of_lines(),
+            Breach::Returns(_, back) => back.is_of_lines(),
+            Breach::GoesOn(_, landing) => landing.is_of_lines(),
+            _ => false,
+        }
+    }
+}
+
+impl Reason {
+    /// Whether a line is missing or too narrow, which a longer search would mend.
+    fn is_of_lines(&self) -> bool
+        ensures { result ≡ is_of_lines self.now }
+    {
+        match self {
+            Reason::TooManyWords(_) => false,
+            Reason::ByWord(_, breach) => breach.is_of_lines(),
+            _ => true,
+        }
+    }
+}
+
+/// Why a condition fails at an address, if it isn't that lines are missing or too narrow.
+fn why_by_words<A: Allocator, C: Claims>(
+    image: &Image,
+    declaration: &Declaration<A>,
+    claims: &C,
+    refusal: &Refusal,
+) -> Option<Reason>
+    ensures explained { IfSome result (Explains
+        (judged image.now declaration.now (C.claims claims.now))
+        refusal.now.condition refusal.now.address) }
+    ensures by_words { IfSome result (λ reason. is_of_lines reason ≡ false) }
+{
+    let reason = why(image, declaration, claims, refusal)?;
+    if reason.is_of_lines() {
+        return None;
+    }
+    Some(reason)
+}
+
+/// The first condition that fails at an address, not for want of lines, and why.
+fn why_here<A: Allocator, C: Claims>(
+    image: &Image,
+    declaration: &Declaration<A>,
+    claims: &C,
+    at: Word,
+) -> Option<(Refusal, Reason)>
+    ensures explained { IfSome result (λ found. Explains
+        (judged image.now declaration.now (C.claims claims.now))
+        found.0.condition found.0.address found.1) }
+    ensures here { IfSome result (λ found. found.0.address ≡ at) }
+    ensures by_words { IfSome result (λ found. is_of_lines found.1 ≡ false) }
+{
+    for condition in ORDER {
+        let refusal = Refusal {
+            condition,
+            address: at,
+        };
+        if let Some(reason) = why_by_words(image, declaration, claims, &refusal) {
+            return Some((refusal, reason));
+        }
+    }
+    None
+}
+
+/// The first call in the body of the routine of an entry that isn't of a lower rank, or else may not
+/// be made.
+fn why_around<A: Allocator, C: Claims>(
+    image: &Image,
+    declaration: &Declaration<A>,
+    claims: &C,
+    entry: Word,
+) -> Option<(Refusal, Reason)>
+    ensures explained { IfSome result (λ found. Explains
+        (judged image.now declaration.now (C.claims claims.now))
+        found.0.condition found.0.address found.1) }
+    ensures calls { IfSome result (λ found. found.0.condition ≡ V7) }
+    ensures inside { IfSome result (λ found.
+        (declared.meaning declaration.now).body (Some entry) found.0.address ≡ true) }
+{
+    for index in 0..4096usize {
+        let refusal = Refusal {
+            condition: Condition::V7,
+            address: Word::from_index(index),
+        };
+        if declaration.in_body(entry, refusal.address) {
+            if let Some(reason) = why(image, declaration, claims, &refusal) {
+                return Some((refusal, reason));
+            }
+        }
+    }
+    None
+}
+
+/// Why a search is stuck at an address, by a draft of what it found until then: the first condition
+/// that fails there, and why; or, where the address is an entry, a call in its routine's body. That
+/// lines are missing or too narrow at the address isn't told, since a draft lacks what wasn't come to.
+///
+/// No memory is taken, so none can be refused.
+pub fn why_stuck<A: Allocator, C: Claims>(
+    image: &Image,
+    declaration: &Declaration<A>,
+    claims: &C,
+    at: Word,
+) -> Option<(Refusal, Reason)>
+    // The condition fails where it is told to, since it is so.
+    ensures explained { IfSome result (λ found. Explains
+        (judged image.now declaration.now (C.claims claims.now))
+        found.0.condition found.0.address found.1) }
+    // It is told of that address, or of a call in the body of its routine.
+    ensures place { IfSome result (λ found.
+        IsToldOf (declared.meaning declaration.now) at found.0 found.1) }
+{
+    if let Some(found) = why_here(image, declaration, claims, at) {
+        return Some(found);
+    }
+    why_around(image, declaration, claims, at)
+}

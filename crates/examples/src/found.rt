@@ -2,6 +2,7 @@
 
 use crate::{ROOM, file, tape_of, verdict};
 use commands::declaring::{DeclareOptions, declare};
+use commands::explaining::explain;
 use commands::guessing::guess;
 use commands::migrating::migrate;
 use commands::status::Status;
@@ -100,8 +101,24 @@ pub fn is_declared<R: Files + AllocGlobal>(
     Ok(safe && said.bytes().starts_with(b"yes: ") && few && listed)
 }
 
-/// Whether of the loader, which stores wherever a tape says, it is told that this store is why nothing is
-/// found.
+/// Whether of the loader, which stores wherever a tape says, it is told that this store is why its
+/// certificate is refused.
+pub fn is_told_of_its_store<R: Files + AllocGlobal>(rt: &R) -> anyhow::Result<bool> {
+    let tape = tape_of(rt, "rim", ".pal", Profile::Pdp8I)?;
+    let declaration = file(rt, "rim", ".declaration")?;
+    let certificate = file(rt, "rim", ".certificate")?;
+    let mut out = MemorySink::new(rt.alloc(), ROOM);
+    explain(
+        rt.alloc(),
+        &mut MemorySource::new(tape.bytes()),
+        &mut MemorySource::new(&declaration),
+        &mut MemorySource::new(&certificate),
+        &mut out,
+    )?;
+    Ok(out.bytes() == file(rt, "rim", ".why")?.as_slice())
+}
+
+/// Whether of the loader it is told that this store is why nothing is found.
 pub fn is_stuck_at_its_store<R: Files + AllocGlobal>(rt: &R) -> anyhow::Result<bool> {
     let tape = tape_of(rt, "rim", ".pal", Profile::Pdp8I)?;
     let options = DeclareOptions {

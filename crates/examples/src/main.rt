@@ -5,7 +5,9 @@
 
 mod found;
 
-use crate::found::{is_declared, is_guessed, is_migrated, is_stuck_at_its_store};
+use crate::found::{
+    is_declared, is_guessed, is_migrated, is_stuck_at_its_store, is_told_of_its_store,
+};
 use commands::assembling::assemble;
 use commands::checking::check;
 use commands::running::{RunOptions, run_events};
@@ -158,7 +160,12 @@ fn main(rt: HostRuntime) -> anyhow::Result<()> {
         let declared = is_declared(&rt, name, *profile)?;
         println!(&rt; "{name}: guessed {guessed}, migrated {migrated}, declared {declared}")?;
     }
-    let told = is_stuck_at_its_store(&rt)?;
-    println!(&rt; "rim: not certified, for its store {told}")?;
+    let broken = watches(&rt, "rim", ".pal", ".watch", Profile::Pdp8I)?;
+    let no = checks(&rt, "rim", ".pal", ".check", Profile::Pdp8I)?;
+    let told = is_told_of_its_store(&rt)?;
+    let stuck = is_stuck_at_its_store(&rt)?;
+    println!(&rt;
+        "rim: watched {broken}, checked {no}, told of its store {told}, stuck at it {stuck}"
+    )?;
     Ok(())
 }

@@ -4,6 +4,8 @@
 #[cfg(test)]
 mod desk;
 #[cfg(test)]
+mod failing;
+#[cfg(test)]
 mod program;
 #[cfg(test)]
 mod sessions;

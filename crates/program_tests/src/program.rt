@@ -203,6 +203,101 @@ fn help_is_printed(rt: HostRuntime) -> Result<(), Fail> {
     Ok(())
 }
 
+/// Words that ask for help, and a line of it: how the command is used, which file is emptied first, an
+/// example, and the statuses.
+const HELP_LINES: [(&str, &str); 27] = [
+    ("pdp8 help run", "Usage: pdp8 run [OPTIONS] <TAPE>"),
+    ("pdp8 help run", "  pdp8 run hello.bin --start 200 --trace"),
+    ("pdp8 dump --help", "Usage: pdp8 dump [OPTIONS] <TAPE>"),
+    ("pdp8 dump --help", "  pdp8 dump hello.bin"),
+    (
+        "pdp8 help assemble",
+        "Usage: pdp8 assemble [OPTIONS] <OUT> <SOURCE>...",
+    ),
+    (
+        "pdp8 help assemble",
+        "OUT comes first, and is emptied before a source is read, also where the source is refused.",
+    ),
+    ("pdp8 help assemble", "  pdp8 assemble hello.bin hello.pal"),
+    ("pdp8 help list", "Usage: pdp8 list [OPTIONS] <SOURCE>..."),
+    ("pdp8 help list", "  pdp8 list hello.pal"),
+    (
+        "pdp8 help watch",
+        "Usage: pdp8 watch <TAPE> <DECLARATION> <EVENTS>",
+    ),
+    (
+        "pdp8 help watch",
+        "  pdp8 watch hello.bin hello.declaration hello.events",
+    ),
+    (
+        "pdp8 help check",
+        "Usage: pdp8 check [OPTIONS] <TAPE> <DECLARATION> <CERTIFICATE>",
+    ),
+    (
+        "pdp8 help check",
+        "  pdp8 check hello.bin hello.declaration hello.certificate --why",
+    ),
+    (
+        "pdp8 help declare",
+        "Usage: pdp8 declare [OPTIONS] <TAPE> <OUT>",
+    ),
+    (
+        "pdp8 help declare",
+        "  <OUT>   where the declaration goes, or - for standard output; it is emptied first",
+    ),
+    (
+        "pdp8 help declare",
+        "  pdp8 declare hello.bin hello.declaration",
+    ),
+    (
+        "pdp8 help guess",
+        "Usage: pdp8 guess [OPTIONS] <TAPE> <DECLARATION> <OUT>",
+    ),
+    (
+        "pdp8 help guess",
+        "  <OUT>          where the certificate goes, or - for standard output; it is emptied first",
+    ),
+    (
+        "pdp8 help guess",
+        "  pdp8 guess hello.bin hello.declaration hello.certificate",
+    ),
+    (
+        "pdp8 help migrate",
+        "Usage: pdp8 migrate <CERTIFICATE> <OUT>",
+    ),
+    (
+        "pdp8 help migrate",
+        "OUT is another file: it is emptied before the certificate is read, also where that is refused.",
+    ),
+    (
+        "pdp8 help migrate",
+        "  pdp8 migrate hello.certificate hello-2.certificate",
+    ),
+    ("pdp8 help", "  0  done"),
+    ("pdp8 help", "  2  bad words"),
+    ("pdp8 help", "  3  a file or a stream failed"),
+    ("pdp8 help", "  4  memory was refused"),
+    ("pdp8 --version", "pdp8 1.0"),
+];
+
+/// Whether a text has a line.
+fn has_line(text: &[u8], wanted: &str) -> bool {
+    match str::from_utf8(text) {
+        Ok(text) => text.split('\n').any(|line| line == wanted),
+        Err(_) => false,
+    }
+}
+
+#[test]
+fn help_has_its_lines(rt: HostRuntime) -> Result<(), Fail> {
+    for (words, line) in &HELP_LINES {
+        let end = run_program(rt.alloc(), words);
+        assert_eq!(rt; end.status, Status::Done.code(), "{words}");
+        assert!(rt; has_line(&end.printed, line), "{words}: {line}");
+    }
+    Ok(())
+}
+
 /// The program with these words opens these files, and ends with this status and this line of a
 /// fault; nothing else is written.
 fn is_refused(alloc: Global, words: &str, status: Status, told: &str, opened: &str) -> bool {

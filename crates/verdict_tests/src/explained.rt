@@ -10,6 +10,7 @@ use commands::stuck::guess_or_explain;
 use declaration::Declaration;
 use judge::judge;
 use reasons::why;
+use std::alloc::Global;
 use std::test::Fail;
 use testing::memory::{MemorySink, MemorySource};
 
@@ -85,6 +86,191 @@ fn what_breaks_a_condition_is_told(rt: HostRuntime) -> Result<(), Fail> {
             told.push(b'\n')?;
         }
         assert_eq!(rt; out.bytes(), told.as_slice(), "line {number}");
+    }
+    Ok(())
+}
+
+/// The words of a program from 0200 on, its declaration and its certificate, which fails a condition, and
+/// what is told then.
+type Failing = (&'static [u16], &'static str, &'static str, &'static str);
+
+/// A routine at 0202 that stores into 0205: JMS 0202, HLT, 0, DCA 0205, JMP I 0202, 0.
+const STORING: &[u16] = &[0o4202, 0o7402, 0, 0o3205, 0o5602, 0];
+
+/// Programs that fail a condition of one address.
+const AT_ONE_ADDRESS: [Failing; 5] = [
+    // CLA, HLT: there is a fact past the body, where the tape has no word.
+    (
+        &[0o7200, 0o7402],
+        "start 0200\nmain 0200-0201\nstop 0201\n",
+        "PDP8-CERTIFICATE 1\n\
+        fact 0200 ac 0000-7777 link 01 offsets -\n\
+        fact 0201 ac 0000 link 01 offsets -\n\
+        fact 0202 ac 0000 link 01 offsets -\nend\n",
+        "no: V2 at 0202\n\
+        V2 asks: a fact is in a body, with offsets in routines alone; routine and exit lines are at entries\n\
+        a fact is there, and the address is in no body\n\
+        fact 0202 ac 0000 link 01 offsets -\n",
+    ),
+    // MQL, HLT: the first is a word of the 8/E.
+    (
+        &[0o7421, 0o7402],
+        "start 0200\nmain 0200-0201\nstop 0201\n",
+        "PDP8-CERTIFICATE 1\n\
+        fact 0200 ac 0000-7777 link 01 offsets -\n\
+        fact 0201 ac 0000 link 01 offsets -\nend\n",
+        "no: V3 at 0200\n0200 7421 ?\n\
+        V3 asks: at most 64 words are possible, and each is supported\n\
+        it isn't supported\n\
+        fact 0200 ac 0000-7777 link 01 offsets -\n",
+    ),
+    // CLA, DCA 0210, HLT: 0210 is no variable.
+    (
+        &[0o7200, 0o3210, 0o7402],
+        "start 0200\nmain 0200-0202\nstop 0202\n",
+        "PDP8-CERTIFICATE 1\n\
+        fact 0200 ac 0000-7777 link 01 offsets -\n\
+        fact 0201 ac 0000 link 01 offsets -\n\
+        fact 0202 ac 0000 link 01 offsets -\nend\n",
+        "no: V5 at 0201\n0201 3210 DCA C010\n\
+        V5 asks: each cell that a word may write, a JMS's own apart, is a variable or an entry\n\
+        it may write 0210, which is neither a variable nor an entry\n\
+        fact 0201 ac 0000 link 01 offsets -\n",
+    ),
+    // The halt isn't declared.
+    (
+        &[0o7200, 0o7402],
+        "start 0200\nmain 0200-0201\n",
+        "PDP8-CERTIFICATE 1\n\
+        fact 0200 ac 0000-7777 link 01 offsets -\n\
+        fact 0201 ac 0000 link 01 offsets -\nend\n",
+        "no: V13 at 0201\n0201 7402 HLT\n\
+        V13 asks: a HLT is at a declared halt\n\
+        it halts, and no halt is declared there\n\
+        fact 0201 ac 0000 link 01 offsets -\n",
+    ),
+    // CLA, TAD 0203, HLT, 5: the list of reads leaves 0203 out.
+    (
+        &[0o7200, 0o1203, 0o7402, 5],
+        "start 0200\nmain 0200-0202\nstop 0202\nread 0204\n",
+        "PDP8-CERTIFICATE 1\n\
+        fact 0200 ac 0000-7777 link 01 offsets -\n\
+        fact 0201 ac 0000 link 01 offsets -\n\
+        fact 0202 ac 0005 link 01 offsets -\nend\n",
+        "no: V15 at 0201\n0201 1203 TAD C003\n\
+        V15 asks: each cell that a word may read is on the list of reads, or the routine's entry\n\
+        it may read 0203, which isn't on the list of reads\n\
+        fact 0201 ac 0000 link 01 offsets -\n",
+    ),
+];
+
+/// Programs that fail a condition on routines.
+const IN_ROUTINES: [Failing; 5] = [
+    // The routine's line says that it writes nothing.
+    (
+        STORING,
+        "start 0200\nmain 0200-0201\nsub 0202 body 0203-0204 returns 0\nvar 0205\nstop 0201\n",
+        "PDP8-CERTIFICATE 1\n\
+        routine 0202 rank 00 sites 0200 writes -\n\
+        fact 0200 ac 0000-7777 link 01 offsets -\n\
+        fact 0201 ac 0000 link 01 offsets -\n\
+        fact 0203 ac 0000-7777 link 01 offsets 0\n\
+        fact 0204 ac 0000 link 01 offsets 0\n\
+        exit 0202 0 ac 0000 link 01\nend\n",
+        "no: V6 at 0203\n0203 3205 DCA C005\n\
+        V6 asks: each cell that a word may write, a JMS's own apart, is in the routine's written set, or its entry\n\
+        it may write 0205, which isn't in the routine's written set\n\
+        fact 0203 ac 0000-7777 link 01 offsets 0\n",
+    ),
+    // No routine is declared.
+    (
+        STORING,
+        "start 0200\nmain 0200-0201 0203-0204\nvar 0205\nstop 0201\n",
+        "PDP8-CERTIFICATE 1\n\
+        fact 0200 ac 0000-7777 link 01 offsets -\n\
+        fact 0201 ac 0000-7777 link 01 offsets -\nend\n",
+        "no: V7 at 0200\n0200 4202 JMS C002\n\
+        V7 asks: a JMS calls listed entries of lower rank, and not through an auto-index cell\n\
+        it calls 0202, which isn't an entry\n\
+        fact 0200 ac 0000-7777 link 01 offsets -\n",
+    ),
+    // The caller's written set leaves out the callee's entry.
+    (
+        &[0o4202, 0o7402, 0, 0o4205, 0o5602, 0, 0o5605],
+        "start 0200\nmain 0200-0201\nsub 0202 body 0203-0204 returns 0\nsub 0205 body 0206 returns 0\nstop 0201\n",
+        "PDP8-CERTIFICATE 1\n\
+        routine 0202 rank 01 sites 0200 writes -\n\
+        routine 0205 rank 00 sites 0203 writes -\n\
+        fact 0200 ac 0000-7777 link 01 offsets -\n\
+        fact 0201 ac 0000-7777 link 01 offsets -\n\
+        fact 0203 ac 0000-7777 link 01 offsets 0\n\
+        fact 0204 ac 0000-7777 link 01 offsets 0\n\
+        fact 0206 ac 0000-7777 link 01 offsets 0\n\
+        exit 0202 0 ac 0000-7777 link 01\n\
+        exit 0205 0 ac 0000-7777 link 01\nend\n",
+        "no: V8 at 0203\n0203 4205 JMS C005\n\
+        V8 asks: what a callee may write, and its entry, are in the caller's written set, and the caller's entry isn't in the callee's\n\
+        it calls 0205, which the caller's written set doesn't have\n\
+        fact 0203 ac 0000-7777 link 01 offsets 0\n",
+    ),
+    // The declared offset is another.
+    (
+        STORING,
+        "start 0200\nmain 0200-0201\nsub 0202 body 0203-0204 returns 1\nvar 0205\nstop 0201\n",
+        "PDP8-CERTIFICATE 1\n\
+        routine 0202 rank 00 sites 0200 writes 0205\n\
+        fact 0200 ac 0000-7777 link 01 offsets -\n\
+        fact 0201 ac 0000 link 01 offsets -\n\
+        fact 0203 ac 0000-7777 link 01 offsets 0\n\
+        fact 0204 ac 0000 link 01 offsets 0\n\
+        exit 0202 0 ac 0000 link 01\nend\n",
+        "no: V12 at 0204\n0204 5602 JMP I C002\n\
+        V12 asks: a return is the routine's own, by declared offsets, and the exit lines allow what is possible\n\
+        it returns through 0202 by offset 0, which isn't declared\n\
+        fact 0204 ac 0000 link 01 offsets 0\n",
+    ),
+    // The callee counts up its caller's return word.
+    (
+        &[0o4202, 0o7402, 0, 0o4205, 0o5602, 0, 0o2202, 0o5605],
+        "start 0200\nmain 0200-0201\nsub 0202 body 0203-0204 returns 0\nsub 0205 body 0206-0207 returns 0\nstop 0201\n",
+        "PDP8-CERTIFICATE 1\n\
+        routine 0202 rank 01 sites 0200 writes 0205\n\
+        routine 0205 rank 00 sites 0203 writes -\n\
+        fact 0200 ac 0000-7777 link 01 offsets -\n\
+        fact 0201 ac 0000-7777 link 01 offsets -\n\
+        fact 0203 ac 0000-7777 link 01 offsets 0\n\
+        fact 0204 ac 0000-7777 link 01 offsets 0\n\
+        fact 0206 ac 0000-7777 link 01 offsets 0\n\
+        fact 0207 ac 0000-7777 link 01 offsets 0\n\
+        exit 0202 0 ac 0000-7777 link 01\n\
+        exit 0205 0 ac 0000-7777 link 01\nend\n",
+        "no: V14 at 0206\n0206 2202 ISZ C002\n\
+        V14 asks: no word writes an entry, save that a JMS enters it and ISZ may count the routine's own\n\
+        it may write 0202, which is an entry\n\
+        fact 0206 ac 0000-7777 link 01 offsets 0\n",
+    ),
+];
+
+/// Whether a program that fails a condition is told of as it should be.
+fn is_told(alloc: Global, failing: &Failing) -> Result<bool, Fail> {
+    let (words, declared, text, wanted) = failing;
+    let frames = tape(alloc, &[(0o200, words)])?;
+    let mut out = MemorySink::new(alloc, 1000);
+    let ended = explain(
+        alloc,
+        &mut MemorySource::new(frames.bytes()),
+        &mut MemorySource::new(declared.as_bytes()),
+        &mut MemorySource::new(text.as_bytes()),
+        &mut out,
+    );
+    Ok(ended == Ok(Status::Refused) && out.bytes() == wanted.as_bytes())
+}
+
+#[test]
+fn each_other_condition_is_told(rt: HostRuntime) -> Result<(), Fail> {
+    for failing in AT_ONE_ADDRESS.iter().chain(IN_ROUTINES.iter()) {
+        let (_, _, _, wanted) = failing;
+        assert!(rt; is_told(rt.alloc(), failing)?, "{wanted}");
     }
     Ok(())
 }

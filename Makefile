@@ -33,15 +33,10 @@ install: run
 	install -D -m 644 share/pdp8.1 $(PREFIX)/share/man/man1/pdp8.1
 	install -D -m 644 share/pdp8.bash $(PREFIX)/share/bash-completion/completions/pdp8
 
-# Times the machine, the tapes, the sets, the assembler, the watcher and the facts; needs Debian's simh and palbart.
+# Times all that is timed, script after script: machine, tapes, sets, assembler, watcher, facts, certificates, guesses, an
+# archive. Needs Debian's simh and palbart, and rustc for the plain programs beside ours.
 bench:
-	bench/run.sh
-	bench/tapes.sh
-	bench/start.sh
-	bench/wordset.sh
-	bench/assembler.sh
-	bench/watch.sh
-	bench/facts.sh
+	for script in bench/*.sh; do echo "$$script"; $$script || exit 1; done
 
 # Lays out the sources.
 fmt:

@@ -2,8 +2,8 @@
 """Runs the sessions that stand in pages of docs/, and compares what is said with what the pages say.
 
 A block of code whose first line is ```NAME file, as ```halt.pal file, is written to the file NAME. In a block that begins
-with ```console each line after "$ " is a command of bash, and the lines below it up to the next command are what it
-prints on standard output and standard error; a blank line at the end of a block counts. One folder serves one page.
+with ```console each line after "$ " is a command of bash, which goes on in the next line after a backslash, and the lines
+below it up to the next command are what it prints on standard output and standard error; a blank line at the end of a block counts. One folder serves one page.
 
 usage: tests/pages.py PDP8 PAGE..    PDP8 is the built program, as crates/pdp8/out/pdp8
 """
@@ -37,6 +37,8 @@ def commands(first, lines):
     for number, line in enumerate(lines, first):
         if line.startswith('$ '):
             found.append((number, line[2:], []))
+        elif found and not found[-1][2] and found[-1][1].endswith('\\'):
+            found[-1] = (found[-1][0], found[-1][1][:-1] + line.strip(), [])
         elif found:
             found[-1][2].append(line)
     return found

@@ -1,0 +1,41 @@
+#!/bin/bash
+# Times an archive of a thousand tapes, which print HELLO with other first letters each: side by side by xargs, as many at a
+# time as there are processors, each checked, and then each declared, guessed and checked from its tape alone. Prints the
+# time that passes, the least of three runs, and sees to it that each gets its yes.
+# PDP8 names a built program in place of this repository's.
+set -euo pipefail
+top=$(cd "$(dirname "$0")/.." && pwd)
+program=${PDP8:-$top/crates/pdp8/out/pdp8}
+work=$(mktemp -d)
+trap 'rm -r "$work"' EXIT
+[ -x "$program" ] || (cd "$top/crates/pdp8" && rt run <stdin >"$work/built" 2>&1) || { cat "$work/built"; exit 1; }
+cd "$work"
+for number in $(seq -w 0 999); do
+    # The first two letters are others, with channel 8 set.
+    sed "s/ 310;305;314;314;317/ $(printf '%o;%o' $((192 + 10#$number % 64)) $((192 + 10#$number / 64)));305;314;317/" \
+        "$top/examples/hello.pal" >source.pal
+    "$program" assemble "$number.bin" source.pal
+    cp "$top/examples/hello.declaration" "$number.declaration"
+    "$program" guess "$number.bin" "$number.declaration" "$number.certificate"
+done
+checked() {
+    ls ./*.bin | sed 's/\.bin$//' | xargs -P "$(nproc)" -I NAME sh -c \
+        "$program check NAME.bin NAME.declaration NAME.certificate >NAME.verdict 2>&1 || echo NAME"
+}
+alone() {
+    ls ./*.bin | sed 's/\.bin$//' | xargs -P "$(nproc)" -I NAME sh -c \
+        "$program declare NAME.bin NAME.proposed && $program guess NAME.bin NAME.proposed NAME.found && \
+         $program check NAME.bin NAME.proposed NAME.found >NAME.verdict 2>&1 || echo NAME"
+}
+TIMEFORMAT=%R
+# The least of three runs, none of which may name a tape.
+least() {
+    for _ in 1 2 3; do
+        { time "$1" >named; } 2>&1
+        if [ -s named ]; then echo "$(wc -l <named) tapes got no yes" >&2; exit 1; fi
+    done | sort -n | head -1
+}
+best=$(least checked)
+echo "$best seconds to check a thousand tapes, $(nproc) at a time"
+best=$(least alone)
+echo "$best seconds to declare, guess and check them from their tapes alone"

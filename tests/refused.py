@@ -1,0 +1,114 @@
+#!/usr/bin/env python3
+"""Refuses pdp8 each request for memory in turn, command by command, until a run ends without a refusal.
+
+A library is laid over malloc and realloc (by cc and LD_PRELOAD), which refuses the request of a given number once. Where one
+was refused the status must be 4, `pdp8: memory: NoMemory` must stand on standard error, alone but for what a session reports
+there, and nothing may be in OUT or on standard output but the punch's bytes and the front of a trace or of what was typed.
+Where none was, the run must end as without the library; so it may where a refusal changes nothing, which is counted: the
+system's own start asks for memory too.
+
+usage: tests/refused.py PDP8    PDP8 is the built program, as crates/pdp8/out/pdp8
+"""
+import os
+import subprocess
+import sys
+import tempfile
+
+DATA = os.path.join(os.path.dirname(os.path.abspath(__file__)), '..', 'crates', 'examples', 'data')
+SHIM = r'''
+#define _GNU_SOURCE
+#include <dlfcn.h>
+#include <fcntl.h>
+#include <stdlib.h>
+#include <unistd.h>
+static long left = -1;
+static void *(*next_malloc)(size_t), *(*next_realloc)(void *, size_t);
+__attribute__((constructor)) static void start(void) {
+    next_malloc = (void *(*)(size_t))dlsym(RTLD_NEXT, "malloc");
+    next_realloc = (void *(*)(void *, size_t))dlsym(RTLD_NEXT, "realloc");
+    const char *at = getenv("REFUSED_AT");
+    left = at ? atol(at) : -1;
+}
+/* Whether this request is the one that is refused, which is told by a file. */
+static int refused(void) {
+    if (left < 0 || left-- > 0) return 0;
+    const char *told = getenv("REFUSED_TOLD");
+    if (told) close(open(told, O_CREAT, 0600));
+    return 1;
+}
+void *malloc(size_t size) { return next_malloc ? (refused() ? 0 : next_malloc(size)) : 0; }
+void *realloc(void *old, size_t size) { return refused() ? 0 : next_realloc(old, size); }
+'''
+COMMANDS = ['assemble OUT hello.pal', 'list hello.pal', 'dump TAPE', 'run TAPE', 'run TAPE --trace --steps 20', 'run TAPE --events hello.events',
+            'run TAPE --teletype --punch OUT', 'watch TAPE hello.declaration hello.events', 'check TAPE hello.declaration hello.certificate',
+            'check TAPE rim.declaration hello.certificate --why', 'declare TAPE OUT', 'guess TAPE hello.declaration OUT',
+            'guess TAPE halts.declaration OUT --why', 'migrate hello.certificate OUT', '--help', '--version', 'run', 'run TAPE --steps 0']
+
+
+def run(pdp8, words, folder, extra):
+    """Status, standard output, standard error and OUT of a run."""
+    out = os.path.join(folder, 'OUT')
+    if os.path.exists(out):
+        os.remove(out)
+    done = subprocess.run([pdp8, *words.split()], cwd=folder, env={**os.environ, **extra}, stdin=subprocess.DEVNULL,
+                          stdout=subprocess.PIPE, stderr=subprocess.PIPE, timeout=60)
+    written = b''
+    if os.path.exists(out):
+        with open(out, 'rb') as file:
+            written = file.read()
+    return done.returncode, done.stdout, done.stderr, written
+
+
+def is_told(answer, words, whole):
+    """Whether an answer is that of a run to which memory was refused."""
+    status, printed, told, written = answer
+    line = b'pdp8: memory: NoMemory\n'
+    if status != 4 or not told.endswith(line) or written and '--punch' not in words:
+        return False
+    fronts = printed == b'' or '--t' in words and whole[1].startswith(printed)
+    return fronts and (told == line or '--teletype' in words)
+
+
+def in_turn(pdp8, words, folder, shim):
+    """How many requests a command makes, how many refusals changed nothing, and the first answer that is none of these."""
+    told = os.path.join(folder, 'told')
+    whole = run(pdp8, words, folder, {})
+    spared = 0
+    for count in range(100_000):
+        if os.path.exists(told):
+            os.remove(told)
+        answer = run(pdp8, words, folder, {'LD_PRELOAD': shim, 'REFUSED_AT': str(count), 'REFUSED_TOLD': told})
+        if answer == whole:
+            if not os.path.exists(told):
+                return count, spared, None
+            spared += 1
+        elif not is_told(answer, words, whole):
+            return count, spared, answer
+    return count, spared, 'no end'
+
+
+def main():
+    if len(sys.argv) != 2:
+        sys.exit(__doc__)
+    pdp8 = os.path.abspath(sys.argv[1])
+    wrong = 0
+    with tempfile.TemporaryDirectory() as folder:
+        source, shim = os.path.join(folder, 'shim.c'), os.path.join(folder, 'shim.so')
+        with open(source, 'w', encoding='utf-8') as file:
+            file.write(SHIM)
+        subprocess.run(['cc', '-shared', '-fPIC', '-O1', '-o', shim, source, '-ldl'], check=True)
+        for name in ('hello.pal', 'hello.declaration', 'hello.certificate', 'hello.events', 'rim.declaration'):
+            with open(os.path.join(DATA, name), 'rb') as file, open(os.path.join(folder, name), 'wb') as copy:
+                copy.write(file.read())
+        with open(os.path.join(folder, 'halts.declaration'), 'w', encoding='utf-8') as file:
+            file.write('start 0200\nmain 0200-0213\nsub 0214 body 0215-0221 returns 0\nvar 0010 0224\n')
+        subprocess.run([pdp8, 'assemble', 'TAPE', 'hello.pal'], cwd=folder, check=True)
+        for words in COMMANDS:
+            count, spared, answer = in_turn(pdp8, words, folder, shim)
+            print(f'pdp8 {words}: {count} requests, {spared} refusals changed nothing' + (f', WRONG {answer}' if answer else ''))
+            wrong += answer is not None
+    sys.exit(1 if wrong else 0)
+
+
+if __name__ == '__main__':
+    main()

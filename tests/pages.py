@@ -1,18 +1,21 @@
 #!/usr/bin/env python3
-"""Runs the sessions that stand in pages of docs/, and compares what is said with what the pages say.
+"""Runs the sessions that stand in pages, README.md and those of docs/, and compares what is said with what the pages say.
 
 A block of code whose first line is ```NAME file, as ```halt.pal file, is written to the file NAME. In a block that begins
 with ```console each line after "$ " is a command of bash, which goes on in the next line after a backslash, and the lines
-below it up to the next command are what it prints on standard output and standard error; a blank line at the end of a block counts. One folder serves one page.
+below it up to the next command are what it prints on standard output and standard error; a blank line at the end of a block
+counts. One folder serves one page; the files of examples/ are in it first, and the tapes of their sources as NAME.tape.
 
 usage: tests/pages.py PDP8 PAGE..    PDP8 is the built program, as crates/pdp8/out/pdp8
 """
 import os
 import re
+import shutil
 import subprocess
 import sys
 import tempfile
 
+EXAMPLES = os.path.join(os.path.dirname(os.path.abspath(__file__)), '..', 'crates', 'examples', 'data')
 FENCE = re.compile(r'^```(\S*)(?: (file))?\s*$')
 
 
@@ -52,10 +55,20 @@ def run(command, folder, program):
     return done.stdout.decode('utf-8', 'replace').splitlines()
 
 
+def fill(folder, program):
+    """Copies the examples, and assembles those for the PDP-8/I."""
+    for name in os.listdir(EXAMPLES):
+        shutil.copy(os.path.join(EXAMPLES, name), folder)
+        if name.endswith('.pal'):
+            tape = os.path.join(folder, name[:-len('.pal')] + '.tape')
+            subprocess.run([program, 'assemble', tape, os.path.join(folder, name)], stderr=subprocess.DEVNULL, check=False)
+
+
 def check(path, program):
     """How many commands of a page were run, and how many said something else than the page."""
     count = wrong = 0
     with open(path, encoding='utf-8') as page, tempfile.TemporaryDirectory() as folder:
+        fill(folder, program)
         for word, is_file, first, lines in blocks(page.read()):
             if is_file:
                 with open(os.path.join(folder, word), 'w', encoding='utf-8') as file:

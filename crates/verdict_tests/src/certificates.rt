@@ -1,6 +1,6 @@
 //! Certificates: the program that prints HELLO, with one change or another.
 
-use certificate::{Certificate, CertificateFault, Version};
+use certificate::{Certificate, CertificateFault, Version, WriteFault};
 use std::alloc::{AllocError, Allocator, Global};
 use std::test::Fail;
 use testing::Refusing;
@@ -82,6 +82,18 @@ fn certificates_are_read_and_written(rt: HostRuntime) -> Result<(), Fail> {
     let mut sink = MemorySink::new(rt.alloc(), 65_536);
     certificate.write(&mut sink)?;
     assert_eq!(rt; sink.bytes(), text.as_slice());
+    Ok(())
+}
+
+#[test]
+fn a_front_of_a_certificate_goes_out_where_a_write_fails(rt: HostRuntime) -> Result<(), Fail> {
+    let text = text(rt.alloc(), HELLO.as_slice())?;
+    let certificate = Certificate::parse(rt.alloc(), &text)?;
+    for room in 0..text.len() {
+        let mut sink = MemorySink::new(rt.alloc(), room);
+        assert_eq!(rt; certificate.write(&mut sink), Err(WriteFault));
+        assert_eq!(rt; sink.bytes(), &text.as_slice()[..room]);
+    }
     Ok(())
 }
 

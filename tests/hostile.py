@@ -3,7 +3,7 @@
 
 Each input comes from the programs of crates/examples/data: tapes, sources, declarations, events and certificates, of which
 bytes are changed, left out, doubled, put in or exchanged with another file's, or from random bytes. A run that ends by a
-signal, takes more than a minute, or says something that isn't named is a failure. Where the answer is yes, the run by the
+signal, takes more than a minute of processor time, or says something that isn't named is a failure. Where the answer is yes, the run by the
 program's events is watched, and must be clean. The same seed gives the same runs.
 
 usage: tests/hostile.py PDP8 [COUNT [SEED]]    PDP8 is the built program, as crates/pdp8/out/pdp8
@@ -12,6 +12,8 @@ import multiprocessing
 import os
 import random
 import re
+import resource
+import signal
 import subprocess
 import sys
 import tempfile
@@ -113,18 +115,24 @@ def job(chance, programs):
     return one, words, files, bad, said
 
 
+def limited():
+    """A minute of processor time, whatever else the machine has to do."""
+    resource.setrlimit(resource.RLIMIT_CPU, (60, 60))
+
+
 def ended(pdp8, words, folder):
     try:
-        return subprocess.run([pdp8, *words], cwd=folder, stdin=subprocess.DEVNULL, stdout=subprocess.PIPE,
-                              stderr=subprocess.PIPE, timeout=60)
+        done = subprocess.run([pdp8, *words], cwd=folder, stdin=subprocess.DEVNULL, stdout=subprocess.PIPE,
+                              stderr=subprocess.PIPE, timeout=1800, preexec_fn=limited)
     except subprocess.TimeoutExpired:
         return None
+    return None if done.returncode == -signal.SIGKILL else done
 
 
 def fails(done, said):
     """What is wrong with a run, or nothing."""
     if done is None:
-        return 'it took more than a minute'
+        return 'it took more than a minute of processor time'
     if done.returncode not in (0, 1):
         return f'it ended with {done.returncode}: {done.stderr!r}'
     if done.stderr:

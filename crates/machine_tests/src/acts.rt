@@ -45,11 +45,24 @@ fn permanent<A: Allocator + Copy>(alloc: A) -> Option<SymbolTable<A>> {
     Some(table)
 }
 
+/// Acts with the terms of their expressions, each on a line of its own.
+fn acts_of<A: Allocator + Copy>(alloc: A, rows: &[(Act, &[Join])]) -> Option<Acts<A>> {
+    let mut acts = Acts::new(alloc);
+    for (at, (act, terms)) in rows.iter().enumerate() {
+        let place = Place {
+            part: 1,
+            line: at + 1,
+        };
+        acts.keep(place, *act, terms).ok()?;
+    }
+    Some(acts)
+}
+
 /// The word that an expression is at 0200.
 fn word_of<A: Allocator + Copy>(alloc: A, joins: &[Join]) -> Option<u16> {
     let permanent = permanent(alloc)?;
-    let acts = [Act::Word(joins)];
-    match assemble(alloc, &permanent, acts.as_slice()) {
+    let acts = acts_of(alloc, &[(Act::Word, joins)])?;
+    match assemble(alloc, &permanent, &acts) {
         Ok(found) => found
             .image
             .get(Word::from_index(0o200))
@@ -58,12 +71,14 @@ fn word_of<A: Allocator + Copy>(alloc: A, joins: &[Join]) -> Option<u16> {
     }
 }
 
-/// Why acts are refused, if they are.
-fn refusal<A: Allocator + Copy>(alloc: A, acts: &[Act<'_>]) -> Option<Refused> {
+/// The line of the act that is refused, and why; none where the acts have a meaning or memory was
+/// refused.
+fn refusal<A: Allocator + Copy>(alloc: A, rows: &[(Act, &[Join])]) -> Option<(usize, Code)> {
     let permanent = permanent(alloc)?;
-    match assemble(alloc, &permanent, acts) {
-        Ok(_) => None,
-        Err(refused) => Some(refused),
+    let acts = acts_of(alloc, rows)?;
+    match assemble(alloc, &permanent, &acts) {
+        Err(Refused::Fault(place, code)) => Some((place.line, code)),
+        _ => None,
     }
 }
 
@@ -129,33 +144,44 @@ fn the_first_fault_is_told(rt: HostRuntime) -> Result<(), Fail> {
     let two = [number(Sign::Or, 2)];
     let far = [symbol(b"TAD"), number(Sign::Or, 0o600)];
     let unknown = [symbol(b"TAD"), symbol(b"Q")];
-    let acts = [Act::Word(far.as_slice())];
     assert_eq!(rt;
-        refusal(alloc, acts.as_slice()),
-        Some(Refused::Fault(0, Code::IllegalReference))
+        refusal(alloc, &[(Act::Word, far.as_slice())]),
+        Some((1, Code::IllegalReference))
     );
-    let acts = [Act::Tag(x), Act::Word(one.as_slice()), Act::Tag(x)];
     assert_eq!(rt;
-        refusal(alloc, acts.as_slice()),
-        Some(Refused::Fault(2, Code::DuplicateTag))
+        refusal(
+            alloc,
+            &[
+                (Act::Tag(x), &[]),
+                (Act::Word, one.as_slice()),
+                (Act::Tag(x), &[])
+            ]
+        ),
+        Some((3, Code::DuplicateTag))
     );
-    let acts = [
-        Act::Assign(x, one.as_slice()),
-        Act::Assign(x, two.as_slice()),
-    ];
     assert_eq!(rt;
-        refusal(alloc, acts.as_slice()),
-        Some(Refused::Fault(1, Code::Redefined))
+        refusal(
+            alloc,
+            &[
+                (Act::Assign(x), one.as_slice()),
+                (Act::Assign(x), two.as_slice())
+            ]
+        ),
+        Some((2, Code::Redefined))
     );
-    let acts = [Act::Word(unknown.as_slice()), Act::LastPause];
     assert_eq!(rt;
-        refusal(alloc, acts.as_slice()),
-        Some(Refused::Fault(1, Code::PauseInLastPart))
+        refusal(
+            alloc,
+            &[(Act::Word, unknown.as_slice()), (Act::LastPause, &[])]
+        ),
+        Some((2, Code::PauseInLastPart))
     );
-    let acts = [Act::Origin(unknown.as_slice()), Act::Tag(x)];
     assert_eq!(rt;
-        refusal(alloc, acts.as_slice()),
-        Some(Refused::Fault(0, Code::Undefined))
+        refusal(
+            alloc,
+            &[(Act::Origin, unknown.as_slice()), (Act::Tag(x), &[])]
+        ),
+        Some((1, Code::Undefined))
     );
     Ok(())
 }
@@ -166,19 +192,25 @@ fn symbols_are_defined_in_order(rt: HostRuntime) -> Result<(), Fail> {
     let to_b = [symbol(b"TAD"), symbol(b"I"), symbol(b"B")];
     let here = [number(Sign::Or, 0o200)];
     let five = [number(Sign::Or, 5)];
-    let acts = [
-        Act::Tag(start),
-        Act::Word(to_b.as_slice()),
-        Act::Tag(b),
-        Act::Word(five.as_slice()),
-        Act::Origin(here.as_slice()),
-        Act::Tag(start),
-        Act::Word(five.as_slice()),
-    ];
+    let acts = acts_of(
+        rt.alloc(),
+        &[
+            (Act::Tag(start), &[]),
+            (Act::Word, to_b.as_slice()),
+            (Act::Tag(b), &[]),
+            (Act::Word, five.as_slice()),
+            (Act::Origin, here.as_slice()),
+            (Act::Tag(start), &[]),
+            (Act::Word, five.as_slice()),
+        ],
+    );
+    let Some(acts) = acts else {
+        panic!(rt; "no memory");
+    };
     let Some(permanent) = permanent(rt.alloc()) else {
         panic!(rt; "no memory");
     };
-    match assemble(rt.alloc(), &permanent, acts.as_slice()) {
+    match assemble(rt.alloc(), &permanent, &acts) {
         Ok(found) => {
             assert_eq!(rt; found.symbols.own.len(), 2);
             assert_eq!(rt; found.symbols.get(start), Some(Word::from_index(0o200)));
@@ -210,7 +242,8 @@ fn permanent_symbols_are_those_of_the_profile(rt: HostRuntime) -> Result<(), Fai
     for (letters, under_8i, under_8e) in &SYMBOLS {
         for (profile, expected) in [(Profile::Pdp8I, *under_8i), (Profile::Pdp8E, *under_8e)] {
             let permanent = permanent_table(rt.alloc(), profile)?;
-            let Ok(found) = assemble(rt.alloc(), &permanent, &[]) else {
+            let none = Acts::new(rt.alloc());
+            let Ok(found) = assemble(rt.alloc(), &permanent, &none) else {
                 panic!(rt; "refused");
             };
             let value = found.symbols.get(name(letters));

@@ -13,9 +13,10 @@ use Rattle.pal_acts.specs.declared.act.Join.{Join}
 use Rattle.pal_acts.specs.declared.act.Act.{Act}
 use Rattle.pal_acts.specs.declared.act.Act.TheVariants as act
 use Rattle.pal_acts.specs.declared.code.Code.{Code}
+use Rattle.pal_acts.specs.Acts.{PlacedAct}
 use Rattle.pal_acts.specs.Values.{same, Values, in_table, term_value, joined, value_after, value, or_zero}
-use Rattle.pal_acts.specs.Meaning.{location, givings, has, with_name, names, IsTermOf, Names, IsLawful, IsGiven, Defines}
-use Rattle.pal_acts.specs.Faults.{giving_fault, giving_table, fault, after, origin_fault, assign_fault, assign_table}
+use Rattle.pal_acts.specs.Meaning.{location_after, location, giving, givings, has, with_name, names_after, names, IsTermOf, Names, IsLawfulAct, IsLawful, IsGiven, Defines}
+use Rattle.pal_acts.specs.Faults.{giving_fault, giving_table, fault, after, origin_fault, assign_fault, assign_table, next_fault, next_table}
 use Rattle.pal_acts.proofs.Table.{lookup-left, lookup-right, has_lookup}
 
 -- two ways to give values, the same on these names
@@ -68,36 +69,39 @@ has-with ns n m h =
       | inr not ↦ rw not (has-append ns (n ∷ []) m h)
     ]
 
-pub weaker : (ns : List Name) (n : Name) (σ τ : Values) → Agrees (with_name ns n) σ τ → Agrees ns σ τ
-weaker ns n σ τ e m h = e m (has-with ns n m h)
+pub has-after : (ns : List Name) (m : Name) (a : Act) → has ns m ≡ true → has (names_after ns a) m ≡ true
+has-after ns m (act.Tag n) h = has-with ns n m h
+has-after ns m (act.Assign n) h = has-with ns n m h
+has-after ns m _ h = h
 
-pub location_agree : (perm : List Name) (σ τ : Values) (before : List Act) → IsLawful perm before → Agrees (names perm before) σ τ → location σ before ≡ location τ before
-location_agree perm σ τ [] h e = refl
-location_agree perm σ τ (act.Origin x ∷ before) h e =
-    ap or_zero (ap (λ l. value σ l x.now) (location_agree perm σ τ before h.1 e) ∙ value_agree (names perm before) σ τ (location τ before) 0 x.now h.0 e)
-location_agree perm σ τ (act.Word x ∷ before) h e = ap (λ l. (l + 1) % 4096) (location_agree perm σ τ before h e)
-location_agree perm σ τ (act.Tag n ∷ before) h e = location_agree perm σ τ before h (weaker (names perm before) n σ τ e)
-location_agree perm σ τ (act.Assign n x ∷ before) h e = location_agree perm σ τ before h.1 (weaker (names perm before) n σ τ e)
-location_agree perm σ τ (act.Wrong c ∷ before) h e = absurd h
-location_agree perm σ τ (act.LastPause ∷ before) h e = absurd h
+pub weaker : (ns : List Name) (a : Act) (σ τ : Values) → Agrees (names_after ns a) σ τ → Agrees ns σ τ
+weaker ns a σ τ e m h = e m (has-after ns m a h)
 
-pub givings_agree : (perm : List Name) (σ τ : Values) (before : List Act) → IsLawful perm before → Agrees (names perm before) σ τ → givings σ before ≡ givings τ before
-givings_agree perm σ τ [] h e = refl
-givings_agree perm σ τ (act.Origin x ∷ before) h e = givings_agree perm σ τ before h.1 e
-givings_agree perm σ τ (act.Word x ∷ before) h e = givings_agree perm σ τ before h e
-givings_agree perm σ τ (act.Tag n ∷ before) h e =
-    let e' : Agrees (names perm before) σ τ = weaker (names perm before) n σ τ e in
-    let a : location σ before ≡ location τ before = location_agree perm σ τ before h e' in
-    let b : givings σ before ≡ givings τ before = givings_agree perm σ τ before h e' in
-    λ i. (n, a i) ∷ b i
-givings_agree perm σ τ (act.Assign n x ∷ before) h e =
-    let e' : Agrees (names perm before) σ τ = weaker (names perm before) n σ τ e in
-    let a : location σ before ≡ location τ before = location_agree perm σ τ before h.1 e' in
-    let v : or_zero (value σ (location σ before) x.now) ≡ or_zero (value τ (location τ before) x.now) = ap or_zero (ap (λ l. value σ l x.now) a ∙ value_agree (names perm before) σ τ (location τ before) 0 x.now h.0 e') in
-    let b : givings σ before ≡ givings τ before = givings_agree perm σ τ before h.1 e' in
-    λ i. (n, v i) ∷ b i
-givings_agree perm σ τ (act.Wrong c ∷ before) h e = absurd h
-givings_agree perm σ τ (act.LastPause ∷ before) h e = absurd h
+-- an act moves the location to the same place
+moved_agree : (ns : List Name) (σ τ : Values) (here : ℕ) (e : List Join) (a : Act) → IsLawfulAct ns e a → Agrees ns σ τ → location_after σ here e a ≡ location_after τ here e a
+moved_agree ns σ τ here e act.Origin h g = ap or_zero (value_agree ns σ τ here 0 e h g)
+moved_agree ns σ τ here e _ h g = refl
+
+pub location_agree : (perm : List Name) (σ τ : Values) (before : List PlacedAct) → IsLawful perm before → Agrees (names perm before) σ τ → location σ before ≡ location τ before
+location_agree perm σ τ [] h g = refl
+location_agree perm σ τ (a ∷ before) h g =
+    let earlier : Agrees (names perm before) σ τ = weaker (names perm before) a.act σ τ g in
+    ap (λ l. location_after σ l a.terms a.act) (location_agree perm σ τ before h.1 earlier) ∙ moved_agree (names perm before) σ τ (location τ before) a.terms a.act h.0 earlier
+
+-- and gives the same value
+giving_agree : (ns : List Name) (σ τ : Values) (here : ℕ) (e : List Join) (a : Act) → IsLawfulAct ns e a → Agrees ns σ τ → giving σ here e a ≡ giving τ here e a
+giving_agree ns σ τ here e (act.Assign n) h g = ap (λ v. (n, or_zero v) ∷ []) (value_agree ns σ τ here 0 e h g)
+giving_agree ns σ τ here e _ h g = refl
+
+pub givings_agree : (perm : List Name) (σ τ : Values) (before : List PlacedAct) → IsLawful perm before → Agrees (names perm before) σ τ → givings σ before ≡ givings τ before
+givings_agree perm σ τ [] h g = refl
+givings_agree perm σ τ (a ∷ before) h g =
+    let earlier : Agrees (names perm before) σ τ = weaker (names perm before) a.act σ τ g in
+    let here : location σ before ≡ location τ before = location_agree perm σ τ before h.1 earlier in
+    let one : giving σ (location σ before) a.terms a.act ≡ giving τ (location τ before) a.terms a.act =
+    ap (λ l. giving σ l a.terms a.act) here ∙ giving_agree (names perm before) σ τ (location τ before) a.terms a.act h.0 earlier in
+    let rest : givings σ before ≡ givings τ before = givings_agree perm σ τ before h.1 earlier in
+    λ i. one i ++ rest i
 
 -- a longer table keeps the values of the names that had one
 pub grows : (t more : List (Name × ℕ)) → Agrees (keys_of t) (in_table t) (in_table (t ++ more))
@@ -124,13 +128,13 @@ pub keys-append : (xs ys : List (Name × ℕ)) → keys_of (xs ++ ys) ≡ keys_o
 keys-append xs ys = map-append (λ e. e.0) xs ys
 
 -- a name is given a value: what the table is then
-pub record Given (perm : List (Name × ℕ)) (before : List Act) (t u : List (Name × ℕ)) (n : Name) (v : ℕ) : Type 0 where
+pub record Given (perm : List (Name × ℕ)) (before : List PlacedAct) (t u : List (Name × ℕ)) (n : Name) (v : ℕ) : Type 0 where
   pub order : keys_of u ≡ with_name (names (keys_of perm) before) n
   pub value_is : in_table u n ≡ Some v
   pub others : AllByRecursion (IsGiven (in_table u)) (givings (in_table u) before)
   pub agrees : Agrees (names (keys_of perm) before) (in_table t) (in_table u)
 
-given_old : (perm : List (Name × ℕ)) (limit : ℕ) (before : List Act) (symbols : List (Name × ℕ)) (n : Name) (v w : ℕ) (code : Code)
+given_old : (perm : List (Name × ℕ)) (limit : ℕ) (before : List PlacedAct) (symbols : List (Name × ℕ)) (n : Name) (v w : ℕ) (code : Code)
     → Defines perm limit before symbols → in_table (perm ++ symbols) n ≡ Some w → giving_fault code limit (length symbols) (Some w) v ≡ None
     → Given perm before (perm ++ symbols) (perm ++ symbols) n v
 given_old perm limit before symbols n v w code d is none = elim (cases_Bool (nat_eq w v)) [
@@ -143,7 +147,7 @@ given_old perm limit before symbols n v w code d is none = elim (cases_Bool (nat
   | inr ne ↦ cc (rw ne at none)
 ]
 
-given_new : (perm : List (Name × ℕ)) (limit : ℕ) (before : List Act) (symbols : List (Name × ℕ)) (n : Name) (v : ℕ)
+given_new : (perm : List (Name × ℕ)) (limit : ℕ) (before : List PlacedAct) (symbols : List (Name × ℕ)) (n : Name) (v : ℕ)
     → Defines perm limit before symbols → in_table (perm ++ symbols) n ≡ None
     → Given perm before (perm ++ symbols) (perm ++ (symbols ++ (n, v) ∷ [])) n v
 given_new perm limit before symbols n v d is =
@@ -166,22 +170,22 @@ room_new limit v symbols n code h none = elim (cases_lt (length symbols) limit) 
 ]
 
 -- what a name's being given a value leaves
-pub record Gives (perm : List (Name × ℕ)) (limit : ℕ) (before : List Act) (symbols new : List (Name × ℕ)) (n : Name) (v : ℕ) : Type 0 where
+pub record Gives (perm : List (Name × ℕ)) (limit : ℕ) (before : List PlacedAct) (symbols new : List (Name × ℕ)) (n : Name) (v : ℕ) : Type 0 where
   pub given : Given perm before (perm ++ symbols) (perm ++ new) n v
   pub room : length new ≤ limit
 
-give_on : (perm : List (Name × ℕ)) (limit : ℕ) (before : List Act) (symbols : List (Name × ℕ)) (n : Name) (v : ℕ) (code : Code) (o : Option ℕ)
+give_on : (perm : List (Name × ℕ)) (limit : ℕ) (before : List PlacedAct) (symbols : List (Name × ℕ)) (n : Name) (v : ℕ) (code : Code) (o : Option ℕ)
     → Defines perm limit before symbols → in_table (perm ++ symbols) n ≡ o → giving_fault code limit (length symbols) o v ≡ None
     → Gives perm limit before symbols (giving_table symbols n o v) n v
 give_on perm limit before symbols n v code None d is none = record { given = given_new perm limit before symbols n v d is; room = room_new limit v symbols n code d.room none }
 give_on perm limit before symbols n v code (Some w) d is none = record { given = given_old perm limit before symbols n v w code d is none; room = d.room }
 
 -- an act with no fault
-pub record Moves (perm : List (Name × ℕ)) (limit : ℕ) (before : List Act) (next : Act) (symbols new : List (Name × ℕ)) : Type 0 where
+pub record Moves (perm : List (Name × ℕ)) (limit : ℕ) (before : List PlacedAct) (next : PlacedAct) (symbols new : List (Name × ℕ)) : Type 0 where
   pub defines : Defines perm limit (next ∷ before) new
   pub here : location (in_table (perm ++ symbols)) (next ∷ before) ≡ location (in_table (perm ++ new)) (next ∷ before)
 
-assign_on : (perm : List (Name × ℕ)) (limit : ℕ) (before : List Act) (symbols : List (Name × ℕ)) (n : Name) (e : List Join) (o : Option ℕ)
+assign_on : (perm : List (Name × ℕ)) (limit : ℕ) (before : List PlacedAct) (symbols : List (Name × ℕ)) (n : Name) (e : List Join) (o : Option ℕ)
     → Defines perm limit before symbols → value (in_table (perm ++ symbols)) (location (in_table (perm ++ symbols)) before) e ≡ o
     → assign_fault perm limit symbols n o ≡ None
     → Gives perm limit before symbols (assign_table perm limit symbols n o) n (or_zero o) × Names (names (keys_of perm) before) e
@@ -191,42 +195,48 @@ assign_on perm limit before symbols n e (Some v) d is none = (
   subst (λ ns. Names ns e) d.order (value_closed (perm ++ symbols) (location (in_table (perm ++ symbols)) before) 0 v e is),
 )
 
-origin_on : (perm : List (Name × ℕ)) (limit : ℕ) (before : List Act) (symbols : List (Name × ℕ)) (e : List Join) (o : Option ℕ)
+origin_on : (perm : List (Name × ℕ)) (limit : ℕ) (before : List PlacedAct) (symbols : List (Name × ℕ)) (e : List Join) (o : Option ℕ)
     → Defines perm limit before symbols → value (in_table (perm ++ symbols)) (location (in_table (perm ++ symbols)) before) e ≡ o
     → origin_fault o ≡ None → Names (names (keys_of perm) before) e
 origin_on perm limit before symbols e None d is none = cc
 origin_on perm limit before symbols e (Some v) d is none = subst (λ ns. Names ns e) d.order (value_closed (perm ++ symbols) (location (in_table (perm ++ symbols)) before) 0 v e is)
 
--- where an act has no fault, the symbols after it are those of the acts with it, and the location is what it was
-pub moves : (perm : List (Name × ℕ)) (limit : ℕ) (before : List Act) (next : Act) (symbols : List (Name × ℕ))
-    → Defines perm limit before symbols → fault perm limit symbols before next ≡ None
-    → Moves perm limit before next symbols (after perm limit symbols before next)
-moves perm limit before (act.Wrong c) symbols d none = cc
-moves perm limit before act.LastPause symbols d none = cc
-moves perm limit before (act.Word e) symbols d none = record { defines = record { order = d.order; one_value = d.one_value; lawful = d.lawful; room = d.room }; here = refl }
-moves perm limit before (act.Origin e) symbols d none = record {
-  defines = record { order = d.order; one_value = d.one_value; lawful = (origin_on perm limit before symbols e.now _ d refl none, d.lawful); room = d.room };
-  here = refl;
-}
-moves perm limit before (act.Tag n) symbols d none =
+-- what an act with no fault leaves, by what it is
+record MovesBy (perm : List (Name × ℕ)) (limit : ℕ) (before : List PlacedAct) (e : List Join) (a : Act) (symbols new : List (Name × ℕ)) : Type 0 where
+  order : keys_of (perm ++ new) ≡ names_after (names (keys_of perm) before) a
+  one_value : AllByRecursion (IsGiven (in_table (perm ++ new))) (giving (in_table (perm ++ new)) (location (in_table (perm ++ new)) before) e a ++ givings (in_table (perm ++ new)) before)
+  lawful : IsLawfulAct (names (keys_of perm) before) e a
+  room : length new ≤ limit
+  here : location_after (in_table (perm ++ symbols)) (location (in_table (perm ++ symbols)) before) e a ≡ location_after (in_table (perm ++ new)) (location (in_table (perm ++ new)) before) e a
+
+moves_by : (perm : List (Name × ℕ)) (limit : ℕ) (before : List PlacedAct) (e : List Join) (a : Act) (symbols : List (Name × ℕ))
+    → Defines perm limit before symbols → fault perm limit symbols (location (in_table (perm ++ symbols)) before) e a ≡ None
+    → MovesBy perm limit before e a symbols (after perm limit symbols (location (in_table (perm ++ symbols)) before) e a)
+moves_by perm limit before e (act.Wrong c) symbols d none = cc
+moves_by perm limit before e act.LastPause symbols d none = cc
+moves_by perm limit before e act.Word symbols d none = record { order = d.order; one_value = d.one_value; lawful = tt; room = d.room; here = refl }
+moves_by perm limit before e act.Origin symbols d none = record { order = d.order; one_value = d.one_value; lawful = origin_on perm limit before symbols e _ d refl none; room = d.room; here = refl }
+moves_by perm limit before e (act.Tag n) symbols d none =
     let σ : Values = in_table (perm ++ symbols) in
     let new : List (Name × ℕ) = giving_table symbols n (σ n) (location σ before) in
     let g : Gives perm limit before symbols new n (location σ before) = give_on perm limit before symbols n (location σ before) _ (σ n) d refl none in
     let same_here : location σ before ≡ location (in_table (perm ++ new)) before = location_agree (keys_of perm) σ (in_table (perm ++ new)) before d.lawful g.given.agrees in
-    record {
-      defines = record { order = g.given.order; one_value = (g.given.value_is ∙ ap Some same_here, g.given.others); lawful = d.lawful; room = g.room };
-      here = same_here;
-    }
-moves perm limit before (act.Assign n e) symbols d none =
+    record { order = g.given.order; one_value = (g.given.value_is ∙ ap Some same_here, g.given.others); lawful = tt; room = g.room; here = same_here }
+moves_by perm limit before e (act.Assign n) symbols d none =
     let σ : Values = in_table (perm ++ symbols) in
-    let v : Option ℕ = value σ (location σ before) e.now in
+    let v : Option ℕ = value σ (location σ before) e in
     let new : List (Name × ℕ) = assign_table perm limit symbols n v in
-    let h : Gives perm limit before symbols new n (or_zero v) × Names (names (keys_of perm) before) e.now = assign_on perm limit before symbols n e.now v d refl none in
+    let h : Gives perm limit before symbols new n (or_zero v) × Names (names (keys_of perm) before) e = assign_on perm limit before symbols n e v d refl none in
     let g : Gives perm limit before symbols new n (or_zero v) = h.0 in
     let τ : Values = in_table (perm ++ new) in
     let same_here : location σ before ≡ location τ before = location_agree (keys_of perm) σ τ before d.lawful g.given.agrees in
-    let same_value : v ≡ value τ (location τ before) e.now = ap (λ l. value σ l e.now) same_here ∙ value_agree (names (keys_of perm) before) σ τ (location τ before) 0 e.now h.1 g.given.agrees in
-    record {
-      defines = record { order = g.given.order; one_value = (g.given.value_is ∙ ap (λ o. Some (or_zero o)) same_value, g.given.others); lawful = (h.1, d.lawful); room = g.room };
-      here = same_here;
-    }
+    let same_value : v ≡ value τ (location τ before) e = ap (λ l. value σ l e) same_here ∙ value_agree (names (keys_of perm) before) σ τ (location τ before) 0 e h.1 g.given.agrees in
+    record { order = g.given.order; one_value = (g.given.value_is ∙ ap (λ o. Some (or_zero o)) same_value, g.given.others); lawful = h.1; room = g.room; here = same_here }
+
+-- where an act has no fault, the symbols after it are those of the acts with it, and the location is what it was
+pub moves : (perm : List (Name × ℕ)) (limit : ℕ) (before : List PlacedAct) (next : PlacedAct) (symbols : List (Name × ℕ))
+    → Defines perm limit before symbols → next_fault perm limit symbols before next ≡ None
+    → Moves perm limit before next symbols (next_table perm limit symbols before next)
+moves perm limit before next symbols d none =
+    let m : MovesBy perm limit before next.terms next.act symbols (next_table perm limit symbols before next) = moves_by perm limit before next.terms next.act symbols d none in
+    record { defines = record { order = m.order; one_value = m.one_value; lawful = (m.lawful, d.lawful); room = m.room }; here = m.here }

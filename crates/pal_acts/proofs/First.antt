@@ -4,12 +4,15 @@ use Rattle.std.specs.Prelude.{reverse, Ok, Err, Result, IsOk}
 use Rattle.std.proofs.lemmas.List.{reverse-append, reverse-reverse}
 use Rattle.pal_text.specs.declared.names.Name.{Name}
 use Rattle.pal_acts.specs.declared.act.Act.{Act}
+use Rattle.pal_acts.specs.declared.act.Join.{Join}
+use Rattle.pal_acts.specs.declared.act.Place.{Place}
 use Rattle.pal_acts.specs.declared.act.Act.TheVariants as act
 use Rattle.pal_acts.specs.declared.code.Code.{Code}
+use Rattle.pal_acts.specs.Acts.{PlacedAct}
 use Rattle.pal_acts.specs.Values.{Values, in_table}
-use Rattle.pal_acts.specs.Meaning.{Defines}
-use Rattle.pal_acts.specs.Sources.{Encodes, IsImage}
-use Rattle.pal_acts.specs.Faults.{fault, Stops, WordBreaks, Finds}
+use Rattle.pal_acts.specs.Meaning.{location, Defines}
+use Rattle.pal_acts.specs.Sources.{HasWord, Encodes, IsImage}
+use Rattle.pal_acts.specs.Faults.{next_fault, Stops, WordBreaks, Finds}
 use Rattle.pal_acts.specs.Laws.{OneSource, NotBoth, OneFault}
 use Rattle.pal_acts.proofs.Unique.{stood, unique, Before}
 use Rattle.pal_acts.proofs.Images.{one_image}
@@ -41,93 +44,86 @@ reverse_same : {X : Type 0} (e f : List X) → reverse e ≡ reverse f → e ≡
 reverse_same e f h = sym (reverse-reverse e) ∙ ap reverse h ∙ reverse-reverse f
 
 -- where what comes first goes wrong
-module _ (Good : List Act → Type 0) (Fine : List Act → Act → Type 0) (Bad : List Act → Act → Code → Type 0)
-    (back : (m e : List Act) (n : Act) → Good (m ++ n ∷ e) → Fine e n)
-    (apart : (e : List Act) (n : Act) (c : Code) → Fine e n → Bad e n c → ⊥)
-    (one : (e : List Act) (n : Act) (c d : Code) → Bad e n c → Bad e n d → c ≡ d) where
-  never : (acts e l : List Act) (n : Act) (c : Code) → Good (reverse acts) → acts ≡ reverse e ++ n ∷ l → Bad e n c → ⊥
+module _ (Good : List PlacedAct → Type 0) (Fine : List PlacedAct → PlacedAct → Type 0) (Bad : List PlacedAct → PlacedAct → Code → Type 0)
+    (back : (m e : List PlacedAct) (n : PlacedAct) → Good (m ++ n ∷ e) → Fine e n)
+    (apart : (e : List PlacedAct) (n : PlacedAct) (c : Code) → Fine e n → Bad e n c → ⊥)
+    (one : (e : List PlacedAct) (n : PlacedAct) (c d : Code) → Bad e n c → Bad e n d → c ≡ d) where
+  never : (acts e l : List PlacedAct) (n : PlacedAct) (c : Code) → Good (reverse acts) → acts ≡ reverse e ++ n ∷ l → Bad e n c → ⊥
   never acts e l n c g parts bad = apart e n c (back (reverse l) e n (subst Good (ap reverse parts ∙ turned e l n) g)) bad
 
-  first : (acts e f l k : List Act) (n o : Act) (c d : Code) → Good e → Good f → acts ≡ reverse e ++ n ∷ l → acts ≡ reverse f ++ o ∷ k → Bad e n c → Bad f o d → (length e ≡ length f) × (c ≡ d)
+  first : (acts e f l k : List PlacedAct) (n o : PlacedAct) (c d : Code) → Good e → Good f → acts ≡ reverse e ++ n ∷ l → acts ≡ reverse f ++ o ∷ k → Bad e n c → Bad f o d → (n ≡ o) × (c ≡ d)
   first acts e f l k n o c d g h p q bad worse = elim (cut_cases (reverse e) (reverse f) n o l k (sym p ∙ q)) [
     | inl r ↦
         let same_front : e ≡ f = reverse_same e f r.0 in
-        (ap length same_front, one f o c d (subst (λ x. Bad f x c) r.1 (subst (λ x. Bad x n c) same_front bad)) worse)
+        (r.1, one f o c d (subst (λ x. Bad f x c) r.1 (subst (λ x. Bad x n c) same_front bad)) worse)
     | inr (inl r) ↦ absurd (apart e n c (back (reverse r.0) e n (subst Good (turned_back e f r.0 n r.1) h)) bad)
     | inr (inr r) ↦ absurd (apart f o d (back (reverse r.0) f o (subst Good (turned_back f e r.0 o r.1) g)) worse)
   ]
 
 module _ (perm : List (Name × ℕ)) (limit : ℕ) where
-  abbrev Defined : List Act → Type 0
+  abbrev Defined : List PlacedAct → Type 0
   Defined acts = (s : List (Name × ℕ)) × Defines perm limit acts s
 
-  abbrev Fits : List Act → Act → Type 0
-  Fits e n = (s : List (Name × ℕ)) × Defines perm limit e s × (fault perm limit s e n ≡ None)
+  abbrev Fits : List PlacedAct → PlacedAct → Type 0
+  Fits e n = (s : List (Name × ℕ)) × Defines perm limit e s × (next_fault perm limit s e n ≡ None)
 
-  abbrev Fails : List Act → Act → Code → Type 0
-  Fails e n c = (s : List (Name × ℕ)) × Defines perm limit e s × (fault perm limit s e n ≡ Some c)
+  abbrev Fails : List PlacedAct → PlacedAct → Code → Type 0
+  Fails e n c = (s : List (Name × ℕ)) × Defines perm limit e s × (next_fault perm limit s e n ≡ Some c)
 
-  fits_back : (m e : List Act) (n : Act) → Defined (m ++ n ∷ e) → Fits e n
-  fits_back [] e n (s, d) = let b : Before perm limit e n s = stood perm limit e n s d in (b.symbols, b.defines, b.none)
-  fits_back (x ∷ m) e n (s, d) = let b : Before perm limit (m ++ n ∷ e) x s = stood perm limit (m ++ n ∷ e) x s d in fits_back m e n (b.symbols, b.defines)
+  fits_back : (m e : List PlacedAct) (n : PlacedAct) → Defined (m ++ n ∷ e) → Fits e n
+  fits_back [] e n (s, d) = let b : Before perm limit e n.terms n.act s = stood perm limit e n s d in (b.symbols, b.defines, b.none)
+  fits_back (x ∷ m) e n (s, d) = let b : Before perm limit (m ++ n ∷ e) x.terms x.act s = stood perm limit (m ++ n ∷ e) x s d in fits_back m e n (b.symbols, b.defines)
 
-  fits_apart : (e : List Act) (n : Act) (c : Code) → Fits e n → Fails e n c → ⊥
-  fits_apart e n c (s, d, h) (u, k, f) = let same_symbols = ap (λ s. fault perm limit s e n) (unique perm limit e s u d k) in cc (sym h ∙ same_symbols ∙ f)
+  fits_apart : (e : List PlacedAct) (n : PlacedAct) (c : Code) → Fits e n → Fails e n c → ⊥
+  fits_apart e n c (s, d, h) (u, k, f) = let same_symbols = ap (λ s. next_fault perm limit s e n) (unique perm limit e s u d k) in cc (sym h ∙ same_symbols ∙ f)
 
-  fails_one : (e : List Act) (n : Act) (c d : Code) → Fails e n c → Fails e n d → c ≡ d
-  fails_one e n c d (s, k, h) (u, l, f) = let both : Some c ≡ Some d = sym h ∙ ap (λ s. fault perm limit s e n) (unique perm limit e s u k l) ∙ f in cc
+  fails_one : (e : List PlacedAct) (n : PlacedAct) (c d : Code) → Fails e n c → Fails e n d → c ≡ d
+  fails_one e n c d (s, k, h) (u, l, f) = let both : Some c ≡ Some d = sym h ∙ ap (λ s. next_fault perm limit s e n) (unique perm limit e s u k l) ∙ f in cc
 
-  stops_never : (acts : List Act) (at : ℕ) (c : Code) (s : List (Name × ℕ)) → Defines perm limit (reverse acts) s → Stops perm limit acts at c → ⊥
+  stops_never : (acts : List PlacedAct) (at : Place) (c : Code) (s : List (Name × ℕ)) → Defines perm limit (reverse acts) s → Stops perm limit acts at c → ⊥
   stops_never acts at c s d h = never Defined Fits Fails fits_back fits_apart fails_one acts h.earlier h.later h.next c (s, d) h.parts (h.own, h.defines, h.breaks)
 
-  stops_one : (acts : List Act) (at au : ℕ) (c d : Code) → Stops perm limit acts at c → Stops perm limit acts au d → (at ≡ au) × (c ≡ d)
+  stops_one : (acts : List PlacedAct) (at au : Place) (c d : Code) → Stops perm limit acts at c → Stops perm limit acts au d → (at ≡ au) × (c ≡ d)
   stops_one acts at au c d h k =
       let r = first Defined Fits Fails fits_back fits_apart fails_one acts h.earlier k.earlier h.later k.later h.next k.next c d (h.own, h.defines) (k.own, k.defines) h.parts k.parts (h.own, h.defines, h.breaks) (k.own, k.defines, k.breaks) in
-      (h.place ∙ r.0 ∙ sym k.place, r.1)
+      (h.place_is ∙ ap (λ a. a.place) r.0 ∙ sym k.place_is, r.1)
 
 module _ (σ : Values) where
-  abbrev IsWordFine : List Act → Act → Type 0
+  abbrev IsWordFine : List PlacedAct → PlacedAct → Type 0
   IsWordFine e n = Encodes σ (n ∷ e)
 
-  encodes_tail : (n : Act) (e : List Act) → Encodes σ (n ∷ e) → Encodes σ e
-  encodes_tail (act.Word x) e h = h.1
-  encodes_tail (act.Origin x) e h = h
-  encodes_tail (act.Tag n) e h = h
-  encodes_tail (act.Assign n x) e h = h
-  encodes_tail (act.Wrong c) e h = h
-  encodes_tail act.LastPause e h = h
-
-  words_back : (m e : List Act) (n : Act) → Encodes σ (m ++ n ∷ e) → IsWordFine e n
+  words_back : (m e : List PlacedAct) (n : PlacedAct) → Encodes σ (m ++ n ∷ e) → IsWordFine e n
   words_back [] e n h = h
-  words_back (x ∷ m) e n h = words_back m e n (encodes_tail x (m ++ n ∷ e) h)
+  words_back (x ∷ m) e n h = words_back m e n h.1
 
   no_err : (r : Result ℕ Code) (c : Code) → IsOk r → r ≡ Err c → ⊥
   no_err (Ok v) c h e = cc
   no_err (Err d) c h e = cc
 
-  words_apart : (e : List Act) (n : Act) (c : Code) → IsWordFine e n → WordBreaks σ e n c → ⊥
-  words_apart e (act.Word x) c h k = no_err _ c h.0 k
-  words_apart e (act.Origin x) c h k = k
-  words_apart e (act.Tag n) c h k = k
-  words_apart e (act.Assign n x) c h k = k
-  words_apart e (act.Wrong d) c h k = k
-  words_apart e act.LastPause c h k = k
+  word_apart : (here : ℕ) (x : List Join) (a : Act) (c : Code) → HasWord σ here x a → WordBreaks σ here x a c → ⊥
+  word_apart here x act.Word c h k = no_err _ c h k
+  word_apart here x _ c h k = k
 
-  words_one : (e : List Act) (n : Act) (c d : Code) → WordBreaks σ e n c → WordBreaks σ e n d → c ≡ d
-  words_one e (act.Word x) c d h k = let both = sym h ∙ k in cc
-  words_one e (act.Origin x) c d h k = absurd h
-  words_one e (act.Tag n) c d h k = absurd h
-  words_one e (act.Assign n x) c d h k = absurd h
-  words_one e (act.Wrong b) c d h k = absurd h
-  words_one e act.LastPause c d h k = absurd h
+  word_one : (here : ℕ) (x : List Join) (a : Act) (c d : Code) → WordBreaks σ here x a c → WordBreaks σ here x a d → c ≡ d
+  word_one here x act.Word c d h k = let both = sym h ∙ k in cc
+  word_one here x _ c d h k = absurd h
 
-  finds_never : (acts : List Act) (at : ℕ) (c : Code) → Encodes σ (reverse acts) → Finds σ acts at c → ⊥
-  finds_never acts at c g h = never (Encodes σ) IsWordFine (WordBreaks σ) words_back words_apart words_one acts h.earlier h.later h.next c g h.parts h.breaks
+  abbrev Breaks : List PlacedAct → PlacedAct → Code → Type 0
+  Breaks e n c = WordBreaks σ (location σ e) n.terms n.act c
 
-  finds_one : (acts : List Act) (at au : ℕ) (c d : Code) → Finds σ acts at c → Finds σ acts au d → (at ≡ au) × (c ≡ d)
+  words_apart : (e : List PlacedAct) (n : PlacedAct) (c : Code) → IsWordFine e n → Breaks e n c → ⊥
+  words_apart e n c h k = word_apart (location σ e) n.terms n.act c h.0 k
+
+  words_one : (e : List PlacedAct) (n : PlacedAct) (c d : Code) → Breaks e n c → Breaks e n d → c ≡ d
+  words_one e n c d h k = word_one (location σ e) n.terms n.act c d h k
+
+  finds_never : (acts : List PlacedAct) (at : Place) (c : Code) → Encodes σ (reverse acts) → Finds σ acts at c → ⊥
+  finds_never acts at c g h = never (Encodes σ) IsWordFine Breaks words_back words_apart words_one acts h.earlier h.later h.next c g h.parts h.breaks
+
+  finds_one : (acts : List PlacedAct) (at au : Place) (c d : Code) → Finds σ acts at c → Finds σ acts au d → (at ≡ au) × (c ≡ d)
   finds_one acts at au c d h k =
-      let r = first (Encodes σ) IsWordFine (WordBreaks σ) words_back words_apart words_one acts h.earlier k.earlier h.later k.later h.next k.next c d h.encodes k.encodes h.parts k.parts h.breaks k.breaks in
-      (h.place ∙ r.0 ∙ sym k.place, r.1)
+      let r = first (Encodes σ) IsWordFine Breaks words_back words_apart words_one acts h.earlier k.earlier h.later k.later h.next k.next c d h.encodes k.encodes h.parts k.parts h.breaks k.breaks in
+      (h.place_is ∙ ap (λ a. a.place) r.0 ∙ sym k.place_is, r.1)
 
 pub one_source : OneSource
 one_source perm limit acts s u i j h k =

@@ -3,7 +3,7 @@ use Rattle.std.proofs.Common.{◌≡◌, ◌∙◌, sym, ℕ, ◌<◌, List, [],
 use Rattle.std.proofs.lemmas.List.{length-replicate, get_or-replicate, same_lists, get_or_default}
 use Rattle.std.proofs.lemmas.Option.{unwrap_or-slice_get}
 use Rattle.bin_tape.specs.Image.{word_at}
-use Rattle.pal_acts.specs.declared.act.Act.{Act}
+use Rattle.pal_acts.specs.Acts.{PlacedAct}
 use Rattle.pal_acts.specs.Values.{Values}
 use Rattle.pal_acts.specs.Sources.{IsImage, image_at}
 
@@ -17,11 +17,11 @@ blank n a h = unwrap_or-slice_get (replicate n none_yet) a None ∙ get_or-repli
 pub blank_image : (σ : Values) → IsImage σ [] (replicate 4096 none_yet)
 blank_image σ = record { size = length-replicate 4096 none_yet; cells = λ a h. blank 4096 a h }
 
-cell : (σ : Values) (acts : List Act) (image : List (Option ℕ)) (a : ℕ) (d : Option ℕ) → IsImage σ acts image → a < 4096 → get_or image a d ≡ image_at σ acts a
+cell : (σ : Values) (acts : List PlacedAct) (image : List (Option ℕ)) (a : ℕ) (d : Option ℕ) → IsImage σ acts image → a < 4096 → get_or image a d ≡ image_at σ acts a
 cell σ acts image a d h lt =
     let within : a < length image = rw h.size lt in
     get_or_default image a d None within ∙ sym (unwrap_or-slice_get image a None) ∙ h.cells a lt
 
 -- the acts have one image
-pub one_image : (σ : Values) (acts : List Act) (a b : List (Option ℕ)) → IsImage σ acts a → IsImage σ acts b → a ≡ b
+pub one_image : (σ : Values) (acts : List PlacedAct) (a b : List (Option ℕ)) → IsImage σ acts a → IsImage σ acts b → a ≡ b
 one_image σ acts a b h k = same_lists a b (h.size ∙ sym k.size) (λ i d lt. let small : i < 4096 = rw h.size at lt in cell σ acts a i d h small ∙ sym (cell σ acts b i d k small))

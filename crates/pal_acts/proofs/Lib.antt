@@ -1,4 +1,5 @@
 pub mod Table
+pub mod Flat
 pub mod Agree
 pub mod Places
 pub mod Images

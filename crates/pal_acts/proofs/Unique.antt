@@ -12,11 +12,12 @@ use Rattle.pal_acts.specs.declared.act.Act.{Act}
 use Rattle.pal_acts.specs.declared.act.Act.TheVariants as act
 use Rattle.pal_acts.specs.declared.code.Code.{Code}
 use Rattle.pal_acts.specs.declared.code.Code.TheVariants.{Redefined, DuplicateTag}
+use Rattle.pal_acts.specs.Acts.{PlacedAct}
 use Rattle.pal_acts.specs.Values.{same, Values, in_table, term_value, joined, value_after, value, or_zero}
-use Rattle.pal_acts.specs.Meaning.{location, givings, has, with_name, names, IsTermOf, Names, IsLawful, IsGiven, Defines}
-use Rattle.pal_acts.specs.Faults.{giving_fault, giving_table, fault, after, origin_fault, assign_fault, assign_table}
+use Rattle.pal_acts.specs.Meaning.{location, giving, givings, has, with_name, names_after, names, IsTermOf, Names, IsLawfulAct, IsLawful, IsGiven, Defines}
+use Rattle.pal_acts.specs.Faults.{giving_fault, giving_table, fault, after, origin_fault, assign_fault, assign_table, next_fault, next_table}
 use Rattle.pal_acts.proofs.Table.{lookup-right, has_lookup}
-use Rattle.pal_acts.proofs.Agree.{Agrees, value_agree, location_agree, givings_agree, grows, has-with, has_not, has_it, keys-append, same_self}
+use Rattle.pal_acts.proofs.Agree.{Agrees, value_agree, location_agree, givings_agree, grows, has-with, has-after, has_not, has_it, keys-append, same_self}
 
 -- an expression has a value where its names have
 term_known : (t : List (Name × ℕ)) (here : ℕ) (x : Term) → IsTermOf (keys_of t) x → (v : ℕ) × (term_value (in_table t) here x ≡ Some v)
@@ -39,9 +40,9 @@ value_known t here a (j ∷ js) h =
 abbrev IsNamed : List Name → Name × ℕ → Type 0
 IsNamed ns g = has ns g.0 ≡ true
 
-named_more : (ns : List Name) (n : Name) (gs : List (Name × ℕ)) → AllByRecursion (IsNamed ns) gs → AllByRecursion (IsNamed (with_name ns n)) gs
-named_more ns n [] h = tt
-named_more ns n (g ∷ gs) h = (has-with ns n g.0 h.0, named_more ns n gs h.1)
+named_more : (ns : List Name) (a : Act) (gs : List (Name × ℕ)) → AllByRecursion (IsNamed ns) gs → AllByRecursion (IsNamed (names_after ns a)) gs
+named_more ns a [] h = tt
+named_more ns a (g ∷ gs) h = (has-after ns g.0 a h.0, named_more ns a gs h.1)
 
 has-last : (ns : List Name) (n : Name) → has (ns ++ n ∷ []) n ≡ true
 has-last [] n = rw (same_self n) refl
@@ -56,14 +57,15 @@ has-given ns n = elim (cases_Bool (has ns n)) [
   | inr not ↦ rw not (has-last ns n)
 ]
 
-givings_named : (perm : List Name) (σ : Values) (before : List Act) → AllByRecursion (IsNamed (names perm before)) (givings σ before)
+giving_named : (ns : List Name) (σ : Values) (here : ℕ) (e : List Join) (a : Act) (gs : List (Name × ℕ)) → AllByRecursion (IsNamed (names_after ns a)) gs → AllByRecursion (IsNamed (names_after ns a)) (giving σ here e a ++ gs)
+giving_named ns σ here e (act.Tag n) gs h = (has-given ns n, h)
+giving_named ns σ here e (act.Assign n) gs h = (has-given ns n, h)
+giving_named ns σ here e _ gs h = h
+
+givings_named : (perm : List Name) (σ : Values) (before : List PlacedAct) → AllByRecursion (IsNamed (names perm before)) (givings σ before)
 givings_named perm σ [] = tt
-givings_named perm σ (act.Tag n ∷ before) = (has-given (names perm before) n, named_more (names perm before) n (givings σ before) (givings_named perm σ before))
-givings_named perm σ (act.Assign n e ∷ before) = (has-given (names perm before) n, named_more (names perm before) n (givings σ before) (givings_named perm σ before))
-givings_named perm σ (act.Origin e ∷ before) = givings_named perm σ before
-givings_named perm σ (act.Word e ∷ before) = givings_named perm σ before
-givings_named perm σ (act.Wrong c ∷ before) = givings_named perm σ before
-givings_named perm σ (act.LastPause ∷ before) = givings_named perm σ before
+givings_named perm σ (a ∷ before) =
+    giving_named (names perm before) σ (location σ before) a.terms a.act (givings σ before) (named_more (names perm before) a.act (givings σ before) (givings_named perm σ before))
 
 given_back : (ns : List Name) (σ τ : Values) (gs : List (Name × ℕ)) → Agrees ns σ τ → AllByRecursion (IsNamed ns) gs → AllByRecursion (IsGiven τ) gs → AllByRecursion (IsGiven σ) gs
 given_back ns σ τ [] e k h = tt
@@ -76,14 +78,14 @@ names_with perm ns n (us, e) = elim (cases_Bool (has ns n)) [
   | inr not ↦ (us ++ n ∷ [], has_not ns n not ∙ ap (λ l. l ++ n ∷ []) e ∙ append_assoc perm us (n ∷ []))
 ]
 
-names_front : (perm : List Name) (before : List Act) → (us : List Name) × (names perm before ≡ perm ++ us)
+names_on : (perm ns : List Name) (a : Act) → (us : List Name) × (ns ≡ perm ++ us) → (us : List Name) × (names_after ns a ≡ perm ++ us)
+names_on perm ns (act.Tag n) h = names_with perm ns n h
+names_on perm ns (act.Assign n) h = names_with perm ns n h
+names_on perm ns _ h = h
+
+names_front : (perm : List Name) (before : List PlacedAct) → (us : List Name) × (names perm before ≡ perm ++ us)
 names_front perm [] = ([], sym (append-nil perm))
-names_front perm (act.Tag n ∷ before) = names_with perm (names perm before) n (names_front perm before)
-names_front perm (act.Assign n e ∷ before) = names_with perm (names perm before) n (names_front perm before)
-names_front perm (act.Origin e ∷ before) = names_front perm before
-names_front perm (act.Word e ∷ before) = names_front perm before
-names_front perm (act.Wrong c ∷ before) = names_front perm before
-names_front perm (act.LastPause ∷ before) = names_front perm before
+names_front perm (a ∷ before) = names_on perm (names perm before) a.act (names_front perm before)
 
 -- the last entry of a table with these names
 pub last_entry : (t : List (Name × ℕ)) (us : List Name) (n : Name) → keys_of t ≡ us ++ n ∷ [] → (s : List (Name × ℕ)) × (w : ℕ) × (t ≡ s ++ (n, w) ∷ []) × (keys_of s ≡ us)
@@ -112,14 +114,14 @@ some_same : (v w : ℕ) → Some v ≡ Some w → v ≡ w
 some_same v w e = cc
 
 -- what stood before a name was given a value
-pub record Ungiven (perm : List (Name × ℕ)) (limit : ℕ) (before : List Act) (new : List (Name × ℕ)) (n : Name) (v : ℕ) (code : Code) : Type 0 where
+pub record Ungiven (perm : List (Name × ℕ)) (limit : ℕ) (before : List PlacedAct) (new : List (Name × ℕ)) (n : Name) (v : ℕ) (code : Code) : Type 0 where
   pub symbols : List (Name × ℕ)
   pub defines : Defines perm limit before symbols
   pub none : giving_fault code limit (length symbols) (in_table (perm ++ symbols) n) v ≡ None
   pub new_is : new ≡ giving_table symbols n (in_table (perm ++ symbols) n) v
   pub agrees : Agrees (names (keys_of perm) before) (in_table (perm ++ symbols)) (in_table (perm ++ new))
 
-ungive_old : (perm : List (Name × ℕ)) (limit : ℕ) (before : List Act) (new : List (Name × ℕ)) (n : Name) (v : ℕ) (code : Code)
+ungive_old : (perm : List (Name × ℕ)) (limit : ℕ) (before : List PlacedAct) (new : List (Name × ℕ)) (n : Name) (v : ℕ) (code : Code)
     → keys_of (perm ++ new) ≡ names (keys_of perm) before → in_table (perm ++ new) n ≡ Some v
     → AllByRecursion (IsGiven (in_table (perm ++ new))) (givings (in_table (perm ++ new)) before) → IsLawful (keys_of perm) before → length new ≤ limit
     → Ungiven perm limit before new n v code
@@ -131,7 +133,7 @@ ungive_old perm limit before new n v code order is others lawful room = record {
   agrees = λ m h. refl;
 }
 
-ungive_new : (perm : List (Name × ℕ)) (limit : ℕ) (before : List Act) (new s : List (Name × ℕ)) (n : Name) (v w : ℕ) (code : Code)
+ungive_new : (perm : List (Name × ℕ)) (limit : ℕ) (before : List PlacedAct) (new s : List (Name × ℕ)) (n : Name) (v w : ℕ) (code : Code)
     → keys_of (perm ++ s) ≡ names (keys_of perm) before → has (names (keys_of perm) before) n ≡ false → new ≡ s ++ (n, w) ∷ [] → in_table (perm ++ new) n ≡ Some v
     → AllByRecursion (IsGiven (in_table (perm ++ new))) (givings (in_table (perm ++ new)) before) → IsLawful (keys_of perm) before → length new ≤ limit
     → Ungiven perm limit before new n v code
@@ -160,7 +162,7 @@ ungive_new perm limit before new s n v w code order absent new_is is others lawf
       agrees = ag;
     }
 
-ungive : (perm : List (Name × ℕ)) (limit : ℕ) (before : List Act) (new : List (Name × ℕ)) (n : Name) (v : ℕ) (code : Code)
+ungive : (perm : List (Name × ℕ)) (limit : ℕ) (before : List PlacedAct) (new : List (Name × ℕ)) (n : Name) (v : ℕ) (code : Code)
     → keys_of (perm ++ new) ≡ with_name (names (keys_of perm) before) n → in_table (perm ++ new) n ≡ Some v
     → AllByRecursion (IsGiven (in_table (perm ++ new))) (givings (in_table (perm ++ new)) before) → IsLawful (keys_of perm) before → length new ≤ limit
     → Ungiven perm limit before new n v code
@@ -177,38 +179,41 @@ ungive perm limit before new n v code order is others lawful room =
     ]
 
 -- what stood before an act
-pub record Before (perm : List (Name × ℕ)) (limit : ℕ) (before : List Act) (next : Act) (new : List (Name × ℕ)) : Type 0 where
+pub record Before (perm : List (Name × ℕ)) (limit : ℕ) (before : List PlacedAct) (e : List Join) (a : Act) (new : List (Name × ℕ)) : Type 0 where
   pub symbols : List (Name × ℕ)
   pub defines : Defines perm limit before symbols
-  pub none : fault perm limit symbols before next ≡ None
-  pub new_is : new ≡ after perm limit symbols before next
+  pub none : fault perm limit symbols (location (in_table (perm ++ symbols)) before) e a ≡ None
+  pub new_is : new ≡ after perm limit symbols (location (in_table (perm ++ symbols)) before) e a
 
-pub stood : (perm : List (Name × ℕ)) (limit : ℕ) (before : List Act) (next : Act) (new : List (Name × ℕ)) → Defines perm limit (next ∷ before) new → Before perm limit before next new
-stood perm limit before (act.Wrong c) new d = absurd d.lawful
-stood perm limit before act.LastPause new d = absurd d.lawful
-stood perm limit before (act.Word e) new d = record { symbols = new; defines = record { order = d.order; one_value = d.one_value; lawful = d.lawful; room = d.room }; none = refl; new_is = refl }
-stood perm limit before (act.Origin e) new d =
-    let k = value_known (perm ++ new) (location (in_table (perm ++ new)) before) 0 e.now (subst (λ ns. Names ns e.now) (sym d.order) d.lawful.0) in
-    record { symbols = new; defines = record { order = d.order; one_value = d.one_value; lawful = d.lawful.1; room = d.room }; none = ap origin_fault k.1; new_is = refl }
-stood perm limit before (act.Tag n) new d =
+stood_by : (perm : List (Name × ℕ)) (limit : ℕ) (before : List PlacedAct) (e : List Join) (a : Act) (new : List (Name × ℕ))
+    → keys_of (perm ++ new) ≡ names_after (names (keys_of perm) before) a
+    → AllByRecursion (IsGiven (in_table (perm ++ new))) (giving (in_table (perm ++ new)) (location (in_table (perm ++ new)) before) e a ++ givings (in_table (perm ++ new)) before)
+    → IsLawfulAct (names (keys_of perm) before) e a → IsLawful (keys_of perm) before → length new ≤ limit → Before perm limit before e a new
+stood_by perm limit before e (act.Wrong c) new order given law lawful room = absurd law
+stood_by perm limit before e act.LastPause new order given law lawful room = absurd law
+stood_by perm limit before e act.Word new order given law lawful room = record { symbols = new; defines = record { order = order; one_value = given; lawful = lawful; room = room }; none = refl; new_is = refl }
+stood_by perm limit before e act.Origin new order given law lawful room =
+    let k = value_known (perm ++ new) (location (in_table (perm ++ new)) before) 0 e (subst (λ ns. Names ns e) (sym order) law) in
+    record { symbols = new; defines = record { order = order; one_value = given; lawful = lawful; room = room }; none = ap origin_fault k.1; new_is = refl }
+stood_by perm limit before e (act.Tag n) new order given law lawful room =
     let τ : Values = in_table (perm ++ new) in
-    let u : Ungiven perm limit before new n (location τ before) DuplicateTag = ungive perm limit before new n (location τ before) DuplicateTag d.order d.one_value.0 d.one_value.1 d.lawful d.room in
+    let u : Ungiven perm limit before new n (location τ before) DuplicateTag = ungive perm limit before new n (location τ before) DuplicateTag order given.0 given.1 lawful room in
     let σ : Values = in_table (perm ++ u.symbols) in
-    let here : location σ before ≡ location τ before = location_agree (keys_of perm) σ τ before d.lawful u.agrees in
+    let here : location σ before ≡ location τ before = location_agree (keys_of perm) σ τ before lawful u.agrees in
     record {
       symbols = u.symbols;
       defines = u.defines;
       none = ap (λ l. giving_fault DuplicateTag limit (length u.symbols) (σ n) l) here ∙ u.none;
       new_is = u.new_is ∙ sym (ap (λ l. giving_table u.symbols n (σ n) l) here);
     }
-stood perm limit before (act.Assign n e) new d =
+stood_by perm limit before e (act.Assign n) new order given law lawful room =
     let τ : Values = in_table (perm ++ new) in
-    let v : ℕ = or_zero (value τ (location τ before) e.now) in
-    let u : Ungiven perm limit before new n v Redefined = ungive perm limit before new n v Redefined d.order d.one_value.0 d.one_value.1 d.lawful.1 d.room in
+    let v : ℕ = or_zero (value τ (location τ before) e) in
+    let u : Ungiven perm limit before new n v Redefined = ungive perm limit before new n v Redefined order given.0 given.1 lawful room in
     let σ : Values = in_table (perm ++ u.symbols) in
-    let here : location σ before ≡ location τ before = location_agree (keys_of perm) σ τ before d.lawful.1 u.agrees in
-    let same_value : value σ (location σ before) e.now ≡ value τ (location τ before) e.now = ap (λ l. value σ l e.now) here ∙ value_agree (names (keys_of perm) before) σ τ (location τ before) 0 e.now d.lawful.0 u.agrees in
-    let k = value_known (perm ++ u.symbols) (location σ before) 0 e.now (subst (λ ns. Names ns e.now) (sym u.defines.order) d.lawful.0) in
+    let here : location σ before ≡ location τ before = location_agree (keys_of perm) σ τ before lawful u.agrees in
+    let same_value : value σ (location σ before) e ≡ value τ (location τ before) e = ap (λ l. value σ l e) here ∙ value_agree (names (keys_of perm) before) σ τ (location τ before) 0 e law u.agrees in
+    let k = value_known (perm ++ u.symbols) (location σ before) 0 e (subst (λ ns. Names ns e) (sym u.defines.order) law) in
     let is : k.0 ≡ v = ap or_zero (sym k.1 ∙ same_value) in
     record {
       symbols = u.symbols;
@@ -217,15 +222,18 @@ stood perm limit before (act.Assign n e) new d =
       new_is = u.new_is ∙ sym (ap (assign_table perm limit u.symbols n) k.1 ∙ ap (λ l. giving_table u.symbols n (σ n) l) is);
     }
 
+pub stood : (perm : List (Name × ℕ)) (limit : ℕ) (before : List PlacedAct) (next : PlacedAct) (new : List (Name × ℕ)) → Defines perm limit (next ∷ before) new → Before perm limit before next.terms next.act new
+stood perm limit before next new d = stood_by perm limit before next.terms next.act new d.order d.one_value d.lawful.0 d.lawful.1 d.room
+
 none_left : (s : List (Name × ℕ)) (perm : List (Name × ℕ)) → keys_of (perm ++ s) ≡ keys_of perm → s ≡ []
 none_left [] perm e = refl
 none_left (x ∷ s) perm e = absurd (omega (arith, ap length (sym (keys-append perm (x ∷ s)) ∙ e), length-append (keys_of perm) (keys_of (x ∷ s))))
 
 -- acts have one list of symbols
-pub unique : (perm : List (Name × ℕ)) (limit : ℕ) (acts : List Act) (s u : List (Name × ℕ)) → Defines perm limit acts s → Defines perm limit acts u → s ≡ u
+pub unique : (perm : List (Name × ℕ)) (limit : ℕ) (acts : List PlacedAct) (s u : List (Name × ℕ)) → Defines perm limit acts s → Defines perm limit acts u → s ≡ u
 unique perm limit [] s u d e = none_left s perm d.order ∙ sym (none_left u perm e.order)
 unique perm limit (next ∷ before) s u d e =
-    let b : Before perm limit before next s = stood perm limit before next s d in
-    let c : Before perm limit before next u = stood perm limit before next u e in
+    let b : Before perm limit before next.terms next.act s = stood perm limit before next s d in
+    let c : Before perm limit before next.terms next.act u = stood perm limit before next u e in
     let old : b.symbols ≡ c.symbols = unique perm limit before b.symbols c.symbols b.defines c.defines in
-    b.new_is ∙ ap (λ s. after perm limit s before next) old ∙ sym c.new_is
+    b.new_is ∙ ap (λ s. next_table perm limit s before next) old ∙ sym c.new_is

@@ -1,8 +1,10 @@
+pub mod Acts
 pub mod Values
 pub mod Meaning
 pub mod Words
 pub mod Sources
 pub mod Faults
 pub mod Laws
+pub mod Kept
 pub mod Steps
 pub mod Permanent

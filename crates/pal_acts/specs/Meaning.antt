@@ -9,27 +9,30 @@ use Rattle.pal_acts.specs.declared.act.Term.TheVariants.{Number, Symbol, Here}
 use Rattle.pal_acts.specs.declared.act.Join.{Join}
 use Rattle.pal_acts.specs.declared.act.Act.{Act}
 use Rattle.pal_acts.specs.declared.act.Act.TheVariants as act
+use Rattle.pal_acts.specs.Acts.{PlacedAct}
 use Rattle.pal_acts.specs.Values.{Values, same, known, value, or_zero}
 
--- The current location after these acts: the last origin, or 0200 where there is none, and one more for each word since.
-abbrev pub location : Values → List Act → ℕ
+-- The current location after an act at this location: an origin sets it, and a word makes it one more.
+abbrev pub location_after : Values → ℕ → List Join → Act → ℕ
+location_after σ here e act.Origin = or_zero (value σ here e)
+location_after σ here e act.Word = (here + 1) % 4096
+location_after σ here e _ = here
+
+-- The current location after these acts: 0200 before the first.
+abbrev pub location : Values → List PlacedAct → ℕ
 location σ [] = 128
-location σ (act.Origin e ∷ before) = or_zero (value σ (location σ before) e.now)
-location σ (act.Word e ∷ before) = (location σ before + 1) % 4096
-location σ (act.Tag n ∷ before) = location σ before
-location σ (act.Assign n e ∷ before) = location σ before
-location σ (act.Wrong c ∷ before) = location σ before
-location σ (act.LastPause ∷ before) = location σ before
+location σ (a ∷ before) = location_after σ (location σ before) a.terms a.act
+
+-- The name that an act gives a value, with that value.
+abbrev pub giving : Values → ℕ → List Join → Act → List (Name × ℕ)
+giving σ here e (act.Tag n) = (n, here) ∷ []
+giving σ here e (act.Assign n) = (n, or_zero (value σ here e)) ∷ []
+giving σ here e _ = []
 
 -- The names that tags and assignments give a value, each time with that value.
-abbrev pub givings : Values → List Act → List (Name × ℕ)
+abbrev pub givings : Values → List PlacedAct → List (Name × ℕ)
 givings σ [] = []
-givings σ (act.Tag n ∷ before) = (n, location σ before) ∷ givings σ before
-givings σ (act.Assign n e ∷ before) = (n, or_zero (value σ (location σ before) e.now)) ∷ givings σ before
-givings σ (act.Origin e ∷ before) = givings σ before
-givings σ (act.Word e ∷ before) = givings σ before
-givings σ (act.Wrong c ∷ before) = givings σ before
-givings σ (act.LastPause ∷ before) = givings σ before
+givings σ (a ∷ before) = giving σ (location σ before) a.terms a.act ++ givings σ before
 
 -- A name is among these.
 abbrev pub has : List Name → Name → Bool
@@ -39,15 +42,16 @@ has ns n = list_any (same n) ns
 abbrev pub with_name : List Name → Name → List Name
 with_name ns n = if has ns n then ns else ns ++ n ∷ []
 
+-- The names that have a value after an act, where these have one before it.
+abbrev pub names_after : List Name → Act → List Name
+names_after ns (act.Tag n) = with_name ns n
+names_after ns (act.Assign n) = with_name ns n
+names_after ns _ = ns
+
 -- The names that have a value after these acts, in order of definition, the permanent ones first.
-abbrev pub names : List Name → List Act → List Name
+abbrev pub names : List Name → List PlacedAct → List Name
 names permanent [] = permanent
-names permanent (act.Tag n ∷ before) = with_name (names permanent before) n
-names permanent (act.Assign n e ∷ before) = with_name (names permanent before) n
-names permanent (act.Origin e ∷ before) = names permanent before
-names permanent (act.Word e ∷ before) = names permanent before
-names permanent (act.Wrong c ∷ before) = names permanent before
-names permanent (act.LastPause ∷ before) = names permanent before
+names permanent (a ∷ before) = names_after (names permanent before) a.act
 
 -- A term names no other symbol than these.
 abbrev pub IsTermOf : List Name → Term → Type 0
@@ -59,15 +63,17 @@ IsTermOf ns Here = Unit {0}
 abbrev pub Names : List Name → List Join → Type 0
 Names ns js = AllByRecursion (λ j. IsTermOf ns j.term) js
 
--- Origins and assignments name only symbols that have a value before them, and no act is wrong by itself.
-abbrev pub IsLawful : List Name → List Act → Type 0
+-- An origin or an assignment names only symbols that have a value before it, and no act is wrong by itself.
+abbrev pub IsLawfulAct : List Name → List Join → Act → Type 0
+IsLawfulAct ns e act.Origin = Names ns e
+IsLawfulAct ns e (act.Assign n) = Names ns e
+IsLawfulAct ns e (act.Wrong c) = ⊥
+IsLawfulAct ns e act.LastPause = ⊥
+IsLawfulAct ns e _ = Unit {0}
+
+abbrev pub IsLawful : List Name → List PlacedAct → Type 0
 IsLawful permanent [] = Unit {0}
-IsLawful permanent (act.Origin e ∷ before) = Names (names permanent before) e.now × IsLawful permanent before
-IsLawful permanent (act.Assign n e ∷ before) = Names (names permanent before) e.now × IsLawful permanent before
-IsLawful permanent (act.Tag n ∷ before) = IsLawful permanent before
-IsLawful permanent (act.Word e ∷ before) = IsLawful permanent before
-IsLawful permanent (act.Wrong c ∷ before) = ⊥
-IsLawful permanent (act.LastPause ∷ before) = ⊥
+IsLawful permanent (a ∷ before) = IsLawfulAct (names permanent before) a.terms a.act × IsLawful permanent before
 
 -- A name that is given a value has that one.
 abbrev pub IsGiven : Values → Name × ℕ → Type 0
@@ -75,7 +81,7 @@ IsGiven σ g = σ g.0 ≡ Some g.1
 
 -- These are the own symbols of the acts: their names in order of definition, each with the one value that it is given
 -- wherever it is given one, and at most so many.
-pub record Defines (permanent : List (Name × ℕ)) (limit : ℕ) (acts : List Act) (own : List (Name × ℕ)) : Type 0 where
+pub record Defines (permanent : List (Name × ℕ)) (limit : ℕ) (acts : List PlacedAct) (own : List (Name × ℕ)) : Type 0 where
   pub order : keys_of (permanent ++ own) ≡ names (keys_of permanent) acts
   pub one_value : AllByRecursion (IsGiven (known permanent own)) (givings (known permanent own) acts)
   pub lawful : IsLawful (keys_of permanent) acts

@@ -33,19 +33,26 @@ pub struct Join {
     pub term: Term,
 }
 
-/// One thing that a source does. Its acts stand in the order in which faults are looked for.
-#[derive(Clone, Copy, Debug)]
-pub enum Act<'t> {
+/// One thing that a source does. The terms of its expression stand beside it.
+#[derive(Clone, Copy, PartialEq, Eq, Debug)]
+pub enum Act {
     /// It is wrong by itself: a form, a digit or a number.
     Wrong(Code),
     /// `symbol,`: the symbol gets the current location.
     Tag(Name),
     /// `*e`: the location becomes the value of the expression.
-    Origin(&'t [Join]),
+    Origin,
     /// `symbol=e`: the symbol gets the value of the expression.
-    Assign(Name, &'t [Join]),
+    Assign(Name),
     /// A word, which goes to the current location.
-    Word(&'t [Join]),
+    Word,
     /// The last part ends by PAUSE.
     LastPause,
+}
+
+/// The part and the line where something stands, counted from 1.
+#[derive(Clone, Copy, PartialEq, Eq, Debug)]
+pub struct Place {
+    pub part: usize,
+    pub line: usize,
 }

@@ -13,7 +13,7 @@ pub fn not_both()
     ensures { NotBoth }
 {}
 
-/// A source has at most one fault, at one act.
+/// A source has at most one fault, at one place.
 pub fn one_fault()
     ensures { OneFault }
 {}

@@ -1,11 +1,12 @@
 //! What the acts of a PAL III source mean: its symbols and its image, or its first fault.
 //!
-//! A source is a list of acts in the order in which faults are looked for: tags, origins,
-//! assignments, words, and what is wrong by itself. [`assemble`] gives the one meaning of such a
-//! list, or its one fault. How a text becomes acts is not looked at here.
+//! A source is a list of acts, each with its place, in the order in which faults are looked for:
+//! tags, origins, assignments, words, and what is wrong by itself. [`assemble`] gives the one
+//! meaning of such a list, or its one fault. How a text becomes acts is not looked at here.
 #![tactic(auto)]
 
 pub mod act;
+pub mod acts;
 pub mod assembly;
 pub mod code;
 pub mod laws;
@@ -13,7 +14,8 @@ pub mod permanent;
 pub mod symbols;
 mod words;
 
-pub use act::{Act, Join, Name, Sign, Term};
+pub use act::{Act, Join, Name, Place, Sign, Term};
+pub use acts::{Acts, Placed};
 pub use assembly::{Assembled, Refused, assemble};
 pub use code::Code;
 pub use permanent::permanent_table;

@@ -2,8 +2,9 @@
 
 ghost use Rattle.std.specs.Prelude.{◌≡◌, None, [], ◌++◌, length, OnOk, IfErr};
 ghost use Rattle.pal_acts.specs.Values.{known, term_value, value, joined};
-ghost use Rattle.pal_acts.specs.Faults.{giving_fault, giving_table};
-ghost use Rattle.pal_acts.specs.Steps.{IsFault, Goes, Breaks};
+ghost use Rattle.pal_acts.specs.Meaning.{location_after};
+ghost use Rattle.pal_acts.specs.Faults.{giving_fault, giving_table, fault, after};
+ghost use Rattle.pal_acts.specs.Steps.{IsFault};
 
 use crate::act::{Act, Join, Name, Sign, Term};
 use crate::code::Code;
@@ -126,29 +127,35 @@ impl<'p, A: Allocator + Copy> Symbols<'p, A> {
     }
 
     /// Takes the next act, at the current location; its word is not looked at.
-    pub(crate) fn act(&mut self, here: &mut Word, act: Act<'_>) -> Result<(), Refusal>
-        ensures goes { OnOk result (Goes self.old.permanent.now.entries 1024 act.entry
-            self.old.own.entries here.old self.new.own.entries here.new) }
-        ensures refused { IfErr result (Breaks self.old.permanent.now.entries 1024 act.entry
-            self.old.own.entries here.old) }
+    pub(crate) fn act(&mut self, here: &mut Word, act: Act, terms: &[Join]) -> Result<(), Refusal>
+        ensures sound { OnOk result (fault self.old.permanent.now.entries 1024
+            self.old.own.entries here.old terms.now act ≡ None) }
+        ensures symbols { OnOk result (self.new.own.entries ≡ after self.old.permanent.now.entries
+            1024 self.old.own.entries here.old terms.now act) }
+        ensures location { OnOk result (here.new ≡ location_after
+            (known self.old.permanent.now.entries self.old.own.entries) here.old terms.now act) }
+        ensures refused { IfErr result (IsFault (length self.old.own.entries)
+            (fault self.old.permanent.now.entries 1024 self.old.own.entries here.old terms.now act)
+            (after self.old.permanent.now.entries 1024 self.old.own.entries here.old terms.now
+            act)) }
         ensures permanent { self.new.permanent ≡ self.old.permanent }
     {
         match act {
             Act::Wrong(code) => Err(Refusal::Fault(code)),
             Act::LastPause => Err(Refusal::Fault(Code::PauseInLastPart)),
             Act::Tag(name) => self.give(name, *here, Code::DuplicateTag),
-            Act::Origin(joins) => match self.value(*here, joins) {
+            Act::Origin => match self.value(*here, terms) {
                 Some(origin) => {
                     *here = origin;
                     Ok(())
                 }
                 None => Err(Refusal::Fault(Code::Undefined)),
             },
-            Act::Assign(name, joins) => match self.value(*here, joins) {
+            Act::Assign(name) => match self.value(*here, terms) {
                 Some(value) => self.give(name, value, Code::Redefined),
                 None => Err(Refusal::Fault(Code::Undefined)),
             },
-            Act::Word(_) => {
+            Act::Word => {
                 *here = here.increment();
                 Ok(())
             }

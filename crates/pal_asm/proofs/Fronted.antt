@@ -19,10 +19,10 @@ use Rattle.pal_asm.specs.declared.reading.Reached.{Reached}
 use Rattle.pal_asm.specs.declared.reading.Turn.{Turn}
 use Rattle.pal_asm.specs.declared.reading.Turn.TheVariants.{Ends}
 use Rattle.pal_asm.specs.declared.statement.NumberedPart.{NumberedPart}
-use Rattle.pal_asm.specs.Acts.{PlacedAct, placed}
-use Rattle.pal_asm.specs.Listings.{text_line, place, text_lines}
+use Rattle.pal_acts.specs.Acts.{PlacedAct, placed, place}
+use Rattle.pal_asm.specs.Listings.{text_line, text_lines}
 use Rattle.pal_asm.specs.Kept.{IsRead, lines_of_fronts, Turns, TurnsLines}
-use Rattle.pal_asm.proofs.Flat.{range_kept}
+use Rattle.pal_acts.proofs.Flat.{range_kept}
 use Rattle.pal_asm.proofs.Turned.{Leads, turned}
 use Rattle.pal_asm.proofs.TurnedLines.{turned_lines}
 
@@ -71,9 +71,9 @@ module _ (part : NumberedPart) (before : Radix) (old new : List PlacedAct) (reac
 
 -- a part with a statement that has no form is that fault
 pub refused_acts : (n : ℕ) (r : Radix) (last : Bool) (source : List ℕ) (line : ℕ) (old more kept new : List PlacedAct) → IsIllegal source line → kept ≡ take (length old) (old ++ more)
-    → new ≡ kept ++ placed n line (act.Wrong IllegalCharacter) ∷ [] → Turns n r last source old new Ends
+    → new ≡ kept ++ placed (place n line) [] (act.Wrong IllegalCharacter) ∷ [] → Turns n r last source old new Ends
 refused_acts n r last source line old more kept new is cut e = record {
-  more = placed n line (act.Wrong IllegalCharacter) ∷ [];
-  new_is = e ∙ ap (λ l. l ++ placed n line (act.Wrong IllegalCharacter) ∷ []) (cut ∙ take_at old more (length old) refl);
-  gives = λ rest later empty next. inl (line, is, ap (λ l. placed n line (act.Wrong IllegalCharacter) ∷ l) next);
+  more = placed (place n line) [] (act.Wrong IllegalCharacter) ∷ [];
+  new_is = e ∙ ap (λ l. l ++ placed (place n line) [] (act.Wrong IllegalCharacter) ∷ []) (cut ∙ take_at old more (length old) refl);
+  gives = λ rest later empty next. inl (line, is, ap (λ l. placed (place n line) [] (act.Wrong IllegalCharacter) ∷ l) next);
 }

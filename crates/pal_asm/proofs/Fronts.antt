@@ -5,7 +5,7 @@ use Rattle.std.proofs.lemmas.Bool.{cond-true}
 use Rattle.std.proofs.lemmas.List.{take_all, drop_more}
 use Rattle.std.proofs.lemmas.Option.{slice_get_within, slice_get-get_or}
 use Rattle.pal_text.specs.declared.names.Name.{Name}
-use Rattle.pal_asm.specs.declared.deed.Place.{Place}
+use Rattle.pal_acts.specs.declared.act.Place.{Place}
 use Rattle.pal_asm.specs.declared.listing.ListedWord.{ListedWord}
 use Rattle.pal_asm.specs.Listings.{is_at, line_text, words_text, word_text, symbols_text, symbol_text}
 use Rattle.pal_asm.specs.Kept.{next_at, after_those}

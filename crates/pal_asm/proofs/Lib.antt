@@ -2,10 +2,8 @@ pub mod Digits
 pub mod Terms
 pub mod Within
 pub mod Turned
-pub mod Bared
 pub mod One
-pub mod Flat
-pub mod Laid
+pub mod EachAct
 pub mod Stepped
 pub mod TurnedLines
 pub mod Fronted

@@ -25,14 +25,16 @@ use Rattle.pal_acts.specs.Meaning.{location}
 use Rattle.pal_acts.specs.Words.{word_value}
 use Rattle.pal_asm.specs.declared.number.Radix.{Radix}
 use Rattle.pal_asm.specs.declared.number.Radix.TheVariants.{Octal}
-use Rattle.pal_asm.specs.declared.deed.Place.{Place}
+use Rattle.pal_acts.specs.declared.act.Place.{Place}
 use Rattle.pal_asm.specs.declared.listing.ListedWord.{ListedWord}
 use Rattle.pal_asm.specs.Numbers.{base, radix_after}
 use Rattle.pal_asm.specs.Expressions.{expression}
-use Rattle.pal_asm.specs.Acts.{tags, after_tags, tag_by, tag_act, operand, assign_by, assign_acts, body_acts, settled, statement_acts, PlacedAct, placed, part_acts, last_radix}
-use Rattle.pal_asm.specs.Sources.{is_empty, Follows, Gives, act_in}
-use Rattle.pal_asm.specs.Listings.{place, TextLine, text_lines, Shows, word_at_place, and_word, words, all_words, Lists}
+use Rattle.pal_acts.specs.Acts.{PlacedAct, placed, place}
+use Rattle.pal_asm.specs.Acts.{statement_acts, part_acts, last_radix}
+use Rattle.pal_asm.specs.Sources.{is_empty, Follows, Gives}
+use Rattle.pal_asm.specs.Listings.{TextLine, text_lines, Shows, word_at_place, and_word, words, all_words, Lists}
 use Rattle.pal_asm.specs.Laws.{IsListed}
+use Rattle.pal_asm.proofs.EachAct.{statement_holds}
 use Rattle.pal_asm.proofs.StandsOn.{words_on_lines}
 
 -- ---- lines
@@ -57,59 +59,23 @@ text_listed n m k source (l ∷ ls) h lt = elim (cases_eq k m) [
 
 -- an act that is a word stands on a line
 abbrev StandsBy : List TextLine → Place → Act → Type 0
-StandsBy lines p (act.Word e) = IsListed p lines
+StandsBy lines p act.Word = IsListed p lines
 StandsBy lines p _ = Unit {0}
 
 abbrev Stands : List TextLine → PlacedAct → Type 0
-Stands lines a = StandsBy lines (place a.part a.line) a.act
+Stands lines a = StandsBy lines a.place a.act
 
 by_more : (lines others : List TextLine) (p : Place) (a : Act) → (IsListed p lines → IsListed p others) → StandsBy lines p a → StandsBy others p a
-by_more lines others p (act.Word e) k h = k h
+by_more lines others p act.Word k h = k h
 by_more lines others p _ k h = tt
 
 all_more : (lines others : List TextLine) (acts : List PlacedAct) → ((p : Place) → IsListed p lines → IsListed p others) → AllByRecursion (Stands lines) acts → AllByRecursion (Stands others) acts
 all_more lines others [] k h = tt
-all_more lines others (a ∷ acts) k h = (by_more lines others (place a.part a.line) a.act (k (place a.part a.line)) h.0, all_more lines others acts k h.1)
+all_more lines others (a ∷ acts) k h = (by_more lines others a.place a.act (k a.place) h.0, all_more lines others acts k h.1)
 
-module _ (lines : List TextLine) (p : Place) where
-  abbrev AllStand : List Act → Type 0
-  AllStand acts = AllByRecursion (StandsBy lines p) acts
-
-  tag_stands : (source : List ℕ) (t : Token) (k : Kind) → StandsBy lines p (tag_by source t k)
-  tag_stands source t kind.Symbol = tt
-  tag_stands source t _ = tt
-
-  tags_stand : (source : List ℕ) (ts : List Token) → AllStand (map (tag_act source) ts)
-  tags_stand source [] = tt
-  tags_stand source (t ∷ ts) = (tag_stands source t t.kind, tags_stand source ts)
-
-  assign_by_stands : (source : List ℕ) (t : Token) (js : List Join) (k : Kind) → AllStand (assign_by source t js k)
-  assign_by_stands source t js kind.Symbol = (tt, tt)
-  assign_by_stands source t js _ = (tt, (tt, tt))
-
-  assign_stands : (source : List ℕ) (ts : List Token) (js : List Join) → AllStand (assign_acts source ts js)
-  assign_stands source [] js = tt
-  assign_stands source (t ∷ ts) js = assign_by_stands source t js t.kind
-
-  body_stands : (last : Bool) (source : List ℕ) (ts : List Token) (f : Form) (js : List Join) → (f ≡ form.Word → IsListed p lines) → AllStand (body_acts last source ts f js)
-  body_stands last source ts form.Origin js h = (tt, tt)
-  body_stands last source ts form.Assign js h = assign_stands source ts js
-  body_stands last source ts form.Word js h = (h refl, tt)
-  body_stands last source ts form.Pause js h = cond_both last (act.LastPause ∷ []) [] (λ l. AllStand l) (λ is. (tt, tt)) (λ is. tt)
-  body_stands last source ts _ js h = tt
-
-  settled_stands : (before : List Act) (body : List Join → List Act) (r : Result (List Join) Code) → AllStand before → ((js : List Join) → AllStand (body js)) → AllStand (settled before body r)
-  settled_stands before body (Err c) h k = (tt, tt)
-  settled_stands before body (Ok js) h k = all_append (StandsBy lines p) before (body js) h (k js)
-
-  statement_stands : (b : ℕ) (last : Bool) (source : List ℕ) (own : List Token) (f : Form) → (f ≡ form.Word → IsListed p lines) → AllStand (statement_acts b last source own f)
-  statement_stands b last source own f h =
-      settled_stands (map (tag_act source) (tags own)) (body_acts last source (after_tags own) f) (expression b source (operand f (after_tags own))) (tags_stand source (tags own))
-      (λ js. body_stands last source (after_tags own) f js h)
-
-placed_stand : (lines : List TextLine) (n m : ℕ) (acts : List Act) → AllByRecursion (StandsBy lines (place n m)) acts → AllByRecursion (Stands lines) (map (placed n m) acts)
-placed_stand lines n m [] h = tt
-placed_stand lines n m (a ∷ acts) h = (h.0, placed_stand lines n m acts h.1)
+idle_stands : (lines : List TextLine) (p : Place) (e : List Join) (a : Act) → (a ≡ act.Word → ⊥) → Stands lines (placed p e a)
+idle_stands lines p e act.Word h = absurd (h refl)
+idle_stands lines p e _ h = tt
 
 -- the words among the statements of a part are on lines
 abbrev OnLines : List TextLine → ℕ → Statement → Type 0
@@ -120,8 +86,8 @@ part_stands : (lines : List TextLine) (n : ℕ) (last : Bool) (source : List ℕ
 part_stands lines n last source tokens r [] h = tt
 part_stands lines n last source tokens r (s ∷ ss) h =
     let own : List Token = slice_range tokens s.first s.last in
-    all_append (Stands lines) (map (placed n s.line) (statement_acts (base r) last source own s.form)) (part_acts n last source tokens (radix_after r s.form) ss)
-    (placed_stand lines n s.line (statement_acts (base r) last source own s.form) (statement_stands lines (place n s.line) (base r) last source own s.form h.0))
+    all_append (Stands lines) (statement_acts (place n s.line) (base r) last source own s.form) (part_acts n last source tokens (radix_after r s.form) ss)
+    (statement_holds (Stands lines) (place n s.line) (idle_stands lines (place n s.line)) (base r) last source own s.form (λ js. h.0))
     (part_stands lines n last source tokens (radix_after r s.form) ss h.1)
 
 statements_on : (n : ℕ) (source : List ℕ) (ls : List Line) (ss : List Statement) → AllByRecursion (λ s. s.form ≡ form.Word → (1 ≤ s.line) × (s.line ≤ length ls)) ss
@@ -167,13 +133,13 @@ word_listed : (lines : List TextLine) (p : Place) (at : ℕ) (value : Result ℕ
 word_listed lines p at (Ok w) ws h all = (h, all)
 word_listed lines p at (Err c) ws h all = all
 
-and_word_listed : (lines : List TextLine) (σ : Values) (earlier : List Act) (p : Place) (a : Act) (ws : List ListedWord) → StandsBy lines p a → AllListed lines ws → AllListed lines (and_word σ earlier p a ws)
-and_word_listed lines σ earlier p (act.Word e) ws h all = word_listed lines p (location σ earlier) (word_value σ (location σ earlier) e.now) ws h all
-and_word_listed lines σ earlier p _ ws h all = all
+and_word_listed : (lines : List TextLine) (σ : Values) (here : ℕ) (p : Place) (e : List Join) (a : Act) (ws : List ListedWord) → StandsBy lines p a → AllListed lines ws → AllListed lines (and_word σ here p e a ws)
+and_word_listed lines σ here p e act.Word ws h all = word_listed lines p here (word_value σ here e) ws h all
+and_word_listed lines σ here p e _ ws h all = all
 
 words_listed : (lines : List TextLine) (σ : Values) (acts : List PlacedAct) → AllByRecursion (Stands lines) acts → AllListed lines (words σ acts)
 words_listed lines σ [] h = tt
-words_listed lines σ (a ∷ before) h = and_word_listed lines σ (map act_in before) (place a.part a.line) a.act (words σ before) h.0 (words_listed lines σ before h.1)
+words_listed lines σ (a ∷ before) h = and_word_listed lines σ (location σ before) a.place a.terms a.act (words σ before) h.0 (words_listed lines σ before h.1)
 
 pub words_are_listed : (perm : List (Name × ℕ)) (parts : List (List ℕ)) (own : List (Name × ℕ)) (text : List ℕ) (h : Lists perm parts own text) → AllByRecursion (λ w. IsListed w.place h.lines) (all_words (known perm own) h.acts)
 words_are_listed perm parts own text h =

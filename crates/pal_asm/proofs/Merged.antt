@@ -3,7 +3,7 @@ use Rattle.std.proofs.Common.{◌≡◌, ◌∙◌, sym, ap, refl, ◌<◌, ◌�
 use Rattle.std.specs.Prelude.{filter, nat_eq, nat_lt}
 use Rattle.std.proofs.lemmas.Bool.{cond-true, cond-false, cases_order, cond_both, lt-ltb, le-ltb, eq-eqb, ne_eqb}
 use Rattle.pal_text.specs.Characters.{characters}
-use Rattle.pal_asm.specs.declared.deed.Place.{Place}
+use Rattle.pal_acts.specs.declared.act.Place.{Place}
 use Rattle.pal_asm.specs.declared.listing.ListedWord.{ListedWord}
 use Rattle.pal_asm.specs.Listings.{TextLine, is_at, line_text, without_front, lines_text}
 use Rattle.pal_asm.specs.Kept.{is_before, skip, next_at, after_those, turns_text}

@@ -1,6 +1,6 @@
 -- A source has one meaning or one fault, and not both.
 use Rattle.std.proofs.Common.{◌≡◌, ◌∙◌, sym, ap, subst, ℕ, ◌+◌, List, [], ◌∷◌, ◌++◌, Option, Some, None, Result, Ok, Err, inl, inr}
-use Rattle.std.specs.Prelude.{map, slice_get, IfOk, IfErr, MatchResult}
+use Rattle.std.specs.Prelude.{IfOk, IfErr, MatchResult}
 use Rattle.pal_text.specs.declared.cut.Statement.{Statement}
 use Rattle.pal_text.specs.declared.cut.Ending.{Ending}
 use Rattle.pal_text.specs.declared.cut.Ending.TheVariants.{Dollar, Pause, Bytes}
@@ -16,8 +16,10 @@ use Rattle.pal_asm.specs.declared.number.Radix.TheVariants.{Octal}
 use Rattle.pal_asm.specs.declared.fault.PalFault.{PalFault}
 use Rattle.pal_asm.specs.declared.fault.AssembleFault.{AssembleFault}
 use Rattle.pal_asm.specs.declared.fault.AssembleFault.TheVariants.{Source, NoMemory}
-use Rattle.pal_asm.specs.Acts.{PlacedAct, placed, part_acts, last_radix}
-use Rattle.pal_asm.specs.Sources.{size_fault, is_empty, Follows, Gives, act_in, Means, IsFaultOf, IsFault, Refuses, IsSilent, TellsOnly}
+use Rattle.pal_acts.specs.declared.act.Place.{Place}
+use Rattle.pal_acts.specs.Acts.{PlacedAct, placed, place}
+use Rattle.pal_asm.specs.Acts.{part_acts, last_radix}
+use Rattle.pal_asm.specs.Sources.{size_fault, is_empty, Follows, Gives, Means, IsFaultOf, IsFault, Refuses, IsSilent, TellsOnly}
 
 follows_one : (ending : Ending) (later other : List PlacedAct) (A B : Type 0) → (A → B → later ≡ other) → Follows ending later A → Follows ending other B → later ≡ other
 follows_one Dollar later other A B k h j = h ∙ sym j
@@ -27,7 +29,7 @@ follows_one Bytes later other A B k h j = k h j
 -- parts give one list of acts
 pub gives_one : (n : ℕ) (r : Radix) (parts : List (List ℕ)) (acts others : List PlacedAct) → Gives n r parts acts → Gives n r parts others → acts ≡ others
 gives_one n r [] acts others h k = h ∙ sym k
-gives_one n r (p ∷ ps) acts others (inl h) (inl k) = h.2 ∙ ap (λ l. placed n l (act.Wrong IllegalCharacter) ∷ []) (one_line p h.0 k.0 h.1 k.1) ∙ sym k.2
+gives_one n r (p ∷ ps) acts others (inl h) (inl k) = h.2 ∙ ap (λ l. placed (place n l) [] (act.Wrong IllegalCharacter) ∷ []) (one_line p h.0 k.0 h.1 k.1) ∙ sym k.2
 gives_one n r (p ∷ ps) acts others (inl h) (inr k) = absurd (no_fault p k.0.tokens k.0.statements k.0.lines k.0.ending h.0 k.0.is_part h.1)
 gives_one n r (p ∷ ps) acts others (inr h) (inl k) = absurd (no_fault p h.0.tokens h.0.statements h.0.lines h.0.ending k.0 h.0.is_part k.1)
 gives_one n r (p ∷ ps) acts others (inr h) (inr k) =
@@ -49,24 +51,23 @@ module _ (perm : List (Name × ℕ)) (parts : List (List ℕ)) where
   pub means_one : (s u : List (Name × ℕ)) (i j : List (Option ℕ)) → Means perm parts s i → Means perm parts u j → (s ≡ u) × (i ≡ j)
   means_one s u i j h k =
       let e : h.acts ≡ k.acts = gives_one 1 Octal parts h.acts k.acts h.gives k.gives in
-      let P : List PlacedAct → Type 0 = λ l. IsSource perm 1024 (map act_in l) s i in
-      one_source perm 1024 (map act_in k.acts) s u i j (subst P e h.is_source) k.is_source
+      let P : List PlacedAct → Type 0 = λ l. IsSource perm 1024 l s i in
+      one_source perm 1024 k.acts s u i j (subst P e h.is_source) k.is_source
 
   pub means_sound : (s : List (Name × ℕ)) (i : List (Option ℕ)) (fault : PalFault) → Means perm parts s i → IsFault perm parts fault → ⊥
   means_sound s i fault h (inl k) = none_some (size_fault parts) fault h.sizes k
   means_sound s i fault h (inr k) =
       let e : h.acts ≡ k.acts = gives_one 1 Octal parts h.acts k.acts h.gives k.gives in
-      let P : List PlacedAct → Type 0 = λ l. IsSource perm 1024 (map act_in l) s i in
-      not_both perm 1024 (map act_in k.acts) s i k.is_fault.at fault.code (subst P e h.is_source) k.is_fault.is_refused
+      let P : List PlacedAct → Type 0 = λ l. IsSource perm 1024 l s i in
+      not_both perm 1024 k.acts s i (place fault.part fault.line) fault.code (subst P e h.is_source) k.is_fault
 
   one_fault_of : (acts : List PlacedAct) (f g : PalFault) → IsFaultOf perm acts f → IsFaultOf perm acts g → f ≡ g
   one_fault_of acts f g h k =
-      let e : (h.at ≡ k.at) × (f.code ≡ g.code) = one_fault perm 1024 (map act_in acts) h.at k.at f.code g.code h.is_refused k.is_refused in
-      let bad : h.bad ≡ k.bad = one_some (slice_get acts k.at) h.bad k.bad (ap (slice_get acts) (sym e.0) ∙ h.there) k.there in
-      let part_in : PlacedAct → ℕ = λ a. a.part in
-      let line_in : PlacedAct → ℕ = λ a. a.line in
-      let parts_are : f.part ≡ g.part = h.part ∙ ap part_in bad ∙ sym k.part in
-      let lines_are : f.line ≡ g.line = h.line ∙ ap line_in bad ∙ sym k.line in
+      let e : (place f.part f.line ≡ place g.part g.line) × (f.code ≡ g.code) = one_fault perm 1024 acts (place f.part f.line) (place g.part g.line) f.code g.code h k in
+      let part_in : Place → ℕ = λ p. p.part in
+      let line_in : Place → ℕ = λ p. p.line in
+      let parts_are : f.part ≡ g.part = ap part_in e.0 in
+      let lines_are : f.line ≡ g.line = ap line_in e.0 in
       λ i. record { code = e.1 i; part = parts_are i; line = lines_are i }
 
   pub faults_one : (f g : PalFault) → IsFault perm parts f → IsFault perm parts g → f ≡ g

@@ -16,18 +16,19 @@ use Rattle.pal_acts.specs.Meaning.{location}
 use Rattle.pal_acts.specs.Words.{word_value}
 use Rattle.pal_asm.specs.declared.number.Radix.{Radix}
 use Rattle.pal_asm.specs.declared.number.Radix.TheVariants.{Octal}
-use Rattle.pal_asm.specs.declared.deed.Place.{Place}
+use Rattle.pal_acts.specs.declared.act.Place.{Place}
 use Rattle.pal_asm.specs.declared.listing.ListedWord.{ListedWord}
 use Rattle.pal_asm.specs.Numbers.{base, radix_after}
-use Rattle.pal_asm.specs.Acts.{PlacedAct, placed, part_acts, statement_acts, last_radix}
-use Rattle.pal_asm.specs.Sources.{Follows, Gives, is_empty, act_in}
-use Rattle.pal_asm.specs.Listings.{place, TextLine, text_lines, Shows, word_at_place, and_word, words, all_words, symbols_text, listing, Lists}
+use Rattle.pal_acts.specs.declared.act.Join.{Join}
+use Rattle.pal_acts.specs.Acts.{PlacedAct, place}
+use Rattle.pal_asm.specs.Acts.{part_acts, statement_acts, last_radix}
+use Rattle.pal_asm.specs.Sources.{Follows, Gives, is_empty}
+use Rattle.pal_asm.specs.Listings.{TextLine, text_lines, Shows, word_at_place, and_word, words, all_words, symbols_text, listing, Lists}
 use Rattle.pal_asm.specs.Kept.{turns_text}
+use Rattle.std.specs.List.{AllByRecursion}
+use Rattle.pal_asm.proofs.EachAct.{statement_holds}
 use Rattle.pal_asm.proofs.Climbs.{Steps, statements_climb}
 use Rattle.pal_asm.proofs.Merged.{Upto, upto_trans, After, LinesAfter, lines_weaker, turns_are}
-
-abbrev place_of : PlacedAct → Place
-place_of a = place a.part a.line
 
 upto_refl : (p : Place) → Upto p p
 upto_refl p = inr (refl, omega arith)
@@ -35,26 +36,30 @@ upto_refl p = inr (refl, omega arith)
 -- acts in order from this place on
 abbrev ActsAfter : Place → List PlacedAct → Type 0
 ActsAfter p [] = Unit {0}
-ActsAfter p (a ∷ xs) = Upto p (place_of a) × ActsAfter (place_of a) xs
+ActsAfter p (a ∷ xs) = Upto p (a.place) × ActsAfter (a.place) xs
 
 acts_weaker : (p q : Place) (xs : List PlacedAct) → Upto p q → ActsAfter q xs → ActsAfter p xs
 acts_weaker p q [] h a = tt
-acts_weaker p q (x ∷ xs) h a = (upto_trans p q (place_of x) h a.0, a.1)
+acts_weaker p q (x ∷ xs) h a = (upto_trans p q x.place h a.0, a.1)
 
-mapped_after : (n m : ℕ) (xs : List Act) (tail : List PlacedAct) → ActsAfter (place n m) tail → ActsAfter (place n m) (map (placed n m) xs ++ tail)
-mapped_after n m [] tail h = h
-mapped_after n m (x ∷ xs) tail h = (upto_refl (place n m), mapped_after n m xs tail h)
+abbrev IsAt : Place → PlacedAct → Type 0
+IsAt p a = a.place ≡ p
+
+at_after : (p : Place) (xs tail : List PlacedAct) → AllByRecursion (IsAt p) xs → ActsAfter p tail → ActsAfter p (xs ++ tail)
+at_after p [] tail all h = h
+at_after p (x ∷ xs) tail all h = let P : Place → Type 0 = λ q. Upto p q × ActsAfter q (xs ++ tail) in subst P (sym all.0) (upto_refl p, at_after p xs tail all.1 h)
 
 part_after : (n : ℕ) (last : Bool) (source : List ℕ) (ts : List Token) (r : Radix) (l : ℕ) (ss : List Statement) (later : List PlacedAct)
     → Steps l ss → ((m : ℕ) → ActsAfter (place n m) later) → ActsAfter (place n l) (part_acts n last source ts r ss ++ later)
 part_after n last source ts r l [] later c k = k l
 part_after n last source ts r l (s ∷ ss) later c k =
-    let own : List Act = statement_acts (base r) last source (slice_range ts s.first s.last) s.form in
+    let own : List PlacedAct = statement_acts (place n s.line) (base r) last source (slice_range ts s.first s.last) s.form in
+    let at : AllByRecursion (IsAt (place n s.line)) own = statement_holds (IsAt (place n s.line)) (place n s.line) (λ e a h. refl) (base r) last source (slice_range ts s.first s.last) s.form (λ js h. refl) in
     let more : List PlacedAct = part_acts n last source ts (radix_after r s.form) ss in
     let P : List PlacedAct → Type 0 = λ xs. ActsAfter (place n l) xs in
-    subst P (sym (append_assoc (map (placed n s.line) own) more later))
-    (acts_weaker (place n l) (place n s.line) (map (placed n s.line) own ++ (more ++ later)) (inr (refl, c.0))
-    (mapped_after n s.line own (more ++ later) (part_after n last source ts (radix_after r s.form) s.line ss later c.1 k)))
+    subst P (sym (append_assoc own more later))
+    (acts_weaker (place n l) (place n s.line) (own ++ (more ++ later)) (inr (refl, c.0))
+    (at_after (place n s.line) own (more ++ later) at (part_after n last source ts (radix_after r s.form) s.line ss later c.1 k)))
 
 follows_all : {X : Type 0} (P : List X → Type 0) (ending : Ending) (later : List X) (A : Type 0) → P [] → (A → P later) → Follows ending later A → P later
 follows_all P Dollar later A none k h = subst P (sym h) none
@@ -74,18 +79,18 @@ gives_after p n r (q ∷ qs) acts lt (inr h) =
 -- the same with the newest first
 abbrev ActsUpto : Place → List PlacedAct → Type 0
 ActsUpto p [] = Unit {0}
-ActsUpto p (a ∷ xs) = Upto (place_of a) p × ActsUpto (place_of a) xs
+ActsUpto p (a ∷ xs) = Upto (a.place) p × ActsUpto (a.place) xs
 
 acts_higher : (p q : Place) (xs : List PlacedAct) → Upto p q → ActsUpto p xs → ActsUpto q xs
 acts_higher p q [] h a = tt
-acts_higher p q (x ∷ xs) h a = (upto_trans (place_of x) p q a.0 h, a.1)
+acts_higher p q (x ∷ xs) h a = (upto_trans x.place p q a.0 h, a.1)
 
 acts_turned : (p : Place) (xs before : List PlacedAct) → ActsAfter p xs → ActsUpto p before → (q : Place) × ActsUpto q (reverse xs ++ before)
 acts_turned p [] before a b = (p, b)
 acts_turned p (x ∷ xs) before a b =
     let P : List PlacedAct → Type 0 = λ l. (q : Place) × ActsUpto q l in
     subst P (sym (ap (λ l. l ++ before) (reverse-append (x ∷ []) xs) ∙ append_assoc (reverse xs) (x ∷ []) before))
-    (acts_turned (place_of x) xs (x ∷ before) a.1 (upto_refl (place_of x), acts_higher p (place_of x) before a.0 b))
+    (acts_turned x.place xs (x ∷ before) a.1 (upto_refl x.place, acts_higher p x.place before a.0 b))
 
 abbrev WordsUpto : Place → List ListedWord → Type 0
 WordsUpto p [] = Unit {0}
@@ -99,13 +104,13 @@ word_upto : (p q : Place) (at : ℕ) (value : Result ℕ Code) (ws : List Listed
 word_upto p q at (Ok w) ws h a = (h, a)
 word_upto p q at (Err c) ws h a = words_higher q p ws h a
 
-and_word_upto : (σ : Values) (earlier : List Act) (p q : Place) (a : Act) (ws : List ListedWord) → Upto q p → WordsUpto q ws → WordsUpto p (and_word σ earlier q a ws)
-and_word_upto σ earlier p q (act.Word e) ws h w = word_upto p q (location σ earlier) (word_value σ (location σ earlier) e.now) ws h w
-and_word_upto σ earlier p q _ ws h w = words_higher q p ws h w
+and_word_upto : (σ : Values) (here : ℕ) (p q : Place) (e : List Join) (a : Act) (ws : List ListedWord) → Upto q p → WordsUpto q ws → WordsUpto p (and_word σ here q e a ws)
+and_word_upto σ here p q e act.Word ws h w = word_upto p q here (word_value σ here e) ws h w
+and_word_upto σ here p q e _ ws h w = words_higher q p ws h w
 
 words_upto : (σ : Values) (p : Place) (before : List PlacedAct) → ActsUpto p before → WordsUpto p (words σ before)
 words_upto σ p [] a = tt
-words_upto σ p (x ∷ before) a = and_word_upto σ (map act_in before) p (place_of x) x.act (words σ before) a.0 (words_upto σ (place_of x) before a.1)
+words_upto σ p (x ∷ before) a = and_word_upto σ (location σ before) p x.place x.terms x.act (words σ before) a.0 (words_upto σ x.place before a.1)
 
 words_lower : (p q : Place) (ws : List ListedWord) → Upto p q → After q ws → After p ws
 words_lower p q [] h a = tt

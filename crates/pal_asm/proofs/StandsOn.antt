@@ -14,7 +14,7 @@ use Rattle.pal_text.specs.declared.cut.Statement.{Statement}
 use Rattle.pal_text.specs.declared.cut.Close.{Close}
 use Rattle.pal_text.specs.declared.cut.Ending.{Ending}
 use Rattle.pal_text.specs.declared.cut.Ending.TheVariants as ending
-use Rattle.pal_text.specs.Grammar.{Body, nothing, origin, assign, decimal, octal, pause, word, IsBody, form_of, spelled, IsStatement}
+use Rattle.pal_text.specs.Grammar.{is_expression, IsStatement, nothing, origin, assign, decimal, octal, pause, word, tagged}
 use Rattle.pal_text.specs.Reading.{kinds}
 use Rattle.pal_text.specs.Statements.{is_end, is_dollar, Piece, piece, pieces, own, Fills, last_end, closed, closing, Goes, Stand}
 use Rattle.pal_text.specs.declared.lines.Line.{Line}
@@ -24,20 +24,19 @@ use Rattle.pal_asm.proofs.Climbs.{Steps, statements_climb}
 use Rattle.pal_asm.proofs.Lined.{lined, lined_all, is_stop, Chain, part_chain}
 
 -- a word and PAUSE have tokens
-has_tokens : (names : List Kind) (b : Body) (f : Form) → (f ≡ form.Word) ⊎ (f ≡ form.Pause) → f ≡ form_of b → IsBody b → [] ≡ spelled names b → ⊥
-has_tokens (n ∷ ns) b f e d is h = cc
-has_tokens [] nothing f (inl e) d is h = let both : form.Word ≡ form.Empty = sym e ∙ d in cc
-has_tokens [] nothing f (inr e) d is h = let both : form.Pause ≡ form.Empty = sym e ∙ d in cc
-has_tokens [] (origin e') f e d is h = cc
-has_tokens [] (assign n e') f e d is h = cc
-has_tokens [] decimal f e d is h = cc
-has_tokens [] octal f e d is h = cc
-has_tokens [] pause f e d is h = cc
-has_tokens [] (word []) f e d is h = cc
-has_tokens [] (word (k ∷ ks)) f e d is h = cc
+has_tokens : (ks : List Kind) (tags : ℕ) (f : Form) → IsStatement ks tags f → (f ≡ form.Word) ⊎ (f ≡ form.Pause) → ks ≡ [] → ⊥
+has_tokens ks tags f nothing (inl e) none = let both : form.Empty ≡ form.Word = e in cc
+has_tokens ks tags f nothing (inr e) none = let both : form.Empty ≡ form.Pause = e in cc
+has_tokens ks tags f (origin e' h) e none = cc
+has_tokens ks tags f (assign n e' name h) e none = cc
+has_tokens ks tags f decimal e none = cc
+has_tokens ks tags f octal e none = cc
+has_tokens ks tags f pause e none = cc
+has_tokens ks tags f (word e' h) e none = let bad : false ≡ true = sym (ap is_expression none) ∙ h in cc
+has_tokens ks tags f (tagged n own more g name h) e none = cc
 
 some_tokens : (ts : List Token) (tags : ℕ) (f : Form) → (f ≡ form.Word) ⊎ (f ≡ form.Pause) → IsStatement (kinds ts) tags f → ts ≢ []
-some_tokens ts tags f e h none = has_tokens h.names h.body f e h.does h.body_is (sym (ap kinds none) ∙ h.spells)
+some_tokens ts tags f e h none = has_tokens (kinds ts) tags f h e (ap kinds none)
 
 -- the last of some tokens is on this line, and the line is there
 abbrev Lasts : (ℕ → ℕ) → ℕ → List Token → Type 0

@@ -1,6 +1,6 @@
 -- The statements of a part, read one after another.
 use Rattle.std.proofs.Common.{◌≡◌, ◌∙◌, sym, ap, refl, subst, ℕ, ◌<◌, List, [], ◌∷◌, ◌++◌, append_assoc, Bool, arith, length, inl, inr, Some, None, Option}
-use Rattle.std.specs.Prelude.{map, slice_range, Result, Ok, Err, IfErr}
+use Rattle.std.specs.Prelude.{slice_range, Result, Ok, Err, IfErr}
 use Rattle.std.specs.Result.{IsErrAnd}
 use Rattle.std.proofs.lemmas.List.{append-nil}
 use Rattle.pal_text.specs.declared.tokens.Token.{Token}
@@ -17,16 +17,17 @@ use Rattle.pal_text.specs.Statements.{Piece, closing, closed, Goes, Stand, Break
 use Rattle.pal_asm.specs.declared.number.Radix.{Radix}
 use Rattle.pal_asm.specs.declared.statement.NumberedPart.{NumberedPart}
 use Rattle.pal_asm.specs.Numbers.{base, radix_after}
-use Rattle.pal_asm.specs.Acts.{PlacedAct, placed, statement_acts, part_acts, last_radix}
+use Rattle.pal_acts.specs.Acts.{PlacedAct, place}
+use Rattle.pal_asm.specs.Acts.{statement_acts, part_acts, last_radix}
 use Rattle.pal_asm.specs.Kept.{IsRead, StopsPart}
 
 acts_more : (n : ℕ) (last : Bool) (source : List ℕ) (ts : List Token) (r : Radix) (ss : List Statement) (s : Statement)
-    → part_acts n last source ts r (ss ++ s ∷ []) ≡ part_acts n last source ts r ss ++ map (placed n s.line) (statement_acts (base (last_radix r ss)) last source (slice_range ts s.first s.last) s.form)
-acts_more n last source ts r [] s = append-nil (map (placed n s.line) (statement_acts (base r) last source (slice_range ts s.first s.last) s.form))
+    → part_acts n last source ts r (ss ++ s ∷ []) ≡ part_acts n last source ts r ss ++ statement_acts (place n s.line) (base (last_radix r ss)) last source (slice_range ts s.first s.last) s.form
+acts_more n last source ts r [] s = append-nil (statement_acts (place n s.line) (base r) last source (slice_range ts s.first s.last) s.form)
 acts_more n last source ts r (q ∷ ss) s =
-    let front : List PlacedAct = map (placed n q.line) (statement_acts (base r) last source (slice_range ts q.first q.last) q.form) in
+    let front : List PlacedAct = statement_acts (place n q.line) (base r) last source (slice_range ts q.first q.last) q.form in
     ap (λ l. front ++ l) (acts_more n last source ts (radix_after r q.form) ss s)
-    ∙ sym (append_assoc front (part_acts n last source ts (radix_after r q.form) ss) (map (placed n s.line) (statement_acts (base (last_radix (radix_after r q.form) ss)) last source (slice_range ts s.first s.last) s.form)))
+    ∙ sym (append_assoc front (part_acts n last source ts (radix_after r q.form) ss) (statement_acts (place n s.line) (base (last_radix (radix_after r q.form) ss)) last source (slice_range ts s.first s.last) s.form))
 
 radix_more : (r : Radix) (ss : List Statement) (s : Statement) → last_radix r (ss ++ s ∷ []) ≡ radix_after (last_radix r ss) s.form
 radix_more r [] s = refl
@@ -64,12 +65,12 @@ found_none source bytes n m o own_tokens same is h =
     subst P is (subst Q same h)
 
 pub kept_by : (part : NumberedPart) (r : Radix) (mid new : List PlacedAct) (s : Statement) (seen own_tokens : List Token) → seen ≡ own_tokens
-    → new ≡ mid ++ map (placed part.number s.line) (statement_acts (base r) part.last part.source.now seen s.form)
-    → new ≡ mid ++ map (placed part.number s.line) (statement_acts (base r) part.last part.source.now own_tokens s.form)
-kept_by part r mid new s seen own_tokens same h = h ∙ ap (λ o. mid ++ map (placed part.number s.line) (statement_acts (base r) part.last part.source.now o s.form)) same
+    → new ≡ mid ++ statement_acts (place part.number s.line) (base r) part.last part.source.now seen s.form
+    → new ≡ mid ++ statement_acts (place part.number s.line) (base r) part.last part.source.now own_tokens s.form
+kept_by part r mid new s seen own_tokens same h = h ∙ ap (λ o. mid ++ statement_acts (place part.number s.line) (base r) part.last part.source.now o s.form) same
 
 module _ (part : NumberedPart) (before r r' : Radix) (old mid new : List PlacedAct) (n m : ℕ) (found : Found) (own_tokens : List Token) (st : Stepped part before r old mid n) (next : IsNext part.source.now n found own_tokens m)
-    (kept : new ≡ mid ++ map (placed part.number found.statement.line) (statement_acts (base r) part.last part.source.now own_tokens found.statement.form)) (turns : r' ≡ radix_after r found.statement.form) where
+    (kept : new ≡ mid ++ statement_acts (place part.number found.statement.line) (base r) part.last part.source.now own_tokens found.statement.form) (turns : r' ≡ radix_after r found.statement.form) where
   closes : closing (slice_range (part_tokens part.source.now) n found.statement.last) found.mark found.statement.form ≡ found.close
   closes = ap (λ o. closing o found.mark found.statement.form) (sym next.own_is) ∙ sym next.close_is
 
@@ -78,7 +79,7 @@ module _ (part : NumberedPart) (before r r' : Radix) (old mid new : List PlacedA
 
   acts_on : new ≡ old ++ part_acts part.number part.last part.source.now (part_tokens part.source.now) before (st.statements ++ found.statement ∷ [])
   acts_on =
-      let X : Radix → List Token → List PlacedAct = λ q o. map (placed part.number found.statement.line) (statement_acts (base q) part.last part.source.now o found.statement.form) in
+      let X : Radix → List Token → List PlacedAct = λ q o. statement_acts (place part.number found.statement.line) (base q) part.last part.source.now o found.statement.form in
       let own_is : own_tokens ≡ slice_range (part_tokens part.source.now) found.statement.first found.statement.last =
       next.own_is ∙ ap (λ k. slice_range (part_tokens part.source.now) k found.statement.last) (sym next.fills.first) in
       let front : List PlacedAct = part_acts part.number part.last part.source.now (part_tokens part.source.now) before st.statements in

@@ -14,7 +14,8 @@ use Rattle.pal_asm.specs.declared.number.Radix.{Radix}
 use Rattle.pal_asm.specs.declared.number.Radix.TheVariants.{Octal}
 use Rattle.pal_asm.specs.declared.reading.Turn.{Turn}
 use Rattle.pal_asm.specs.declared.reading.Turn.TheVariants.{On, Ends}
-use Rattle.pal_asm.specs.Acts.{PlacedAct, part_acts, last_radix}
+use Rattle.pal_acts.specs.Acts.{PlacedAct}
+use Rattle.pal_asm.specs.Acts.{part_acts, last_radix}
 use Rattle.pal_asm.specs.Sources.{Follows, Gives, is_empty, texts}
 use Rattle.pal_asm.specs.Kept.{Next, Turns}
 

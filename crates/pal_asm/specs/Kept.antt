@@ -1,14 +1,7 @@
 -- What a source does as it is kept in memory, for the private contracts below `assemble`.
 use Rattle.std.specs.Prelude.{◌≡◌, ℕ, ◌+◌, ◌≤◌, Bool, ◌||◌, ◌&&◌, nat_eq, nat_lt, if◌then◌else◌, List, [], ◌∷◌, ◌++◌, length, map, reverse, slice_range, Result, Ok, Err}
-use Rattle.std.specs.Borrow.{Bor}
 use Rattle.pal_acts.specs.declared.act.Join.{Join}
-use Rattle.pal_acts.specs.declared.act.Act.{Act}
-use Rattle.pal_acts.specs.declared.act.Act.TheVariants as act
 use Rattle.pal_acts.specs.declared.code.Code.{Code}
-use Rattle.pal_asm.specs.declared.deed.Deed.{Deed}
-use Rattle.pal_asm.specs.declared.deed.Doing.{Doing}
-use Rattle.pal_asm.specs.declared.deed.Doing.TheVariants as doing
-use Rattle.pal_asm.specs.declared.deed.Placed.{Placed}
 use Rattle.pal_asm.specs.declared.number.Radix.{Radix}
 use Rattle.pal_asm.specs.declared.reading.Turn.{Turn}
 use Rattle.pal_asm.specs.declared.reading.Turn.TheVariants.{On, Ends}
@@ -23,8 +16,9 @@ use Rattle.pal_text.specs.Lines.{all_lines}
 use Rattle.pal_text.specs.Names.{part_tokens}
 use Rattle.pal_text.specs.Statements.{pieces, Stand}
 use Rattle.pal_text.specs.Parts.{IsIllegal}
-use Rattle.pal_asm.specs.Acts.{anywhere, PlacedAct, placed, part_acts, last_radix}
-use Rattle.pal_asm.specs.declared.deed.Place.{Place}
+use Rattle.pal_asm.specs.Acts.{part_acts, last_radix}
+use Rattle.pal_acts.specs.declared.act.Place.{Place}
+use Rattle.pal_acts.specs.Acts.{PlacedAct}
 use Rattle.pal_text.specs.Characters.{characters}
 use Rattle.pal_asm.specs.Listings.{TextLine, text_line, text_lines, Shows, words, is_at, line_text, without_front}
 use Rattle.pal_asm.specs.declared.listing.ListedWord.{ListedWord}
@@ -33,42 +27,7 @@ use Rattle.pal_acts.specs.Meaning.{location}
 use Rattle.pal_asm.specs.declared.fault.AssembleFault.{AssembleFault}
 use Rattle.pal_asm.specs.declared.fault.AssembleFault.TheVariants.{Source, NoMemory}
 use Rattle.pal_text.specs.declared.names.Name.{Name}
-use Rattle.pal_asm.specs.Sources.{Gives, is_empty, IsFaultOf, act_in}
-
--- An act without the place in memory of its expression.
-abbrev pub bare : Act → Act
-bare (act.Wrong c) = act.Wrong c
-bare (act.Tag n) = act.Tag n
-bare (act.Origin e) = act.Origin (anywhere e.now)
-bare (act.Assign n e) = act.Assign n (anywhere e.now)
-bare (act.Word e) = act.Word (anywhere e.now)
-bare act.LastPause = act.LastPause
-
--- The act that does this with this expression; what has none doesn't look at it.
-abbrev pub act_by : Doing → Bor (List Join) → Act
-act_by (doing.Wrong c) e = act.Wrong c
-act_by (doing.Tag n) e = act.Tag n
-act_by doing.Origin e = act.Origin e
-act_by (doing.Assign n) e = act.Assign n e
-act_by doing.Word e = act.Word e
-act_by doing.LastPause e = act.LastPause
-
--- The act that is kept so with its place, where these are the terms of all expressions.
-abbrev pub placed_act : List Join → Deed → PlacedAct
-placed_act js d = placed d.place.part d.place.line (act_by d.doing (anywhere (slice_range js d.span.first d.span.last)))
-
--- The acts that are kept.
-abbrev pub acts_in : List Join → List Deed → List PlacedAct
-acts_in js ds = map (placed_act js) ds
-
--- An expression lies among so many terms.
-pub record LiesWithin (n : ℕ) (d : Deed) : Type 0 where
-  pub forward : d.span.first ≤ d.span.last
-  pub inside : d.span.last ≤ n
-
--- An act at its place, without the place in memory of its expression.
-abbrev pub bare_placed : Placed → PlacedAct
-bare_placed p = placed p.place.part p.place.line (bare p.act)
+use Rattle.pal_asm.specs.Sources.{Gives, is_empty, IsFaultOf}
 
 -- An expression that was read into these terms, or what is wrong with it.
 abbrev pub read_of : List Join → Result (Unit {0}) Code → Result (List Join) Code
@@ -130,8 +89,8 @@ RefusesActs permanent acts NoMemory = Unit {0}
 
 -- An act was looked at for its word: from this location and these words of the acts before it to those.
 abbrev pub Adds : Values → PlacedAct → ℕ → ℕ → List ListedWord → List ListedWord → Type 0
-Adds σ next here here' found found' = (before : List PlacedAct) → here ≡ location σ (map act_in before) → found ≡ reverse (words σ before)
-    → (here' ≡ location σ (map act_in (next ∷ before))) × (found' ≡ reverse (words σ (next ∷ before)))
+Adds σ next here here' found found' = (before : List PlacedAct) → here ≡ location σ before → found ≡ reverse (words σ before)
+    → (here' ≡ location σ (next ∷ before)) × (found' ≡ reverse (words σ (next ∷ before)))
 
 -- A word stands before this place.
 abbrev pub is_before : Place → ListedWord → Bool

@@ -4,7 +4,7 @@ use Rattle.std.specs.List.{AllByRecursion}
 use Rattle.pal_text.specs.declared.names.Name.{Name}
 use Rattle.pal_asm.specs.declared.fault.PalFault.{PalFault}
 use Rattle.pal_asm.specs.Sources.{Means, IsFault}
-use Rattle.pal_asm.specs.declared.deed.Place.{Place}
+use Rattle.pal_acts.specs.declared.act.Place.{Place}
 use Rattle.pal_acts.specs.Values.{known}
 use Rattle.pal_asm.specs.Listings.{TextLine, all_words, Lists}
 

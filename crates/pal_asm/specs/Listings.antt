@@ -5,21 +5,18 @@ use Rattle.pal_text.specs.declared.lines.Line.{Line}
 use Rattle.pal_text.specs.declared.names.Name.{Name}
 use Rattle.pal_text.specs.Characters.{characters, code, is_character}
 use Rattle.pal_text.specs.Parts.{IsIllegal}
+use Rattle.pal_acts.specs.declared.act.Join.{Join}
+use Rattle.pal_acts.specs.declared.act.Place.{Place}
 use Rattle.pal_acts.specs.declared.act.Act.{Act}
 use Rattle.pal_acts.specs.declared.act.Act.TheVariants as act
 use Rattle.pal_acts.specs.declared.code.Code.{Code}
+use Rattle.pal_acts.specs.Acts.{PlacedAct, place}
 use Rattle.pal_acts.specs.Values.{Values, known}
 use Rattle.pal_acts.specs.Meaning.{location}
 use Rattle.pal_acts.specs.Words.{word_value}
 use Rattle.pal_asm.specs.declared.number.Radix.TheVariants.{Octal}
-use Rattle.pal_asm.specs.declared.deed.Place.{Place}
 use Rattle.pal_asm.specs.declared.listing.ListedWord.{ListedWord}
-use Rattle.pal_asm.specs.Acts.{PlacedAct}
-use Rattle.pal_asm.specs.Sources.{Read, Follows, Gives, act_in}
-
--- The place of a part's line, both counted from 1.
-abbrev pub place : ℕ → ℕ → Place
-place part line = record { part = part; line = line }
+use Rattle.pal_asm.specs.Sources.{Read, Follows, Gives}
 
 -- A line of a source: where it stands, and its bytes without those that end it.
 pub record TextLine : Type 0 where
@@ -48,15 +45,15 @@ abbrev pub word_at_place : Place → ℕ → Result ℕ Code → List ListedWord
 word_at_place p at (Ok w) before = record { place = p; at = at; word = w } ∷ before
 word_at_place p at (Err c) before = before
 
--- The word of an act that stands at this place after earlier acts, before others; an act that isn't a word brings none.
-abbrev pub and_word : Values → List Act → Place → Act → List ListedWord → List ListedWord
-and_word σ earlier p (act.Word e) before = word_at_place p (location σ earlier) (word_value σ (location σ earlier) e.now) before
-and_word σ earlier p _ before = before
+-- The word of an act at this location, with its place, before others; an act that isn't a word brings none.
+abbrev pub and_word : Values → ℕ → Place → List Join → Act → List ListedWord → List ListedWord
+and_word σ here p e act.Word before = word_at_place p here (word_value σ here e) before
+and_word σ here p e _ before = before
 
 -- The words of acts, each with its place in the source and its address. Both lists have the newest first.
 abbrev pub words : Values → List PlacedAct → List ListedWord
 words σ [] = []
-words σ (a ∷ before) = and_word σ (map act_in before) (place a.part a.line) a.act (words σ before)
+words σ (a ∷ before) = and_word σ (location σ before) a.place a.terms a.act (words σ before)
 
 -- The words of acts that are in order, in order.
 abbrev pub all_words : Values → List PlacedAct → List ListedWord

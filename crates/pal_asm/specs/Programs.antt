@@ -31,5 +31,5 @@ image_in t = t.image
 -- The text of the listing that is made of a translation, for private contracts.
 abbrev pub text_of : {A : Type 0} → Translation A → List ℕ
 text_of t =
-    turns_text (lines_of_fronts t.fronts.items) (all_words (known (permanent_symbols t.profile) t.own.entries) t.deeds)
+    turns_text (lines_of_fronts t.fronts.items) (all_words (known (permanent_symbols t.profile) t.own.entries) t.acts)
     ++ codes "\n" ++ symbols_text t.own.entries

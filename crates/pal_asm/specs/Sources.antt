@@ -1,5 +1,5 @@
 -- What a source means, and what its fault is.
-use Rattle.std.specs.Prelude.{◌≡◌, ℕ, ◌+◌, Bool, true, false, ◌||◌, nat_lt, if◌then◌else◌, List, [], ◌∷◌, ◌++◌, length, map, slice_get, Option, Some, None, ◌⊎◌}
+use Rattle.std.specs.Prelude.{◌≡◌, ℕ, ◌+◌, Bool, true, false, ◌||◌, nat_lt, if◌then◌else◌, List, [], ◌∷◌, ◌++◌, length, map, Option, Some, None, ◌⊎◌}
 use Rattle.std.specs.Borrow.{Bor}
 use Rattle.pal_text.specs.declared.tokens.Token.{Token}
 use Rattle.pal_text.specs.declared.cut.Statement.{Statement}
@@ -8,10 +8,10 @@ use Rattle.pal_text.specs.declared.cut.Ending.TheVariants.{Dollar, Pause, Bytes}
 use Rattle.pal_text.specs.declared.lines.Line.{Line}
 use Rattle.pal_text.specs.declared.names.Name.{Name}
 use Rattle.pal_text.specs.Parts.{IsPart, IsIllegal}
-use Rattle.pal_acts.specs.declared.act.Act.{Act}
 use Rattle.pal_acts.specs.declared.act.Act.TheVariants as act
 use Rattle.pal_acts.specs.declared.code.Code.{Code}
 use Rattle.pal_acts.specs.declared.code.Code.TheVariants.{IllegalCharacter, TooLong}
+use Rattle.pal_acts.specs.Acts.{PlacedAct, placed, place}
 use Rattle.pal_acts.specs.Sources.{IsSource}
 use Rattle.pal_acts.specs.Faults.{IsRefused}
 use Rattle.pal_asm.specs.declared.number.Radix.{Radix}
@@ -19,7 +19,7 @@ use Rattle.pal_asm.specs.declared.number.Radix.TheVariants.{Octal}
 use Rattle.pal_asm.specs.declared.fault.PalFault.{PalFault}
 use Rattle.pal_asm.specs.declared.fault.AssembleFault.{AssembleFault}
 use Rattle.pal_asm.specs.declared.fault.AssembleFault.TheVariants.{Source, NoMemory}
-use Rattle.pal_asm.specs.Acts.{PlacedAct, placed, part_acts, last_radix}
+use Rattle.pal_asm.specs.Acts.{part_acts, last_radix}
 
 -- The fault with this code at this part and line.
 abbrev pub fault_at : Code → ℕ → ℕ → PalFault
@@ -63,29 +63,20 @@ Follows Bytes later next = next
 abbrev pub Gives : ℕ → Radix → List (List ℕ) → List PlacedAct → Type 0
 Gives n r [] acts = acts ≡ []
 Gives n r (p ∷ ps) acts =
-    ((line : ℕ) × IsIllegal p line × (acts ≡ placed n line (act.Wrong IllegalCharacter) ∷ []))
+    ((line : ℕ) × IsIllegal p line × (acts ≡ placed (place n line) [] (act.Wrong IllegalCharacter) ∷ []))
     ⊎ ((part : Read p) × (later : List PlacedAct) × (acts ≡ part_acts n (is_empty ps) p part.tokens r part.statements ++ later)
     × Follows part.ending later (Gives (n + 1) (last_radix r part.statements) ps later))
-
--- The act without its place.
-abbrev pub act_in : PlacedAct → Act
-act_in a = a.act
 
 -- The meaning of a source of parts, over these permanent symbols: the symbols and the image of the acts that the parts give.
 pub record Means (permanent : List (Name × ℕ)) (parts : List (List ℕ)) (symbols : List (Name × ℕ)) (image : List (Option ℕ)) : Type 0 where
   pub acts : List PlacedAct
   pub sizes : size_fault parts ≡ None
   pub gives : Gives 1 Octal parts acts
-  pub is_source : IsSource permanent 1024 (map act_in acts) symbols image
+  pub is_source : IsSource permanent 1024 acts symbols image
 
 -- The first fault of acts over these permanent symbols, told at the part and the line of its act.
-pub record IsFaultOf (permanent : List (Name × ℕ)) (acts : List PlacedAct) (fault : PalFault) : Type 0 where
-  pub at : ℕ
-  pub is_refused : IsRefused permanent 1024 (map act_in acts) at fault.code
-  pub bad : PlacedAct
-  pub there : slice_get acts at ≡ Some bad
-  pub part : fault.part ≡ bad.part
-  pub line : fault.line ≡ bad.line
+abbrev pub IsFaultOf : List (Name × ℕ) → List PlacedAct → PalFault → Type 0
+IsFaultOf permanent acts fault = IsRefused permanent 1024 acts (place fault.part fault.line) fault.code
 
 -- A source breaks so: its sizes are good, and this is the fault of the acts that the parts give.
 pub record Breaks (permanent : List (Name × ℕ)) (parts : List (List ℕ)) (fault : PalFault) : Type 0 where

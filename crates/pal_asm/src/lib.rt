@@ -5,7 +5,6 @@
 //! without the listing.
 #![tactic(auto)]
 
-mod deed;
 mod expression;
 pub mod fault;
 mod front;

@@ -4,13 +4,13 @@ ghost use Rattle.std.specs.Prelude.{◌≡◌, ◌<◌, ◌++◌, [], codes, len
 ghost use Rattle.std.specs.List.{AllByRecursion};
 ghost use Rattle.pal_text.specs.Characters.{characters};
 ghost use Rattle.pal_text.specs.Order.{IsLineWithin};
+ghost use Rattle.pal_acts.specs.Acts.{shown};
 ghost use Rattle.pal_acts.specs.Values.{known};
 ghost use Rattle.pal_asm.specs.Listings.{all_words, is_no_text, is_at, without_front, word_text, words_text, line_text, text_lines, symbol_text, symbols_text};
-ghost use Rattle.pal_asm.specs.Kept.{bare_placed, lines_in, lines_of_fronts, Adds, is_before, skip, next_at, after_those, turns_text};
+ghost use Rattle.pal_asm.specs.Kept.{lines_in, lines_of_fronts, Adds, is_before, skip, next_at, after_those, turns_text};
 
-use crate::deed::{Deeds, Place, Placed};
 use crate::front::Front;
-use pal_acts::{Act, Name, SymbolTable, Symbols};
+use pal_acts::{Act, Acts, Name, Place, Placed, SymbolTable, Symbols};
 use pal_text::characters::is_character_code;
 use pal_text::{Line, lines_of};
 use std::alloc::{AllocError, Allocator};
@@ -76,11 +76,11 @@ fn add_word<A: Allocator + Copy>(
     found: &mut Vec<ListedWord, A>,
 ) -> Result<(), AllocError>
     ensures { OnOk result (Adds (known symbols.now.permanent.now.entries symbols.now.own.entries)
-        (bare_placed item.entry) here.old here.new found.old.items found.new.items) }
+        (shown item.entry) here.old here.new found.old.items found.new.items) }
 {
     match item.act {
-        Act::Word(joins) => {
-            if let Ok(word) = symbols.word(*here, joins) {
+        Act::Word => {
+            if let Ok(word) = symbols.word(*here, item.terms) {
                 found.push(ListedWord {
                     place: item.place,
                     at: *here,
@@ -89,8 +89,8 @@ fn add_word<A: Allocator + Copy>(
             }
             *here = here.increment();
         }
-        Act::Origin(joins) => {
-            *here = match symbols.value(*here, joins) {
+        Act::Origin => {
+            *here = match symbols.value(*here, item.terms) {
                 Some(origin) => origin,
                 None => Word::ZERO,
             };
@@ -104,15 +104,15 @@ fn add_word<A: Allocator + Copy>(
 pub(crate) fn words_of<A: Allocator + Copy>(
     alloc: A,
     symbols: &Symbols<'_, A>,
-    deeds: &Deeds<A>,
+    acts: &Acts<A>,
 ) -> Result<Vec<ListedWord, A>, AllocError>
     ensures { IfOk result (λ found. found.items ≡
-        all_words (known symbols.now.permanent.now.entries symbols.now.own.entries) deeds.now) }
+        all_words (known symbols.now.permanent.now.entries symbols.now.own.entries) acts.now) }
 {
     let mut found = Vec::new(alloc);
     let mut here = Word::from_index(0o200);
-    for at in 0..deeds.len() {
-        add_word(symbols, deeds.get(at), &mut here, &mut found)?;
+    for at in 0..acts.len() {
+        add_word(symbols, acts.get(at), &mut here, &mut found)?;
     }
     Ok(found)
 }
@@ -299,16 +299,16 @@ fn push_symbols<A: Allocator + Copy>(
 pub(crate) fn make_listing<A: Allocator + Copy>(
     alloc: A,
     fronts: &[Front<'_>],
-    deeds: &Deeds<A>,
+    acts: &Acts<A>,
     symbols: &Symbols<'_, A>,
 ) -> Result<Vec<u8, A>, AllocError>
     ensures { IfOk result (λ text. text.items ≡
         turns_text (lines_of_fronts fronts.now)
-        (all_words (known symbols.now.permanent.now.entries symbols.now.own.entries) deeds.now) ++
+        (all_words (known symbols.now.permanent.now.entries symbols.now.own.entries) acts.now) ++
         codes "\n" ++ symbols_text symbols.now.own.entries) }
 {
     let lines = listed_lines(alloc, fronts)?;
-    let words = words_of(alloc, symbols, deeds)?;
+    let words = words_of(alloc, symbols, acts)?;
     let mut text = Vec::new(alloc);
     push_lines(&mut text, &lines, &words)?;
     text.extend_from_slice(b"\n")?;

@@ -78,7 +78,7 @@ fn with_listing<A: Allocator + Copy>(
         profile,
         image,
         own,
-        deeds,
+        acts,
         fronts,
     } = translation;
     let permanent = permanent_table(alloc, profile)?;
@@ -86,7 +86,7 @@ fn with_listing<A: Allocator + Copy>(
         permanent: &permanent,
         own,
     };
-    let listing = make_listing(alloc, &fronts, &deeds, &symbols)?;
+    let listing = make_listing(alloc, &fronts, &acts, &symbols)?;
     let Symbols { own, .. } = symbols;
     Ok(Program {
         image,

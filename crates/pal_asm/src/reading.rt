@@ -6,11 +6,10 @@ ghost use Rattle.pal_asm.specs.Sources.{Gives, size_fault, texts};
 ghost use Rattle.pal_asm.specs.Listings.{Shows};
 ghost use Rattle.pal_asm.specs.Kept.{lines_of_fronts, IsRead, StopsPart, Turns, TurnsLines};
 
-use crate::deed::{Deeds, Place};
 use crate::front::Front;
 use crate::number::Radix;
 use crate::statement::{NumberedPart, keep_statement};
-use pal_acts::{Act, Code};
+use pal_acts::{Act, Acts, Code, Place};
 use pal_text::{Close, Ending, Reader, TextFault};
 use std::alloc::{AllocError, Allocator};
 
@@ -33,18 +32,18 @@ fn keep_statements<A: Allocator + Copy>(
     alloc: A,
     before: Radix,
     part: &NumberedPart<'_>,
-    deeds: &mut Deeds<A>,
+    acts: &mut Acts<A>,
 ) -> Result<Reached, TextFault>
     requires { length part.now.source.now ≤ 65536 }
-    ensures read { IfOk result (IsRead part.now before deeds.old deeds.new) }
-    ensures stops { IfErr result (StopsPart part.now.source.now deeds.old deeds.new) }
+    ensures read { IfOk result (IsRead part.now before acts.old acts.new) }
+    ensures stops { IfErr result (StopsPart part.now.source.now acts.old acts.new) }
 {
     let mut reader = Reader::new(alloc, part.source);
     let mut joins = Vec::new(alloc);
     let mut radix = before;
     while let Some(found) = reader.read_next()? {
         let statement = found.statement;
-        let kept = keep_statement(part, radix, reader.tokens(), statement, &mut joins, deeds);
+        let kept = keep_statement(part, radix, reader.tokens(), statement, &mut joins, acts);
         let Ok(()) = kept else {
             return Err(TextFault::NoMemory);
         };
@@ -68,17 +67,17 @@ fn read_part<'s, A: Allocator + Copy>(
     alloc: A,
     radix: Radix,
     part: &NumberedPart<'s>,
-    deeds: &mut Deeds<A>,
+    acts: &mut Acts<A>,
     fronts: &mut Vec<Front<'s>, A>,
 ) -> Result<Turn, AllocError>
     requires { length part.now.source.now ≤ 65536 }
     ensures acts { IfOk result (Turns part.now.number radix part.now.last part.now.source.now
-        deeds.old deeds.new) }
+        acts.old acts.new) }
     ensures lines { IfOk result (TurnsLines part.now.number part.now.source.now
         (lines_of_fronts fronts.old.items) (lines_of_fronts fronts.new.items)) }
 {
-    let count = deeds.len();
-    match keep_statements(alloc, radix, part, deeds) {
+    let count = acts.len();
+    match keep_statements(alloc, radix, part, acts) {
         Ok(reached) => {
             fronts.push(Front {
                 number: part.number,
@@ -90,12 +89,12 @@ fn read_part<'s, A: Allocator + Copy>(
             }
         }
         Err(TextFault::Illegal(line)) => {
-            deeds.truncate(count);
+            acts.truncate(count);
             let place = Place {
                 part: part.number,
                 line,
             };
-            deeds.keep(place, Act::Wrong(Code::IllegalCharacter))?;
+            acts.keep(place, Act::Wrong(Code::IllegalCharacter), &[])?;
             Ok(Turn::Ends)
         }
         Err(TextFault::NoMemory) => Err(AllocError),
@@ -106,7 +105,7 @@ fn read_part<'s, A: Allocator + Copy>(
 /// What a source does, and the bytes of each part that was read.
 #[derive(Drop)]
 pub(crate) struct Reading<'s, A: Allocator> {
-    pub(crate) deeds: Deeds<A>,
+    pub(crate) acts: Acts<A>,
     pub(crate) fronts: Vec<Front<'s>, A>,
 }
 
@@ -116,11 +115,11 @@ pub(crate) fn read_source<'s, A: Allocator + Copy>(
     parts: &[&'s [u8]],
 ) -> Result<Reading<'s, A>, AllocError>
     requires { size_fault (texts parts.now) ≡ None }
-    ensures acts { IfOk result (λ reading. Gives 1 Octal (texts parts.now) reading.deeds) }
+    ensures acts { IfOk result (λ reading. Gives 1 Octal (texts parts.now) reading.acts) }
     ensures lines { IfOk result (λ reading. Shows 1 (texts parts.now)
         (lines_of_fronts reading.fronts.items)) }
 {
-    let mut deeds = Deeds::new(alloc);
+    let mut acts = Acts::new(alloc);
     let mut fronts = Vec::new(alloc);
     let mut radix = Radix::Octal;
     for (at, source) in parts.iter().enumerate() {
@@ -129,10 +128,10 @@ pub(crate) fn read_source<'s, A: Allocator + Copy>(
             last: at + 1 == parts.len(),
             source,
         };
-        match read_part(alloc, radix, &part, &mut deeds, &mut fronts)? {
+        match read_part(alloc, radix, &part, &mut acts, &mut fronts)? {
             Turn::On(next) => radix = next,
-            Turn::Ends => return Ok(Reading { deeds, fronts }),
+            Turn::Ends => return Ok(Reading { acts, fronts }),
         }
     }
-    Ok(Reading { deeds, fronts })
+    Ok(Reading { acts, fronts })
 }

@@ -5,13 +5,12 @@ ghost use Rattle.std.specs.List.{AllByRecursion};
 ghost use Rattle.pal_text.specs.Names.{IsWithin};
 ghost use Rattle.pal_text.specs.Reading.{is_comma};
 ghost use Rattle.pal_asm.specs.Numbers.{base};
-ghost use Rattle.pal_asm.specs.Acts.{tags, after_tags, tag_act, operand, assign_acts, body_acts, statement_acts, placed};
-ghost use Rattle.pal_asm.specs.Kept.{bare};
+ghost use Rattle.pal_acts.specs.Acts.{place};
+ghost use Rattle.pal_asm.specs.Acts.{tags, after_tags, tag_by, tag_act, operand, assign_acts, body_acts, statement_acts};
 
-use crate::deed::{Deeds, Place};
 use crate::expression::{name, read_expression};
 use crate::number::Radix;
-use pal_acts::{Act, Code, Join};
+use pal_acts::{Act, Acts, Code, Join, Place};
 use pal_text::{Form, Kind, Statement, Token};
 use std::alloc::{AllocError, Allocator};
 
@@ -44,9 +43,9 @@ fn without_tags(tokens: &[Token]) -> &[Token]
 }
 
 /// What a tag does: DECIMAL, OCTAL and PAUSE can't be given a value.
-fn tag_of(source: &[u8], token: Token) -> Act<'_>
+fn tag_of(source: &[u8], token: Token) -> Act
     requires { IsWithin (length source.now) token }
-    ensures { bare result ≡ tag_act source.now token }
+    ensures { result ≡ tag_by source.now token token.kind }
 {
     match token.kind {
         Kind::Symbol => Act::Tag(name(source, token)),
@@ -59,18 +58,18 @@ fn keep_tags<A: Allocator>(
     source: &[u8],
     place: Place,
     tokens: &[Token],
-    deeds: &mut Deeds<A>,
+    acts: &mut Acts<A>,
 ) -> Result<(), AllocError>
     requires { AllByRecursion (IsWithin (length source.now)) tokens.now }
-    ensures { OnOk result (deeds.new ≡ deeds.old ++
-        map (placed place.part place.line) (map (tag_act source.now) (tags tokens.now))) }
+    ensures { OnOk result (acts.new ≡ acts.old ++ map (tag_act place source.now)
+        (tags tokens.now)) }
 {
     let mut rest = tokens;
     while let [first, second, more @ ..] = rest {
         if !comma(second.kind) {
             break;
         }
-        deeds.keep(place, tag_of(source, *first))?;
+        acts.keep(place, tag_of(source, *first), &[])?;
         rest = more;
     }
     Ok(())
@@ -94,20 +93,20 @@ fn keep_assignment<A: Allocator>(
     place: Place,
     tokens: &[Token],
     joins: &[Join],
-    deeds: &mut Deeds<A>,
+    acts: &mut Acts<A>,
 ) -> Result<(), AllocError>
     requires { AllByRecursion (IsWithin (length source.now)) tokens.now }
-    ensures { OnOk result (deeds.new ≡ deeds.old ++
-        map (placed place.part place.line) (assign_acts source.now tokens.now joins.now)) }
+    ensures { OnOk result (acts.new ≡ acts.old ++ assign_acts place source.now tokens.now
+        joins.now) }
 {
     match tokens {
         [] => Ok(()),
         [first, ..] if first.kind == Kind::Symbol => {
-            deeds.keep(place, Act::Assign(name(source, *first), joins))
+            acts.keep(place, Act::Assign(name(source, *first)), joins)
         }
         [_, ..] => {
-            deeds.keep(place, Act::Origin(joins))?;
-            deeds.keep(place, Act::Wrong(Code::Redefined))
+            acts.keep(place, Act::Origin, joins)?;
+            acts.keep(place, Act::Wrong(Code::Redefined), &[])
         }
     }
 }
@@ -119,18 +118,17 @@ fn keep_body<A: Allocator>(
     tokens: &[Token],
     form: Form,
     joins: &[Join],
-    deeds: &mut Deeds<A>,
+    acts: &mut Acts<A>,
 ) -> Result<(), AllocError>
     requires { AllByRecursion (IsWithin (length part.now.source.now)) tokens.now }
-    ensures { OnOk result (deeds.new ≡ deeds.old ++
-        map (placed place.part place.line) (body_acts part.now.last part.now.source.now tokens.now
-        form joins.now)) }
+    ensures { OnOk result (acts.new ≡ acts.old ++ body_acts place part.now.last
+        part.now.source.now tokens.now form joins.now) }
 {
     match form {
-        Form::Origin => deeds.keep(place, Act::Origin(joins)),
-        Form::Assign => keep_assignment(part.source, place, tokens, joins, deeds),
-        Form::Word => deeds.keep(place, Act::Word(joins)),
-        Form::Pause if part.last => deeds.keep(place, Act::LastPause),
+        Form::Origin => acts.keep(place, Act::Origin, joins),
+        Form::Assign => keep_assignment(part.source, place, tokens, joins, acts),
+        Form::Word => acts.keep(place, Act::Word, joins),
+        Form::Pause if part.last => acts.keep(place, Act::LastPause, &[]),
         _ => Ok(()),
     }
 }
@@ -143,12 +141,12 @@ pub(crate) fn keep_statement<A: Allocator>(
     tokens: &[Token],
     statement: Statement,
     joins: &mut Vec<Join, A>,
-    deeds: &mut Deeds<A>,
+    acts: &mut Acts<A>,
 ) -> Result<(), AllocError>
     requires { AllByRecursion (IsWithin (length part.now.source.now)) tokens.now }
-    ensures { OnOk result (deeds.new ≡ deeds.old ++
-        map (placed part.now.number statement.line)
-        (statement_acts (base radix) part.now.last part.now.source.now tokens.now statement.form)) }
+    ensures { OnOk result (acts.new ≡ acts.old ++ statement_acts
+        (place part.now.number statement.line) (base radix) part.now.last part.now.source.now
+        tokens.now statement.form) }
 {
     let place = Place {
         part: part.number,
@@ -157,9 +155,9 @@ pub(crate) fn keep_statement<A: Allocator>(
     let body = without_tags(tokens);
     match read_expression(radix, part.source, operand_of(statement.form, body), joins)? {
         Ok(()) => {
-            keep_tags(part.source, place, tokens, deeds)?;
-            keep_body(part, place, body, statement.form, joins, deeds)
+            keep_tags(part.source, place, tokens, acts)?;
+            keep_body(part, place, body, statement.form, joins, acts)
         }
-        Err(code) => deeds.keep(place, Act::Wrong(code)),
+        Err(code) => acts.keep(place, Act::Wrong(code), &[]),
     }
 }

@@ -1,49 +1,42 @@
 //! What a source means, without its listing.
 
-ghost use Rattle.std.specs.Prelude.{◌≡◌, ◌++◌, codes, IfOk, IfErr, MatchResult, map, ℕ, List, Option, Some, None, Err};
+ghost use Rattle.std.specs.Prelude.{◌≡◌, ◌++◌, codes, IfOk, IfErr, MatchResult, ℕ, List, Option, Some, None, Err};
 ghost use Rattle.pal_text.specs.declared.names.Name.{Name as Named};
 ghost use Rattle.pal_acts.specs.Values.{known};
 ghost use Rattle.pal_acts.specs.Sources.{IsSource};
 ghost use Rattle.pal_asm.specs.declared.fault.PalFault.{PalFault as Faulty};
 ghost use Rattle.pal_acts.specs.Permanent.{permanent_symbols};
-ghost use Rattle.pal_asm.specs.Sources.{act_in, texts, size_fault, Means, IsFault, Refuses, IsSilent, TellsOnly};
+ghost use Rattle.pal_asm.specs.Sources.{texts, size_fault, Means, IsFault, Refuses, IsSilent, TellsOnly};
 ghost use Rattle.pal_asm.specs.Listings.{all_words, symbols_text, Lists};
 ghost use Rattle.pal_asm.specs.Programs.{symbols_in, image_in, text_of};
 ghost use Rattle.pal_asm.specs.Kept.{RefusesActs, lines_of_fronts, turns_text};
 
-use crate::deed::{Deeds, acts_of};
 use crate::fault::{AssembleFault, PalFault};
 use crate::front::Front;
 use crate::reading::{Reading, read_source};
 use crate::sizes::fault_of_sizes;
 use bin_tape::Image;
 use instruct::Profile;
-use pal_acts::{Assembled, Refused, SymbolTable, Symbols, permanent_table};
+use pal_acts::{Acts, Assembled, Refused, SymbolTable, Symbols, permanent_table};
 use std::alloc::Allocator;
 
-/// What the acts that are kept mean, or their fault at its place.
-fn assemble_deeds<'p, A: Allocator + Copy>(
+/// What acts mean, or their fault at its place.
+fn assemble_acts<'p, A: Allocator + Copy>(
     alloc: A,
     permanent: &'p SymbolTable<A>,
-    deeds: &Deeds<A>,
+    acts: &Acts<A>,
 ) -> Result<Assembled<'p, A>, AssembleFault>
-    ensures found { IfOk result (λ found. IsSource permanent.now.entries 1024
-        (map act_in deeds.now) found.symbols.own.entries found.image) }
-    ensures refused { IfErr result (RefusesActs permanent.now.entries deeds.now) }
+    ensures found { IfOk result (λ found. IsSource permanent.now.entries 1024 acts.now
+        found.symbols.own.entries found.image) }
+    ensures refused { IfErr result (RefusesActs permanent.now.entries acts.now) }
 {
-    let Ok(acts) = acts_of(alloc, deeds) else {
-        return Err(AssembleFault::NoMemory);
-    };
-    match pal_acts::assemble(alloc, permanent, &acts) {
+    match pal_acts::assemble(alloc, permanent, acts) {
         Ok(found) => Ok(found),
-        Err(Refused::Fault(at, code)) => {
-            let place = deeds.get(at).place;
-            Err(AssembleFault::Source(PalFault {
-                code,
-                part: place.part,
-                line: place.line,
-            }))
-        }
+        Err(Refused::Fault(place, code)) => Err(AssembleFault::Source(PalFault {
+            code,
+            part: place.part,
+            line: place.line,
+        })),
         Err(Refused::NoMemory) => Err(AssembleFault::NoMemory),
     }
 }
@@ -54,7 +47,7 @@ pub struct Translation<'s, A: Allocator + Copy> {
     pub(crate) profile: Profile,
     pub(crate) image: Image,
     pub(crate) own: SymbolTable<A>,
-    pub(crate) deeds: Deeds<A>,
+    pub(crate) acts: Acts<A>,
     pub(crate) fronts: Vec<Front<'s>, A>,
 }
 
@@ -83,7 +76,7 @@ fn translation_of<'s, A: Allocator + Copy>(
     ensures image { image_in result ≡ found.entry.image }
     ensures symbols { symbols_in result ≡ found.entry.symbols.own.entries }
     ensures listing { text_of result ≡ turns_text (lines_of_fronts reading.entry.fronts.items)
-        (all_words (known (permanent_symbols profile) (symbols_in result)) reading.entry.deeds) ++
+        (all_words (known (permanent_symbols profile) (symbols_in result)) reading.entry.acts) ++
         codes "\n" ++ symbols_text (symbols_in result) }
 {
     let Assembled { symbols, image } = found;
@@ -92,7 +85,7 @@ fn translation_of<'s, A: Allocator + Copy>(
         profile,
         image,
         own,
-        deeds: reading.deeds,
+        acts: reading.acts,
         fronts: reading.fronts,
     }
 }
@@ -116,7 +109,7 @@ fn translate_parts<'s, A: Allocator + Copy>(
     let Ok(permanent) = permanent_table(alloc, profile) else {
         return Err(AssembleFault::NoMemory);
     };
-    match assemble_deeds(alloc, &permanent, &reading.deeds) {
+    match assemble_acts(alloc, &permanent, &reading.acts) {
         Ok(found) => Ok(translation_of(profile, found, reading)),
         Err(fault) => Err(fault),
     }

@@ -12,3 +12,7 @@ pub mod Apart
 pub mod Steps
 pub mod Fronts
 pub mod Nexts
+pub mod Stays
+pub mod Moved
+pub mod Respelled
+pub mod Remarks

@@ -17,11 +17,11 @@ use Rattle.pal_text.specs.Statements.{is_end, Piece, piece, pieces, own, closing
 use Rattle.pal_text.proofs.Rises.{all_reverse}
 
 -- a piece stands before so many tokens
-record IsBefore (n : ℕ) (p : Piece) : Type 0 where
-  forward : p.first ≤ p.last
-  inside : p.last < n
+pub record IsBefore (n : ℕ) (p : Piece) : Type 0 where
+  pub forward : p.first ≤ p.last
+  pub inside : p.last < n
 
-pieces_before : (n first at : ℕ) (ts : List Token) → first ≤ at → at + length ts ≤ n → AllByRecursion (IsBefore n) (pieces first at ts)
+pub pieces_before : (n first at : ℕ) (ts : List Token) → first ≤ at → at + length ts ≤ n → AllByRecursion (IsBefore n) (pieces first at ts)
 pieces_before n first at [] f h = tt
 pieces_before n first at (t ∷ ts) f h = elim (cases_Bool (is_end t.kind)) [
   | inl ends ↦ (let P : Bool → Type 0 = λ b. AllByRecursion (IsBefore n) (if b then piece first at t ∷ pieces (at + 1) (at + 1) ts else pieces first (at + 1) ts) in

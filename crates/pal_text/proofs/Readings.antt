@@ -1,5 +1,5 @@
 -- What is read from the kinds of a statement is what the grammar spells, and all that it spells.
-use Rattle.std.proofs.Common.{◌≡◌, ◌∙◌, sym, ap, refl, ℕ, ◌+◌, List, [], ◌∷◌, Bool, true, false, ◌&&◌, if◌then◌else◌, Option, Some, None, inl, inr, arith, ◌≤◌, ◌-◌, length, take, drop, get_or}
+use Rattle.std.proofs.Common.{◌≡◌, ◌∙◌, sym, ap, refl, ℕ, ◌+◌, List, [], ◌∷◌, Bool, true, false, ◌&&◌, if◌then◌else◌, Option, Some, None, inl, inr, arith, ◌≤◌, ◌-◌, length, take, drop, get_or, subst}
 use Rattle.std.proofs.lemmas.List.{take_all}
 use Rattle.std.proofs.lemmas.Bool.{cases_Bool}
 use Rattle.std.specs.List.{AllByRecursion}
@@ -9,7 +9,7 @@ use Rattle.pal_text.specs.declared.tokens.Token.{Token}
 use Rattle.pal_text.specs.declared.grammar.Form.{Form}
 use Rattle.pal_text.specs.declared.grammar.Form.TheVariants as form
 use Rattle.pal_text.specs.declared.grammar.Shape.{Shape}
-use Rattle.pal_text.specs.Grammar.{is_term, is_joiner, is_sign, is_name, is_terms, is_expression, Body, nothing, origin, assign, decimal, octal, pause, word, spelled_body, spelled, IsBody, form_of, IsStatement}
+use Rattle.pal_text.specs.Grammar.{is_term, is_joiner, is_sign, is_name, is_terms, is_expression, IsStatement, nothing, origin, assign, decimal, octal, pause, word, tagged}
 use Rattle.pal_text.specs.Reading.{kinds, is_star, is_equals, is_comma, is_tag, if_expression, direction, single, body, shaped, shape}
 
 -- a tag is taken off the front of the tokens
@@ -39,30 +39,24 @@ both false b h = cc
 
 -- what a list of kinds is read as, with so many tags before it
 record Found (ks : List Kind) (n : ℕ) (read : Shape) : Type 0 where
-  names : List Kind
-  does : Body
-  spells : ks ≡ spelled names does
-  names_are : AllByRecursion (λ k. is_name k ≡ true) names
-  body_is : IsBody does
-  is : read ≡ record { tags = n + length names; form = form_of does }
+  tags : ℕ
+  count : read.tags ≡ n + tags
+  statement : IsStatement ks tags read.form
 
 -- what a body is read as
-record Means (ks : List Kind) (f : Form) : Type 0 where
-  does : Body
-  spells : ks ≡ spelled_body does
-  body_is : IsBody does
-  is : f ≡ form_of does
+means : (ks : List Kind) (f g : Form) → Some g ≡ Some f → IsStatement ks 0 g → IsStatement ks 0 f
+means ks f g e s = let q : g ≡ f = cc in subst (λ x. IsStatement ks 0 x) q s
 
-means_expression : (ks e : List Kind) (f g : Form) (b : Body) → ks ≡ spelled_body b → (is_expression e ≡ true → IsBody b) → g ≡ form_of b → if_expression e g ≡ Some f → Means ks f
-means_expression ks e f g b spells holds is h = elim (cases_Bool (is_expression e)) [
-  | inl ok ↦ (let k : Some g ≡ Some f = sym (ap (λ t. if t then Some g else None) ok) ∙ h in record { does = b; spells = spells; body_is = holds ok; is = (let q : f ≡ g = cc in q ∙ is) })
+means_expression : (ks e : List Kind) (f g : Form) → (is_expression e ≡ true → IsStatement ks 0 g) → if_expression e g ≡ Some f → IsStatement ks 0 f
+means_expression ks e f g holds h = elim (cases_Bool (is_expression e)) [
+  | inl ok ↦ means ks f g (sym (ap (λ t. if t then Some g else None) ok) ∙ h) (holds ok)
   | inr bad ↦ cc (sym h ∙ ap (λ t. if t then Some g else None) bad)
 ]
 
-means_direction : (k : Kind) (f : Form) → direction k ≡ Some f → Means (k ∷ []) f
-means_direction Decimal f h = record { does = decimal; spells = refl; body_is = tt; is = cc }
-means_direction Octal f h = record { does = octal; spells = refl; body_is = tt; is = cc }
-means_direction Pause f h = record { does = pause; spells = refl; body_is = tt; is = cc }
+means_direction : (k : Kind) (f : Form) → direction k ≡ Some f → IsStatement (k ∷ []) 0 f
+means_direction Decimal f h = means (Decimal ∷ []) f form.Decimal h decimal
+means_direction Octal f h = means (Octal ∷ []) f form.Octal h octal
+means_direction Pause f h = means (Pause ∷ []) f form.Pause h pause
 means_direction _ f h = cc
 
 term_no_sign : (k : Kind) → is_term k ≡ true → is_sign k ≡ false
@@ -74,23 +68,24 @@ term_no_sign _ h = refl
 term_expression : (k : Kind) → is_term k ≡ true → is_expression (k ∷ []) ≡ true
 term_expression k h = ap (λ t. if t then is_terms [] else is_terms (k ∷ [])) (term_no_sign k h) ∙ h
 
-means_single : (k : Kind) (f : Form) → single k ≡ Some f → Means (k ∷ []) f
+means_single : (k : Kind) (f : Form) → single k ≡ Some f → IsStatement (k ∷ []) 0 f
 means_single k f h = elim (cases_Bool (is_term k)) [
-  | inl ok ↦ (let same : Some form.Word ≡ Some f = sym (ap (λ t. if t then Some form.Word else direction k) ok) ∙ h in record { does = word (k ∷ []); spells = refl; body_is = term_expression k ok; is = cc })
+  | inl ok ↦ means (k ∷ []) f form.Word (sym (ap (λ t. if t then Some form.Word else direction k) ok) ∙ h) (word (k ∷ []) (term_expression k ok))
   | inr bad ↦ means_direction k f (sym (ap (λ t. if t then Some form.Word else direction k) bad) ∙ h)
 ]
 
-body_means : (ks : List Kind) (f : Form) → body ks ≡ Some f → Means ks f
-body_means [] f h = record { does = nothing; spells = refl; body_is = tt; is = cc }
+body_means : (ks : List Kind) (f : Form) → body ks ≡ Some f → IsStatement ks 0 f
+body_means [] f h = means [] f form.Empty h nothing
 body_means (k ∷ []) f h = means_single k f h
 body_means (k ∷ j ∷ ks) f h = elim (cases_Bool (is_star k)) [
-  | inl star ↦ means_expression (k ∷ j ∷ ks) (j ∷ ks) f form.Origin (origin (j ∷ ks)) (ap (λ x. x ∷ j ∷ ks) (is_star-Star k star)) (λ e. e) refl
+  | inl star ↦ means_expression (k ∷ j ∷ ks) (j ∷ ks) f form.Origin (λ e. subst (λ x. IsStatement (x ∷ j ∷ ks) 0 form.Origin) (sym (is_star-Star k star)) (origin (j ∷ ks) e))
       (sym (ap (λ t. if t then if_expression (j ∷ ks) form.Origin else (if is_name k && is_equals j then if_expression ks form.Assign else if_expression (k ∷ j ∷ ks) form.Word)) star) ∙ h)
   | inr no_star ↦ (let h' : (if is_name k && is_equals j then if_expression ks form.Assign else if_expression (k ∷ j ∷ ks) form.Word) ≡ Some f = sym (ap (λ t. if t then if_expression (j ∷ ks) form.Origin else (if is_name k && is_equals j then if_expression ks form.Assign else if_expression (k ∷ j ∷ ks) form.Word)) no_star) ∙ h in
       elim (cases_Bool (is_name k && is_equals j)) [
-        | inl assigned ↦ means_expression (k ∷ j ∷ ks) ks f form.Assign (assign k ks) (ap (λ x. k ∷ x ∷ ks) (is_equals-Equals j (both (is_name k) (is_equals j) assigned).1)) (λ e. ((both (is_name k) (is_equals j) assigned).0, e)) refl
+        | inl assigned ↦ means_expression (k ∷ j ∷ ks) ks f form.Assign
+            (λ e. subst (λ x. IsStatement (k ∷ x ∷ ks) 0 form.Assign) (sym (is_equals-Equals j (both (is_name k) (is_equals j) assigned).1)) (assign k ks (both (is_name k) (is_equals j) assigned).0 e))
             (sym (ap (λ t. if t then if_expression ks form.Assign else if_expression (k ∷ j ∷ ks) form.Word) assigned) ∙ h')
-        | inr plain ↦ means_expression (k ∷ j ∷ ks) (k ∷ j ∷ ks) f form.Word (word (k ∷ j ∷ ks)) refl (λ e. e) refl
+        | inr plain ↦ means_expression (k ∷ j ∷ ks) (k ∷ j ∷ ks) f form.Word (λ e. word (k ∷ j ∷ ks) e)
             (sym (ap (λ t. if t then if_expression ks form.Assign else if_expression (k ∷ j ∷ ks) form.Word) plain) ∙ h')
       ])
 ]
@@ -98,22 +93,18 @@ body_means (k ∷ j ∷ ks) f h = elim (cases_Bool (is_star k)) [
 at_body : (ks : List Kind) (n : ℕ) (read : Shape) (o : Option Form) → body ks ≡ o → shaped n o ≡ Some read → Found ks n read
 at_body ks n read None e h = cc
 at_body ks n read (Some f) e h =
-    let m : Means ks f = body_means ks f e in
     let same : record { tags = n; form = f } ≡ read = cc in
     let place : n ≡ n + 0 = omega arith in
-    record { names = []; does = m.does; spells = m.spells; names_are = tt; body_is = m.body_is; is = sym same ∙ (λ i. record { tags = place i; form = m.is i }) }
+    record { tags = 0; count = sym (ap (λ s. s.tags) same) ∙ place; statement = subst (λ x. IsStatement ks 0 x) (ap (λ s. s.form) same) (body_means ks f e) }
 
 tag_then : (k j : Kind) (ks : List Kind) (n : ℕ) (read : Shape) → is_tag k j ≡ true → Found ks (n + 1) read → Found (k ∷ j ∷ ks) n read
 tag_then k j ks n read t f =
     let q : j ≡ Comma = is_comma-Comma j (both (is_name k) (is_comma j) t).1 in
-    let place : (n + 1) + length f.names ≡ n + length (k ∷ f.names) = omega arith in
+    let place : (n + 1) + f.tags ≡ n + (f.tags + 1) = omega arith in
     record {
-      names = k ∷ f.names;
-      does = f.does;
-      spells = λ x. k ∷ q x ∷ f.spells x;
-      names_are = ((both (is_name k) (is_comma j) t).0, f.names_are);
-      body_is = f.body_is;
-      is = f.is ∙ (λ x. record { tags = place x; form = form_of f.does });
+      tags = f.tags + 1;
+      count = f.count ∙ place;
+      statement = subst (λ x. IsStatement (k ∷ x ∷ ks) (f.tags + 1) read.form) (sym q) (tagged k ks f.tags read.form (both (is_name k) (is_comma j) t).0 f.statement);
     }
 
 found : (ks : List Kind) (n : ℕ) (read : Shape) → shape n ks ≡ Some read → Found ks n read
@@ -128,8 +119,8 @@ found (k ∷ j ∷ ks) n read h = elim (cases_Bool (is_tag k j)) [
 pub shape_sound : (ks : List Kind) (read : Shape) → shape 0 ks ≡ Some read → IsStatement ks read.tags read.form
 shape_sound ks read h =
     let f : Found ks 0 read = found ks 0 read h in
-    let place : 0 + length f.names ≡ length f.names = omega arith in
-    record { names = f.names; body = f.does; spells = f.spells; names_are = f.names_are; body_is = f.body_is; count = ap (λ s. s.tags) f.is ∙ place; does = ap (λ s. s.form) f.is }
+    let count : f.tags ≡ read.tags = omega (arith, f.count) in
+    subst (λ n. IsStatement ks n read.form) count f.statement
 
 term_no_star : (k : Kind) → is_term k ≡ true → is_star k ≡ false
 term_no_star Star h = cc
@@ -219,25 +210,31 @@ assign_read k e n name h =
     ∙ ap (λ t. shaped n (if t && true then if_expression e form.Assign else if_expression (k ∷ Equals ∷ e) form.Word)) name
     ∙ ap (λ t. shaped n (if t then Some form.Assign else None)) h
 
-body_read : (b : Body) (n : ℕ) → IsBody b → shape n (spelled_body b) ≡ Some (record { tags = n; form = form_of b })
-body_read nothing n h = refl
-body_read (origin []) n h = cc
-body_read (origin (j ∷ e)) n h = ap (λ t. shaped n (if t then Some form.Origin else None)) h
-body_read (assign k e) n h = assign_read k e n h.0 h.1
-body_read decimal n h = refl
-body_read octal n h = refl
-body_read pause n h = refl
-body_read (word e) n h = word_read e n h
+-- the same with no tags counted yet
+abbrev made : ℕ → Form → Shape
+made n f = record { tags = n; form = f }
 
-spelled_read : (names : List Kind) (n : ℕ) (b : Body) → AllByRecursion (λ k. is_name k ≡ true) names → IsBody b → shape n (spelled names b) ≡ Some (record { tags = n + length names; form = form_of b })
-spelled_read [] n b all h = body_read b n h ∙ (let place : n ≡ n + 0 = omega arith in λ i. Some (record { tags = place i; form = form_of b }))
-spelled_read (k ∷ ks) n b all h =
-    let place : (n + 1) + length ks ≡ n + length (k ∷ ks) = omega arith in
-    ap (λ t. if t && true then shape (n + 1) (spelled ks b) else shaped n (body (k ∷ Comma ∷ spelled ks b))) all.0
-    ∙ spelled_read ks (n + 1) b all.1 h ∙ (λ i. Some (record { tags = place i; form = form_of b }))
+no_tags : (n : ℕ) (f : Form) → Some (made n f) ≡ Some (made (n + 0) f)
+no_tags n f = let place : n ≡ n + 0 = omega arith in ap (λ t. Some (made t f)) place
+
+origin_read : (e : List Kind) (n : ℕ) → is_expression e ≡ true → shape n (Star ∷ e) ≡ Some (record { tags = n; form = form.Origin })
+origin_read [] n h = cc
+origin_read (j ∷ e) n h = ap (λ t. shaped n (if t then Some form.Origin else None)) h
+
+statement_read : (ks : List Kind) (tags : ℕ) (does : Form) → IsStatement ks tags does → (n : ℕ) → shape n ks ≡ Some (record { tags = n + tags; form = does })
+statement_read ks tags does nothing n = no_tags n form.Empty
+statement_read ks tags does (origin e h) n = origin_read e n h ∙ no_tags n form.Origin
+statement_read ks tags does (assign k e name h) n = assign_read k e n name h ∙ no_tags n form.Assign
+statement_read ks tags does decimal n = no_tags n form.Decimal
+statement_read ks tags does octal n = no_tags n form.Octal
+statement_read ks tags does pause n = no_tags n form.Pause
+statement_read ks tags does (word e h) n = word_read e n h ∙ no_tags n form.Word
+statement_read ks tags does (tagged k own more f name s) n =
+    let place : (n + 1) + more ≡ n + (more + 1) = omega arith in
+    ap (λ t. if t && true then shape (n + 1) own else shaped n (body (k ∷ Comma ∷ own))) name ∙ statement_read own more f s (n + 1) ∙ (λ i. Some (record { tags = place i; form = f }))
 
 -- each statement is read
 pub shape_complete : (ks : List Kind) (tags : ℕ) (does : Form) → IsStatement ks tags does → shape 0 ks ≡ Some (record { tags = tags; form = does })
 shape_complete ks tags does s =
-    let place : 0 + length s.names ≡ tags = omega (arith, s.count) in
-    ap (shape 0) s.spells ∙ spelled_read s.names 0 s.body s.names_are s.body_is ∙ (λ i. Some (record { tags = place i; form = sym s.does i }))
+    let place : 0 + tags ≡ tags = omega arith in
+    statement_read ks tags does s 0 ∙ (λ i. Some (record { tags = place i; form = does }))

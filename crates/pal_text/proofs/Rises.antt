@@ -61,14 +61,14 @@ grown_ordered at n comment (Character c) ts r = elim (cases_Bool (comment || nat
   | inr outside ↦ (let P : Bool → Type 0 = λ b. IsOrdered (at + 1) (if b then ts else added (token (kind_of c) n at) ts) in subst P (sym outside) (added_ordered (at + 1) (token (kind_of c) n at) ts (omega arith, omega arith, r)))
 ]
 
-tokens_ordered : (bytes : List ℕ) → IsOrdered (length bytes) (tokens bytes)
+pub tokens_ordered : (bytes : List ℕ) → IsOrdered (length bytes) (tokens bytes)
 tokens_ordered [] = tt
 tokens_ordered (b ∷ before) =
     let e : length before + 1 ≡ length (b ∷ before) = omega arith in
     let P : ℕ → Type 0 = λ n. IsOrdered n (tokens (b ∷ before)) in
     subst P e (grown_ordered (length before) (line before) (in_comment before) (meaning_after before b) (tokens before) (tokens_ordered before))
 
-ended_ordered : (bytes : List ℕ) → IsOrdered (length bytes) (ended bytes)
+pub ended_ordered : (bytes : List ℕ) → IsOrdered (length bytes) (ended bytes)
 ended_ordered bytes = added_ordered (length bytes) (end_token bytes) (tokens bytes) (omega arith, omega arith, tokens_ordered bytes)
 
 -- names don't move tokens
@@ -76,7 +76,7 @@ named_ordered : (source : List ℕ) (n : ℕ) (ts : List Token) → IsOrdered n 
 named_ordered source n [] r = tt
 named_ordered source n (t ∷ ts) r = (r.0, r.1, named_ordered source t.start ts r.2)
 
-map_reverse : {X Y : Type 0} (f : X → Y) (xs : List X) → map f (reverse xs) ≡ reverse (map f xs)
+pub map_reverse : {X Y : Type 0} (f : X → Y) (xs : List X) → map f (reverse xs) ≡ reverse (map f xs)
 map_reverse f [] = refl
 map_reverse f (x ∷ xs) = ap (map f) (turned x xs) ∙ map-append f (reverse xs) (x ∷ []) ∙ ap (λ l. l ++ f x ∷ []) (map_reverse f xs) ∙ sym (turned (f x) (map f xs))
 
@@ -88,7 +88,7 @@ part_tokens_ordered source =
     subst P (sym e) (named_ordered source (length source) (ended (reverse source)) (subst Q (length-reverse source) (ended_ordered (reverse source))))
 
 -- each token of tokens in order stands within
-ordered_within : (n m : ℕ) (ts : List Token) → m ≤ n → IsOrdered m ts → AllByRecursion (IsWithin n) ts
+pub ordered_within : (n m : ℕ) (ts : List Token) → m ≤ n → IsOrdered m ts → AllByRecursion (IsWithin n) ts
 ordered_within n m [] h r = tt
 ordered_within n m (t ∷ ts) h r = (record { forward = r.0; inside = omega (arith, r.1) }, ordered_within n t.start ts (omega (arith, r.0, r.1)) r.2)
 

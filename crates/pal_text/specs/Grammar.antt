@@ -1,6 +1,5 @@
 -- The grammar of a statement, on the whole list of its tokens' kinds.
-use Rattle.std.specs.Prelude.{◌≡◌, ℕ, Bool, true, false, ◌&&◌, if◌then◌else◌, List, [], ◌∷◌, length}
-use Rattle.std.specs.List.{AllByRecursion}
+use Rattle.std.specs.Prelude.{◌≡◌, ℕ, ◌+◌, Bool, true, false, ◌&&◌, if◌then◌else◌, List, [], ◌∷◌}
 use Rattle.pal_text.specs.declared.tokens.Kind.{Kind}
 use Rattle.pal_text.specs.declared.tokens.Kind.TheVariants.{Symbol, Decimal, Octal, Pause, Number, Here, Space, Comma, Equals, Plus, Minus, Star}
 use Rattle.pal_text.specs.declared.grammar.Form.{Form}
@@ -44,55 +43,19 @@ abbrev pub is_expression : List Kind → Bool
 is_expression [] = false
 is_expression (t ∷ ts) = if is_sign t then is_terms ts else is_terms (t ∷ ts)
 
--- What a statement does after its tags.
-pub data Body : Type 0 where
-  nothing : Body
-  origin : List Kind → Body
-  assign : Kind → List Kind → Body
-  decimal : Body
-  octal : Body
-  pause : Body
-  word : List Kind → Body
-
--- The tokens that spell it: nothing, *e, symbol=e, DECIMAL, OCTAL, PAUSE, or e.
-abbrev pub spelled_body : Body → List Kind
-spelled_body nothing = []
-spelled_body (origin e) = Star ∷ e
-spelled_body (assign n e) = n ∷ Equals ∷ e
-spelled_body decimal = Decimal ∷ []
-spelled_body octal = Octal ∷ []
-spelled_body pause = Pause ∷ []
-spelled_body (word e) = e
-
-abbrev pub IsBody : Body → Type 0
-IsBody nothing = Unit {0}
-IsBody (origin e) = is_expression e ≡ true
-IsBody (assign n e) = (is_name n ≡ true) × (is_expression e ≡ true)
-IsBody decimal = Unit {0}
-IsBody octal = Unit {0}
-IsBody pause = Unit {0}
-IsBody (word e) = is_expression e ≡ true
-
-abbrev pub form_of : Body → Form
-form_of nothing = form.Empty
-form_of (origin e) = form.Origin
-form_of (assign n e) = form.Assign
-form_of decimal = form.Decimal
-form_of octal = form.Octal
-form_of pause = form.Pause
-form_of (word e) = form.Word
-
--- The tokens of a statement: each tag with a comma after it, and then the body.
-abbrev pub spelled : List Kind → Body → List Kind
-spelled [] b = spelled_body b
-spelled (n ∷ ns) b = n ∷ Comma ∷ spelled ns b
-
--- These kinds are a statement with so many tags and this form.
-pub record IsStatement (own : List Kind) (tags : ℕ) (done : Form) : Type 0 where
-  pub names : List Kind
-  pub body : Body
-  pub spells : own ≡ spelled names body
-  pub names_are : AllByRecursion (λ n. is_name n ≡ true) names
-  pub body_is : IsBody body
-  pub count : tags ≡ length names
-  pub does : done ≡ form_of body
+-- These kinds are a statement with so many tags, which does this.
+pub data IsStatement : List Kind → ℕ → Form → Type 0 where
+  -- nothing
+  nothing : IsStatement [] 0 form.Empty
+  -- *e
+  origin : (e : List Kind) → is_expression e ≡ true → IsStatement (Star ∷ e) 0 form.Origin
+  -- symbol=e
+  assign : (n : Kind) (e : List Kind) → is_name n ≡ true → is_expression e ≡ true → IsStatement (n ∷ Equals ∷ e) 0 form.Assign
+  -- DECIMAL, OCTAL and PAUSE
+  decimal : IsStatement (Decimal ∷ []) 0 form.Decimal
+  octal : IsStatement (Octal ∷ []) 0 form.Octal
+  pause : IsStatement (Pause ∷ []) 0 form.Pause
+  -- e
+  word : (e : List Kind) → is_expression e ≡ true → IsStatement e 0 form.Word
+  -- a tag, and a statement after it
+  tagged : (n : Kind) (own : List Kind) (tags : ℕ) (does : Form) → is_name n ≡ true → IsStatement own tags does → IsStatement (n ∷ Comma ∷ own) (tags + 1) does

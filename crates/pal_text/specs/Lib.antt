@@ -11,3 +11,4 @@ pub mod Progress
 pub mod Readers
 pub mod Scan
 pub mod ReadParts
+pub mod Laws

@@ -9,6 +9,7 @@ pub mod characters;
 pub mod cut;
 pub mod fault;
 pub mod grammar;
+pub mod laws;
 pub mod lines;
 pub mod names;
 pub mod part;

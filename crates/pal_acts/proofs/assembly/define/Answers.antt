@@ -1,10 +1,11 @@
-use Rattle.std.proofs.Common.{◌≡◌, ◌+◌, ◌<◌, arith, take, drop, length, ap, sym, ◌∙◌, List, ◌∷◌, ℕ, subst}
+use Rattle.std.proofs.Common.{◌≡◌, ◌+◌, ◌<◌, arith, take, drop, length, ap, sym, ◌∙◌, List, ◌∷◌, ℕ, subst, refl}
 use Rattle.pal_text.specs.declared.names.Name.{Name}
 use Rattle.std.specs.Prelude.{reverse}
 use Rattle.std.proofs.lemmas.List.{take_all}
-use Rattle.pal_acts.specs.declared.act.Act.{Act}
+use Rattle.pal_acts.specs.Acts.{PlacedAct, shown}
 use Rattle.pal_acts.specs.Meaning.{Defines}
-use Rattle.pal_acts.proofs.Places.{Comes, goes_on, reverse_more, split_at, place_of, defines_none}
+use Rattle.pal_acts.specs.Faults.{fault, after}
+use Rattle.pal_acts.proofs.Places.{Comes, goes_on, turned_more, split_at, defines_none}
 use Rattle.pal_acts.proofs.assembly.define.Goals as goal
 
 pub loop-at-init : goal.loop-at-init
@@ -12,13 +13,14 @@ loop-at-init g c = rw c.new-symbols.ensures.none (defines_none _ 1024, c.from_in
 
 pub loop-at-preserved : goal.loop-at-preserved
 loop-at-preserved g c =
-    let acts : List Act = c.args.acts.now in
+    let acts : List PlacedAct = c.args.acts.now in
     let within : c.loop-at.at < length acts = omega arith in
-    let m = reverse_more acts c.loop-at.at c.index-acts-at.result within c.index-acts-at.is in
+    let next : PlacedAct = shown c.get-next.result in
+    let m = turned_more acts c.loop-at.at next within c.get-next.ensures in
     let kept : c.act.new.self.permanent.now.entries ≡ c.loop-at.symbols.permanent.now.entries = ap (λ b. b.now.entries) c.act.ensures.permanent in
-    let on = goes_on c.loop-at.symbols.permanent.now.entries 1024 (reverse (take c.loop-at.at acts)) c.index-acts-at.result c.loop-at.symbols.own.entries c.act.new.self.own.entries c.loop-at.here c.act.new.here
-    (record { defines = c.loop-at.invariant.0; here_is = c.loop-at.invariant.1 }) c.in-Ok.ensures.goes in
-    let P : List (Name × ℕ) → Type 0 = λ p. Comes p 1024 (c.index-acts-at.result ∷ reverse (take c.loop-at.at acts)) c.act.new.self.own.entries c.act.new.here in
+    let on = goes_on c.loop-at.symbols.permanent.now.entries 1024 (reverse (take c.loop-at.at acts)) next c.loop-at.symbols.own.entries c.act.new.self.own.entries c.loop-at.here c.act.new.here
+    (record { defines = c.loop-at.invariant.0; here_is = c.loop-at.invariant.1 }) c.in-Ok.ensures.sound c.in-Ok.ensures.symbols c.in-Ok.ensures.location in
+    let P : List (Name × ℕ) → Type 0 = λ p. Comes p 1024 (next ∷ reverse (take c.loop-at.at acts)) c.act.new.self.own.entries c.act.new.here in
     let on' : P c.act.new.self.permanent.now.entries = subst P (sym kept) on in
     rw m (on'.defines, on'.here_is, kept ∙ c.loop-at.invariant.2)
 
@@ -29,35 +31,36 @@ returns-clause-symbols g c =
 
 pub returns-in-Err-Fault-clause-refused : goal.returns-in-Err-Fault-clause-refused
 returns-in-Err-Fault-clause-refused g c =
-    let acts : List Act = c.args.acts.now in
+    let acts : List PlacedAct = c.args.acts.now in
     let within : c.loop-at.at < length acts = omega arith in
+    let next : PlacedAct = shown c.get-next.result in
     let e = rw c.in-Err-Fault.field-0-is at c.in-Err-Fault.ensures.refused in
     let kept : c.loop-at.symbols.permanent.now.entries ≡ c.args.permanent.now.entries = c.loop-at.invariant.2 in
     rw c.in-Err-Fault.field-0-is (rw (← kept) (record {
       earlier = reverse (take c.loop-at.at acts);
-      next = c.index-acts-at.result;
+      next = next;
       later = drop (c.loop-at.at + 1) acts;
       own = c.loop-at.symbols.own.entries;
-      parts = split_at acts c.loop-at.at c.index-acts-at.result within c.index-acts-at.is;
-      place = place_of acts c.loop-at.at within;
+      parts = split_at acts c.loop-at.at next within c.get-next.ensures;
+      place_is = refl;
       defines = c.loop-at.invariant.0;
-      breaks = e (reverse (take c.loop-at.at acts)) c.loop-at.invariant.1;
+      breaks = ap (λ l. fault c.loop-at.symbols.permanent.now.entries 1024 c.loop-at.symbols.own.entries l next.terms next.act) (sym c.loop-at.invariant.1) ∙ e;
     }))
 
 pub returns-in-Err-NoMemory-clause-refused : goal.returns-in-Err-NoMemory-clause-refused
 returns-in-Err-NoMemory-clause-refused g c =
-    let acts : List Act = c.args.acts.now in
+    let acts : List PlacedAct = c.args.acts.now in
     let within : c.loop-at.at < length acts = omega arith in
+    let next : PlacedAct = shown c.get-next.result in
     let kept : c.loop-at.symbols.permanent.now.entries ≡ c.args.permanent.now.entries = c.loop-at.invariant.2 in
     let asks = rw c.in-Err-NoMemory.field-0-is at c.in-Err-NoMemory.ensures.refused in
-    let e = asks (reverse (take c.loop-at.at acts)) c.loop-at.invariant.1 in
     rw (← kept) (record {
       earlier = reverse (take c.loop-at.at acts);
-      next = c.index-acts-at.result;
+      next = next;
       later = drop (c.loop-at.at + 1) acts;
       own = c.loop-at.symbols.own.entries;
-      parts = split_at acts c.loop-at.at c.index-acts-at.result within c.index-acts-at.is;
+      parts = split_at acts c.loop-at.at next within c.get-next.ensures;
       defines = c.loop-at.invariant.0;
-      sound = e.0;
-      grows = e.1;
+      sound = ap (λ l. fault c.loop-at.symbols.permanent.now.entries 1024 c.loop-at.symbols.own.entries l next.terms next.act) (sym c.loop-at.invariant.1) ∙ asks.0;
+      grows = ap (λ l. length (after c.loop-at.symbols.permanent.now.entries 1024 c.loop-at.symbols.own.entries l next.terms next.act)) (sym c.loop-at.invariant.1) ∙ asks.1;
     })

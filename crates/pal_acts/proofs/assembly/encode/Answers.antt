@@ -1,23 +1,38 @@
-use Rattle.std.proofs.Common.{◌+◌, ◌<◌, arith, take, drop, length, List}
+use Rattle.std.proofs.Common.{◌≡◌, ◌+◌, ◌<◌, ◌∙◌, sym, ap, refl, subst, arith, take, drop, length, List, ◌++◌}
 use Rattle.std.specs.Prelude.{reverse}
-use Rattle.pal_acts.specs.declared.act.Act.{Act}
+use Rattle.pal_acts.specs.Acts.{PlacedAct, shown}
+use Rattle.pal_acts.specs.Values.{Values, in_table}
+use Rattle.pal_acts.specs.Meaning.{location_after}
+use Rattle.pal_acts.specs.Faults.{WordBreaks}
 use Rattle.pal_acts.proofs.Images.{blank_image}
-use Rattle.pal_acts.proofs.Places.{split_at, place_of}
+use Rattle.pal_acts.proofs.Places.{split_at, turned_more}
 use Rattle.pal_acts.proofs.assembly.encode.Goals as goal
 
 pub loop-at-init : goal.loop-at-init
 loop-at-init g c = (rw c.empty-image.ensures.cells (blank_image _), tt, c.from_index-here.ensures)
 
+pub loop-at-preserved : goal.loop-at-preserved
+loop-at-preserved g c =
+    let acts : List PlacedAct = c.args.acts.now in
+    let within : c.loop-at.at < length acts = omega arith in
+    let next : PlacedAct = shown c.get-next.result in
+    let σ : Values = in_table (c.args.symbols.now.permanent.now.entries ++ c.args.symbols.now.own.entries) in
+    let more = turned_more acts c.loop-at.at next within c.get-next.ensures in
+    let step = c.in_default.ensures.puts next.place (reverse (take c.loop-at.at acts)) c.loop-at.invariant.2 c.loop-at.invariant.0 c.loop-at.invariant.1 in
+    rw more (step.0, step.1, step.2 ∙ ap (λ l. location_after σ l next.terms next.act) c.loop-at.invariant.2)
+
 pub returns-in-Err-clause-refused : goal.returns-in-Err-clause-refused
 returns-in-Err-clause-refused g c =
-    let acts : List Act = c.args.acts.now in
+    let acts : List PlacedAct = c.args.acts.now in
     let within : c.loop-at.at < length acts = omega arith in
+    let next : PlacedAct = shown c.get-next.result in
+    let σ : Values = in_table (c.args.symbols.now.permanent.now.entries ++ c.args.symbols.now.own.entries) in
     record {
       earlier = reverse (take c.loop-at.at acts);
-      next = c.index-acts-at.result;
+      next = next;
       later = drop (c.loop-at.at + 1) acts;
-      parts = split_at acts c.loop-at.at c.index-acts-at.result within c.index-acts-at.is;
-      place = place_of acts c.loop-at.at within;
+      parts = split_at acts c.loop-at.at next within c.get-next.ensures;
+      place_is = refl;
       encodes = c.loop-at.invariant.1;
-      breaks = c.in-Err.ensures.refused (reverse (take c.loop-at.at acts)) c.loop-at.invariant.2;
+      breaks = subst (λ l. WordBreaks σ l next.terms next.act c.in-Err.code) c.loop-at.invariant.2 c.in-Err.ensures.refused;
     }

@@ -1,12 +1,11 @@
 use Rattle.std.proofs.Common.{◌≡◌, take}
-use Rattle.std.specs.Prelude.{map, reverse}
+use Rattle.std.specs.Prelude.{reverse}
 use Rattle.pal_acts.specs.Values.{known}
 use Rattle.pal_acts.specs.Meaning.{location}
-use Rattle.pal_asm.specs.Sources.{act_in}
 use Rattle.pal_asm.specs.Listings.{words}
 use Rattle.pal_asm.proofs.listing.words_of.Given as goal
 
 abbrev pub invariant-loop-at : goal.invariant-loop-at
 invariant-loop-at g l =
-    (l.here ≡ location (known l.symbols.permanent.now.entries l.symbols.own.entries) (map act_in (reverse (take l.at l.deeds))))
-    × (l.found.items ≡ reverse (words (known l.symbols.permanent.now.entries l.symbols.own.entries) (reverse (take l.at l.deeds))))
+    (l.here ≡ location (known l.symbols.permanent.now.entries l.symbols.own.entries) (reverse (take l.at l.acts)))
+    × (l.found.items ≡ reverse (words (known l.symbols.permanent.now.entries l.symbols.own.entries) (reverse (take l.at l.acts))))

@@ -5,6 +5,6 @@ use Rattle.pal_asm.proofs.reading.read_source.Given as goal
 
 abbrev pub invariant-loop-at : goal.invariant-loop-at
 invariant-loop-at g l = record {
-  acts : Reached l.parts l.at l.radix l.deeds;
+  acts : Reached l.parts l.at l.radix l.acts;
   lines : ReachedLines l.parts l.at (lines_of_fronts l.fronts.items);
 }

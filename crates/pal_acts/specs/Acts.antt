@@ -1,0 +1,32 @@
+-- What a source does: acts, each with the place where it stands.
+use Rattle.std.specs.Prelude.{ℕ, List, map, slice_range}
+use Rattle.pal_acts.specs.declared.act.Act.{Act}
+use Rattle.pal_acts.specs.declared.act.Join.{Join}
+use Rattle.pal_acts.specs.declared.act.Place.{Place}
+use Rattle.pal_acts.specs.declared.acts.Placed.{Placed}
+use Rattle.pal_acts.specs.declared.acts.Kept.{Kept}
+
+-- An act, where it stands, and the terms of its expression; none where it has no expression.
+pub record PlacedAct : Type 0 where
+  pub place : Place
+  pub terms : List Join
+  pub act : Act
+
+abbrev pub placed : Place → List Join → Act → PlacedAct
+placed p e a = record { place = p; terms = e; act = a }
+
+-- The place of a part's line, both counted from 1.
+abbrev pub place : ℕ → ℕ → Place
+place part line = record { part = part; line = line }
+
+-- The act that is lent so.
+abbrev pub shown : Placed → PlacedAct
+shown a = placed a.place a.terms.now a.act
+
+-- The act that is kept so, where these are the terms of all expressions.
+abbrev pub kept_act : List Join → Kept → PlacedAct
+kept_act js k = placed k.place (slice_range js k.span.first k.span.last) k.act
+
+-- The acts that are kept.
+abbrev pub acts_in : List Join → List Kept → List PlacedAct
+acts_in js ks = map (kept_act js) ks

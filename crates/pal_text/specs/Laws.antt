@@ -1,0 +1,79 @@
+-- What the manual says of tokens and statements: it follows from their definitions.
+use Rattle.std.specs.Prelude.{◌≡◌, ℕ, ◌+◌, ◌-◌, Bool, true, false, ◌||◌, ◌&&◌, not, if◌then◌else◌, List, [], ◌∷◌, ◌++◌, length, map, reverse, nat_lt, nat_le, nat_eq}
+use Rattle.std.specs.List.{AllByRecursion}
+use Rattle.pal_text.specs.declared.tokens.Kind.{Kind}
+use Rattle.pal_text.specs.declared.tokens.Kind.TheVariants.{End}
+use Rattle.pal_text.specs.declared.tokens.Token.{Token}
+use Rattle.pal_text.specs.declared.cut.Statement.{Statement}
+use Rattle.pal_text.specs.Characters.{code, is_ignored, returned, in_comment}
+use Rattle.pal_text.specs.Tokens.{is_space, tokens}
+use Rattle.pal_text.specs.Names.{bytes_of, named, part_tokens}
+use Rattle.pal_text.specs.Statements.{is_end, Piece, pieces, Fills}
+
+-- A token that stands for itself: no space, whose place counts, and no end of a statement.
+abbrev pub stands_alone : Kind → Bool
+stands_alone k = not (is_space k || is_end k)
+
+-- The tokens of a part that is one token of so many bytes: that token, and the part's end.
+abbrev pub alone : Kind → ℕ → List Token
+alone k size = record { kind = k; line = 1; start = 0; end = size } ∷ record { kind = End; line = 1; start = size; end = size } ∷ []
+
+-- The bytes of a token, read as a part of their own, are that token again.
+abbrev pub SpellsAgain : List ℕ → Token → Type 0
+SpellsAgain source t = stands_alone t.kind ≡ true → part_tokens (bytes_of source t) ≡ alone t.kind (t.end - t.start)
+
+-- The slice of each token of a part, spelled again, is that token.
+abbrev pub TokensSpellAgain : Type 0
+TokensSpellAgain = (source : List ℕ) → AllByRecursion (SpellsAgain source) (part_tokens source)
+
+-- A token where so many bytes more stand at a place: one before the place stays, one after it stands so much later, and
+-- one around it ends so much later.
+abbrev pub moved : ℕ → ℕ → Token → Token
+moved place size t = record t {
+  start = if nat_lt t.start place then t.start else t.start + size;
+  end = if nat_lt t.start place && nat_le t.end place then t.end else t.end + size;
+}
+
+-- An ignored byte adds nothing, wherever it stands: the tokens are the same with it and without it.
+abbrev pub IgnoredAddNothing : Type 0
+IgnoredAddNothing = (before after : List ℕ) (b : ℕ) → is_ignored (code b) ≡ true → part_tokens (before ++ b ∷ after) ≡ map (moved (length before) 1) (part_tokens (before ++ after))
+
+-- A byte that ends a line, where it isn't one that a return before it makes an ignored one.
+abbrev pub is_line_byte : ℕ → Bool
+is_line_byte b = nat_eq (code b) 13 || nat_eq (code b) 10
+
+-- Here a line ends: by this byte, or because none is left.
+abbrev pub EndsLine : List ℕ → Type 0
+EndsLine [] = Unit {0}
+EndsLine (b ∷ bytes) = is_line_byte b ≡ true
+
+-- A comment adds nothing: the tokens are the same with it and without it. Right after a return the line feed that ends it
+-- would be ignored without it, so that place is left out.
+abbrev pub CommentsAddNothing : Type 0
+CommentsAddNothing = (before text after : List ℕ) (slash : ℕ) → in_comment (reverse before) ≡ false → returned (reverse before) ≡ false → code slash ≡ 47
+    → AllByRecursion (λ b. is_line_byte b ≡ false) text → EndsLine after
+    → part_tokens (before ++ ((slash ∷ text) ++ after)) ≡ map (moved (length before) (length (slash ∷ text))) (part_tokens (before ++ after))
+
+-- The tokens of the bytes at the front of a part.
+abbrev pub front_tokens : List ℕ → List Token
+front_tokens front = map (named front) (reverse (tokens (reverse front)))
+
+-- The last of these tokens, the newest first, ends a statement; or there are none.
+abbrev pub EndsStatement : List Token → Type 0
+EndsStatement [] = Unit {0}
+EndsStatement (t ∷ ts) = is_end t.kind ≡ true
+
+-- A piece that is a statement among some tokens is that statement among others.
+abbrev pub ReadsSo : List Token → List Token → Piece → Type 0
+ReadsSo tokens others p = (s : Statement) → Fills tokens p s → Fills others p s
+
+-- What stands in a part up to the end of a statement is there whatever follows: the tokens, the pieces and their reading.
+pub record Stays (front after : List ℕ) : Type 0 where
+  pub later : List Token
+  pub tokens_are : part_tokens (front ++ after) ≡ front_tokens front ++ later
+  pub more : List Piece
+  pub pieces_are : pieces 0 0 (part_tokens (front ++ after)) ≡ pieces 0 0 (front_tokens front) ++ more
+  pub read_so : AllByRecursion (ReadsSo (front_tokens front) (part_tokens (front ++ after))) (pieces 0 0 (front_tokens front))
+
+abbrev pub StatementsStay : Type 0
+StatementsStay = (front after : List ℕ) → EndsStatement (tokens (reverse front)) → Stays front after

@@ -192,7 +192,7 @@ pub front_more : (a b : Option (List ℕ)) (first second : List ℕ) → Appends
 front_more a b first second front = record {
   count = front.count;
   within = let e = length-append first second in let f = front.within in omega (arith, e, f);
-  out = (let f : front.count ≤ length first = front.within in rw (take-append-le front.count first second f) front.out);
+  out = (let f : front.count ≤ length first = (let g = front.within in omega (arith, g)) in rw (take-append-le front.count first second f) front.out);
 }
 
 pub line_put : (a b c : Option (List ℕ)) (v : Version) (ls : List Line) (i : ℕ) (d : Line) (text : List ℕ) → i < length ls →

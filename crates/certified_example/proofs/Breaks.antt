@@ -13,7 +13,7 @@ use Rattle.certified_example.specs.Broken.{image_with, bare, IsUnsafe}
 abbrev pub begun : ℕ → State
 begun word = record { ac = 0; link = 0; mq = 0; pc = 0o200; memory = λ a. (if a == 0o200 then word else 0) }
 
-is_start : (word : ℕ) → word < 4096 → IsStart (image_with word) 0o200 (begun word)
+pub is_start : (word : ℕ) → word < 4096 → IsStart (image_with word) 0o200 (begun word)
 is_start word lt = record {
   pc = refl;
   ac = omega arith;
@@ -34,7 +34,7 @@ is_start word lt = record {
 first : (word : ℕ) (reads : Option Words) → word < 4096 → IsSafeInRuns (image_with word) (bare reads) → IsLegal (image_with word) (bare reads) (begun word) []
 first word reads lt safe = safe (begun word) (begun word) [] [] (is_start word lt) (refl, refl)
 
-no_routine : (a : ℕ) → None ≡ Some a → ⊥
+pub no_routine : (a : ℕ) → None ≡ Some a → ⊥
 no_routine a e = cc
 
 -- an unsupported word

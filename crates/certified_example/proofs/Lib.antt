@@ -1,3 +1,4 @@
 pub mod Sets
 pub mod Valid
 pub mod Breaks
+pub mod Alone

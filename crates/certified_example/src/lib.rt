@@ -1,5 +1,6 @@
 //! Small programs: one with a routine, an auto-index pointer, a pause and a cell of changeable code,
-//! whose certificate meets every condition; and programs that break a rule at their first step.
+//! whose certificate meets every condition; programs that break a rule at their first step; and for
+//! each rule a step that it forbids and the others let through.
 #![tactic(auto)]
 
 ghost use Rattle.std.specs.Prelude.{Some, None};
@@ -8,7 +9,8 @@ ghost use Rattle.declaration.specs.Declaration.{IsDeclared};
 ghost use Rattle.policy.specs.Runs.{IsSafe};
 ghost use Rattle.judge.specs.Conditions.{IsValid};
 ghost use Rattle.certified_example.specs.Example.{image, declaration, example};
-ghost use Rattle.certified_example.specs.Broken.{IsUnsafe};
+ghost use Rattle.certified_example.specs.Broken.{IsUnsafe, bare, image_with};
+ghost use Rattle.certified_example.specs.Forbidden.{BreaksAlone, Rule, changing, two_cells};
 
 /// The declaration keeps the overlap rules, the certificate is valid, and so the program is safe.
 pub fn example_is_safe()
@@ -28,4 +30,18 @@ pub fn broken_are_unsafe()
     ensures return_without_call { IsUnsafe 0o5610 None }
     ensures undeclared_halt { IsUnsafe 0o7402 None }
     ensures unlisted_read { IsUnsafe 0o1205 (Some nothing) }
+{}
+
+/// For each of the seven rules a program and a step of one of its declared runs that this rule
+/// forbids and the six others let through: an unsupported word, a DCA to no variable, a
+/// JMS to no entry, a return with no call open, an undeclared HLT, the step after one that changed
+/// fixed code, and a read that isn't listed. So none of the rules may be left out.
+pub fn each_rule_forbids()
+    ensures stays { BreaksAlone Rule.StaysInBody (image_with 0o7401) (bare None) }
+    ensures writes { BreaksAlone Rule.WritesDeclared (image_with 0o3202) (bare None) }
+    ensures calls { BreaksAlone Rule.CallsEntries (image_with 0o4205) (bare None) }
+    ensures returns { BreaksAlone Rule.ReturnsToItsCall (image_with 0o5610) (bare None) }
+    ensures halts { BreaksAlone Rule.HaltsDeclared (image_with 0o7402) (bare None) }
+    ensures code { BreaksAlone Rule.KeepsCode changing two_cells }
+    ensures reads { BreaksAlone Rule.ReadsListed (image_with 0o1205) (bare (Some nothing)) }
 {}

@@ -1,5 +1,5 @@
 -- The bytes that were read so far, and the source's.
-use Rattle.std.proofs.Common.{ℕ, ◌≡◌, ◌≤◌, ◌+◌, List, ◌++◌, length, take, sym, ◌∙◌, ap, arith, append-nil, length-append, length-take-le}
+use Rattle.std.proofs.Common.{ℕ, ◌≡◌, ◌<◌, ◌≤◌, ◌+◌, List, ◌++◌, length, take, sym, ◌∙◌, ap, arith, append-nil, length-append, length-take-le}
 use Rattle.std.specs.Prelude.{Option, Some, None, IfSome}
 use Rattle.std.specs.Io.KnownBytes.{Consumes, IsAtEnd}
 use Rattle.std.proofs.lemmas.List.{take_all, take-append-le}
@@ -27,4 +27,12 @@ gave_two None middle new first piece count limit one two filled within = tt
 gave_two (Some bytes) middle new first piece count limit one two filled within =
     let second : List ℕ = take count piece in
     let joined : length (first ++ second) ≤ limit = rw (length-append first second, length-take-le count piece filled) within in
+    (first ++ second, Consumes-trans (Some bytes) middle new first second one two, joined)
+
+-- and of two parts of which the second isn't empty, some byte came
+pub gave_some : (old middle new : Option (List ℕ)) (first piece : List ℕ) (count : ℕ) → Consumes old middle first → Consumes middle new (take count piece) → count ≤ length piece → 0 < count → Gave old new (λ given. 0 < length given)
+gave_some None middle new first piece count one two filled some = tt
+gave_some (Some bytes) middle new first piece count one two filled some =
+    let second : List ℕ = take count piece in
+    let joined : 0 < length (first ++ second) = rw (length-append first second, length-take-le count piece filled) (omega arith) in
     (first ++ second, Consumes-trans (Some bytes) middle new first second one two, joined)

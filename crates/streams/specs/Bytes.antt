@@ -1,5 +1,5 @@
 -- What a call leaves of a source or a sink of bytes.
-use Rattle.std.specs.Prelude.{ℕ, ◌≤◌, ◌==◌, ◌&&◌, Bool, true, false, not, Option, Some, None, Result, Ok, Err, List, take, length, ⊤}
+use Rattle.std.specs.Prelude.{ℕ, ◌<◌, ◌==◌, ◌&&◌, Bool, true, false, not, Option, Some, None, Result, Ok, Err, List, take, length, ⊤}
 use Rattle.std.specs.Io.KnownBytes.{Appends, Consumes}
 
 -- A read gave nothing for a piece that isn't empty: the end of input.
@@ -12,10 +12,10 @@ abbrev pub write_fails : {E : Type 0} → Result ℕ E → List ℕ → Bool
 write_fails (Ok n) piece = n == 0 && not (length piece == 0)
 write_fails (Err e) piece = true
 
--- A front of the piece was appended to the bytes that a sink tells: all of it, a part or nothing.
+-- A front of the piece was appended to the bytes that a sink tells: a part of it or nothing, but not all.
 pub record AppendsFront (old new : Option (List ℕ)) (piece : List ℕ) : Type 0 where
   pub count : ℕ
-  pub within : count ≤ length piece
+  pub within : count < length piece
   pub out : Appends old new (take count piece)
 
 -- Of what a source gave between two states this is true. Nothing is said of a source that doesn't tell its bytes.

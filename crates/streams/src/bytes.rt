@@ -73,7 +73,7 @@ pub trait ByteSink {
 /// # Errors
 ///
 /// `Failed` where a write failed or took nothing, which the mark shows; a front of the piece went
-/// out before it.
+/// out before it, and never the whole.
 pub fn put<W: ByteSink>(sink: &mut W, piece: &[u8]) -> Result<(), Failed>
     requires unmarked { W.mark sink.old ≡ false }
     ensures whole { OnOk result (Appends (W.taken sink.old) (W.taken sink.new) piece.now) }

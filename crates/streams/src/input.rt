@@ -1,9 +1,10 @@
 //! All the bytes of a source, up to a limit.
 
-ghost use Rattle.std.specs.Prelude.{◌≡◌, ◌<◌, ◌≤◌, true, false, length, take, IfOk, IfSome};
+ghost use Rattle.std.specs.Prelude.{◌≡◌, ◌<◌, ◌≤◌, true, false, length, take, Err, IfOk, IfSome};
 ghost use Rattle.std.specs.Io.KnownBytes.{Consumes};
 ghost use Rattle.streams.specs.Bytes.{Gave};
 ghost use Rattle.streams.specs.Input.{read_fails};
+ghost use Rattle.streams.specs.declared.input.InputFault.TheVariants.{NoMemory};
 
 use crate::bytes::ByteSource;
 use std::alloc::{AllocError, Allocator};
@@ -39,7 +40,7 @@ impl From<AllocError> for InputFault {
 /// # Errors
 ///
 /// `ReadFailed` where a read failed before so many bytes had come, which the source's mark shows;
-/// `NoMemory` where a growth was refused. The bytes that had come until then are lost.
+/// `NoMemory` where a growth was refused, once a byte had come. The bytes that had come until then are lost.
 pub fn read_at_most<A: Allocator, R: ByteSource>(
     alloc: A,
     source: &mut R,
@@ -55,6 +56,9 @@ pub fn read_at_most<A: Allocator, R: ByteSource>(
     ensures marks { R.mark source.new ≡ read_fails result }
     ensures short { R.mark source.new ≡ true →
         Gave (R.remaining source.old) (R.remaining source.new) (λ given. length given < limit) }
+    // No memory is wanted before a byte has come.
+    ensures wanted { result ≡ Err NoMemory →
+        Gave (R.remaining source.old) (R.remaining source.new) (λ given. 0 < length given) }
     // Whatever the answer, the source gave no more bytes than the limit.
     ensures bounded { Gave (R.remaining source.old) (R.remaining source.new)
         (λ given. length given ≤ limit) }

@@ -91,9 +91,24 @@ write_other pl f Undefined a h = refl
 pub writes_nothing : (s : Words) (pl : Place) (f : Fact) (at w : ℕ) → s ≡ nothing → (kind_of (meaning_at pl at w) ≡ Memory → ⊥) → SameWords s (may_write pl f (meaning_at pl at w))
 writes_nothing s pl f at w e h v lt = ap (λ (x : Words). x v) e ∙ sym (write_other pl f (meaning_at pl at w) v h)
 
+-- a word that writes nothing
+pub no_write : (pl : Place) (f : Fact) (at w a : ℕ) → (kind_of (meaning_at pl at w) ≡ Memory → ⊥) → may_write pl f (meaning_at pl at w) a ≡ false
+no_write pl f at w a h = write_other pl f (meaning_at pl at w) a h
+
+both_false : (r j : Bool) → (r || j) ≡ false → (r ≡ false) × (j ≡ false)
+both_false true j e = absurd (false_true (sym e))
+both_false false j e = (refl, e)
+
 pub refers_to : (pl : Place) (at w n : ℕ) (i : Bool) → kind_of (meaning_at pl at w) ≡ Memory → i ≡ is_indirect w → n ≡ named_cell w at → reference (operation_of w) i n ≡ meaning_at pl at w
 refers_to pl at w n i k ei en =
     ap (λ x. reference (operation_of w) x n) ei ∙ ap (λ x. reference (operation_of w) (is_indirect w) x) en ∙ sym (reference_meaning pl.declaration.profile at w k)
+
+pub no_store : (pl : Place) (f : Fact) (at w n a : ℕ) (i j r e : Bool) → kind_of (meaning_at pl at w) ≡ Memory → i ≡ is_indirect w → n ≡ named_cell w at → r ≡ stores (operation_of w) →
+    j ≡ steps_pointer i n → e ≡ (r || j) → e ≡ false → may_write pl f (meaning_at pl at w) a ≡ false
+no_store pl f at w n a i j r e k ei en er ej ee h =
+    let off = both_false r j (sym ee ∙ h) in
+    ap (λ m. may_write pl f m a) (sym (refers_to pl at w n i k ei en)) ∙ sym (write_reference pl f (operation_of w) i n a)
+    ∙ ap (λ b. (b && (a == n)) || (stores (operation_of w) && targets pl i n f a)) (sym ej ∙ off.1) ∙ ap (λ b. b && targets pl i n f a) (sym er ∙ off.0)
 
 pub writes_reference : (s p t : Words) (pl : Place) (f : Fact) (at w n : ℕ) (i j r : Bool) → kind_of (meaning_at pl at w) ≡ Memory → i ≡ is_indirect w → n ≡ named_cell w at → r ≡ stores (operation_of w) →
     j ≡ steps_pointer i n → ((a : ℕ) → s a ≡ (p a || (r && t a))) → ((a : ℕ) → p a ≡ (j && (a == n))) → SameWords t (targets pl i n f) → SameWords s (may_write pl f (meaning_at pl at w))
@@ -263,6 +278,16 @@ pub kept_here : (r : Bool) (s counted : Words) (pl : Place) (f : Fact) (m : Mean
     SameWords s (may_write pl f m) → ((a : ℕ) → a < 4096 → (counted a ≡ true) ↔ CountsItsReturn pl f m a) → IsTrue r ↔ EntriesAreKept pl f m
 kept_here r s counted pl f m h e n =
     iff_trans h (λ q a lt w x. (n a lt).0 (q a lt (e a lt ∙ w) x), λ q a lt w x. (n a lt).1 (q a lt (sym (e a lt) ∙ w) x))
+
+-- where nothing is written
+pub declared_anyhow : (pl : Place) (f : Fact) (m : Meaning) → ((a : ℕ) → may_write pl f m a ≡ false) → IsTrue true ↔ WritesAreDeclared pl f m
+declared_anyhow pl f m h = (λ q a lt w. absurd (false_true (sym (h a) ∙ w)), λ q. refl)
+
+pub kept_anyhow : (pl : Place) (f : Fact) (m : Meaning) → ((a : ℕ) → may_write pl f m a ≡ false) → IsTrue true ↔ EntriesAreKept pl f m
+kept_anyhow pl f m h = (λ q a lt w x. absurd (false_true (sym (h a) ∙ w)), λ q. refl)
+
+pub listed_anyhow : (writes : Words) (pl : Place) (f : Fact) (m : Meaning) → ((a : ℕ) → may_write pl f m a ≡ false) → IsTrue true ↔ WritesAreListed pl writes f m
+listed_anyhow writes pl f m h = (λ q a lt w. absurd (false_true (sym (h a) ∙ w)), λ q. refl)
 
 halts_other : (d : Declaration) (m : Meaning) (at : ℕ) → (kind_of m ≡ Operate2 → ⊥) → HaltsDeclared d m at
 halts_other d (And i c) at h = tt

@@ -1,6 +1,6 @@
 -- What is asked of a word: the cells that it calls, the entry through which it returns, and the words that are possible.
-use Rattle.std.proofs.Common.{◌≡◌, ℕ, ◌<◌, Bool, true, false, ◌&&◌, ◌⊎◌, Option, Some, None, refl, sym, ap, ◌∙◌}
-use Rattle.std.specs.Prelude.{IsTrue, ◌↔◌, if◌then◌else◌}
+use Rattle.std.proofs.Common.{◌≡◌, ℕ, ◌<◌, Bool, true, false, ◌&&◌, ◌⊎◌, Option, Some, None, refl, sym, ap, ◌∙◌, inl}
+use Rattle.std.specs.Prelude.{IsTrue, ◌↔◌, if◌then◌else◌, is_some}
 use Rattle.instruct.specs.declared.Instruction.TheVariants.{Memory}
 use Rattle.instruct.specs.declared.Operation.{Operation}
 use Rattle.instruct.specs.declared.Operation.TheVariants as operation
@@ -11,7 +11,7 @@ use Rattle.processor.specs.Machine.{steps_pointer}
 use Rattle.declaration.specs.Declaration.{Declaration, IsListed}
 use Rattle.facts.specs.Facts.{Cell, Fact, Place, narrowed, possible, tape_word}
 use Rattle.facts.specs.Outcomes.{targets, meaning_at}
-use Rattle.facts.specs.Conditions.{may_read, calls, jumps, called, calls_through_index, returned_through, ReadsAreListed}
+use Rattle.facts.specs.Conditions.{may_read, calls, jumps, called, is_call, calls_through_index, returned_through, ReadsAreListed}
 use Rattle.facts.proofs.AskedLemmas.{false_true, refers_to, iff_trans, over}
 
 -- the cells that a word calls
@@ -56,6 +56,35 @@ pub calls_targets : (t : Words) (pl : Place) (f : Fact) (at w n : ℕ) (i r : Bo
     SameWords t (targets pl i n f) → SameWords t (called pl f (meaning_at pl at w))
 calls_targets t pl f at w n i r k er h ei en ht v lt =
     ht v lt ∙ is_called pl f (operation_of w) i n v (sym er ∙ h) ∙ ap (λ m. called pl f m v) (refers_to pl at w n i k ei en)
+
+-- whether a word is a JMS
+other_call : (m : Meaning) → (kind_of m ≡ Memory → ⊥) → is_call m ≡ false
+other_call (And i c) h = refl
+other_call (Tad i c) h = refl
+other_call (Isz i c) h = refl
+other_call (Dca i c) h = refl
+other_call (Jms i c) h = absurd (h refl)
+other_call (Jmp i c) h = refl
+other_call (Group1 w) h = refl
+other_call (Group2 w) h = refl
+other_call (Group3 o) h = refl
+other_call (Device d) h = refl
+other_call Undefined h = refl
+
+reference_call : (o : Operation) (i : Bool) (c : ℕ) → calls o ≡ is_call (reference o i c)
+reference_call operation.And i c = refl
+reference_call operation.Tad i c = refl
+reference_call operation.Isz i c = refl
+reference_call operation.Dca i c = refl
+reference_call operation.Jms i c = refl
+reference_call operation.Jmp i c = refl
+
+pub no_call : (pl : Place) (at w : ℕ) → (kind_of (meaning_at pl at w) ≡ Memory → ⊥) → false ≡ is_call (meaning_at pl at w)
+no_call pl at w h = sym (other_call (meaning_at pl at w) h)
+
+pub call_if : (r : Bool) (pl : Place) (at w : ℕ) → kind_of (meaning_at pl at w) ≡ Memory → r ≡ calls (operation_of w) → r ≡ is_call (meaning_at pl at w)
+call_if r pl at w k er =
+    er ∙ reference_call (operation_of w) (is_indirect w) (named_cell w at) ∙ ap is_call (refers_to pl at w (named_cell w at) (is_indirect w) k refl refl)
 
 -- a JMS through an auto-index cell
 none_steps : (m : Meaning) → (kind_of m ≡ Memory → ⊥) → calls_through_index m ≡ false
@@ -157,3 +186,11 @@ possible_tape pl f a s e h v lt = rw e (h v lt)
 pub reads_here : (r : Bool) (s : Words) (pl : Place) (f : Fact) (m : Meaning) → (IsTrue r ↔ ((a : ℕ) → a < 4096 → s a ≡ true → IsListed pl.declaration.reads a ⊎ (pl.routine ≡ Some a))) →
     SameWords s (may_read pl f m) → IsTrue r ↔ ReadsAreListed pl f m
 reads_here r s pl f m h e = iff_trans h (over s (may_read pl f m) (λ a. IsListed pl.declaration.reads a ⊎ (pl.routine ≡ Some a)) e)
+
+-- without a list of reads
+unlisted : (reads : Option Words) (a : ℕ) → is_some reads ≡ false → IsListed reads a
+unlisted None a e = tt
+unlisted (Some cells) a e = absurd (false_true (sym e))
+
+pub reads_anyhow : (pl : Place) (f : Fact) (m : Meaning) (b : Bool) → b ≡ is_some pl.declaration.reads → b ≡ false → IsTrue true ↔ ReadsAreListed pl f m
+reads_anyhow pl f m b e h = (λ q a lt w. inl (unlisted pl.declaration.reads a (sym e ∙ h)), λ q. refl)

@@ -65,6 +65,11 @@ abbrev pub called : Place → Fact → Meaning → Words
 called pl f (Jms i c) a = targets pl i c f a
 called pl f _ a = false
 
+-- The word is a JMS.
+abbrev pub is_call : Meaning → Bool
+is_call (Jms i c) = true
+is_call _ = false
+
 -- A JMS through an auto-index cell, which it steps first.
 abbrev pub calls_through_index : Meaning → Bool
 calls_through_index (Jms i c) = steps_pointer i c

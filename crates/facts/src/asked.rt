@@ -9,7 +9,7 @@ ghost use Rattle.policy.specs.Rules.{IsSupported, HaltsDeclared};
 ghost use Rattle.facts.specs.Facts.{possible};
 ghost use Rattle.facts.specs.Outcomes.{meaning_at, outcomes_at};
 ghost use Rattle.facts.specs.Same.{AgreeingOutcomes};
-ghost use Rattle.facts.specs.Conditions.{KeepsConditions, BreaksFirst, WritesAreDeclared, EntriesAreKept, WritesAreListed, ReadsAreListed, calls, jumps, called, calls_through_index, returned_through};
+ghost use Rattle.facts.specs.Conditions.{KeepsConditions, BreaksFirst, WritesAreDeclared, EntriesAreKept, WritesAreListed, ReadsAreListed, calls, is_call, jumps, called, calls_through_index, returned_through};
 ghost use Rattle.facts.specs.Meaning.{meaning};
 ghost use Rattle.facts.specs.Places.{place_of, writes_of};
 ghost use Rattle.facts.specs.Slots.{slots};
@@ -102,6 +102,9 @@ impl<A: Allocator> Place<'_, A> {
         ensures { IsTrue result ↔ WritesAreDeclared (place_of self.now) (meaning fact.now)
             (meaning_at (place_of self.now) at word) }
     {
+        if !self.is_writing(at, word) {
+            return true;
+        }
         let known = Known::of(fact);
         let written = self.cells_written(at, word, &known);
         self.are_declared(&written)
@@ -113,6 +116,9 @@ impl<A: Allocator> Place<'_, A> {
         ensures { IsTrue result ↔ EntriesAreKept (place_of self.now) (meaning fact.now)
             (meaning_at (place_of self.now) at word) }
     {
+        if !self.is_writing(at, word) {
+            return true;
+        }
         let known = Known::of(fact);
         let written = self.cells_written(at, word, &known);
         let counted = self.cell_counted(at, word, &known);
@@ -125,6 +131,9 @@ impl<A: Allocator> Place<'_, A> {
         ensures { IsTrue result ↔ WritesAreListed (place_of self.now) (writes_of self.now.routine)
             (meaning fact.now) (meaning_at (place_of self.now) at word) }
     {
+        if !self.is_writing(at, word) {
+            return true;
+        }
         let known = Known::of(fact);
         let written = self.cells_written(at, word, &known);
         self.may_write(&written)
@@ -136,9 +145,22 @@ impl<A: Allocator> Place<'_, A> {
         ensures { IsTrue result ↔ ReadsAreListed (place_of self.now) (meaning fact.now)
             (meaning_at (place_of self.now) at word) }
     {
+        if !self.declaration.reads_listed() {
+            return true;
+        }
         let known = Known::of(fact);
         let read = self.cells_read(at, word, &known);
         self.are_listed(&read)
+    }
+
+    /// Whether a word is a JMS.
+    pub fn is_call(&self, word: Word) -> bool
+        ensures { (at : ℕ) → result ≡ is_call (meaning_at (place_of self.now) at word) }
+    {
+        if !self.is_reference(word) {
+            return false;
+        }
+        is_jms(word)
     }
 
     /// The cells that a word may call: the targets of a JMS; else none.

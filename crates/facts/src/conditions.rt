@@ -1,6 +1,6 @@
 //! The cells that one word at the address of a fact may read or write, and what is asked of them.
 
-ghost use Rattle.std.specs.Prelude.{ℕ, ◌≡◌, ◌<◌, ◌==◌, ◌&&◌, ◌||◌, ◌↔◌, ◌⊎◌, IsTrue, Some, true};
+ghost use Rattle.std.specs.Prelude.{ℕ, ◌≡◌, ◌<◌, ◌==◌, ◌&&◌, ◌||◌, ◌↔◌, ◌⊎◌, IsTrue, Some, true, false};
 ghost use Rattle.wordset.specs.Words.{SameWords, meet, only};
 ghost use Rattle.wordset.specs.Lanes.{words};
 ghost use Rattle.instruct.specs.declared.Instruction.TheVariants.{Memory};
@@ -17,7 +17,7 @@ ghost use Rattle.facts.specs.Places.{place_of, writes_of};
 use crate::fact::Fact;
 use crate::known::Known;
 use crate::place::{Place, union_if};
-use crate::references::steps_pointer;
+use crate::references::{either, steps_pointer};
 use crate::skipping::both;
 use instruct::{Instruction, Operation, decode, refers_indirectly, target};
 use std::alloc::Allocator;
@@ -92,6 +92,18 @@ impl<A: Allocator> Place<'_, A> {
         let named = target(word, at);
         let targets = self.reached(indirect, named, known);
         union_if(reads_operand(word), &pointer_if(indirect, named), &targets)
+    }
+
+    /// Whether a word is of those that write, a JMS apart: where it isn't it writes nothing.
+    pub(crate) fn is_writing(&self, at: Word, word: Word) -> bool
+        ensures { result ≡ false → (f : said.Fact) (a : ℕ) →
+            may_write (place_of self.now) f (meaning_at (place_of self.now) at word) a ≡ false }
+    {
+        if !self.is_reference(word) {
+            return false;
+        }
+        let steps = steps_pointer(refers_indirectly(word), target(word, at));
+        either(stores(word), steps)
     }
 
     /// The cells that a word may write, a stepped pointer among them; save the one that a JMS

@@ -8,7 +8,7 @@ use Rattle.wordset.specs.Lanes.{words}
 use Rattle.declaration.specs.Declaration.{Routine}
 use Rattle.facts.specs.Facts.{Fact, Entails, EntailsOffsets, joined}
 use Rattle.facts.specs.Changes.{with_offsets}
-use Rattle.facts.specs.Conditions.{called, calls_through_index, returned_through}
+use Rattle.facts.specs.Conditions.{called, is_call, calls_through_index, returned_through}
 use Rattle.facts.specs.Places as kept
 use Rattle.facts.specs.declared.place.Running.{Running}
 use Rattle.certificate.specs.Certificate.{Certificate, writes_of}
@@ -29,6 +29,20 @@ each_target j r a (Group2 w) p set t same told = (λ q. tt, λ each. told.1 (λ 
 each_target j r a (Group3 o) p set t same told = (λ q. tt, λ each. told.1 (λ e lt is. absurd (true≢false (sym is ∙ same e lt))))
 each_target j r a (Device d) p set t same told = (λ q. tt, λ each. told.1 (λ e lt is. absurd (true≢false (sym is ∙ same e lt))))
 each_target j r a Undefined p set t same told = (λ q. tt, λ each. told.1 (λ e lt is. absurd (true≢false (sym is ∙ same e lt))))
+
+-- No word but a JMS has a target.
+pub no_target : (j : Case) (r : Routine) (a : ℕ) (m : Meaning) (p : ℕ → Type 0) → is_call m ≡ false → IsTrue true ↔ EachTarget j r a m p
+no_target j r a (Jms i c) p e = absurd (true≢false e)
+no_target j r a (And i c) p e = (λ q. tt, λ each. refl)
+no_target j r a (Tad i c) p e = (λ q. tt, λ each. refl)
+no_target j r a (Isz i c) p e = (λ q. tt, λ each. refl)
+no_target j r a (Dca i c) p e = (λ q. tt, λ each. refl)
+no_target j r a (Jmp i c) p e = (λ q. tt, λ each. refl)
+no_target j r a (Group1 w) p e = (λ q. tt, λ each. refl)
+no_target j r a (Group2 w) p e = (λ q. tt, λ each. refl)
+no_target j r a (Group3 o) p e = (λ q. tt, λ each. refl)
+no_target j r a (Device d) p e = (λ q. tt, λ each. refl)
+no_target j r a Undefined p e = (λ q. tt, λ each. refl)
 
 -- A word keeps the pointer where it isn't a JMS through an auto-index cell.
 pub keeps_pointer : (m : Meaning) (b : Bool) → b ≡ calls_through_index m → KeepsPointer m ↔ (b ≡ false)

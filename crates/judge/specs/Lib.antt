@@ -3,5 +3,6 @@ pub mod Callees
 pub mod Conditions
 pub mod Headline
 pub mod Judged
+pub mod Pages
 pub mod Spots
 pub mod Certifying

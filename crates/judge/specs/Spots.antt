@@ -9,6 +9,7 @@ use Rattle.facts.specs.Places as kept
 use Rattle.certificate.specs.Certificate.{Certificate, sites_of, writes_of}
 use Rattle.judge.specs.declared.spot.Spot.{Spot}
 use Rattle.facts.specs.declared.Condition.{Condition}
+use Rattle.judge.specs.Pages.{Shows}
 use Rattle.judge.specs.Conditions.{Case, fact_at, IsIn, HoldsFor}
 
 -- What is judged there.
@@ -23,12 +24,14 @@ case_of claims s = record {
 abbrev pub routine_at : {A C : Type 0} → Spot A C → Routine
 routine_at s = kept.routine_of s.place.routine
 
--- The fact is the one of the address, which is in the routine's body, and the place has what is claimed of the routine.
+-- The fact is the one of the address, which is in the routine's body, and the place has what is claimed of the
+-- routine; the other fact that is at hand is claimed too.
 pub record IsSpot {A C : Type 0} (claims : C → Certificate) (s : Spot A C) : Type 0 where
   pub fact : meaning s.fact.now ≡ fact_at (case_of claims s) s.at
   pub stands : IsIn (case_of claims s) (routine_at s) s.at
   pub sites : kept.sites_of s.place.routine ≡ sites_of (claims s.claims.now) (routine_at s)
   pub writes : kept.writes_of s.place.routine ≡ writes_of (claims s.claims.now) (routine_at s)
+  pub following : Shows (claims s.claims.now) s.following.now
 
 -- What a condition asks there of a word.
 abbrev pub HoldsHere : {A C : Type 0} → (C → Certificate) → Spot A C → Condition → ℕ → Type 0

@@ -85,6 +85,9 @@ impl<A: Allocator, C: Claims> Spot<'_, A, C> {
             (HoldsOfCallee (case_of C.claims self.now) condition (routine_at self.now)
             self.now.at) }
     {
+        if !self.place.is_call(word) {
+            return true;
+        }
         let callees = self.place.calls(self.fact, self.at, word);
         let mut next = 0usize;
         while let Some(entry) = callees.first_from(next) {

@@ -8,6 +8,7 @@ ghost use Rattle.facts.specs.Meaning.{known_of};
 ghost use Rattle.facts.specs.Slots.{outcome_of, slot, slots};
 ghost use Rattle.facts.specs.declared.Condition.TheVariants.{V4};
 ghost use Rattle.judge.specs.Conditions.{LandsAt, OutcomeLands, EachOutcome};
+ghost use Rattle.judge.specs.Pages.{Shows};
 ghost use Rattle.judge.specs.Spots.{IsSpot, case_of, routine_at, HoldsHere};
 
 use crate::claims::Claims;
@@ -46,11 +47,15 @@ impl<A: Allocator, C: Claims> Spot<'_, A, C> {
         known: &Known<'_>,
         next: &mut Fact,
     ) -> bool
+        requires { Shows (C.claims self.now.claims.now) self.now.following.now }
         ensures { (f : said.Fact) → Agree (known_of known.now) f →
             IsTrue result ↔ LandsAt (case_of C.claims self.now) owner.now at f }
     {
         if !self.is_inside(owner, at) {
             return false;
+        }
+        if self.following.is_of(at) {
+            return known.entails(self.following.fact());
         }
         if !self.claims.fact_into(at, next) {
             return false;
@@ -60,6 +65,7 @@ impl<A: Allocator, C: Claims> Spot<'_, A, C> {
 
     /// Whether what is known lands in the same body at each of some addresses.
     fn lands_at_each(&self, addresses: &WordSet, known: &Known<'_>, next: &mut Fact) -> bool
+        requires { Shows (C.claims self.now.claims.now) self.now.following.now }
         ensures { IsTrue result ↔ ((a : ℕ) → a < 4096 → words addresses.now a ≡ true →
             LandsAt (case_of C.claims self.now) (routine_at self.now) a (known_of known.now)) }
     {
@@ -76,6 +82,7 @@ impl<A: Allocator, C: Claims> Spot<'_, A, C> {
 
     /// Whether an outcome that goes on lands wherever it goes.
     fn outcome_lands(&self, outcome: &Outcome<'_>, next: &mut Fact) -> bool
+        requires { Shows (C.claims self.now.claims.now) self.now.following.now }
         ensures { IsTrue result ↔
             OutcomeLands (case_of C.claims self.now) (routine_at self.now)
             (outcome_of outcome.now) }
@@ -88,6 +95,7 @@ impl<A: Allocator, C: Claims> Spot<'_, A, C> {
 
     /// Whether an outcome lands, if it is there.
     fn slot_lands(&self, outcome: &Option<Outcome<'_>>, next: &mut Fact) -> bool
+        requires { Shows (C.claims self.now.claims.now) self.now.following.now }
         ensures { IsTrue result ↔
             EachOutcome (OutcomeLands (case_of C.claims self.now) (routine_at self.now))
             (slot outcome.now) }
@@ -100,6 +108,7 @@ impl<A: Allocator, C: Claims> Spot<'_, A, C> {
 
     /// Whether each of some outcomes lands, so far as they are there.
     fn each_lands(&self, outcomes: &[Option<Outcome<'_>>], next: &mut Fact) -> bool
+        requires { Shows (C.claims self.now.claims.now) self.now.following.now }
         ensures { IsTrue result ↔
             EachOutcome (OutcomeLands (case_of C.claims self.now) (routine_at self.now))
             (slots outcomes.now) }

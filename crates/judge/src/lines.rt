@@ -5,10 +5,11 @@ ghost use Rattle.wordset.specs.Words.{some_below};
 ghost use Rattle.facts.specs.Meaning.{meaning};
 ghost use Rattle.facts.specs.Places.{routine_of, sites_of, writes_of};
 ghost use Rattle.judge.specs.Conditions.{StartsWell, IsPlaced, fact_at};
+ghost use Rattle.judge.specs.Pages.{Shows, IsDesk};
 ghost use Rattle.judge.specs.Asked.{case_kept, names_routine, RoutinesArePlaced, routine_with, sites_with, writes_with, IsBody, HoldsBetween, FailsAtLine};
 
 use crate::claims::Claims;
-use crate::spot::{Desk, Others, Spot};
+use crate::spot::{Desk, Others, Page, Spot};
 use bin_tape::Image;
 use certificate::Routine;
 use declaration::{Declaration, Owner};
@@ -62,16 +63,15 @@ fn has_offset(fact: &Fact) -> bool
 impl<A: Allocator, C: Claims> Case<'_, A, C> {
     /// Whether there is a fact at the start, and it holds of every start.
     pub(crate) fn starts_well(&self, desk: &mut Desk) -> bool
-        ensures { IsTrue result ↔ StartsWell (case_kept C.claims self.now)
+        requires { IsDesk (C.claims self.now.claims.now) desk.old }
+        ensures starts { IsTrue result ↔ StartsWell (case_kept C.claims self.now)
             (case_kept C.claims self.now).declaration.start }
+        ensures desk { IsDesk (C.claims self.now.claims.now) desk.new }
     {
-        if !self
-            .claims
-            .fact_into(self.declaration.start(), &mut desk.here)
-        {
+        if !desk.even.turn_to(self.claims, self.declaration.start()) {
             return false;
         }
-        holds_before(&desk.here, self.image, self.declaration)
+        holds_before(desk.even.fact(), self.image, self.declaration)
     }
 
     /// Whether an exit line has an address.
@@ -131,24 +131,58 @@ impl<A: Allocator, C: Claims> Case<'_, A, C> {
 
     /// The first condition that fails at an address, if one does.
     pub(crate) fn check_at(&self, at: Word, desk: &mut Desk) -> Result<(), Condition>
-        ensures { MatchResult result
+        requires { IsDesk (C.claims self.now.claims.now) desk.old }
+        ensures checked { MatchResult result
             (λ _. HoldsBetween (case_kept C.claims self.now) 1 15 at)
             (λ v. FailsAtLine (case_kept C.claims self.now) at v) }
+        ensures desk { IsDesk (C.claims self.now.claims.now) desk.new }
     {
-        if !self.routines_are_placed(at, &mut desk.others.exit) {
+        if at.index() % 2 == 0 {
+            self.check_page(at, &mut desk.even, &mut desk.odd, &mut desk.others)
+        } else {
+            self.check_page(at, &mut desk.odd, &mut desk.even, &mut desk.others)
+        }
+    }
+
+    /// The first condition that fails at an address, if one does, with room for its fact and for the
+    /// one that follows.
+    fn check_page(
+        &self,
+        at: Word,
+        here: &mut Page,
+        following: &mut Page,
+        others: &mut Others,
+    ) -> Result<(), Condition>
+        requires here { Shows (C.claims self.now.claims.now) here.old }
+        requires following { Shows (C.claims self.now.claims.now) following.old }
+        ensures checked { MatchResult result
+            (λ _. HoldsBetween (case_kept C.claims self.now) 1 15 at)
+            (λ v. FailsAtLine (case_kept C.claims self.now) at v) }
+        ensures here { Shows (C.claims self.now.claims.now) here.new }
+        ensures following { Shows (C.claims self.now.claims.now) following.new }
+    {
+        if !self.routines_are_placed(at, &mut others.exit) {
             return Err(Condition::V2);
         }
-        if !self.claims.fact_into(at, &mut desk.here) {
+        if !here.turn_to(self.claims, at) {
             return Ok(());
         }
-        self.check_fact(at, &desk.here, &mut desk.others)
+        let _is_followed = following.turn_to(self.claims, at.increment());
+        self.check_fact(at, here.fact(), following, others)
     }
 
     /// The first condition that fails of the fact at an address, if one does.
-    fn check_fact(&self, at: Word, fact: &Fact, others: &mut Others) -> Result<(), Condition>
+    fn check_fact(
+        &self,
+        at: Word,
+        fact: &Fact,
+        following: &Page,
+        others: &mut Others,
+    ) -> Result<(), Condition>
         requires placed { RoutinesArePlaced (case_kept C.claims self.now) at }
         requires there { (case_kept C.claims self.now).certificate.has_fact at ≡ true }
         requires fact { meaning fact.now ≡ fact_at (case_kept C.claims self.now) at }
+        requires following { Shows (C.claims self.now.claims.now) following.now }
         ensures { MatchResult result
             (λ _. HoldsBetween (case_kept C.claims self.now) 1 15 at)
             (λ v. FailsAtLine (case_kept C.claims self.now) at v) }
@@ -156,6 +190,15 @@ impl<A: Allocator, C: Claims> Case<'_, A, C> {
         let Some(body) = self.body_of(at, fact) else {
             return Err(Condition::V2);
         };
-        Spot::of(self.image, self.declaration, self.claims, &body, at, fact).check(others)
+        Spot::of(
+            self.image,
+            self.declaration,
+            self.claims,
+            &body,
+            at,
+            fact,
+            following,
+        )
+        .check(others)
     }
 }

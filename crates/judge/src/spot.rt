@@ -1,9 +1,11 @@
 //! A fact at an address of a body, of whose words conditions are asked.
 
-ghost use Rattle.std.specs.Prelude.{◌≡◌, true};
+ghost use Rattle.std.specs.Prelude.{◌≡◌, Some, true, IsTrue};
+ghost use Rattle.certificate.specs.Certificate as said;
 ghost use Rattle.facts.specs.Meaning.{meaning};
 ghost use Rattle.judge.specs.Judged.{judged};
 ghost use Rattle.judge.specs.Asked.{IsBody};
+ghost use Rattle.judge.specs.Pages.{Shows, IsDesk};
 ghost use Rattle.judge.specs.Spots.{IsSpot, case_of};
 
 use crate::claims::Claims;
@@ -14,15 +16,72 @@ use facts::{Fact, Place};
 use std::alloc::Allocator;
 use word12::Word;
 
-/// Facts to read claims into: the one at the address, and of those that it is compared with the one
-/// where the run goes on and that of a return. Each has some 34,000 bytes, so they are made once.
+/// A fact that claims are read into, and whose it is: that of an address, or of none.
+#[derive(Drop)]
+pub(crate) struct Page {
+    fact: Fact,
+    address: Option<Word>,
+}
+
+impl Page {
+    /// A fact of which nothing is known, and which is that of no address.
+    fn new() -> Page
+        ensures { (c : said.Certificate) → Shows c result }
+    {
+        Page {
+            fact: Fact::any(),
+            address: None,
+        }
+    }
+
+    /// The fact.
+    pub(crate) fn fact(&self) -> &Fact
+        ensures { result.now ≡ self.now.fact }
+    {
+        &self.fact
+    }
+
+    /// Whether the fact is that of an address.
+    pub(crate) fn is_of(&self, at: Word) -> bool
+        ensures { IsTrue result → self.now.address ≡ Some at }
+    {
+        match &self.address {
+            None => false,
+            Some(address) => *address == at,
+        }
+    }
+
+    /// Whether there is a fact at an address, which then stands here. One that stands here already
+    /// isn't read again.
+    pub(crate) fn turn_to<C: Claims>(&mut self, claims: &C, at: Word) -> bool
+        requires { Shows (C.claims claims.now) self.old }
+        ensures there { result ≡ (C.claims claims.now).has_fact at }
+        ensures fact { result ≡ true → meaning self.new.fact ≡ (C.claims claims.now).fact at }
+        ensures shows { Shows (C.claims claims.now) self.new }
+    {
+        if self.is_of(at) {
+            return true;
+        }
+        if !claims.fact_into(at, &mut self.fact) {
+            return false;
+        }
+        self.address = Some(at);
+        true
+    }
+}
+
+/// Facts to read claims into, each of some 34,000 bytes, so they are made once: those at two
+/// addresses, one after the other, and others that the one at an address is compared with. The
+/// fact that a run mostly goes on to is then the one that is looked at next, and is read once.
 #[derive(Drop)]
 pub(crate) struct Desk {
-    pub(crate) here: Fact,
+    pub(crate) even: Page,
+    pub(crate) odd: Page,
     pub(crate) others: Others,
 }
 
-/// The facts that the one at an address is compared with.
+/// Further facts that the one at an address is compared with: where the run goes on elsewhere, and
+/// at a return.
 #[derive(Drop)]
 pub(crate) struct Others {
     pub(crate) next: Fact,
@@ -31,9 +90,12 @@ pub(crate) struct Others {
 
 impl Desk {
     /// Facts of which nothing is known.
-    pub(crate) fn new() -> Desk {
+    pub(crate) fn new() -> Desk
+        ensures { (c : said.Certificate) → IsDesk c result }
+    {
         Desk {
-            here: Fact::any(),
+            even: Page::new(),
+            odd: Page::new(),
             others: Others {
                 next: Fact::any(),
                 exit: Fact::any(),
@@ -49,6 +111,7 @@ pub(crate) struct Spot<'a, A: Allocator, C: Claims> {
     pub(crate) place: Place<'a, A>,
     pub(crate) at: Word,
     pub(crate) fact: &'a Fact,
+    pub(crate) following: &'a Page,
 }
 
 impl<'a, A: Allocator, C: Claims> Spot<'a, A, C> {
@@ -60,11 +123,13 @@ impl<'a, A: Allocator, C: Claims> Spot<'a, A, C> {
         body: &'a Body,
         at: Word,
         fact: &'a Fact,
+        following: &'a Page,
     ) -> Spot<'a, A, C>
         requires body { IsBody (judged image.now declaration.now (C.claims claims.now)) at
             body.now }
         requires there { (C.claims claims.now).has_fact at ≡ true }
         requires fact { meaning fact.now ≡ (C.claims claims.now).fact at }
+        requires following { Shows (C.claims claims.now) following.now }
         ensures spot { IsSpot C.claims result }
         ensures case { case_of C.claims result ≡
             judged image.now declaration.now (C.claims claims.now) }
@@ -81,6 +146,7 @@ impl<'a, A: Allocator, C: Claims> Spot<'a, A, C> {
             place,
             at,
             fact,
+            following,
         }
     }
 }

@@ -1,14 +1,21 @@
-use Rattle.std.proofs.Common.{refl}
+use Rattle.std.proofs.Common.{refl, sym, ◌∙◌}
 use Rattle.wordset.specs.Words.{SameWords}
 use Rattle.wordset.specs.Lanes.{words}
 use Rattle.instruct.specs.Instructions.{meaning_of}
 use Rattle.facts.specs.Conditions.{called}
 use Rattle.judge.specs.Callees.{HoldsOfCallee}
 use Rattle.judge.specs.Spots.{case_of, routine_at}
-use Rattle.judge.proofs.CallLemmas.{each_target}
+use Rattle.judge.proofs.CallLemmas.{each_target, no_target}
 use Rattle.judge.proofs.EachLemmas.{one_fails, one_more, all_pass}
 use Rattle.judge.proofs.SpotLemmas.{meant}
 use Rattle.judge.proofs.spot.Spot.callees_pass.Goals as goal
+
+pub returns-then-not-is_call : goal.returns-then-not-is_call
+returns-then-not-is_call g c =
+    let j = case_of g.C.Claims.claims c.args.self.now in
+    let r = routine_at c.args.self.now in
+    no_target j r c.args.self.now.at (meaning_of j.declaration.profile c.args.self.now.at c.args.word) (HoldsOfCallee j c.args.condition r c.args.self.now.at)
+    (sym (c.is_call.ensures c.args.self.now.at) ∙ c.if-not-is_call.true)
 
 pub returns-then-not-callee_passes : goal.returns-then-not-callee_passes
 returns-then-not-callee_passes g c =

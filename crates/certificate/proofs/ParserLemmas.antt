@@ -16,7 +16,7 @@ use Rattle.certificate.specs.Order.{any, is_end, may_stand, AreInOrder, front, I
 use Rattle.certificate.specs.Progress.{Tracks, Takes}
 use Rattle.certificate.specs.Meaning.{said}
 use Rattle.certificate.specs.Found.{newest_first, all_said, Keeps, IsWhole, unended}
-use Rattle.certificate.specs.Faults.{most_bytes, NoFeed, HasLine, HasFaultyLine, HasRest, IsCut, HasFault}
+use Rattle.certificate.specs.Faults.{most_bytes, NoFeed, HasLine, HasFaultyLine, HasRest, IsCut, HasFault, AsksForMemory}
 use Rattle.certificate.proofs.LengthLemmas.{line_short}
 use Rattle.certificate.proofs.GatherLemmas.{text_of_gathered}
 use Rattle.certificate.proofs.FormLemmas.{gathered_formed}
@@ -35,12 +35,12 @@ abbrev pub Kept : Result Unit CertificateFault → List ℕ → List ℕ → Opt
 Kept r text line old new_text new_line new long p =
     MatchResult r
     (λ u. (new_text ≡ text ++ line ++ 10 ∷ []) × (new_line ≡ []) × (new ≡ Some p) × (long ≡ false))
-    (λ e. (e ≡ faults.NoMemory) × (new ≡ old))
+    (λ e. ⊥)
 
 pub kept_number : (r : Result Unit CertificateFault) (text line new_text new_line : List ℕ) (old new : Option Progress) (long : Bool) (p : Progress) (n : ℕ) →
     Kept r text line old new_text new_line new long p → IfSome old (λ g. g.number ≤ n) → p.number ≤ n → IfSome new (λ g. g.number ≤ n)
 kept_number (Ok u) text line new_text new_line old new long p n k h g = let e : new ≡ Some p = k.2 in rw e g
-kept_number (Err f) text line new_text new_line old new long p n k h g = let e : new ≡ old = k.1 in rw e h
+kept_number (Err f) text line new_text new_line old new long p n k h g = absurd k
 
 -- After a line was kept.
 kept_parts : {A : Type 0} (new_kept : KeptLines A) (text line new_text new_line bytes : List ℕ) (new : Option Progress) (long : Bool) (p : Progress) →
@@ -86,7 +86,7 @@ line_feed kept text line bytes progress h = rw (h.same refl) h.feed
 pub first_kept : {A : Type 0} (kept new_kept : KeptLines A) (r : Result Unit CertificateFault) (text line new_text new_line bytes : List ℕ) (new : Option Progress) (long : Bool) (p : Progress) (v : Version) →
     Parts text kept None line false bytes → line ≡ version_text v → p.version ≡ v → Tracks p [] → Kept r text line None new_text new_line new long p →
     new_kept ≡ kept → MatchResult r (λ u. Parts new_text new_kept new new_line long (bytes ++ 10 ∷ [])) (Refuses (bytes ++ 10 ∷ []))
-first_kept kept new_kept (Err f) text line new_text new_line bytes new long p v h e w t k same = inl k.0
+first_kept kept new_kept (Err f) text line new_text new_line bytes new long p v h e w t k same = absurd k
 first_kept kept new_kept (Ok u) text line new_text new_line bytes new long p v h e w t k same =
     kept_parts new_kept text line new_text new_line bytes new long p (line_split kept text line bytes None h) k.0 k.1 k.2 k.3
     (record { before = []; order = tt; tracks = t; keeps = rw same h.read.1; is = (let z : text ≡ [] = h.read.0 in k.0 ∙ rw (z, e, w) refl) })
@@ -158,7 +158,7 @@ pub next_kept : {A : Type 0} (kept mid new_kept : KeptLines A) (r : Result Unit 
     ((before : List Line) → Tracks p before → Takes p.version before line q (Ok l)) → Kept r text line old new_text new_line new long q →
     ((before : List Line) → Keeps kept before → Keeps mid (unended (said l ∷ before))) → new_kept ≡ mid →
     MatchResult r (λ u. Parts new_text new_kept new new_line long (bytes ++ 10 ∷ [])) (Refuses (bytes ++ 10 ∷ []))
-next_kept kept mid new_kept (Err f) text line new_text new_line bytes old new long p q l is h w t k more same = inl k.0
+next_kept kept mid new_kept (Err f) text line new_text new_line bytes old new long p q l is h w t k more same = absurd k
 next_kept kept mid new_kept (Ok u) text line new_text new_line bytes old new long p q l is h w t k more same =
     kept_parts new_kept text line new_text new_line bytes new long q (line_split kept text line bytes old h) k.0 k.1 k.2 k.3
     (made (let z : HasRead (Some p) text kept = rw is at h.read in z))

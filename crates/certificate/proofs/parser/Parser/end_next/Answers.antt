@@ -23,5 +23,5 @@ returns-in-Ok-keep-clause-seen g c = λ bytes h small. record {
       c.args.self.now.line.items (h.text ++ c.args.self.now.line.items ++ 10 ∷ []) c.keep-in-Ok.new.self.line.items bytes
       c.args.self.now.progress c.keep-in-Ok.new.self.progress c.keep-in-Ok.new.self.is_long c.args.progress c.accept.new.self c.in-Ok.line c.requires.next
       (rw c.if-self.false at h.parts) c.in-Ok.ensures.version (λ before k. rw c.deref.ensures.0 at (c.in-Ok.ensures.lines before k))
-      (refl, c.keep-in-Ok.ensures.kept.0, c.keep-in-Ok.ensures.kept.1, c.keep-in-Ok.ensures.kept.2) c.in-Ok-keep.ensures c.keep-in-Ok.ensures.lines;
+      (refl, c.keep-in-Ok.ensures.kept.0, c.keep-in-Ok.ensures.kept.1, c.keep-in-Ok.ensures.kept.2) c.in-Ok-keep.ensures.kept c.keep-in-Ok.ensures.lines;
 }

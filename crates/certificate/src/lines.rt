@@ -10,12 +10,14 @@ ghost use Rattle.certificate.specs.Spelling.{RoutineLine as SaidRoutine};
 ghost use Rattle.certificate.specs.Reading.{RiseFrom};
 ghost use Rattle.certificate.specs.Line.{Line as SaidLine, CellIs, EquationIs};
 ghost use Rattle.certificate.specs.Order.{is_detail, is_end};
+ghost use Rattle.certificate.specs.Detail.{said_detail};
 ghost use Rattle.certificate.specs.Gathered.{cells_under, equations_under, stated};
 ghost use Rattle.certificate.specs.Meaning.{said, registers_of};
 ghost use Rattle.certificate.specs.Packed.{Begins, said_lines};
 ghost use Rattle.certificate.specs.Found.{from_place, all_said, Keeps, unended, Extends, HasMore, IsIndexed, FitUnder, FitUnderFirst, with_details, IsRoutineOf, begins_routine, begins_fact, begins_exit, first_fact, first_exit, fact_statement, exit_statement, SaysFirst};
 
 use crate::Routine;
+use crate::details::Detail;
 use crate::line::{Line, Registers};
 use crate::packed::PackedLines;
 use crate::progress::{is_detail, is_end, place_of};
@@ -67,6 +69,14 @@ impl<A: Allocator> KeptLines<A> {
         self.places.push(place_of(line) as u32)?;
         self.starts.push(self.lines.len())?;
         self.lines.push(line)
+    }
+
+    /// Keeps a line more that says more of the one before.
+    pub fn keep_detail(&mut self, detail: &Detail) -> Result<(), AllocError>
+        ensures { (before : List SaidLine) → Keeps self.old before →
+            OnOk result (Keeps self.new (unended (said_detail detail.now ∷ before))) }
+    {
+        self.lines.push_detail(detail)
     }
 
     /// Keeps a line that isn't a detail, with its cells and equations: all of them, or none.

@@ -134,9 +134,26 @@ impl<A: Allocator> Parser<A> {
         if self.is_long {
             return Err(CertificateFault::BadLine(progress.number()));
         }
-        if let Some(detail) = read_detail(&self.line) {
-            return self.end_detail(progress, &detail);
+        match read_detail(&self.line) {
+            Some(detail) => self.end_detail(progress, &detail),
+            None => self.end_other(progress),
         }
+    }
+
+    /// Ends a further line of any kind. What it says may hold sets by lanes, of which the place is set
+    /// to 0 at each call: so it isn't a part of `end_next`, which most lines leave before.
+    #[inline(never)]
+    fn end_other(&mut self, progress: Progress) -> Result<(), CertificateFault>
+        requires next { self.old.progress ≡ Some progress }
+        requires count { self.old.count ≤ most_bytes }
+        requires number { progress.number ≤ self.old.count + 1 }
+        requires short { self.old.is_long ≡ false }
+        ensures count { self.new.count ≡ self.old.count }
+        ensures number { IfSome self.new.progress (λ g. g.number ≤ self.new.count + 2) }
+        ensures seen { (bytes : List ℕ) → Seen self.old bytes → length bytes < most_bytes →
+            MatchResult result (λ u. Seen self.new (bytes ++ 10 ∷ []))
+            (Refuses (bytes ++ 10 ∷ [])) }
+    {
         let mut next = progress;
         match next.accept(&self.line) {
             Ok(line) => {

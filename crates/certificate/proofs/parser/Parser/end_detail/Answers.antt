@@ -13,10 +13,13 @@ returns-in-Err-clause-seen g c = λ bytes h small.
 
 pub returns-in_default-keep_detail-clause-seen : goal.returns-in_default-keep_detail-clause-seen
 returns-in_default-keep_detail-clause-seen g c = λ bytes h small.
-    inl (refl, next_asks c.args.self.now.kept h.text c.args.self.now.line.items bytes c.args.self.now.progress c.args.progress (said_detail c.args.detail.now)
-    c.requires.next (rw c.requires.short at h.parts) small (λ before k.
-    (c.in_default.ensures.lines before c.args.self.now.line.items k c.requires.spells
-    (one_line c.args.progress.version (said_detail c.args.detail.now) c.args.self.now.line.items c.requires.spells)).0) (is_no_end c.args.detail.now))
+    inl (
+      refl,
+      next_asks c.args.self.now.kept h.text c.args.self.now.line.items bytes c.args.self.now.progress c.args.progress (said_detail c.args.detail.now)
+          c.requires.next (rw c.requires.short at h.parts) small (λ before k.
+          (c.in_default.ensures.lines before c.args.self.now.line.items k c.requires.spells
+          (one_line c.args.progress.version (said_detail c.args.detail.now) c.args.self.now.line.items c.requires.spells)).0) (is_no_end c.args.detail.now),
+    )
 
 pub returns-clause-seen : goal.returns-clause-seen
 returns-clause-seen g c = λ bytes h small. record {

@@ -2,7 +2,9 @@
 # Times `pdp8 check` on certificates of some 100 KB and 1 MB that certificate/make.py makes: the whole, and without their
 # end, where the text is read and nothing is judged. Each is the least of eleven calls, with the start of the program. The
 # memory that a call takes at most is printed too.
-# PDP8 names a built program in place of this repository's.
+# PDP8 names a built program in place of this repository's. PLAIN names the source of the same checker in plain Rust, with the
+# words `bench-check TAPE DECLARATION CERTIFICATE ROUNDS`: it is built by `rustc -O`, and reads the same texts in turn. Then what
+# the start of the program takes is left out of ours, and the two rates are compared.
 set -euo pipefail
 top=$(cd "$(dirname "$0")/.." && pwd)
 program=${PDP8:-$top/crates/pdp8/out/pdp8}
@@ -25,9 +27,20 @@ import resource, subprocess, sys
 subprocess.run(sys.argv[1:], stdout=subprocess.DEVNULL, stderr=subprocess.DEVNULL)
 print(resource.getrusage(resource.RUSAGE_CHILDREN).ru_maxrss)' "$program" check tape declaration "$1"
 }
+# The seconds that plain Rust takes to read a certificate, least of thirty rounds.
+plainly() {
+    "$work/plain" bench-check tape declaration certificate 30 | sed -n 's/^parse \([0-9.]*\) .* least round.*/\1/p'
+}
+[ -z "${PLAIN:-}" ] || rustc -O --edition 2021 "$PLAIN" -o "$work/plain" 2>"$work/built" || { cat "$work/built"; exit 1; }
 for size in 110000 1040000; do
     python3 "$top/bench/certificate/make.py" "$size" "$work/$size"
     cd "$work/$size"
     bytes=$(wc -c <certificate)
     echo "$bytes bytes: $(least cut 'pdp8: certificate: BadLine') seconds to read, $(least certificate yes) to read and judge, $(memory certificate) KB"
+    [ -n "${PLAIN:-}" ] || continue
+    echo >nothing
+    start=$(least nothing 'pdp8: certificate: Version')
+    whole=$(least cut 'pdp8: certificate: BadLine')
+    plain=$(plainly)
+    echo "    reading without the start: $(python3 -c "print(f'{$whole - $start:.4f} seconds, plain Rust $plain, {$plain / max($whole - $start, 0.0005):.2f} of its rate')")"
 done

@@ -27,3 +27,4 @@ pub mod PutLemmas
 pub mod FactTextLemmas
 pub mod ReadLemmas
 pub mod ServedLemmas
+pub mod DetailAddedLemmas

@@ -56,7 +56,7 @@ in_between low high v a b = grind (arith, nat_tests)
 below_between : (low high v : ℕ) → v < low → between low high v ≡ false
 below_between low high v a = grind (arith, nat_tests)
 
-above_between : (low high v : ℕ) → high < v → between low high v ≡ false
+pub above_between : (low high v : ℕ) → high < v → between low high v ≡ false
 above_between low high v a = go (nat_le low v) (nat_le v high) (grind (arith, nat_tests))
   where
     go : (b c : Bool) → c ≡ false → (b && c) ≡ false

@@ -8,15 +8,13 @@ use Rattle.certificate.specs.declared.Version.TheVariants.{One, Two}
 use Rattle.certificate.specs.declared.CertificateFault.{CertificateFault}
 use Rattle.certificate.specs.declared.CertificateFault.TheVariants as faults
 use Rattle.certificate.specs.declared.progress.Progress.{Progress}
-use Rattle.certificate.specs.declared.line.Line.{Line as ReadLine}
 use Rattle.certificate.specs.declared.lines.KeptLines.{KeptLines}
 use Rattle.certificate.specs.Spelling.{version_text, text as spelled}
 use Rattle.certificate.specs.Line.{Line, RoutineIs, FactIs, ExitIs, CellIs, EquationIs, End, line_text}
-use Rattle.certificate.specs.Order.{any, is_end, may_stand, AreInOrder, front, IsBad, IsMisplaced, IsOneTooMany}
-use Rattle.certificate.specs.Progress.{Tracks, Takes}
-use Rattle.certificate.specs.Meaning.{said}
+use Rattle.certificate.specs.Order.{any, is_end, may_stand, AreInOrder, front, IsBad, IsMisplaced, IsOneTooMany, Continues}
+use Rattle.certificate.specs.Progress.{Tracks, Declines}
 use Rattle.certificate.specs.Found.{newest_first, all_said, Keeps, IsWhole, unended}
-use Rattle.certificate.specs.Faults.{most_bytes, NoFeed, HasLine, HasFaultyLine, HasRest, IsCut, HasFault}
+use Rattle.certificate.specs.Faults.{most_bytes, NoFeed, HasLine, HasFaultyLine, HasRest, IsCut, HasFault, AsksForMemory}
 use Rattle.certificate.proofs.LengthLemmas.{line_short}
 use Rattle.certificate.proofs.GatherLemmas.{text_of_gathered}
 use Rattle.certificate.proofs.FormLemmas.{gathered_formed}
@@ -35,12 +33,12 @@ abbrev pub Kept : Result Unit CertificateFault → List ℕ → List ℕ → Opt
 Kept r text line old new_text new_line new long p =
     MatchResult r
     (λ u. (new_text ≡ text ++ line ++ 10 ∷ []) × (new_line ≡ []) × (new ≡ Some p) × (long ≡ false))
-    (λ e. (e ≡ faults.NoMemory) × (new ≡ old))
+    (λ e. ⊥)
 
 pub kept_number : (r : Result Unit CertificateFault) (text line new_text new_line : List ℕ) (old new : Option Progress) (long : Bool) (p : Progress) (n : ℕ) →
     Kept r text line old new_text new_line new long p → IfSome old (λ g. g.number ≤ n) → p.number ≤ n → IfSome new (λ g. g.number ≤ n)
 kept_number (Ok u) text line new_text new_line old new long p n k h g = let e : new ≡ Some p = k.2 in rw e g
-kept_number (Err f) text line new_text new_line old new long p n k h g = let e : new ≡ old = k.1 in rw e h
+kept_number (Err f) text line new_text new_line old new long p n k h g = absurd k
 
 -- After a line was kept.
 kept_parts : {A : Type 0} (new_kept : KeptLines A) (text line new_text new_line bytes : List ℕ) (new : Option Progress) (long : Bool) (p : Progress) →
@@ -86,7 +84,7 @@ line_feed kept text line bytes progress h = rw (h.same refl) h.feed
 pub first_kept : {A : Type 0} (kept new_kept : KeptLines A) (r : Result Unit CertificateFault) (text line new_text new_line bytes : List ℕ) (new : Option Progress) (long : Bool) (p : Progress) (v : Version) →
     Parts text kept None line false bytes → line ≡ version_text v → p.version ≡ v → Tracks p [] → Kept r text line None new_text new_line new long p →
     new_kept ≡ kept → MatchResult r (λ u. Parts new_text new_kept new new_line long (bytes ++ 10 ∷ [])) (Refuses (bytes ++ 10 ∷ []))
-first_kept kept new_kept (Err f) text line new_text new_line bytes new long p v h e w t k same = inl k.0
+first_kept kept new_kept (Err f) text line new_text new_line bytes new long p v h e w t k same = absurd k
 first_kept kept new_kept (Ok u) text line new_text new_line bytes new long p v h e w t k same =
     kept_parts new_kept text line new_text new_line bytes new long p (line_split kept text line bytes None h) k.0 k.1 k.2 k.3
     (record { before = []; order = tt; tracks = t; keeps = rw same h.read.1; is = (let z : text ≡ [] = h.read.0 in k.0 ∙ rw (z, e, w) refl) })
@@ -154,11 +152,11 @@ ended_last v (EquationIs q ∷ ls) h e = absurd (true≢false (sym e ∙ not_end
 
 -- A further line.
 pub next_kept : {A : Type 0} (kept mid new_kept : KeptLines A) (r : Result Unit CertificateFault) (text line new_text new_line bytes : List ℕ) (old new : Option Progress) (long : Bool)
-    (p q : Progress) (l : ReadLine) → old ≡ Some p → Parts text kept old line false bytes → q.version ≡ p.version →
-    ((before : List Line) → Tracks p before → Takes p.version before line q (Ok l)) → Kept r text line old new_text new_line new long q →
-    ((before : List Line) → Keeps kept before → Keeps mid (unended (said l ∷ before))) → new_kept ≡ mid →
+    (p q : Progress) (l : Line) → old ≡ Some p → Parts text kept old line false bytes → q.version ≡ p.version →
+    ((before : List Line) → Tracks p before → Continues p.version before line l × Tracks q (l ∷ before)) → Kept r text line old new_text new_line new long q →
+    ((before : List Line) → Keeps kept before → Keeps mid (unended (l ∷ before))) → new_kept ≡ mid →
     MatchResult r (λ u. Parts new_text new_kept new new_line long (bytes ++ 10 ∷ [])) (Refuses (bytes ++ 10 ∷ []))
-next_kept kept mid new_kept (Err f) text line new_text new_line bytes old new long p q l is h w t k more same = inl k.0
+next_kept kept mid new_kept (Err f) text line new_text new_line bytes old new long p q l is h w t k more same = absurd k
 next_kept kept mid new_kept (Ok u) text line new_text new_line bytes old new long p q l is h w t k more same =
     kept_parts new_kept text line new_text new_line bytes new long q (line_split kept text line bytes old h) k.0 k.1 k.2 k.3
     (made (let z : HasRead (Some p) text kept = rw is at h.read in z))
@@ -166,14 +164,14 @@ next_kept kept mid new_kept (Ok u) text line new_text new_line bytes old new lon
     made : Reached p text kept → Reached q new_text new_kept
     made g =
         let n = t g.before g.tracks in
-        let e : line ≡ line_text p.version (said l) = n.0.spells.1 in
+        let e : line ≡ line_text p.version l = n.0.spells.1 in
         record {
-          before = said l ∷ g.before;
-          order = subst (λ (v : Version). AreInOrder v (said l ∷ g.before)) (sym w) (n.0.spells.0, n.0.next, g.order);
+          before = l ∷ g.before;
+          order = subst (λ (v : Version). AreInOrder v (l ∷ g.before)) (sym w) (n.0.spells.0, n.0.next, g.order);
           tracks = n.1;
-          keeps = rw same (more g.before (let k : unended g.before ≡ g.before = still_open g.before (said l) n.0.next.stands in rw k at g.keeps));
-          is = subst (λ (v : Version). new_text ≡ front v (said l ∷ g.before)) (sym w)
-              (k.0 ∙ rw (g.is, e) (append_assoc (front p.version g.before) (line_text p.version (said l)) (10 ∷ [])));
+          keeps = rw same (more g.before (let k : unended g.before ≡ g.before = still_open g.before l n.0.next.stands in rw k at g.keeps));
+          is = subst (λ (v : Version). new_text ≡ front v (l ∷ g.before)) (sym w)
+              (k.0 ∙ rw (g.is, e) (append_assoc (front p.version g.before) (line_text p.version l) (10 ∷ [])));
         }
 
 faulty : {A : Type 0} (kept : KeptLines A) (p : Progress) (text line bytes rest : List ℕ) (n : ℕ) (IsFaulty : Version → List Line → List ℕ → Type 0) → (g : Reached p text kept) →
@@ -191,7 +189,7 @@ faulty kept p text line bytes rest n IsFaulty g e feed small number bad = record
 
 pub next_refused : {A : Type 0} (kept : KeptLines A) (text line bytes : List ℕ) (old : Option Progress) (p q : Progress) (f : CertificateFault) → old ≡ Some p →
     Parts text kept old line false bytes → length bytes < most_bytes →
-    ((before : List Line) → Tracks p before → Takes p.version before line q (Err f)) → Refuses (bytes ++ 10 ∷ []) f
+    ((before : List Line) → Tracks p before → Declines p.version before line f) → Refuses (bytes ++ 10 ∷ []) f
 next_refused kept text line bytes old p q f is h small t = go f t
   where
     e : bytes ≡ text ++ line
@@ -203,13 +201,31 @@ next_refused kept text line bytes old p q f is h small t = go f t
     g : Reached p text kept
     g = let z : HasRead (Some p) text kept = rw is at h.read in z
 
-    go : (f : CertificateFault) → ((before : List Line) → Tracks p before → Takes p.version before line q (Err f)) → Refuses (bytes ++ 10 ∷ []) f
+    go : (f : CertificateFault) → ((before : List Line) → Tracks p before → Declines p.version before line f) → Refuses (bytes ++ 10 ∷ []) f
     go (faults.BadLine n) t = let b = t g.before g.tracks in inr (λ rest. inl (faulty kept p text line bytes rest n IsBad g e feed small b.0 b.1))
     go (faults.Order n) t = let b = t g.before g.tracks in inr (λ rest. faulty kept p text line bytes rest n IsMisplaced g e feed small b.0 b.1)
     go faults.TooMany t = inr (λ rest. inl (length g.before + 2, faulty kept p text line bytes rest (length g.before + 2) IsOneTooMany g e feed small refl (t g.before g.tracks)))
     go faults.Version t = absurd (t g.before g.tracks)
     go faults.NoMemory t = absurd (t g.before g.tracks)
     go faults.ReadFault t = absurd (t g.before g.tracks)
+
+-- Memory is asked for where a line comes next that isn't the end.
+pub next_asks : {A : Type 0} (kept : KeptLines A) (text line bytes : List ℕ) (old : Option Progress) (p : Progress) (l : Line) → old ≡ Some p →
+    Parts text kept old line false bytes → length bytes < most_bytes →
+    ((before : List Line) → Tracks p before → Continues p.version before line l) → is_end l ≡ false → AsksForMemory (bytes ++ 10 ∷ [])
+next_asks kept text line bytes old p l is h small t grows = record {
+  version = p.version;
+  before = g.before;
+  order = g.order;
+  line = line;
+  place =
+      subst (λ (x : List ℕ). HasLine x (front p.version g.before) line) (append-nil (bytes ++ 10 ∷ []))
+      (has_line text line bytes (front p.version g.before) [] (line_split kept text line bytes old h) g.is (line_feed kept text line bytes old h) small);
+  more = record { line = l; continues = t g.before g.tracks; grows = grows };
+}
+  where
+    g : Reached p text kept
+    g = let z : HasRead (Some p) text kept = rw is at h.read in z
 
 -- A line that is too long.
 pub long_refused : {A : Type 0} (kept : KeptLines A) (text line bytes : List ℕ) (old : Option Progress) (p : Progress) (long : Bool) (n : ℕ) → old ≡ Some p → long ≡ true →

@@ -5,10 +5,10 @@ use Rattle.std.proofs.lemmas.Bool.Decides.{eqb_tells}
 use Rattle.certificate.specs.declared.Version.{Version}
 use Rattle.certificate.specs.declared.lines.KeptLines.{KeptLines}
 use Rattle.certificate.specs.Spelling.{ExitLine}
-use Rattle.certificate.specs.Reading.{Each, IsFactLine, IsExit, has_routine, has_fact_in, fact_in, has_exit_in, exit_in}
+use Rattle.certificate.specs.Reading.{Each, IsFactLine, IsExit, has_routine, has_fact_in, fact_in, has_exit_in, exit_in, statement_in, exit_statement_in}
 use Rattle.certificate.specs.Line.{Line, RoutineIs, FactIs, ExitIs, CellIs, EquationIs, End, IsLine}
 use Rattle.certificate.specs.Gathered.{routines_of, facts_of, exits_of}
-use Rattle.certificate.specs.Found.{from_place, all_said, IsWhole, FitUnderFirst, begins_routine, begins_fact, begins_exit, first_fact, first_exit, SaysFirst}
+use Rattle.certificate.specs.Found.{from_place, all_said, IsWhole, FitUnderFirst, begins_routine, begins_fact, begins_exit, first_fact, first_exit, fact_statement, exit_statement, SaysFirst}
 use Rattle.certificate.proofs.GatherLemmas.{Follow, follows}
 use Rattle.certificate.proofs.FormLemmas.{gathered_formed}
 
@@ -56,13 +56,14 @@ routines_found v (EquationIs q ∷ ls) e h b = routines_found v ls e h.1 b
 routines_found v (End ∷ ls) e h b = rw (untrue 40960 e (λ q. omega arith)) (routines_found v ls e h.1 b)
 
 facts_found : (v : Version) (ls : List Line) (a : ℕ) → Each (IsLine v) ls → a < 4096 →
-    (has_fact_in (facts_of ls) a ≡ begins_fact (from_place (4096 + a) ls)) × (fact_in (facts_of ls) a ≡ first_fact (from_place (4096 + a) ls))
-facts_found v [] a h b = (refl, refl)
+    (has_fact_in (facts_of ls) a ≡ begins_fact (from_place (4096 + a) ls)) × (fact_in (facts_of ls) a ≡ first_fact (from_place (4096 + a) ls)) ×
+    (statement_in (facts_of ls) a ≡ fact_statement (from_place (4096 + a) ls))
+facts_found v [] a h b = (refl, refl, refl)
 facts_found v (RoutineIs r ∷ ls) a h b =
     rw (untrue r.entry (4096 + a) (λ q. let z : r.entry < 4096 = h.0.entry in omega arith)) (facts_found v ls a h.1 b)
 facts_found v (FactIs x r m ∷ ls) a h b =
     rw (tests_alike (4096 + x) (4096 + a) x a (λ q. omega arith) (λ q. omega arith)) (elim (eqb_tells x a) [
-      | inl t ↦ rw t.0 (refl, refl)
+      | inl t ↦ rw t.0 (refl, refl, refl)
       | inr t ↦ rw t.0 (facts_found v ls a h.1 b)
     ])
 facts_found v (ExitIs x o r ∷ ls) a h b = rw (untrue (8192 + (8 * x + o)) (4096 + a) (λ q. omega arith)) (facts_found v ls a h.1 b)
@@ -80,8 +81,9 @@ exit_test x o e p h g = elim (eqb_tells x e) [
 
 exits_found : (v : Version) (ls : List Line) (e p : ℕ) → Each (IsLine v) ls → e < 4096 → p < 8 →
     (has_exit_in (exits_of ls) e p ≡ begins_exit (from_place (8192 + (8 * e + p)) ls)) ×
-    (exit_in (exits_of ls) e p ≡ first_exit (from_place (8192 + (8 * e + p)) ls))
-exits_found v [] e p h b g = (refl, refl)
+    (exit_in (exits_of ls) e p ≡ first_exit (from_place (8192 + (8 * e + p)) ls)) ×
+    (exit_statement_in (exits_of ls) e p ≡ exit_statement (from_place (8192 + (8 * e + p)) ls))
+exits_found v [] e p h b g = (refl, refl, refl)
 exits_found v (RoutineIs r ∷ ls) e p h b g =
     rw (untrue r.entry (8192 + (8 * e + p)) (λ q. let z : r.entry < 4096 = h.0.entry in omega arith)) (exits_found v ls e p h.1 b g)
 exits_found v (FactIs x r m ∷ ls) e p h b g =
@@ -90,12 +92,15 @@ exits_found v (ExitIs x o r ∷ ls) e p h b g =
     rw (exit_test x o e p h.0.1 g) (go (if x == e then o == p else false) (exits_found v ls e p h.1 b g))
   where
     go : (d : Bool) → (has_exit_in (exits_of ls) e p ≡ begins_exit (from_place (8192 + (8 * e + p)) ls)) ×
-        (exit_in (exits_of ls) e p ≡ first_exit (from_place (8192 + (8 * e + p)) ls)) →
+        (exit_in (exits_of ls) e p ≡ first_exit (from_place (8192 + (8 * e + p)) ls)) ×
+        (exit_statement_in (exits_of ls) e p ≡ exit_statement (from_place (8192 + (8 * e + p)) ls)) →
         ((if d then true else has_exit_in (exits_of ls) e p) ≡
         begins_exit (if d then ExitIs x o r ∷ ls else from_place (8192 + (8 * e + p)) ls)) ×
         ((if d then first_exit (ExitIs x o r ∷ ls) else exit_in (exits_of ls) e p) ≡
-        first_exit (if d then ExitIs x o r ∷ ls else from_place (8192 + (8 * e + p)) ls))
-    go true i = (refl, refl)
+        first_exit (if d then ExitIs x o r ∷ ls else from_place (8192 + (8 * e + p)) ls)) ×
+        ((if d then exit_statement (ExitIs x o r ∷ ls) else exit_statement_in (exits_of ls) e p) ≡
+        exit_statement (if d then ExitIs x o r ∷ ls else from_place (8192 + (8 * e + p)) ls))
+    go true i = (refl, refl, refl)
     go false i = i
 exits_found v (CellIs c ∷ ls) e p h b g = exits_found v ls e p h.1 b g
 exits_found v (EquationIs q ∷ ls) e p h b g = exits_found v ls e p h.1 b g
@@ -154,15 +159,17 @@ routine_claims v k e ls w b at =
 
 pub fact_claims : {A : Type 0} (v : Version) (k : KeptLines A) (a : ℕ) (ls : List Line) → IsWhole v k → a < 4096 →
     ls ≡ from_place (4096 + a) (all_said k) →
-    (begins_fact ls ≡ has_fact_in (facts_of (all_said k)) a) × (first_fact ls ≡ fact_in (facts_of (all_said k)) a)
+    (begins_fact ls ≡ has_fact_in (facts_of (all_said k)) a) × (first_fact ls ≡ fact_in (facts_of (all_said k)) a) ×
+    (statement_in (facts_of (all_said k)) a ≡ fact_statement ls)
 fact_claims v k a ls w b at =
-    let f = facts_found v (all_said k) a (formed v k w) b in rw at (sym f.0, sym f.1)
+    let f = facts_found v (all_said k) a (formed v k w) b in rw at (sym f.0, sym f.1, f.2)
 
 pub exit_claims : {A : Type 0} (v : Version) (k : KeptLines A) (e o p : ℕ) (ls : List Line) → IsWhole v k → e < 4096 → o < 8 →
     p ≡ 8192 + (8 * e + o) → ls ≡ from_place p (all_said k) →
-    (begins_exit ls ≡ has_exit_in (exits_of (all_said k)) e o) × (first_exit ls ≡ exit_in (exits_of (all_said k)) e o)
+    (begins_exit ls ≡ has_exit_in (exits_of (all_said k)) e o) × (first_exit ls ≡ exit_in (exits_of (all_said k)) e o) ×
+    (exit_statement_in (exits_of (all_said k)) e o ≡ exit_statement ls)
 exit_claims v k e o p ls w b g same at =
-    let f = exits_found v (all_said k) e o (formed v k w) b g in rw (at, same) (sym f.0, sym f.1)
+    let f = exits_found v (all_said k) e o (formed v k w) b g in rw (at, same) (sym f.0, sym f.1, f.2)
 
 pub no_claim : {A : Type 0} (v : Version) (k : KeptLines A) (e o : ℕ) → IsWhole v k → 8 ≤ o →
     has_exit_in (exits_of (all_said k)) e o ≡ false

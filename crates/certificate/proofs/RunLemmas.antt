@@ -424,3 +424,17 @@ dash_read old now t e took begins = record { read = reads now took; only = only 
       | inl full ↦ absurd (dashed now took s tail full q)
       | inr empty ↦ (λ v h. none v h ∙ sym (empty v h), (begins tail (rw (empty_text s empty) at q)).1)
     ]
+
+-- One run, after which no comma comes.
+pub row_read : (old now next : Option (List ℕ)) (low high m : ℕ) → RunRead 0 old now low high → m ≡ high → m < 4096 → next ≡ now →
+    ((r : List ℕ) → now ≡ Some (44 ∷ r) → (false ≡ true) × (next ≡ Some r)) → SetRead old next (between low high)
+row_read old now next low high m g is small same none =
+    ending old now next (between low high) (m + 2) (begun_with old now (between low high) low high m g is small refl) same none
+
+pub row_some : (old next : Option (List ℕ)) (t : Words) → SetRead old next t → IfSome next (λ r. has_some t ≡ true)
+row_some old None t h = tt
+row_some old (Some r) t h = h.read.0
+
+pub row_text : (old next : Option (List ℕ)) (t : Words) → SetRead old next t → IfSome next (λ r. old ≡ Some (set_text t ++ r))
+row_text old None t h = tt
+row_text old (Some r) t h = h.read.1 ∙ ap (λ (x : List ℕ). Some (x ++ r)) (sym (full_text t h.read.0))

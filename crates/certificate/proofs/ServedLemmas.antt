@@ -14,7 +14,7 @@ use Rattle.certificate.specs.declared.progress.Progress.{Progress}
 use Rattle.certificate.specs.declared.parser.Parser.{Parser}
 use Rattle.certificate.specs.declared.lines.KeptLines.{KeptLines}
 use Rattle.certificate.specs.Order.{any, is_end}
-use Rattle.certificate.specs.Faults.{most_bytes, NoFeed, IsText, HasRest, HasFault}
+use Rattle.certificate.specs.Faults.{most_bytes, NoFeed, IsText, HasRest, HasFault, HasLine, AsksForMemory}
 use Rattle.certificate.specs.Kept.{Kept, meaning}
 use Rattle.certificate.specs.Parser.{Parts, Seen, IsSmall, Refuses, IsParsed}
 use Rattle.certificate.specs.Serving.{Settles, IsUnanswered, is_read_fault, failed_to_read}
@@ -44,11 +44,26 @@ piece_more before piece i h = ap (λ (x : List ℕ). before ++ x) (take_more pie
 pub piece_count : (before piece : List ℕ) (n i : ℕ) → i ≤ length piece → n ≡ length before → n + i ≡ length (before ++ take i piece)
 piece_count before piece n i h e = sym (length-append before (take i piece) ∙ (ap (λ k. length before + k) (length-take-le i piece h) ∙ ap (λ k. k + i) (sym e)))
 
+-- What a front asks for the whole asks for.
+asks_on : (xs ys zs : List ℕ) → xs ++ ys ≡ zs → AsksForMemory xs → AsksForMemory zs
+asks_on xs ys zs e a = record {
+  version = a.version;
+  before = a.before;
+  order = a.order;
+  line = a.line;
+  place = record {
+    rest = a.place.rest ++ ys;
+    split = sym e ∙ (ap (λ (x : List ℕ). x ++ ys) a.place.split ∙ append_assoc _ (10 ∷ a.place.rest) ys);
+    feed = a.place.feed;
+    within = a.place.within;
+  };
+  more = a.more;
+}
+
 -- What is refused of a front of the piece is refused of it.
 pub piece_refused : (before piece : List ℕ) (i : ℕ) (fault : CertificateFault) → i < length piece → Refuses (before ++ take i piece ++ get_or piece i 0 ∷ []) fault →
     Refuses (before ++ piece) fault
-piece_refused before piece i fault h (inl e) = inl e
-piece_refused before piece i fault h (inr settled) = inr (λ rest. subst (λ (x : List ℕ). HasFault x fault) (whole rest) (settled (drop (i + 1) piece ++ rest)))
+piece_refused before piece i fault h refused = go refused
   where
     split : (before ++ take i piece ++ get_or piece i 0 ∷ []) ++ drop (i + 1) piece ≡ before ++ piece
     split = ap (λ (x : List ℕ). x ++ drop (i + 1) piece) (sym (piece_more before piece i h)) ∙
@@ -56,6 +71,10 @@ piece_refused before piece i fault h (inr settled) = inr (λ rest. subst (λ (x 
 
     whole : (rest : List ℕ) → (before ++ take i piece ++ get_or piece i 0 ∷ []) ++ (drop (i + 1) piece ++ rest) ≡ before ++ piece ++ rest
     whole rest = sym (append_assoc (before ++ take i piece ++ get_or piece i 0 ∷ []) (drop (i + 1) piece) rest) ∙ ap (λ (x : List ℕ). x ++ rest) split
+
+    go : Refuses (before ++ take i piece ++ get_or piece i 0 ∷ []) fault → Refuses (before ++ piece) fault
+    go (inl e) = inl (e.0, asks_on _ (drop (i + 1) piece) _ split e.1)
+    go (inr settled) = inr (λ rest. subst (λ (x : List ℕ). HasFault x fault) (whole rest) (settled (drop (i + 1) piece ++ rest)))
 
 -- What may follow the bytes that the parser took.
 module _ {A : Type 0} (kept : KeptLines A) (text line bytes : List ℕ) (long : Bool) where
@@ -161,7 +180,7 @@ no_read bytes faults.NoMemory h = absurd h
 no_read bytes faults.ReadFault h = absurd h
 
 pub no_read_refused : (bytes : List ℕ) (fault : CertificateFault) → Refuses bytes fault → is_read_fault fault ≡ false
-no_read_refused bytes fault (inl e) = rw e refl
+no_read_refused bytes fault (inl e) = rw e.0 refl
 no_read_refused bytes fault (inr h) = no_read (bytes ++ []) fault (h [])
 
 pub no_read_parsed : {X : Type 0} (P : X → Type 0) (bytes : List ℕ) (r : Result X CertificateFault) → MatchResult r P (HasFault bytes) → failed_to_read r ≡ false
@@ -288,7 +307,7 @@ module _ (old new : Option (List ℕ)) where
     where
       go : Fails s.given (Err fault) ⊎ IsAnswered s.given new (Err fault) → IsFaultOf old fault
       go (inl h) = inr (inl (same_fault fault faults.ReadFault h.0))
-      go (inr (inl e)) = inl e
+      go (inr (inl e)) = inl e.0
       go (inr (inr (inl h))) = inr (inr (of_front old new s.given fault s.taken h))
       go (inr (inr (inr h))) = inr (inr (Consumes-whole old new s.given (λ bytes. HasFault bytes fault) s.taken h.1 h.0))
 
@@ -300,10 +319,25 @@ module _ (old new : Option (List ℕ)) where
       go (Ok c) e (inr h) = absurd (cc)
       go (Err fault) e (inr h) = let f : fault ≡ faults.ReadFault = cc in absurd (none (rw f at h))
         where
-          none : (faults.ReadFault ≡ faults.NoMemory) ⊎ (Settles s.given faults.ReadFault ⊎ (HasFault s.given faults.ReadFault × IsAtEnd new)) → ⊥
-          none (inl e) = absurd (cc)
+          none : ((faults.ReadFault ≡ faults.NoMemory) × AsksForMemory s.given) ⊎ (Settles s.given faults.ReadFault ⊎ (HasFault s.given faults.ReadFault × IsAtEnd new)) → ⊥
+          none (inl e) = let z : faults.ReadFault ≡ faults.NoMemory = e.0 in absurd (cc)
           none (inr (inl g)) = g []
           none (inr (inr g)) = g.0
+
+  -- Memory is refused only for a line of what was given.
+  pub serves_memory : (r : Answer) → (s : Serves old new r) → r ≡ Err faults.NoMemory → AsksForMemory s.given
+  serves_memory r s is = go r is s.answer
+    where
+      go : (r : Answer) → r ≡ Err faults.NoMemory → Fails s.given r ⊎ IsAnswered s.given new r → AsksForMemory s.given
+      go r e (inl h) = let z : r ≡ Err faults.ReadFault = h.0 in let f : faults.NoMemory ≡ faults.ReadFault = same_fault _ _ (sym e ∙ z) in absurd (cc)
+      go (Ok c) e (inr h) = absurd (cc)
+      go (Err fault) e (inr h) = let f : fault ≡ faults.NoMemory = cc in told (rw f at h)
+        where
+          told : ((faults.NoMemory ≡ faults.NoMemory) × AsksForMemory s.given) ⊎ (Settles s.given faults.NoMemory ⊎ (HasFault s.given faults.NoMemory × IsAtEnd new)) →
+              AsksForMemory s.given
+          told (inl e) = e.1
+          told (inr (inl g)) = absurd (g [])
+          told (inr (inr g)) = absurd g.0
 
   -- So no certificate is refused, and no fault is passed over.
   pub serves_only : (r : Answer) → Serves old new r → IfSome old (λ bytes. (v : Version) → IsText v bytes →

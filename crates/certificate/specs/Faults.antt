@@ -5,7 +5,7 @@ use Rattle.certificate.specs.declared.CertificateFault.{CertificateFault}
 use Rattle.certificate.specs.declared.CertificateFault.TheVariants as faults
 use Rattle.certificate.specs.Spelling.{version_text}
 use Rattle.certificate.specs.Line.{Line}
-use Rattle.certificate.specs.Order.{any, is_end, AreInOrder, front, IsBad, IsMisplaced, IsOneTooMany}
+use Rattle.certificate.specs.Order.{any, is_end, AreInOrder, front, IsBad, IsMisplaced, IsOneTooMany, IsOneMore}
 
 -- A certificate's text has at most so many bytes.
 abbrev pub most_bytes : ℕ
@@ -77,3 +77,13 @@ HasFault bytes (faults.Order n) = HasFaultyLine bytes n IsMisplaced
 HasFault bytes faults.TooMany = ((n : ℕ) × HasFaultyLine bytes n IsOneTooMany) ⊎ IsTooLong bytes
 HasFault bytes faults.NoMemory = ⊥
 HasFault bytes faults.ReadFault = ⊥
+
+-- After lines in order comes one more, of a routine, a fact, an exit, a cell or an equation, within the bytes that are read. It is
+-- kept, so there memory may be refused.
+pub record AsksForMemory (bytes : List ℕ) : Type 0 where
+  pub version : Version
+  pub before : List Line
+  pub order : AreInOrder version before
+  pub line : List ℕ
+  pub place : HasLine bytes (front version before) line
+  pub more : IsOneMore version before line

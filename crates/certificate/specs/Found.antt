@@ -1,5 +1,5 @@
 -- How a line is found by its place, and what stands there; it serves private contracts.
-use Rattle.std.specs.Prelude.{◌≡◌, ℕ, ◌+◌, ◌≤◌, ◌==◌, Bool, true, false, if◌then◌else◌, List, [], ◌∷◌, ◌++◌, length, map}
+use Rattle.std.specs.Prelude.{◌≡◌, ℕ, ◌+◌, ◌≤◌, ◌==◌, Bool, true, false, if◌then◌else◌, List, [], ◌∷◌, ◌++◌, length, map, Option, Some, None}
 use Rattle.facts.specs.Facts.{Fact, Equation}
 use Rattle.wordset.specs.Words.{everything}
 use Rattle.facts.specs.Statements.{TrackedCell, Statement, fact_of, unknown}
@@ -109,6 +109,17 @@ abbrev pub first_exit : List Line → Fact
 first_exit [] = unknown
 first_exit (ExitIs e o r ∷ ls) = fact_of (stated r ls) everything
 first_exit (_ ∷ ls) = unknown
+
+-- What the fact or the exit at the front says.
+abbrev pub fact_statement : List Line → Option Statement
+fact_statement [] = None
+fact_statement (FactIs a r offsets ∷ ls) = Some (stated r ls)
+fact_statement (_ ∷ ls) = None
+
+abbrev pub exit_statement : List Line → Option Statement
+exit_statement [] = None
+exit_statement (ExitIs e o r ∷ ls) = Some (stated r ls)
+exit_statement (_ ∷ ls) = None
 
 -- A routine that is given is what the routines say of an entry.
 pub record IsRoutineOf (rs : List RoutineLine) (e : ℕ) (r : Routine) : Type 0 where

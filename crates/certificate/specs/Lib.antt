@@ -5,6 +5,7 @@ pub mod Sample
 pub mod Line
 pub mod Fields
 pub mod Meaning
+pub mod Detail
 pub mod Order
 pub mod Progress
 pub mod Faults

@@ -128,3 +128,9 @@ pub record IsOneTooMany (v : Version) (before : List Line) (bytes : List ℕ) : 
 pub record Continues (v : Version) (before : List Line) (bytes : List ℕ) (l : Line) : Type 0 where
   pub spells : Spells v l bytes
   pub next : IsNext v before l
+
+-- They spell a line that comes next and isn't the end.
+pub record IsOneMore (v : Version) (before : List Line) (bytes : List ℕ) : Type 0 where
+  pub line : Line
+  pub continues : Continues v before bytes line
+  pub grows : is_end line ≡ false

@@ -10,7 +10,7 @@ use Rattle.certificate.specs.Reading.{AreLines}
 use Rattle.certificate.specs.Line.{Line}
 use Rattle.certificate.specs.Order.{AreInOrder, front}
 use Rattle.certificate.specs.Progress.{Tracks}
-use Rattle.certificate.specs.Faults.{NoFeed, HasFault, IsText, most_bytes}
+use Rattle.certificate.specs.Faults.{NoFeed, HasFault, AsksForMemory, IsText, most_bytes}
 use Rattle.certificate.specs.Found.{Keeps, unended}
 use Rattle.certificate.specs.Kept.{Kept, meaning}
 
@@ -51,9 +51,9 @@ pub record IsSmall {A : Type 0} (p : Parser A) : Type 0 where
   pub count : p.count ≤ most_bytes
   pub number : IfSome p.progress (λ g. g.number ≤ p.count + 2)
 
--- Memory was wanting, or whatever follows the bytes, the text has this fault.
+-- Memory was wanting for a line of the bytes, or whatever follows them, the text has this fault.
 abbrev pub Refuses : List ℕ → CertificateFault → Type 0
-Refuses bytes fault = (fault ≡ NoMemory) ⊎ ((rest : List ℕ) → HasFault (bytes ++ rest) fault)
+Refuses bytes fault = ((fault ≡ NoMemory) × AsksForMemory bytes) ⊎ ((rest : List ℕ) → HasFault (bytes ++ rest) fault)
 
 -- The certificate is that of the bytes.
 pub record IsParsed (bytes : List ℕ) (c : Kept) : Type 0 where

@@ -32,12 +32,21 @@ Fits p (FactIs a r offsets) = Unit {0}
 Fits p (ExitIs e o r) = Unit {0}
 Fits p End = Unit {0}
 
+-- The bytes after the lines are a line with this fault.
+abbrev pub Declines : Version → List Line → List ℕ → CertificateFault → Type 0
+Declines v before bytes (faults.BadLine n) = (n ≡ length before + 2) × IsBad v before bytes
+Declines v before bytes (faults.Order n) = (n ≡ length before + 2) × IsMisplaced v before bytes
+Declines v before bytes faults.TooMany = IsOneTooMany v before bytes
+Declines v before bytes faults.Version = ⊥
+Declines v before bytes faults.NoMemory = ⊥
+Declines v before bytes faults.ReadFault = ⊥
+
 -- What a call answers that takes the next line.
 abbrev pub Takes : Version → List Line → List ℕ → Progress → Result ReadLine CertificateFault → Type 0
 Takes v before bytes after (Ok l) = Continues v before bytes (said l) × Tracks after (said l ∷ before)
-Takes v before bytes after (Err (faults.BadLine n)) = (n ≡ length before + 2) × IsBad v before bytes
-Takes v before bytes after (Err (faults.Order n)) = (n ≡ length before + 2) × IsMisplaced v before bytes
-Takes v before bytes after (Err faults.TooMany) = IsOneTooMany v before bytes
-Takes v before bytes after (Err faults.Version) = ⊥
-Takes v before bytes after (Err faults.NoMemory) = ⊥
-Takes v before bytes after (Err faults.ReadFault) = ⊥
+Takes v before bytes after (Err fault) = Declines v before bytes fault
+
+-- What one answers that takes this line next.
+abbrev pub TakesLine : Version → List Line → List ℕ → Progress → Line → Result Unit CertificateFault → Type 0
+TakesLine v before bytes after l (Ok u) = Continues v before bytes l × Tracks after (l ∷ before)
+TakesLine v before bytes after l (Err fault) = Declines v before bytes fault

@@ -1,5 +1,5 @@
 -- Which lines make a certificate, and which certificate they make.
-use Rattle.std.specs.Prelude.{◌≡◌, ℕ, ◌+◌, ◌*◌, ◌<◌, ◌≤◌, ◌==◌, Bool, true, false, if◌then◌else◌, List, [], ◌∷◌, length, map}
+use Rattle.std.specs.Prelude.{◌≡◌, ℕ, ◌+◌, ◌*◌, ◌<◌, ◌≤◌, ◌==◌, Bool, true, false, if◌then◌else◌, List, [], ◌∷◌, length, map, Option, Some, None}
 use Rattle.wordset.specs.Words.{Words, SameWords, nothing, everything, some_below, has_some}
 use Rattle.facts.specs.Facts.{Name, Ac, Cell, Equation, Fact}
 use Rattle.facts.specs.Statements.{TrackedCell, Statement, fact_of, unknown}
@@ -112,6 +112,11 @@ abbrev pub fact_in : List FactLine → ℕ → Fact
 fact_in [] a = unknown
 fact_in (f ∷ fs) a = if f.address == a then fact_of f.statement f.offsets else fact_in fs a
 
+-- The statement of an address by its line, if it has one.
+abbrev pub statement_in : List FactLine → ℕ → Option Statement
+statement_in [] a = None
+statement_in (f ∷ fs) a = if f.address == a then Some f.statement else statement_in fs a
+
 -- The exit line is that of an entry and an offset.
 abbrev pub is_exit : ExitLine → ℕ → ℕ → Bool
 is_exit x e o = if x.entry == e then x.offset == o else false
@@ -125,6 +130,11 @@ has_exit_in (x ∷ xs) e o = if is_exit x e o then true else has_exit_in xs e o
 abbrev pub exit_in : List ExitLine → ℕ → ℕ → Fact
 exit_in [] e o = unknown
 exit_in (x ∷ xs) e o = if is_exit x e o then fact_of x.statement everything else exit_in xs e o
+
+-- The statement of an entry and an offset by its line, if they have one.
+abbrev pub exit_statement_in : List ExitLine → ℕ → ℕ → Option Statement
+exit_statement_in [] e o = None
+exit_statement_in (x ∷ xs) e o = if is_exit x e o then Some x.statement else exit_statement_in xs e o
 
 -- The certificate that the lines make.
 abbrev pub certificate_of : Lines → Certificate

@@ -4,7 +4,7 @@ use Rattle.std.specs.Io.KnownBytes.{Consumes, IsAtEnd}
 use Rattle.certificate.specs.declared.CertificateFault.{CertificateFault}
 use Rattle.certificate.specs.declared.CertificateFault.TheVariants.{NoMemory, ReadFault}
 use Rattle.certificate.specs.declared.parser.Parser.{Parser}
-use Rattle.certificate.specs.Faults.{HasFault}
+use Rattle.certificate.specs.Faults.{HasFault, AsksForMemory}
 use Rattle.certificate.specs.Kept.{Kept}
 use Rattle.certificate.specs.Parser.{Seen, IsSmall, IsParsed}
 use Rattle.certificate.specs.Serving.{Settles, IsUnanswered}
@@ -21,7 +21,7 @@ pub record CameTo {A : Type 0} (old new : Option (List ℕ)) (p : Parser A) : Ty
 abbrev pub IsAnswered : List ℕ → Option (List ℕ) → Result Kept CertificateFault → Type 0
 IsAnswered given new r = MatchResult r
     (λ c. IsParsed given c × IsAtEnd new)
-    (λ fault. (fault ≡ NoMemory) ⊎ (Settles given fault ⊎ (HasFault given fault × IsAtEnd new)))
+    (λ fault. ((fault ≡ NoMemory) × AsksForMemory given) ⊎ (Settles given fault ⊎ (HasFault given fault × IsAtEnd new)))
 
 -- What the source gave brings the answer, or a read failed before it had one.
 pub record Serves (old new : Option (List ℕ)) (r : Result Kept CertificateFault) : Type 0 where

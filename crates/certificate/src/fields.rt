@@ -3,7 +3,7 @@
 ghost use Rattle.std.specs.Prelude.{ℕ, ◌≡◌, ◌+◌, ◌<◌, ◌≤◌, ◌↔◌, List, [], ◌∷◌, ◌++◌, IsTrue, true, false, Some, None, IfSome};
 ghost use Rattle.word12.specs.Words.{octal_text};
 ghost use Rattle.std.specs.Option.{IsSomeAnd};
-ghost use Rattle.wordset.specs.Words.{Words, SameWords, SameLinks, some_below, has_some};
+ghost use Rattle.wordset.specs.Words.{Words, SameWords, SameLinks, some_below, has_some, between};
 ghost use Rattle.wordset.specs.Lanes.{words};
 ghost use Rattle.wordset.specs.Links.{links_of};
 ghost use Rattle.facts.specs.Facts.{Name as Named};
@@ -178,6 +178,22 @@ impl<'a> Fields<'a> {
             SameWords (words result) s × (left self.new ≡ Some rest) }
     {
         self.runs()
+    }
+
+    /// A set of words in a row, by its first word and its last one.
+    pub fn row(&mut self) -> (Word, Word)
+        ensures some { IfSome (left self.new)
+            (λ rest. has_some (between result.0 result.1) ≡ true) }
+        ensures read { WasFirst self.old self.new (set_text (between result.0 result.1)) }
+    {
+        let (low, high) = self.run(0);
+        let last = high.index();
+        prove!(last < 4096);
+        if self.takes(b',') {
+            self.fail();
+            return (low, high);
+        }
+        (low, high)
     }
 
     /// Some of the digits below `count`, in rising order.

@@ -1,19 +1,19 @@
 //! Certificates: the claims about a program that a checker tests, and their spelling as text.
 #![tactic(auto)]
 
-ghost use Rattle.std.specs.Prelude.{ℕ, ◌≡◌, ◌<◌, ◌⊎◌, true, false, is_some, is_err, IfSome, IfOk, IfErr, IsErrAnd, OnOk, OnErr};
+ghost use Rattle.std.specs.Prelude.{ℕ, ◌≡◌, ◌<◌, ◌⊎◌, true, false, is_some, is_err, Err, Some, IfSome, IfOk, IfErr, IsErrAnd, OnOk, OnErr};
 ghost use Rattle.std.specs.Io.KnownBytes.{Appends};
 ghost use Rattle.streams.specs.Bytes.{AppendsFront};
 ghost use Rattle.certificate.specs.declared.Version.{Version as Spelled};
 ghost use Rattle.certificate.specs.declared.CertificateFault.{CertificateFault as Fault};
 ghost use Rattle.certificate.specs.declared.CertificateFault.TheVariants as faults;
-ghost use Rattle.certificate.specs.Faults.{IsText, HasFault};
+ghost use Rattle.certificate.specs.Faults.{IsText, HasFault, AsksForMemory};
 ghost use Rattle.wordset.specs.Words.{everything};
 ghost use Rattle.wordset.specs.Lanes.{words};
 ghost use Rattle.facts.specs.Changes.{with_offsets};
-ghost use Rattle.facts.specs.Meaning.{meaning as fact_meaning};
+ghost use Rattle.facts.specs.Meaning.{statement_of, meaning as fact_meaning};
 ghost use Rattle.certificate.specs.Spelling.{fact_text_at, text};
-ghost use Rattle.certificate.specs.Reading.{AreLines};
+ghost use Rattle.certificate.specs.Reading.{AreLines, statement_in, exit_statement_in};
 ghost use Rattle.certificate.specs.Kept.{meaning, claims};
 ghost use Rattle.certificate.specs.Sample.{SampleLaw};
 ghost use Rattle.certificate.specs.Line.{TextLaw};
@@ -31,6 +31,7 @@ use thiserror::Error;
 use word12::Word;
 use wordset::WordSet;
 
+mod details;
 mod fields;
 mod line;
 mod lines;
@@ -106,6 +107,8 @@ impl<A: Allocator + Copy> Certificate<A> {
         // and whichever is the text's comes, unless memory is refused.
         ensures exact { (fault : Fault) → HasFault bytes.now fault →
             IsErrAnd result (λ f. (f ≡ faults.NoMemory) ⊎ (f ≡ fault)) }
+        // Memory is refused only where the text has a line to keep.
+        ensures memory { result ≡ Err faults.NoMemory → AsksForMemory bytes.now }
     {
         let mut parser = Parser::new(alloc);
         if let Err(fault) = parser.take_all(bytes) {
@@ -185,6 +188,9 @@ impl<A: Allocator> Certificate<A> {
     pub fn fact(&self, at: Word) -> Option<Fact>
         ensures there { is_some result ≡ (claims self.now).has_fact at }
         ensures fact { IfSome result (λ f. fact_meaning f ≡ (claims self.now).fact at) }
+        // Cells and equations come in the order of its lines.
+        ensures statement { IfSome result (λ f.
+            statement_in (meaning self.now).facts at ≡ Some (statement_of f)) }
     {
         let mut fact = Fact::any();
         if self.fact_into(at, &mut fact) {
@@ -199,6 +205,8 @@ impl<A: Allocator> Certificate<A> {
     pub fn fact_into(&self, at: Word, fact: &mut Fact) -> bool
         ensures there { result ≡ (claims self.now).has_fact at }
         ensures fact { result ≡ true → fact_meaning fact.new ≡ (claims self.now).fact at }
+        ensures statement { result ≡ true →
+            statement_in (meaning self.now).facts at ≡ Some (statement_of fact.new) }
         ensures kept { result ≡ false → fact.new ≡ fact.old }
     {
         let start = self.kept.from(FIRST_FACT + at.index());
@@ -211,6 +219,8 @@ impl<A: Allocator> Certificate<A> {
         ensures there { is_some result ≡ (claims self.now).has_exit entry offset }
         ensures fact { IfSome result (λ f. with_offsets everything (fact_meaning f) ≡
             (claims self.now).exit entry offset) }
+        ensures statement { IfSome result (λ f.
+            exit_statement_in (meaning self.now).exits entry offset ≡ Some (statement_of f)) }
         ensures offsets { IfSome result (λ f. (o : ℕ) → o < 8 →
             (fact_meaning f).offsets o ≡ true) }
     {
@@ -228,6 +238,8 @@ impl<A: Allocator> Certificate<A> {
         ensures there { result ≡ (claims self.now).has_exit entry offset }
         ensures fact { result ≡ true → with_offsets everything (fact_meaning exit.new) ≡
             (claims self.now).exit entry offset }
+        ensures statement { result ≡ true →
+            exit_statement_in (meaning self.now).exits entry offset ≡ Some (statement_of exit.new) }
         ensures offsets { result ≡ true → (o : ℕ) → o < 8 →
             (fact_meaning exit.new).offsets o ≡ true }
         ensures kept { result ≡ false → exit.new ≡ exit.old }

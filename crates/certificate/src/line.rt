@@ -192,12 +192,12 @@ fn is_before(name: &Name, cell: Word) -> bool
     }
 }
 
-/// The line of an equation.
-fn read_equation(version: Version, line: &[u8]) -> Option<Line>
-    ensures read { IfSome result (λ l. IsLine version (said l) ×
-        (line.now ≡ line_text version (said l))) }
+/// The equation of a line, if it's one.
+pub fn read_equation(line: &[u8]) -> Option<Equation>
+    ensures read { IfSome result (λ e. IsEquation (equation_of e) ×
+        (line.now ≡ equation_line (equation_of e))) }
     ensures only { (e : Equal) → IsEquation e → line.now ≡ equation_line e →
-        IsSomeAnd result (λ l. SameLine (said l) (EquationIs e)) }
+        IsSomeAnd result (λ r. equation_of r ≡ e) }
 {
     let mut fields = Fields::of(line);
     fields.skip(b"equal ");
@@ -207,9 +207,22 @@ fn read_equation(version: Version, line: &[u8]) -> Option<Line>
     fields.skip(b" ");
     let more = fields.word();
     if fields.is_done() && is_before(&left, right) {
-        Some(Line::Equation(Equation { left, right, more }))
+        Some(Equation { left, right, more })
     } else {
         None
+    }
+}
+
+/// The line of an equation.
+fn read_equation_line(version: Version, line: &[u8]) -> Option<Line>
+    ensures read { IfSome result (λ l. IsLine version (said l) ×
+        (line.now ≡ line_text version (said l))) }
+    ensures only { (e : Equal) → IsEquation e → line.now ≡ equation_line e →
+        IsSomeAnd result (λ l. SameLine (said l) (EquationIs e)) }
+{
+    match read_equation(line) {
+        Some(equation) => Some(Line::Equation(equation)),
+        None => None,
     }
 }
 
@@ -240,7 +253,7 @@ pub fn read_line(version: Version, line: &[u8]) -> Option<Line>
         [b'f', ..] => read_fact(version, line),
         [b'c', ..] => read_cell(version, line),
         [b'e', b'x', ..] => read_exit(version, line),
-        [b'e', b'q', ..] => read_equation(version, line),
+        [b'e', b'q', ..] => read_equation_line(version, line),
         _ => read_end(version, line),
     }
 }

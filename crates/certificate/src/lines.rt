@@ -1,6 +1,6 @@
 //! The lines of a certificate as they are kept, and what is found in them.
 
-ghost use Rattle.std.specs.Prelude.{ℕ, ◌≡◌, ◌+◌, ◌<◌, ◌≤◌, ◌^◌, List, [], ◌∷◌, ◌++◌, length, map, drop, OnOk, IfSome, is_some, true, false};
+ghost use Rattle.std.specs.Prelude.{ℕ, ◌≡◌, ◌+◌, ◌<◌, ◌≤◌, ◌^◌, List, [], ◌∷◌, ◌++◌, length, map, drop, OnOk, OnErr, Some, IfSome, is_some, true, false};
 ghost use Rattle.std.specs.Prelude.{is_ok, if◌then◌else◌};
 ghost use Rattle.facts.specs.Meaning.{statement_of, offsets_of, tracked_of, equation_of, meaning as fact_meaning};
 ghost use Rattle.facts.specs.Statements.{fact_of};
@@ -9,13 +9,15 @@ ghost use Rattle.wordset.specs.Words.{everything};
 ghost use Rattle.certificate.specs.Spelling.{RoutineLine as SaidRoutine};
 ghost use Rattle.certificate.specs.Reading.{RiseFrom};
 ghost use Rattle.certificate.specs.Line.{Line as SaidLine, CellIs, EquationIs};
-ghost use Rattle.certificate.specs.Order.{is_detail};
+ghost use Rattle.certificate.specs.Order.{is_detail, is_end};
+ghost use Rattle.certificate.specs.Detail.{said_detail};
 ghost use Rattle.certificate.specs.Gathered.{cells_under, equations_under, stated};
 ghost use Rattle.certificate.specs.Meaning.{said, registers_of};
 ghost use Rattle.certificate.specs.Packed.{Begins, said_lines};
-ghost use Rattle.certificate.specs.Found.{from_place, all_said, Keeps, unended, Extends, HasMore, IsIndexed, FitUnder, FitUnderFirst, with_details, IsRoutineOf, begins_routine, begins_fact, begins_exit, first_fact, first_exit, SaysFirst};
+ghost use Rattle.certificate.specs.Found.{from_place, all_said, Keeps, unended, Extends, HasMore, IsIndexed, FitUnder, FitUnderFirst, with_details, IsRoutineOf, begins_routine, begins_fact, begins_exit, first_fact, first_exit, fact_statement, exit_statement, SaysFirst};
 
 use crate::Routine;
+use crate::details::Detail;
 use crate::line::{Line, Registers};
 use crate::packed::PackedLines;
 use crate::progress::{is_detail, is_end, place_of};
@@ -54,8 +56,9 @@ impl<A: Allocator> KeptLines<A> {
 
     /// Keeps a line more; the end is known without it.
     pub fn keep(&mut self, line: &Line) -> Result<(), AllocError>
-        ensures { (before : List SaidLine) → Keeps self.old before →
+        ensures kept { (before : List SaidLine) → Keeps self.old before →
             OnOk result (Keeps self.new (unended (said line.now ∷ before))) }
+        ensures refused { OnErr result (is_end (said line.now) ≡ false) }
     {
         if is_end(line) {
             return Ok(());
@@ -66,6 +69,14 @@ impl<A: Allocator> KeptLines<A> {
         self.places.push(place_of(line) as u32)?;
         self.starts.push(self.lines.len())?;
         self.lines.push(line)
+    }
+
+    /// Keeps a line more that says more of the one before.
+    pub fn keep_detail(&mut self, detail: &Detail) -> Result<(), AllocError>
+        ensures { (before : List SaidLine) → Keeps self.old before →
+            OnOk result (Keeps self.new (unended (said_detail detail.now ∷ before))) }
+    {
+        self.lines.push_detail(detail)
     }
 
     /// Keeps a line that isn't a detail, with its cells and equations: all of them, or none.
@@ -202,8 +213,10 @@ fn fill<A: Allocator>(
     start: usize,
 )
     requires fit { FitUnder (drop start (said_lines lines.now)) }
-    ensures { fact_meaning fact.new ≡
+    ensures fact { fact_meaning fact.new ≡
         fact_of (stated (registers_of registers.now) (drop start (said_lines lines.now))) (offsets_of offsets) }
+    ensures statement { statement_of fact.new ≡
+        stated (registers_of registers.now) (drop start (said_lines lines.now)) }
 {
     fact.forget();
     fact.set_accumulator(registers.accumulator);
@@ -237,6 +250,8 @@ pub fn first_fact<A: Allocator>(lines: &PackedLines<A>, start: usize, fact: &mut
     requires fit { FitUnderFirst (drop start (said_lines lines.now)) }
     ensures there { result ≡ begins_fact (drop start (said_lines lines.now)) }
     ensures fact { result ≡ true → fact_meaning fact.new ≡ first_fact (drop start (said_lines lines.now)) }
+    ensures statement { result ≡ true →
+        fact_statement (drop start (said_lines lines.now)) ≡ Some (statement_of fact.new) }
     ensures kept { result ≡ false → fact.new ≡ fact.old }
 {
     if start >= lines.len() {
@@ -257,6 +272,8 @@ pub fn first_exit<A: Allocator>(lines: &PackedLines<A>, start: usize, exit: &mut
     ensures there { result ≡ begins_exit (drop start (said_lines lines.now)) }
     ensures fact { result ≡ true → with_offsets everything (fact_meaning exit.new) ≡
         first_exit (drop start (said_lines lines.now)) }
+    ensures statement { result ≡ true →
+        exit_statement (drop start (said_lines lines.now)) ≡ Some (statement_of exit.new) }
     ensures offsets { result ≡ true → (o : ℕ) → o < 8 →
         (fact_meaning exit.new).offsets o ≡ true }
     ensures kept { result ≡ false → exit.new ≡ exit.old }

@@ -5,8 +5,11 @@ ghost use Rattle.wordset.specs.Lanes.{words};
 ghost use Rattle.certificate.specs.Line.{RoutineIs};
 ghost use Rattle.certificate.specs.Meaning.{said, registers_of, routine_of};
 ghost use Rattle.certificate.specs.Spelled.{IsLastOf};
+ghost use Rattle.certificate.specs.Detail.{said_detail};
+ghost use Rattle.wordset.specs.Words.{between};
 ghost use Rattle.certificate.specs.Packed.{Begins, set_of_runs, set_at, one_at, other_at, registers_at, said_at, said_lines, IsSpan, AreWithin, LiesWithin, IsLaid, AreLaid, IsPacked};
 
+use crate::details::Detail;
 use crate::line::{Line, Registers, RoutineLine};
 use facts::{Equation, Offsets, TrackedCell};
 use std::alloc::{AllocError, Allocator};
@@ -134,6 +137,35 @@ fn lay<A: Allocator>(runs: &mut Vec<Run, A>, set: &WordSet) -> Result<Span, Allo
     let first = runs.len();
     push_runs(runs, set)?;
     kept_span(first, runs.len())
+}
+
+/// Adds a run, and tells where it lies.
+fn lay_run<A: Allocator>(runs: &mut Vec<Run, A>, run: Run) -> Result<Span, AllocError>
+    ensures front { Begins runs.old.items runs.new.items }
+    ensures laid { IfOk result (λ span. IsLaid runs.new.items span (between run.first run.last)) }
+{
+    let first = runs.len();
+    let last = run.last.index();
+    prove!(last < 4096);
+    runs.push(run)?;
+    kept_span(first, runs.len())
+}
+
+/// The line packed, after its run was added.
+fn pack_detail<A: Allocator>(
+    runs: &mut Vec<Run, A>,
+    detail: &Detail,
+) -> Result<PackedLine, AllocError>
+    ensures front { Begins runs.old.items runs.new.items }
+    ensures packed { IfOk result (λ l. IsPacked runs.new.items l (said_detail detail.now)) }
+{
+    match detail {
+        Detail::Row(cell, run) => {
+            let set = lay_run(runs, *run)?;
+            Ok(PackedLine::Cell(*cell, set))
+        }
+        Detail::Equation(equation) => Ok(PackedLine::Equation(*equation)),
+    }
 }
 
 /// Adds the runs of two sets, and tells where they lie.
@@ -327,6 +359,24 @@ impl<A: Allocator> PackedLines<A> {
     {
         let count = self.runs.len();
         let Ok(packed) = pack(&mut self.runs, line) else {
+            self.runs.truncate(count);
+            return Err(AllocError);
+        };
+        let Ok(()) = self.list.push(packed) else {
+            self.runs.truncate(count);
+            return Err(AllocError);
+        };
+        Ok(())
+    }
+
+    /// Adds a line that says more of the one before, or leaves all as it is.
+    pub fn push_detail(&mut self, detail: &Detail) -> Result<(), AllocError>
+        ensures added { OnOk result
+            (said_lines self.new ≡ said_lines self.old ++ said_detail detail.now ∷ []) }
+        ensures same { OnErr result (said_lines self.new ≡ said_lines self.old) }
+    {
+        let count = self.runs.len();
+        let Ok(packed) = pack_detail(&mut self.runs, detail) else {
             self.runs.truncate(count);
             return Err(AllocError);
         };

@@ -5,8 +5,11 @@ ghost use Rattle.std.specs.Prelude.{IfSome, false};
 ghost use Rattle.certificate.specs.declared.Version.{Version as Spelled};
 ghost use Rattle.certificate.specs.Spelling.{version_text};
 ghost use Rattle.certificate.specs.Faults.{most_bytes, HasFault};
+ghost use Rattle.certificate.specs.Detail.{said_detail};
+ghost use Rattle.certificate.specs.Order.{Spells};
 ghost use Rattle.certificate.specs.Parser.{WasRead, Seen, IsSmall, Refuses, IsParsed};
 
+use crate::details::{Detail, read_detail};
 use crate::lines::KeptLines;
 use crate::progress::Progress;
 use crate::{Certificate, CertificateFault, Version};
@@ -93,6 +96,30 @@ impl<A: Allocator> Parser<A> {
         }
     }
 
+    /// Ends a further line, one under a fact or an exit.
+    fn end_detail(&mut self, progress: Progress, detail: &Detail) -> Result<(), CertificateFault>
+        requires next { self.old.progress ≡ Some progress }
+        requires count { self.old.count ≤ most_bytes }
+        requires number { progress.number ≤ self.old.count + 1 }
+        requires short { self.old.is_long ≡ false }
+        requires spells { Spells progress.version (said_detail detail.now) self.old.line.items }
+        ensures count { self.new.count ≡ self.old.count }
+        ensures number { IfSome self.new.progress (λ g. g.number ≤ self.new.count + 2) }
+        ensures seen { (bytes : List ℕ) → Seen self.old bytes → length bytes < most_bytes →
+            MatchResult result (λ u. Seen self.new (bytes ++ 10 ∷ []))
+            (Refuses (bytes ++ 10 ∷ [])) }
+    {
+        let mut next = progress;
+        if let Err(fault) = next.accept_detail(detail) {
+            return Err(fault);
+        }
+        let Ok(()) = self.kept.keep_detail(detail) else {
+            return Err(CertificateFault::NoMemory);
+        };
+        self.keep(next);
+        Ok(())
+    }
+
     /// Ends a further line.
     fn end_next(&mut self, progress: Progress) -> Result<(), CertificateFault>
         requires next { self.old.progress ≡ Some progress }
@@ -107,6 +134,26 @@ impl<A: Allocator> Parser<A> {
         if self.is_long {
             return Err(CertificateFault::BadLine(progress.number()));
         }
+        match read_detail(&self.line) {
+            Some(detail) => self.end_detail(progress, &detail),
+            None => self.end_other(progress),
+        }
+    }
+
+    /// Ends a further line of any kind. What it says may hold sets by lanes, of which the place is set
+    /// to 0 at each call: so it isn't a part of `end_next`, which most lines leave before.
+    #[inline(never)]
+    fn end_other(&mut self, progress: Progress) -> Result<(), CertificateFault>
+        requires next { self.old.progress ≡ Some progress }
+        requires count { self.old.count ≤ most_bytes }
+        requires number { progress.number ≤ self.old.count + 1 }
+        requires short { self.old.is_long ≡ false }
+        ensures count { self.new.count ≡ self.old.count }
+        ensures number { IfSome self.new.progress (λ g. g.number ≤ self.new.count + 2) }
+        ensures seen { (bytes : List ℕ) → Seen self.old bytes → length bytes < most_bytes →
+            MatchResult result (λ u. Seen self.new (bytes ++ 10 ∷ []))
+            (Refuses (bytes ++ 10 ∷ [])) }
+    {
         let mut next = progress;
         match next.accept(&self.line) {
             Ok(line) => {

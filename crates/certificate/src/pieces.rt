@@ -7,7 +7,7 @@ ghost use Rattle.certificate.specs.declared.CertificateFault.{CertificateFault a
 ghost use Rattle.certificate.specs.declared.CertificateFault.TheVariants.{NoMemory, ReadFault};
 ghost use Rattle.certificate.specs.Spelling.{text};
 ghost use Rattle.certificate.specs.Reading.{AreLines};
-ghost use Rattle.certificate.specs.Faults.{HasFault, IsText};
+ghost use Rattle.certificate.specs.Faults.{HasFault, IsText, AsksForMemory};
 ghost use Rattle.certificate.specs.Kept.{meaning};
 ghost use Rattle.certificate.specs.Serving.{IsPrompt, IsUnanswered, failed_to_read};
 ghost use Rattle.certificate.specs.Served.{Serves};
@@ -85,6 +85,9 @@ impl<A: Allocator + Copy> Certificate<A> {
         // and the bytes given before it bring no answer.
         ensures unanswered { result ≡ Err ReadFault →
             Gave (R.remaining source.old) (R.remaining source.new) IsUnanswered }
+        // Memory is refused only where the bytes that were given have a line to keep.
+        ensures memory { result ≡ Err NoMemory →
+            Gave (R.remaining source.old) (R.remaining source.new) AsksForMemory }
         // At most 1,048,577 bytes are taken, and at most 511 past the one that brings the answer.
         ensures limit { Gave (R.remaining source.old) (R.remaining source.new)
             (λ given. length given ≤ 1048577) }

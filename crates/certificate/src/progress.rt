@@ -1,13 +1,15 @@
 //! The lines of a certificate, one after another.
 
-ghost use Rattle.std.specs.Prelude.{◌≡◌, ◌+◌, ◌<◌, ◌≤◌, ◌^◌, ◌↔◌, List, [], ◌∷◌, true, false, IsTrue};
+ghost use Rattle.std.specs.Prelude.{ℕ, ◌≡◌, ◌+◌, ◌<◌, ◌≤◌, ◌^◌, ◌↔◌, List, [], ◌∷◌, true, false, IsTrue};
 ghost use Rattle.facts.specs.Meaning.{equation_of};
 ghost use Rattle.certificate.specs.Reading.{place_of_equation};
-ghost use Rattle.certificate.specs.Line.{Line as SaidLine};
-ghost use Rattle.certificate.specs.Order.{any, is_end, may_stand, is_detail, place, next_place, fellows, HasRoom};
-ghost use Rattle.certificate.specs.Progress.{Tracks, TracksOthers, Fits, Takes};
+ghost use Rattle.certificate.specs.Line.{Line as SaidLine, IsLine, SameLine, line_text};
+ghost use Rattle.certificate.specs.Detail.{said_detail};
+ghost use Rattle.certificate.specs.Order.{any, is_end, may_stand, is_detail, place, next_place, fellows, HasRoom, Spells};
+ghost use Rattle.certificate.specs.Progress.{Tracks, TracksOthers, Fits, Takes, TakesLine};
 ghost use Rattle.certificate.specs.Meaning.{said};
 
+use crate::details::Detail;
 use crate::line::{Line, read_line};
 use crate::{CertificateFault, Version};
 use facts::{Equation, Name};
@@ -56,6 +58,17 @@ pub fn place_of(line: &Line) -> usize
         Line::Cell(tracked) => tracked.cell.index(),
         Line::Equation(equation) => 4096 + place_of_equation(equation),
         Line::End => 40960,
+    }
+}
+
+/// The place of a line under a fact or an exit.
+fn place_of_detail(detail: &Detail) -> usize
+    ensures same { result ≡ place (said_detail detail.now) }
+    ensures small { result < 2 ^ 26 }
+{
+    match detail {
+        Detail::Row(cell, _) => cell.index(),
+        Detail::Equation(equation) => 4096 + place_of_equation(equation),
     }
 }
 
@@ -188,6 +201,59 @@ impl Progress {
             Line::Fact(_, _, _) | Line::Exit(_, _, _) => self.takes_details = true,
             _ => self.ended = true,
         }
+    }
+
+    /// Whether there is room for a line under a fact or an exit.
+    fn has_room_under(&self, detail: &Detail) -> bool
+        ensures room { (before : List SaidLine) → Tracks self.now before → IsTrue result ↔
+            HasRoom before (said_detail detail.now) }
+        ensures fits { result ≡ true → Fits self.now (said_detail detail.now) }
+    {
+        match detail {
+            Detail::Row(_, _) => self.cells < 64,
+            Detail::Equation(_) => self.equations < 32,
+        }
+    }
+
+    /// Keeps such a line for those after it.
+    fn add_detail(&mut self, detail: &Detail)
+        requires number { self.old.number < 2 ^ 32 }
+        requires fits { Fits self.old (said_detail detail.now) }
+        ensures version { self.new.version ≡ self.old.version }
+        ensures number { self.new.number ≡ self.old.number + 1 }
+        ensures lines { (before : List SaidLine) → Tracks self.old before →
+            Tracks self.new (said_detail detail.now ∷ before) }
+    {
+        self.number += 1;
+        self.next_detail = place_of_detail(detail) + 1;
+        match detail {
+            Detail::Row(_, _) => self.cells += 1,
+            Detail::Equation(_) => self.equations += 1,
+        }
+    }
+
+    /// Takes the next line, one under a fact or an exit.
+    pub fn accept_detail(&mut self, detail: &Detail) -> Result<(), CertificateFault>
+        requires { self.old.number < 2 ^ 32 }
+        ensures version { self.new.version ≡ self.old.version }
+        ensures number { self.new.number ≤ self.old.number + 1 }
+        ensures lines { (before : List SaidLine) (bytes : List ℕ) → Tracks self.old before →
+            Spells self.old.version (said_detail detail.now) bytes →
+            ((l : SaidLine) → IsLine self.old.version l → bytes ≡ line_text self.old.version l →
+            SameLine (said_detail detail.now) l) →
+            TakesLine self.old.version before bytes self.new (said_detail detail.now) result }
+    {
+        if self.ended || !self.takes_details {
+            return Err(CertificateFault::BadLine(self.number));
+        }
+        if place_of_detail(detail) < self.next_detail {
+            return Err(CertificateFault::Order(self.number));
+        }
+        if !self.has_room_under(detail) {
+            return Err(CertificateFault::TooMany);
+        }
+        self.add_detail(detail);
+        Ok(())
     }
 
     /// Takes the next line.

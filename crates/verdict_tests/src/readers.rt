@@ -9,7 +9,7 @@ use rand_core::utils::NextWord;
 use rand_pcg::Pcg32;
 use std::alloc::{AllocError, Allocator, Global};
 use std::test::Fail;
-use streams::ByteSource;
+use streams::{ByteSink, ByteSource};
 use testing::memory::MemorySink;
 use testing::{MemorySource, Refusing};
 use word12::Word;
@@ -128,6 +128,81 @@ fn a_text_may_have_so_many_bytes_and_no_more(rt: HostRuntime) -> Result<(), Fail
     bad.push(b'\n')?;
     bad.extend_from_slice(b"more")?;
     assert_eq!(rt; told(rt.alloc(), &bad)?, Some(CertificateFault::BadLine(2)));
+    Ok(())
+}
+
+/// Adds the line of the fact at this number, with so many even words for the accumulator.
+fn push_fact(text: &mut Vec<u8>, at: usize, count: usize, offsets: &str) -> Result<(), AllocError>
+    requires at { at < 4096 }
+    requires count { count ≤ 2048 }
+{
+    text.extend_from_slice(b"fact ")?;
+    text.extend_from_slice(&Word::from_index(at).to_octal())?;
+    let mut before = " ac ";
+    for index in 0..count {
+        text.extend_from_slice(before.as_bytes())?;
+        text.extend_from_slice(&Word::from_index(2 * index).to_octal())?;
+        before = ",";
+    }
+    text.extend_from_slice(b" link 01 offsets ")?;
+    text.extend_from_slice(offsets.as_bytes())?;
+    text.push(b'\n')?;
+    Ok(())
+}
+
+/// A certificate's text of the most bytes: 4095 lines of 256 and one of 233 between the first line's
+/// 19 and the end's 4.
+fn largest(alloc: Global) -> Result<Vec<u8>, AllocError> {
+    let mut text = Vec::new(alloc);
+    text.extend_from_slice(b"PDP8-CERTIFICATE 1\n")?;
+    for at in 0..4095usize {
+        push_fact(&mut text, at, 45, "-")?;
+    }
+    push_fact(&mut text, 4095, 40, "012")?;
+    text.extend_from_slice(b"end\n")?;
+    Ok(text)
+}
+
+#[test]
+fn a_certificate_may_have_so_many_bytes(rt: HostRuntime) -> Result<(), Fail> {
+    let mut text = largest(rt.alloc())?;
+    assert_eq!(rt; text.len(), MOST);
+    assert_eq!(rt; pieced(rt.alloc(), &text, 512), None);
+    let certificate = Certificate::parse(rt.alloc(), &text)?;
+    let mut sink = MemorySink::new(rt.alloc(), MOST);
+    certificate.write(&mut sink)?;
+    assert!(rt; sink.bytes() == text.as_slice());
+    text.push(b'\n')?;
+    let most = Some(CertificateFault::TooMany);
+    assert_eq!(rt; Certificate::parse(rt.alloc(), &text).err(), most);
+    assert_eq!(rt; pieced(rt.alloc(), &text, 512), most);
+    Ok(())
+}
+
+#[test]
+fn a_byte_past_the_most_is_too_many(rt: HostRuntime) -> Result<(), Fail> {
+    let mut text = largest(rt.alloc())?;
+    text.truncate(MOST - 4);
+    text.extend_from_slice(b"exit ")?;
+    let most = Some(CertificateFault::TooMany);
+    assert_eq!(rt; Certificate::parse(rt.alloc(), &text).err(), most);
+    assert_eq!(rt; pieced(rt.alloc(), &text, 512), most);
+    Ok(())
+}
+
+#[test]
+fn a_write_that_is_cut_leaves_a_front(rt: HostRuntime) -> Result<(), Fail> {
+    let whole = text(rt.alloc(), HELLO.as_slice())?;
+    let certificate = Certificate::parse(rt.alloc(), &whole)?;
+    for room in 0..whole.len() {
+        let mut sink = MemorySink::new(rt.alloc(), room);
+        assert!(rt; certificate.write(&mut sink).is_err());
+        assert!(rt; sink.failed());
+        assert!(rt; sink.bytes() == &whole[..room]);
+    }
+    let mut sink = MemorySink::new(rt.alloc(), whole.len());
+    assert!(rt; certificate.write(&mut sink).is_ok());
+    assert!(rt; !sink.failed());
     Ok(())
 }
 
@@ -574,6 +649,31 @@ fn each_growth_of_a_pieced_text_is_refused_in_turn(rt: HostRuntime) -> Result<()
     assert!(rt; answers_in_turn(rt.alloc(), &whole, None));
     let front = text(rt.alloc(), &HELLO[..34])?;
     assert!(rt; answers_in_turn(rt.alloc(), &front, Some(CertificateFault::BadLine(35))));
+    Ok(())
+}
+
+/// Texts without a line that is kept before their end or their fault.
+const WITHOUT_LINES: [(&str, Option<CertificateFault>); 5] = [
+    ("PDP8-CERTIFICATE 1\nend\n", None),
+    ("PDP8-CERTIFICATE 2\n", Some(CertificateFault::BadLine(2))),
+    ("", Some(CertificateFault::Version)),
+    (
+        "PDP8-CERTIFICATE 1\nroutine 0214 rank 00 sites 0207 writes - \nend\n",
+        Some(CertificateFault::BadLine(2)),
+    ),
+    (
+        "PDP8-CERTIFICATE 1\ncell 0010 0000\nend\n",
+        Some(CertificateFault::BadLine(2)),
+    ),
+];
+
+#[test]
+fn only_a_line_that_is_kept_asks_for_memory(rt: HostRuntime) -> Result<(), Fail> {
+    for (text, fault) in &WITHOUT_LINES {
+        let (answer, refused) = refused_at(rt.alloc(), 0, text.as_bytes());
+        assert_eq!(rt; answer, *fault);
+        assert!(rt; !refused);
+    }
     Ok(())
 }
 

@@ -27,3 +27,9 @@ returns-clause-fact g c =
     let f = exit_claims c.self.inside.version c.self.inside.kept c.index.result c.args.offset (8192 + 8 * c.index.result + c.args.offset)
     (drop c.from-start.result (said_lines c.lines.result.now)) c.self.invariant c.index.ensures.small c.if-offset-ge8.false (omega arith) (rw c.lines.ensures c.from-start.ensures) in
     rw (← c.self.view_is, ← c.index.ensures.same) (λ here. c.first_exit.ensures.fact here ∙ f.1)
+
+pub returns-clause-statement : goal.returns-clause-statement
+returns-clause-statement g c =
+    let f = exit_claims c.self.inside.version c.self.inside.kept c.index.result c.args.offset (8192 + 8 * c.index.result + c.args.offset)
+    (drop c.from-start.result (said_lines c.lines.result.now)) c.self.invariant c.index.ensures.small c.if-offset-ge8.false (omega arith) (rw c.lines.ensures c.from-start.ensures) in
+    rw (← c.self.view_is, ← c.index.ensures.same) (λ here. f.2 ∙ c.first_exit.ensures.statement here)

@@ -21,3 +21,8 @@ pub returns-clause-fact : goal.returns-clause-fact
 returns-clause-fact g c =
     let f = fact_claims c.self.inside.version c.self.inside.kept c.index.result (drop c.from-start.result (said_lines c.lines.result.now)) c.self.invariant c.index.ensures.small (rw c.lines.ensures c.from-start.ensures) in
     rw (← c.self.view_is, ← c.index.ensures.same) (λ here. c.first_fact.ensures.fact here ∙ f.1)
+
+pub returns-clause-statement : goal.returns-clause-statement
+returns-clause-statement g c =
+    let f = fact_claims c.self.inside.version c.self.inside.kept c.index.result (drop c.from-start.result (said_lines c.lines.result.now)) c.self.invariant c.index.ensures.small (rw c.lines.ensures c.from-start.ensures) in
+    rw (← c.self.view_is, ← c.index.ensures.same) (λ here. f.2 ∙ c.first_fact.ensures.statement here)

@@ -3,7 +3,7 @@ use Rattle.certificate.specs.Spelling.{text}
 use Rattle.certificate.specs.Reading.{AreLines}
 use Rattle.certificate.specs.Kept.{meaning}
 use Rattle.certificate.specs.Faults.{IsText}
-use Rattle.certificate.proofs.ReadLemmas.{taken_all, of_refused, of_finished, answers_found, answers_refused, answers_only, answers_exact}
+use Rattle.certificate.proofs.ReadLemmas.{taken_all, of_refused, of_finished, answers_found, answers_refused, answers_only, answers_exact, answers_memory}
 use Rattle.certificate.proofs.ParserLemmas.{was_read}
 use Rattle.certificate.proofs.Certificate.parse.Goals as goal
 
@@ -13,7 +13,7 @@ returns-in-Err-clause-only g c =
 
 pub returns-in-Err-clause-refused : goal.returns-in-Err-clause-refused
 returns-in-Err-clause-refused g c =
-    of_refused c.args.bytes.now c.in-Err.fault (c.in-Err.ensures.seen [] c.new-parser.ensures.seen c.new-parser.ensures.count)
+    answers_refused c.args.bytes.now (Err c.in-Err.fault) (of_refused c.args.bytes.now c.in-Err.fault (c.in-Err.ensures.seen [] c.new-parser.ensures.seen c.new-parser.ensures.count))
 
 pub returns-in-Err-clause-exact : goal.returns-in-Err-clause-exact
 returns-in-Err-clause-exact g c =
@@ -55,5 +55,15 @@ returns-clause-refused g c =
 pub returns-clause-exact : goal.returns-clause-exact
 returns-clause-exact g c =
     answers_exact c.args.bytes.now c.finish.result (of_finished c.args.bytes.now c.finish.result
+    (c.finish.ensures c.args.bytes.now (c.in_default.ensures.seen [] c.new-parser.ensures.seen c.new-parser.ensures.count)
+    (taken_all c.args.bytes.now c.new-parser.result.count c.take_all.new.self.count c.new-parser.ensures.count c.in_default.ensures.count)))
+
+pub returns-in-Err-clause-memory : goal.returns-in-Err-clause-memory
+returns-in-Err-clause-memory g c =
+    answers_memory c.args.bytes.now (Err c.in-Err.fault) (of_refused c.args.bytes.now c.in-Err.fault (c.in-Err.ensures.seen [] c.new-parser.ensures.seen c.new-parser.ensures.count))
+
+pub returns-clause-memory : goal.returns-clause-memory
+returns-clause-memory g c =
+    answers_memory c.args.bytes.now c.finish.result (of_finished c.args.bytes.now c.finish.result
     (c.finish.ensures c.args.bytes.now (c.in_default.ensures.seen [] c.new-parser.ensures.seen c.new-parser.ensures.count)
     (taken_all c.args.bytes.now c.new-parser.result.count c.take_all.new.self.count c.new-parser.ensures.count c.in_default.ensures.count)))

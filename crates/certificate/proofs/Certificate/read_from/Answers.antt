@@ -1,5 +1,6 @@
+use Rattle.certificate.specs.Faults.{AsksForMemory}
 use Rattle.certificate.specs.Serving.{IsUnanswered}
-use Rattle.certificate.proofs.ServedLemmas.{gave, serves_only, serves_exact, serves_unanswered}
+use Rattle.certificate.proofs.ServedLemmas.{gave, serves_only, serves_exact, serves_unanswered, serves_memory}
 use Rattle.certificate.proofs.Certificate.read_from.Goals as goal
 
 pub returns-clause-only : goal.returns-clause-only
@@ -11,3 +12,7 @@ returns-clause-exact g c = serves_exact _ _ c.read_source.result c.read_source.e
 pub returns-clause-unanswered : goal.returns-clause-unanswered
 returns-clause-unanswered g c = λ e.
     gave _ _ c.read_source.result c.read_source.ensures.serves IsUnanswered (serves_unanswered _ _ c.read_source.result c.read_source.ensures.serves e)
+
+pub returns-clause-memory : goal.returns-clause-memory
+returns-clause-memory g c = λ e.
+    gave _ _ c.read_source.result c.read_source.ensures.serves AsksForMemory (serves_memory _ _ c.read_source.result c.read_source.ensures.serves e)

@@ -4,17 +4,17 @@ use Rattle.certificate.proofs.FoundLemmas.{detail_kept, head_kept, end_kept, not
 use Rattle.certificate.proofs.MakerLemmas.{on_ok}
 use Rattle.certificate.proofs.lines.KeptLines.keep.Goals as goal
 
-pub returns-then-is_end : goal.returns-then-is_end
-returns-then-is_end g c = λ before h. end_kept c.args.self.now (said c.args.line.now) before (sym c.if-is_end.ensures) h
+pub returns-then-is_end-clause-kept : goal.returns-then-is_end-clause-kept
+returns-then-is_end-clause-kept g c = λ before h. end_kept c.args.self.now (said c.args.line.now) before (sym c.if-is_end.ensures) h
 
-pub returns-then-is_detail : goal.returns-then-is_detail
-returns-then-is_detail g c = λ before h.
+pub returns-then-is_detail-clause-kept : goal.returns-then-is_detail-clause-kept
+returns-then-is_detail-clause-kept g c = λ before h.
     rw (not_end (said c.args.line.now) before (sym c.if-is_end.ensures))
     (on_ok c.push.result _ _ (λ e. detail_kept c.args.self.now (record { lines = c.push.new.self; places = c.args.self.now.places; starts = c.args.self.now.starts })
     (said c.args.line.now) before (sym c.if-is_detail.ensures) e refl refl h) c.push.ensures.added)
 
-pub returns : goal.returns
-returns g c = λ before h.
+pub returns-clause-kept : goal.returns-clause-kept
+returns-clause-kept g c = λ before h.
     rw (not_end (said c.args.line.now) before (sym c.if-is_end.ensures))
     (on_ok c.push-4.result _ _ (λ e. head_kept c.args.self.now (record { lines = c.push-4.new.self; places = c.push-2.new.self; starts = c.push-3.new.self })
     (said c.args.line.now) before (sym c.if-is_detail.ensures) e (rw (← c.place_of.ensures.same) c.in_ok-push.ensures.items)

@@ -1,0 +1,59 @@
+-- Lines that were read as details.
+use Rattle.std.proofs.Common.{◌≡◌, ℕ, ◌+◌, ◌-◌, ◌<◌, ◌≤◌, Bool, true, false, ◌&&◌, List, [], ◌∷◌, ◌++◌, length, take, drop, refl, ap, ◌∙◌, sym, arith, length-append}
+use Rattle.std.specs.Prelude.{slice_range}
+use Rattle.std.proofs.lemmas.List.{take_all, drop_at}
+use Rattle.wordset.specs.Words.{Words, nothing, between}
+use Rattle.wordset.proofs.SetLemmas.{equal_words, all_everything}
+use Rattle.certificate.specs.declared.packed.Run.{Run}
+use Rattle.certificate.specs.declared.packed.Span.{Span}
+use Rattle.certificate.specs.declared.details.Detail.{Detail}
+use Rattle.certificate.specs.declared.details.Detail.TheVariants as detail
+use Rattle.std.specs.Prelude.{IfOk, Result, Ok, Err}
+use Rattle.certificate.specs.declared.Version.{Version}
+use Rattle.certificate.specs.Line.{Line, IsLine, SameLine, line_text}
+use Rattle.certificate.specs.Order.{is_detail, is_end, Spells}
+use Rattle.certificate.proofs.OneLineLemmas.{line_one}
+use Rattle.certificate.specs.Detail.{said_detail}
+use Rattle.certificate.specs.Packed.{joined, set_of_runs, set_at, IsSpan, IsLaid}
+use Rattle.certificate.proofs.PackedLemmas.{above_between, runs_past}
+
+pub says_more : (d : Detail) → is_detail (said_detail d) ≡ true
+says_more (detail.Row a r) = refl
+says_more (detail.Equation e) = refl
+
+pub is_no_end : (d : Detail) → is_end (said_detail d) ≡ false
+is_no_end (detail.Row a r) = refl
+is_no_end (detail.Equation e) = refl
+
+-- The set of one run.
+one_run : (r : Run) → r.last < 4096 → set_of_runs (r ∷ []) ≡ between r.first r.last
+unfolding set_of_runs
+one_run r small = equal_words _ _ (runs_past (r ∷ [])) (λ v h. above_between r.first r.last v (omega arith))
+    (λ v h. ap (λ b. b && between r.first r.last v) (all_everything v h))
+
+-- The run that was added lies there.
+pub run_laid : (old new : List Run) (r : Run) (s : Span) → r.last < 4096 → new ≡ old ++ r ∷ [] → IsSpan s (length old) (length new) →
+    IsLaid new s (between r.first r.last)
+run_laid old new r s small e span = record {
+  within = (let q = span.ends in omega (arith, q));
+  is = ap set_of_runs there ∙ one_run r small;
+}
+  where
+    first : s.first ≡ length old
+    first = span.first_is
+
+    ends : s.first + s.count ≡ length old + 1
+    ends = span.ends ∙ (ap length e ∙ length-append old (r ∷ []))
+
+    there : slice_range new s.first (s.first + s.count) ≡ r ∷ []
+    there = rw (ends, first, e) (ap (take (length old + 1 - length old)) (drop_at old (r ∷ []) (length old) refl) ∙ take_all (length old + 1 - length old) (r ∷ []) (omega arith))
+
+pub run_laid_if : {E : Type 0} (old new : List Run) (r : Run) (o : Result Span E) (n m : ℕ) → n ≡ length old → m ≡ length new → r.last < 4096 →
+    new ≡ old ++ r ∷ [] → IfOk o (λ s. IsSpan s n m) → IfOk o (λ s. IsLaid new s (between r.first r.last))
+run_laid_if old new r (Ok s) n m first last small e span =
+    run_laid old new r s small e (record { first_is = span.first_is ∙ first; ends = span.ends ∙ last })
+run_laid_if old new r (Err f) n m first last small e span = tt
+
+-- Bytes that spell a line spell no other.
+pub one_line : (v : Version) (l : Line) (bytes : List ℕ) → Spells v l bytes → (m : Line) → IsLine v m → bytes ≡ line_text v m → SameLine l m
+one_line v l bytes spells m form e = line_one v l m spells.0 form (sym spells.1 ∙ e)

@@ -168,7 +168,7 @@ not_counted pl f Undefined a h q = q
 pub counts_nothing : (s : Words) (pl : Place) (f : Fact) (at w a : ℕ) → s ≡ nothing → (kind_of (meaning_at pl at w) ≡ Memory → ⊥) → (s a ≡ true) ↔ CountsItsReturn pl f (meaning_at pl at w) a
 counts_nothing s pl f at w a e h = (λ t. absurd (false_true (sym (ap (λ (x : Words). x a) e) ∙ t)), λ q. absurd (not_counted pl f (meaning_at pl at w) a h q))
 
-not_false : (b : Bool) → not b ≡ true → b ≡ false
+pub not_false : (b : Bool) → not b ≡ true → b ≡ false
 not_false true e = absurd (false_true e)
 not_false false e = refl
 

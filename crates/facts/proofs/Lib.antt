@@ -16,6 +16,7 @@ pub mod OutcomeLemmas
 pub mod TadLemmas
 pub mod ReachLemmas
 pub mod RegisterLemmas
+mod SingleLemmas
 pub mod SkipLemmas
 pub mod DispatchLemmas
 pub mod AskedLemmas

@@ -45,7 +45,7 @@ fn stores(word: Word) -> bool
 }
 
 /// Whether a memory reference is ISZ.
-fn counts(word: Word) -> bool
+pub(crate) fn counts(word: Word) -> bool
     ensures { result ≡ counts (operation_of word) }
 {
     match Operation::of(word) {

@@ -19,6 +19,7 @@ mod outcome;
 mod place;
 mod references;
 mod registers;
+mod single;
 mod skipping;
 
 pub use asked::post;
@@ -31,6 +32,7 @@ pub use names::{Equation, Name};
 pub use offsets::Offsets;
 pub use outcome::Outcome;
 pub use place::{Place, Running};
+pub use single::single_outcome;
 
 /// The conditions that a certificate must meet.
 #[derive(Clone, Copy, PartialEq, Eq, Debug)]

@@ -213,6 +213,7 @@ moves_by : (perm : List (Name × ℕ)) (limit : ℕ) (before : List PlacedAct) (
     → Defines perm limit before symbols → fault perm limit symbols (location (in_table (perm ++ symbols)) before) e a ≡ None
     → MovesBy perm limit before e a symbols (after perm limit symbols (location (in_table (perm ++ symbols)) before) e a)
 moves_by perm limit before e (act.Wrong c) symbols d none = cc
+moves_by perm limit before e act.AssignDirection symbols d none = cc
 moves_by perm limit before e act.LastPause symbols d none = cc
 moves_by perm limit before e act.Word symbols d none = record { order = d.order; one_value = d.one_value; lawful = tt; room = d.room; here = refl }
 moves_by perm limit before e act.Origin symbols d none = record { order = d.order; one_value = d.one_value; lawful = origin_on perm limit before symbols e _ d refl none; room = d.room; here = refl }

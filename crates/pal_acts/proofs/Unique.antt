@@ -190,6 +190,7 @@ stood_by : (perm : List (Name × ℕ)) (limit : ℕ) (before : List PlacedAct) (
     → AllByRecursion (IsGiven (in_table (perm ++ new))) (giving (in_table (perm ++ new)) (location (in_table (perm ++ new)) before) e a ++ givings (in_table (perm ++ new)) before)
     → IsLawfulAct (names (keys_of perm) before) e a → IsLawful (keys_of perm) before → length new ≤ limit → Before perm limit before e a new
 stood_by perm limit before e (act.Wrong c) new order given law lawful room = absurd law
+stood_by perm limit before e act.AssignDirection new order given law lawful room = absurd law
 stood_by perm limit before e act.LastPause new order given law lawful room = absurd law
 stood_by perm limit before e act.Word new order given law lawful room = record { symbols = new; defines = record { order = order; one_value = given; lawful = lawful; room = room }; none = refl; new_is = refl }
 stood_by perm limit before e act.Origin new order given law lawful room =

@@ -30,6 +30,11 @@ abbrev pub origin_fault : Option ℕ → Option Code
 origin_fault None = Some Undefined
 origin_fault (Some v) = None
 
+-- A direction can't be given a value.
+abbrev pub direction_fault : Option ℕ → Code
+direction_fault None = Undefined
+direction_fault (Some v) = Redefined
+
 module _ (permanent : List (Name × ℕ)) (limit : ℕ) (own : List (Name × ℕ)) where
   abbrev pub assign_fault : Name → Option ℕ → Option Code
   assign_fault n None = Some Undefined
@@ -41,6 +46,7 @@ module _ (permanent : List (Name × ℕ)) (limit : ℕ) (own : List (Name × ℕ
   fault here e (act.Tag n) = giving_fault DuplicateTag limit (length own) (known permanent own n) here
   fault here e act.Origin = origin_fault (value (known permanent own) here e)
   fault here e (act.Assign n) = assign_fault n (value (known permanent own) here e)
+  fault here e act.AssignDirection = Some (direction_fault (value (known permanent own) here e))
   fault here e act.Word = None
   fault here e act.LastPause = Some PauseInLastPart
 

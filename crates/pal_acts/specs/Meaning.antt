@@ -67,6 +67,7 @@ Names ns js = AllByRecursion (λ j. IsTermOf ns j.term) js
 abbrev pub IsLawfulAct : List Name → List Join → Act → Type 0
 IsLawfulAct ns e act.Origin = Names ns e
 IsLawfulAct ns e (act.Assign n) = Names ns e
+IsLawfulAct ns e act.AssignDirection = ⊥
 IsLawfulAct ns e (act.Wrong c) = ⊥
 IsLawfulAct ns e act.LastPause = ⊥
 IsLawfulAct ns e _ = Unit {0}

@@ -155,6 +155,10 @@ impl<'p, A: Allocator + Copy> Symbols<'p, A> {
                 Some(value) => self.give(name, value, Code::Redefined),
                 None => Err(Refusal::Fault(Code::Undefined)),
             },
+            Act::AssignDirection => match self.value(*here, terms) {
+                Some(_) => Err(Refusal::Fault(Code::Redefined)),
+                None => Err(Refusal::Fault(Code::Undefined)),
+            },
             Act::Word => {
                 *here = here.increment();
                 Ok(())

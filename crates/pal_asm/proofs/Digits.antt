@@ -1,8 +1,8 @@
 -- A number read digit by digit.
-use Rattle.std.proofs.Common.{◌≡◌, ◌∙◌, sym, ap, refl, ℕ, suc, ◌+◌, ◌-◌, ◌*◌, ◌^◌, ◌<◌, ◌≤◌, Bool, true, false, ◌&&◌, if◌then◌else◌, List, [], ◌∷◌, length, get_or, drop, arith, inl, inr, cond}
+use Rattle.std.proofs.Common.{◌≡◌, ◌∙◌, sym, ap, refl, ℕ, suc, ◌+◌, ◌-◌, ◌*◌, ◌^◌, ◌<◌, ◌≤◌, Bool, true, false, ◌&&◌, if◌then◌else◌, List, [], ◌∷◌, length, get_or, drop, arith, inl, inr, cond, Option, Some, None}
 use Rattle.std.specs.Prelude.{nat_lt, Result, Ok, Err}
 use Rattle.std.specs.List.{list_all}
-use Rattle.std.proofs.lemmas.Bool.{cases_lt, lt-ltb, le-ltb, cond-true, cond-false}
+use Rattle.std.proofs.lemmas.Bool.{cases_Bool, cases_lt, lt-ltb, le-ltb, cond-true, cond-false}
 use Rattle.std.proofs.lemmas.List.{drop_more}
 use Rattle.std.proofs.Math.Nat.{mul-le-mul_left, pow-suc, pow-zero}
 use Rattle.pal_text.specs.Characters.{characters, code, is_character}
@@ -81,10 +81,28 @@ character_left : (b v : ℕ) (bytes : List ℕ) (i : ℕ) → i < length bytes �
     → number_from b v (characters (drop i bytes)) ≡ number_from b v (code (get_or bytes i 0) ∷ characters (drop (i + 1) bytes))
 character_left b v bytes i h one = ap (number_from b v) (characters_left bytes i h ∙ ap (λ t. cond t (code (get_or bytes i 0) ∷ characters (drop (i + 1) bytes)) (characters (drop (i + 1) bytes))) one)
 
-pub digit_left : (b v : ℕ) (bytes : List ℕ) (i : ℕ) → i < length bytes → is_character (code (get_or bytes i 0)) ≡ true → code (get_or bytes i 0) - 48 < b
-    → number_from b v (characters (drop i bytes)) ≡ number_from b (capped (v * b + (code (get_or bytes i 0) - 48))) (characters (drop (i + 1) bytes))
-digit_left b v bytes i h one digit = character_left b v bytes i h one ∙ cond-true (is_digit_of b (code (get_or bytes i 0))) _ _ (lt-ltb (code (get_or bytes i 0) - 48) b digit)
+-- what a digit is found to be worth
+abbrev pub found : ℕ → ℕ → Option ℕ
+found b c = if is_digit_of b c then Some (c - 48) else None
 
-pub no_digit_left : (b v : ℕ) (bytes : List ℕ) (i : ℕ) → i < length bytes → is_character (code (get_or bytes i 0)) ≡ true → b ≤ code (get_or bytes i 0) - 48
+found_one : (b c d : ℕ) → found b c ≡ Some d → (is_digit_of b c ≡ true) × (c - 48 ≡ d)
+found_one b c d h = elim (cases_Bool (is_digit_of b c)) [
+  | inl is ↦ (is, (let same : Some (c - 48) ≡ Some d = sym (ap (λ t. if t then Some (c - 48) else None) is) ∙ h in cc))
+  | inr other ↦ cc (sym (ap (λ t. if t then Some (c - 48) else None) other) ∙ h)
+]
+
+found_none : (b c : ℕ) → found b c ≡ None → is_digit_of b c ≡ false
+found_none b c h = elim (cases_Bool (is_digit_of b c)) [
+  | inl is ↦ cc (sym (ap (λ t. if t then Some (c - 48) else None) is) ∙ h)
+  | inr other ↦ other
+]
+
+pub digit_left : (b v : ℕ) (bytes : List ℕ) (i d : ℕ) → i < length bytes → is_character (code (get_or bytes i 0)) ≡ true → found b (code (get_or bytes i 0)) ≡ Some d
+    → number_from b v (characters (drop i bytes)) ≡ number_from b (capped (v * b + d)) (characters (drop (i + 1) bytes))
+digit_left b v bytes i d h one digit =
+    let f : (is_digit_of b (code (get_or bytes i 0)) ≡ true) × (code (get_or bytes i 0) - 48 ≡ d) = found_one b (code (get_or bytes i 0)) d digit in
+    character_left b v bytes i h one ∙ cond-true (is_digit_of b (code (get_or bytes i 0))) _ _ f.0 ∙ ap (λ n. number_from b (capped (v * b + n)) (characters (drop (i + 1) bytes))) f.1
+
+pub no_digit_left : (b v : ℕ) (bytes : List ℕ) (i : ℕ) → i < length bytes → is_character (code (get_or bytes i 0)) ≡ true → found b (code (get_or bytes i 0)) ≡ None
     → number_from b v (characters (drop i bytes)) ≡ Err IllegalCharacter
-no_digit_left b v bytes i h one other = character_left b v bytes i h one ∙ cond-false (is_digit_of b (code (get_or bytes i 0))) _ _ (le-ltb (code (get_or bytes i 0) - 48) b other)
+no_digit_left b v bytes i h one other = character_left b v bytes i h one ∙ cond-false (is_digit_of b (code (get_or bytes i 0))) _ _ (found_none b (code (get_or bytes i 0)) other)

@@ -14,7 +14,7 @@ use Rattle.pal_acts.specs.declared.act.Act.{Act}
 use Rattle.pal_acts.specs.declared.act.Act.TheVariants as act
 use Rattle.pal_acts.specs.declared.act.Place.{Place}
 use Rattle.pal_acts.specs.declared.code.Code.{Code}
-use Rattle.pal_acts.specs.declared.code.Code.TheVariants.{DuplicateTag, Redefined}
+use Rattle.pal_acts.specs.declared.code.Code.TheVariants.{DuplicateTag}
 use Rattle.pal_acts.specs.Acts.{PlacedAct, placed}
 use Rattle.pal_asm.specs.Expressions.{name_of, expression}
 use Rattle.pal_asm.specs.Acts.{tags, after_tags, tag_by, tag_act, operand, assign_by, assign_acts, body_acts, settled, statement_acts}
@@ -33,7 +33,7 @@ module _ (P : PlacedAct → Type 0) (p : Place) (idle : (e : List Join) (a : Act
 
   assign_by_holds : (source : List ℕ) (t : Token) (js : List Join) (k : Kind) → Each (assign_by p source t js k)
   assign_by_holds source t js kind.Symbol = (idle js (act.Assign (name_of source t)) (λ e. cc), tt)
-  assign_by_holds source t js _ = (idle js act.Origin (λ e. cc), (idle [] (act.Wrong Redefined) (λ e. cc), tt))
+  assign_by_holds source t js _ = (idle js act.AssignDirection (λ e. cc), tt)
 
   assign_holds : (source : List ℕ) (ts : List Token) (js : List Join) → Each (assign_acts p source ts js)
   assign_holds source [] js = tt

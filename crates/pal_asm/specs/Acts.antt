@@ -12,7 +12,7 @@ use Rattle.pal_acts.specs.declared.act.Act.{Act}
 use Rattle.pal_acts.specs.declared.act.Act.TheVariants as act
 use Rattle.pal_acts.specs.declared.act.Place.{Place}
 use Rattle.pal_acts.specs.declared.code.Code.{Code}
-use Rattle.pal_acts.specs.declared.code.Code.TheVariants.{DuplicateTag, Redefined}
+use Rattle.pal_acts.specs.declared.code.Code.TheVariants.{DuplicateTag}
 use Rattle.pal_acts.specs.Acts.{PlacedAct, placed, place}
 use Rattle.pal_asm.specs.declared.number.Radix.{Radix}
 use Rattle.pal_asm.specs.Numbers.{base, radix_after}
@@ -49,10 +49,9 @@ operand _ ts = []
 -- What an assignment does, by what its first token is.
 abbrev pub assign_by : Place → List ℕ → Token → List Join → Kind → List PlacedAct
 assign_by p source t js kind.Symbol = placed p js (act.Assign (name_of source t)) ∷ []
-assign_by p source t js _ = placed p js act.Origin ∷ placed p [] (act.Wrong Redefined) ∷ []
+assign_by p source t js _ = placed p js act.AssignDirection ∷ []
 
--- An assignment to this first token. DECIMAL, OCTAL and PAUSE can't be given a value; the symbols of the expression are
--- looked at before that is told, as those of an origin are.
+-- An assignment to this first token.
 abbrev pub assign_acts : Place → List ℕ → List Token → List Join → List PlacedAct
 assign_acts p source [] js = []
 assign_acts p source (t ∷ ts) js = assign_by p source t js t.kind

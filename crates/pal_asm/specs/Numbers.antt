@@ -1,5 +1,5 @@
 -- Numbers as they are written.
-use Rattle.std.specs.Prelude.{ℕ, ◌+◌, ◌-◌, ◌*◌, ◌^◌, Bool, nat_lt, if◌then◌else◌, List, [], ◌∷◌, length, Result, Ok, Err}
+use Rattle.std.specs.Prelude.{ℕ, ◌+◌, ◌-◌, ◌*◌, ◌^◌, Bool, ◌&&◌, nat_le, nat_lt, if◌then◌else◌, List, [], ◌∷◌, length, Result, Ok, Err}
 use Rattle.std.specs.List.{list_all}
 use Rattle.pal_acts.specs.declared.code.Code.{Code}
 use Rattle.pal_acts.specs.declared.code.Code.TheVariants.{IllegalCharacter, NumberTooLarge}
@@ -26,7 +26,7 @@ worth b (c ∷ cs) = (c - 48) * b ^ length cs + worth b cs
 
 -- A character is a digit of this base.
 abbrev pub is_digit_of : ℕ → ℕ → Bool
-is_digit_of b c = nat_lt (c - 48) b
+is_digit_of b c = nat_le 48 c && nat_lt (c - 48) b
 
 -- The number that these digits spell. That each is a digit of the base is asked first, and then whether the number is a word.
 abbrev pub number : ℕ → List ℕ → Result ℕ Code

@@ -1,8 +1,8 @@
 //! Numbers as they are written.
 
-ghost use Rattle.std.specs.Prelude.{◌≡◌, ◌≤◌, ◌<◌, ◌+◌, ◌-◌, ◌*◌, if◌then◌else◌, nat_lt};
+ghost use Rattle.std.specs.Prelude.{◌≡◌, ◌≤◌, ◌<◌, ◌+◌, ◌-◌, ◌*◌, if◌then◌else◌, nat_lt, Some, None, IfSome};
 ghost use Rattle.pal_text.specs.Characters.{characters};
-ghost use Rattle.pal_asm.specs.Numbers.{base, radix_after, number};
+ghost use Rattle.pal_asm.specs.Numbers.{base, radix_after, is_digit_of, number};
 
 use pal_acts::Code;
 use pal_text::Form;
@@ -55,6 +55,18 @@ fn with_digit(base: u16, value: u16, digit: u16) -> u16
     if next < 4096 { next } else { 4096 }
 }
 
+/// What a character is worth as a digit of this base; nothing where it is none.
+fn digit_of(base: u16, code: u8) -> Option<u16>
+    ensures digit { result ≡ (if is_digit_of base code then Some (code - 48) else None) }
+    ensures small { IfSome result (λ digit. digit < base) }
+{
+    if code < b'0' {
+        return None;
+    }
+    let digit = u16::from(code - b'0');
+    if digit < base { Some(digit) } else { None }
+}
+
 /// The number that the bytes of a token spell.
 ///
 /// # Errors
@@ -69,11 +81,10 @@ pub(crate) fn number_of(radix: Radix, bytes: &[u8]) -> Result<Word, Code>
     for byte in bytes {
         let code = *byte % 128;
         if is_character_code(code) {
-            let digit = u16::from(code.saturating_sub(b'0'));
-            if digit >= base {
-                return Err(Code::IllegalCharacter);
+            match digit_of(base, code) {
+                Some(digit) => value = with_digit(base, value, digit),
+                None => return Err(Code::IllegalCharacter),
             }
-            value = with_digit(base, value, digit);
         }
     }
     match Word::new(value) {

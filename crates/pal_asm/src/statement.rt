@@ -86,8 +86,7 @@ fn operand_of(form: Form, tokens: &[Token]) -> &[Token]
     }
 }
 
-/// Keeps an assignment. DECIMAL, OCTAL and PAUSE can't be given a value, which is told after the
-/// expression's symbols were looked at.
+/// Keeps an assignment; one to DECIMAL, OCTAL or PAUSE is an act of its own.
 fn keep_assignment<A: Allocator>(
     source: &[u8],
     place: Place,
@@ -105,8 +104,7 @@ fn keep_assignment<A: Allocator>(
             acts.keep(place, Act::Assign(name(source, *first)), joins)
         }
         [_, ..] => {
-            acts.keep(place, Act::Origin, joins)?;
-            acts.keep(place, Act::Wrong(Code::Redefined), &[])
+            acts.keep(place, Act::AssignDirection, joins)
         }
     }
 }

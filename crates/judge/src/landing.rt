@@ -13,7 +13,7 @@ ghost use Rattle.judge.specs.Spots.{IsSpot, case_of, routine_at, HoldsHere};
 
 use crate::claims::Claims;
 use crate::spot::Spot;
-use facts::{Fact, Known, Outcome, outcomes};
+use facts::{Fact, Known, Outcome, outcomes, single_outcome};
 use std::alloc::Allocator;
 use word12::Word;
 use wordset::WordSet;
@@ -123,6 +123,19 @@ impl<A: Allocator, C: Claims> Spot<'_, A, C> {
 
     /// Whether each outcome of a word that goes on lands wherever it goes.
     pub(crate) fn outcomes_land(&self, word: Word, next: &mut Fact) -> bool
+        requires { IsSpot C.claims self.now }
+        ensures { IsTrue result ↔ HoldsHere C.claims self.now V4 word }
+    {
+        if !self.place.has_one_outcome(word) {
+            return self.all_land(word, next);
+        }
+        self.slot_lands(&single_outcome(self.fact, self.at, word, &self.place), next)
+    }
+
+    /// Whether each outcome of a word that may have several lands; the room for them is made here
+    /// alone.
+    #[inline(never)]
+    fn all_land(&self, word: Word, next: &mut Fact) -> bool
         requires { IsSpot C.claims self.now }
         ensures { IsTrue result ↔ HoldsHere C.claims self.now V4 word }
     {

@@ -2,7 +2,7 @@
 
 use bin_tape::Image;
 use declaration::Declaration;
-use facts::{Equation, Fact, Name, Outcome, Place, outcomes};
+use facts::{Equation, Fact, Name, Outcome, Place, outcomes, single_outcome};
 use std::alloc::Allocator;
 use word12::{Link, Word};
 use wordset::{Links, WordSet};
@@ -70,6 +70,15 @@ fn hit(outcome: &Option<Outcome<'_>>, fact: &Fact) -> u64 {
     }
 }
 
+/// Whether the first outcome of TAD at an address entails a fact, as a number.
+fn first_hit<A: Allocator>(fact: &Fact, at: Word, place: &Place<'_, A>, next: &Fact) -> u64 {
+    let tad = word(TAD);
+    if place.has_one_outcome(tad) {
+        return hit(&single_outcome(fact, at, tad, place), next);
+    }
+    hit(&outcomes(fact, at, tad, place)[0], next)
+}
+
 /// How many of so many outcomes entail a fact.
 #[inline(never)]
 pub fn entailed<'a, A: Allocator>(
@@ -87,8 +96,7 @@ pub fn entailed<'a, A: Allocator>(
     let mut hits = 0u64;
     let mut at = word(0o200);
     for _ in 0..times {
-        let found = outcomes(fact, at, word(TAD), &place);
-        hits = hits.wrapping_add(hit(&found[0], next));
+        hits = hits.wrapping_add(first_hit(fact, at, &place, next));
         at = at.increment();
     }
     hits

@@ -103,9 +103,7 @@ fn keep_assignment<A: Allocator>(
         [first, ..] if first.kind == Kind::Symbol => {
             acts.keep(place, Act::Assign(name(source, *first)), joins)
         }
-        [_, ..] => {
-            acts.keep(place, Act::AssignDirection, joins)
-        }
+        [_, ..] => acts.keep(place, Act::AssignDirection, joins),
     }
 }
 

@@ -4,10 +4,10 @@ ghost use Rattle.std.specs.Prelude.{◌≡◌, ◌<◌, true, false, get_or, len
 ghost use Rattle.std.specs.Io.KnownBytes.{Appends};
 ghost use Rattle.streams.specs.Bytes.{AppendsFront};
 ghost use Rattle.peripherals.specs.Events.{Happens};
-ghost use Rattle.peripherals.specs.Seen.{seen_of};
+ghost use Rattle.peripherals.specs.Seen.{puts_out, seen_of};
 ghost use Rattle.peripherals.specs.World.{view, profile_of};
 ghost use Rattle.commands.specs.Faults.{IsRunFault, fails_to_write};
-ghost use Rattle.commands.specs.Follows.{IsReached, IsTraceOfSome, end_of};
+ghost use Rattle.commands.specs.Follows.{IsBeforeOutput, IsReached, IsTraceOfSome, IsTraceUpToOutput, end_of};
 ghost use Rattle.commands.specs.Course.{Ran, ends_at_halt, event_of_round, events_in};
 ghost use Rattle.commands.specs.Trace.{trace_of, traced};
 ghost use Rattle.commands.specs.Writes.{FrontOf, Writes};
@@ -131,6 +131,9 @@ pub(crate) fn advance<A: Allocator, W: ByteSink>(
     ensures silent { trace ≡ false → out.new ≡ out.old }
     ensures kept { OnErr result (W.mark out.new ≡ false → W.taken out.new ≡ W.taken out.old) }
     ensures unchanged { OnErr result (W.mark out.new ≡ false → view world.new ≡ view world.old) }
+    // Memory is refused only for what is printed or punched.
+    ensures wants { OnErr result (W.mark out.new ≡ false →
+        puts_out (view world.old) event ≡ true) }
 {
     let at = world.cpu().pc;
     let word = world.cpu().memory.get(at);
@@ -166,9 +169,13 @@ pub fn follow<A: Allocator, W: ByteSink>(
     // After a fault the world is the one after some first events.
     ensures reached { OnErr result (IsReached (profile_of world.old) (ends_at_halt course.now)
         (events_in course.now) (view world.old) (view world.new)) }
-    // Where memory was refused, whole lines of some first events went out.
+    // Where memory was refused, that was before an event that prints or punches,
+    ensures wants { OnErr result (W.mark out.new ≡ false → IsBeforeOutput
+        (profile_of world.old) (ends_at_halt course.now) (events_in course.now)
+        (view world.old) (view world.new)) }
+    // and the whole lines of the events before it went out.
     ensures traced { OnErr result (W.mark out.new ≡ false → trace ≡ true → Writes
-        (IsTraceOfSome (profile_of world.old) (ends_at_halt course.now) (events_in course.now)
+        (IsTraceUpToOutput (profile_of world.old) (ends_at_halt course.now) (events_in course.now)
         (view world.old))
         (W.taken out.old) (W.taken out.new)) }
 {

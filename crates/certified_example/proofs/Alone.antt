@@ -9,7 +9,10 @@ use Rattle.processor.specs.Machine.{State, Silent}
 use Rattle.processor.specs.Runs.{IsStart}
 use Rattle.policy.specs.Rules as rules
 use Rattle.certified_example.specs.Broken.{image_with, bare}
-use Rattle.certified_example.specs.Forbidden.{Rule, StaysInBody, WritesDeclared, CallsEntries, ReturnsToItsCall, HaltsDeclared, KeepsCode, ReadsListed, Keeps, BreaksAlone, changing, two_cells}
+use Rattle.policy.specs.declared.rules.Rule.{Rule}
+use Rattle.policy.specs.declared.rules.Rule.TheVariants.{StaysInBody, WritesDeclared, CallsEntries, ReturnsToItsCall, HaltsDeclared, KeepsCode, ReadsListed}
+use Rattle.policy.specs.Watching.{Keeps}
+use Rattle.certified_example.specs.Forbidden.{BreaksAlone, changing, two_cells}
 use Rattle.certified_example.proofs.Breaks.{begun, is_start, no_routine}
 
 -- the tape's word is there at the start

@@ -1,33 +1,14 @@
 -- What each of the seven rules forbids that the six others let through.
 use Rattle.std.specs.Prelude.{◌≡◌, ◌==◌, false, ◌||◌, if◌then◌else◌, Some, None, List, []}
 use Rattle.wordset.specs.Words.{Words}
-use Rattle.processor.specs.Machine.{State, Answer, instruction}
+use Rattle.processor.specs.Machine.{State, Answer}
 use Rattle.processor.specs.Runs.{Image, IsStart}
 use Rattle.declaration.specs.Declaration.{Routine, Declaration}
 use Rattle.policy.specs.Calls.{Calls}
-use Rattle.policy.specs.Rules as rules
+use Rattle.policy.specs.declared.rules.Rule.{Rule}
 use Rattle.policy.specs.Runs.{DeclaredRun}
+use Rattle.policy.specs.Watching.{Keeps}
 use Rattle.certified_example.specs.Broken.{bare}
-
--- The rules, from the first to the seventh.
-pub data Rule : Type 0 where
-  StaysInBody : Rule
-  WritesDeclared : Rule
-  CallsEntries : Rule
-  ReturnsToItsCall : Rule
-  HaltsDeclared : Rule
-  KeepsCode : Rule
-  ReadsListed : Rule
-
--- The step from a state keeps this rule.
-abbrev pub Keeps : Rule → Image → Declaration → State → Calls → Type 0
-Keeps StaysInBody image d s ks = rules.StaysInBody d s ks
-Keeps WritesDeclared image d s ks = rules.WritesDeclared d (instruction d.profile s) s ks
-Keeps CallsEntries image d s ks = rules.CallsEntries d (instruction d.profile s) s
-Keeps ReturnsToItsCall image d s ks = rules.ReturnsToItsCall d (instruction d.profile s) s ks
-Keeps HaltsDeclared image d s ks = rules.HaltsDeclared d (instruction d.profile s) s.pc
-Keeps KeepsCode image d s ks = rules.KeepsCode image d s.memory
-Keeps ReadsListed image d s ks = rules.ReadsListed d (instruction d.profile s) s ks
 
 -- A declared run leads to a step that breaks this rule, and keeps each of the others.
 pub record BreaksAlone (rule : Rule) (image : Image) (d : Declaration) : Type 0 where

@@ -7,10 +7,11 @@ ghost use Rattle.std.specs.Prelude.{Some, None};
 ghost use Rattle.wordset.specs.Words.{nothing};
 ghost use Rattle.declaration.specs.Declaration.{IsDeclared};
 ghost use Rattle.policy.specs.Runs.{IsSafe};
+ghost use Rattle.policy.specs.declared.rules.Rule.TheVariants as rule;
 ghost use Rattle.judge.specs.Conditions.{IsValid};
 ghost use Rattle.certified_example.specs.Example.{image, declaration, example};
 ghost use Rattle.certified_example.specs.Broken.{IsUnsafe, bare, image_with};
-ghost use Rattle.certified_example.specs.Forbidden.{BreaksAlone, Rule, changing, two_cells};
+ghost use Rattle.certified_example.specs.Forbidden.{BreaksAlone, changing, two_cells};
 
 /// The declaration keeps the overlap rules, the certificate is valid, and so the program is safe.
 pub fn example_is_safe()
@@ -37,11 +38,11 @@ pub fn broken_are_unsafe()
 /// JMS to no entry, a return with no call open, an undeclared HLT, the step after one that changed
 /// fixed code, and a read that isn't listed. So none of the rules may be left out.
 pub fn each_rule_forbids()
-    ensures stays { BreaksAlone Rule.StaysInBody (image_with 0o7401) (bare None) }
-    ensures writes { BreaksAlone Rule.WritesDeclared (image_with 0o3202) (bare None) }
-    ensures calls { BreaksAlone Rule.CallsEntries (image_with 0o4205) (bare None) }
-    ensures returns { BreaksAlone Rule.ReturnsToItsCall (image_with 0o5610) (bare None) }
-    ensures halts { BreaksAlone Rule.HaltsDeclared (image_with 0o7402) (bare None) }
-    ensures code { BreaksAlone Rule.KeepsCode changing two_cells }
-    ensures reads { BreaksAlone Rule.ReadsListed (image_with 0o1205) (bare (Some nothing)) }
+    ensures stays { BreaksAlone rule.StaysInBody (image_with 0o7401) (bare None) }
+    ensures writes { BreaksAlone rule.WritesDeclared (image_with 0o3202) (bare None) }
+    ensures calls { BreaksAlone rule.CallsEntries (image_with 0o4205) (bare None) }
+    ensures returns { BreaksAlone rule.ReturnsToItsCall (image_with 0o5610) (bare None) }
+    ensures halts { BreaksAlone rule.HaltsDeclared (image_with 0o7402) (bare None) }
+    ensures code { BreaksAlone rule.KeepsCode changing two_cells }
+    ensures reads { BreaksAlone rule.ReadsListed (image_with 0o1205) (bare (Some nothing)) }
 {}

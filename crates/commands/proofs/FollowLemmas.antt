@@ -13,12 +13,12 @@ use Rattle.peripherals.specs.declared.Seen.{Seen}
 use Rattle.peripherals.specs.declared.Seen.TheVariants as seen
 use Rattle.peripherals.specs.Devices.{WorldState, word_at_pc}
 use Rattle.peripherals.specs.Events.{Happens}
-use Rattle.peripherals.specs.Seen.{seen_of}
+use Rattle.peripherals.specs.Seen.{puts_out, seen_of}
 use Rattle.commands.specs.declared.follow.End.{End}
 use Rattle.commands.specs.declared.follow.End.TheVariants.{Unsupported}
 use Rattle.commands.specs.declared.follow.Outcome.{Outcome}
 use Rattle.commands.specs.Course.{Ran, event_of_round}
-use Rattle.commands.specs.Follows.{Follows, Ended, Stuck, Stopped, Went, IsReached, IsTraceOfSome, end_of, goes_on, counted, rounds}
+use Rattle.commands.specs.Follows.{Follows, Ended, Stuck, Stopped, Went, IsBeforeOutput, IsReached, IsTraceOfSome, IsTraceUpToOutput, end_of, goes_on, counted, rounds}
 use Rattle.processor.specs.Machine.{State}
 use Rattle.commands.specs.Trace.{line_of, trace_of, traced}
 use Rattle.commands.specs.Writes.{FrontOf, Writes}
@@ -163,17 +163,40 @@ came_to_fault p ends trace es i e w x y n old mid new came within is asked happe
       front = front_after old mid new came.lines (trace_of p x e y) wrote front;
     }
 
--- no more memory after some events: their lines are there
-pub came_to_refusal : (p : Profile) (ends trace : Bool) (es : List Event) (i : ℕ) (w x : WorldState) (n : ℕ) (old mid new : Option (List ℕ)) →
-    Came p ends trace (take i es) w n x old mid → trace ≡ true → new ≡ mid → Writes (IsTraceOfSome p ends es w) old new
-came_to_refusal p ends trace es i w x n old mid new came asked kept =
+-- no more memory for what an event puts out: the lines of those before it are there
+pub came_to_refusal : (p : Profile) (ends trace : Bool) (es : List Event) (i : ℕ) (e : Event) (w x : WorldState) (n : ℕ) (old mid new : Option (List ℕ)) →
+    Came p ends trace (take i es) w n x old mid → e ≡ get_or es i Step → puts_out x e ≡ true → trace ≡ true → new ≡ mid → Writes (IsTraceUpToOutput p ends es w) old new
+came_to_refusal p ends trace es i e w x n old mid new came here puts asked kept =
     let follows : Follows p ends (take i es ++ []) w (came.lines ++ []) (n + 0) (end_of x) x = came.leads [] [] 0 (end_of x) x (Ended x) in
     let wrote : Appends old mid came.lines = rw asked at came.wrote in
     record {
       text = came.lines;
-      is = record { count = i; steps = n; end = end_of x; final = x; follows = rw (append-nil (take i es), append-nil came.lines, add-zero n) at follows };
+      is = record {
+        count = i;
+        steps = n;
+        end = end_of x;
+        final = x;
+        follows = rw (append-nil (take i es), append-nil came.lines, add-zero n) at follows;
+        puts = λ lt. rw here at puts;
+      };
       written = rw kept wrote;
     }
+
+-- the world before that event
+pub came_to_output : (p : Profile) (ends trace : Bool) (es : List Event) (i : ℕ) (e : Event) (w x y : WorldState) (n : ℕ) (old mid : Option (List ℕ)) →
+    Came p ends trace (take i es) w n x old mid → i < length es → e ≡ get_or es i Step → puts_out x e ≡ true → y ≡ x → IsBeforeOutput p ends es w y
+came_to_output p ends trace es i e w x y n old mid came within here puts same =
+    let follows : Follows p ends (take i es ++ []) w (came.lines ++ []) (n + 0) (end_of x) x = came.leads [] [] 0 (end_of x) x (Ended x) in
+    let stops : IsBeforeOutput p ends es w x = record {
+      count = i;
+      within = within;
+      lines = came.lines;
+      steps = n;
+      end = end_of x;
+      follows = rw (append-nil (take i es), append-nil came.lines, add-zero n) at follows;
+      puts = rw here at puts;
+    } in
+    rw same stops
 
 -- the world after these events, or after one event more
 pub came_to_world : (p : Profile) (ends trace : Bool) (es : List Event) (i : ℕ) (e : Event) (w x y : WorldState) (n : ℕ) (old mid : Option (List ℕ)) (marked : Bool) →
@@ -189,12 +212,19 @@ came_to_world p ends trace es i e w x y n old mid false came within is happens s
 
 -- all events
 pub ran_whole : (p : Profile) (ends trace : Bool) (es : List Event) (w x : WorldState) (outcome : Outcome) (old new : Option (List ℕ)) →
-    Ran p ends trace es w outcome x old new → trace ≡ true → Writes (IsTraceOfSome p ends es w) old new
+    Ran p ends trace es w outcome x old new → trace ≡ true → Writes (IsTraceUpToOutput p ends es w) old new
 ran_whole p ends trace es w x outcome old new ran asked =
     let wrote : Appends old new ran.lines = rw asked at ran.wrote in
     record {
       text = ran.lines;
-      is = record { count = length es; steps = outcome.steps; end = outcome.end; final = x; follows = rw (take_all (length es) es (omega arith)) ran.follows };
+      is = record {
+        count = length es;
+        steps = outcome.steps;
+        end = outcome.end;
+        final = x;
+        follows = rw (take_all (length es) es (omega arith)) ran.follows;
+        puts = λ lt. absurd (omega (arith, lt));
+      };
       written = wrote;
     }
 

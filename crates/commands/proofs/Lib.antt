@@ -13,3 +13,4 @@ pub mod Answered
 pub mod SessionLemmas
 pub mod SessionsAnswered
 pub mod StuckLemmas
+pub mod SourceLaws

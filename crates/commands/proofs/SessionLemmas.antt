@@ -1,10 +1,10 @@
 -- An operator's run, event by event.
-use Rattle.std.proofs.Common.{ℕ, zero, suc, ◌≡◌, ◌+◌, ◌*◌, ◌%◌, ◌==◌, ◌<◌, ◌≤◌, Bool, true, false, ◌||◌, if◌then◌else◌, List, [], ◌∷◌, ◌++◌, length, drop, map, refl, sym, ◌∙◌, ap, inl, inr, append_assoc, append-nil, add-zero, add-one, take_all, length-append, get_or, le_refl, arith, Some, None, Option, Result, Ok, Err, IfOk, OnErr, true≢false, subst, unwrap_or}
+use Rattle.std.proofs.Common.{ℕ, zero, suc, ◌≡◌, ◌+◌, ◌*◌, ◌%◌, ◌==◌, ◌<◌, ◌≤◌, Bool, true, false, ◌||◌, if◌then◌else◌, List, [], ◌∷◌, ◌++◌, length, drop, take, map, refl, sym, ◌∙◌, ap, inl, inr, append_assoc, append-nil, add-zero, add-one, take_all, length-append, get_or, le_refl, arith, Some, None, Option, Result, Ok, Err, IfOk, OnErr, true≢false, subst, unwrap_or}
 use Rattle.std.specs.Io.KnownBytes.{Appends}
 use Rattle.std.proofs.KnownBytes.{Appends-nil, Appends-trans}
 use Rattle.std.proofs.Transfers.{drop-appended}
 use Rattle.std.proofs.lemmas.List.{map-append, take-append-le, drop_all}
-use Rattle.std.proofs.Math.Seq.{drop-cons}
+use Rattle.std.proofs.Math.Seq.{drop-cons, take-append-add}
 use Rattle.streams.specs.Bytes.{AppendsFront}
 use Rattle.instruct.specs.declared.Profile.{Profile}
 use Rattle.instruct.specs.Devices.{word_of}
@@ -16,7 +16,8 @@ use Rattle.peripherals.specs.declared.Seen.TheVariants as seen
 use Rattle.peripherals.specs.Devices.{Devices, Writer, WorldState, Instructs, word_at_pc, devices_after, fetches, clears_keyboard, given, fetched, with_writer_flag, with_reader_flag, with_keyboard_flag}
 use Rattle.peripherals.specs.Events.{Happens, Steps, done}
 use Rattle.peripherals.specs.Operator.{Plan, due, first_due, frame_due, key_due, left_after, round_due}
-use Rattle.peripherals.specs.Seen.{seen_of}
+use Rattle.peripherals.specs.Seen.{puts_out, seen_of}
+use Rattle.commands.specs.declared.follow.End.{End}
 use Rattle.commands.specs.declared.follow.End.TheVariants.{Unsupported}
 use Rattle.commands.specs.declared.follow.Outcome.{Outcome}
 use Rattle.commands.specs.Follows.{Follows, Ended, Stuck, Stopped, end_of, goes_on, counted}
@@ -26,7 +27,7 @@ use Rattle.commands.specs.declared.status.Fault.{Fault}
 use Rattle.commands.specs.declared.status.Status.{Status}
 use Rattle.commands.specs.Inputs.{AreFirst, HasImage}
 use Rattle.commands.specs.Running.{fresh, status_of}
-use Rattle.commands.specs.Session.{Comes, Over, Cut, Final, Then, Operated, BrokeOff, FrontsOf, IsPartOfSession, IsSession, IsSessionOf, NothingOrFronts, WritesAll, character, plan_for, printed_in, taken, Taken, Failures, failures}
+use Rattle.commands.specs.Session.{AppendsSome, Comes, Over, Cut, Final, Then, Extent, Whole, UpToOutput, UpToAny, MayEnd, extent_after, summary_where, Operated, BrokeOff, FrontsOf, IsPartOfSession, IsSession, IsSessionOf, NothingOrFronts, WritesAll, character, plan_for, printed_in, taken, Taken, Failures, failures}
 use Rattle.commands.specs.Summary.{summary}
 use Rattle.commands.specs.SessionParts.{IsPartOf, Played, Unplayed, Faltered, PlayedFront, printed_from}
 use Rattle.commands.specs.Trace.{trace_of, traced}
@@ -41,7 +42,7 @@ or_right true b is = absurd (true≢false is)
 or_right false b is = is
 
 -- nothing is a front of a piece
-pub no_front : (a : Option (List ℕ)) (piece : List ℕ) → AppendsFront a a piece
+pub no_front : (a : Option (List ℕ)) (piece : List ℕ) → AppendsSome a a piece
 no_front a piece = record { count = 0; within = omega arith; out = Appends-nil a }
 
 -- what a printer put out stays, and something may come after it
@@ -113,7 +114,7 @@ printed_more p w x e happens =
     ap (map character) all ∙ map-append character w.devices.printer.output (drop (length w.devices.printer.output) x.devices.printer.output)
 
 -- a front of a piece is a front of more
-pub front_of_more : (old new : Option (List ℕ)) (piece more : List ℕ) → AppendsFront old new piece → AppendsFront old new (piece ++ more)
+pub front_of_more : (old new : Option (List ℕ)) (piece more : List ℕ) → AppendsSome old new piece → AppendsSome old new (piece ++ more)
 front_of_more old new piece more front = record {
   count = front.count;
   within = let e = length-append piece more in let f = front.within in omega (arith, e, f);
@@ -121,18 +122,34 @@ front_of_more old new piece more front = record {
 }
 
 -- a whole piece is a front of itself
-pub whole_front : (old new : Option (List ℕ)) (piece : List ℕ) → Appends old new piece → AppendsFront old new piece
+pub whole_front : (old new : Option (List ℕ)) (piece : List ℕ) → Appends old new piece → AppendsSome old new piece
 whole_front old new piece whole = record {
   count = length piece;
   within = le_refl (length piece);
   out = rw (take_all (length piece) piece (le_refl (length piece))) whole;
 }
 
+-- a front of a piece that isn't all of it
+pub some_of : (old new : Option (List ℕ)) (piece : List ℕ) → AppendsFront old new piece → AppendsSome old new piece
+some_of old new piece front = record {
+  count = front.count;
+  within = let f = front.within in omega (arith, f);
+  out = front.out;
+}
+
+-- a whole piece, and some of the next
+some_after : (a b c : Option (List ℕ)) (first second : List ℕ) → Appends a b first → AppendsSome b c second → AppendsSome a c (first ++ second)
+some_after a b c first second whole front = record {
+  count = length first + front.count;
+  within = let e = length-append first second in let f = front.within in omega (arith, e, f);
+  out = rw (take-append-add first second front.count) (Appends-trans a b c first (take front.count second) whole front.out);
+}
+
 -- The run came so far: these events came, and what is still to come follows on them.
 pub record Sat (p : Profile) (trace : Bool) (plan now : Plan) (last : Option Event) (w x : WorldState) (n : ℕ) (old new told tells : Option (List ℕ)) : Type 0 where
   pub events : List Event
   pub came : Came p true trace events w n x old new
-  pub come : (whole : Bool) (rest : List Event) → Comes p whole now last x rest → Comes p whole plan None w (events ++ rest)
+  pub come : (extent : Extent) (rest : List Event) → Comes p extent now last x rest → Comes p extent plan None w (events ++ rest)
   pub printed : Appends told tells (printed_in x)
 
 pub sat_none : (p : Profile) (trace : Bool) (plan : Plan) (w : WorldState) (last : Option Event) (old told : Option (List ℕ)) → last ≡ None → w.devices.printer.output ≡ [] →
@@ -140,7 +157,7 @@ pub sat_none : (p : Profile) (trace : Bool) (plan : Plan) (w : WorldState) (last
 sat_none p trace plan w last old told first empty = record {
   events = [];
   came = came_none p true trace w old;
-  come = λ whole rest comes. rw first at comes;
+  come = λ extent rest comes. rw first at comes;
   printed = rw empty (Appends-nil told);
 }
 
@@ -167,10 +184,10 @@ pub sat_more : (p : Profile) (trace : Bool) (plan now after : Plan) (last new_la
 sat_more p trace plan now after last new_last e w x y n what old mid new told tmid tells sat is left next played goes = record {
   events = sat.events ++ e ∷ [];
   came = came_next p trace sat.events e w x y n what old mid new sat.came (sym played.sees) goes played.happens played.wrote;
-  come = λ whole rest comes.
+  come = λ extent rest comes.
       let on : goes_on true (seen_of p x e) ≡ true = rw (← played.sees) goes in
-      let from : Comes p whole (left_after e now) (Some e) y rest = rw (left, next) at comes in
-      rw (one_more sat.events e rest) (sat.come whole (e ∷ rest) (Then now last x y e rest is on played.happens from));
+      let from : Comes p extent (left_after e now) (Some e) y rest = rw (left, next) at comes in
+      rw (one_more sat.events e rest) (sat.come extent (e ∷ rest) (Then now last x y e rest is on played.happens from));
   printed = printed_next p x y e told tmid tells played.happens sat.printed played.printed;
 }
 
@@ -179,21 +196,21 @@ pub sat_all : (p : Profile) (trace : Bool) (plan now : Plan) (last : Option Even
     Sat p trace plan now last w x outcome.steps old new told tells → due now x last ≡ None → outcome.end ≡ end_of x → Operated p trace plan w outcome x old new told tells
 sat_all p trace plan now last w x outcome old new told tells sat is ends = record {
   events = sat.events;
-  come = let all : Comes p true plan None w (sat.events ++ []) = sat.come true [] (Over now last x is) in rw (append-nil sat.events) at all;
+  come = let all : Comes p Whole plan None w (sat.events ++ []) = sat.come Whole [] (Over now last x is) in rw (append-nil sat.events) at all;
   ran = came_all p true trace sat.events w x outcome old new sat.came ends;
   printed = sat.printed;
 }
 
-final_comes : (p : Profile) (whole : Bool) (now : Plan) (last : Option Event) (x : WorldState) (e : Event) (what : Seen) → due now x last ≡ Some e → what ≡ seen_of p x e → goes_on true what ≡ false →
-    Comes p whole now last x (e ∷ [])
-final_comes p whole now last x e what is sees ends = Final now last x e is (rw (← sees) ends)
+final_comes : (p : Profile) (extent : Extent) (now : Plan) (last : Option Event) (x : WorldState) (e : Event) (what : Seen) → due now x last ≡ Some e → what ≡ seen_of p x e → goes_on true what ≡ false →
+    Comes p extent now last x (e ∷ [])
+final_comes p extent now last x e what is sees ends = Final now last x e is (rw (← sees) ends)
 
 pub sat_to_halt : (p : Profile) (trace : Bool) (plan now : Plan) (last : Option Event) (e : Event) (w x y : WorldState) (n : ℕ) (outcome : Outcome) (old mid new told tmid tells : Option (List ℕ)) →
     Sat p trace plan now last w x n old mid told tmid → due now x last ≡ Some e → Played p trace x e seen.Halted y mid new tmid tells → outcome.steps ≡ n + 1 → outcome.end ≡ end_of y →
     Operated p trace plan w outcome y old new told tells
 sat_to_halt p trace plan now last e w x y n outcome old mid new told tmid tells sat is played steps ends = record {
   events = sat.events ++ e ∷ [];
-  come = sat.come true (e ∷ []) (final_comes p true now last x e seen.Halted is played.sees refl);
+  come = sat.come Whole (e ∷ []) (final_comes p Whole now last x e seen.Halted is played.sees refl);
   ran = record {
     lines = sat.came.lines ++ trace_of p x e y;
     follows = rw (steps, ends) (sat.came.leads (e ∷ []) (trace_of p x e y) 1 (end_of y) y (Stopped e [] x y refl (sym played.sees) played.happens));
@@ -210,7 +227,7 @@ sat_to_stuck p trace plan now last e w x y n word outcome old mid new told tmid 
     let follows : Follows p true (sat.events ++ e ∷ []) w (sat.came.lines ++ []) (n + 0) (Unsupported y.state.pc) y = sat.came.leads (e ∷ []) [] 0 (Unsupported y.state.pc) y (Stuck e [] x y word (sym played.sees) played.happens) in
     record {
       events = sat.events ++ e ∷ [];
-      come = sat.come true (e ∷ []) (final_comes p true now last x e (seen.Unsupported word) is played.sees refl);
+      come = sat.come Whole (e ∷ []) (final_comes p Whole now last x e (seen.Unsupported word) is played.sees refl);
       ran = record {
         lines = sat.came.lines ++ [];
         follows = rw (steps, ends) (rw (add-zero n) at follows);
@@ -219,12 +236,17 @@ sat_to_stuck p trace plan now last e w x y n word outcome old mid new told tmid 
       printed = printed_next p x y e told tmid tells played.happens sat.printed played.printed;
     }
 
+-- a run may break off before an event that puts out a byte, whether a write failed or not
+ends_before : (failed : Bool) (now : Plan) (last : Option Event) (x : WorldState) (e : Event) → due now x last ≡ Some e → puts_out x e ≡ true → MayEnd (extent_after failed) now x last
+ends_before true now last x e is puts = tt
+ends_before false now last x e is puts = record { event = e; is_due = is; puts = puts }
+
 -- the run broke off before the event
-broke_before : (p : Profile) (trace : Bool) (plan now : Plan) (last : Option Event) (w x y : WorldState) (n : ℕ) (reported typed : Bool) (old mid new told tmid tells : Option (List ℕ)) →
-    Sat p trace plan now last w x n old mid told tmid → Unplayed x y mid new tmid tells → BrokeOff p trace plan w y reported typed old new told tells
-broke_before p trace plan now last w x y n reported typed old mid new told tmid tells sat un = rw (un.same, un.unwritten, un.unprinted) (record {
+broke_before : (p : Profile) (trace : Bool) (plan now : Plan) (last : Option Event) (e : Event) (w x y : WorldState) (n : ℕ) (reported typed : Bool) (old mid new told tmid tells : Option (List ℕ)) →
+    Sat p trace plan now last w x n old mid told tmid → due now x last ≡ Some e → Unplayed x e y mid new tmid tells → BrokeOff p trace plan w y reported typed old new told tells
+broke_before p trace plan now last e w x y n reported typed old mid new told tmid tells sat is un = rw (un.same, un.unwritten, un.unprinted) (record {
   events = sat.events;
-  come = let all : Comes p false plan None w (sat.events ++ []) = sat.come false [] (Cut now last x refl) in rw (append-nil sat.events) at all;
+  come = let all : Comes p (extent_after (reported || typed)) plan None w (sat.events ++ []) = sat.come (extent_after (reported || typed)) [] (Cut now last x (ends_before (reported || typed) now last x e is un.wanted)) in rw (append-nil sat.events) at all;
   lines = sat.came.lines;
   steps = n;
   end = end_of x;
@@ -237,13 +259,13 @@ broke_before p trace plan now last w x y n reported typed old mid new told tmid 
 })
 
 -- the events up to the one that is due
-cut_after : (p : Profile) (now : Plan) (last : Option Event) (x y : WorldState) (e : Event) (on : Bool) → due now x last ≡ Some e → goes_on true (seen_of p x e) ≡ on → Happens p x e y → Comes p false now last x (e ∷ [])
-cut_after p now last x y e true is goes happens = Then now last x y e [] is goes happens (Cut (left_after e now) (Some e) y refl)
+cut_after : (p : Profile) (now : Plan) (last : Option Event) (x y : WorldState) (e : Event) (on : Bool) → due now x last ≡ Some e → goes_on true (seen_of p x e) ≡ on → Happens p x e y → Comes p UpToAny now last x (e ∷ [])
+cut_after p now last x y e true is goes happens = Then now last x y e [] is goes happens (Cut (left_after e now) (Some e) y tt)
 cut_after p now last x y e false is goes happens = Final now last x e is goes
 
-front_joined : (trace : Bool) (a b c : Option (List ℕ)) (first second : List ℕ) → Appends a b (traced trace first) → AppendsFront b c (traced trace second) → AppendsFront a c (traced trace (first ++ second))
-front_joined true a b c first second whole front = front_after a b c first second whole front
-front_joined false a b c first second whole front = front_after a b c [] [] whole front
+front_joined : (trace : Bool) (a b c : Option (List ℕ)) (first second : List ℕ) → Appends a b (traced trace first) → AppendsSome b c (traced trace second) → AppendsSome a c (traced trace (first ++ second))
+front_joined true a b c first second whole front = some_after a b c first second whole front
+front_joined false a b c first second whole front = some_after a b c [] [] whole front
 
 broke_after : (p : Profile) (trace : Bool) (plan now : Plan) (last : Option Event) (e : Event) (w x y : WorldState) (n : ℕ) (reported typed : Bool) (old mid new told tmid tells : Option (List ℕ)) →
     Sat p trace plan now last w x n old mid told tmid → due now x last ≡ Some e → Faltered p trace x e y reported typed mid new tmid tells → BrokeOff p trace plan w y reported typed old new told tells
@@ -251,35 +273,35 @@ broke_after p trace plan now last e w x y n reported typed old mid new told tmid
     let one = one_by p true e x y (seen_of p x e) refl faltered.happens in
     record {
       events = sat.events ++ e ∷ [];
-      come = sat.come false (e ∷ []) (cut_after p now last x y e (goes_on true (seen_of p x e)) is refl faltered.happens);
+      come = rw (faltered.failed) (sat.come UpToAny (e ∷ []) (cut_after p now last x y e (goes_on true (seen_of p x e)) is refl faltered.happens));
       lines = sat.came.lines ++ trace_of p x e y;
       steps = n + one.steps;
       end = one.end;
       follows = sat.came.leads (e ∷ []) (trace_of p x e y) one.steps one.end y one.follows;
       wrote = front_joined trace old mid new sat.came.lines (trace_of p x e y) sat.came.wrote faltered.wrote;
-      printed = rw (printed_more p x y e faltered.happens) (front_after told tmid tells (printed_in x) (printed_from x y) sat.printed faltered.printed);
+      printed = rw (printed_more p x y e faltered.happens) (some_after told tmid tells (printed_in x) (printed_from x y) sat.printed faltered.printed);
       wrote_whole = λ no. joined trace old mid new sat.came.lines (trace_of p x e y) sat.came.wrote (faltered.wrote_whole no);
       printed_whole = λ no. printed_next p x y e told tmid tells faltered.happens sat.printed (faltered.printed_whole no);
     }
 
 pub sat_to_fault : (p : Profile) (trace : Bool) (plan now : Plan) (last : Option Event) (e : Event) (w x y : WorldState) (n : ℕ) (reported typed : Bool) (old mid new told tmid tells : Option (List ℕ)) →
     Sat p trace plan now last w x n old mid told tmid → due now x last ≡ Some e → PlayedFront p trace x e y reported typed mid new tmid tells → BrokeOff p trace plan w y reported typed old new told tells
-sat_to_fault p trace plan now last e w x y n reported typed old mid new told tmid tells sat is (inl un) = broke_before p trace plan now last w x y n reported typed old mid new told tmid tells sat un
+sat_to_fault p trace plan now last e w x y n reported typed old mid new told tmid tells sat is (inl un) = broke_before p trace plan now last e w x y n reported typed old mid new told tmid tells sat is un
 sat_to_fault p trace plan now last e w x y n reported typed old mid new told tmid tells sat is (inr faltered) = broke_after p trace plan now last e w x y n reported typed old mid new told tmid tells sat is faltered
 
 -- the events of a whole run are the first ones too
-comes_first : (p : Profile) (plan : Plan) (last : Option Event) (w : WorldState) (es : List Event) → Comes p true plan last w es → Comes p false plan last w es
-comes_first p _ _ _ _ (Over plan last w none) = Over plan last w none
-comes_first p _ _ _ _ (Cut plan last w cut) = absurd (true≢false cut)
-comes_first p _ _ _ _ (Final plan last w e is ends) = Final plan last w e is ends
-comes_first p _ _ _ _ (Then plan last w m e es is goes happens rest) = Then plan last w m e es is goes happens (comes_first p (left_after e plan) (Some e) m es rest)
+comes_first : (p : Profile) (extent : Extent) (plan : Plan) (last : Option Event) (w : WorldState) (es : List Event) → Comes p Whole plan last w es → Comes p extent plan last w es
+comes_first p extent _ _ _ _ (Over plan last w none) = Over plan last w none
+comes_first p extent _ _ _ _ (Cut plan last w cut) = absurd cut
+comes_first p extent _ _ _ _ (Final plan last w e is ends) = Final plan last w e is ends
+comes_first p extent _ _ _ _ (Then plan last w m e es is goes happens rest) = Then plan last w m e es is goes happens (comes_first p extent (left_after e plan) (Some e) m es rest)
 
 -- a whole run, of which no more is told
 pub operated_broke : (p : Profile) (trace : Bool) (plan : Plan) (w : WorldState) (outcome : Outcome) (x : WorldState) (reported typed : Bool) (old new told tells : Option (List ℕ)) →
     Operated p trace plan w outcome x old new told tells → BrokeOff p trace plan w x reported typed old new told tells
 operated_broke p trace plan w outcome x reported typed old new told tells done = record {
   events = done.events;
-  come = comes_first p plan None w done.events done.come;
+  come = comes_first p (extent_after (reported || typed)) plan None w done.events done.come;
   lines = done.ran.lines;
   steps = outcome.steps;
   end = outcome.end;
@@ -387,18 +409,18 @@ typed_all told now bytes from index typed past =
     rw (← all) typed.wrote
 
 pub typed_front : (told now new : Option (List ℕ)) (bytes : List ℕ) (from index byte : ℕ) → Typed told now bytes from index → index < length bytes → byte ≡ get_or bytes index 0 →
-    AppendsFront now new ((byte % 128) ∷ []) → AppendsFront told new (map character (drop from bytes))
+    AppendsFront now new ((byte % 128) ∷ []) → AppendsSome told new (map character (drop from bytes))
 typed_front told now new bytes from index byte typed within is front =
-    let some : AppendsFront told new (typed.sent ++ (get_or bytes index 0 % 128) ∷ []) = front_after told now new typed.sent ((get_or bytes index 0 % 128) ∷ []) typed.wrote (rw is at front) in
+    let some : AppendsSome told new (typed.sent ++ (get_or bytes index 0 % 128) ∷ []) = some_of told new (typed.sent ++ (get_or bytes index 0 % 128) ∷ []) (front_after told now new typed.sent ((get_or bytes index 0 % 128) ∷ []) typed.wrote (rw is at front)) in
     rw (← typed_rest bytes typed.sent from index within typed.rest) (front_of_more told new (typed.sent ++ (get_or bytes index 0 % 128) ∷ []) (map character (drop (suc index) bytes)) some)
 
 -- What a run that came to its end leaves.
 session_whole : (options : RunOptions) (plan : Plan) (image : List (Option ℕ)) (p : Profile) (w x : WorldState) (outcome : Outcome) (status : Status) (old mid told tells : Option (List ℕ)) →
     p ≡ options.profile → w ≡ fresh image options.start → (done : Operated p options.trace plan w outcome x old mid told tells) → status ≡ status_of outcome.end →
-    IsSessionOf options true plan image (traced options.trace done.ran.lines ++ summary outcome.end x outcome.steps) (printed_in x) x.devices.punch.output status
+    IsSessionOf options Whole plan image (traced options.trace done.ran.lines ++ summary outcome.end x outcome.steps) (printed_in x) x.devices.punch.output status
 session_whole options plan image p w x outcome status old mid told tells profile begins done is = record {
   events = done.events;
-  come = let come : Comes p true plan None w done.events = done.come in rw (profile, begins) at come;
+  come = let come : Comes p Whole plan None w done.events = done.come in rw (profile, begins) at come;
   lines = done.ran.lines;
   steps = outcome.steps;
   end = outcome.end;
@@ -413,7 +435,7 @@ session_whole options plan image p w x outcome status old mid told tells profile
 pub attended : (options : RunOptions) (plan : Plan) (image : List (Option ℕ)) (p : Profile) (w x : WorldState) (outcome : Outcome) (status : Status) (old mid new told tells held holds : Option (List ℕ)) →
     p ≡ options.profile → w ≡ fresh image options.start → Operated p options.trace plan w outcome x old mid told tells → Appends held holds x.devices.punch.output →
     Appends mid new (summary outcome.end x outcome.steps) → status ≡ status_of outcome.end →
-    WritesAll (λ text printed punched. IsSessionOf options true plan image text printed punched status) (taken old told held) (taken new tells holds)
+    WritesAll (λ text printed punched. IsSessionOf options Whole plan image text printed punched status) (taken old told held) (taken new tells holds)
 attended options plan image p w x outcome status old mid new told tells held holds profile begins done punched wrote is = record {
   text = traced options.trace done.ran.lines ++ summary outcome.end x outcome.steps;
   printed = printed_in x;
@@ -428,13 +450,13 @@ attended options plan image p w x outcome status old mid new told tells held hol
 pub attended_front : (options : RunOptions) (plan : Plan) (image : List (Option ℕ)) (p : Profile) (w x : WorldState) (outcome : Outcome) (reported typed unpunched : Bool) (old mid new told tells held holds : Option (List ℕ)) →
     p ≡ options.profile → w ≡ fresh image options.start → Operated p options.trace plan w outcome x old mid told tells → Appends held holds x.devices.punch.output →
     AppendsFront mid new (summary outcome.end x outcome.steps) → reported ≡ true →
-    FrontsOf (IsPartOf options reported plan image) (failures reported typed unpunched) (taken old told held) (taken new tells holds)
+    FrontsOf (IsPartOf options reported typed plan image) (failures reported typed unpunched) (taken old told held) (taken new tells holds)
 attended_front options plan image p w x outcome reported typed unpunched old mid new told tells held holds profile begins done punched front failed = record {
   text = traced options.trace done.ran.lines ++ summary outcome.end x outcome.steps;
   printed = printed_in x;
   punched = x.devices.punch.output;
-  is = record { whole = true; summed = λ all. failed; status = status_of outcome.end; is = session_whole options plan image p w x outcome (status_of outcome.end) old mid told tells profile begins done refl };
-  to_report = front_after old mid new (traced options.trace done.ran.lines) (summary outcome.end x outcome.steps) done.ran.wrote front;
+  is = record { extent = Whole; summed = λ all. failed; to_output = λ no. absurd (true≢false (sym failed ∙ or_left reported typed no)); status = status_of outcome.end; is = session_whole options plan image p w x outcome (status_of outcome.end) old mid told tells profile begins done refl };
+  to_report = some_of old new (traced options.trace done.ran.lines ++ summary outcome.end x outcome.steps) (front_after old mid new (traced options.trace done.ran.lines) (summary outcome.end x outcome.steps) done.ran.wrote front);
   to_teletype = whole_front told tells (printed_in x) done.printed;
   to_punch = whole_front held holds x.devices.punch.output punched;
   report_whole = λ no. absurd (true≢false (sym failed ∙ no));
@@ -442,26 +464,35 @@ attended_front options plan image p w x outcome reported typed unpunched old mid
   punch_whole = λ no. punched;
 }
 
+not_whole : (failed : Bool) → extent_after failed ≡ Whole → ⊥
+not_whole true is = let e : UpToAny ≡ Whole = is in cc
+not_whole false is = let e : UpToOutput ≡ Whole = is in cc
+
+no_summary : (failed : Bool) (end : End) (x : WorldState) (steps : ℕ) → summary_where (extent_after failed) end x steps ≡ []
+no_summary true end x steps = refl
+no_summary false end x steps = refl
+
 pub broke_front : (options : RunOptions) (plan : Plan) (image : List (Option ℕ)) (p : Profile) (w x : WorldState) (reported typed unpunched : Bool) (old new told tells held holds : Option (List ℕ)) →
-    p ≡ options.profile → w ≡ fresh image options.start → BrokeOff p options.trace plan w x reported typed old new told tells → AppendsFront held holds x.devices.punch.output →
-    (unpunched ≡ false → Appends held holds x.devices.punch.output) → FrontsOf (IsPartOf options reported plan image) (failures reported typed unpunched) (taken old told held) (taken new tells holds)
+    p ≡ options.profile → w ≡ fresh image options.start → BrokeOff p options.trace plan w x reported typed old new told tells → AppendsSome held holds x.devices.punch.output →
+    (unpunched ≡ false → Appends held holds x.devices.punch.output) → FrontsOf (IsPartOf options reported typed plan image) (failures reported typed unpunched) (taken old told held) (taken new tells holds)
 broke_front options plan image p w x reported typed unpunched old new told tells held holds profile begins broke punched whole = record {
   text = traced options.trace broke.lines ++ [];
   printed = printed_in x;
   punched = x.devices.punch.output;
   is = record {
-    whole = false;
-    summed = λ all. absurd (true≢false (sym all));
+    extent = extent_after (reported || typed);
+    summed = λ all. absurd (not_whole (reported || typed) all);
+    to_output = λ no. rw no refl;
     status = status_of broke.end;
     is = record {
       events = broke.events;
-      come = let come : Comes p false plan None w broke.events = broke.come in rw (profile, begins) at come;
+      come = let come : Comes p (extent_after (reported || typed)) plan None w broke.events = broke.come in rw (profile, begins) at come;
       lines = broke.lines;
       steps = broke.steps;
       end = broke.end;
       final = x;
       follows = let follows : Follows p true broke.events w broke.lines broke.steps broke.end x = broke.follows in rw (profile, begins) at follows;
-      text_is = refl;
+      text_is = ap (λ (l : List ℕ). traced options.trace broke.lines ++ l) (sym (no_summary (reported || typed) broke.end x broke.steps));
       printed_is = refl;
       punched_is = refl;
       status_is = refl;
@@ -478,7 +509,7 @@ broke_front options plan image p w x reported typed unpunched old new told tells
 -- memory was refused for the summary
 pub summary_wanting : (options : RunOptions) (plan : Plan) (image : List (Option ℕ)) (p : Profile) (w x : WorldState) (outcome : Outcome) (reported typed unpunched : Bool) (old new told tells held holds : Option (List ℕ)) →
     p ≡ options.profile → w ≡ fresh image options.start → Operated p options.trace plan w outcome x old new told tells → Appends held holds x.devices.punch.output →
-    FrontsOf (IsPartOf options reported plan image) (failures reported typed unpunched) (taken old told held) (taken new tells holds)
+    FrontsOf (IsPartOf options reported typed plan image) (failures reported typed unpunched) (taken old told held) (taken new tells holds)
 summary_wanting options plan image p w x outcome reported typed unpunched old new told tells held holds profile begins done punched =
     broke_front options plan image p w x reported typed unpunched old new told tells held holds profile begins (operated_broke p options.trace plan w outcome x reported typed old new told tells done)
     (whole_front held holds x.devices.punch.output punched) (λ no. punched)
@@ -486,24 +517,25 @@ summary_wanting options plan image p w x outcome reported typed unpunched old ne
 -- the punch failed, whatever the run brought
 pub punch_front : (options : RunOptions) (plan : Plan) (image : List (Option ℕ)) (p : Profile) (w x : WorldState) (ran : Result Outcome Fault) (reported typed unpunched : Bool) (old new told tells held holds : Option (List ℕ)) →
     p ≡ options.profile → w ≡ fresh image options.start → IfOk ran (λ outcome. Operated p options.trace plan w outcome x old new told tells) → OnErr ran (BrokeOff p options.trace plan w x reported typed old new told tells) →
-    AppendsFront held holds x.devices.punch.output → unpunched ≡ true → FrontsOf (IsPartOf options reported plan image) (failures reported typed unpunched) (taken old told held) (taken new tells holds)
+    AppendsFront held holds x.devices.punch.output → unpunched ≡ true → FrontsOf (IsPartOf options reported typed plan image) (failures reported typed unpunched) (taken old told held) (taken new tells holds)
 punch_front options plan image p w x (Ok outcome) reported typed unpunched old new told tells held holds profile begins done broke punched failed =
     broke_front options plan image p w x reported typed unpunched old new told tells held holds profile begins (operated_broke p options.trace plan w outcome x reported typed old new told tells done)
-    punched (λ no. absurd (true≢false (sym failed ∙ no)))
+    (some_of held holds x.devices.punch.output punched) (λ no. absurd (true≢false (sym failed ∙ no)))
 punch_front options plan image p w x (Err fault) reported typed unpunched old new told tells held holds profile begins done broke punched failed =
-    broke_front options plan image p w x reported typed unpunched old new told tells held holds profile begins broke punched (λ no. absurd (true≢false (sym failed ∙ no)))
+    broke_front options plan image p w x reported typed unpunched old new told tells held holds profile begins broke (some_of held holds x.devices.punch.output punched) (λ no. absurd (true≢false (sym failed ∙ no)))
 
 -- the inputs are good
 pub session_part : (options : SessionOptions) (tape reader keys : Option (List ℕ)) (image : List (Option ℕ)) (frames bytes : List ℕ) (plan : Plan) (failed : Failures) (old new : Taken) →
     HasImage tape image → AreFirst options.run.rounds reader frames → AreFirst options.run.rounds keys bytes → plan ≡ plan_for options frames bytes →
-    FrontsOf (IsPartOf options.run failed.report plan image) failed old new → NothingOrFronts (IsPartOfSession options failed.report tape reader keys) failed old new
+    FrontsOf (IsPartOf options.run failed.report failed.teletype plan image) failed old new → NothingOrFronts (IsPartOfSession options failed.report failed.teletype tape reader keys) failed old new
 session_part options tape reader keys image frames bytes plan failed old new has_image frames_are bytes_are is fronts = inr (record {
   text = fronts.text;
   printed = fronts.printed;
   punched = fronts.punched;
   is = record {
-    whole = fronts.is.whole;
+    extent = fronts.is.extent;
     summed = fronts.is.summed;
+    to_output = fronts.is.to_output;
     status = fronts.is.status;
     is = record {
       image = image;
@@ -512,7 +544,7 @@ session_part options tape reader keys image frames bytes plan failed old new has
       frames_are = frames_are;
       bytes = bytes;
       bytes_are = bytes_are;
-      session = let session : IsSessionOf options.run fronts.is.whole plan image fronts.text fronts.printed fronts.punched fronts.is.status = fronts.is.is in rw is at session;
+      session = let session : IsSessionOf options.run fronts.is.extent plan image fronts.text fronts.printed fronts.punched fronts.is.status = fronts.is.is in rw is at session;
     };
   };
   to_report = fronts.to_report;
@@ -525,7 +557,7 @@ session_part options tape reader keys image frames bytes plan failed old new has
 
 pub session_is : (options : SessionOptions) (tape reader keys : Option (List ℕ)) (image : List (Option ℕ)) (frames bytes : List ℕ) (plan : Plan) (status : Status) (old new : Taken) →
     HasImage tape image → AreFirst options.run.rounds reader frames → AreFirst options.run.rounds keys bytes → plan ≡ plan_for options frames bytes →
-    WritesAll (λ text printed punched. IsSessionOf options.run true plan image text printed punched status) old new → WritesAll (IsSession options true tape reader keys status) old new
+    WritesAll (λ text printed punched. IsSessionOf options.run Whole plan image text printed punched status) old new → WritesAll (IsSession options Whole tape reader keys status) old new
 session_is options tape reader keys image frames bytes plan status old new has_image frames_are bytes_are is writes = record {
   text = writes.text;
   printed = writes.printed;
@@ -537,7 +569,7 @@ session_is options tape reader keys image frames bytes plan status old new has_i
     frames_are = frames_are;
     bytes = bytes;
     bytes_are = bytes_are;
-    session = let session : IsSessionOf options.run true plan image writes.text writes.printed writes.punched status = writes.is in rw is at session;
+    session = let session : IsSessionOf options.run Whole plan image writes.text writes.printed writes.punched status = writes.is in rw is at session;
   };
   to_report = writes.to_report;
   to_teletype = writes.to_teletype;
@@ -546,22 +578,28 @@ session_is options tape reader keys image frames bytes plan status old new has_i
 
 -- a line of the trace failed, or memory was refused
 pub play_front : (p : Profile) (trace : Bool) (w : WorldState) (e : Event) (x : WorldState) (old new told : Option (List ℕ)) (marked typed : Bool) →
-    (marked ≡ true → Happens p w e x) → (marked ≡ true → trace ≡ true) → (marked ≡ true → AppendsFront old new (trace_of p w e x)) → (marked ≡ false → x ≡ w) → (marked ≡ false → new ≡ old) →
+    (marked ≡ true → Happens p w e x) → (marked ≡ true → trace ≡ true) → (marked ≡ true → AppendsFront old new (trace_of p w e x)) → (marked ≡ false → x ≡ w) → (marked ≡ false → puts_out w e ≡ true) → (marked ≡ false → new ≡ old) →
     PlayedFront p trace w e x marked typed old new told told
-play_front p trace w e x old new told true typed happens asked front same unwritten = inr (record {
+play_front p trace w e x old new told true typed happens asked front same wanted unwritten = inr (record {
   happens = happens refl;
-  wrote = rw (asked refl) (front refl);
+  failed = refl;
+  wrote = some_of old new (traced trace (trace_of p w e x)) (rw (asked refl) (front refl));
   printed = no_front told (printed_from w x);
   wrote_whole = λ no. absurd (true≢false no);
   printed_whole = λ no. absurd (true≢false no);
 })
-play_front p trace w e x old new told false typed happens asked front same unwritten = inl (record { same = same refl; unwritten = unwritten refl; unprinted = refl })
+play_front p trace w e x old new told false typed happens asked front same wanted unwritten = inl (record { same = same refl; wanted = wanted refl; unwritten = unwritten refl; unprinted = refl })
+
+or_true : (b : Bool) → b || true ≡ true
+or_true true = refl
+or_true false = refl
 
 -- a character failed
 pub type_front : (p : Profile) (trace : Bool) (w : WorldState) (e : Event) (x : WorldState) (marked typed : Bool) (old new told tells : Option (List ℕ)) →
-    Happens p w e x → Appends old new (traced trace (trace_of p w e x)) → AppendsFront told tells (printed_from w x) → typed ≡ true → PlayedFront p trace w e x marked typed old new told tells
+    Happens p w e x → Appends old new (traced trace (trace_of p w e x)) → AppendsSome told tells (printed_from w x) → typed ≡ true → PlayedFront p trace w e x marked typed old new told tells
 type_front p trace w e x marked typed old new told tells happens wrote front failed = inr (record {
   happens = happens;
+  failed = rw failed (or_true marked);
   wrote = whole_front old new (traced trace (trace_of p w e x)) wrote;
   printed = front;
   wrote_whole = λ no. wrote;

@@ -17,7 +17,7 @@ use Rattle.commands.specs.declared.running.RunOptions.{RunOptions}
 use Rattle.commands.specs.Follows.{Follows, Ended, Stuck, Stopped, Went, end_of, goes_on, counted}
 use Rattle.commands.specs.Laws.{Carries, CarriesAll, SessionsEnd}
 use Rattle.commands.specs.Running.{fresh, status_of}
-use Rattle.commands.specs.Session.{Comes, Over, Final, Then, printed_in, summary_where}
+use Rattle.commands.specs.Session.{Comes, Over, Final, Then, Whole, printed_in, summary_where}
 use Rattle.commands.specs.Trace.{trace_of, traced}
 use Rattle.commands.proofs.Answered.{Tells, Goes, goes, Ends}
 
@@ -157,7 +157,7 @@ last_one p e w m (seen.Unsupported word) sees off happens = ([], 0, Unsupported 
 -- the events of a plan, and the run that they make
 record Run (p : Profile) (plan : Plan) (last : Option Event) (w : WorldState) : Type 0 where
   events : List Event
-  come : Comes p true plan last w events
+  come : Comes p Whole plan last w events
   ends : Ends p true events w
 
 next_one : (p : Profile) (plan : Plan) (last : Option Event) (w m : WorldState) (e : Event) (on : Bool) → due plan w last ≡ Some e →
@@ -189,7 +189,7 @@ sessions_end options plan image all =
     let idles : Tells w.devices = record { key = omega arith; frame = omega arith; switches = omega arith } in
     let run : Run options.profile plan None w = runs (left plan None + 1) options.profile plan None w (due plan w None) refl (omega arith) all idles in
     let r = run.ends in (
-      traced options.trace r.0 ++ summary_where true r.2 r.3 r.1,
+      traced options.trace r.0 ++ summary_where Whole r.2 r.3 r.1,
       printed_in r.3,
       r.3.devices.punch.output,
       status_of r.2,

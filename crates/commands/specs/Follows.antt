@@ -1,5 +1,5 @@
 -- What the events of a run lead to, when a run ends early, and what its trace is.
-use Rattle.std.specs.Prelude.{ℕ, ◌≡◌, ◌+◌, Bool, true, false, not, Option, Some, None, List, [], ◌∷◌, ◌++◌, take}
+use Rattle.std.specs.Prelude.{ℕ, ◌≡◌, ◌<◌, ◌+◌, Bool, true, false, not, Option, Some, None, List, [], ◌∷◌, ◌++◌, get_or, length, take}
 use Rattle.std.proofs.Common.{zero, suc}
 use Rattle.instruct.specs.declared.Profile.{Profile}
 use Rattle.peripherals.specs.declared.Event.{Event}
@@ -8,7 +8,7 @@ use Rattle.peripherals.specs.declared.Seen.{Seen}
 use Rattle.peripherals.specs.declared.Seen.TheVariants as seen
 use Rattle.peripherals.specs.Devices.{WorldState}
 use Rattle.peripherals.specs.Events.{Happens}
-use Rattle.peripherals.specs.Seen.{seen_of}
+use Rattle.peripherals.specs.Seen.{puts_out, seen_of}
 use Rattle.commands.specs.declared.follow.End.{End}
 use Rattle.commands.specs.declared.follow.End.TheVariants.{Halted, Unsupported, Bound}
 use Rattle.commands.specs.Trace.{trace_of}
@@ -71,3 +71,22 @@ pub record IsReached (profile : Profile) (ends_at_halt : Bool) (events : List Ev
   pub steps : ℕ
   pub end : End
   pub follows : Follows profile ends_at_halt (take count events) w lines steps end x
+
+-- The trace of the run of all these events, or of those before one that prints or punches.
+pub record IsTraceUpToOutput (profile : Profile) (ends_at_halt : Bool) (events : List Event) (w : WorldState) (lines : List ℕ) : Type 0 where
+  pub count : ℕ
+  pub steps : ℕ
+  pub end : End
+  pub final : WorldState
+  pub follows : Follows profile ends_at_halt (take count events) w lines steps end final
+  pub puts : count < length events → puts_out final (get_or events count Step) ≡ true
+
+-- The world before an event that prints or punches, and after those before it.
+pub record IsBeforeOutput (profile : Profile) (ends_at_halt : Bool) (events : List Event) (w x : WorldState) : Type 0 where
+  pub count : ℕ
+  pub within : count < length events
+  pub lines : List ℕ
+  pub steps : ℕ
+  pub end : End
+  pub follows : Follows profile ends_at_halt (take count events) w lines steps end x
+  pub puts : puts_out x (get_or events count Step) ≡ true

@@ -1,13 +1,25 @@
--- A run of any events has an answer, and so has one with an operator.
-use Rattle.std.specs.Prelude.{ℕ, ◌<◌, Bool, true, Option, List, IfSome, ⊤}
+-- A run of any events has an answer, and so has one with an operator; and what sources mean, what is written of them and what
+-- is read of that is one.
+use Rattle.std.specs.Prelude.{ℕ, ◌≡◌, ◌<◌, Bool, true, Option, Some, List, IfSome, map, ⊤}
 use Rattle.std.specs.List.{AllByRecursion}
 use Rattle.peripherals.specs.declared.Event.{Event}
 use Rattle.peripherals.specs.declared.Event.TheVariants.{Step, Key, PrinterDone, ReaderDone, PunchDone, Switches, Continue}
 use Rattle.commands.specs.declared.running.RunOptions.{RunOptions}
+use Rattle.commands.specs.declared.status.Fault.{Fault}
+use Rattle.commands.specs.declared.status.Fault.TheVariants.{EmptyImage, Source, Device}
+use Rattle.commands.specs.declared.status.Fault.TheVariants as fault
 use Rattle.commands.specs.declared.status.Status.{Status}
+use Rattle.instruct.specs.declared.Profile.{Profile}
+use Rattle.bin_tape.specs.Image.{IsEmptyImage}
+use Rattle.pal_text.specs.declared.names.Name.{Name}
+use Rattle.pal_acts.specs.Permanent.{permanent_symbols}
+use Rattle.pal_asm.specs.Sources.{Means, IsFault}
+use Rattle.pal_asm.specs.declared.fault.PalFault.{PalFault}
+use Rattle.commands.specs.AssembleText.{IsAssembled, IsListing, IsListFault, IsSourceFault}
+use Rattle.commands.specs.Inputs.{HasImage}
 use Rattle.commands.specs.Running.{IsRunOf}
 use Rattle.peripherals.specs.Operator.{Plan}
-use Rattle.commands.specs.Session.{IsSessionOf}
+use Rattle.commands.specs.Session.{IsSessionOf, Whole}
 
 -- What an event carries is a byte, or a word.
 abbrev pub Carries : Event → Type 0
@@ -37,4 +49,74 @@ abbrev pub SessionsEnd : Type 0
 SessionsEnd =
     (options : RunOptions) (plan : Plan) (image : List (Option ℕ)) → CarriesAll plan →
     (text : List ℕ) × (printed : List ℕ) × (punched : List ℕ) × (status : Status) ×
-    IsSessionOf options true plan image text printed punched status
+    IsSessionOf options Whole plan image text printed punched status
+
+-- Sources that tell their bytes, which are these parts.
+abbrev pub telling : List (List ℕ) → List (Option (List ℕ))
+telling parts = map Some parts
+
+-- What is written of a source is one tape.
+abbrev pub TapeIsOne : Type 0
+TapeIsOne =
+    (profile : Profile) (parts : List (List ℕ)) (tape tape' : List ℕ) →
+    IsAssembled profile (telling parts) tape → IsAssembled profile (telling parts) tape' → tape ≡ tape'
+
+-- The image that a source means is read of its tape.
+abbrev pub MeantIsRead : Type 0
+MeantIsRead =
+    (profile : Profile) (parts : List (List ℕ)) (symbols : List (Name × ℕ)) (image : List (Option ℕ)) (tape : List ℕ) →
+    IsAssembled profile (telling parts) tape → Means (permanent_symbols profile) parts symbols image → HasImage (Some tape) image
+
+-- The image that is read of a source's tape is the one that the source means.
+abbrev pub ReadIsMeant : Type 0
+ReadIsMeant =
+    (profile : Profile) (parts : List (List ℕ)) (image : List (Option ℕ)) (tape : List ℕ) →
+    IsAssembled profile (telling parts) tape → HasImage (Some tape) image →
+    (symbols : List (Name × ℕ)) × Means (permanent_symbols profile) parts symbols image
+
+-- Why a source that means an image may have no tape: the image has no word, a device failed, or memory was refused.
+abbrev pub MayMiss : List (Option ℕ) → Fault → Type 0
+MayMiss image EmptyImage = IsEmptyImage image
+MayMiss image (Device device) = Unit {0}
+MayMiss image fault.NoMemory = Unit {0}
+MayMiss image _ = ⊥
+
+-- What a source with a fault may be told: that fault, that a device failed, or that memory was refused.
+abbrev pub MayBeTold : PalFault → Fault → Type 0
+MayBeTold bad (Source told) = told ≡ bad
+MayBeTold bad (Device device) = Unit {0}
+MayBeTold bad fault.NoMemory = Unit {0}
+MayBeTold bad _ = ⊥
+
+-- A source that means an image is refused for nothing else.
+abbrev pub MeantIsWritten : Type 0
+MeantIsWritten =
+    (profile : Profile) (parts : List (List ℕ)) (symbols : List (Name × ℕ)) (image : List (Option ℕ))
+    (marks : List Bool) (left : List (Option (List ℕ))) (fault : Fault) →
+    Means (permanent_symbols profile) parts symbols image → IsSourceFault profile marks (telling parts) left fault → MayMiss image fault
+
+-- A source with a fault is told nothing else,
+abbrev pub FaultIsTold : Type 0
+FaultIsTold =
+    (profile : Profile) (parts : List (List ℕ)) (fault : PalFault) (marks : List Bool) (left : List (Option (List ℕ))) (told : Fault) →
+    IsFault (permanent_symbols profile) parts fault → IsSourceFault profile marks (telling parts) left told → MayBeTold fault told
+
+-- and has no tape and no listing.
+abbrev pub FaultIsNotWritten : Type 0
+FaultIsNotWritten =
+    (profile : Profile) (parts : List (List ℕ)) (fault : PalFault) (text : List ℕ) →
+    IsFault (permanent_symbols profile) parts fault →
+    (IsAssembled profile (telling parts) text → ⊥) × (IsListing profile (telling parts) text → ⊥)
+
+-- The same of a listing: a source that means an image is refused it only where a device failed or memory was refused,
+abbrev pub MeantIsListed : Type 0
+MeantIsListed =
+    (profile : Profile) (parts : List (List ℕ)) (symbols : List (Name × ℕ)) (image : List (Option ℕ))
+    (marks : List Bool) (left : List (Option (List ℕ))) (fault : PalFault) →
+    Means (permanent_symbols profile) parts symbols image → IsListFault profile marks (telling parts) left (Source fault) → ⊥
+
+-- and one with a fault is told no other.
+abbrev pub FaultIsTheOne : Type 0
+FaultIsTheOne =
+    (profile : Profile) (parts : List (List ℕ)) (fault told : PalFault) (marks : List Bool) (left : List (Option (List ℕ))) →
+    IsFault (permanent_symbols profile) parts fault → IsListFault profile marks (telling parts) left (Source told) → told ≡ fault

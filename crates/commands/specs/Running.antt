@@ -9,7 +9,7 @@ use Rattle.commands.specs.declared.running.RunOptions.{RunOptions}
 use Rattle.commands.specs.declared.status.Status.{Status}
 use Rattle.commands.specs.declared.status.Status.TheVariants.{Done, Refused}
 use Rattle.commands.specs.Inputs.{HasImage, HasEvents}
-use Rattle.commands.specs.Follows.{Follows, IsTraceOfSome, rounds}
+use Rattle.commands.specs.Follows.{Follows, IsTraceOfSome, IsTraceUpToOutput, rounds}
 use Rattle.commands.specs.Summary.{summary}
 use Rattle.commands.specs.Trace.{traced}
 
@@ -41,6 +41,11 @@ pub record IsRunOf (options : RunOptions) (ends_at_halt : Bool) (events : List E
 pub record IsTraceOf (options : RunOptions) (ends_at_halt : Bool) (events : List Event) (image : List (Option ℕ)) (text : List ℕ) : Type 0 where
   pub asked : options.trace ≡ true
   pub is : IsTraceOfSome options.profile ends_at_halt events (fresh image options.start) text
+
+-- A trace is asked for, and the text is that of the run of all these events, or of those before one that prints or punches.
+pub record IsTraceToOutput (options : RunOptions) (ends_at_halt : Bool) (events : List Event) (image : List (Option ℕ)) (text : List ℕ) : Type 0 where
+  pub asked : options.trace ≡ true
+  pub is : IsTraceUpToOutput options.profile ends_at_halt events (fresh image options.start) text
 
 -- What a run may be about to write: its whole text, or the trace of some first events.
 abbrev pub IsPartOf : RunOptions → Bool → List Event → List (Option ℕ) → List ℕ → Type 0
@@ -74,17 +79,17 @@ pub record IsPartOfEventRun (options : RunOptions) (frames list : Option (List �
   pub spelled : HasEvents list events
   pub part : IsPartOf options false events image text
 
--- The frames are a tape, a trace is asked for, and the text is that of the run of its image by some first events of so
--- many rounds.
+-- The frames are a tape, a trace is asked for, and the text is that of the run of its image by so many rounds, or by their
+-- events before one that prints or punches.
 pub record IsTraceOfRounds (options : RunOptions) (frames : Option (List ℕ)) (text : List ℕ) : Type 0 where
   pub image : List (Option ℕ)
   pub tape : HasImage frames image
-  pub is : IsTraceOf options true (rounds options.rounds) image text
+  pub is : IsTraceToOutput options true (rounds options.rounds) image text
 
--- The same by some first events of those that a list spells.
+-- The same by the events that a list spells.
 pub record IsTraceOfEvents (options : RunOptions) (frames list : Option (List ℕ)) (text : List ℕ) : Type 0 where
   pub image : List (Option ℕ)
   pub tape : HasImage frames image
   pub events : List Event
   pub spelled : HasEvents list events
-  pub is : IsTraceOf options false events image text
+  pub is : IsTraceToOutput options false events image text

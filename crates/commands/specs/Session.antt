@@ -1,13 +1,12 @@
 -- A run with an operator: which events come, and what is written, printed and punched.
-use Rattle.std.specs.Prelude.{ℕ, ◌≡◌, ◌%◌, Bool, true, false, ◌||◌, ◌⊎◌, if◌then◌else◌, Option, Some, None, List, [], ◌∷◌, ◌++◌, map}
+use Rattle.std.specs.Prelude.{ℕ, ◌≡◌, ◌≤◌, ◌%◌, Bool, true, false, ◌||◌, ◌⊎◌, Option, Some, None, List, [], ◌∷◌, ◌++◌, map, take, length}
 use Rattle.std.specs.Io.KnownBytes.{Appends}
-use Rattle.streams.specs.Bytes.{AppendsFront}
 use Rattle.instruct.specs.declared.Profile.{Profile}
 use Rattle.peripherals.specs.declared.Event.{Event}
 use Rattle.peripherals.specs.Devices.{WorldState}
 use Rattle.peripherals.specs.Events.{Happens}
 use Rattle.peripherals.specs.Operator.{Plan, due, left_after, struck_as}
-use Rattle.peripherals.specs.Seen.{seen_of}
+use Rattle.peripherals.specs.Seen.{puts_out, seen_of}
 use Rattle.commands.specs.declared.follow.End.{End}
 use Rattle.commands.specs.declared.follow.Outcome.{Outcome}
 use Rattle.commands.specs.declared.running.RunOptions.{RunOptions}
@@ -20,20 +19,38 @@ use Rattle.commands.specs.Running.{fresh, status_of}
 use Rattle.commands.specs.Summary.{summary}
 use Rattle.commands.specs.Trace.{traced}
 
+-- How much of a run is told: all that comes; what comes up to an event that prints or punches; or what comes up to any event.
+pub data Extent : Type 0 where
+  Whole : Extent
+  UpToOutput : Extent
+  UpToAny : Extent
+
+-- The event that is due in a world prints or punches.
+pub record OutputIsDue (plan : Plan) (w : WorldState) (last : Option Event) : Type 0 where
+  pub event : Event
+  pub is_due : due plan w last ≡ Some event
+  pub puts : puts_out w event ≡ true
+
+-- No more is told from here on.
+abbrev pub MayEnd : Extent → Plan → WorldState → Option Event → Type 0
+MayEnd Whole plan w last = ⊥
+MayEnd UpToOutput plan w last = OutputIsDue plan w last
+MayEnd UpToAny plan w last = Unit {0}
+
 -- From a world, after the last event if there was one, these events come: each is due where it comes. They are all that
--- come in the run, or, where the run isn't whole, the first of them.
-pub data Comes (profile : Profile) (whole : Bool) : Plan → Option Event → WorldState → List Event → Type 0 where
+-- come in the run, or, where the run isn't told whole, the first of them.
+pub data Comes (profile : Profile) (extent : Extent) : Plan → Option Event → WorldState → List Event → Type 0 where
   -- nothing is due any more
-  Over : (plan : Plan) (last : Option Event) (w : WorldState) → due plan w last ≡ None → Comes profile whole plan last w []
+  Over : (plan : Plan) (last : Option Event) (w : WorldState) → due plan w last ≡ None → Comes profile extent plan last w []
   -- what comes further isn't told
-  Cut : (plan : Plan) (last : Option Event) (w : WorldState) → whole ≡ false → Comes profile whole plan last w []
+  Cut : (plan : Plan) (last : Option Event) (w : WorldState) → MayEnd extent plan w last → Comes profile extent plan last w []
   -- the run ends with the event that is due: it is stuck, or the machine halts
   Final : (plan : Plan) (last : Option Event) (w : WorldState) (e : Event) →
-      due plan w last ≡ Some e → goes_on true (seen_of profile w e) ≡ false → Comes profile whole plan last w (e ∷ [])
+      due plan w last ≡ Some e → goes_on true (seen_of profile w e) ≡ false → Comes profile extent plan last w (e ∷ [])
   -- the event that is due happens, and the others come after it
   Then : (plan : Plan) (last : Option Event) (w m : WorldState) (e : Event) (es : List Event) →
       due plan w last ≡ Some e → goes_on true (seen_of profile w e) ≡ true → Happens profile w e m →
-      Comes profile whole (left_after e plan) (Some e) m es → Comes profile whole plan last w (e ∷ es)
+      Comes profile extent (left_after e plan) (Some e) m es → Comes profile extent plan last w (e ∷ es)
 
 -- The character of a byte on the teletype: channel 8 is dropped.
 abbrev pub character : ℕ → ℕ
@@ -47,39 +64,53 @@ printed_in w = map character w.devices.printer.output
 -- appended.
 pub record Operated (profile : Profile) (trace : Bool) (plan : Plan) (w : WorldState) (outcome : Outcome) (x : WorldState) (old new told tells : Option (List ℕ)) : Type 0 where
   pub events : List Event
-  pub come : Comes profile true plan None w events
+  pub come : Comes profile Whole plan None w events
   pub ran : Ran profile true trace events w outcome x old new
   pub printed : Appends told tells (printed_in x)
+
+-- A front of a piece was appended to what a sink tells: all of it, a part or nothing.
+pub record AppendsSome (old new : Option (List ℕ)) (piece : List ℕ) : Type 0 where
+  pub count : ℕ
+  pub within : count ≤ length piece
+  pub out : Appends old new (take count piece)
+
+-- A run may break off at any event where a write failed, and else, where memory was refused, only before an event that
+-- prints or punches.
+abbrev pub extent_after : Bool → Extent
+extent_after true = UpToAny
+extent_after false = UpToOutput
 
 -- It broke off in x after some first events: fronts of the trace and of the characters went out. All of the trace did
 -- unless the report failed, and all the characters unless the report or the teletype did.
 pub record BrokeOff (profile : Profile) (trace : Bool) (plan : Plan) (w x : WorldState) (reported typed : Bool) (old new told tells : Option (List ℕ)) : Type 0 where
   pub events : List Event
-  pub come : Comes profile false plan None w events
+  pub come : Comes profile (extent_after (reported || typed)) plan None w events
   pub lines : List ℕ
   pub steps : ℕ
   pub end : End
   pub follows : Follows profile true events w lines steps end x
-  pub wrote : AppendsFront old new (traced trace lines)
-  pub printed : AppendsFront told tells (printed_in x)
+  pub wrote : AppendsSome old new (traced trace lines)
+  pub printed : AppendsSome told tells (printed_in x)
   pub wrote_whole : reported ≡ false → Appends old new (traced trace lines)
   pub printed_whole : (reported || typed) ≡ false → Appends told tells (printed_in x)
 
 -- The summary stands after a whole run.
-abbrev pub summary_where : Bool → End → WorldState → ℕ → List ℕ
-summary_where whole end w steps = if whole then summary end w steps else []
+abbrev pub summary_where : Extent → End → WorldState → ℕ → List ℕ
+summary_where Whole end w steps = summary end w steps
+summary_where UpToOutput end w steps = []
+summary_where UpToAny end w steps = []
 
 -- From an image the events of this plan lead to an end. The text is the trace, if one is asked for, and the summary; and
 -- these are the characters printed and the bytes punched. Where the run isn't whole, this is what its first events leave.
-pub record IsSessionOf (options : RunOptions) (whole : Bool) (plan : Plan) (image : List (Option ℕ)) (text printed punched : List ℕ) (status : Status) : Type 0 where
+pub record IsSessionOf (options : RunOptions) (extent : Extent) (plan : Plan) (image : List (Option ℕ)) (text printed punched : List ℕ) (status : Status) : Type 0 where
   pub events : List Event
-  pub come : Comes options.profile whole plan None (fresh image options.start) events
+  pub come : Comes options.profile extent plan None (fresh image options.start) events
   pub lines : List ℕ
   pub steps : ℕ
   pub end : End
   pub final : WorldState
   pub follows : Follows options.profile true events (fresh image options.start) lines steps end final
-  pub text_is : text ≡ traced options.trace lines ++ summary_where whole end final steps
+  pub text_is : text ≡ traced options.trace lines ++ summary_where extent end final steps
   pub printed_is : printed ≡ printed_in final
   pub punched_is : punched ≡ final.devices.punch.output
   pub status_is : status ≡ status_of end
@@ -95,23 +126,24 @@ plan_for options frames keys = record {
 
 -- The tape is good, and these are what a run of it brings, with the frames of a reader and the bytes of keys, as many of each
 -- as there are rounds: no more can come.
-pub record IsSession (options : SessionOptions) (whole : Bool) (tape reader keys : Option (List ℕ)) (status : Status) (text printed punched : List ℕ) : Type 0 where
+pub record IsSession (options : SessionOptions) (extent : Extent) (tape reader keys : Option (List ℕ)) (status : Status) (text printed punched : List ℕ) : Type 0 where
   pub image : List (Option ℕ)
   pub has_image : HasImage tape image
   pub frames : List ℕ
   pub frames_are : AreFirst options.run.rounds reader frames
   pub bytes : List ℕ
   pub bytes_are : AreFirst options.run.rounds keys bytes
-  pub session : IsSessionOf options.run whole (plan_for options frames bytes) image text printed punched status
+  pub session : IsSessionOf options.run extent (plan_for options frames bytes) image text printed punched status
 
 -- What a run with an operator that has a fault may be about to write, to print and to punch. The summary, which a whole run
 -- alone has, is written last: after it only that write itself can fail, so it's about to be written only where the report
--- failed.
-pub record IsPartOfSession (options : SessionOptions) (reported : Bool) (tape reader keys : Option (List ℕ)) (text printed punched : List ℕ) : Type 0 where
-  pub whole : Bool
-  pub summed : whole ≡ true → reported ≡ true
+-- failed. Where neither the report nor the teletype failed, the run came to its end or to an event that prints or punches.
+pub record IsPartOfSession (options : SessionOptions) (reported typed : Bool) (tape reader keys : Option (List ℕ)) (text printed punched : List ℕ) : Type 0 where
+  pub extent : Extent
+  pub summed : extent ≡ Whole → reported ≡ true
+  pub to_output : (reported || typed) ≡ false → extent ≡ UpToOutput
   pub status : Status
-  pub is : IsSession options whole tape reader keys status text printed punched
+  pub is : IsSession options extent tape reader keys status text printed punched
 
 -- What three sinks tell: where the trace and the summary, the characters and the punched bytes go.
 pub record Taken : Type 0 where
@@ -148,9 +180,9 @@ pub record FrontsOf (P : List ℕ → List ℕ → List ℕ → Type 0) (failed 
   pub printed : List ℕ
   pub punched : List ℕ
   pub is : P text printed punched
-  pub to_report : AppendsFront old.report new.report text
-  pub to_teletype : AppendsFront old.teletype new.teletype printed
-  pub to_punch : AppendsFront old.punch new.punch punched
+  pub to_report : AppendsSome old.report new.report text
+  pub to_teletype : AppendsSome old.teletype new.teletype printed
+  pub to_punch : AppendsSome old.punch new.punch punched
   pub report_whole : failed.report ≡ false → Appends old.report new.report text
   pub teletype_whole : (failed.report || failed.teletype) ≡ false → Appends old.teletype new.teletype printed
   pub punch_whole : failed.punch ≡ false → Appends old.punch new.punch punched

@@ -1,18 +1,23 @@
 -- One event of an operator's run, and what a run leaves. Private contracts alone cite this.
 use Rattle.std.specs.Prelude.{ℕ, ◌≡◌, Bool, true, false, ◌||◌, ◌⊎◌, List, Option, drop, length, map}
 use Rattle.std.specs.Io.KnownBytes.{Appends}
-use Rattle.streams.specs.Bytes.{AppendsFront}
 use Rattle.instruct.specs.declared.Profile.{Profile}
 use Rattle.peripherals.specs.declared.Event.{Event}
+use Rattle.peripherals.specs.declared.Event.TheVariants.{Step}
 use Rattle.peripherals.specs.declared.Seen.{Seen}
 use Rattle.peripherals.specs.Devices.{WorldState}
 use Rattle.peripherals.specs.Events.{Happens}
 use Rattle.peripherals.specs.Operator.{Plan}
-use Rattle.peripherals.specs.Seen.{seen_of}
+use Rattle.peripherals.specs.Seen.{puts_out, seen_of}
 use Rattle.commands.specs.declared.running.RunOptions.{RunOptions}
 use Rattle.commands.specs.declared.status.Status.{Status}
-use Rattle.commands.specs.Session.{IsSessionOf, character}
+use Rattle.commands.specs.Session.{AppendsSome, Extent, Whole, UpToOutput, IsSessionOf, character}
 use Rattle.commands.specs.Trace.{trace_of, traced}
+
+-- The event is a step of the machine.
+abbrev pub is_step : Event → Bool
+is_step Step = true
+is_step _ = false
 
 -- The characters that were printed between two worlds.
 abbrev pub printed_from : WorldState → WorldState → List ℕ
@@ -25,27 +30,30 @@ pub record Played (profile : Profile) (trace : Bool) (w : WorldState) (e : Event
   pub wrote : Appends old new (traced trace (trace_of profile w e x))
   pub printed : Appends told tells (printed_from w x)
 
--- Memory was refused, and nothing happened.
-pub record Unplayed (w x : WorldState) (old new told tells : Option (List ℕ)) : Type 0 where
+-- Memory was refused for what the event puts out, and nothing happened.
+pub record Unplayed (w : WorldState) (e : Event) (x : WorldState) (old new told tells : Option (List ℕ)) : Type 0 where
   pub same : x ≡ w
+  pub wanted : puts_out w e ≡ true
   pub unwritten : new ≡ old
   pub unprinted : tells ≡ told
 
 -- The event happened, and a write of what it wrote or printed failed.
 pub record Faltered (profile : Profile) (trace : Bool) (w : WorldState) (e : Event) (x : WorldState) (reported typed : Bool) (old new told tells : Option (List ℕ)) : Type 0 where
   pub happens : Happens profile w e x
-  pub wrote : AppendsFront old new (traced trace (trace_of profile w e x))
-  pub printed : AppendsFront told tells (printed_from w x)
+  pub failed : (reported || typed) ≡ true
+  pub wrote : AppendsSome old new (traced trace (trace_of profile w e x))
+  pub printed : AppendsSome told tells (printed_from w x)
   pub wrote_whole : reported ≡ false → Appends old new (traced trace (trace_of profile w e x))
   pub printed_whole : (reported || typed) ≡ false → Appends told tells (printed_from w x)
 
 abbrev pub PlayedFront : Profile → Bool → WorldState → Event → WorldState → Bool → Bool → Option (List ℕ) → Option (List ℕ) → Option (List ℕ) → Option (List ℕ) → Type 0
 PlayedFront profile trace w e x reported typed old new told tells =
-    Unplayed w x old new told tells ⊎ Faltered profile trace w e x reported typed old new told tells
+    Unplayed w e x old new told tells ⊎ Faltered profile trace w e x reported typed old new told tells
 
 -- What the events of a plan, or the first of them, leave; all of them with the summary, where the report failed.
-pub record IsPartOf (options : RunOptions) (reported : Bool) (plan : Plan) (image : List (Option ℕ)) (text printed punched : List ℕ) : Type 0 where
-  pub whole : Bool
-  pub summed : whole ≡ true → reported ≡ true
+pub record IsPartOf (options : RunOptions) (reported typed : Bool) (plan : Plan) (image : List (Option ℕ)) (text printed punched : List ℕ) : Type 0 where
+  pub extent : Extent
+  pub summed : extent ≡ Whole → reported ≡ true
+  pub to_output : (reported || typed) ≡ false → extent ≡ UpToOutput
   pub status : Status
-  pub is : IsSessionOf options whole plan image text printed punched status
+  pub is : IsSessionOf options extent plan image text printed punched status

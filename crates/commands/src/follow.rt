@@ -4,10 +4,10 @@ ghost use Rattle.std.specs.Prelude.{◌≡◌, ◌<◌, true, false, get_or, len
 ghost use Rattle.std.specs.Io.KnownBytes.{Appends};
 ghost use Rattle.streams.specs.Bytes.{AppendsFront};
 ghost use Rattle.peripherals.specs.Events.{Happens};
-ghost use Rattle.peripherals.specs.Seen.{seen_of};
+ghost use Rattle.peripherals.specs.Seen.{puts_out, seen_of};
 ghost use Rattle.peripherals.specs.World.{view, profile_of};
 ghost use Rattle.commands.specs.Faults.{IsRunFault, fails_to_write};
-ghost use Rattle.commands.specs.Follows.{IsReached, IsTraceOfSome, end_of};
+ghost use Rattle.commands.specs.Follows.{IsBeforeOutput, IsReached, IsTraceOfSome, IsTraceUpToOutput, end_of};
 ghost use Rattle.commands.specs.Course.{Ran, ends_at_halt, event_of_round, events_in};
 ghost use Rattle.commands.specs.Trace.{trace_of, traced};
 ghost use Rattle.commands.specs.Writes.{FrontOf, Writes};
@@ -131,6 +131,9 @@ pub(crate) fn advance<A: Allocator, W: ByteSink>(
     ensures silent { trace ≡ false → out.new ≡ out.old }
     ensures kept { OnErr result (W.mark out.new ≡ false → W.taken out.new ≡ W.taken out.old) }
     ensures unchanged { OnErr result (W.mark out.new ≡ false → view world.new ≡ view world.old) }
+    // Memory is refused only for what is printed or punched.
+    ensures wants { OnErr result (W.mark out.new ≡ false →
+        puts_out (view world.old) event ≡ true) }
 {
     let at = world.cpu().pc;
     let word = world.cpu().memory.get(at);
@@ -140,6 +143,42 @@ pub(crate) fn advance<A: Allocator, W: ByteSink>(
     }
     put_trace(out, &seen, at, word, world.cpu())?;
     Ok(seen)
+}
+
+/// As `advance`, and looks at nothing but the event where no trace is asked for.
+#[inline(always)]
+pub(crate) fn apply_event<A: Allocator, W: ByteSink>(
+    world: &mut World<A>,
+    out: &mut W,
+    trace: bool,
+    event: Event,
+) -> Result<Seen, Fault>
+    requires unmarked { W.mark out.old ≡ false }
+    ensures happens { OnOk result
+        (Happens (profile_of world.old) (view world.old) event (view world.new)) }
+    ensures seen { IfOk result (λ seen.
+        seen ≡ seen_of (profile_of world.old) (view world.old) event) }
+    ensures wrote { OnOk result (Appends (W.taken out.old) (W.taken out.new)
+        (traced trace (trace_of (profile_of world.old) (view world.old) event (view world.new)))) }
+    ensures profile { profile_of world.new ≡ profile_of world.old }
+    ensures faults { IfErr result IsRunFault }
+    ensures marks { W.mark out.new ≡ fails_to_write result }
+    ensures asked { W.mark out.new ≡ true → trace ≡ true }
+    ensures broke { W.mark out.new ≡ true →
+        Happens (profile_of world.old) (view world.old) event (view world.new) }
+    ensures front { W.mark out.new ≡ true → AppendsFront (W.taken out.old) (W.taken out.new)
+        (trace_of (profile_of world.old) (view world.old) event (view world.new)) }
+    ensures silent { trace ≡ false → out.new ≡ out.old }
+    ensures kept { OnErr result (W.mark out.new ≡ false → W.taken out.new ≡ W.taken out.old) }
+    ensures unchanged { OnErr result (W.mark out.new ≡ false → view world.new ≡ view world.old) }
+    // Memory is refused only for what is printed or punched.
+    ensures wants { OnErr result (W.mark out.new ≡ false →
+        puts_out (view world.old) event ≡ true) }
+{
+    if trace {
+        return advance(world, out, true, event);
+    }
+    Ok(world.apply(event)?)
 }
 
 /// Lets a world go through a course. The run ends early at an unsupported word, and at a halt where
@@ -166,9 +205,13 @@ pub fn follow<A: Allocator, W: ByteSink>(
     // After a fault the world is the one after some first events.
     ensures reached { OnErr result (IsReached (profile_of world.old) (ends_at_halt course.now)
         (events_in course.now) (view world.old) (view world.new)) }
-    // Where memory was refused, whole lines of some first events went out.
+    // Where memory was refused, that was before an event that prints or punches,
+    ensures wants { OnErr result (W.mark out.new ≡ false → IsBeforeOutput
+        (profile_of world.old) (ends_at_halt course.now) (events_in course.now)
+        (view world.old) (view world.new)) }
+    // and the whole lines of the events before it went out.
     ensures traced { OnErr result (W.mark out.new ≡ false → trace ≡ true → Writes
-        (IsTraceOfSome (profile_of world.old) (ends_at_halt course.now) (events_in course.now)
+        (IsTraceUpToOutput (profile_of world.old) (ends_at_halt course.now) (events_in course.now)
         (view world.old))
         (W.taken out.old) (W.taken out.new)) }
 {

@@ -1,6 +1,8 @@
 //! Laws over the definitions alone. Each is the contract of a function that does nothing.
 
-ghost use Rattle.commands.specs.Laws.{RunsEnd, SessionsEnd};
+ghost use Rattle.commands.specs.Laws.{FaultIsNotWritten, FaultIsTheOne, FaultIsTold, MeantIsListed, MeantIsRead, MeantIsWritten, ReadIsMeant, RunsEnd, SessionsEnd, TapeIsOne};
+
+use pal_asm::laws::answers_are_one;
 
 /// From every image each list of events has a run, with its text and its status. So what a run is
 /// said to write is there, whatever the tape does.
@@ -13,3 +15,27 @@ pub fn runs_end()
 pub fn sessions_end()
     ensures { SessionsEnd }
 {}
+
+/// From a source to its tape and to the image that is read of the tape is one function, in both
+/// directions: the tape that `assemble` writes is one, the image that the source means is read of
+/// it, and whatever image is read of it is the one that the source means.
+pub fn sources_are_read_back()
+    ensures tape { TapeIsOne }
+    ensures read { MeantIsRead }
+    ensures meant { ReadIsMeant }
+{
+    answers_are_one();
+}
+
+/// What `assemble` and `list` answer is exact in both directions. A source that means something is
+/// refused only for want of a word, of memory or of a device; one with a fault is told that fault,
+/// or that a device or memory failed, and nothing is written of it.
+pub fn assemblies_are_exact()
+    ensures meant { MeantIsWritten }
+    ensures told { FaultIsTold }
+    ensures unwritten { FaultIsNotWritten }
+    ensures listed { MeantIsListed }
+    ensures one { FaultIsTheOne }
+{
+    answers_are_one();
+}

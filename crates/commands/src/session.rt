@@ -2,15 +2,14 @@
 
 ghost use Rattle.std.specs.Prelude.{◌≡◌, ◌<◌, ◌||◌, ◌%◌, [], ◌∷◌, false, true, None, drop, get_or, is_err, map, IfOk, IfErr, OnOk, OnErr};
 ghost use Rattle.std.specs.Io.KnownBytes.{Appends};
-ghost use Rattle.streams.specs.Bytes.{AppendsFront};
 ghost use Rattle.peripherals.specs.Operator.{plan_of};
 ghost use Rattle.peripherals.specs.World.{view, profile_of};
 ghost use Rattle.commands.specs.Faults.{is_fault_of_tape, fails_to_read, fails_to_write, IsRunFault, IsSessionFault};
 ghost use Rattle.commands.specs.Inputs.{TakesAtMost, TakesTape, input};
-ghost use Rattle.commands.specs.Session.{BrokeOff, IsPartOfSession, IsSession, IsSessionOf, NothingOrFronts, Operated, FrontsOf, WritesAll, character, failures, printed_in, taken};
-ghost use Rattle.commands.specs.SessionParts.{IsPartOf, Played, PlayedFront};
+ghost use Rattle.commands.specs.Session.{AppendsSome, BrokeOff, IsPartOfSession, IsSession, IsSessionOf, NothingOrFronts, Operated, FrontsOf, Whole, WritesAll, character, failures, printed_in, taken};
+ghost use Rattle.commands.specs.SessionParts.{IsPartOf, Played, PlayedFront, is_step};
 
-use crate::follow::{End, Outcome, advance, end_of};
+use crate::follow::{End, Outcome, apply_event, end_of};
 use crate::inputs::{bytes_from, tape_from};
 use crate::running::{RunOptions, status_of};
 use crate::status::{Fault, Status};
@@ -49,7 +48,7 @@ fn type_from<T: ByteSink>(bytes: &[u8], from: usize, teletype: &mut T) -> Result
     requires unmarked { T.mark teletype.old ≡ false }
     ensures whole { OnOk result (Appends (T.taken teletype.old) (T.taken teletype.new)
         (map character (drop from bytes.now))) }
-    ensures front { OnErr result (AppendsFront (T.taken teletype.old) (T.taken teletype.new)
+    ensures front { OnErr result (AppendsSome (T.taken teletype.old) (T.taken teletype.new)
         (map character (drop from bytes.now))) }
     ensures marks { T.mark teletype.new ≡ is_err result }
 {
@@ -57,6 +56,36 @@ fn type_from<T: ByteSink>(bytes: &[u8], from: usize, teletype: &mut T) -> Result
         put(teletype, &character_at(bytes, index))?;
     }
     Ok(())
+}
+
+/// Whether an event is a step of the machine.
+fn is_step(event: &Event) -> bool
+    ensures { result ≡ is_step event.now }
+{
+    matches!(event, Event::Step)
+}
+
+/// Types the byte that an event printed after so many others, if there is one. Only a step prints, so
+/// after another event nothing is looked at.
+#[inline(always)]
+fn type_printed<T: ByteSink>(
+    event: &Event,
+    bytes: &[u8],
+    from: usize,
+    teletype: &mut T,
+) -> Result<(), Failed>
+    requires unmarked { T.mark teletype.old ≡ false }
+    requires quiet { is_step event.now ≡ false → drop from bytes.now ≡ [] }
+    ensures whole { OnOk result (Appends (T.taken teletype.old) (T.taken teletype.new)
+        (map character (drop from bytes.now))) }
+    ensures front { OnErr result (AppendsSome (T.taken teletype.old) (T.taken teletype.new)
+        (map character (drop from bytes.now))) }
+    ensures marks { T.mark teletype.new ≡ is_err result }
+{
+    if !is_step(event) {
+        return Ok(());
+    }
+    type_from(bytes, from, teletype)
 }
 
 /// The character of the byte with this index.
@@ -94,8 +123,8 @@ fn play<A: Allocator, W: ByteSink, T: ByteSink, P>(
     ensures marks { W.mark out.new.report || T.mark out.new.teletype ≡ fails_to_write result }
 {
     let before = world.printed().len();
-    let seen = advance(world, &mut out.report, trace, event)?;
-    type_from(world.printed(), before, &mut out.teletype)?;
+    let seen = apply_event(world, &mut out.report, trace, event)?;
+    type_printed(&event, world.printed(), before, &mut out.teletype)?;
     Ok(seen)
 }
 
@@ -170,11 +199,12 @@ fn attend<A: Allocator + Copy, W: ByteSink, T: ByteSink, P: ByteSink>(
     requires rounds { (plan_of operator.old).rounds ≡ options.rounds }
     ensures run { IfOk result (λ status.
         WritesAll (λ text printed punched.
-        IsSessionOf options true (plan_of operator.old) image.now text printed punched status)
+        IsSessionOf options Whole (plan_of operator.old) image.now text printed punched status)
         (taken (W.taken out.old.report) (T.taken out.old.teletype) (P.taken out.old.punch))
         (taken (W.taken out.new.report) (T.taken out.new.teletype) (P.taken out.new.punch))) }
     ensures front { OnErr result (FrontsOf
-        (IsPartOf options (W.mark out.new.report) (plan_of operator.old) image.now)
+        (IsPartOf options (W.mark out.new.report) (T.mark out.new.teletype)
+        (plan_of operator.old) image.now)
         (failures (W.mark out.new.report) (T.mark out.new.teletype) (P.mark out.new.punch))
         (taken (W.taken out.old.report) (T.taken out.old.teletype) (P.taken out.old.punch))
         (taken (W.taken out.new.report) (T.taken out.new.teletype) (P.taken out.new.punch))) }
@@ -227,7 +257,7 @@ pub fn run_session<
     requires punchable { P.mark out.old.punch ≡ false }
     // What is written, typed and punched is that of the run of the events that come.
     ensures run { IfOk result (λ status.
-        WritesAll (IsSession options true (R.remaining tape.old) (F.remaining reader.old)
+        WritesAll (IsSession options Whole (R.remaining tape.old) (F.remaining reader.old)
         (K.remaining keys.old) status)
         (taken (W.taken out.old.report) (T.taken out.old.teletype) (P.taken out.old.punch))
         (taken (W.taken out.new.report) (T.taken out.new.teletype) (P.taken out.new.punch))) }
@@ -238,7 +268,7 @@ pub fn run_session<
     // After a fault fronts of what the first events leave went out, and all of it where no write
     // failed, or of the whole with its summary where the report failed; or nothing at all,
     ensures front { OnErr result (NothingOrFronts (IsPartOfSession options
-        (W.mark out.new.report) (R.remaining tape.old)
+        (W.mark out.new.report) (T.mark out.new.teletype) (R.remaining tape.old)
         (F.remaining reader.old) (K.remaining keys.old))
         (failures (W.mark out.new.report) (T.mark out.new.teletype) (P.mark out.new.punch))
         (taken (W.taken out.old.report) (T.taken out.old.teletype) (P.taken out.old.punch))

@@ -8,7 +8,7 @@ use Rattle.commands.specs.CheckText.{checked_case, verdict_status, verdict_text}
 use Rattle.commands.specs.WhyText.{why_text, fact_shown}
 use Rattle.commands.proofs.CheckLemmas.{verdict_is}
 use Rattle.commands.proofs.FollowLemmas.{front_after}
-use Rattle.commands.proofs.SessionLemmas.{front_of_more}
+use Rattle.certificate.proofs.SpelledLemmas.{front_more}
 use Rattle.commands.proofs.explaining.explain.Goals as goal
 
 pub returns-in_err-put-clause-front : goal.returns-in_err-put-clause-front
@@ -36,7 +36,7 @@ returns-in_err-put-clause-front g c = λ marked.
           status_is = refl;
         },
       );
-      front = front_of_more (g.W.ByteSink.taken c.args.out.now) (g.W.ByteSink.taken c.put.new.sink) first shown front;
+      front = front_more (g.W.ByteSink.taken c.args.out.now) (g.W.ByteSink.taken c.put.new.sink) first shown front;
     }
 
 pub returns-in_err-put_fact-clause-front : goal.returns-in_err-put_fact-clause-front

@@ -36,7 +36,8 @@ pub fn broken_are_unsafe()
 /// For each of the seven rules a program and a step of one of its declared runs that this rule
 /// forbids and the six others let through: an unsupported word, a DCA to no variable, a
 /// JMS to no entry, a return with no call open, an undeclared HLT, the step after one that changed
-/// fixed code, and a read that isn't listed. So none of the rules may be left out.
+/// fixed code, and a read that isn't listed. So none of
+/// the rules follows from the six others at the same step.
 pub fn each_rule_forbids()
     ensures stays { BreaksAlone rule.StaysInBody (image_with 0o7401) (bare None) }
     ensures writes { BreaksAlone rule.WritesDeclared (image_with 0o3202) (bare None) }

@@ -64,6 +64,14 @@ const BROKEN: [(usize, &str, &str, usize, usize); 5] = [
     ),
 ];
 
+/// The line of HELLO's certificate with a number from 1 on.
+fn hello_line(number: usize) -> &'static str {
+    match HELLO.get(number.saturating_sub(1)) {
+        Some(line) => *line,
+        None => "",
+    }
+}
+
 #[test]
 fn what_breaks_a_condition_is_told(rt: HostRuntime) -> Result<(), Fail> {
     let tape = tape(rt.alloc(), &[(0o200, &PROGRAM)])?;
@@ -80,8 +88,8 @@ fn what_breaks_a_condition_is_told(rt: HostRuntime) -> Result<(), Fail> {
         assert_eq!(rt; ended, Ok(Status::Refused), "line {number}");
         let mut told = Vec::new(rt.alloc());
         told.extend_from_slice(wanted.as_bytes())?;
-        for at in first..last + 1 {
-            let shown = if at == number { line } else { HELLO[at - 1] };
+        for at in first..last.saturating_add(1) {
+            let shown = if at == number { line } else { hello_line(at) };
             told.extend_from_slice(shown.as_bytes())?;
             told.push(b'\n')?;
         }

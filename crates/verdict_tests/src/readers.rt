@@ -1,7 +1,7 @@
 //! Certificates from readers: in pieces, cut, too long and failing; and the faults of each kind of
 //! line, which both forms of reading tell alike.
 
-ghost use Rattle.std.specs.Prelude.{◌≤◌};
+ghost use Rattle.std.specs.Prelude.{◌<◌, ◌≤◌};
 
 use crate::certificates::{HELLO, text};
 use certificate::{Certificate, CertificateFault};

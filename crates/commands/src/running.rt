@@ -5,7 +5,7 @@ ghost use Rattle.commands.specs.Dumping.{IsDump};
 ghost use Rattle.commands.specs.Faults.{is_fault_of_tape, fails_to_read, fails_to_write, IsEventRunFault, IsRunFault, IsTapeFault};
 ghost use Rattle.commands.specs.Course.{ends_at_halt, events_in};
 ghost use Rattle.commands.specs.Inputs.{TakesAtMost, TakesTape, input};
-ghost use Rattle.commands.specs.Running.{IsEventRun, IsPartOf, IsPartOfEventRun, IsPartOfRoundRun, IsRoundRun, IsRunOf, IsTraceToOutput, IsTraceOfEvents, IsTraceOfRounds, status_of};
+ghost use Rattle.commands.specs.Running.{IsEventRun, IsPartOf, IsPartOfEventRun, IsPartOfRoundRun, IsRoundRun, IsRunOf, IsAskedTrace, IsTraceOfEvents, IsTraceOfRounds, status_of};
 ghost use Rattle.commands.specs.Writes.{FrontOf, Writes, WritesNothingOr};
 ghost use Rattle.commands.specs.declared.status.Status.TheVariants.{Done};
 
@@ -64,7 +64,7 @@ fn run_course<A: Allocator + Copy, W: ByteSink>(
     ensures nothing { OnErr result (W.mark out.new ≡ false → options.trace ≡ false →
         W.taken out.new ≡ W.taken out.old) }
     ensures traced { OnErr result (W.mark out.new ≡ false → options.trace ≡ true → Writes
-        (IsTraceToOutput options (ends_at_halt course.now) (events_in course.now) image.now)
+        (IsAskedTrace options (ends_at_halt course.now) (events_in course.now) image.now)
         (W.taken out.old) (W.taken out.new)) }
     ensures marks { W.mark out.new ≡ fails_to_write result }
 {

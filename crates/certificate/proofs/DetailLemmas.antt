@@ -17,19 +17,6 @@ pub equation_added : (s : Statement) (e : Equation) (ls : List Line) →
     with_details (record s { equations = s.equations ++ e ∷ [] }) ls ≡ with_details s (EquationIs e ∷ ls)
 equation_added s e ls = rw (append_assoc s.equations (e ∷ []) (equations_under ls)) refl
 
--- There is room for them.
-pub room_for_cell : (s whole : Statement) (t : TrackedCell) (ls all : List Line) → with_details s (CellIs t ∷ ls) ≡ with_details whole all →
-    length whole.cells + length (cells_under all) ≤ 64 → length s.cells < 64
-room_for_cell s whole t ls all e h =
-    let a : length (s.cells ++ t ∷ cells_under ls) ≡ length (whole.cells ++ cells_under all) = ap (λ (w : Statement). length w.cells) e in
-    omega (arith, length-append s.cells (t ∷ cells_under ls), length-append whole.cells (cells_under all))
-
-pub room_for_equation : (s whole : Statement) (q : Equation) (ls all : List Line) → with_details s (EquationIs q ∷ ls) ≡ with_details whole all →
-    length whole.equations + length (equations_under all) ≤ 32 → length s.equations < 32
-room_for_equation s whole q ls all e h =
-    let a : length (s.equations ++ q ∷ equations_under ls) ≡ length (whole.equations ++ equations_under all) = ap (λ (w : Statement). length w.equations) e in
-    omega (arith, length-append s.equations (q ∷ equations_under ls), length-append whole.equations (equations_under all))
-
 -- Nothing more.
 pub none_added : (s : Statement) → with_details s [] ≡ s
 none_added s = rw (append-nil s.cells, append-nil s.equations) refl

@@ -1,8 +1,8 @@
 -- Lines that add to what is said of a fact, and the line of the fact itself.
-use Rattle.std.proofs.Common.{◌≡◌, ℕ, suc, ◌+◌, ◌<◌, ◌≤◌, Bool, true, false, List, [], ◌∷◌, ◌++◌, length, get_or, drop, Option, Some, None, refl, ap, ◌∙◌, sym, arith, length-append}
+use Rattle.std.proofs.Common.{◌≡◌, ℕ, suc, ◌+◌, ◌≤◌, true, false, List, [], ◌∷◌, ◌++◌, length, get_or, drop, Option, Some, None, refl, ap, ◌∙◌, sym, arith, length-append}
 use Rattle.std.specs.Prelude.{IfSome}
 use Rattle.std.proofs.lemmas.Bool.{true≢false}
-use Rattle.wordset.specs.Words.{Words, everything, nothing, between}
+use Rattle.wordset.specs.Words.{Words, everything, between}
 use Rattle.wordset.specs.Lanes.{words}
 use Rattle.facts.specs.Statements.{Statement, fact_of}
 use Rattle.certificate.specs.declared.Routine.{Routine}

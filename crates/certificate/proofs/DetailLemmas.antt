@@ -1,5 +1,5 @@
 -- The cells and equations at the front of lines, added to a statement one by one.
-use Rattle.std.proofs.Common.{◌≡◌, ℕ, ◌+◌, ◌<◌, ◌≤◌, List, [], ◌∷◌, ◌++◌, false, drop, length, refl, ap, arith, append_assoc, append-nil, length-append}
+use Rattle.std.proofs.Common.{◌≡◌, ℕ, ◌≤◌, List, [], ◌∷◌, ◌++◌, false, drop, length, refl, append_assoc, append-nil}
 use Rattle.std.proofs.lemmas.List.{drop_all}
 use Rattle.facts.specs.Facts.{Equation}
 use Rattle.facts.specs.Statements.{TrackedCell, Statement}

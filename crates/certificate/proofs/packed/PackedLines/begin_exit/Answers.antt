@@ -1,9 +1,9 @@
 use Rattle.std.proofs.Common.{◌∙◌, ◌≡◌, ◌∷◌, ◌+◌, ap, sym, drop, List}
-use Rattle.facts.specs.Meaning.{statement_of, offsets_of}
+use Rattle.facts.specs.Meaning.{statement_of}
 use Rattle.certificate.specs.declared.packed.Run.{Run}
 use Rattle.certificate.specs.Line.{Line}
 use Rattle.certificate.specs.Packed.{said_at, said_lines}
-use Rattle.certificate.specs.Found.{begins_routine, begins_fact, begins_exit}
+use Rattle.certificate.specs.Found.{begins_exit}
 use Rattle.certificate.proofs.PackedLemmas.{line_there}
 use Rattle.certificate.proofs.AddingLemmas.{exit_first, exit_there}
 use Rattle.certificate.proofs.packed.PackedLines.begin_exit.Goals as goal

@@ -3,7 +3,7 @@ use Rattle.facts.specs.Meaning.{statement_of, offsets_of}
 use Rattle.certificate.specs.declared.packed.Run.{Run}
 use Rattle.certificate.specs.Line.{Line}
 use Rattle.certificate.specs.Packed.{said_at, said_lines}
-use Rattle.certificate.specs.Found.{begins_routine, begins_fact, begins_exit}
+use Rattle.certificate.specs.Found.{begins_fact}
 use Rattle.certificate.proofs.PackedLemmas.{line_there}
 use Rattle.certificate.proofs.AddingLemmas.{fact_first, fact_there}
 use Rattle.certificate.proofs.packed.PackedLines.begin_fact.Goals as goal

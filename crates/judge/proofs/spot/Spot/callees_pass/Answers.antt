@@ -6,7 +6,7 @@ use Rattle.facts.specs.Conditions.{called}
 use Rattle.judge.specs.Callees.{HoldsOfCallee}
 use Rattle.judge.specs.Spots.{case_of, routine_at}
 use Rattle.judge.proofs.CallLemmas.{each_target, no_target}
-use Rattle.judge.proofs.EachLemmas.{one_fails, one_more, all_pass}
+use Rattle.facts.proofs.EachLemmas.{one_fails, one_more, all_pass}
 use Rattle.judge.proofs.SpotLemmas.{meant}
 use Rattle.judge.proofs.spot.Spot.callees_pass.Goals as goal
 

@@ -28,3 +28,4 @@ pub mod FactTextLemmas
 pub mod ReadLemmas
 pub mod ServedLemmas
 pub mod DetailAddedLemmas
+pub mod AddingLemmas

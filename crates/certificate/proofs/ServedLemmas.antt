@@ -14,7 +14,7 @@ use Rattle.certificate.specs.declared.progress.Progress.{Progress}
 use Rattle.certificate.specs.declared.parser.Parser.{Parser}
 use Rattle.certificate.specs.declared.lines.KeptLines.{KeptLines}
 use Rattle.certificate.specs.Order.{any, is_end}
-use Rattle.certificate.specs.Faults.{most_bytes, NoFeed, IsText, HasRest, HasFault, HasLine, AsksForMemory}
+use Rattle.certificate.specs.Faults.{most_bytes, NoFeed, IsText, HasRest, HasFault, AsksForMemory}
 use Rattle.certificate.specs.Kept.{Kept, meaning}
 use Rattle.certificate.specs.Parser.{Parts, Seen, IsSmall, Refuses, IsParsed}
 use Rattle.certificate.specs.Serving.{Settles, IsUnanswered, is_read_fault, failed_to_read}

@@ -12,7 +12,7 @@ use Rattle.commands.specs.declared.running.RunOptions.{RunOptions}
 use Rattle.commands.specs.declared.status.Status.{Status}
 use Rattle.commands.specs.Course.{Ran}
 use Rattle.commands.specs.Follows.{Follows, IsTraceOfSome, IsTraceUpToOutput}
-use Rattle.commands.specs.Running.{IsPartOf, IsRunOf, IsAskedTrace, fresh, status_of}
+use Rattle.commands.specs.Running.{IsPartOf, IsRunOf, IsTraceToOutput, fresh, status_of}
 use Rattle.commands.specs.Summary.{summary}
 use Rattle.commands.specs.Trace.{traced}
 use Rattle.commands.specs.Writes.{FrontOf, Writes}
@@ -52,7 +52,7 @@ run_front options ends events image p w x outcome old mid new profile begins ran
 -- the lines of the events before one that puts out a byte, and no more
 pub trace_only : (options : RunOptions) (ends : Bool) (events : List Event) (image : List (Option ℕ)) (p : Profile) (w : WorldState) (old new : Option (List ℕ)) →
     p ≡ options.profile → w ≡ fresh image options.start → options.trace ≡ true → Writes (IsTraceUpToOutput p ends events w) old new →
-    Writes (IsAskedTrace options ends events image) old new
+    Writes (IsTraceToOutput options ends events image) old new
 trace_only options ends events image p w old new profile begins asked wrote = record {
   text = wrote.text;
   is = record { asked = asked; is = let some : IsTraceUpToOutput p ends events w wrote.text = wrote.is in rw (profile, begins) at some };
@@ -62,7 +62,7 @@ trace_only options ends events image p w old new profile begins asked wrote = re
 -- the lines of the whole run, and no summary
 pub trace_whole : (options : RunOptions) (ends : Bool) (events : List Event) (image : List (Option ℕ)) (p : Profile) (w x : WorldState) (outcome : Outcome) (old new : Option (List ℕ)) →
     p ≡ options.profile → w ≡ fresh image options.start → options.trace ≡ true → Ran p ends options.trace events w outcome x old new →
-    Writes (IsAskedTrace options ends events image) old new
+    Writes (IsTraceToOutput options ends events image) old new
 trace_whole options ends events image p w x outcome old new profile begins asked ran =
     trace_only options ends events image p w old new profile begins asked (ran_whole p ends options.trace events w x outcome old new ran asked)
 

@@ -29,7 +29,7 @@ use Rattle.commands.specs.Inputs.{AreFirst, HasImage}
 use Rattle.commands.specs.Running.{fresh, status_of}
 use Rattle.commands.specs.Session.{AppendsSome, Comes, Over, Cut, Final, Then, Extent, Whole, UpToOutput, UpToAny, MayEnd, extent_after, summary_where, Operated, BrokeOff, FrontsOf, IsPartOfSession, IsSession, IsSessionOf, NothingOrFronts, WritesAll, character, plan_for, printed_in, taken, Taken, Failures, failures}
 use Rattle.commands.specs.Summary.{summary}
-use Rattle.commands.specs.SessionParts.{IsPartOfPlan, Played, Unplayed, Faltered, PlayedFront, printed_from}
+use Rattle.commands.specs.SessionParts.{IsPartOf, Played, Unplayed, Faltered, PlayedFront, printed_from}
 use Rattle.commands.specs.Trace.{trace_of, traced}
 use Rattle.commands.proofs.FollowLemmas.{Came, came_none, came_all, joined, leads_both, leads_one, front_after, no_line, one_by}
 
@@ -450,7 +450,7 @@ attended options plan image p w x outcome status old mid new told tells held hol
 pub attended_front : (options : RunOptions) (plan : Plan) (image : List (Option ℕ)) (p : Profile) (w x : WorldState) (outcome : Outcome) (reported typed unpunched : Bool) (old mid new told tells held holds : Option (List ℕ)) →
     p ≡ options.profile → w ≡ fresh image options.start → Operated p options.trace plan w outcome x old mid told tells → Appends held holds x.devices.punch.output →
     AppendsFront mid new (summary outcome.end x outcome.steps) → reported ≡ true →
-    FrontsOf (IsPartOfPlan options reported typed plan image) (failures reported typed unpunched) (taken old told held) (taken new tells holds)
+    FrontsOf (IsPartOf options reported typed plan image) (failures reported typed unpunched) (taken old told held) (taken new tells holds)
 attended_front options plan image p w x outcome reported typed unpunched old mid new told tells held holds profile begins done punched front failed = record {
   text = traced options.trace done.ran.lines ++ summary outcome.end x outcome.steps;
   printed = printed_in x;
@@ -474,7 +474,7 @@ no_summary false end x steps = refl
 
 pub broke_front : (options : RunOptions) (plan : Plan) (image : List (Option ℕ)) (p : Profile) (w x : WorldState) (reported typed unpunched : Bool) (old new told tells held holds : Option (List ℕ)) →
     p ≡ options.profile → w ≡ fresh image options.start → BrokeOff p options.trace plan w x reported typed old new told tells → AppendsSome held holds x.devices.punch.output →
-    (unpunched ≡ false → Appends held holds x.devices.punch.output) → FrontsOf (IsPartOfPlan options reported typed plan image) (failures reported typed unpunched) (taken old told held) (taken new tells holds)
+    (unpunched ≡ false → Appends held holds x.devices.punch.output) → FrontsOf (IsPartOf options reported typed plan image) (failures reported typed unpunched) (taken old told held) (taken new tells holds)
 broke_front options plan image p w x reported typed unpunched old new told tells held holds profile begins broke punched whole = record {
   text = traced options.trace broke.lines ++ [];
   printed = printed_in x;
@@ -509,7 +509,7 @@ broke_front options plan image p w x reported typed unpunched old new told tells
 -- memory was refused for the summary
 pub summary_wanting : (options : RunOptions) (plan : Plan) (image : List (Option ℕ)) (p : Profile) (w x : WorldState) (outcome : Outcome) (reported typed unpunched : Bool) (old new told tells held holds : Option (List ℕ)) →
     p ≡ options.profile → w ≡ fresh image options.start → Operated p options.trace plan w outcome x old new told tells → Appends held holds x.devices.punch.output →
-    FrontsOf (IsPartOfPlan options reported typed plan image) (failures reported typed unpunched) (taken old told held) (taken new tells holds)
+    FrontsOf (IsPartOf options reported typed plan image) (failures reported typed unpunched) (taken old told held) (taken new tells holds)
 summary_wanting options plan image p w x outcome reported typed unpunched old new told tells held holds profile begins done punched =
     broke_front options plan image p w x reported typed unpunched old new told tells held holds profile begins (operated_broke p options.trace plan w outcome x reported typed old new told tells done)
     (whole_front held holds x.devices.punch.output punched) (λ no. punched)
@@ -517,7 +517,7 @@ summary_wanting options plan image p w x outcome reported typed unpunched old ne
 -- the punch failed, whatever the run brought
 pub punch_front : (options : RunOptions) (plan : Plan) (image : List (Option ℕ)) (p : Profile) (w x : WorldState) (ran : Result Outcome Fault) (reported typed unpunched : Bool) (old new told tells held holds : Option (List ℕ)) →
     p ≡ options.profile → w ≡ fresh image options.start → IfOk ran (λ outcome. Operated p options.trace plan w outcome x old new told tells) → OnErr ran (BrokeOff p options.trace plan w x reported typed old new told tells) →
-    AppendsFront held holds x.devices.punch.output → unpunched ≡ true → FrontsOf (IsPartOfPlan options reported typed plan image) (failures reported typed unpunched) (taken old told held) (taken new tells holds)
+    AppendsFront held holds x.devices.punch.output → unpunched ≡ true → FrontsOf (IsPartOf options reported typed plan image) (failures reported typed unpunched) (taken old told held) (taken new tells holds)
 punch_front options plan image p w x (Ok outcome) reported typed unpunched old new told tells held holds profile begins done broke punched failed =
     broke_front options plan image p w x reported typed unpunched old new told tells held holds profile begins (operated_broke p options.trace plan w outcome x reported typed old new told tells done)
     (some_of held holds x.devices.punch.output punched) (λ no. absurd (true≢false (sym failed ∙ no)))
@@ -527,7 +527,7 @@ punch_front options plan image p w x (Err fault) reported typed unpunched old ne
 -- the inputs are good
 pub session_part : (options : SessionOptions) (tape reader keys : Option (List ℕ)) (image : List (Option ℕ)) (frames bytes : List ℕ) (plan : Plan) (failed : Failures) (old new : Taken) →
     HasImage tape image → AreFirst options.run.rounds reader frames → AreFirst options.run.rounds keys bytes → plan ≡ plan_for options frames bytes →
-    FrontsOf (IsPartOfPlan options.run failed.report failed.teletype plan image) failed old new → NothingOrFronts (IsPartOfSession options failed.report failed.teletype tape reader keys) failed old new
+    FrontsOf (IsPartOf options.run failed.report failed.teletype plan image) failed old new → NothingOrFronts (IsPartOfSession options failed.report failed.teletype tape reader keys) failed old new
 session_part options tape reader keys image frames bytes plan failed old new has_image frames_are bytes_are is fronts = inr (record {
   text = fronts.text;
   printed = fronts.printed;

@@ -1,7 +1,6 @@
 -- Which faults a command may have: the first of its inputs that has one, and then its own work. Each table names the
 -- faults that can come; no other does.
-use Rattle.std.specs.Prelude.{ℕ, ◌<◌, Bool, true, false, Result, Err, List, length, IfSome, ◌⊎◌}
-use Rattle.streams.specs.Bytes.{Gave}
+use Rattle.std.specs.Prelude.{ℕ, Bool, true, false, Result, Err, List, IfSome, ◌⊎◌}
 use Rattle.streams.specs.declared.input.InputFault.{InputFault}
 use Rattle.streams.specs.declared.input.InputFault.TheVariants as input_fault
 use Rattle.bin_tape.specs.Refuses.{Refuses}
@@ -13,7 +12,7 @@ use Rattle.peripherals.specs.declared.event_text.EventsFault.TheVariants as even
 use Rattle.declaration.specs.Text.{Fails as FailsAsDeclaration, most_bytes as most_declaration_bytes}
 use Rattle.declaration.specs.declared.DeclarationFault.{DeclarationFault}
 use Rattle.declaration.specs.declared.DeclarationFault.TheVariants as declaration_fault
-use Rattle.certificate.specs.Faults.{HasFault, AsksForMemory}
+use Rattle.certificate.specs.Faults.{HasFault}
 use Rattle.certificate.specs.declared.CertificateFault.{CertificateFault}
 use Rattle.certificate.specs.declared.CertificateFault.TheVariants as certificate_fault
 use Rattle.analyser.specs.declared.GuessFault.{GuessFault}
@@ -106,17 +105,17 @@ IsDeclarationInputFault text (Device Read) = FailsInText most_declaration_bytes 
 IsDeclarationInputFault text fault.NoMemory = Unit {0}
 IsDeclarationInputFault text _ = ⊥
 
--- The same of a certificate; memory is refused only where a line that is kept came.
+-- The same of a certificate.
 abbrev pub IsCertificateInputFault : Input → Fault → Type 0
 IsCertificateInputFault text (Certificate fault) = IfSome text.had (λ bytes. HasFault bytes fault)
 IsCertificateInputFault text (Device Read) = FailsInCertificate text
-IsCertificateInputFault text fault.NoMemory = Gave text.had text.left AsksForMemory
+IsCertificateInputFault text fault.NoMemory = Unit {0}
 IsCertificateInputFault text _ = ⊥
 
--- Why frames or keys weren't read: a read failed, or memory was refused after some came.
+-- Why frames or keys weren't read: a read failed, or memory was refused.
 abbrev pub IsBytesFault : ℕ → Input → Fault → Type 0
 IsBytesFault most bytes (Device Read) = FailsBefore most bytes
-IsBytesFault most bytes fault.NoMemory = Gave bytes.had bytes.left (λ given. 0 < length given)
+IsBytesFault most bytes fault.NoMemory = Unit {0}
 IsBytesFault most bytes _ = ⊥
 
 -- The inputs are good, and a write failed or memory was refused.

@@ -19,7 +19,7 @@ use Rattle.commands.specs.Running.{fresh, status_of}
 use Rattle.commands.specs.Summary.{summary}
 use Rattle.commands.specs.Trace.{traced}
 
--- How much of a run is told: all that comes; all of it, or what comes before an event that prints or punches; or any first part of it.
+-- How much of a run is told: all that comes; what comes up to an event that prints or punches; or what comes up to any event.
 pub data Extent : Type 0 where
   Whole : Extent
   UpToOutput : Extent

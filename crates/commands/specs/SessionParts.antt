@@ -51,7 +51,7 @@ PlayedFront profile trace w e x reported typed old new told tells =
     Unplayed w e x old new told tells ⊎ Faltered profile trace w e x reported typed old new told tells
 
 -- What the events of a plan, or the first of them, leave; all of them with the summary, where the report failed.
-pub record IsPartOfPlan (options : RunOptions) (reported typed : Bool) (plan : Plan) (image : List (Option ℕ)) (text printed punched : List ℕ) : Type 0 where
+pub record IsPartOf (options : RunOptions) (reported typed : Bool) (plan : Plan) (image : List (Option ℕ)) (text printed punched : List ℕ) : Type 0 where
   pub extent : Extent
   pub summed : extent ≡ Whole → reported ≡ true
   pub to_output : (reported || typed) ≡ false → extent ≡ UpToOutput

@@ -7,7 +7,7 @@ ghost use Rattle.peripherals.specs.World.{view, profile_of};
 ghost use Rattle.commands.specs.Faults.{is_fault_of_tape, fails_to_read, fails_to_write, IsRunFault, IsSessionFault};
 ghost use Rattle.commands.specs.Inputs.{TakesAtMost, TakesTape, input};
 ghost use Rattle.commands.specs.Session.{AppendsSome, BrokeOff, IsPartOfSession, IsSession, IsSessionOf, NothingOrFronts, Operated, FrontsOf, Whole, WritesAll, character, failures, printed_in, taken};
-ghost use Rattle.commands.specs.SessionParts.{IsPartOfPlan, Played, PlayedFront, is_step};
+ghost use Rattle.commands.specs.SessionParts.{IsPartOf, Played, PlayedFront, is_step};
 
 use crate::follow::{End, Outcome, apply_event, end_of};
 use crate::inputs::{bytes_from, tape_from};
@@ -203,7 +203,7 @@ fn attend<A: Allocator + Copy, W: ByteSink, T: ByteSink, P: ByteSink>(
         (taken (W.taken out.old.report) (T.taken out.old.teletype) (P.taken out.old.punch))
         (taken (W.taken out.new.report) (T.taken out.new.teletype) (P.taken out.new.punch))) }
     ensures front { OnErr result (FrontsOf
-        (IsPartOfPlan options (W.mark out.new.report) (T.mark out.new.teletype)
+        (IsPartOf options (W.mark out.new.report) (T.mark out.new.teletype)
         (plan_of operator.old) image.now)
         (failures (W.mark out.new.report) (T.mark out.new.teletype) (P.mark out.new.punch))
         (taken (W.taken out.old.report) (T.taken out.old.teletype) (P.taken out.old.punch))
@@ -266,8 +266,7 @@ pub fn run_session<
         (input (F.mark reader.new) (F.remaining reader.old) (F.remaining reader.new))
         (input (K.mark keys.new) (K.remaining keys.old) (K.remaining keys.new))) }
     // After a fault fronts of what the first events leave went out, and all of it where no write
-    // failed (these are then all events, or those before one that prints or punches), or of the whole
-    // with its summary where the report failed; or nothing at all,
+    // failed, or of the whole with its summary where the report failed; or nothing at all,
     ensures front { OnErr result (NothingOrFronts (IsPartOfSession options
         (W.mark out.new.report) (T.mark out.new.teletype) (R.remaining tape.old)
         (F.remaining reader.old) (K.remaining keys.old))

@@ -1,12 +1,11 @@
-use Rattle.std.proofs.Common.{◌≡◌, ◌++◌, ◌∙◌, ap, subst, drop, refl, [], sym, List, ℕ}
+use Rattle.std.proofs.Common.{◌≡◌, ◌++◌, ◌∙◌, drop, refl, [], sym}
 use Rattle.std.proofs.KnownBytes.{Appends-nil, Appends-trans}
-use Rattle.std.specs.Io.KnownBytes.{Appends}
-use Rattle.certificate.specs.Line.{Line, IsLine, line_text, ended, all_ended}
+use Rattle.certificate.specs.Line.{IsLine, line_text, ended, all_ended}
 use Rattle.certificate.specs.Meaning.{said}
 use Rattle.certificate.specs.Order.{details_of_last}
 use Rattle.certificate.specs.Packed.{said_lines}
 use Rattle.certificate.proofs.PutLemmas.{each_line}
-use Rattle.certificate.proofs.FactTextLemmas.{detail_next, detail_over, detail_past, detail_cut}
+use Rattle.certificate.proofs.FactTextLemmas.{detail_next, detail_cut}
 use Rattle.certificate.proofs.spelled.put_details.Goals as goal
 
 pub put_line-requires : goal.put_line-requires

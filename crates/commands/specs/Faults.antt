@@ -1,6 +1,7 @@
 -- Which faults a command may have: the first of its inputs that has one, and then its own work. Each table names the
 -- faults that can come; no other does.
 use Rattle.std.specs.Prelude.{ℕ, Bool, true, false, Result, Err, List, IfSome, ◌⊎◌}
+use Rattle.streams.specs.Bytes.{Gave}
 use Rattle.streams.specs.declared.input.InputFault.{InputFault}
 use Rattle.streams.specs.declared.input.InputFault.TheVariants as input_fault
 use Rattle.bin_tape.specs.Refuses.{Refuses}
@@ -12,7 +13,7 @@ use Rattle.peripherals.specs.declared.event_text.EventsFault.TheVariants as even
 use Rattle.declaration.specs.Text.{Fails as FailsAsDeclaration, most_bytes as most_declaration_bytes}
 use Rattle.declaration.specs.declared.DeclarationFault.{DeclarationFault}
 use Rattle.declaration.specs.declared.DeclarationFault.TheVariants as declaration_fault
-use Rattle.certificate.specs.Faults.{HasFault}
+use Rattle.certificate.specs.Faults.{HasFault, AsksForMemory}
 use Rattle.certificate.specs.declared.CertificateFault.{CertificateFault}
 use Rattle.certificate.specs.declared.CertificateFault.TheVariants as certificate_fault
 use Rattle.analyser.specs.declared.GuessFault.{GuessFault}
@@ -23,7 +24,7 @@ use Rattle.commands.specs.declared.status.Fault.{Fault}
 use Rattle.commands.specs.declared.status.Fault.TheVariants.{Tape, Declared, Certificate, Events, Guess, Declare, Device}
 use Rattle.commands.specs.declared.status.Fault.TheVariants as fault
 use Rattle.commands.specs.declared.status.DeviceFault.TheVariants.{Read, Write}
-use Rattle.commands.specs.Inputs.{Input, IsGoodTape, IsGoodDeclaration, IsGoodCertificate, FailsBefore, FailsInCertificate, FailsInTape, FailsInText}
+use Rattle.commands.specs.Inputs.{Input, HasCome, IsGoodTape, IsGoodDeclaration, IsGoodCertificate, FailsBefore, FailsInCertificate, FailsInTape, FailsInText}
 
 -- The answer is that a write failed.
 abbrev pub fails_to_write : {T : Type 0} → Result T Fault → Bool
@@ -91,31 +92,31 @@ IsTapeInputFault tape (Tape fault) = IfSome tape.had (λ bytes. Refuses 65536 by
 IsTapeInputFault tape (Device Read) = FailsInTape tape
 IsTapeInputFault tape _ = ⊥
 
--- Why a text of events wasn't read: it has this fault, a read failed, or memory was refused.
+-- Why a text of events wasn't read: it has this fault, a read failed, or memory was refused once some of it had come.
 abbrev pub IsEventsInputFault : Input → Fault → Type 0
 IsEventsInputFault text (Events fault) = IfSome text.had (λ bytes. IsEventsFault bytes fault)
 IsEventsInputFault text (Device Read) = FailsInText most_event_bytes text
-IsEventsInputFault text fault.NoMemory = Unit {0}
+IsEventsInputFault text fault.NoMemory = HasCome text
 IsEventsInputFault text _ = ⊥
 
 -- The same of a declaration.
 abbrev pub IsDeclarationInputFault : Input → Fault → Type 0
 IsDeclarationInputFault text (Declared fault) = IfSome text.had (λ bytes. IsDeclarationFault bytes fault)
 IsDeclarationInputFault text (Device Read) = FailsInText most_declaration_bytes text
-IsDeclarationInputFault text fault.NoMemory = Unit {0}
+IsDeclarationInputFault text fault.NoMemory = HasCome text
 IsDeclarationInputFault text _ = ⊥
 
--- The same of a certificate.
+-- The same of a certificate, where memory is refused only once a line has come that is kept.
 abbrev pub IsCertificateInputFault : Input → Fault → Type 0
 IsCertificateInputFault text (Certificate fault) = IfSome text.had (λ bytes. HasFault bytes fault)
 IsCertificateInputFault text (Device Read) = FailsInCertificate text
-IsCertificateInputFault text fault.NoMemory = Unit {0}
+IsCertificateInputFault text fault.NoMemory = Gave text.had text.left AsksForMemory
 IsCertificateInputFault text _ = ⊥
 
--- Why frames or keys weren't read: a read failed, or memory was refused.
+-- Why frames or keys weren't read: a read failed, or memory was refused once some had come.
 abbrev pub IsBytesFault : ℕ → Input → Fault → Type 0
 IsBytesFault most bytes (Device Read) = FailsBefore most bytes
-IsBytesFault most bytes fault.NoMemory = Unit {0}
+IsBytesFault most bytes fault.NoMemory = HasCome bytes
 IsBytesFault most bytes _ = ⊥
 
 -- The inputs are good, and a write failed or memory was refused.

@@ -24,7 +24,7 @@ use Rattle.commands.specs.declared.status.Fault.{Fault}
 use Rattle.commands.specs.declared.status.Fault.TheVariants.{Tape, Declared, Certificate, Events, Guess, Declare, Device}
 use Rattle.commands.specs.declared.status.Fault.TheVariants as fault
 use Rattle.commands.specs.declared.status.DeviceFault.TheVariants.{Read, Write}
-use Rattle.commands.specs.Inputs.{Input, HasCome, IsGoodTape, IsGoodDeclaration, IsGoodCertificate, FailsBefore, FailsInCertificate, FailsInTape, FailsInText}
+use Rattle.commands.specs.Inputs.{Input, HasCome, IsGoodTape, IsGoodDeclaration, IsGoodCertificate, IsGoodEvents, FailsBefore, FailsInCertificate, FailsInTape, FailsInText}
 
 -- The answer is that a write failed.
 abbrev pub fails_to_write : {T : Type 0} → Result T Fault → Bool
@@ -137,19 +137,20 @@ IsTapeFault tape fault = IsTapeInputFault tape fault ⊎ (IsGoodTape tape.had ×
 -- The same with a text of events, which is looked at after a good tape.
 abbrev pub IsEventRunFault : Input → Input → Fault → Type 0
 IsEventRunFault tape text fault =
-    IsTapeInputFault tape fault ⊎ (IsGoodTape tape.had × (IsEventsInputFault text fault ⊎ IsRunFault fault))
+    IsTapeInputFault tape fault ⊎ (IsGoodTape tape.had × (IsEventsInputFault text fault ⊎ (IsGoodEvents text.had × IsRunFault fault)))
 
 -- The same with a declaration between them: each input is looked at where those before it are good.
 abbrev pub IsWatchFault : Input → Input → Input → Fault → Type 0
 IsWatchFault tape text list fault =
     IsTapeInputFault tape fault ⊎ (IsGoodTape tape.had × (IsDeclarationInputFault text fault
-    ⊎ (IsGoodDeclaration text.had × (IsEventsInputFault list fault ⊎ IsRunFault fault))))
+    ⊎ (IsGoodDeclaration text.had × (IsEventsInputFault list fault ⊎ (IsGoodEvents list.had × IsRunFault fault)))))
 
 -- The same with a certificate in place of the events.
 abbrev pub IsCheckFault : Input → Input → Input → Fault → Type 0
 IsCheckFault tape text certificate fault =
     IsTapeInputFault tape fault ⊎ (IsGoodTape tape.had × (IsDeclarationInputFault text fault
-    ⊎ (IsGoodDeclaration text.had × (IsCertificateInputFault certificate fault ⊎ IsRunFault fault))))
+    ⊎ (IsGoodDeclaration text.had × (IsCertificateInputFault certificate fault
+    ⊎ (IsGoodCertificate certificate.had × IsRunFault fault)))))
 
 -- Why a certificate isn't migrated: its fault, or after a good one a write failed. Migrating takes no memory.
 abbrev pub IsMigrateFault : Input → Fault → Type 0

@@ -46,6 +46,11 @@ pub record IsGoodDeclaration (text : Option (List ℕ)) : Type 0 where
   pub declaration : Declaration
   pub declares : HasDeclaration text declaration
 
+-- The text is that of a list of events.
+pub record IsGoodEvents (text : Option (List ℕ)) : Type 0 where
+  pub events : List Event
+  pub spelled : HasEvents text events
+
 -- The text is that of a certificate.
 pub record IsGoodCertificate (certificate : Option (List ℕ)) : Type 0 where
   pub lines : Lines

@@ -1,6 +1,6 @@
 //! Laws over the definitions alone. Each is the contract of a function that does nothing.
 
-ghost use Rattle.commands.specs.Laws.{FaultIsNotWritten, FaultIsTheOne, FaultIsTold, MeantIsListed, MeantIsRead, MeantIsWritten, ReadIsMeant, RunsEnd, SessionsEnd, TapeIsOne};
+ghost use Rattle.commands.specs.Laws.{EmptyHasNoTape, FaultIsNotWritten, FaultIsTheOne, FaultIsTold, MeantIsListed, MeantIsRead, MeantIsWritten, ReadIsMeant, RunsEnd, SessionsEnd, TapeIsOne, TapeIsThere};
 
 use pal_asm::laws::answers_are_one;
 
@@ -17,9 +17,12 @@ pub fn sessions_end()
 {}
 
 /// From a source to its tape and to the image that is read of the tape is one function, in both
-/// directions: the tape that `assemble` writes is one, the image that the source means is read of
-/// it, and whatever image is read of it is the one that the source means.
+/// directions: a source that means an image with a word has a tape, and one without a word has none;
+/// the tape that `assemble` writes is one, the image that the source means is read of it, and whatever
+/// image is read of it is the one that the source means.
 pub fn sources_are_read_back()
+    ensures there { TapeIsThere }
+    ensures empty { EmptyHasNoTape }
     ensures tape { TapeIsOne }
     ensures read { MeantIsRead }
     ensures meant { ReadIsMeant }

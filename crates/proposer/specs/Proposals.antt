@@ -34,10 +34,10 @@ abbrev pub IsFor : Kept → Lines → Type 0
 IsFor d ls = AreLines ls × (ls.version ≡ version_of (meaning d).profile) × (length (text ls) ≤ 1048576)
 
 -- With a certificate the program keeps the declaration in every run, and every condition holds of that certificate; a
--- refusal names the first condition that fails, of some certificate, and where.
+-- refusal names the first condition that fails, of the certificate beside it, and where.
 abbrev pub IsShown : {A : Type 0} → List (Option ℕ) → Kept → Verdict A → Type 0
 IsShown image d (Safe c) = IsSafe (image_of image) (meaning d) × IsFor d (certified.meaning c) × IsValid (judged image d (certified.claims c))
-IsShown image d (Refused r) = (c : certified.Kept) × IsFor d (certified.meaning c) × IsFirst (judged image d (certified.claims c)) r.condition r.address
+IsShown image d (Refused c r) = IsFor d (certified.meaning c) × IsFirst (judged image d (certified.claims c)) r.condition r.address
 IsShown image d _ = ⊤
 
 -- A want of memory isn't told as a declaration's fault.

@@ -55,8 +55,8 @@ pub enum ProposeFault {
 pub enum Verdict<A: Allocator> {
     /// No run of the program breaks it, as this certificate shows, which the judge accepts.
     Safe(Certificate<A>),
-    /// The judge refuses the certificate that is found.
-    Refused(Refusal),
+    /// The judge refuses this certificate, which is the one that is found.
+    Refused(Certificate<A>, Refusal),
     /// No certificate is found: at this address an instruction was met that the judge would refuse.
     Stuck(Word),
     /// No certificate is found with all turns that there were.
@@ -349,7 +349,7 @@ fn tested<A: Allocator>(
 {
     match judge(image, declaration, &certificate) {
         Ok(()) => Verdict::Safe(certificate),
-        Err(refusal) => Verdict::Refused(refusal),
+        Err(refusal) => Verdict::Refused(certificate, refusal),
     }
 }
 

@@ -1,5 +1,5 @@
 -- What is promised of a proposal.
-use Rattle.std.specs.Prelude.{◌≡◌, ◌≤◌, ℕ, ⊤, length, List, Option, is_some, true}
+use Rattle.std.specs.Prelude.{◌≡◌, ◌≤◌, ℕ, ⊤, length, List, Option, None, is_some, true}
 use Rattle.instruct.specs.declared.Profile.{Profile}
 use Rattle.peripherals.specs.Loading.{image_of}
 use Rattle.declaration.specs.Declaration.{IsDeclared}
@@ -49,7 +49,9 @@ IsTold _ = ⊤
 abbrev pub IsSpentUp : {A : Type 0} → Count → Verdict A → Type 0
 IsSpentUp turns v = v ≡ TurnsSpent → turns.spent ≡ turns.limit
 
--- Where a certificate is found the declaration lists the cells that may be read.
+-- Where a certificate is found that the judge accepts, the declaration lists the cells that may be read; where none is found it
+-- lists none. (One that the judge refuses may be refused with the list or without it.)
 abbrev pub IsListed : {A : Type 0} → Kept → Verdict A → Type 0
 IsListed d (Safe c) = is_some (meaning d).reads ≡ true
-IsListed d _ = ⊤
+IsListed d (Refused c r) = ⊤
+IsListed d _ = (meaning d).reads ≡ None

@@ -139,7 +139,8 @@ pub fn propose_with_reads<A: Allocator + Copy>(
 ) -> Result<Proposal<A>, ProposeFault>
     ensures fits { IfOk result (Fits start profile) }
     ensures shown { IfOk result (λ p. IsShown image.now p.declaration p.verdict) }
-    // Where a certificate is found there is a list of reads.
+    // Where a certificate is found that the judge accepts there is a list of reads, and where none is
+    // found there is none.
     ensures listed { IfOk result (λ p. IsListed p.declaration p.verdict) }
     ensures spent { IfOk result (λ p. IsSpentUp turns.new p.verdict) }
     ensures faults { IfErr result IsTold }

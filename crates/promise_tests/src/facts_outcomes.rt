@@ -2,7 +2,9 @@
 
 use bin_tape::Image;
 use declaration::Declaration;
-use facts::{Equation, Fact, Known, Name, Offsets, Outcome, Place, Running, outcomes, single_outcome};
+use facts::{
+    Equation, Fact, Known, Name, Offsets, Outcome, Place, Running, outcomes, single_outcome,
+};
 use std::alloc::Allocator;
 use std::test::Fail;
 use word12::{Link, Word};

@@ -105,7 +105,10 @@ impl Reason {
     fn is_of_rank(&self) -> bool
         ensures { result ≡ is_of_rank self.now }
     {
-        matches!(self, Reason::ByWord(_, Breach::Calls(_, CallBreach::NotLower(_, _))))
+        matches!(
+            self,
+            Reason::ByWord(_, Breach::Calls(_, CallBreach::NotLower(_, _)))
+        )
     }
 
     /// Whether it is told of a call: its rank, or anything but that a line is missing or too narrow.

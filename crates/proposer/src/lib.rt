@@ -346,6 +346,7 @@ fn tested<A: Allocator>(
         version_of (meaning declaration.now).profile }
     requires short { length (text (certified.meaning certificate)) ≤ 1048576 }
     ensures shown { IsShown image.now declaration.now result }
+    ensures listed { (d : Kept) → is_some (meaning d).reads ≡ true → IsListed d result }
     ensures spent { result ≢ TurnsSpent }
 {
     match judge(image, declaration, &certificate) {

@@ -1,12 +1,12 @@
 -- An operator's run, event by event.
 use Rattle.std.proofs.Common.{ℕ, zero, suc, ◌≡◌, ◌+◌, ◌*◌, ◌%◌, ◌==◌, ◌<◌, ◌≤◌, Bool, true, false, ◌||◌, if◌then◌else◌, List, [], ◌∷◌, ◌++◌, length, drop, take, map, refl, sym, ◌∙◌, ap, inl, inr, append_assoc, append-nil, add-zero, add-one, take_all, length-append, get_or, le_refl, arith, Some, None, Option, Result, Ok, Err, IfOk, OnErr, true≢false, subst, unwrap_or}
-use Rattle.std.specs.Io.KnownBytes.{Appends}
+use Rattle.std.specs.Io.KnownBytes.{Appends, Consumes}
 use Rattle.std.proofs.KnownBytes.{Appends-nil, Appends-trans}
 use Rattle.std.proofs.Transfers.{drop-appended}
 use Rattle.std.proofs.lemmas.List.{map-append, take-append-le, drop_all, length-map}
 use Rattle.std.proofs.Math.Seq.{drop-cons, take-append-add}
 use Rattle.std.specs.Prelude.{IfErr}
-use Rattle.streams.specs.Bytes.{AppendsFront}
+use Rattle.streams.specs.Bytes.{AppendsFront, Gave}
 use Rattle.instruct.specs.declared.Profile.{Profile}
 use Rattle.instruct.specs.Devices.{word_of}
 use Rattle.instruct.specs.declared.devices.DeviceOperation.TheVariants.{ClearPrinterFlag, ClearPrinterFlagAndPrint, ClearPunchFlag, ClearPunchFlagAndPunch, Print, Punch, ReadReaderBuffer, SetPrinterFlag}
@@ -708,3 +708,8 @@ of_refusal r refused x = rw refused at x
 -- bytes for which memory was refused have come in part
 pub bytes_came : {T : Type 0} (most : ℕ) (bytes : Input) (r : Result T Fault) → IfErr r (IsBytesFault most bytes) → r ≡ Err NoMemory → HasCome bytes
 bytes_came most bytes r is refused = rw refused at is
+
+-- bytes that came whole
+pub came_whole : (most : ℕ) (had left : Option (List ℕ)) (bytes : List ℕ) → Consumes had left bytes → AreFirst most had bytes → Gave had left (λ given. AreFirst most had given)
+came_whole most None left bytes taken first = tt
+came_whole most (Some all) left bytes taken first = (bytes, taken, first)

@@ -2,12 +2,12 @@
 
 ghost use Rattle.std.specs.Prelude.{◌≡◌, ◌<◌, ◌||◌, ◌⊎◌, ◌%◌, [], ◌∷◌, false, true, None, Err, drop, get_or, is_err, map, IfOk, IfErr, OnOk, OnErr};
 ghost use Rattle.std.specs.Io.KnownBytes.{Appends};
-ghost use Rattle.streams.specs.Bytes.{AppendsFront};
+ghost use Rattle.streams.specs.Bytes.{AppendsFront, Gave};
 ghost use Rattle.peripherals.specs.Operator.{plan_of};
 ghost use Rattle.peripherals.specs.World.{view, profile_of};
 ghost use Rattle.commands.specs.declared.status.Fault.TheVariants.{NoMemory};
 ghost use Rattle.commands.specs.Faults.{is_fault_of_tape, fails_to_read, fails_to_write, IsRunFault, IsSessionFault};
-ghost use Rattle.commands.specs.Inputs.{HasCome, TakesAtMost, TakesTape, input};
+ghost use Rattle.commands.specs.Inputs.{AreFirst, HasCome, TakesAtMost, TakesTape, input};
 ghost use Rattle.commands.specs.Session.{BrokeOff, IsPartOfSession, IsSession, IsSessionOf, NothingOrFronts, Operated, FrontsOf, Whole, WritesAll, character, failures, printed_in, taken};
 ghost use Rattle.commands.specs.SessionParts.{IsPartOf, Played, PlayedFront, is_step};
 
@@ -306,6 +306,10 @@ pub fn run_session<
     ensures unread_after_failure { R.mark tape.new ≡ true →
         (reader.new ≡ reader.old) × (keys.new ≡ keys.old) }
     ensures keys_unread_after_failure { F.mark reader.new ≡ true → keys.new ≡ keys.old }
+    // No key is read before the frames have come whole.
+    ensures keys_unread { (keys.new ≡ keys.old)
+        ⊎ Gave (F.remaining reader.old) (F.remaining reader.new)
+        (λ given. AreFirst options.run.rounds (F.remaining reader.old) given) }
     // The tape is not read past its limit, and of frames and keys no more are taken than there are
     // rounds.
     ensures takes_tape { TakesTape (R.remaining tape.old) (R.remaining tape.new) }

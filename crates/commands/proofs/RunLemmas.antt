@@ -12,7 +12,7 @@ use Rattle.commands.specs.declared.running.RunOptions.{RunOptions}
 use Rattle.commands.specs.declared.status.Fault.{Fault}
 use Rattle.commands.specs.declared.status.Fault.TheVariants.{NoMemory}
 use Rattle.commands.specs.declared.status.Status.{Status}
-use Rattle.commands.specs.Course.{Ran}
+use Rattle.commands.specs.Course.{Ran, RanToOutput}
 use Rattle.commands.specs.Faults.{IsEventsInputFault, IsTapeInputFault, fails_to_write}
 use Rattle.commands.specs.Follows.{Follows, IsTraceOfSome, IsTraceUpToOutput, rounds}
 use Rattle.commands.specs.Inputs.{HasCome, HasEvents, HasImage, Input}
@@ -20,7 +20,7 @@ use Rattle.commands.specs.Running.{IsPartOf, IsRunOf, IsTraceOfEvents, IsTraceOf
 use Rattle.commands.specs.Summary.{summary}
 use Rattle.commands.specs.Trace.{traced}
 use Rattle.commands.specs.Writes.{FrontOf, Writes}
-use Rattle.commands.proofs.FollowLemmas.{front_after, ran_whole}
+use Rattle.commands.proofs.FollowLemmas.{front_after, output_traced, ran_whole}
 
 run_of : (options : RunOptions) (ends : Bool) (events : List Event) (image : List (Option ℕ)) (p : Profile) (w x : WorldState) (outcome : Outcome) (old mid : Option (List ℕ)) →
     p ≡ options.profile → w ≡ fresh image options.start → (ran : Ran p ends options.trace events w outcome x old mid) → (status : Status) → status ≡ status_of outcome.end →
@@ -54,7 +54,7 @@ run_front options ends events image p w x outcome old mid new profile begins ran
 }
 
 -- the lines of the events before one that puts out a byte, and no more
-pub trace_only : (options : RunOptions) (ends : Bool) (events : List Event) (image : List (Option ℕ)) (p : Profile) (w : WorldState) (old new : Option (List ℕ)) →
+trace_only : (options : RunOptions) (ends : Bool) (events : List Event) (image : List (Option ℕ)) (p : Profile) (w : WorldState) (old new : Option (List ℕ)) →
     p ≡ options.profile → w ≡ fresh image options.start → options.trace ≡ true → Writes (IsTraceUpToOutput p ends events w) old new →
     Writes (IsTraceToOutput options ends events image) old new
 trace_only options ends events image p w old new profile begins asked wrote = record {
@@ -62,6 +62,12 @@ trace_only options ends events image p w old new profile begins asked wrote = re
   is = record { asked = asked; is = let some : IsTraceUpToOutput p ends events w wrote.text = wrote.is in rw (profile, begins) at some };
   written = wrote.written;
 }
+
+pub trace_refused : (options : RunOptions) (ends : Bool) (events : List Event) (image : List (Option ℕ)) (p : Profile) (w x : WorldState) (old new : Option (List ℕ)) →
+    p ≡ options.profile → w ≡ fresh image options.start → options.trace ≡ true → RanToOutput p ends options.trace events w x old new →
+    Writes (IsTraceToOutput options ends events image) old new
+trace_refused options ends events image p w x old new profile begins asked ran =
+    trace_only options ends events image p w old new profile begins asked (output_traced p ends options.trace events w x old new ran asked)
 
 -- the lines of the whole run, and no summary
 pub trace_whole : (options : RunOptions) (ends : Bool) (events : List Event) (image : List (Option ℕ)) (p : Profile) (w x : WorldState) (outcome : Outcome) (old new : Option (List ℕ)) →

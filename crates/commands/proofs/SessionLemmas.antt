@@ -30,7 +30,7 @@ use Rattle.commands.specs.declared.status.Status.{Status}
 use Rattle.commands.specs.Faults.{IsBytesFault, fails_to_write}
 use Rattle.commands.specs.Inputs.{AreFirst, HasCome, HasImage, Input}
 use Rattle.commands.specs.Running.{fresh, status_of}
-use Rattle.commands.specs.Session.{AppendsSome, Comes, Over, Cut, Final, Then, Extent, Whole, UpToOutput, UpToAny, MayEnd, extent_after, summary_where, Operated, BrokeOff, FrontsOf, IsPartOfSession, IsSession, IsSessionOf, NothingOrFronts, WritesAll, character, plan_for, printed_in, taken, Taken, Failures, failures}
+use Rattle.commands.specs.Session.{AppendsSome, Comes, Over, Cut, Final, Then, Extent, Whole, UpToOutput, UpToAny, MayEnd, extent_after, summary_where, Operated, BrokeOff, FrontsOf, IsSession, IsSessionOf, NothingOrFronts, SessionFronts, WritesAll, character, plan_for, printed_in, taken, Taken, Failures, failures}
 use Rattle.commands.specs.Summary.{summary}
 use Rattle.commands.specs.SessionParts.{IsPartOf, Played, Unplayed, Faltered, PlayedFront, printed_from}
 use Rattle.commands.specs.Trace.{trace_of, traced}
@@ -594,7 +594,7 @@ failed_punch options plan image p w x (Err fault) reported typed unpunched old n
 -- the inputs are good
 pub session_fronts : (options : SessionOptions) (tape reader keys : Option (List ℕ)) (image : List (Option ℕ)) (frames bytes : List ℕ) (plan : Plan) (failed : Failures) (old new : Taken) →
     HasImage tape image → AreFirst options.run.rounds reader frames → AreFirst options.run.rounds keys bytes → plan ≡ plan_for options frames bytes →
-    FrontsOf (IsPartOf options.run failed.report failed.teletype plan image) failed old new → FrontsOf (IsPartOfSession options failed.report failed.teletype tape reader keys) failed old new
+    FrontsOf (IsPartOf options.run failed.report failed.teletype plan image) failed old new → SessionFronts options failed tape reader keys old new
 session_fronts options tape reader keys image frames bytes plan failed old new has_image frames_are bytes_are is fronts = record {
   extent = fronts.extent;
   text = fronts.text;
@@ -630,7 +630,7 @@ session_fronts options tape reader keys image frames bytes plan failed old new h
 
 pub session_part : (options : SessionOptions) (tape reader keys : Option (List ℕ)) (image : List (Option ℕ)) (frames bytes : List ℕ) (plan : Plan) (failed : Failures) (old new : Taken) →
     HasImage tape image → AreFirst options.run.rounds reader frames → AreFirst options.run.rounds keys bytes → plan ≡ plan_for options frames bytes →
-    FrontsOf (IsPartOf options.run failed.report failed.teletype plan image) failed old new → NothingOrFronts (IsPartOfSession options failed.report failed.teletype tape reader keys) failed old new
+    FrontsOf (IsPartOf options.run failed.report failed.teletype plan image) failed old new → NothingOrFronts options failed tape reader keys old new
 session_part options tape reader keys image frames bytes plan failed old new has_image frames_are bytes_are is fronts =
     inr (session_fronts options tape reader keys image frames bytes plan failed old new has_image frames_are bytes_are is fronts)
 

@@ -199,6 +199,11 @@ pub record FrontsOf (P : Extent → List ℕ → List ℕ → List ℕ → Type 
   pub typed_before_summary : extent ≡ Whole → Appends old.teletype new.teletype printed
   pub punched_before_summary : extent ≡ Whole → Appends old.punch new.punch punched
 
--- Nothing was written at all, or fronts of three such texts.
-abbrev pub NothingOrFronts : (Extent → List ℕ → List ℕ → List ℕ → Type 0) → Failures → Taken → Taken → Type 0
-NothingOrFronts P failed old new = (new ≡ old) ⊎ FrontsOf P failed old new
+-- Fronts went out of what a run with an operator may be about to write, where these of its sinks failed.
+abbrev pub SessionFronts : SessionOptions → Failures → Option (List ℕ) → Option (List ℕ) → Option (List ℕ) → Taken → Taken → Type 0
+SessionFronts options failed tape reader keys old new =
+    FrontsOf (IsPartOfSession options failed.report failed.teletype tape reader keys) failed old new
+
+-- Nothing was written at all, or such fronts were.
+abbrev pub NothingOrFronts : SessionOptions → Failures → Option (List ℕ) → Option (List ℕ) → Option (List ℕ) → Taken → Taken → Type 0
+NothingOrFronts options failed tape reader keys old new = (new ≡ old) ⊎ SessionFronts options failed tape reader keys old new

@@ -8,7 +8,7 @@ ghost use Rattle.peripherals.specs.World.{view, profile_of};
 ghost use Rattle.commands.specs.declared.status.Fault.TheVariants.{NoMemory};
 ghost use Rattle.commands.specs.Faults.{is_fault_of_tape, fails_to_read, fails_to_write, IsRunFault, IsSessionFault};
 ghost use Rattle.commands.specs.Inputs.{AreFirst, HasCome, TakesAtMost, TakesTape, input};
-ghost use Rattle.commands.specs.Session.{BrokeOff, IsPartOfSession, IsSession, IsSessionOf, NothingOrFronts, Operated, FrontsOf, Whole, WritesAll, character, failures, printed_in, taken};
+ghost use Rattle.commands.specs.Session.{BrokeOff, FrontsOf, IsSession, IsSessionOf, NothingOrFronts, Operated, SessionFronts, Whole, WritesAll, character, failures, printed_in, taken};
 ghost use Rattle.commands.specs.SessionParts.{IsPartOf, Played, PlayedFront, is_step};
 
 use crate::follow::{End, Outcome, apply_event, end_of};
@@ -269,27 +269,24 @@ pub fn run_session<
         (input (K.mark keys.new) (K.remaining keys.old) (K.remaining keys.new))) }
     // After a fault fronts of what the first events leave went out, and all of it where no write
     // failed, or of the whole with its summary where the report failed; or nothing at all,
-    ensures front { OnErr result (NothingOrFronts (IsPartOfSession options
-        (W.mark out.new.report) (T.mark out.new.teletype) (R.remaining tape.old)
-        (F.remaining reader.old) (K.remaining keys.old))
+    ensures front { OnErr result (NothingOrFronts options
         (failures (W.mark out.new.report) (T.mark out.new.teletype) (P.mark out.new.punch))
+        (R.remaining tape.old) (F.remaining reader.old) (K.remaining keys.old)
         (taken (W.taken out.old.report) (T.taken out.old.teletype) (P.taken out.old.punch))
         (taken (W.taken out.new.report) (T.taken out.new.teletype) (P.taken out.new.punch))) }
     // of which the fronts are sure where a write failed,
-    ensures front_of_failure { fails_to_write result ≡ true → FrontsOf (IsPartOfSession options
-        (W.mark out.new.report) (T.mark out.new.teletype) (R.remaining tape.old)
-        (F.remaining reader.old) (K.remaining keys.old))
+    ensures front_of_failure { fails_to_write result ≡ true → SessionFronts options
         (failures (W.mark out.new.report) (T.mark out.new.teletype) (P.mark out.new.punch))
+        (R.remaining tape.old) (F.remaining reader.old) (K.remaining keys.old)
         (taken (W.taken out.old.report) (T.taken out.old.teletype) (P.taken out.old.punch))
         (taken (W.taken out.new.report) (T.taken out.new.teletype) (P.taken out.new.punch)) }
     // and where memory was refused, unless it may have been wanted for the frames or the keys;
     ensures broke_off { result ≡ Err NoMemory →
         HasCome (input (F.mark reader.new) (F.remaining reader.old) (F.remaining reader.new))
         ⊎ (HasCome (input (K.mark keys.new) (K.remaining keys.old) (K.remaining keys.new))
-        ⊎ FrontsOf (IsPartOfSession options
-        (W.mark out.new.report) (T.mark out.new.teletype) (R.remaining tape.old)
-        (F.remaining reader.old) (K.remaining keys.old))
+        ⊎ SessionFronts options
         (failures (W.mark out.new.report) (T.mark out.new.teletype) (P.mark out.new.punch))
+        (R.remaining tape.old) (F.remaining reader.old) (K.remaining keys.old)
         (taken (W.taken out.old.report) (T.taken out.old.teletype) (P.taken out.old.punch))
         (taken (W.taken out.new.report) (T.taken out.new.teletype) (P.taken out.new.punch))) }
     // and nothing is written where the tape is refused or a read failed.

@@ -283,6 +283,7 @@ ends_before false now last x e is puts = record { event = e; is_due = is; puts =
 -- the run broke off before the event
 broke_before : (p : Profile) (trace : Bool) (plan now : Plan) (last : Option Event) (e : Event) (w x y : WorldState) (n : ℕ) (reported typed : Bool) (old mid new told tmid tells : Option (List ℕ)) →
     Sat p trace plan now last w x n old mid told tmid → due now x last ≡ Some e → Unplayed x e y reported typed mid new tmid tells → BrokeOff p trace plan w y reported typed old new told tells
+unfolding whole_front
 broke_before p trace plan now last e w x y n reported typed old mid new told tmid tells sat is un = rw (un.same, un.unwritten, un.unprinted) (record {
   events = sat.events;
   come = let all : Comes p (extent_after (reported || typed)) plan None w (sat.events ++ []) = sat.come (extent_after (reported || typed)) [] (Cut now last x (ends_before (reported || typed) now last x e is un.wanted)) in rw (append-nil sat.events) at all;
@@ -315,6 +316,7 @@ front_cut false a b c first second whole front = front_after a b c [] [] whole f
 
 broke_after : (p : Profile) (trace : Bool) (plan now : Plan) (last : Option Event) (e : Event) (w x y : WorldState) (n : ℕ) (reported typed : Bool) (old mid new told tmid tells : Option (List ℕ)) →
     Sat p trace plan now last w x n old mid told tmid → due now x last ≡ Some e → Faltered p trace x e y reported typed mid new tmid tells → BrokeOff p trace plan w y reported typed old new told tells
+unfolding some_same some_after
 broke_after p trace plan now last e w x y n reported typed old mid new told tmid tells sat is faltered =
     let one = one_by p true e x y (seen_of p x e) refl faltered.happens in
     let more = printed_more p x y e faltered.happens in
@@ -349,6 +351,7 @@ comes_first p extent _ _ _ _ (Then plan last w m e es is goes happens rest) = Th
 -- a whole run, of which no more is told
 pub operated_broke : (p : Profile) (trace : Bool) (plan : Plan) (w : WorldState) (outcome : Outcome) (x : WorldState) (reported typed : Bool) (old new told tells : Option (List ℕ)) →
     Operated p trace plan w outcome x old new told tells → (reported || typed) ≡ false → BrokeOff p trace plan w x reported typed old new told tells
+unfolding whole_front
 operated_broke p trace plan w outcome x reported typed old new told tells done unfailed = record {
   events = done.events;
   come = comes_first p (extent_after (reported || typed)) plan None w done.events done.come;
@@ -504,6 +507,7 @@ pub attended_front : (options : RunOptions) (plan : Plan) (image : List (Option 
     p ≡ options.profile → w ≡ fresh image options.start → Operated p options.trace plan w outcome x old mid told tells → Appends held holds x.devices.punch.output →
     AppendsFront mid new (summary outcome.end x outcome.steps) → reported ≡ true → typed ≡ false → unpunched ≡ false →
     FrontsOf (IsPartOf options reported typed plan image) (failures reported typed unpunched) (taken old told held) (taken new tells holds)
+unfolding whole_front
 attended_front options plan image p w x outcome reported typed unpunched old mid new told tells held holds profile begins done punched front failed untyped is_punched = record {
   extent = Whole;
   text = traced options.trace done.ran.lines ++ summary outcome.end x outcome.steps;

@@ -10,4 +10,4 @@ returns-in_err-list-clause-traced_whole g c = λ same asked. inl (text_came _ c.
 
 pub returns-clause-traced_whole : goal.returns-clause-traced_whole
 returns-clause-traced_whole g c = λ same asked.
-    refused_events c.args.options _ _ c.in_ok-image.image c.in_ok-list.list.items c.run_course.result _ _ _ _ c.in_ok-image.ensures.tape c.in_ok-list.ensures.spells c.run_course.ensures.marks c.run_course.ensures.traced same asked
+    refused_events c.args.options _ _ c.in_ok-image.image c.in_ok-list.list.items c.run_course.result _ _ _ _ c.in_ok-image.ensures.tape c.in_ok-list.ensures.spells c.run_course.ensures.marks (rw c.deref.ensures.value at c.run_course.ensures.traced) same asked

@@ -21,10 +21,10 @@ pub returns-in_err-image-clause-broke_off : goal.returns-in_err-image-clause-bro
 returns-in_err-image-clause-broke_off g c = λ same. absurd (tape_wants_none _ c.tape_from.result c.tape_from.ensures.faults (search rules))
 
 pub returns-in_err-frames-clause-broke_off : goal.returns-in_err-frames-clause-broke_off
-returns-in_err-frames-clause-broke_off g c = λ same. inl (bytes_came _ _ c.bytes_from-frames.result c.bytes_from-frames.ensures.faults (search rules))
+returns-in_err-frames-clause-broke_off g c = λ same. inl (bytes_came _ _ c.bytes_from.result c.bytes_from.ensures.faults (search rules))
 
 pub returns-in_err-struck-clause-broke_off : goal.returns-in_err-struck-clause-broke_off
-returns-in_err-struck-clause-broke_off g c = λ same. inr (inl (bytes_came _ _ c.bytes_from-struck.result c.bytes_from-struck.ensures.faults (search rules)))
+returns-in_err-struck-clause-broke_off g c = λ same. inr (inl (bytes_came _ _ c.bytes_from-2.result c.bytes_from-2.ensures.faults (search rules)))
 
 pub returns-clause-broke_off : goal.returns-clause-broke_off
 returns-clause-broke_off g c = λ refused.

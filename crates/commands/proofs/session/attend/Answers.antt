@@ -42,7 +42,7 @@ returns-in_err-put-2-clause-front g c =
     let failed : g.W.ByteSink.mark c.put-2.new.sink ≡ true = search rules in
     let unfailed : (g.W.ByteSink.mark c.operate-ran.new.out.report || g.T.ByteSink.mark c.operate-ran.new.out.teletype) ≡ false = search rules in
     let is_punched : g.P.ByteSink.mark c.put.new.sink ≡ false = search rules in
-    search (rules, attended_front c.args.options (plan_of c.args.operator.now) c.args.image.now _ (view c.load-world.result) (view c.operate-ran.new.world) c.in_ok-outcome.outcome (g.W.ByteSink.mark c.put-2.new.sink) (g.T.ByteSink.mark c.operate-ran.new.out.teletype) (g.P.ByteSink.mark c.put.new.sink) _ _ _ _ _ _ _ profile begins c.in_ok-outcome.ensures.ran punched front failed (or_right _ _ unfailed) is_punched)
+    search (rules, attended_front c.args.options (plan_of c.args.operator.now) c.args.image.now _ (view c.load-world.result) (view c.operate-ran.new.world) c.in_ok-outcome.outcome (g.W.ByteSink.mark c.put-2.new.sink) (g.T.ByteSink.mark c.operate-ran.new.out.teletype) (g.P.ByteSink.mark c.put.new.sink) _ _ _ _ _ _ _ profile begins c.in_ok-outcome.ensures.ran punched front failed (or_right (g.W.ByteSink.mark c.operate-ran.new.out.report) (g.T.ByteSink.mark c.operate-ran.new.out.teletype) unfailed) is_punched)
 
 pub returns-clause-run : goal.returns-clause-run
 returns-clause-run g c =

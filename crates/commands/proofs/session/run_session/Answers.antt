@@ -1,7 +1,6 @@
-use Rattle.std.proofs.Common.{rules, ◌≡◌, ◌∙◌, false, inl, inr, sym, true≢false}
+use Rattle.std.proofs.Common.{rules, ◌≡◌, inl, inr}
 use Rattle.std.proofs.lemmas.Result.{on_err_weaker}
 use Rattle.peripherals.specs.Operator.{plan_of}
-use Rattle.commands.specs.Faults.{fails_to_write}
 use Rattle.commands.specs.Session.{plan_for}
 use Rattle.commands.proofs.RunLemmas.{tape_wants_none}
 use Rattle.commands.proofs.SessionLemmas.{bytes_came, came_whole, of_failure, of_refusal, session_fronts, session_part}

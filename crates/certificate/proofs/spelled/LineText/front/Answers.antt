@@ -1,5 +1,5 @@
 use Rattle.certificate.proofs.SpelledLemmas.{none, text_more, text_done}
-use Rattle.certificate.proofs.spelled.LineText.text.Goals as goal
+use Rattle.certificate.proofs.spelled.LineText.front.Goals as goal
 
 pub loop-byte-init : goal.loop-byte-init
 loop-byte-init c = none _

@@ -3,7 +3,7 @@ use Rattle.std.proofs.Common.{◌≡◌, ◌⊎◌, ℕ, ◌+◌, ◌-◌, ◌<�
 use Rattle.std.specs.Prelude.{not, if◌then◌else◌, nat_le, nat_lt}
 use Rattle.std.proofs.lemmas.Bool.{true≢false, eq-eqb, ne_eqb, cases_lt}
 use Rattle.std.proofs.lemmas.Bool.Decides.{nat_tests}
-use Rattle.std.proofs.lemmas.List.{take_all, take_more, drop_more}
+use Rattle.std.proofs.lemmas.List.{take_all, take_more, drop_more, drop_all}
 use Rattle.wordset.specs.Words.{Words, nothing, between, union, has_some, HasNoneFrom}
 use Rattle.wordset.proofs.Tests.{some_from}
 use Rattle.certificate.specs.declared.packed.Run.{Run}
@@ -140,19 +140,13 @@ one_written old now mid new s n i rs r h is w a b =
 none_left : (s : Words) (n : ℕ) (rs : List Run) → rs ≡ [] → RunsLeft s n rs → HasNoneFrom n s
 none_left s n rs e h = λ v a b. rw e at (h.left v (omega arith) b)
 
-past_all : (rs : List Run) (i : ℕ) → length rs ≤ i → drop i rs ≡ []
-past_all rs i h = drop_all rs i h
-  where
-    drop_all : (xs : List Run) (k : ℕ) → length xs ≤ k → drop k xs ≡ []
-    drop_all xs k a = search
-
 pub runs_written : (old now : List ℕ) (s : Words) (n i : ℕ) (rs : List Run) → length rs ≤ i → RunsWritten old now s n (drop i rs) → Adds old now (marks 4096 s)
-runs_written old now s n i rs h w = set_written old now s n w.sofar (none_left s n (drop i rs) (past_all rs i h) w.left)
+runs_written old now s n i rs h w = set_written old now s n w.sofar (none_left s n (drop i rs) (drop_all i rs h) w.left)
 
 -- The text of a set with a run.
-pub some_runs : (old now : List ℕ) (rs : List Run) → (rs ≡ [] → ⊥) → StandApart 0 rs → Adds old now (marks 4096 (set_of_runs rs)) →
+pub some_runs : (old now : List ℕ) (rs : List Run) → false ≡ (length rs == 0) → StandApart 0 rs → Adds old now (marks 4096 (set_of_runs rs)) →
     Adds old now (set_text (set_of_runs rs))
-some_runs old now [] some h a = absurd (some refl)
+some_runs old now [] some h a = absurd (true≢false (sym some))
 some_runs old now (r ∷ rs) some h a =
     let order : r.first ≤ r.last = h.1 in
     let small : r.last < 4096 = h.2 in

@@ -1,5 +1,5 @@
 -- Packed lines, and what they say.
-use Rattle.std.specs.Prelude.{◌≡◌, ℕ, ◌+◌, ◌≤◌, List, [], ◌∷◌, ◌++◌, length, map, slice_range}
+use Rattle.std.specs.Prelude.{◌≡◌, ℕ, ◌+◌, ◌<◌, ◌≤◌, List, [], ◌∷◌, ◌++◌, length, map, slice_range}
 use Rattle.wordset.specs.Words.{Words, all_words, nothing, between, union, meet}
 use Rattle.wordset.specs.Links.{links_of}
 use Rattle.facts.specs.Meaning.{offsets_of, equation_of}

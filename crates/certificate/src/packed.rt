@@ -269,10 +269,12 @@ pub fn stand_apart(runs: &[Run]) -> bool
 {
     let mut next = 0;
     for run in runs {
-        if run.first.index() < next || run.last < run.first {
+        let first = run.first.index();
+        let last = run.last.index();
+        if first < next || last < first {
             return false;
         }
-        next = run.last.index() + 2;
+        next = last + 2;
     }
     true
 }

@@ -27,7 +27,7 @@ loop-at-preserved g c =
       wrote = c.loop-at.invariant.wrote ++ ended (line_text c.args.version l);
       whole = Appends-trans (g.W.ByteSink.taken c.args.sink.now) (g.W.ByteSink.taken c.loop-at.sink) (g.W.ByteSink.taken c.put.new.sink) c.loop-at.invariant.wrote (ended (line_text c.args.version l))
           c.loop-at.invariant.whole (rw e at c.in_default.ensures.whole);
-      left = detail_next c.args.version (said_lines c.args.lines.now) c.loop-at.at l c.loop-at.invariant.wrote _ c.packed-line.ensures.there (sym (c.is_detail.ensures c.args.lines.now.runs) ∙ c.if-not-is_detail.false) c.loop-at.invariant.left;
+      left = detail_next c.args.version (said_lines c.args.lines.now) c.loop-at.at l c.loop-at.invariant.wrote (all_ended c.args.version (details_of_last (drop c.args.start (said_lines c.args.lines.now)))) c.packed-line.ensures.there (sym (c.is_detail.ensures c.args.lines.now.runs) ∙ c.if-not-is_detail.false) c.loop-at.invariant.left;
       mark = c.in_default.ensures.marks;
     }
 

@@ -1,8 +1,7 @@
 -- Runs that stand apart: they are the maximal ones of their set.
-use Rattle.std.proofs.Common.{◌≡◌, ◌⊎◌, ℕ, ◌+◌, ◌-◌, ◌<◌, ◌≤◌, ◌==◌, Bool, true, false, ◌&&◌, ◌||◌, List, [], ◌∷◌, ◌++◌, take, refl, ap, ◌∙◌, sym, inl, inr, arith, append_assoc, append-nil, length, get_or, drop}
-use Rattle.std.specs.Prelude.{not, if◌then◌else◌, nat_le, nat_lt}
+use Rattle.std.proofs.Common.{◌≡◌, ℕ, ◌+◌, ◌-◌, ◌<◌, ◌≤◌, ◌==◌, Bool, true, false, ◌||◌, List, [], ◌∷◌, ◌++◌, take, refl, ap, ◌∙◌, sym, inl, inr, arith, append_assoc, append-nil, length, get_or, drop}
+use Rattle.std.specs.Prelude.{if◌then◌else◌}
 use Rattle.std.proofs.lemmas.Bool.{true≢false, eq-eqb, ne_eqb, cases_lt}
-use Rattle.std.proofs.lemmas.Bool.Decides.{nat_tests}
 use Rattle.std.proofs.lemmas.List.{take_all, take_more, drop_more, drop_all}
 use Rattle.wordset.specs.Words.{Words, nothing, between, union, has_some, HasNoneFrom}
 use Rattle.wordset.proofs.Tests.{some_from}
@@ -151,6 +150,6 @@ some_runs old now (r ∷ rs) some h a =
     let order : r.first ≤ r.last = h.1 in
     let small : r.last < 4096 = h.2 in
     let here : set_of_runs (r ∷ rs) r.first ≡ true =
-        sym (runs_within (r ∷ rs) r.first (omega arith)) ∙ (first_or r rs r.first ∙ or_with _ _ true (joined nothing rs r.first) (in_between r.first r.last r.first (omega arith) order) refl) in
+    sym (runs_within (r ∷ rs) r.first (omega arith)) ∙ (first_or r rs r.first ∙ or_with _ _ true (joined nothing rs r.first) (in_between r.first r.last r.first (omega arith) order) refl) in
     let full : has_some (set_of_runs (r ∷ rs)) ≡ true = some_from 4096 (set_of_runs (r ∷ rs)) r.first (omega arith) here in
     rw full a

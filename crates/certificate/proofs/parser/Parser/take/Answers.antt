@@ -1,4 +1,4 @@
-use Rattle.std.proofs.Common.{◌≡◌, ◌<◌, ◌+◌, ◌++◌, [], ◌∷◌, ◌∙◌, arith, List, ℕ, length, take, drop, subst, ap}
+use Rattle.std.proofs.Common.{◌<◌, ◌+◌, ◌++◌, [], ◌∷◌, ◌∙◌, arith, List, ℕ, length, take, drop, subst, ap}
 use Rattle.certificate.specs.Parser.{Seen}
 use Rattle.certificate.proofs.ServedLemmas.{piece_rest, piece_length, refused_on, with_feed}
 use Rattle.certificate.proofs.parser.Parser.take.Goals as goal

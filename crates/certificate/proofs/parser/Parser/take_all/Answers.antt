@@ -1,4 +1,4 @@
-use Rattle.std.proofs.Common.{◌≡◌, ◌≤◌, ◌-◌, ◌++◌, ◌∙◌, arith, List, ℕ, length, take, drop, subst, length-drop}
+use Rattle.std.proofs.Common.{◌≤◌, ◌-◌, ◌++◌, ◌∙◌, arith, List, ℕ, length, take, drop, subst, length-drop}
 use Rattle.certificate.specs.Parser.{Seen, Refuses}
 use Rattle.certificate.proofs.ServedLemmas.{piece_more, piece_rest, piece_left, piece_count}
 use Rattle.certificate.proofs.parser.Parser.take_all.Goals as goal

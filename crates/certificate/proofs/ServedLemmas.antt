@@ -1,11 +1,12 @@
 -- What a source gave, and what it brings.
 use Rattle.std.proofs.Common.{◌≡◌, ◌⊎◌, ℕ, zero, suc, ◌+◌, ◌-◌, ◌<◌, ◌≤◌, Bool, true, false, List, [], ◌∷◌, ◌++◌, length, take, drop, Option, Some, None, Result, Ok, Err, refl, ap, ◌∙◌, sym, subst, inl, inr, arith, append_assoc, append-nil, length-append, get_or, length-take-le}
-use Rattle.std.specs.Prelude.{replicate, IfOk, IfErr, IfSome, IsErrAnd, MatchResult}
+use Rattle.std.specs.Prelude.{replicate, slice_index, ◌≢◌, IfOk, IfErr, IfSome, IsErrAnd, MatchResult}
 use Rattle.std.specs.Io.KnownBytes.{Consumes, Keeps, IsAtEnd}
 use Rattle.std.proofs.KnownBytes.{Consumes-nil, Consumes-trans, Consumes-kept, Consumes-whole}
 use Rattle.std.proofs.lemmas.Bool.{true≢false}
 use Rattle.std.proofs.lemmas.List.{take_all, take_more, length-drop, take-append-le, take-append-drop, length-replicate}
 use Rattle.std.proofs.Math.Seq.{take-append-add, take-add}
+use native.Mathlib.Numerals.{unary_clauses}
 use Rattle.streams.specs.Bytes.{Gave}
 use Rattle.certificate.specs.declared.Version.{Version}
 use Rattle.certificate.specs.declared.CertificateFault.{CertificateFault}
@@ -364,9 +365,14 @@ module _ (old new : Option (List ℕ)) where
       go (Some bytes) (Err f) (inr (inl e)) t = λ fault g. inr (inl e)
       go (Some bytes) (Err f) (inr (inr h)) t = λ fault g. inr (inr (one_fault bytes f fault h g))
 
--- One byte more that is no line feed.
-pub no_feed_more : (bytes : List ℕ) (n : ℕ) → n < length bytes → NoFeed (take n bytes) → (get_or bytes n 0 ≡ 10 → ⊥) → NoFeed (take (n + 1) bytes)
-no_feed_more bytes n h front ne = rw (take_more bytes n 0 h) (both_feed (take n bytes) (get_or bytes n 0 ∷ []) front (ne, tt))
+-- Bytes up to a place before which none is a line feed.
+pub clean_front : (bytes : List ℕ) (n : ℕ) → n ≤ length bytes → ((k : ℕ) → k < n → slice_index bytes k ≢ 10) → NoFeed (take n bytes)
+clean_front bytes zero h clean = tt
+clean_front [] (suc n) h clean = tt
+clean_front (b ∷ bytes) (suc n) h clean = (
+  clean 0 (omega arith),
+  clean_front bytes n (omega arith) (λ k small e. clean (k + 1) (omega arith) (simp unary_clauses e)),
+)
 
 -- A line after what was taken, with its line feed.
 pub with_feed : (before bytes : List ℕ) (n : ℕ) → n < length bytes → get_or bytes n 0 ≡ 10 → before ++ take n bytes ++ 10 ∷ [] ≡ before ++ take (n + 1) bytes

@@ -1,6 +1,6 @@
 //! The text of a certificate, a line at a time.
 
-ghost use Rattle.std.specs.Prelude.{ℕ, ◌≡◌, ◌+◌, ◌<◌, ◌≤◌, ◌⊎◌, ◌^◌, List, [], ◌∷◌, ◌++◌, length, take, get_or, IfOk, IfErr, MatchResult, Some, None};
+ghost use Rattle.std.specs.Prelude.{ℕ, ◌≡◌, ◌≢◌, ◌+◌, ◌<◌, ◌≤◌, ◌⊎◌, ◌^◌, List, [], ◌∷◌, ◌++◌, length, take, slice_index, IfOk, IfErr, MatchResult, Some, None};
 ghost use Rattle.std.specs.Prelude.{IfSome, false};
 ghost use Rattle.certificate.specs.declared.Version.{Version as Spelled};
 ghost use Rattle.certificate.specs.Spelling.{version_text};
@@ -14,6 +14,7 @@ use crate::lines::KeptLines;
 use crate::progress::Progress;
 use crate::{Certificate, CertificateFault, Version};
 use arrayvec::ArrayVec;
+use memchr::memchr;
 use std::alloc::Allocator;
 
 /// The most bytes of a certificate's text.
@@ -50,17 +51,10 @@ fn version_of(line: &[u8]) -> Option<Version>
 /// How many bytes come before the first line feed, or all of them where there is none.
 fn line_len(bytes: &[u8]) -> usize
     ensures fits { result ≤ length bytes.now }
-    ensures front { NoFeed (take result bytes.now) }
-    ensures feed { result < length bytes.now → get_or bytes.now result 0 ≡ 10 }
+    ensures clean { (k : ℕ) → k < result → slice_index bytes.now k ≢ 10 }
+    ensures feed { result < length bytes.now → slice_index bytes.now result ≡ 10 }
 {
-    let mut end = 0;
-    while end < bytes.len() {
-        if bytes[end] == b'\n' {
-            return end;
-        }
-        end += 1;
-    }
-    end
+    memchr(b'\n', bytes).unwrap_or(bytes.len())
 }
 
 impl<A: Allocator + Copy> Parser<A> {

@@ -1,7 +1,10 @@
 use Rattle.std.proofs.Common.{◌<◌, ◌+◌, ◌++◌, [], ◌∷◌, ◌∙◌, arith, List, ℕ, length, take, drop, subst, ap}
 use Rattle.certificate.specs.Parser.{Seen}
-use Rattle.certificate.proofs.ServedLemmas.{piece_rest, piece_length, refused_on, with_feed}
+use Rattle.certificate.proofs.ServedLemmas.{clean_front, piece_rest, piece_length, refused_on, with_feed}
 use Rattle.certificate.proofs.parser.Parser.take.Goals as goal
+
+pub add-requires-clause-feed : goal.add-requires-clause-feed
+add-requires-clause-feed g c = clean_front c.args.bytes.now c.line_len-end.result c.line_len-end.ensures.fits c.line_len-end.ensures.clean
 
 pub returns-in-Err-clause-seen : goal.returns-in-Err-clause-seen
 returns-in-Err-clause-seen g c = λ before h e.

@@ -104,7 +104,9 @@ fn a_cut_text_names_the_line_that_is_lacking(rt: HostRuntime) -> Result<(), Fail
 }
 
 #[test]
-fn a_text_that_is_cut_at_any_byte_names_the_line_that_is_lacking(rt: HostRuntime) -> Result<(), Fail> {
+fn a_text_that_is_cut_at_any_byte_names_the_line_that_is_lacking(
+    rt: HostRuntime,
+) -> Result<(), Fail> {
     let whole = text(rt.alloc(), HELLO.as_slice())?;
     let mut lines = 0usize;
     for cut in 0..whole.len() {

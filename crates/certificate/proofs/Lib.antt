@@ -21,6 +21,7 @@ pub mod FoundLemmas
 pub mod DetailLemmas
 pub mod ReaderLemmas
 pub mod SpelledLemmas
+pub mod ApartLemmas
 pub mod MakerLemmas
 pub mod AddedLemmas
 pub mod PutLemmas

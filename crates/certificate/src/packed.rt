@@ -13,7 +13,8 @@ ghost use Rattle.certificate.specs.Meaning.{said, registers_of, routine_of};
 ghost use Rattle.certificate.specs.Spelled.{IsLastOf};
 ghost use Rattle.certificate.specs.Detail.{said_detail};
 ghost use Rattle.wordset.specs.Words.{between};
-ghost use Rattle.certificate.specs.Packed.{Begins, set_of_runs, set_at, one_at, other_at, registers_at, said_at, said_lines, IsSpan, AreWithin, LiesWithin, IsLaid, AreLaid, IsPacked};
+ghost use Rattle.certificate.specs.declared.packed.Run.{Run};
+ghost use Rattle.certificate.specs.Packed.{Begins, set_of_runs, set_at, one_at, other_at, registers_at, said_at, said_lines, StandApart, IsSpan, AreWithin, LiesWithin, IsLaid, AreLaid, IsPacked};
 
 use crate::Routine;
 use crate::details::Detail;
@@ -71,6 +72,15 @@ pub enum PackedLine {
     Cell(Word, Span),
     Equation(Equation),
     End,
+}
+
+impl PackedLine {
+    /// Whether it says more of the line before.
+    pub fn is_detail(&self) -> bool
+        ensures { (runs : List Run) → result ≡ is_detail (said_at runs self.now) }
+    {
+        matches!(self, PackedLine::Cell(_, _) | PackedLine::Equation(_))
+    }
 }
 
 /// Lines in their order, packed. The runs of all their sets lie in one list.
@@ -253,8 +263,24 @@ fn pack<A: Allocator>(runs: &mut Vec<Run, A>, line: &Line) -> Result<PackedLine,
     }
 }
 
+/// Whether each of these runs has a word, and between it and the one before lies another word.
+pub fn stand_apart(runs: &[Run]) -> bool
+    ensures { result ≡ true → StandApart 0 runs.now }
+{
+    let mut next = 0;
+    for run in runs {
+        let first = run.first.index();
+        let last = run.last.index();
+        if first < next || last < first {
+            return false;
+        }
+        next = last + 2;
+    }
+    true
+}
+
 /// The set of which these are runs. Most sets have one.
-fn set_of(runs: &[Run]) -> WordSet
+pub fn set_of(runs: &[Run]) -> WordSet
     ensures { words result ≡ set_of_runs runs.now }
 {
     if runs.len() == 1 {
@@ -298,19 +324,6 @@ fn other_in(runs: &[Run], sets: Spans) -> WordSet
 {
     let first = sets.first as usize + usize::from(sets.one);
     set_in(runs, first, usize::from(sets.other))
-}
-
-/// The registers of which the runs lie here.
-#[inline(always)]
-fn registers_in(runs: &[Run], packed: &PackedRegisters) -> Registers
-    requires { AreWithin (length runs.now) packed.now.sets }
-    ensures { registers_of result ≡ registers_at runs.now packed.now }
-{
-    Registers {
-        accumulator: one_in(runs, packed.sets),
-        mq: other_in(runs, packed.sets),
-        link: packed.link,
-    }
 }
 
 /// The lent fact says what these registers and offsets say, and nothing of any cell.
@@ -402,33 +415,6 @@ fn routine_of(runs: &[Run], packed: &PackedLine) -> Option<Routine>
     }
 }
 
-/// The line that was packed so.
-fn unpack(runs: &[Run], packed: &PackedLine) -> Line
-    requires { LiesWithin (length runs.now) packed.now }
-    ensures { said result ≡ said_at runs.now packed.now }
-{
-    match packed {
-        PackedLine::Routine(routine) => Line::Routine(RoutineLine {
-            entry: routine.entry,
-            rank: usize::from(routine.rank),
-            sites: one_in(runs, routine.sets),
-            writes: other_in(runs, routine.sets),
-        }),
-        PackedLine::Fact(at, registers, offsets) => {
-            Line::Fact(*at, registers_in(runs, registers), *offsets)
-        }
-        PackedLine::Exit(entry, offset, registers) => {
-            Line::Exit(*entry, *offset, registers_in(runs, registers))
-        }
-        PackedLine::Cell(cell, span) => Line::Cell(TrackedCell {
-            cell: *cell,
-            set: set_in(runs, span.first as usize, usize::from(span.count)),
-        }),
-        PackedLine::Equation(equation) => Line::Equation(*equation),
-        PackedLine::End => Line::End,
-    }
-}
-
 impl<A: Allocator + Copy> PackedLines<A> {
     /// No line.
     pub fn new(alloc: A) -> PackedLines<A>
@@ -449,13 +435,21 @@ impl<A: Allocator> PackedLines<A> {
         self.list.len()
     }
 
-    /// The line at a place.
-    pub fn line(&self, at: usize) -> Line
-        requires { at < length (said_lines self.now) }
-        ensures { drop at (said_lines self.now) ≡
-            said result ∷ drop (at + 1) (said_lines self.now) }
+    /// The runs of all sets.
+    pub fn runs(&self) -> &[Run]
+        ensures { result.now ≡ self.now.runs }
     {
-        unpack(&self.runs, &self.list[at])
+        &self.runs
+    }
+
+    /// The line at a place as it's packed.
+    pub fn packed(&self, at: usize) -> &PackedLine
+        requires { at < length (said_lines self.now) }
+        ensures there { drop at (said_lines self.now) ≡
+            said_at self.now.runs result.now ∷ drop (at + 1) (said_lines self.now) }
+        ensures within { LiesWithin (length self.now.runs) result.now }
+    {
+        &self.list[at]
     }
 
     /// What the line at a place says of a routine, if it does.

@@ -191,20 +191,29 @@ fn in_routine(rt: &HostRuntime, fact: &Fact, number: usize) -> Result<[Option<Se
     outcomes_of(rt, ON_8I, fact, stand)
 }
 
-/// The outcome of a word at 0200 of main that has one at most, asked for alone; none where the word
-/// may have more.
+/// The outcome of a word at 0200 of main that has one at most; none where the word may have more.
+fn single_glimpse<'a, A: Allocator>(
+    image: &'a Image,
+    declaration: &'a Declaration<A>,
+    fact: &'a Fact,
+    word: Word,
+) -> Option<Seen> {
+    let place = Place {
+        image,
+        declaration,
+        routine: None,
+    };
+    if !place.has_one_outcome(word) {
+        return None;
+    }
+    glimpse(&single_outcome(fact, Word::from_index(0o200), word, &place))
+}
+
+/// The same on the 8/I.
 fn single_of(rt: &HostRuntime, fact: &Fact, number: usize) -> Result<Option<Seen>, Fail> {
     let declared = Declaration::parse(rt.alloc(), ON_8I)?;
     let image = tape();
-    let place = Place {
-        image: &image,
-        declaration: &declared,
-        routine: None,
-    };
-    if !place.has_one_outcome(word(number)) {
-        return Ok(None);
-    }
-    Ok(glimpse(&single_outcome(fact, word(0o200), word(number), &place)))
+    Ok(single_glimpse(&image, &declared, fact, word(number)))
 }
 
 /// One outcome alone.

@@ -1,7 +1,7 @@
 #!/bin/bash
 # Times a million rounds of the program with a tape in the reader and a punch, which copies the tape, and the same rounds
-# without them, by turns in one run, and prints for each the least processor time of fifteen runs and how many times as
-# long the first takes as the second. The tape is a full reel: 1,000 feet with ten frames to an inch.
+# without them, by turns in one run, and prints for each the least processor time of nine runs and how many times as long
+# the first takes as the second.
 # usage: bench/desk.sh, with the program pdp8 built.
 set -euo pipefail
 top=$(cd "$(dirname "$0")/.." && pwd)
@@ -9,7 +9,7 @@ program=${PDP8:-$top/crates/pdp8/out/pdp8}
 work=$(mktemp -d)
 trap 'rm -r "$work"' EXIT
 "$program" assemble "$work/copier.bin" "$top/examples/copier.pal"
-head -c 120000 /dev/zero | tr '\0' '\125' >"$work/frames"
+head -c 1000000 /dev/zero | tr '\0' '\125' >"$work/frames"
 # The plain run has the same program with the reader's flag always there: it punches in the same loop.
 sed 's/^NEXT,   RSF/NEXT,   NOP/; s/^        JMP .-1         \/Wait for it/        NOP/' "$top/examples/copier.pal" >"$work/plain.pal"
 "$program" assemble "$work/plain.bin" "$work/plain.pal"
@@ -18,7 +18,7 @@ sed 's/^NEXT,   RSF/NEXT,   NOP/; s/^        JMP .-1         \/Wait for it/     
 TIMEFORMAT='%U %S'
 seconds() { { time "$@" >"$work/out" 2>&1 </dev/null; } 2>&1 | awk '{ print $1 + $2 }'; }
 
-for _ in 1 2 3 4 5 6 7 8 9 10 11 12 13 14 15; do
+for _ in 1 2 3 4 5 6 7 8 9; do
     echo "desk $(seconds "$program" run "$work/copier.bin" --steps 1000000 --reader "$work/frames" --punch "$work/punched")"
     echo "plain $(seconds "$program" run "$work/plain.bin" --steps 1000000)"
 done >"$work/times"

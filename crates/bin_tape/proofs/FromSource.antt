@@ -9,9 +9,9 @@ use Rattle.bin_tape.proofs.Lengths.{written_within}
 use Rattle.bin_tape.specs.Refuses.{Refuses, IsUnfinished}
 use Rattle.bin_tape.specs.Reading.{Progress, Between, Second, Skipping, Ended, Faulty, reads, Answers}
 use Rattle.bin_tape.specs.Holds.{IsOpen}
-use Rattle.bin_tape.specs.Served.{ServesAll, Serves}
+use Rattle.bin_tape.specs.Served.{StaysOpen, ServesAll, Serves}
 use Rattle.streams.specs.Bytes.{Gave}
-use Rattle.bin_tape.specs.Serving.{IsPrompt, failed_to_read}
+use Rattle.bin_tape.specs.Serving.{IsUnanswered, IsPrompt, failed_to_read}
 use Rattle.bin_tape.proofs.Means.{Means, reads_means}
 use Rattle.bin_tape.proofs.Decides.{is_tape, only_tape, only_fault, is_refused}
 
@@ -31,7 +31,7 @@ unfinished fs o = open_unfinished fs (reads fs) (reads_means fs) o
 
 -- where no read failed the frames answer
 unfailed : (bytes : List ℕ) (r : Answer) (fs : List ℕ) → failed_to_read r ≡ false
-    → ((r ≡ Err ReadFault) × IsOpen (reads fs)) ⊎ Answers (nat_lt 65536 (length bytes)) (reads (take 65536 bytes)) r → Answers (nat_lt 65536 (length bytes)) (reads (take 65536 bytes)) r
+    → ((r ≡ Err ReadFault) × StaysOpen fs) ⊎ Answers (nat_lt 65536 (length bytes)) (reads (take 65536 bytes)) r → Answers (nat_lt 65536 (length bytes)) (reads (take 65536 bytes)) r
 unfailed bytes r fs e (inl (is, o)) = absurd (true≢false (sym (ap failed_to_read is) ∙ e))
 unfailed bytes r fs e (inr a) = a
 
@@ -88,14 +88,14 @@ module _ (old new : Option (List ℕ)) where
       go None s = tt
       go (Some bytes) s = λ fault h e. only_fault 65536 bytes r (unfailed bytes r s.given (sym m ∙ e) s.answer) fault h
 
-  pub serves_unanswered : (r : Answer) → Serves old new r → r ≡ Err ReadFault → Gave old new IsUnfinished
+  pub serves_unanswered : (r : Answer) → Serves old new r → r ≡ Err ReadFault → Gave old new IsUnanswered
   serves_unanswered r s e = go old s
     where
-      here : (bytes : List ℕ) (s : ServesAll bytes new r) → ((r ≡ Err ReadFault) × IsOpen (reads s.given)) ⊎ Answers (nat_lt 65536 (length bytes)) (reads (take 65536 bytes)) r → IsUnfinished s.given
-      here bytes s (inl (is, o)) = unfinished s.given o
+      here : (bytes : List ℕ) (s : ServesAll bytes new r) → ((r ≡ Err ReadFault) × StaysOpen s.given) ⊎ Answers (nat_lt 65536 (length bytes)) (reads (take 65536 bytes)) r → IsUnanswered s.given
+      here bytes s (inl (is, o)) = record { few = o.few; unfinished = unfinished s.given o.unanswered }
       here bytes s (inr a) = absurd (refused_kind 65536 bytes ReadFault (refused_here 65536 bytes r ReadFault (is_refused 65536 bytes r a) e) refl)
 
-      go : (old : Option (List ℕ)) → Serves old new r → Gave old new IsUnfinished
+      go : (old : Option (List ℕ)) → Serves old new r → Gave old new IsUnanswered
       go None s = tt
       go (Some bytes) s = (s.given, s.taken, here bytes s s.answer)
 

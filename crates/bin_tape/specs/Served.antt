@@ -15,13 +15,18 @@ pub record CameTo (old new : Option (List ℕ)) (at : ℕ) (r : Reader) : Type 0
   pub shows : Shows (reads given) r
   pub unanswered : IsOpen (reads given)
 
+-- They bring no answer, and are so few that another is looked at.
+pub record StaysOpen (given : List ℕ) : Type 0 where
+  pub few : length given ≤ 65536
+  pub unanswered : IsOpen (reads given)
+
 -- What the source gave brings the answer of all its bytes, or a read failed before it had one.
 pub record ServesAll (bytes : List ℕ) (new : Option (List ℕ)) (r : Result (List (Option ℕ)) TapeFault) : Type 0 where
   pub given : List ℕ
   pub taken : Consumes (Some bytes) new given
   pub count : length given ≤ 65537
   pub prompt : (n : ℕ) → n + 512 ≤ length given → IsOpen (reads (take n given))
-  pub answer : ((r ≡ Err ReadFault) × IsOpen (reads given)) ⊎ Answers (nat_lt 65536 (length bytes)) (reads (take 65536 bytes)) r
+  pub answer : ((r ≡ Err ReadFault) × StaysOpen given) ⊎ Answers (nat_lt 65536 (length bytes)) (reads (take 65536 bytes)) r
 
 -- The same where the source tells its bytes.
 abbrev pub Serves : Option (List ℕ) → Option (List ℕ) → Result (List (Option ℕ)) TapeFault → Type 0

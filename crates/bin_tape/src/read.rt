@@ -3,9 +3,9 @@
 ghost use Rattle.std.specs.Prelude.{◌≡◌, ◌≤◌, List, Option, ℕ, length, take, nat_lt, IfOk, IfErr, IfSome, Ok, Err, false};
 ghost use Rattle.bin_tape.specs.Tape.{IsTape};
 ghost use Rattle.bin_tape.specs.Written.{IsWrittenTape};
-ghost use Rattle.bin_tape.specs.Refuses.{Refuses, IsUnfinished};
+ghost use Rattle.bin_tape.specs.Refuses.{Refuses};
 ghost use Rattle.streams.specs.Bytes.{Gave};
-ghost use Rattle.bin_tape.specs.Serving.{IsPrompt, failed_to_read};
+ghost use Rattle.bin_tape.specs.Serving.{IsUnanswered, IsPrompt, failed_to_read};
 ghost use Rattle.bin_tape.specs.Reading.{Answers, reads};
 ghost use Rattle.bin_tape.specs.Served.{Serves};
 ghost use Rattle.bin_tape.specs.declared.fault.TapeFault.{TapeFault};
@@ -96,8 +96,7 @@ fn read_source<R: ByteSource>(source: &mut R) -> Result<Image, TapeFault>
 }
 
 /// The image of the tape that a source gives, as [`read_tape`] reads it. It reads only while it
-/// needs frames: at most 512 bytes at a time, and in all no more than are looked at and one, which
-/// tells that another follows.
+/// needs frames: in all no more than are looked at and one, which tells that another follows.
 ///
 /// # Errors
 ///
@@ -122,9 +121,10 @@ pub fn read_from<R: ByteSource>(source: &mut R) -> Result<Image, TapeFault>
         Refuses 65536 bytes fault → R.mark source.new ≡ false → result ≡ Err fault) }
     // ReadFault comes exactly where a read failed,
     ensures failed { R.mark source.new ≡ failed_to_read result }
-    // and the bytes given before it bring no answer.
+    // and the bytes given before it bring no answer: no trailer has come, and they are no more than
+    // are looked at.
     ensures unanswered { result ≡ Err ReadFault →
-        Gave (R.remaining source.old) (R.remaining source.new) IsUnfinished }
+        Gave (R.remaining source.old) (R.remaining source.new) IsUnanswered }
     // At most 65,537 bytes are taken, and at most 511 past the one that brings the answer.
     ensures limit { Gave (R.remaining source.old) (R.remaining source.new)
         (λ given. length given ≤ 65537) }

@@ -1,8 +1,8 @@
 -- Lines that were read as details.
-use Rattle.std.proofs.Common.{◌≡◌, ℕ, ◌+◌, ◌-◌, ◌<◌, ◌≤◌, Bool, true, false, ◌&&◌, List, [], ◌∷◌, ◌++◌, length, take, drop, refl, ap, ◌∙◌, sym, arith, length-append}
+use Rattle.std.proofs.Common.{◌≡◌, ℕ, ◌+◌, ◌-◌, ◌<◌, true, false, ◌&&◌, List, [], ◌∷◌, ◌++◌, length, take, refl, ap, ◌∙◌, sym, arith, length-append}
 use Rattle.std.specs.Prelude.{slice_range}
 use Rattle.std.proofs.lemmas.List.{take_all, drop_at}
-use Rattle.wordset.specs.Words.{Words, nothing, between}
+use Rattle.wordset.specs.Words.{between}
 use Rattle.wordset.proofs.SetLemmas.{equal_words, all_everything}
 use Rattle.certificate.specs.declared.packed.Run.{Run}
 use Rattle.certificate.specs.declared.packed.Span.{Span}
@@ -14,7 +14,7 @@ use Rattle.certificate.specs.Line.{Line, IsLine, SameLine, line_text}
 use Rattle.certificate.specs.Order.{is_detail, is_end, Spells}
 use Rattle.certificate.proofs.OneLineLemmas.{line_one}
 use Rattle.certificate.specs.Detail.{said_detail}
-use Rattle.certificate.specs.Packed.{joined, set_of_runs, set_at, IsSpan, IsLaid}
+use Rattle.certificate.specs.Packed.{set_of_runs, IsSpan, IsLaid}
 use Rattle.certificate.proofs.PackedLemmas.{above_between, runs_past}
 
 pub says_more : (d : Detail) → is_detail (said_detail d) ≡ true

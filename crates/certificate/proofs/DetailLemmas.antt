@@ -1,5 +1,5 @@
 -- The cells and equations at the front of lines, added to a statement one by one.
-use Rattle.std.proofs.Common.{◌≡◌, ℕ, ◌+◌, ◌<◌, ◌≤◌, List, [], ◌∷◌, ◌++◌, false, drop, length, refl, ap, arith, append_assoc, append-nil, length-append}
+use Rattle.std.proofs.Common.{◌≡◌, ℕ, ◌≤◌, List, [], ◌∷◌, ◌++◌, false, drop, length, refl, append_assoc, append-nil}
 use Rattle.std.proofs.lemmas.List.{drop_all}
 use Rattle.facts.specs.Facts.{Equation}
 use Rattle.facts.specs.Statements.{TrackedCell, Statement}
@@ -16,19 +16,6 @@ cell_added s t ls = rw (append_assoc s.cells (t ∷ []) (cells_under ls)) refl
 pub equation_added : (s : Statement) (e : Equation) (ls : List Line) →
     with_details (record s { equations = s.equations ++ e ∷ [] }) ls ≡ with_details s (EquationIs e ∷ ls)
 equation_added s e ls = rw (append_assoc s.equations (e ∷ []) (equations_under ls)) refl
-
--- There is room for them.
-pub room_for_cell : (s whole : Statement) (t : TrackedCell) (ls all : List Line) → with_details s (CellIs t ∷ ls) ≡ with_details whole all →
-    length whole.cells + length (cells_under all) ≤ 64 → length s.cells < 64
-room_for_cell s whole t ls all e h =
-    let a : length (s.cells ++ t ∷ cells_under ls) ≡ length (whole.cells ++ cells_under all) = ap (λ (w : Statement). length w.cells) e in
-    omega (arith, length-append s.cells (t ∷ cells_under ls), length-append whole.cells (cells_under all))
-
-pub room_for_equation : (s whole : Statement) (q : Equation) (ls all : List Line) → with_details s (EquationIs q ∷ ls) ≡ with_details whole all →
-    length whole.equations + length (equations_under all) ≤ 32 → length s.equations < 32
-room_for_equation s whole q ls all e h =
-    let a : length (s.equations ++ q ∷ equations_under ls) ≡ length (whole.equations ++ equations_under all) = ap (λ (w : Statement). length w.equations) e in
-    omega (arith, length-append s.equations (q ∷ equations_under ls), length-append whole.equations (equations_under all))
 
 -- Nothing more.
 pub none_added : (s : Statement) → with_details s [] ≡ s

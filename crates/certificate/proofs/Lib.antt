@@ -21,6 +21,7 @@ pub mod FoundLemmas
 pub mod DetailLemmas
 pub mod ReaderLemmas
 pub mod SpelledLemmas
+pub mod ApartLemmas
 pub mod MakerLemmas
 pub mod AddedLemmas
 pub mod PutLemmas
@@ -28,3 +29,4 @@ pub mod FactTextLemmas
 pub mod ReadLemmas
 pub mod ServedLemmas
 pub mod DetailAddedLemmas
+pub mod AddingLemmas

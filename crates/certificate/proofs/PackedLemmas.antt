@@ -50,10 +50,10 @@ no_runs old set = record {
 pub runs_begin : (old new : List Run) (set : Words) (n : ℕ) → RunsSofar old new set n → Begins old new
 runs_begin old new set n s = (s.more, s.is)
 
-in_between : (low high v : ℕ) → low ≤ v → v ≤ high → between low high v ≡ true
+pub in_between : (low high v : ℕ) → low ≤ v → v ≤ high → between low high v ≡ true
 in_between low high v a b = grind (arith, nat_tests)
 
-below_between : (low high v : ℕ) → v < low → between low high v ≡ false
+pub below_between : (low high v : ℕ) → v < low → between low high v ≡ false
 below_between low high v a = grind (arith, nat_tests)
 
 pub above_between : (low high v : ℕ) → high < v → between low high v ≡ false
@@ -105,7 +105,7 @@ pub runs_past : (rs : List Run) (v : ℕ) → 4096 ≤ v → set_of_runs rs v �
 unfolding set_of_runs
 runs_past rs v h = ap (λ b. b && joined nothing rs v) (all_past v h)
 
-runs_within : (rs : List Run) (v : ℕ) → v < 4096 → joined nothing rs v ≡ set_of_runs rs v
+pub runs_within : (rs : List Run) (v : ℕ) → v < 4096 → joined nothing rs v ≡ set_of_runs rs v
 unfolding set_of_runs
 runs_within rs v h = sym (ap (λ b. b && joined nothing rs v) (all_everything v h))
 

@@ -1,5 +1,5 @@
 -- A certificate's text taken byte by byte.
-use Rattle.std.proofs.Common.{◌≡◌, ◌≢◌, ◌⊎◌, ℕ, ◌+◌, ◌<◌, ◌≤◌, ◌==◌, Bool, true, false, List, [], ◌∷◌, ◌++◌, length, Option, Some, None, Result, Ok, Err, refl, ap, ◌∙◌, sym, subst, inl, inr, arith, append_assoc, append-nil, length-append}
+use Rattle.std.proofs.Common.{◌≡◌, ◌⊎◌, ℕ, ◌+◌, ◌<◌, ◌≤◌, ◌==◌, Bool, true, false, List, [], ◌∷◌, ◌++◌, length, Option, Some, None, Result, Ok, Err, refl, ap, ◌∙◌, sym, subst, inl, inr, arith, append_assoc, append-nil, length-append}
 use Rattle.std.specs.Prelude.{not, ◌&&◌, ◌||◌, IfSome, IfOk, IfErr, MatchResult, take}
 use Rattle.std.proofs.lemmas.Bool.{true≢false, eqb-true, eq-eqb, cases_lt}
 use Rattle.std.proofs.Math.Seq.{take-append_seam}
@@ -16,6 +16,7 @@ use Rattle.certificate.specs.Progress.{Tracks, Declines}
 use Rattle.certificate.specs.Found.{newest_first, all_said, Keeps, IsWhole, unended}
 use Rattle.certificate.specs.Faults.{most_bytes, NoFeed, HasLine, HasFaultyLine, HasRest, IsCut, HasFault, AsksForMemory}
 use Rattle.certificate.proofs.LengthLemmas.{line_short}
+use Rattle.certificate.proofs.OneLineLemmas.{no_feed_both}
 use Rattle.certificate.proofs.GatherLemmas.{text_of_gathered}
 use Rattle.certificate.proofs.FormLemmas.{gathered_formed}
 use Rattle.certificate.proofs.FoundLemmas.{reversed_more, not_end}
@@ -51,7 +52,6 @@ kept_parts new_kept text line new_text new_line bytes new long p e a b c d h = r
   feed = tt;
   same = λ q. b;
   long = λ q. absurd (true≢false (sym q ∙ d));
-  full = λ q. absurd (true≢false (sym q ∙ d));
 }
 
 -- The whole lines that were seen were read.
@@ -69,7 +69,6 @@ nothing_seen p keeps progress line short = record {
     feed = tt;
     same = λ q. line;
     long = λ q. absurd (true≢false (sym q ∙ short));
-    full = λ q. absurd (true≢false (sym q ∙ short));
   };
 }
 
@@ -236,38 +235,39 @@ long_refused kept text line bytes old p long n is e h small number =
     g : Reached p text kept
     g = let z : HasRead (Some p) text kept = rw is at h.read in z
 
--- A byte more.
-no_feed : (xs : List ℕ) (b : ℕ) → NoFeed xs → b ≢ 10 → NoFeed (xs ++ b ∷ [])
-no_feed [] b h n = (n, tt)
-no_feed (x ∷ xs) b h n = (h.0, no_feed xs b h.1 n)
-
-pub pushed : {A : Type 0} (kept : KeptLines A) (text line new_line bytes : List ℕ) (progress : Option Progress) (long : Bool) (b : ℕ) → Parts text kept progress line long bytes →
-    b ≢ 10 → length line < 32768 → new_line ≡ line ++ b ∷ [] → Parts text kept progress new_line long (bytes ++ b ∷ [])
-pushed kept text line new_line bytes progress long b h n small e = record {
-  tail = h.tail ++ b ∷ [];
-  split = ap (λ (x : List ℕ). x ++ b ∷ []) h.split ∙ append_assoc text h.tail (b ∷ []);
+-- Bytes more of which none is a line feed.
+pub added : {A : Type 0} (kept : KeptLines A) (text line new_line bytes piece : List ℕ) (progress : Option Progress) (long : Bool) → Parts text kept progress line long bytes →
+    NoFeed piece → new_line ≡ line ++ piece → Parts text kept progress new_line long (bytes ++ piece)
+added kept text line new_line bytes piece progress long h n e = record {
+  tail = h.tail ++ piece;
+  split = ap (λ (x : List ℕ). x ++ piece) h.split ∙ append_assoc text h.tail piece;
   read = h.read;
-  feed = no_feed h.tail b h.feed n;
-  same = λ q. e ∙ ap (λ (x : List ℕ). x ++ b ∷ []) (h.same q);
-  long = λ q. absurd (let z : 32768 ≤ length line = h.full q in omega arith);
-  full = λ q. absurd (let z : 32768 ≤ length line = h.full q in omega arith);
+  feed = no_feed_both h.tail piece h.feed n;
+  same = λ q. e ∙ ap (λ (x : List ℕ). x ++ piece) (h.same q);
+  long = λ q. let z : 32768 < length h.tail = h.long q in omega (arith, length-append h.tail piece);
 }
 
-pub passed : {A : Type 0} (kept : KeptLines A) (text line bytes : List ℕ) (progress : Option Progress) (long : Bool) (b : ℕ) → Parts text kept progress line long bytes →
-    b ≢ 10 → 32768 ≤ length line → Parts text kept progress line true (bytes ++ b ∷ [])
-passed kept text line bytes progress long b h n full = record {
-  tail = h.tail ++ b ∷ [];
-  split = ap (λ (x : List ℕ). x ++ b ∷ []) h.split ∙ append_assoc text h.tail (b ∷ []);
+-- More than are kept.
+pub passed : {A : Type 0} (kept : KeptLines A) (text line new_line bytes piece : List ℕ) (progress : Option Progress) (long : Bool) → Parts text kept progress line long bytes →
+    NoFeed piece → (length line + length piece ≤ 32768 → ⊥) → Parts text kept progress new_line true (bytes ++ piece)
+passed kept text line new_line bytes piece progress long h n fits = record {
+  tail = h.tail ++ piece;
+  split = ap (λ (x : List ℕ). x ++ piece) h.split ∙ append_assoc text h.tail piece;
   read = h.read;
-  feed = no_feed h.tail b h.feed n;
+  feed = no_feed_both h.tail piece h.feed n;
   same = λ q. absurd (true≢false q);
   long = λ q. longer long refl;
-  full = λ q. full;
 }
   where
-    longer : (c : Bool) → long ≡ c → 32768 < length (h.tail ++ b ∷ [])
-    longer true q = let z : 32768 < length h.tail = h.long q in omega (arith, length-append h.tail (b ∷ []))
-    longer false q = let z : length line ≡ length h.tail = ap length (h.same q) in omega (arith, length-append h.tail (b ∷ []))
+    many : 32768 < length line + length piece
+    many = elim (cases_lt 32768 (length line + length piece)) [
+      | inl a ↦ a
+      | inr a ↦ absurd (fits (omega arith))
+    ]
+
+    longer : (c : Bool) → long ≡ c → 32768 < length (h.tail ++ piece)
+    longer true q = let z : 32768 < length h.tail = h.long q in omega (arith, length-append h.tail piece)
+    longer false q = let z : length line ≡ length h.tail = ap length (h.same q) in omega (arith, length-append h.tail piece)
 
 -- A byte past the most.
 pub one_too_many : {A : Type 0} (kept : KeptLines A) (text line bytes : List ℕ) (progress : Option Progress) (long : Bool) (b count : ℕ) → Parts text kept progress line long bytes →
@@ -296,12 +296,6 @@ one_too_many kept text line bytes progress long b count h most e =
 
 pub is_full : (n most : ℕ) → true ≡ (n == most) → most ≤ n
 is_full n most e = let z : n ≡ most = eqb-true n most (sym e) in omega arith
-
-pub has_place : (n most : ℕ) → false ≡ (n == most) → n ≤ most → n < most
-has_place n most e h = elim (cases_lt n most) [
-  | inl a ↦ a
-  | inr a ↦ absurd (let z : n ≡ most = omega arith in true≢false (sym (eq-eqb n most z) ∙ sym e))
-]
 
 -- The bytes end without the end, or with something after it.
 pub cut : {A : Type 0} (kept : KeptLines A) (text line bytes : List ℕ) (long : Bool) (o : Option Progress) (p : Progress) (n : ℕ) → o ≡ Some p → Parts text kept o line long bytes →

@@ -4,8 +4,8 @@ use Rattle.std.specs.Prelude.{replicate, IfOk, IfErr, IfSome, IsErrAnd, MatchRes
 use Rattle.std.specs.Io.KnownBytes.{Consumes, Keeps, IsAtEnd}
 use Rattle.std.proofs.KnownBytes.{Consumes-nil, Consumes-trans, Consumes-kept, Consumes-whole}
 use Rattle.std.proofs.lemmas.Bool.{true≢false}
-use Rattle.std.proofs.lemmas.List.{take_more, take-append-le, take-append-drop, length-replicate}
-use Rattle.std.proofs.Math.Seq.{take-append-add}
+use Rattle.std.proofs.lemmas.List.{take_all, take_more, length-drop, take-append-le, take-append-drop, length-replicate}
+use Rattle.std.proofs.Math.Seq.{take-append-add, take-add}
 use Rattle.streams.specs.Bytes.{Gave}
 use Rattle.certificate.specs.declared.Version.{Version}
 use Rattle.certificate.specs.declared.CertificateFault.{CertificateFault}
@@ -14,7 +14,7 @@ use Rattle.certificate.specs.declared.progress.Progress.{Progress}
 use Rattle.certificate.specs.declared.parser.Parser.{Parser}
 use Rattle.certificate.specs.declared.lines.KeptLines.{KeptLines}
 use Rattle.certificate.specs.Order.{any, is_end}
-use Rattle.certificate.specs.Faults.{most_bytes, NoFeed, IsText, HasRest, HasFault, HasLine, AsksForMemory}
+use Rattle.certificate.specs.Faults.{most_bytes, NoFeed, IsText, HasRest, HasFault, AsksForMemory}
 use Rattle.certificate.specs.Kept.{Kept, meaning}
 use Rattle.certificate.specs.Parser.{Parts, Seen, IsSmall, Refuses, IsParsed}
 use Rattle.certificate.specs.Serving.{Settles, IsUnanswered, is_read_fault, failed_to_read}
@@ -37,9 +37,18 @@ front_feed (x ∷ xs) ys f = (f.0, front_feed xs ys f.1)
 taken_feed : (n : ℕ) (xs : List ℕ) → NoFeed xs → NoFeed (take n xs)
 taken_feed n xs f = front_feed (take n xs) (drop n xs) (subst NoFeed (sym (take-append-drop n xs)) f)
 
--- One byte of a piece after those before it.
-pub piece_more : (before piece : List ℕ) (i : ℕ) → i < length piece → before ++ take (i + 1) piece ≡ before ++ take i piece ++ get_or piece i 0 ∷ []
-piece_more before piece i h = ap (λ (x : List ℕ). before ++ x) (take_more piece i 0 h) ∙ sym (append_assoc before (take i piece) (get_or piece i 0 ∷ []))
+-- The bytes that were taken, and those after them.
+pub piece_more : (before bytes : List ℕ) (i n : ℕ) → before ++ take i bytes ++ take n (drop i bytes) ≡ before ++ take (i + n) bytes
+piece_more before bytes i n = append_assoc before (take i bytes) (take n (drop i bytes)) ∙ ap (λ (x : List ℕ). before ++ x) (sym (take-add i n bytes))
+
+pub piece_rest : (before bytes : List ℕ) (i : ℕ) → before ++ take i bytes ++ drop i bytes ≡ before ++ bytes
+piece_rest before bytes i = append_assoc before (take i bytes) (drop i bytes) ∙ ap (λ (x : List ℕ). before ++ x) (take-append-drop i bytes)
+
+pub piece_length : (before piece : List ℕ) (n : ℕ) → n ≡ length before → n + length piece ≡ length (before ++ piece)
+piece_length before piece n e = ap (λ k. k + length piece) e ∙ sym (length-append before piece)
+
+pub piece_left : (bytes : List ℕ) (i : ℕ) → take (length bytes - i) (drop i bytes) ≡ drop i bytes
+piece_left bytes i = take_all (length bytes - i) (drop i bytes) (omega (arith, length-drop i bytes))
 
 pub piece_count : (before piece : List ℕ) (n i : ℕ) → i ≤ length piece → n ≡ length before → n + i ≡ length (before ++ take i piece)
 piece_count before piece n i h e = sym (length-append before (take i piece) ∙ (ap (λ k. length before + k) (length-take-le i piece h) ∙ ap (λ k. k + i) (sym e)))
@@ -60,26 +69,16 @@ asks_on xs ys zs e a = record {
   more = a.more;
 }
 
--- What is refused of a front of the piece is refused of it.
-pub piece_refused : (before piece : List ℕ) (i : ℕ) (fault : CertificateFault) → i < length piece → Refuses (before ++ take i piece ++ get_or piece i 0 ∷ []) fault →
-    Refuses (before ++ piece) fault
-piece_refused before piece i fault h refused = go refused
-  where
-    split : (before ++ take i piece ++ get_or piece i 0 ∷ []) ++ drop (i + 1) piece ≡ before ++ piece
-    split = ap (λ (x : List ℕ). x ++ drop (i + 1) piece) (sym (piece_more before piece i h)) ∙
-        (append_assoc before (take (i + 1) piece) (drop (i + 1) piece) ∙ ap (λ (x : List ℕ). before ++ x) (take-append-drop (i + 1) piece))
-
-    whole : (rest : List ℕ) → (before ++ take i piece ++ get_or piece i 0 ∷ []) ++ (drop (i + 1) piece ++ rest) ≡ before ++ piece ++ rest
-    whole rest = sym (append_assoc (before ++ take i piece ++ get_or piece i 0 ∷ []) (drop (i + 1) piece) rest) ∙ ap (λ (x : List ℕ). x ++ rest) split
-
-    go : Refuses (before ++ take i piece ++ get_or piece i 0 ∷ []) fault → Refuses (before ++ piece) fault
-    go (inl e) = inl (e.0, asks_on _ (drop (i + 1) piece) _ split e.1)
-    go (inr settled) = inr (λ rest. subst (λ (x : List ℕ). HasFault x fault) (whole rest) (settled (drop (i + 1) piece ++ rest)))
+-- What a front refuses the whole refuses.
+pub refused_on : (xs ys zs : List ℕ) (fault : CertificateFault) → xs ++ ys ≡ zs → Refuses xs fault → Refuses zs fault
+refused_on xs ys zs fault e (inl asks) = inl (asks.0, asks_on xs ys zs e asks.1)
+refused_on xs ys zs fault e (inr settled) = inr (λ rest.
+    subst (λ (x : List ℕ). HasFault x fault) (sym (append_assoc xs ys rest) ∙ ap (λ (x : List ℕ). x ++ rest) e) (settled (ys ++ rest)))
 
 -- What may follow the bytes that the parser took.
 module _ {A : Type 0} (kept : KeptLines A) (text line bytes : List ℕ) (long : Bool) where
   -- Bytes with no line feed go on with the line.
-  goes_on : (o : Option Progress) → Parts text kept o line long bytes → (more : List ℕ) → NoFeed more → NoFeed (bytes ++ more) ⊎ HasRest (bytes ++ more)
+  pub goes_on : (o : Option Progress) → Parts text kept o line long bytes → (more : List ℕ) → NoFeed more → NoFeed (bytes ++ more) ⊎ HasRest (bytes ++ more)
   goes_on None h more feed =
       let none : text ≡ [] = h.read.0 in
       let same : bytes ≡ h.tail = h.split ∙ ap (λ (x : List ℕ). x ++ h.tail) none in
@@ -364,3 +363,27 @@ module _ (old new : Option (List ℕ)) where
       go (Some bytes) (Err f) (inl e) t = λ fault g. inl e
       go (Some bytes) (Err f) (inr (inl e)) t = λ fault g. inr (inl e)
       go (Some bytes) (Err f) (inr (inr h)) t = λ fault g. inr (inr (one_fault bytes f fault h g))
+
+-- One byte more that is no line feed.
+pub no_feed_more : (bytes : List ℕ) (n : ℕ) → n < length bytes → NoFeed (take n bytes) → (get_or bytes n 0 ≡ 10 → ⊥) → NoFeed (take (n + 1) bytes)
+no_feed_more bytes n h front ne = rw (take_more bytes n 0 h) (both_feed (take n bytes) (get_or bytes n 0 ∷ []) front (ne, tt))
+
+-- A line after what was taken, with its line feed.
+pub with_feed : (before bytes : List ℕ) (n : ℕ) → n < length bytes → get_or bytes n 0 ≡ 10 → before ++ take n bytes ++ 10 ∷ [] ≡ before ++ take (n + 1) bytes
+with_feed before bytes n h e = append_assoc before (take n bytes) (10 ∷ []) ∙
+    ap (λ (x : List ℕ). before ++ x) (ap (λ (b : ℕ). take n bytes ++ b ∷ []) (sym e) ∙ sym (take_more bytes n 0 h))
+
+-- More bytes come than are read, and none of them is a line feed.
+pub too_many : {A : Type 0} (kept : KeptLines A) (text line bytes piece : List ℕ) (progress : Option Progress) (long : Bool) (k : ℕ) → Parts text kept progress line long bytes →
+    NoFeed piece → length bytes + k ≡ most_bytes → k < length piece → Refuses (bytes ++ piece) faults.TooMany
+too_many kept text line bytes piece progress long k h feed most more = inr (λ rest. inr (
+  (let a : length (bytes ++ piece ++ rest) ≡ length (bytes ++ piece) + length rest = length-append (bytes ++ piece) rest in
+      let b : length (bytes ++ piece) ≡ length bytes + length piece = length-append bytes piece in omega arith),
+  subst (λ (x : List ℕ). NoFeed x ⊎ HasRest x) (sym (front rest)) (goes_on kept text line bytes long progress h (take k piece) (taken_feed k piece feed)),
+))
+  where
+    front : (rest : List ℕ) → take most_bytes (bytes ++ piece ++ rest) ≡ bytes ++ take k piece
+    front rest =
+        ap (λ (x : List ℕ). take most_bytes x) (append_assoc bytes piece rest) ∙
+        (ap (λ i. take i (bytes ++ (piece ++ rest))) (sym most) ∙
+        (take-append-add bytes (piece ++ rest) k ∙ ap (λ (x : List ℕ). bytes ++ x) (take-append-le k piece rest (omega arith))))

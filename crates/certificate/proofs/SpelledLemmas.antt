@@ -42,6 +42,9 @@ joined a b c s t p q = record {
 pub pushed : (xs ys : List ℕ) (b : ℕ) → ys ≡ xs ++ b ∷ [] → Adds xs ys (b ∷ [])
 pushed xs ys b e = record { is = ap (λ (x : List ℕ). take 32769 x) e }
 
+pub added : (xs ys text : List ℕ) → ys ≡ xs ++ text → Adds xs ys text
+added xs ys text e = record { is = ap (λ (x : List ℕ). take 32769 x) e }
+
 pub dropped : (xs : List ℕ) (b : ℕ) → 32769 ≤ length xs → Adds xs xs (b ∷ [])
 dropped xs b h = record { is = sym (take-append-le 32769 xs (b ∷ []) h) }
 

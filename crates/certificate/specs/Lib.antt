@@ -19,3 +19,4 @@ pub mod Kept
 pub mod Exact
 pub mod Spelled
 pub mod Made
+pub mod Adding

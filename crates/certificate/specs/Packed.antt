@@ -1,5 +1,5 @@
 -- Packed lines, and what they say.
-use Rattle.std.specs.Prelude.{◌≡◌, ℕ, ◌+◌, ◌≤◌, List, [], ◌∷◌, ◌++◌, length, map, slice_range}
+use Rattle.std.specs.Prelude.{◌≡◌, ℕ, ◌+◌, ◌<◌, ◌≤◌, List, [], ◌∷◌, ◌++◌, length, map, slice_range}
 use Rattle.wordset.specs.Words.{Words, all_words, nothing, between, union, meet}
 use Rattle.wordset.specs.Links.{links_of}
 use Rattle.facts.specs.Meaning.{offsets_of, equation_of}
@@ -25,6 +25,11 @@ joined set (r ∷ rs) = joined (union set (between r.first r.last)) rs
 -- The set of which these are the runs; none of its words is past the last one that there is.
 unfoldable pub set_of_runs : List Run → Words
 set_of_runs runs = meet all_words (joined nothing runs)
+
+-- Each of the runs has a word, the first one from n on, and each further one past a word after those of the run before.
+abbrev pub StandApart : ℕ → List Run → Type 0
+StandApart n [] = Unit {0}
+StandApart n (r ∷ rs) = (n ≤ r.first) × (r.first ≤ r.last) × (r.last < 4096) × StandApart (r.last + 2) rs
 
 -- The set of which so many runs from a place on are.
 abbrev pub set_at : List Run → ℕ → ℕ → Words

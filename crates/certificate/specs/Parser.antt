@@ -35,7 +35,6 @@ pub record Parts {A : Type 0} (text : List ℕ) (kept : KeptLines A) (progress :
   pub feed : NoFeed tail
   pub same : is_long ≡ false → line ≡ tail
   pub long : is_long ≡ true → 32768 < length tail
-  pub full : is_long ≡ true → 32768 ≤ length line
 
 -- The same, whatever the text of the whole lines is.
 pub record Seen {A : Type 0} (p : Parser A) (bytes : List ℕ) : Type 0 where

@@ -3,7 +3,6 @@
 ghost use Rattle.std.specs.Prelude.{ℕ, ◌≡◌, ◌+◌, ◌<◌, ◌≤◌, ◌^◌, List, [], ◌∷◌, ◌++◌, length, map, drop, OnOk, OnErr, Some, IfSome, is_some, true, false};
 ghost use Rattle.std.specs.Prelude.{is_ok, if◌then◌else◌};
 ghost use Rattle.facts.specs.Meaning.{statement_of, offsets_of, tracked_of, equation_of, meaning as fact_meaning};
-ghost use Rattle.facts.specs.Statements.{fact_of};
 ghost use Rattle.facts.specs.Changes.{with_offsets};
 ghost use Rattle.wordset.specs.Words.{everything};
 ghost use Rattle.certificate.specs.Spelling.{RoutineLine as SaidRoutine};
@@ -11,17 +10,17 @@ ghost use Rattle.certificate.specs.Reading.{RiseFrom};
 ghost use Rattle.certificate.specs.Line.{Line as SaidLine, CellIs, EquationIs};
 ghost use Rattle.certificate.specs.Order.{is_detail, is_end};
 ghost use Rattle.certificate.specs.Detail.{said_detail};
-ghost use Rattle.certificate.specs.Gathered.{cells_under, equations_under, stated};
-ghost use Rattle.certificate.specs.Meaning.{said, registers_of};
+ghost use Rattle.certificate.specs.Adding.{HasRoomUnder};
+ghost use Rattle.certificate.specs.Meaning.{said};
 ghost use Rattle.certificate.specs.Packed.{Begins, said_lines};
-ghost use Rattle.certificate.specs.Found.{from_place, all_said, Keeps, unended, Extends, HasMore, IsIndexed, FitUnder, FitUnderFirst, with_details, IsRoutineOf, begins_routine, begins_fact, begins_exit, first_fact, first_exit, fact_statement, exit_statement, SaysFirst};
+ghost use Rattle.certificate.specs.Found.{from_place, all_said, Keeps, unended, Extends, HasMore, IsIndexed, FitUnderFirst, with_details, IsRoutineOf, begins_routine, begins_fact, begins_exit, first_fact, first_exit, fact_statement, exit_statement, SaysFirst};
 
 use crate::Routine;
 use crate::details::Detail;
-use crate::line::{Line, Registers};
+use crate::line::Line;
 use crate::packed::PackedLines;
 use crate::progress::{is_detail, is_end, place_of};
-use facts::{Equation, Fact, Offsets, TrackedCell};
+use facts::{Equation, Fact, TrackedCell};
 use std::alloc::{AllocError, Allocator};
 
 /// Lines in their order. Those that aren't details of another one have rising places, so that they
@@ -187,43 +186,16 @@ fn push_equations<A: Allocator>(
 
 /// Adds the cells and equations from a line on to a fact, up to the first line that is neither.
 fn add_details<A: Allocator>(fact: &mut Fact, lines: &PackedLines<A>, start: usize)
-    requires cells { length (statement_of fact.old).cells +
-        length (cells_under (drop start (said_lines lines.now))) ≤ 64 }
-    requires equations { length (statement_of fact.old).equations +
-        length (equations_under (drop start (said_lines lines.now))) ≤ 32 }
+    requires room { HasRoomUnder (statement_of fact.old) (drop start (said_lines lines.now)) }
     ensures statement { statement_of fact.new ≡
         with_details (statement_of fact.old) (drop start (said_lines lines.now)) }
     ensures offsets { offsets_of fact.new.offsets ≡ offsets_of fact.old.offsets }
 {
     for at in start..lines.len() {
-        match lines.line(at) {
-            Line::Cell(tracked) => fact.track(tracked.cell, tracked.set),
-            Line::Equation(equation) => fact.relate(equation),
-            _ => return,
+        if !lines.add_to(at, fact) {
+            return;
         }
     }
-}
-
-/// Makes a fact say what registers, offsets and the details from a line on say.
-fn fill<A: Allocator>(
-    fact: &mut Fact,
-    registers: &Registers,
-    offsets: Offsets,
-    lines: &PackedLines<A>,
-    start: usize,
-)
-    requires fit { FitUnder (drop start (said_lines lines.now)) }
-    ensures fact { fact_meaning fact.new ≡
-        fact_of (stated (registers_of registers.now) (drop start (said_lines lines.now))) (offsets_of offsets) }
-    ensures statement { statement_of fact.new ≡
-        stated (registers_of registers.now) (drop start (said_lines lines.now)) }
-{
-    fact.forget();
-    fact.set_accumulator(registers.accumulator);
-    fact.set_mq(registers.mq);
-    fact.set_link(registers.link);
-    fact.set_offsets(offsets);
-    add_details(fact, lines, start);
 }
 
 /// What the line at a place says of a routine, if there is one and it does.
@@ -235,14 +207,7 @@ pub fn first_routine<A: Allocator>(lines: &PackedLines<A>, start: usize) -> Opti
     if start >= lines.len() {
         return None;
     }
-    match lines.line(start) {
-        Line::Routine(routine) => Some(Routine {
-            rank: routine.rank,
-            sites: routine.sites,
-            writes: routine.writes,
-        }),
-        _ => None,
-    }
+    lines.routine(start)
 }
 
 /// Whether the line at a place is a fact's, which the lent fact then says.
@@ -257,13 +222,11 @@ pub fn first_fact<A: Allocator>(lines: &PackedLines<A>, start: usize, fact: &mut
     if start >= lines.len() {
         return false;
     }
-    match lines.line(start) {
-        Line::Fact(_, registers, offsets) => {
-            fill(fact, &registers, offsets, lines, start + 1);
-            true
-        }
-        _ => false,
+    if !lines.begin_fact(start, fact) {
+        return false;
     }
+    add_details(fact, lines, start + 1);
+    true
 }
 
 /// Whether the line at a place is an exit's, which the lent fact then says, with all offsets.
@@ -281,11 +244,9 @@ pub fn first_exit<A: Allocator>(lines: &PackedLines<A>, start: usize, exit: &mut
     if start >= lines.len() {
         return false;
     }
-    match lines.line(start) {
-        Line::Exit(_, _, registers) => {
-            fill(exit, &registers, Offsets::all(), lines, start + 1);
-            true
-        }
-        _ => false,
+    if !lines.begin_exit(start, exit) {
+        return false;
     }
+    add_details(exit, lines, start + 1);
+    true
 }

@@ -1,17 +1,25 @@
 //! Lines packed: each set by its runs of words, and the runs of all sets in one list.
 
-ghost use Rattle.std.specs.Prelude.{◌≡◌, ◌+◌, ◌<◌, ◌≤◌, [], ◌∷◌, ◌++◌, length, take, drop, false, IfOk, OnOk, OnErr};
+ghost use Rattle.std.specs.Prelude.{ℕ, ◌≡◌, ◌+◌, ◌<◌, ◌≤◌, List, [], ◌∷◌, ◌++◌, length, take, drop, true, false, is_some, IfOk, IfSome, OnOk, OnErr};
+ghost use Rattle.facts.specs.Meaning.{statement_of, offsets_of};
 ghost use Rattle.wordset.specs.Lanes.{words};
+ghost use Rattle.certificate.specs.Spelling.{RoutineLine as SaidRoutine};
 ghost use Rattle.certificate.specs.Line.{RoutineIs};
+ghost use Rattle.certificate.specs.Order.{is_detail};
+ghost use Rattle.certificate.specs.Gathered.{stated};
+ghost use Rattle.certificate.specs.Found.{with_details, IsRoutineOf, SaysFirst, begins_routine, begins_fact, begins_exit};
+ghost use Rattle.certificate.specs.Adding.{with_line, HasRoomFor, HasRoomUnder, IsFactLine, IsExitLine, IsRoutineLine, SaysFactAt, SaysExitAt};
 ghost use Rattle.certificate.specs.Meaning.{said, registers_of, routine_of};
 ghost use Rattle.certificate.specs.Spelled.{IsLastOf};
 ghost use Rattle.certificate.specs.Detail.{said_detail};
 ghost use Rattle.wordset.specs.Words.{between};
-ghost use Rattle.certificate.specs.Packed.{Begins, set_of_runs, set_at, one_at, other_at, registers_at, said_at, said_lines, IsSpan, AreWithin, LiesWithin, IsLaid, AreLaid, IsPacked};
+ghost use Rattle.certificate.specs.declared.packed.Run.{Run};
+ghost use Rattle.certificate.specs.Packed.{Begins, set_of_runs, set_at, one_at, other_at, registers_at, said_at, said_lines, StandApart, IsSpan, AreWithin, LiesWithin, IsLaid, AreLaid, IsPacked};
 
+use crate::Routine;
 use crate::details::Detail;
 use crate::line::{Line, Registers, RoutineLine};
-use facts::{Equation, Offsets, TrackedCell};
+use facts::{Equation, Fact, Offsets, TrackedCell};
 use std::alloc::{AllocError, Allocator};
 use std::marker::Model;
 use word12::Word;
@@ -64,6 +72,15 @@ pub enum PackedLine {
     Cell(Word, Span),
     Equation(Equation),
     End,
+}
+
+impl PackedLine {
+    /// Whether it says more of the line before.
+    pub fn is_detail(&self) -> bool
+        ensures { (runs : List Run) → result ≡ is_detail (said_at runs self.now) }
+    {
+        matches!(self, PackedLine::Cell(_, _) | PackedLine::Equation(_))
+    }
 }
 
 /// Lines in their order, packed. The runs of all their sets lie in one list.
@@ -246,8 +263,35 @@ fn pack<A: Allocator>(runs: &mut Vec<Run, A>, line: &Line) -> Result<PackedLine,
     }
 }
 
-/// The set of which these are runs.
-fn set_of(runs: &[Run]) -> WordSet
+/// Whether each of these runs has a word, and between it and the one before lies another word.
+pub fn stand_apart(runs: &[Run]) -> bool
+    ensures { result ≡ true → StandApart 0 runs.now }
+{
+    let mut next = 0;
+    for run in runs {
+        let first = run.first.index();
+        let last = run.last.index();
+        if first < next || last < first {
+            return false;
+        }
+        next = last + 2;
+    }
+    true
+}
+
+/// The set of which these are runs. Most sets have one.
+pub fn set_of(runs: &[Run]) -> WordSet
+    ensures { words result ≡ set_of_runs runs.now }
+{
+    if runs.len() == 1 {
+        return WordSet::range(runs[0].first, runs[0].last);
+    }
+    set_of_many(runs)
+}
+
+/// The same of any count of runs.
+#[inline(never)]
+fn set_of_many(runs: &[Run]) -> WordSet
     ensures { words result ≡ set_of_runs runs.now }
 {
     let mut set = WordSet::empty();
@@ -282,43 +326,92 @@ fn other_in(runs: &[Run], sets: Spans) -> WordSet
     set_in(runs, first, usize::from(sets.other))
 }
 
-/// The registers of which the runs lie here.
-#[inline(always)]
-fn registers_in(runs: &[Run], packed: &PackedRegisters) -> Registers
-    requires { AreWithin (length runs.now) packed.now.sets }
-    ensures { registers_of result ≡ registers_at runs.now packed.now }
+/// The lent fact says what these registers and offsets say, and nothing of any cell.
+#[inline(never)]
+fn begin(runs: &[Run], registers: &PackedRegisters, offsets: Offsets, fact: &mut Fact)
+    requires { AreWithin (length runs.now) registers.now.sets }
+    ensures statement { statement_of fact.new ≡ stated (registers_at runs.now registers.now) [] }
+    ensures offsets { offsets_of fact.new.offsets ≡ offsets_of offsets }
 {
-    Registers {
-        accumulator: one_in(runs, packed.sets),
-        mq: other_in(runs, packed.sets),
-        link: packed.link,
+    fact.forget();
+    fact.set_accumulator(one_in(runs, registers.sets));
+    fact.set_mq(other_in(runs, registers.sets));
+    fact.set_link(registers.link);
+    fact.set_offsets(offsets);
+}
+
+/// Whether a line is a cell or an equation, which the lent fact then says too.
+fn add(runs: &[Run], packed: &PackedLine, fact: &mut Fact) -> bool
+    requires within { LiesWithin (length runs.now) packed.now }
+    requires room { HasRoomFor (statement_of fact.old) (said_at runs.now packed.now) }
+    ensures detail { result ≡ is_detail (said_at runs.now packed.now) }
+    ensures statement { statement_of fact.new ≡
+        with_line (statement_of fact.old) (said_at runs.now packed.now) }
+    ensures offsets { offsets_of fact.new.offsets ≡ offsets_of fact.old.offsets }
+{
+    match packed {
+        PackedLine::Cell(cell, span) => {
+            let set = set_in(runs, span.first as usize, usize::from(span.count));
+            fact.track(*cell, set);
+            true
+        }
+        PackedLine::Equation(equation) => {
+            fact.relate(*equation);
+            true
+        }
+        _ => false,
     }
 }
 
-/// The line that was packed so.
-fn unpack(runs: &[Run], packed: &PackedLine) -> Line
+/// Whether a line is a fact's, which the lent one then says but for its details.
+fn begin_fact(runs: &[Run], packed: &PackedLine, fact: &mut Fact) -> bool
     requires { LiesWithin (length runs.now) packed.now }
-    ensures { said result ≡ said_at runs.now packed.now }
+    ensures there { result ≡ begins_fact (said_at runs.now packed.now ∷ []) }
+    ensures says { result ≡ true → IsFactLine (said_at runs.now packed.now)
+        (statement_of fact.new) (offsets_of fact.new.offsets) }
+    ensures kept { result ≡ false → fact.new ≡ fact.old }
 {
     match packed {
-        PackedLine::Routine(routine) => Line::Routine(RoutineLine {
-            entry: routine.entry,
+        PackedLine::Fact(_, registers, offsets) => {
+            begin(runs, registers, *offsets, fact);
+            true
+        }
+        _ => false,
+    }
+}
+
+/// Whether a line is an exit's, which the lent fact then says but for its details.
+fn begin_exit(runs: &[Run], packed: &PackedLine, exit: &mut Fact) -> bool
+    requires { LiesWithin (length runs.now) packed.now }
+    ensures there { result ≡ begins_exit (said_at runs.now packed.now ∷ []) }
+    ensures says { result ≡ true →
+        IsExitLine (said_at runs.now packed.now) (statement_of exit.new) }
+    ensures offsets { result ≡ true → (o : ℕ) → o < 8 → offsets_of exit.new.offsets o ≡ true }
+    ensures kept { result ≡ false → exit.new ≡ exit.old }
+{
+    match packed {
+        PackedLine::Exit(_, _, registers) => {
+            begin(runs, registers, Offsets::all(), exit);
+            true
+        }
+        _ => false,
+    }
+}
+
+/// What a line says of a routine, if it does.
+#[inline(never)]
+fn routine_of(runs: &[Run], packed: &PackedLine) -> Option<Routine>
+    requires { LiesWithin (length runs.now) packed.now }
+    ensures there { is_some result ≡ begins_routine (said_at runs.now packed.now ∷ []) }
+    ensures says { IfSome result (λ r. IsRoutineLine (said_at runs.now packed.now) r) }
+{
+    match packed {
+        PackedLine::Routine(routine) => Some(Routine {
             rank: usize::from(routine.rank),
             sites: one_in(runs, routine.sets),
             writes: other_in(runs, routine.sets),
         }),
-        PackedLine::Fact(at, registers, offsets) => {
-            Line::Fact(*at, registers_in(runs, registers), *offsets)
-        }
-        PackedLine::Exit(entry, offset, registers) => {
-            Line::Exit(*entry, *offset, registers_in(runs, registers))
-        }
-        PackedLine::Cell(cell, span) => Line::Cell(TrackedCell {
-            cell: *cell,
-            set: set_in(runs, span.first as usize, usize::from(span.count)),
-        }),
-        PackedLine::Equation(equation) => Line::Equation(*equation),
-        PackedLine::End => Line::End,
+        _ => None,
     }
 }
 
@@ -342,13 +435,71 @@ impl<A: Allocator> PackedLines<A> {
         self.list.len()
     }
 
-    /// The line at a place.
-    pub fn line(&self, at: usize) -> Line
-        requires { at < length (said_lines self.now) }
-        ensures { drop at (said_lines self.now) ≡
-            said result ∷ drop (at + 1) (said_lines self.now) }
+    /// The runs of all sets.
+    pub fn runs(&self) -> &[Run]
+        ensures { result.now ≡ self.now.runs }
     {
-        unpack(&self.runs, &self.list[at])
+        &self.runs
+    }
+
+    /// The line at a place as it's packed.
+    pub fn packed(&self, at: usize) -> &PackedLine
+        requires { at < length (said_lines self.now) }
+        ensures there { drop at (said_lines self.now) ≡
+            said_at self.now.runs result.now ∷ drop (at + 1) (said_lines self.now) }
+        ensures within { LiesWithin (length self.now.runs) result.now }
+    {
+        &self.list[at]
+    }
+
+    /// What the line at a place says of a routine, if it does.
+    pub fn routine(&self, at: usize) -> Option<Routine>
+        requires { at < length (said_lines self.now) }
+        ensures there { is_some result ≡ begins_routine (drop at (said_lines self.now)) }
+        ensures says { (rs : List SaidRoutine) (e : ℕ) →
+            SaysFirst rs e (drop at (said_lines self.now)) →
+            IfSome result (λ r. IsRoutineOf rs e r) }
+    {
+        routine_of(&self.runs, &self.list[at])
+    }
+
+    /// Whether the line at a place is a fact's, which the lent one then says but for its details.
+    pub fn begin_fact(&self, at: usize, fact: &mut Fact) -> bool
+        requires { at < length (said_lines self.now) }
+        ensures there { result ≡ begins_fact (drop at (said_lines self.now)) }
+        ensures says { result ≡ true → SaysFactAt at (said_lines self.now)
+            (statement_of fact.new) (offsets_of fact.new.offsets) }
+        ensures kept { result ≡ false → fact.new ≡ fact.old }
+    {
+        begin_fact(&self.runs, &self.list[at], fact)
+    }
+
+    /// Whether the line at a place is an exit's, which the lent fact then says but for its details, with
+    /// all offsets.
+    pub fn begin_exit(&self, at: usize, exit: &mut Fact) -> bool
+        requires { at < length (said_lines self.now) }
+        ensures there { result ≡ begins_exit (drop at (said_lines self.now)) }
+        ensures says { result ≡ true →
+            SaysExitAt at (said_lines self.now) (statement_of exit.new) }
+        ensures offsets { result ≡ true → (o : ℕ) → o < 8 →
+            offsets_of exit.new.offsets o ≡ true }
+        ensures kept { result ≡ false → exit.new ≡ exit.old }
+    {
+        begin_exit(&self.runs, &self.list[at], exit)
+    }
+
+    /// Whether the line at a place is a cell or an equation, which the lent fact then says too.
+    pub fn add_to(&self, at: usize, fact: &mut Fact) -> bool
+        requires place { at < length (said_lines self.now) }
+        requires room { HasRoomUnder (statement_of fact.old) (drop at (said_lines self.now)) }
+        ensures more { result ≡ true →
+            with_details (statement_of fact.new) (drop (at + 1) (said_lines self.now)) ≡
+            with_details (statement_of fact.old) (drop at (said_lines self.now)) }
+        ensures done { result ≡ false → statement_of fact.new ≡
+            with_details (statement_of fact.old) (drop at (said_lines self.now)) }
+        ensures offsets { offsets_of fact.new.offsets ≡ offsets_of fact.old.offsets }
+    {
+        add(&self.runs, &self.list[at], fact)
     }
 
     /// Adds a line, or leaves all as it is.

@@ -1,10 +1,10 @@
-//! The text of a certificate, a byte at a time.
+//! The text of a certificate, a line at a time.
 
-ghost use Rattle.std.specs.Prelude.{ℕ, ◌≡◌, ◌+◌, ◌<◌, ◌≤◌, ◌⊎◌, ◌^◌, List, [], ◌∷◌, ◌++◌, length, IfOk, IfErr, MatchResult, Some, None};
+ghost use Rattle.std.specs.Prelude.{ℕ, ◌≡◌, ◌+◌, ◌<◌, ◌≤◌, ◌⊎◌, ◌^◌, List, [], ◌∷◌, ◌++◌, length, take, get_or, IfOk, IfErr, MatchResult, Some, None};
 ghost use Rattle.std.specs.Prelude.{IfSome, false};
 ghost use Rattle.certificate.specs.declared.Version.{Version as Spelled};
 ghost use Rattle.certificate.specs.Spelling.{version_text};
-ghost use Rattle.certificate.specs.Faults.{most_bytes, HasFault};
+ghost use Rattle.certificate.specs.Faults.{most_bytes, NoFeed, HasFault};
 ghost use Rattle.certificate.specs.Detail.{said_detail};
 ghost use Rattle.certificate.specs.Order.{Spells};
 ghost use Rattle.certificate.specs.Parser.{WasRead, Seen, IsSmall, Refuses, IsParsed};
@@ -45,6 +45,22 @@ fn version_of(line: &[u8]) -> Option<Version>
         return Some(Version::Two);
     }
     None
+}
+
+/// How many bytes come before the first line feed, or all of them where there is none.
+fn line_len(bytes: &[u8]) -> usize
+    ensures fits { result ≤ length bytes.now }
+    ensures front { NoFeed (take result bytes.now) }
+    ensures feed { result < length bytes.now → get_or bytes.now result 0 ≡ 10 }
+{
+    let mut end = 0;
+    while end < bytes.len() {
+        if bytes[end] == b'\n' {
+            return end;
+        }
+        end += 1;
+    }
+    end
 }
 
 impl<A: Allocator + Copy> Parser<A> {
@@ -167,31 +183,70 @@ impl<A: Allocator> Parser<A> {
         }
     }
 
-    /// Takes the next byte.
-    pub fn take(&mut self, byte: u8) -> Result<(), CertificateFault>
+    /// Takes bytes of which none is a line feed.
+    fn add(&mut self, bytes: &[u8]) -> Result<(), CertificateFault>
+        requires small { IsSmall self.old }
+        requires feed { NoFeed bytes.now }
+        ensures small { IsSmall self.new }
+        ensures count { IfOk result (λ u. self.new.count ≡ self.old.count + length bytes.now) }
+        ensures seen { (before : List ℕ) → Seen self.old before → self.old.count ≡ length before →
+            MatchResult result (λ u. Seen self.new (before ++ bytes.now))
+            (Refuses (before ++ bytes.now)) }
+    {
+        if bytes.len() > MOST_BYTES - self.count {
+            return Err(CertificateFault::TooMany);
+        }
+        self.count += bytes.len();
+        match self.line.try_extend_from_slice(bytes) {
+            Ok(()) => Ok(()),
+            Err(_) => {
+                self.is_long = true;
+                Ok(())
+            }
+        }
+    }
+
+    /// Takes a line feed.
+    fn end(&mut self) -> Result<(), CertificateFault>
         requires { IsSmall self.old }
         ensures small { IsSmall self.new }
         ensures count { IfOk result (λ u. self.new.count ≡ self.old.count + 1) }
         ensures seen { (bytes : List ℕ) → Seen self.old bytes → self.old.count ≡ length bytes →
-            MatchResult result (λ u. Seen self.new (bytes ++ byte ∷ []))
-            (Refuses (bytes ++ byte ∷ [])) }
+            MatchResult result (λ u. Seen self.new (bytes ++ 10 ∷ []))
+            (Refuses (bytes ++ 10 ∷ [])) }
     {
         if self.count == MOST_BYTES {
             return Err(CertificateFault::TooMany);
         }
         self.count += 1;
-        if byte == b'\n' {
-            return match self.progress {
-                None => self.end_first(),
-                Some(progress) => self.end_next(progress),
-            };
+        match self.progress {
+            None => self.end_first(),
+            Some(progress) => self.end_next(progress),
         }
-        if self.line.is_full() {
-            self.is_long = true;
-        } else {
-            self.line.push(byte);
+    }
+
+    /// Takes the bytes up to a line feed and with it, or else all of them, and tells how many.
+    fn take(&mut self, bytes: &[u8]) -> Result<usize, CertificateFault>
+        requires { IsSmall self.old }
+        ensures small { IsSmall self.new }
+        ensures within { IfOk result (λ n. n ≤ length bytes.now) }
+        ensures some { IfOk result (λ n. 0 < length bytes.now → 0 < n) }
+        ensures count { IfOk result (λ n. self.new.count ≡ self.old.count + n) }
+        ensures seen { (before : List ℕ) → Seen self.old before → self.old.count ≡ length before →
+            MatchResult result (λ n. Seen self.new (before ++ take n bytes.now))
+            (Refuses (before ++ bytes.now)) }
+    {
+        let end = line_len(bytes);
+        if let Err(fault) = self.add(&bytes[..end]) {
+            return Err(fault);
         }
-        Ok(())
+        if end == bytes.len() {
+            return Ok(end);
+        }
+        if let Err(fault) = self.end() {
+            return Err(fault);
+        }
+        Ok(end + 1)
     }
 
     /// Takes these bytes, up to the one that brings a fault.
@@ -203,9 +258,11 @@ impl<A: Allocator> Parser<A> {
             MatchResult result (λ u. Seen self.new (before ++ bytes.now))
             (Refuses (before ++ bytes.now)) }
     {
-        for byte in bytes {
-            if let Err(fault) = self.take(*byte) {
-                return Err(fault);
+        let mut at = 0;
+        while at < bytes.len() {
+            match self.take(&bytes[at..]) {
+                Ok(count) => at += count,
+                Err(fault) => return Err(fault),
             }
         }
         Ok(())

@@ -8,24 +8,24 @@ ghost use Rattle.word12.specs.Words.{octal_text};
 ghost use Rattle.wordset.specs.Words.{some_below};
 ghost use Rattle.wordset.specs.Lanes.{words};
 ghost use Rattle.wordset.specs.Links.{links_of};
-ghost use Rattle.facts.specs.Meaning.{name_of, tracked_of, equation_of, offsets_of};
+ghost use Rattle.facts.specs.Meaning.{name_of, equation_of, offsets_of};
 ghost use Rattle.certificate.specs.Spelling.{marks, set_text, digits, offsets_text, name_text, mq_text, version_text};
 ghost use Rattle.certificate.specs.Line.{End, rank_text, words_text, routine_line, cell_line, equation_line, line_text, ended, all_ended};
 ghost use Rattle.certificate.specs.Line.{FactIs, ExitIs, IsLine};
 ghost use Rattle.certificate.specs.Reading.{Each};
 ghost use Rattle.certificate.specs.Fields.{run_text};
-ghost use Rattle.certificate.specs.Meaning.{said, routine_of, registers_of};
 ghost use Rattle.certificate.specs.Spelled.{Adds};
-ghost use Rattle.certificate.specs.Packed.{said_lines};
+ghost use Rattle.certificate.specs.Packed.{set_of_runs, set_at, one_at, other_at, routine_at, registers_at, said_at, said_lines, AreWithin, LiesWithin, StandApart};
 ghost use Rattle.certificate.specs.Order.{details_of_last};
 ghost use Rattle.certificate.specs.Found.{first_with_details};
 
 use crate::Version;
-use crate::line::{Line, Registers, RoutineLine};
-use crate::packed::{PackedLines, last_before};
-use crate::progress::is_detail;
+use crate::packed::{
+    PackedLine, PackedLines, PackedRegisters, PackedRoutine, Run, Span, Spans, last_before, set_of,
+    stand_apart,
+};
 use arrayvec::ArrayVec;
-use facts::{Equation, Name, Offsets, TrackedCell};
+use facts::{Equation, Name, Offsets};
 use std::alloc::Allocator;
 use streams::{ByteSink, Failed, put};
 use word12::Word;
@@ -61,7 +61,19 @@ impl LineText {
     }
 
     /// Adds some text as it stands here.
+    #[inline(always)]
     fn text(&mut self, text: &[u8])
+        ensures { Adds self.old.bytes.items self.new.bytes.items text.now }
+    {
+        match self.bytes.try_extend_from_slice(text) {
+            Ok(()) => {}
+            Err(_) => self.front(text),
+        }
+    }
+
+    /// Adds as much of a text as there is room for.
+    #[inline(never)]
+    fn front(&mut self, text: &[u8])
         ensures { Adds self.old.bytes.items self.new.bytes.items text.now }
     {
         for byte in text {
@@ -105,8 +117,23 @@ impl LineText {
         }
     }
 
-    /// Adds a set by its maximal runs.
-    fn runs(&mut self, set: &WordSet)
+    /// Adds the words of runs that stand apart.
+    fn runs(&mut self, runs: &[Run])
+        requires { StandApart 0 runs.now }
+        ensures { Adds self.old.bytes.items self.new.bytes.items
+            (marks 4096 (set_of_runs runs.now)) }
+    {
+        let mut next = 0;
+        for run in runs {
+            self.comma(next);
+            self.run(run.first, run.last);
+            next = run.last.index() + 2;
+        }
+    }
+
+    /// Adds a set by its maximal runs, which are looked for.
+    #[inline(never)]
+    fn words(&mut self, set: &WordSet)
         ensures { Adds self.old.bytes.items self.new.bytes.items (marks 4096 (words set.now)) }
     {
         let others = WordSet::all().minus(set);
@@ -120,14 +147,54 @@ impl LineText {
     }
 
     /// Adds a set, `-` where it's empty.
-    fn set(&mut self, set: &WordSet)
+    fn any_set(&mut self, set: &WordSet)
         ensures { Adds self.old.bytes.items self.new.bytes.items (set_text (words set.now)) }
     {
         if set.is_empty() {
             self.push(b'-');
         } else {
-            self.runs(set);
+            self.words(set);
         }
+    }
+
+    /// Adds the set of which these are runs. They are its maximal ones, unless two of them touch.
+    fn set(&mut self, runs: &[Run])
+        ensures { Adds self.old.bytes.items self.new.bytes.items
+            (set_text (set_of_runs runs.now)) }
+    {
+        if !runs.is_empty() && stand_apart(runs) {
+            self.runs(runs);
+        } else {
+            self.any_set(&set_of(runs));
+        }
+    }
+
+    /// Adds the set of so many runs from a place on.
+    fn set_in(&mut self, runs: &[Run], first: usize, count: usize)
+        requires { first + count ≤ length runs.now }
+        ensures { Adds self.old.bytes.items self.new.bytes.items
+            (set_text (set_at runs.now first count)) }
+    {
+        self.set(&runs[first..first + count]);
+    }
+
+    /// Adds the first one of two sets.
+    fn one(&mut self, runs: &[Run], sets: Spans)
+        requires { AreWithin (length runs.now) sets }
+        ensures { Adds self.old.bytes.items self.new.bytes.items
+            (set_text (one_at runs.now sets)) }
+    {
+        self.set_in(runs, sets.first as usize, usize::from(sets.one));
+    }
+
+    /// Adds the other one.
+    fn other(&mut self, runs: &[Run], sets: Spans)
+        requires { AreWithin (length runs.now) sets }
+        ensures { Adds self.old.bytes.items self.new.bytes.items
+            (set_text (other_at runs.now sets)) }
+    {
+        let first = sets.first as usize + usize::from(sets.one);
+        self.set_in(runs, first, usize::from(sets.other));
     }
 
     /// Adds an octal digit, where it's wanted.
@@ -181,27 +248,29 @@ impl LineText {
     }
 
     /// Adds what MQ may hold, of which version 1 says nothing.
-    fn mq(&mut self, version: Version, mq: &WordSet)
+    fn mq(&mut self, version: Version, runs: &[Run], sets: Spans)
+        requires { AreWithin (length runs.now) sets }
         ensures { Adds self.old.bytes.items self.new.bytes.items
-            (mq_text version (words mq.now)) }
+            (mq_text version (other_at runs.now sets)) }
     {
         match version {
             Version::One => {}
             Version::Two => {
                 self.text(b" mq ");
-                self.set(mq);
+                self.other(runs, sets);
             }
         }
     }
 
     /// Adds the sets of a fact or of an exit.
-    fn registers(&mut self, version: Version, registers: &Registers)
+    fn registers(&mut self, version: Version, runs: &[Run], registers: &PackedRegisters)
+        requires { AreWithin (length runs.now) registers.now.sets }
         ensures { Adds self.old.bytes.items self.new.bytes.items
-            (words_text version (registers_of registers.now)) }
+            (words_text version (registers_at runs.now registers.now)) }
     {
         self.text(b" ac ");
-        self.set(&registers.accumulator);
-        self.mq(version, &registers.mq);
+        self.one(runs, registers.sets);
+        self.mq(version, runs, registers.sets);
         self.text(b" link ");
         self.links(registers.link);
     }
@@ -216,55 +285,74 @@ impl LineText {
     }
 
     /// Adds the line of a routine.
-    fn routine(&mut self, routine: &RoutineLine)
-        requires { routine.now.rank < 64 }
+    fn routine(&mut self, runs: &[Run], routine: &PackedRoutine)
+        requires within { AreWithin (length runs.now) routine.now.sets }
+        requires rank { routine.now.rank < 64 }
         ensures { Adds self.old.bytes.items self.new.bytes.items
-            (routine_line (routine_of routine.now)) }
+            (routine_line (routine_at runs.now routine.now)) }
     {
         self.text(b"routine ");
         self.word(routine.entry);
         self.text(b" rank ");
-        self.rank(routine.rank);
+        self.rank(usize::from(routine.rank));
         self.text(b" sites ");
-        self.set(&routine.sites);
+        self.one(runs, routine.sets);
         self.text(b" writes ");
-        self.set(&routine.writes);
+        self.other(runs, routine.sets);
     }
 
     /// Adds the line of a fact.
-    fn fact(&mut self, version: Version, at: Word, registers: &Registers, offsets: Offsets)
+    fn fact(
+        &mut self,
+        version: Version,
+        runs: &[Run],
+        at: Word,
+        registers: &PackedRegisters,
+        offsets: Offsets,
+    )
+        requires { AreWithin (length runs.now) registers.now.sets }
         ensures { Adds self.old.bytes.items self.new.bytes.items
-            (line_text version (FactIs at (registers_of registers.now) (offsets_of offsets))) }
+            (line_text version
+            (FactIs at (registers_at runs.now registers.now) (offsets_of offsets))) }
     {
         self.text(b"fact ");
         self.word(at);
-        self.registers(version, registers);
+        self.registers(version, runs, registers);
         self.text(b" offsets ");
         self.offsets(offsets);
     }
 
     /// Adds the line of an exit.
-    fn exit(&mut self, version: Version, entry: Word, offset: u8, registers: &Registers)
-        requires { offset < 8 }
+    fn exit(
+        &mut self,
+        version: Version,
+        runs: &[Run],
+        entry: Word,
+        offset: u8,
+        registers: &PackedRegisters,
+    )
+        requires within { AreWithin (length runs.now) registers.now.sets }
+        requires offset { offset < 8 }
         ensures { Adds self.old.bytes.items self.new.bytes.items
-            (line_text version (ExitIs entry offset (registers_of registers.now))) }
+            (line_text version (ExitIs entry offset (registers_at runs.now registers.now))) }
     {
         self.text(b"exit ");
         self.word(entry);
         self.text(b" ");
         self.digit(usize::from(offset));
-        self.registers(version, registers);
+        self.registers(version, runs, registers);
     }
 
     /// Adds the line of a tracked cell.
-    fn cell(&mut self, tracked: &TrackedCell)
+    fn cell(&mut self, runs: &[Run], cell: Word, span: Span)
+        requires { span.first + span.count ≤ length runs.now }
         ensures { Adds self.old.bytes.items self.new.bytes.items
-            (cell_line (tracked_of tracked.now)) }
+            (cell_line (record { address = cell; set = set_at runs.now span.first span.count })) }
     {
         self.text(b"cell ");
-        self.word(tracked.cell);
+        self.word(cell);
         self.text(b" ");
-        self.set(&tracked.set);
+        self.set_in(runs, span.first as usize, usize::from(span.count));
     }
 
     /// Adds the line of an equation.
@@ -283,30 +371,35 @@ impl LineText {
 
 impl LineText {
     /// Adds a line.
-    fn line(&mut self, version: Version, line: &Line)
-        requires { IsLine version (said line.now) }
+    fn line(&mut self, version: Version, runs: &[Run], line: &PackedLine)
+        requires within { LiesWithin (length runs.now) line.now }
+        requires form { IsLine version (said_at runs.now line.now) }
         ensures { Adds self.old.bytes.items self.new.bytes.items
-            (line_text version (said line.now)) }
+            (line_text version (said_at runs.now line.now)) }
     {
         match line {
-            Line::Routine(routine) => self.routine(routine),
-            Line::Fact(at, registers, offsets) => self.fact(version, *at, registers, *offsets),
-            Line::Exit(entry, offset, registers) => {
-                self.exit(version, *entry, *offset, registers);
+            PackedLine::Routine(routine) => self.routine(runs, routine),
+            PackedLine::Fact(at, registers, offsets) => {
+                self.fact(version, runs, *at, registers, *offsets);
             }
-            Line::Cell(tracked) => self.cell(tracked),
-            Line::Equation(equation) => self.equation(equation),
-            Line::End => self.text(b"end"),
+            PackedLine::Exit(entry, offset, registers) => {
+                self.exit(version, runs, *entry, *offset, registers);
+            }
+            PackedLine::Cell(cell, span) => self.cell(runs, *cell, *span),
+            PackedLine::Equation(equation) => self.equation(equation),
+            PackedLine::End => self.text(b"end"),
         }
     }
 
     /// Makes it the text of this line with its line feed.
-    fn put_line(&mut self, version: Version, line: &Line)
-        requires { IsLine version (said line.now) }
-        ensures { self.new.bytes.items ≡ ended (line_text version (said line.now)) }
+    fn put_line(&mut self, version: Version, runs: &[Run], line: &PackedLine)
+        requires within { LiesWithin (length runs.now) line.now }
+        requires form { IsLine version (said_at runs.now line.now) }
+        ensures { self.new.bytes.items ≡
+            ended (line_text version (said_at runs.now line.now)) }
     {
         self.bytes.clear();
-        self.line(version, line);
+        self.line(version, runs, line);
         self.push(b'\n');
     }
 }
@@ -337,7 +430,7 @@ fn put_lines<A: Allocator, W: ByteSink>(
 {
     let mut text = LineText::new();
     for at in 0..lines.len() {
-        text.put_line(version, &lines.line(at));
+        text.put_line(version, lines.runs(), lines.packed(at));
         if let Err(failed) = put(sink, &text.bytes) {
             return Err(failed);
         }
@@ -362,11 +455,11 @@ fn put_details<A: Allocator, W: ByteSink>(
 {
     let mut text = LineText::new();
     for at in start..lines.len() {
-        let line = lines.line(at);
-        if !is_detail(&line) {
+        let line = lines.packed(at);
+        if !line.is_detail() {
             return Ok(());
         }
-        text.put_line(version, &line);
+        text.put_line(version, lines.runs(), line);
         if let Err(failed) = put(sink, &text.bytes) {
             return Err(failed);
         }
@@ -393,7 +486,7 @@ pub fn put_with_details<A: Allocator, W: ByteSink>(
         return Ok(());
     }
     let mut text = LineText::new();
-    text.put_line(version, &lines.line(start));
+    text.put_line(version, lines.runs(), lines.packed(start));
     put(sink, &text.bytes)?;
     put_details(sink, version, lines, start + 1)
 }

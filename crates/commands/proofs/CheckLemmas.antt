@@ -18,8 +18,8 @@ use Rattle.certificate.specs.declared.CertificateFault.TheVariants as faults
 use Rattle.certificate.specs.declared.Version.{Version}
 use Rattle.certificate.specs.Spelling.{Lines, text}
 use Rattle.certificate.specs.Reading.{AreLines}
+use Rattle.certificate.specs.Faults.{AsksForMemory, HasFault, IsText}
 use Rattle.streams.specs.Bytes.{Gave}
-use Rattle.certificate.specs.Faults.{HasFault, IsText, AsksForMemory}
 use Rattle.commands.specs.Faults.{IsCertificateInputFault, fault_of_certificate}
 use Rattle.commands.specs.Inputs.{FailsInCertificate, HasCertificate, input}
 
@@ -39,14 +39,13 @@ told_of had fault memory read (inr (inl e)) = absurd (read e)
 told_of had fault memory read (inr (inr h)) = h
 
 pub certificate_fault_is : (fault : CertificateFault) (failed : Bool) (had left : Option (List ℕ)) →
-    Told had fault → (fault ≡ faults.ReadFault → FailsInCertificate (input failed had left)) → (fault ≡ faults.NoMemory → Gave had left AsksForMemory)
-    → IsCertificateInputFault (input failed had left) (fault_of_certificate fault)
-certificate_fault_is faults.NoMemory failed had left h read kept = kept refl
-certificate_fault_is faults.ReadFault failed had left h read kept = read refl
-certificate_fault_is faults.Version failed had left h read kept = told_of had faults.Version (λ e. cc) (λ e. cc) h
-certificate_fault_is (faults.BadLine n) failed had left h read kept = told_of had (faults.BadLine n) (λ e. cc) (λ e. cc) h
-certificate_fault_is (faults.Order n) failed had left h read kept = told_of had (faults.Order n) (λ e. cc) (λ e. cc) h
-certificate_fault_is faults.TooMany failed had left h read kept = told_of had faults.TooMany (λ e. cc) (λ e. cc) h
+    Told had fault → (fault ≡ faults.NoMemory → Gave had left AsksForMemory) → (fault ≡ faults.ReadFault → FailsInCertificate (input failed had left)) → IsCertificateInputFault (input failed had left) (fault_of_certificate fault)
+certificate_fault_is faults.NoMemory failed had left h wanted read = wanted refl
+certificate_fault_is faults.ReadFault failed had left h wanted read = read refl
+certificate_fault_is faults.Version failed had left h wanted read = told_of had faults.Version (λ e. cc) (λ e. cc) h
+certificate_fault_is (faults.BadLine n) failed had left h wanted read = told_of had (faults.BadLine n) (λ e. cc) (λ e. cc) h
+certificate_fault_is (faults.Order n) failed had left h wanted read = told_of had (faults.Order n) (λ e. cc) (λ e. cc) h
+certificate_fault_is faults.TooMany failed had left h wanted read = told_of had faults.TooMany (λ e. cc) (λ e. cc) h
 
 -- some body has the cell
 abbrev pub any_body : List Routine → ℕ → Bool

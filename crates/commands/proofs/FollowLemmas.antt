@@ -17,8 +17,8 @@ use Rattle.peripherals.specs.Seen.{puts_out, seen_of}
 use Rattle.commands.specs.declared.follow.End.{End}
 use Rattle.commands.specs.declared.follow.End.TheVariants.{Unsupported}
 use Rattle.commands.specs.declared.follow.Outcome.{Outcome}
-use Rattle.commands.specs.Course.{Ran, event_of_round}
-use Rattle.commands.specs.Follows.{Follows, Ended, Stuck, Stopped, Went, IsBeforeOutput, IsReached, IsTraceOfSome, IsTraceUpToOutput, end_of, goes_on, counted, rounds}
+use Rattle.commands.specs.Course.{Ran, RanIntoLine, RanToOutput, event_of_round}
+use Rattle.commands.specs.Follows.{Follows, Ended, Stuck, Stopped, Went, IsReached, IsTraceOfSome, IsTraceUpToOutput, end_of, goes_on, counted, rounds}
 use Rattle.processor.specs.Machine.{State}
 use Rattle.commands.specs.Trace.{line_of, trace_of, traced}
 use Rattle.commands.specs.Writes.{FrontOf, Writes}
@@ -163,31 +163,39 @@ came_to_fault p ends trace es i e w x y n old mid new came within is asked happe
       front = front_after old mid new came.lines (trace_of p x e y) wrote front;
     }
 
--- no more memory for what an event puts out: the lines of those before it are there
-pub came_to_refusal : (p : Profile) (ends trace : Bool) (es : List Event) (i : ℕ) (e : Event) (w x : WorldState) (n : ℕ) (old mid new : Option (List ℕ)) →
-    Came p ends trace (take i es) w n x old mid → e ≡ get_or es i Step → puts_out x e ≡ true → trace ≡ true → new ≡ mid → Writes (IsTraceUpToOutput p ends es w) old new
-came_to_refusal p ends trace es i e w x n old mid new came here puts asked kept =
-    let follows : Follows p ends (take i es ++ []) w (came.lines ++ []) (n + 0) (end_of x) x = came.leads [] [] 0 (end_of x) x (Ended x) in
+-- and of that line a part or nothing went out
+pub came_into_line : (p : Profile) (ends trace : Bool) (es : List Event) (i : ℕ) (e : Event) (w x y : WorldState) (n : ℕ) (old mid new : Option (List ℕ)) →
+    Came p ends trace (take i es) w n x old mid → i < length es → e ≡ get_or es i Step → trace ≡ true → Happens p x e y →
+    AppendsFront mid new (trace_of p x e y) → RanIntoLine p ends es w y old new
+came_into_line p ends trace es i e w x y n old mid new came within is asked happens front =
+    let one = one_by p ends e x y (seen_of p x e) refl happens in
+    let led : Follows p ends (take i es ++ []) w (came.lines ++ []) (n + 0) (end_of x) x = came.leads [] [] 0 (end_of x) x (Ended x) in
+    let follows : Follows p ends (take i es ++ e ∷ []) w (came.lines ++ trace_of p x e y) (n + one.steps) one.end y = came.leads (e ∷ []) (trace_of p x e y) one.steps one.end y one.follows in
     let wrote : Appends old mid came.lines = rw asked at came.wrote in
     record {
-      text = came.lines;
-      is = record {
-        count = i;
-        steps = n;
-        end = end_of x;
-        final = x;
-        follows = rw (append-nil (take i es), append-nil came.lines, add-zero n) at follows;
-        puts = λ lt. rw here at puts;
-      };
-      written = rw kept wrote;
+      count = i;
+      within = within;
+      before = x;
+      lines = came.lines;
+      steps_before = n;
+      end_before = end_of x;
+      led = rw (append-nil (take i es), append-nil came.lines, add-zero n) at led;
+      line = trace_of p x e y;
+      line_is = ap (λ (e : Event). trace_of p x e y) is;
+      steps = n + one.steps;
+      end = one.end;
+      follows = rw (more_events es i e within is) follows;
+      written = front.count;
+      part = front.within;
+      wrote = Appends-trans old mid new came.lines (take front.count (trace_of p x e y)) wrote front.out;
     }
 
--- the world before that event
-pub came_to_output : (p : Profile) (ends trace : Bool) (es : List Event) (i : ℕ) (e : Event) (w x y : WorldState) (n : ℕ) (old mid : Option (List ℕ)) →
-    Came p ends trace (take i es) w n x old mid → i < length es → e ≡ get_or es i Step → puts_out x e ≡ true → y ≡ x → IsBeforeOutput p ends es w y
-came_to_output p ends trace es i e w x y n old mid came within here puts same =
+-- no more memory for what an event puts out: those before it led here, and their lines are there
+pub came_to_refusal : (p : Profile) (ends trace : Bool) (es : List Event) (i : ℕ) (e : Event) (w x y : WorldState) (n : ℕ) (old mid new : Option (List ℕ)) →
+    Came p ends trace (take i es) w n x old mid → i < length es → e ≡ get_or es i Step → puts_out x e ≡ true → y ≡ x → new ≡ mid → RanToOutput p ends trace es w y old new
+came_to_refusal p ends trace es i e w x y n old mid new came within here puts same kept =
     let follows : Follows p ends (take i es ++ []) w (came.lines ++ []) (n + 0) (end_of x) x = came.leads [] [] 0 (end_of x) x (Ended x) in
-    let stops : IsBeforeOutput p ends es w x = record {
+    let stops : RanToOutput p ends trace es w x old mid = record {
       count = i;
       within = within;
       lines = came.lines;
@@ -195,8 +203,20 @@ came_to_output p ends trace es i e w x y n old mid came within here puts same =
       end = end_of x;
       follows = rw (append-nil (take i es), append-nil came.lines, add-zero n) at follows;
       puts = rw here at puts;
+      wrote = came.wrote;
     } in
-    rw same stops
+    rw (same, kept) stops
+
+-- where a trace is asked for
+pub output_traced : (p : Profile) (ends trace : Bool) (es : List Event) (w x : WorldState) (old new : Option (List ℕ)) →
+    RanToOutput p ends trace es w x old new → trace ≡ true → Writes (IsTraceUpToOutput p ends es w) old new
+output_traced p ends trace es w x old new ran asked =
+    let wrote : Appends old new ran.lines = rw asked at ran.wrote in
+    record {
+      text = ran.lines;
+      is = record { count = ran.count; steps = ran.steps; end = ran.end; final = x; follows = ran.follows; puts = λ lt. ran.puts };
+      written = wrote;
+    }
 
 -- the world after these events, or after one event more
 pub came_to_world : (p : Profile) (ends trace : Bool) (es : List Event) (i : ℕ) (e : Event) (w x y : WorldState) (n : ℕ) (old mid : Option (List ℕ)) (marked : Bool) →

@@ -5,7 +5,8 @@ use Rattle.std.specs.List.{AllByRecursion, list_any}
 use Rattle.std.proofs.lemmas.Bool.{cases_lt}
 use Rattle.std.proofs.lemmas.List.{drop-set-lt, take-map, take-set, length-map}
 use Rattle.std.proofs.lemmas.Option.{slice_get_within}
-use Rattle.commands.specs.SourceTexts.{AreRead, IsShort, IsLongAt, LeavesThoseAfter}
+use Rattle.commands.specs.SourceTexts.{AreRead, HasLeft, IsShort, IsLongAt, LeavesThoseAfter}
+use Rattle.commands.proofs.SourceLemmas.{AreEnded}
 use Rattle.commands.proofs.PartLemmas.{short_sources}
 
 nothing_left : {S : Type 0} (n : ℕ) → ◌≡◌ {A = List S} (drop n []) []
@@ -80,6 +81,40 @@ unread_failed mark ss os i new at within none same there = elim (cases_lt at i) 
   | inl before ↦ absurd (unmarked mark (slice_set ss i new) i at (ap (list_any mark) (take-set ss i new) ∙ none) before there)
   | inr past ↦ later_set ss os i at new past same
 ]
+
+-- of those that were read nothing is left
+ended_there : (xs ys : List (Option (List ℕ))) (i at : ℕ) (part : List ℕ) (next : ℕ) (more : List ℕ) → AreEnded (take i xs) (take i ys) → at < i →
+    slice_get xs at ≡ Some (Some part) → slice_get ys at ≡ Some (Some (next ∷ more)) → ⊥
+ended_there xs ys zero at part next more all within there still = absurd (omega (arith, within))
+ended_there [] ys (suc i) at part next more all within there still = cc
+ended_there (x ∷ xs) [] (suc i) at part next more all within there still = cc
+ended_there (x ∷ xs) (y ∷ ys) (suc i) zero part next more all within there still =
+    let had : x ≡ Some part = cc in
+    let has : y ≡ Some (next ∷ more) = cc in
+    let none : next ∷ more ≡ [] = (rw (had, has) at all.0) in
+    cc
+ended_there (x ∷ xs) (y ∷ ys) (suc i) (suc at) part next more all within there still = ended_there xs ys i at part next more all.1 (omega (arith, within)) there still
+
+not_left : {S : Type 0} (remaining : S → Option (List ℕ)) (ss os : List S) (i at : ℕ) → AreEnded (map remaining (take i os)) (map remaining (take i ss)) → at < i →
+    HasLeft (map remaining os) (map remaining ss) at → ⊥
+not_left remaining ss os i at all within has =
+    ended_there (map remaining os) (map remaining ss) i at has.part has.next has.more (rw (take-map remaining i os, take-map remaining i ss) all) within has.there has.still
+
+-- and those after one that has some left are as they were
+pub unread_left : {S : Type 0} (remaining : S → Option (List ℕ)) (ss os : List S) (i : ℕ) (new : S) (at : ℕ) →
+    AreEnded (map remaining (take i os)) (map remaining (take i ss)) → drop i ss ≡ drop i os →
+    HasLeft (map remaining os) (map remaining (slice_set ss i new)) at → LeavesThoseAfter at os (slice_set ss i new)
+unread_left remaining ss os i new at all same has = elim (cases_lt at i) [
+  | inl before ↦ (let kept : AreEnded (map remaining (take i os)) (map remaining (take i (slice_set ss i new))) = rw (take-set ss i new) all in absurd (not_left remaining (slice_set ss i new) os i at kept before has))
+  | inr past ↦ later_set ss os i at new past same
+]
+
+pub left_whole : {S : Type 0} (remaining : S → Option (List ℕ)) (ss os : List S) (i at : ℕ) → length os ≤ i → AreEnded (map remaining (take i os)) (map remaining (take i ss)) →
+    HasLeft (map remaining os) (map remaining ss) at → LeavesThoseAfter at os ss
+left_whole remaining ss os i at past all has =
+    let is : at < length (map remaining os) = slice_get_within (map remaining os) at (Some has.part) has.there in
+    let within : at < i = omega (arith, is, past, length-map os remaining) in
+    absurd (not_left remaining ss os i at all within has)
 
 -- where all are read
 pub read_whole : {S V : Type 0} (remaining : S → Option (List ℕ)) (items : V → List ℕ) (ss os : List S) (i : ℕ) (vs : List V) (at : ℕ) →

@@ -5,9 +5,10 @@ use Rattle.std.specs.List.{AllByRecursion, list_any}
 use Rattle.std.proofs.Math.Bool.{or-false}
 use Rattle.std.proofs.Math.Seq.{split_at}
 use Rattle.std.proofs.lemmas.Bool.{lt-ltb, le-ltb, cases_lt}
-use Rattle.std.proofs.lemmas.List.{map-append, length-take-le, length-take, take_all, take_more_set, take-map, length-map, drop_more, get_or-set_same, length-set, set_split}
+use Rattle.std.proofs.lemmas.List.{map-append, length-append, length-take-le, length-take, take_all, take_more_set, take-map, length-map, drop_more, get_or-set_same, length-set, set_split}
 use Rattle.std.proofs.lemmas.List.Folds.{list_any-append}
 use Rattle.std.proofs.lemmas.Option.{slice_get-map, slice_get-get_or}
+use Rattle.std.specs.Io.KnownBytes.{Consumes, IsAtEnd}
 use Rattle.streams.specs.Bytes.{Gave}
 use Rattle.pal_acts.specs.declared.code.Code.TheVariants.{TooLong}
 use Rattle.pal_asm.specs.Sources.{fault_at, first_long, long_fault, size_fault}
@@ -59,6 +60,21 @@ all_of bytes text most is short = elim (cases_lt most (length bytes)) [
 pub whole : (had : Option (List ℕ)) (text : List ℕ) (most : ℕ) → IfSome had (λ bytes. text ≡ take (most + 1) bytes) → length text ≤ most → IfSome had (λ bytes. text ≡ bytes)
 whole None text most is short = tt
 whole (Some bytes) text most is short = all_of bytes text most is short
+
+-- and then the source has nothing left
+front_ends : (bytes text rest : List ℕ) → text ≡ bytes → bytes ≡ text ++ rest → rest ≡ []
+front_ends bytes [] rest is taken = sym taken ∙ sym is
+front_ends bytes (c ∷ text) rest is taken = nothing_more (c ∷ text) rest (ap length (is ∙ taken) ∙ length-append (c ∷ text) rest)
+  where
+    nothing_more : (front rest : List ℕ) → length front ≡ length front + length rest → rest ≡ []
+    nothing_more front [] e = refl
+    nothing_more front (b ∷ rest) e = absurd (omega (arith, e))
+
+pub at_end : (had left : Option (List ℕ)) (text : List ℕ) (most : ℕ) → IfSome had (λ bytes. text ≡ take (most + 1) bytes) → Consumes had left text → length text ≤ most →
+    IfSome had (λ _. IsAtEnd left)
+at_end None left text most is taken short = tt
+at_end (Some bytes) None text most is taken short = absurd taken
+at_end (Some bytes) (Some rest) text most is taken short = front_ends bytes text rest (all_of bytes text most is short) taken
 
 -- a part that is longer than the limit
 pub long_text : (had : Option (List ℕ)) (text : List ℕ) → IfSome had (λ bytes. text ≡ take 65537 bytes) → 65536 < length text → IsLong had

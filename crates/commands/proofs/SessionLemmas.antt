@@ -1,11 +1,12 @@
 -- An operator's run, event by event.
 use Rattle.std.proofs.Common.{ℕ, zero, suc, ◌≡◌, ◌+◌, ◌*◌, ◌%◌, ◌==◌, ◌<◌, ◌≤◌, Bool, true, false, ◌||◌, if◌then◌else◌, List, [], ◌∷◌, ◌++◌, length, drop, take, map, refl, sym, ◌∙◌, ap, inl, inr, append_assoc, append-nil, add-zero, add-one, take_all, length-append, get_or, le_refl, arith, Some, None, Option, Result, Ok, Err, IfOk, OnErr, true≢false, subst, unwrap_or}
-use Rattle.std.specs.Io.KnownBytes.{Appends}
+use Rattle.std.specs.Io.KnownBytes.{Appends, Consumes}
 use Rattle.std.proofs.KnownBytes.{Appends-nil, Appends-trans}
 use Rattle.std.proofs.Transfers.{drop-appended}
-use Rattle.std.proofs.lemmas.List.{map-append, take-append-le, drop_all}
+use Rattle.std.proofs.lemmas.List.{map-append, take-append-le, drop_all, length-map}
 use Rattle.std.proofs.Math.Seq.{drop-cons, take-append-add}
-use Rattle.streams.specs.Bytes.{AppendsFront}
+use Rattle.std.specs.Prelude.{IfErr}
+use Rattle.streams.specs.Bytes.{AppendsFront, Gave}
 use Rattle.instruct.specs.declared.Profile.{Profile}
 use Rattle.instruct.specs.Devices.{word_of}
 use Rattle.instruct.specs.declared.devices.DeviceOperation.TheVariants.{ClearPrinterFlag, ClearPrinterFlagAndPrint, ClearPunchFlag, ClearPunchFlagAndPunch, Print, Punch, ReadReaderBuffer, SetPrinterFlag}
@@ -24,12 +25,14 @@ use Rattle.commands.specs.Follows.{Follows, Ended, Stuck, Stopped, end_of, goes_
 use Rattle.commands.specs.declared.running.RunOptions.{RunOptions}
 use Rattle.commands.specs.declared.session.SessionOptions.{SessionOptions}
 use Rattle.commands.specs.declared.status.Fault.{Fault}
+use Rattle.commands.specs.declared.status.Fault.TheVariants.{NoMemory}
 use Rattle.commands.specs.declared.status.Status.{Status}
-use Rattle.commands.specs.Inputs.{AreFirst, HasImage}
+use Rattle.commands.specs.Faults.{IsBytesFault, fails_to_write}
+use Rattle.commands.specs.Inputs.{AreFirst, HasCome, HasImage, Input}
 use Rattle.commands.specs.Running.{fresh, status_of}
-use Rattle.commands.specs.Session.{AppendsSome, Comes, Over, Cut, Final, Then, Extent, Whole, UpToOutput, UpToAny, MayEnd, extent_after, summary_where, Operated, BrokeOff, FrontsOf, IsPartOfSession, IsSession, IsSessionOf, NothingOrFronts, WritesAll, character, plan_for, printed_in, taken, Taken, Failures, failures}
+use Rattle.commands.specs.Session.{AppendsSome, Comes, Over, Cut, Final, Then, Extent, Whole, UpToOutput, UpToAny, MayEnd, extent_after, summary_where, Operated, BrokeOff, FrontsOf, IsSession, IsSessionOf, NothingOrFronts, SessionFronts, WritesAll, character, plan_for, printed_in, taken, Taken, Failures, failures}
 use Rattle.commands.specs.Summary.{summary}
-use Rattle.commands.specs.SessionParts.{IsPartOfPlan, Played, Unplayed, Faltered, PlayedFront, printed_from}
+use Rattle.commands.specs.SessionParts.{IsPartOf, Played, Unplayed, Faltered, PlayedFront, printed_from}
 use Rattle.commands.specs.Trace.{trace_of, traced}
 use Rattle.commands.proofs.FollowLemmas.{Came, came_none, came_all, joined, leads_both, leads_one, front_after, no_line, one_by}
 
@@ -45,13 +48,17 @@ or_right false b is = is
 pub no_front : (a : Option (List ℕ)) (piece : List ℕ) → AppendsSome a a piece
 no_front a piece = record { count = 0; within = omega arith; out = Appends-nil a }
 
--- what a printer put out stays, and something may come after it
+-- what a printer put out stays, and one byte may come after it
 pub record Grows (old new : List ℕ) : Type 0 where
   more : List ℕ
+  few : length more ≤ 1
   is : new ≡ old ++ more
 
 stays : (l : List ℕ) → Grows l l
-stays l = record { more = []; is = sym (append-nil l) }
+stays l = record { more = []; few = omega arith; is = sym (append-nil l) }
+
+puts_one : (l : List ℕ) (byte : ℕ) → Grows l (l ++ byte ∷ [])
+puts_one l byte = record { more = byte ∷ []; few = le_refl 1; is = refl }
 
 -- by the tests of a device word
 by_tests : (v : Devices) (ac : ℕ) (a b c d e f g h i j : Bool) → Grows v.printer.output
@@ -74,8 +81,8 @@ by_tests v ac false false false false true f g h i j = stays v.printer.output
 by_tests v ac false false false false false true g h i j = stays v.printer.output
 by_tests v ac false false false false false false true h i j = stays v.printer.output
 by_tests v ac false false false false false false false true i j = stays v.printer.output
-by_tests v ac false false false false false false false false true j = record { more = (ac % 256) ∷ []; is = refl }
-by_tests v ac false false false false false false false false false true = record { more = (ac % 256) ∷ []; is = refl }
+by_tests v ac false false false false false false false false true j = puts_one v.printer.output (ac % 256)
+by_tests v ac false false false false false false false false false true = puts_one v.printer.output (ac % 256)
 by_tests v ac false false false false false false false false false false = stays v.printer.output
 
 by_word : (v : Devices) (word ac : ℕ) → Grows v.printer.output (devices_after v word ac).printer.output
@@ -113,6 +120,26 @@ printed_more p w x e happens =
     let all = rest_is w.devices.printer.output x.devices.printer.output (grows p w x e happens) in
     ap (map character) all ∙ map-append character w.devices.printer.output (drop (length w.devices.printer.output) x.devices.printer.output)
 
+-- an event prints one character at most
+one_printed : (p : Profile) (w x : WorldState) (e : Event) → Happens p w e x → length (printed_from w x) ≤ 1
+one_printed p w x e happens =
+    let g = grows p w x e happens in
+    let rest : drop (length w.devices.printer.output) x.devices.printer.output ≡ g.more = drop-appended w.devices.printer.output x.devices.printer.output g.more g.is in
+    let same : length (printed_from w x) ≡ length g.more = length-map (drop (length w.devices.printer.output) x.devices.printer.output) character ∙ ap length rest in
+    let few : length g.more ≤ 1 = g.few in
+    omega (arith, few, same)
+
+-- so all that was printed is one character more at most than what was typed, where some of the last was
+nearly_all : (p : Profile) (w x : WorldState) (e : Event) (count : ℕ) → Happens p w e x → length (printed_in x) ≤ length (printed_in w) + count + 1
+nearly_all p w x e count happens =
+    let all : length (printed_in x) ≡ length (printed_in w ++ printed_from w x) = ap length (printed_more p w x e happens) in
+    let sum : length (printed_in w ++ printed_from w x) ≡ length (printed_in w) + length (printed_from w x) = length-append (printed_in w) (printed_from w x) in
+    let one : length (printed_from w x) ≤ 1 = one_printed p w x e happens in
+    omega (arith, all, sum, one)
+
+one_over : (n : ℕ) → n ≤ n + 1
+one_over n = omega arith
+
 -- a front of a piece is a front of more
 pub front_of_more : (old new : Option (List ℕ)) (piece more : List ℕ) → AppendsSome old new piece → AppendsSome old new (piece ++ more)
 front_of_more old new piece more front = record {
@@ -120,6 +147,18 @@ front_of_more old new piece more front = record {
   within = let e = length-append piece more in let f = front.within in omega (arith, e, f);
   out = rw (take-append-le front.count piece more front.within) front.out;
 }
+
+-- and where it isn't all of the piece it isn't all of more
+cut_of_more : (old new : Option (List ℕ)) (piece more : List ℕ) → AppendsFront old new piece → AppendsFront old new (piece ++ more)
+cut_of_more old new piece more front = record {
+  count = front.count;
+  within = let e = length-append piece more in let f = front.within in omega (arith, e, f);
+  out = let f : front.count ≤ length piece = (let within = front.within in omega (arith, within)) in rw (take-append-le front.count piece more f) front.out;
+}
+
+-- some of a piece that is the same
+some_same : (old new : Option (List ℕ)) (piece other : List ℕ) → piece ≡ other → AppendsSome old new other → AppendsSome old new piece
+some_same old new piece other same some = record { count = some.count; within = rw same some.within; out = rw same some.out }
 
 -- a whole piece is a front of itself
 pub whole_front : (old new : Option (List ℕ)) (piece : List ℕ) → Appends old new piece → AppendsSome old new piece
@@ -243,7 +282,8 @@ ends_before false now last x e is puts = record { event = e; is_due = is; puts =
 
 -- the run broke off before the event
 broke_before : (p : Profile) (trace : Bool) (plan now : Plan) (last : Option Event) (e : Event) (w x y : WorldState) (n : ℕ) (reported typed : Bool) (old mid new told tmid tells : Option (List ℕ)) →
-    Sat p trace plan now last w x n old mid told tmid → due now x last ≡ Some e → Unplayed x e y mid new tmid tells → BrokeOff p trace plan w y reported typed old new told tells
+    Sat p trace plan now last w x n old mid told tmid → due now x last ≡ Some e → Unplayed x e y reported typed mid new tmid tells → BrokeOff p trace plan w y reported typed old new told tells
+unfolding whole_front
 broke_before p trace plan now last e w x y n reported typed old mid new told tmid tells sat is un = rw (un.same, un.unwritten, un.unprinted) (record {
   events = sat.events;
   come = let all : Comes p (extent_after (reported || typed)) plan None w (sat.events ++ []) = sat.come (extent_after (reported || typed)) [] (Cut now last x (ends_before (reported || typed) now last x e is un.wanted)) in rw (append-nil sat.events) at all;
@@ -256,6 +296,9 @@ broke_before p trace plan now last e w x y n reported typed old mid new told tmi
   printed = whole_front told tmid (printed_in x) sat.printed;
   wrote_whole = λ no. sat.came.wrote;
   printed_whole = λ no. sat.printed;
+  wrote_front = λ yes. absurd (true≢false (sym yes ∙ or_left reported typed un.unfailed));
+  printed_front = λ yes. absurd (true≢false (sym yes ∙ or_right reported typed un.unfailed));
+  printed_nearly = one_over (length (printed_in x));
 })
 
 -- the events up to the one that is due
@@ -267,10 +310,16 @@ front_joined : (trace : Bool) (a b c : Option (List ℕ)) (first second : List �
 front_joined true a b c first second whole front = some_after a b c first second whole front
 front_joined false a b c first second whole front = some_after a b c [] [] whole front
 
+front_cut : (trace : Bool) (a b c : Option (List ℕ)) (first second : List ℕ) → Appends a b (traced trace first) → AppendsFront b c (traced trace second) → AppendsFront a c (traced trace (first ++ second))
+front_cut true a b c first second whole front = front_after a b c first second whole front
+front_cut false a b c first second whole front = front_after a b c [] [] whole front
+
 broke_after : (p : Profile) (trace : Bool) (plan now : Plan) (last : Option Event) (e : Event) (w x y : WorldState) (n : ℕ) (reported typed : Bool) (old mid new told tmid tells : Option (List ℕ)) →
     Sat p trace plan now last w x n old mid told tmid → due now x last ≡ Some e → Faltered p trace x e y reported typed mid new tmid tells → BrokeOff p trace plan w y reported typed old new told tells
+unfolding some_same some_after
 broke_after p trace plan now last e w x y n reported typed old mid new told tmid tells sat is faltered =
     let one = one_by p true e x y (seen_of p x e) refl faltered.happens in
+    let more = printed_more p x y e faltered.happens in
     record {
       events = sat.events ++ e ∷ [];
       come = rw (faltered.failed) (sat.come UpToAny (e ∷ []) (cut_after p now last x y e (goes_on true (seen_of p x e)) is refl faltered.happens));
@@ -279,9 +328,12 @@ broke_after p trace plan now last e w x y n reported typed old mid new told tmid
       end = one.end;
       follows = sat.came.leads (e ∷ []) (trace_of p x e y) one.steps one.end y one.follows;
       wrote = front_joined trace old mid new sat.came.lines (trace_of p x e y) sat.came.wrote faltered.wrote;
-      printed = rw (printed_more p x y e faltered.happens) (some_after told tmid tells (printed_in x) (printed_from x y) sat.printed faltered.printed);
+      printed = some_same told tells (printed_in y) (printed_in x ++ printed_from x y) more (some_after told tmid tells (printed_in x) (printed_from x y) sat.printed faltered.printed);
       wrote_whole = λ no. joined trace old mid new sat.came.lines (trace_of p x e y) sat.came.wrote (faltered.wrote_whole no);
       printed_whole = λ no. printed_next p x y e told tmid tells faltered.happens sat.printed (faltered.printed_whole no);
+      wrote_front = λ yes. front_cut trace old mid new sat.came.lines (trace_of p x e y) sat.came.wrote (faltered.wrote_front yes);
+      printed_front = λ yes. rw more (front_after told tmid tells (printed_in x) (printed_from x y) sat.printed (faltered.printed_front yes));
+      printed_nearly = nearly_all p x y e faltered.printed.count faltered.happens;
     }
 
 pub sat_to_fault : (p : Profile) (trace : Bool) (plan now : Plan) (last : Option Event) (e : Event) (w x y : WorldState) (n : ℕ) (reported typed : Bool) (old mid new told tmid tells : Option (List ℕ)) →
@@ -298,8 +350,9 @@ comes_first p extent _ _ _ _ (Then plan last w m e es is goes happens rest) = Th
 
 -- a whole run, of which no more is told
 pub operated_broke : (p : Profile) (trace : Bool) (plan : Plan) (w : WorldState) (outcome : Outcome) (x : WorldState) (reported typed : Bool) (old new told tells : Option (List ℕ)) →
-    Operated p trace plan w outcome x old new told tells → BrokeOff p trace plan w x reported typed old new told tells
-operated_broke p trace plan w outcome x reported typed old new told tells done = record {
+    Operated p trace plan w outcome x old new told tells → (reported || typed) ≡ false → BrokeOff p trace plan w x reported typed old new told tells
+unfolding whole_front
+operated_broke p trace plan w outcome x reported typed old new told tells done unfailed = record {
   events = done.events;
   come = comes_first p (extent_after (reported || typed)) plan None w done.events done.come;
   lines = done.ran.lines;
@@ -310,6 +363,9 @@ operated_broke p trace plan w outcome x reported typed old new told tells done =
   printed = whole_front told tells (printed_in x) done.printed;
   wrote_whole = λ no. done.ran.wrote;
   printed_whole = λ no. done.printed;
+  wrote_front = λ yes. absurd (true≢false (sym yes ∙ or_left reported typed unfailed));
+  printed_front = λ yes. absurd (true≢false (sym yes ∙ or_right reported typed unfailed));
+  printed_nearly = one_over (length (printed_in x));
 }
 
 -- how many events may come at most in the round that has begun
@@ -409,10 +465,10 @@ typed_all told now bytes from index typed past =
     rw (← all) typed.wrote
 
 pub typed_front : (told now new : Option (List ℕ)) (bytes : List ℕ) (from index byte : ℕ) → Typed told now bytes from index → index < length bytes → byte ≡ get_or bytes index 0 →
-    AppendsFront now new ((byte % 128) ∷ []) → AppendsSome told new (map character (drop from bytes))
+    AppendsFront now new ((byte % 128) ∷ []) → AppendsFront told new (map character (drop from bytes))
 typed_front told now new bytes from index byte typed within is front =
-    let some : AppendsSome told new (typed.sent ++ (get_or bytes index 0 % 128) ∷ []) = some_of told new (typed.sent ++ (get_or bytes index 0 % 128) ∷ []) (front_after told now new typed.sent ((get_or bytes index 0 % 128) ∷ []) typed.wrote (rw is at front)) in
-    rw (← typed_rest bytes typed.sent from index within typed.rest) (front_of_more told new (typed.sent ++ (get_or bytes index 0 % 128) ∷ []) (map character (drop (suc index) bytes)) some)
+    let cut : AppendsFront told new (typed.sent ++ (get_or bytes index 0 % 128) ∷ []) = front_after told now new typed.sent ((get_or bytes index 0 % 128) ∷ []) typed.wrote (rw is at front) in
+    rw (← typed_rest bytes typed.sent from index within typed.rest) (cut_of_more told new (typed.sent ++ (get_or bytes index 0 % 128) ∷ []) (map character (drop (suc index) bytes)) cut)
 
 -- What a run that came to its end leaves.
 session_whole : (options : RunOptions) (plan : Plan) (image : List (Option ℕ)) (p : Profile) (w x : WorldState) (outcome : Outcome) (status : Status) (old mid told tells : Option (List ℕ)) →
@@ -449,19 +505,27 @@ attended options plan image p w x outcome status old mid new told tells held hol
 -- the summary failed
 pub attended_front : (options : RunOptions) (plan : Plan) (image : List (Option ℕ)) (p : Profile) (w x : WorldState) (outcome : Outcome) (reported typed unpunched : Bool) (old mid new told tells held holds : Option (List ℕ)) →
     p ≡ options.profile → w ≡ fresh image options.start → Operated p options.trace plan w outcome x old mid told tells → Appends held holds x.devices.punch.output →
-    AppendsFront mid new (summary outcome.end x outcome.steps) → reported ≡ true →
-    FrontsOf (IsPartOfPlan options reported typed plan image) (failures reported typed unpunched) (taken old told held) (taken new tells holds)
-attended_front options plan image p w x outcome reported typed unpunched old mid new told tells held holds profile begins done punched front failed = record {
+    AppendsFront mid new (summary outcome.end x outcome.steps) → reported ≡ true → typed ≡ false → unpunched ≡ false →
+    FrontsOf (IsPartOf options reported typed plan image) (failures reported typed unpunched) (taken old told held) (taken new tells holds)
+unfolding whole_front
+attended_front options plan image p w x outcome reported typed unpunched old mid new told tells held holds profile begins done punched front failed untyped is_punched = record {
+  extent = Whole;
   text = traced options.trace done.ran.lines ++ summary outcome.end x outcome.steps;
   printed = printed_in x;
   punched = x.devices.punch.output;
-  is = record { extent = Whole; summed = λ all. failed; to_output = λ no. absurd (true≢false (sym failed ∙ or_left reported typed no)); status = status_of outcome.end; is = session_whole options plan image p w x outcome (status_of outcome.end) old mid told tells profile begins done refl };
+  is = record { summed = λ all. failed; to_output = λ no. absurd (true≢false (sym failed ∙ or_left reported typed no)); status = status_of outcome.end; is = session_whole options plan image p w x outcome (status_of outcome.end) old mid told tells profile begins done refl };
   to_report = some_of old new (traced options.trace done.ran.lines ++ summary outcome.end x outcome.steps) (front_after old mid new (traced options.trace done.ran.lines) (summary outcome.end x outcome.steps) done.ran.wrote front);
   to_teletype = whole_front told tells (printed_in x) done.printed;
   to_punch = whole_front held holds x.devices.punch.output punched;
   report_whole = λ no. absurd (true≢false (sym failed ∙ no));
   teletype_whole = λ no. done.printed;
   punch_whole = λ no. punched;
+  report_front = λ yes. front_after old mid new (traced options.trace done.ran.lines) (summary outcome.end x outcome.steps) done.ran.wrote front;
+  teletype_front = λ yes. absurd (true≢false (sym yes ∙ untyped));
+  punch_front = λ yes. absurd (true≢false (sym yes ∙ is_punched));
+  typed_nearly = one_over (length (printed_in x));
+  typed_before_summary = λ all. done.printed;
+  punched_before_summary = λ all. punched;
 }
 
 not_whole : (failed : Bool) → extent_after failed ≡ Whole → ⊥
@@ -474,13 +538,14 @@ no_summary false end x steps = refl
 
 pub broke_front : (options : RunOptions) (plan : Plan) (image : List (Option ℕ)) (p : Profile) (w x : WorldState) (reported typed unpunched : Bool) (old new told tells held holds : Option (List ℕ)) →
     p ≡ options.profile → w ≡ fresh image options.start → BrokeOff p options.trace plan w x reported typed old new told tells → AppendsSome held holds x.devices.punch.output →
-    (unpunched ≡ false → Appends held holds x.devices.punch.output) → FrontsOf (IsPartOfPlan options reported typed plan image) (failures reported typed unpunched) (taken old told held) (taken new tells holds)
-broke_front options plan image p w x reported typed unpunched old new told tells held holds profile begins broke punched whole = record {
+    (unpunched ≡ false → Appends held holds x.devices.punch.output) → (unpunched ≡ true → AppendsFront held holds x.devices.punch.output) →
+    FrontsOf (IsPartOf options reported typed plan image) (failures reported typed unpunched) (taken old told held) (taken new tells holds)
+broke_front options plan image p w x reported typed unpunched old new told tells held holds profile begins broke punched whole cut = record {
+  extent = extent_after (reported || typed);
   text = traced options.trace broke.lines ++ [];
   printed = printed_in x;
   punched = x.devices.punch.output;
   is = record {
-    extent = extent_after (reported || typed);
     summed = λ all. absurd (not_whole (reported || typed) all);
     to_output = λ no. rw no refl;
     status = status_of broke.end;
@@ -504,36 +569,42 @@ broke_front options plan image p w x reported typed unpunched old new told tells
   report_whole = λ no. subst (Appends old new) (sym (append-nil (traced options.trace broke.lines))) (broke.wrote_whole no);
   teletype_whole = broke.printed_whole;
   punch_whole = whole;
+  report_front = λ yes. subst (AppendsFront old new) (sym (append-nil (traced options.trace broke.lines))) (broke.wrote_front yes);
+  teletype_front = broke.printed_front;
+  punch_front = cut;
+  typed_nearly = broke.printed_nearly;
+  typed_before_summary = λ all. absurd (not_whole (reported || typed) all);
+  punched_before_summary = λ all. absurd (not_whole (reported || typed) all);
 }
 
 -- memory was refused for the summary
 pub summary_wanting : (options : RunOptions) (plan : Plan) (image : List (Option ℕ)) (p : Profile) (w x : WorldState) (outcome : Outcome) (reported typed unpunched : Bool) (old new told tells held holds : Option (List ℕ)) →
-    p ≡ options.profile → w ≡ fresh image options.start → Operated p options.trace plan w outcome x old new told tells → Appends held holds x.devices.punch.output →
-    FrontsOf (IsPartOfPlan options reported typed plan image) (failures reported typed unpunched) (taken old told held) (taken new tells holds)
-summary_wanting options plan image p w x outcome reported typed unpunched old new told tells held holds profile begins done punched =
-    broke_front options plan image p w x reported typed unpunched old new told tells held holds profile begins (operated_broke p options.trace plan w outcome x reported typed old new told tells done)
-    (whole_front held holds x.devices.punch.output punched) (λ no. punched)
+    p ≡ options.profile → w ≡ fresh image options.start → Operated p options.trace plan w outcome x old new told tells → Appends held holds x.devices.punch.output → (reported || typed) ≡ false → unpunched ≡ false →
+    FrontsOf (IsPartOf options reported typed plan image) (failures reported typed unpunched) (taken old told held) (taken new tells holds)
+summary_wanting options plan image p w x outcome reported typed unpunched old new told tells held holds profile begins done punched unfailed is_punched =
+    broke_front options plan image p w x reported typed unpunched old new told tells held holds profile begins (operated_broke p options.trace plan w outcome x reported typed old new told tells done unfailed)
+    (whole_front held holds x.devices.punch.output punched) (λ no. punched) (λ yes. absurd (true≢false (sym yes ∙ is_punched)))
 
 -- the punch failed, whatever the run brought
-pub punch_front : (options : RunOptions) (plan : Plan) (image : List (Option ℕ)) (p : Profile) (w x : WorldState) (ran : Result Outcome Fault) (reported typed unpunched : Bool) (old new told tells held holds : Option (List ℕ)) →
+pub failed_punch : (options : RunOptions) (plan : Plan) (image : List (Option ℕ)) (p : Profile) (w x : WorldState) (ran : Result Outcome Fault) (reported typed unpunched : Bool) (old new told tells held holds : Option (List ℕ)) →
     p ≡ options.profile → w ≡ fresh image options.start → IfOk ran (λ outcome. Operated p options.trace plan w outcome x old new told tells) → OnErr ran (BrokeOff p options.trace plan w x reported typed old new told tells) →
-    AppendsFront held holds x.devices.punch.output → unpunched ≡ true → FrontsOf (IsPartOfPlan options reported typed plan image) (failures reported typed unpunched) (taken old told held) (taken new tells holds)
-punch_front options plan image p w x (Ok outcome) reported typed unpunched old new told tells held holds profile begins done broke punched failed =
-    broke_front options plan image p w x reported typed unpunched old new told tells held holds profile begins (operated_broke p options.trace plan w outcome x reported typed old new told tells done)
-    (some_of held holds x.devices.punch.output punched) (λ no. absurd (true≢false (sym failed ∙ no)))
-punch_front options plan image p w x (Err fault) reported typed unpunched old new told tells held holds profile begins done broke punched failed =
-    broke_front options plan image p w x reported typed unpunched old new told tells held holds profile begins broke (some_of held holds x.devices.punch.output punched) (λ no. absurd (true≢false (sym failed ∙ no)))
+    (reported || typed) ≡ fails_to_write ran → AppendsFront held holds x.devices.punch.output → unpunched ≡ true → FrontsOf (IsPartOf options reported typed plan image) (failures reported typed unpunched) (taken old told held) (taken new tells holds)
+failed_punch options plan image p w x (Ok outcome) reported typed unpunched old new told tells held holds profile begins done broke marks punched failed =
+    broke_front options plan image p w x reported typed unpunched old new told tells held holds profile begins (operated_broke p options.trace plan w outcome x reported typed old new told tells done marks)
+    (some_of held holds x.devices.punch.output punched) (λ no. absurd (true≢false (sym failed ∙ no))) (λ yes. punched)
+failed_punch options plan image p w x (Err fault) reported typed unpunched old new told tells held holds profile begins done broke marks punched failed =
+    broke_front options plan image p w x reported typed unpunched old new told tells held holds profile begins broke (some_of held holds x.devices.punch.output punched) (λ no. absurd (true≢false (sym failed ∙ no))) (λ yes. punched)
 
 -- the inputs are good
-pub session_part : (options : SessionOptions) (tape reader keys : Option (List ℕ)) (image : List (Option ℕ)) (frames bytes : List ℕ) (plan : Plan) (failed : Failures) (old new : Taken) →
+pub session_fronts : (options : SessionOptions) (tape reader keys : Option (List ℕ)) (image : List (Option ℕ)) (frames bytes : List ℕ) (plan : Plan) (failed : Failures) (old new : Taken) →
     HasImage tape image → AreFirst options.run.rounds reader frames → AreFirst options.run.rounds keys bytes → plan ≡ plan_for options frames bytes →
-    FrontsOf (IsPartOfPlan options.run failed.report failed.teletype plan image) failed old new → NothingOrFronts (IsPartOfSession options failed.report failed.teletype tape reader keys) failed old new
-session_part options tape reader keys image frames bytes plan failed old new has_image frames_are bytes_are is fronts = inr (record {
+    FrontsOf (IsPartOf options.run failed.report failed.teletype plan image) failed old new → SessionFronts options failed tape reader keys old new
+session_fronts options tape reader keys image frames bytes plan failed old new has_image frames_are bytes_are is fronts = record {
+  extent = fronts.extent;
   text = fronts.text;
   printed = fronts.printed;
   punched = fronts.punched;
   is = record {
-    extent = fronts.is.extent;
     summed = fronts.is.summed;
     to_output = fronts.is.to_output;
     status = fronts.is.status;
@@ -544,7 +615,7 @@ session_part options tape reader keys image frames bytes plan failed old new has
       frames_are = frames_are;
       bytes = bytes;
       bytes_are = bytes_are;
-      session = let session : IsSessionOf options.run fronts.is.extent plan image fronts.text fronts.printed fronts.punched fronts.is.status = fronts.is.is in rw is at session;
+      session = let session : IsSessionOf options.run fronts.extent plan image fronts.text fronts.printed fronts.punched fronts.is.status = fronts.is.is in rw is at session;
     };
   };
   to_report = fronts.to_report;
@@ -553,7 +624,19 @@ session_part options tape reader keys image frames bytes plan failed old new has
   report_whole = fronts.report_whole;
   teletype_whole = fronts.teletype_whole;
   punch_whole = fronts.punch_whole;
-})
+  report_front = fronts.report_front;
+  teletype_front = fronts.teletype_front;
+  punch_front = fronts.punch_front;
+  typed_nearly = fronts.typed_nearly;
+  typed_before_summary = fronts.typed_before_summary;
+  punched_before_summary = fronts.punched_before_summary;
+}
+
+pub session_part : (options : SessionOptions) (tape reader keys : Option (List ℕ)) (image : List (Option ℕ)) (frames bytes : List ℕ) (plan : Plan) (failed : Failures) (old new : Taken) →
+    HasImage tape image → AreFirst options.run.rounds reader frames → AreFirst options.run.rounds keys bytes → plan ≡ plan_for options frames bytes →
+    FrontsOf (IsPartOf options.run failed.report failed.teletype plan image) failed old new → NothingOrFronts options failed tape reader keys old new
+session_part options tape reader keys image frames bytes plan failed old new has_image frames_are bytes_are is fronts =
+    inr (session_fronts options tape reader keys image frames bytes plan failed old new has_image frames_are bytes_are is fronts)
 
 pub session_is : (options : SessionOptions) (tape reader keys : Option (List ℕ)) (image : List (Option ℕ)) (frames bytes : List ℕ) (plan : Plan) (status : Status) (old new : Taken) →
     HasImage tape image → AreFirst options.run.rounds reader frames → AreFirst options.run.rounds keys bytes → plan ≡ plan_for options frames bytes →
@@ -578,17 +661,19 @@ session_is options tape reader keys image frames bytes plan status old new has_i
 
 -- a line of the trace failed, or memory was refused
 pub play_front : (p : Profile) (trace : Bool) (w : WorldState) (e : Event) (x : WorldState) (old new told : Option (List ℕ)) (marked typed : Bool) →
-    (marked ≡ true → Happens p w e x) → (marked ≡ true → trace ≡ true) → (marked ≡ true → AppendsFront old new (trace_of p w e x)) → (marked ≡ false → x ≡ w) → (marked ≡ false → puts_out w e ≡ true) → (marked ≡ false → new ≡ old) →
+    (marked ≡ true → Happens p w e x) → (marked ≡ true → trace ≡ true) → (marked ≡ true → AppendsFront old new (trace_of p w e x)) → (marked ≡ false → x ≡ w) → (marked ≡ false → puts_out w e ≡ true) → (marked ≡ false → new ≡ old) → typed ≡ false →
     PlayedFront p trace w e x marked typed old new told told
-play_front p trace w e x old new told true typed happens asked front same wanted unwritten = inr (record {
+play_front p trace w e x old new told true typed happens asked front same wanted unwritten untyped = inr (record {
   happens = happens refl;
   failed = refl;
   wrote = some_of old new (traced trace (trace_of p w e x)) (rw (asked refl) (front refl));
   printed = no_front told (printed_from w x);
   wrote_whole = λ no. absurd (true≢false no);
   printed_whole = λ no. absurd (true≢false no);
+  wrote_front = λ yes. rw (asked refl) (front refl);
+  printed_front = λ yes. absurd (true≢false (sym yes ∙ untyped));
 })
-play_front p trace w e x old new told false typed happens asked front same wanted unwritten = inl (record { same = same refl; wanted = wanted refl; unwritten = unwritten refl; unprinted = refl })
+play_front p trace w e x old new told false typed happens asked front same wanted unwritten untyped = inl (record { same = same refl; unfailed = untyped; wanted = wanted refl; unwritten = unwritten refl; unprinted = refl })
 
 or_true : (b : Bool) → b || true ≡ true
 or_true true = refl
@@ -596,14 +681,16 @@ or_true false = refl
 
 -- a character failed
 pub type_front : (p : Profile) (trace : Bool) (w : WorldState) (e : Event) (x : WorldState) (marked typed : Bool) (old new told tells : Option (List ℕ)) →
-    Happens p w e x → Appends old new (traced trace (trace_of p w e x)) → AppendsSome told tells (printed_from w x) → typed ≡ true → PlayedFront p trace w e x marked typed old new told tells
-type_front p trace w e x marked typed old new told tells happens wrote front failed = inr (record {
+    Happens p w e x → Appends old new (traced trace (trace_of p w e x)) → AppendsFront told tells (printed_from w x) → marked ≡ false → typed ≡ true → PlayedFront p trace w e x marked typed old new told tells
+type_front p trace w e x marked typed old new told tells happens wrote front unmarked failed = inr (record {
   happens = happens;
   failed = rw failed (or_true marked);
   wrote = whole_front old new (traced trace (trace_of p w e x)) wrote;
-  printed = front;
+  printed = some_of told tells (printed_from w x) front;
   wrote_whole = λ no. wrote;
   printed_whole = λ no. absurd (true≢false (sym failed ∙ or_right marked typed no));
+  wrote_front = λ yes. absurd (true≢false (sym yes ∙ unmarked));
+  printed_front = λ yes. front;
 })
 
 -- an event that carries out no instruction
@@ -613,3 +700,20 @@ pub sat_still : (p : Profile) (trace : Bool) (plan now after : Plan) (last new_l
 sat_still p trace plan now after last new_last e w x y n what old mid new told tmid tells sat is left next played goes none =
     let more : Sat p trace plan after new_last w y (n + counted what) old new told tells = sat_more p trace plan now after last new_last e w x y n what old mid new told tmid tells sat is left next played goes in
     rw (none, add-zero n) at more
+
+-- where a write failed, or memory was refused, what holds of a fault holds
+pub of_failure : {T X : Type 0} (r : Result T Fault) → fails_to_write r ≡ true → OnErr r X → X
+of_failure (Ok v) failed x = absurd (true≢false (sym failed))
+of_failure (Err fault) failed x = x
+
+pub of_refusal : {T X : Type 0} (r : Result T Fault) → r ≡ Err NoMemory → OnErr r X → X
+of_refusal r refused x = rw refused at x
+
+-- bytes for which memory was refused have come in part
+pub bytes_came : {T : Type 0} (most : ℕ) (bytes : Input) (r : Result T Fault) → IfErr r (IsBytesFault most bytes) → r ≡ Err NoMemory → HasCome bytes
+bytes_came most bytes r is refused = rw refused at is
+
+-- bytes that came whole
+pub came_whole : (most : ℕ) (had left : Option (List ℕ)) (bytes : List ℕ) → Consumes had left bytes → AreFirst most had bytes → Gave had left (λ given. AreFirst most had given)
+came_whole most None left bytes taken first = tt
+came_whole most (Some all) left bytes taken first = (bytes, taken, first)

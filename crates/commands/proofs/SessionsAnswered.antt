@@ -1,5 +1,5 @@
 -- Each plan of an operator comes to an end.
-use Rattle.std.proofs.Common.{ℕ, ◌≡◌, ◌+◌, ◌*◌, ◌<◌, Bool, true, false, Option, Some, None, List, [], ◌∷◌, ◌++◌, if◌then◌else◌, refl, sym, ap, subst, arith, zero, suc, drop}
+use Rattle.std.proofs.Common.{ℕ, ◌≡◌, ◌+◌, ◌*◌, ◌<◌, Bool, true, false, Option, Some, None, List, [], ◌∷◌, ◌++◌, if◌then◌else◌, refl, ap, subst, arith, zero, suc, drop}
 use Rattle.std.specs.List.{AllByRecursion}
 use Rattle.std.specs.Prelude.{IfSome}
 use Rattle.instruct.specs.declared.Profile.{Profile}
@@ -11,15 +11,13 @@ use Rattle.peripherals.specs.Devices.{WorldState}
 use Rattle.peripherals.specs.Events.{Happens}
 use Rattle.peripherals.specs.Operator.{Plan, round_due, key_due, frame_due, first_due, due, one_less, left_after}
 use Rattle.peripherals.specs.Seen.{seen_of}
-use Rattle.commands.specs.declared.follow.End.{End}
 use Rattle.commands.specs.declared.follow.End.TheVariants.{Unsupported}
-use Rattle.commands.specs.declared.running.RunOptions.{RunOptions}
-use Rattle.commands.specs.Follows.{Follows, Ended, Stuck, Stopped, Went, end_of, goes_on, counted}
+use Rattle.commands.specs.Follows.{Ended, Stuck, Stopped, Went, end_of, goes_on, counted}
 use Rattle.commands.specs.Laws.{Carries, CarriesAll, SessionsEnd}
 use Rattle.commands.specs.Running.{fresh, status_of}
 use Rattle.commands.specs.Session.{Comes, Over, Final, Then, Whole, printed_in, summary_where}
 use Rattle.commands.specs.Trace.{trace_of, traced}
-use Rattle.commands.proofs.Answered.{Tells, Goes, goes, Ends}
+use Rattle.commands.proofs.Answered.{Tells, goes, Ends}
 
 -- how many events may still come: at most five in each round
 abbrev stage : Option Event → ℕ

@@ -11,6 +11,7 @@ use Rattle.bin_tape.specs.Written.{written_tape}
 use Rattle.bin_tape.proofs.Images.{one_image}
 use Rattle.bin_tape.proofs.Lengths.{written_at_most}
 use Rattle.bin_tape.proofs.Parsed.{tape_read}
+use Rattle.bin_tape.proofs.ReadBack.{reads_back}
 use Rattle.pal_text.specs.declared.names.Name.{Name}
 use Rattle.pal_acts.specs.Permanent.{permanent_symbols}
 use Rattle.pal_asm.specs.Laws.{MeaningIsOne, FaultIsOne, MeaningIsNoFault}
@@ -22,7 +23,7 @@ use Rattle.commands.specs.declared.status.Fault.TheVariants as fault
 use Rattle.commands.specs.declared.status.DeviceFault.TheVariants.{Read, Write}
 use Rattle.commands.specs.AssembleText.{IsAssembled, IsListing, IsListFault, IsSourceFault, HasFault}
 use Rattle.commands.specs.Inputs.{HasImage}
-use Rattle.commands.specs.Laws.{telling, MayMiss, MayBeTold, TapeIsOne, MeantIsRead, ReadIsMeant, MeantIsWritten, FaultIsTold, FaultIsNotWritten, MeantIsListed, FaultIsTheOne}
+use Rattle.commands.specs.Laws.{telling, TapeIsThere, EmptyHasNoTape, MayMiss, MayBeTold, TapeIsOne, MeantIsRead, ReadIsMeant, MeantIsWritten, FaultIsTold, FaultIsNotWritten, MeantIsListed, FaultIsTheOne}
 use Rattle.commands.specs.SourceTexts.{AreRead}
 
 -- sources that tell their bytes hold these parts alone
@@ -62,6 +63,27 @@ meant one profile parts symbols image tape is means =
     let whole : is.assembles.parts ≡ parts = told parts is.assembles.parts is.assembles.read in
     let other : Means (permanent_symbols profile) parts is.symbols is.image = rw whole at is.assembles.means in
     (one (permanent_symbols profile) parts is.symbols symbols is.image image other means).1
+
+-- and hold these
+telling_all : (parts : List (List ℕ)) → AreRead (telling parts) parts
+telling_all [] = tt
+telling_all (part ∷ parts) = (refl, telling_all parts)
+
+pub tape_is_there : TapeIsThere
+tape_is_there profile parts symbols image means holds has_word = record {
+  symbols = symbols;
+  image = image;
+  assembles = record { parts = parts; read = telling_all parts; means = means };
+  has_word = has_word;
+  tape_is = refl;
+  reads_back = reads_back image holds has_word;
+}
+
+pub empty_has_no_tape : MeaningIsOne → EmptyHasNoTape
+empty_has_no_tape one profile parts symbols image tape means empty is =
+    let same : is.image ≡ image = meant one profile parts symbols image tape is means in
+    let has : IsEmptyImage image → ⊥ = rw same at is.has_word in
+    has empty
 
 pub tape_is_one : MeaningIsOne → TapeIsOne
 tape_is_one one profile parts tape tape' is other =

@@ -3,6 +3,7 @@ use Rattle.std.proofs.Common.{zero, suc, refl, ℕ, ◌≡◌, ◌+◌, ◌<◌,
 use Rattle.std.specs.Prelude.{◌≤◌, Option, Some, None, IfSome}
 use Rattle.std.specs.List.{AllByRecursion}
 use Rattle.std.proofs.lemmas.List.{take_more, map-append, drop-set-lt, drop_more}
+use Rattle.std.specs.Io.KnownBytes.{IsAtEnd}
 use Rattle.streams.specs.Bytes.{Gave}
 use Rattle.commands.specs.Inputs.{TakesAtMost}
 use Rattle.commands.specs.SourceTexts.{AreRead, EachTakesAtMost}
@@ -32,6 +33,29 @@ unmarked_next P ss i new within all =
 pub same_next : {S : Type 0} (ss os : List S) (i : ℕ) (new : S) → i < length ss → i < length os → drop i ss ≡ drop i os → drop (i + 1) (slice_set ss i new) ≡ drop (i + 1) os
 same_next ss os i new within short same =
     drop-set-lt (i + 1) ss i new (omega arith) ∙ ap (drop 1) (sym (drop_more ss i new within) ∙ same ∙ drop_more os i new short)
+
+-- those that were read have nothing left, as far as they tell it
+abbrev pub AreEnded : List (Option (List ℕ)) → List (Option (List ℕ)) → Type 0
+AreEnded [] left = Unit {0}
+AreEnded (had ∷ sources) [] = Unit {0}
+AreEnded (had ∷ sources) (has ∷ left) = IfSome had (λ _. IsAtEnd has) × AreEnded sources left
+
+ended_more : {S : Type 0} (remaining : S → Option (List ℕ)) (ss os : List S) (i : ℕ) (d new : S) → i < length ss → i < length os → drop i ss ≡ drop i os →
+    AreEnded (map remaining (take i os)) (map remaining (take i ss)) → IfSome (remaining (get_or ss i d)) (λ _. IsAtEnd (remaining new)) →
+    AreEnded (map remaining (take (suc i) os)) (map remaining (take (suc i) (slice_set ss i new)))
+ended_more remaining [] os i d new short within same all ended = absurd (omega arith)
+ended_more remaining (s ∷ ss) [] i d new short within same all ended = absurd (omega arith)
+ended_more remaining (s ∷ ss) (o ∷ os) zero d new short within same all ended =
+    (subst (λ x. IfSome (remaining x) (λ _. IsAtEnd (remaining new))) (ap (λ l. get_or l 0 d) same) ended, tt)
+ended_more remaining (s ∷ ss) (o ∷ os) (suc i) d new short within same all ended =
+    (all.0, ended_more remaining ss os i d new (omega arith) (omega arith) same all.1 ended)
+
+pub ended_next : {S : Type 0} (remaining : S → Option (List ℕ)) (ss os : List S) (i : ℕ) (d new : S) → i < length ss → i < length os → drop i ss ≡ drop i os →
+    AreEnded (map remaining (take i os)) (map remaining (take i ss)) → IfSome (remaining (get_or ss i d)) (λ _. IsAtEnd (remaining new)) →
+    AreEnded (map remaining (take (i + 1) os)) (map remaining (take (i + 1) (slice_set ss i new)))
+ended_next remaining ss os i d new short within same all ended =
+    let next : suc i ≡ i + 1 = omega arith in
+    subst (λ k. AreEnded (map remaining (take k os)) (map remaining (take k (slice_set ss i new)))) next (ended_more remaining ss os i d new short within same all ended)
 
 -- nothing was taken of any
 untaken : (most : ℕ) (source : Option (List ℕ)) → TakesAtMost most source source

@@ -21,11 +21,12 @@ pub record Assembles (profile : Profile) (sources : List (Option (List ℕ))) (s
   pub read : AreRead sources parts
   pub means : Means (permanent_symbols profile) parts symbols image
 
--- The sources are assembled, and this is the tape of their image: it reads back as that image.
+-- The sources are assembled, and this is the tape of their image, which has a word: it reads back as that image.
 pub record IsAssembled (profile : Profile) (sources : List (Option (List ℕ))) (tape : List ℕ) : Type 0 where
   pub symbols : List (Name × ℕ)
   pub image : List (Option ℕ)
   pub assembles : Assembles profile sources symbols image
+  pub has_word : IsEmptyImage image → ⊥
   pub tape_is : tape ≡ written_tape image
   pub reads_back : IsTape (written_tape image) image
 

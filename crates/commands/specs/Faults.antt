@@ -1,6 +1,6 @@
 -- Which faults a command may have: the first of its inputs that has one, and then its own work. Each table names the
 -- faults that can come; no other does.
-use Rattle.std.specs.Prelude.{ℕ, ◌<◌, Bool, true, false, Result, Err, List, length, IfSome, ◌⊎◌}
+use Rattle.std.specs.Prelude.{ℕ, Bool, true, false, Result, Err, List, IfSome, ◌⊎◌}
 use Rattle.streams.specs.Bytes.{Gave}
 use Rattle.streams.specs.declared.input.InputFault.{InputFault}
 use Rattle.streams.specs.declared.input.InputFault.TheVariants as input_fault
@@ -24,7 +24,7 @@ use Rattle.commands.specs.declared.status.Fault.{Fault}
 use Rattle.commands.specs.declared.status.Fault.TheVariants.{Tape, Declared, Certificate, Events, Guess, Declare, Device}
 use Rattle.commands.specs.declared.status.Fault.TheVariants as fault
 use Rattle.commands.specs.declared.status.DeviceFault.TheVariants.{Read, Write}
-use Rattle.commands.specs.Inputs.{Input, IsGoodTape, IsGoodDeclaration, IsGoodCertificate, FailsBefore, FailsInCertificate, FailsInTape, FailsInText}
+use Rattle.commands.specs.Inputs.{Input, HasCome, IsGoodTape, IsGoodDeclaration, IsGoodCertificate, IsGoodEvents, FailsBefore, FailsInCertificate, FailsInTape, FailsInText}
 
 -- The answer is that a write failed.
 abbrev pub fails_to_write : {T : Type 0} → Result T Fault → Bool
@@ -92,31 +92,31 @@ IsTapeInputFault tape (Tape fault) = IfSome tape.had (λ bytes. Refuses 65536 by
 IsTapeInputFault tape (Device Read) = FailsInTape tape
 IsTapeInputFault tape _ = ⊥
 
--- Why a text of events wasn't read: it has this fault, a read failed, or memory was refused.
+-- Why a text of events wasn't read: it has this fault, a read failed, or memory was refused once some of it had come.
 abbrev pub IsEventsInputFault : Input → Fault → Type 0
 IsEventsInputFault text (Events fault) = IfSome text.had (λ bytes. IsEventsFault bytes fault)
 IsEventsInputFault text (Device Read) = FailsInText most_event_bytes text
-IsEventsInputFault text fault.NoMemory = Unit {0}
+IsEventsInputFault text fault.NoMemory = HasCome text
 IsEventsInputFault text _ = ⊥
 
 -- The same of a declaration.
 abbrev pub IsDeclarationInputFault : Input → Fault → Type 0
 IsDeclarationInputFault text (Declared fault) = IfSome text.had (λ bytes. IsDeclarationFault bytes fault)
 IsDeclarationInputFault text (Device Read) = FailsInText most_declaration_bytes text
-IsDeclarationInputFault text fault.NoMemory = Unit {0}
+IsDeclarationInputFault text fault.NoMemory = HasCome text
 IsDeclarationInputFault text _ = ⊥
 
--- The same of a certificate; memory is refused only where a line that is kept came.
+-- The same of a certificate, where memory is refused only once a line has come that is kept.
 abbrev pub IsCertificateInputFault : Input → Fault → Type 0
 IsCertificateInputFault text (Certificate fault) = IfSome text.had (λ bytes. HasFault bytes fault)
 IsCertificateInputFault text (Device Read) = FailsInCertificate text
 IsCertificateInputFault text fault.NoMemory = Gave text.had text.left AsksForMemory
 IsCertificateInputFault text _ = ⊥
 
--- Why frames or keys weren't read: a read failed, or memory was refused after some came.
+-- Why frames or keys weren't read: a read failed, or memory was refused once some had come.
 abbrev pub IsBytesFault : ℕ → Input → Fault → Type 0
 IsBytesFault most bytes (Device Read) = FailsBefore most bytes
-IsBytesFault most bytes fault.NoMemory = Gave bytes.had bytes.left (λ given. 0 < length given)
+IsBytesFault most bytes fault.NoMemory = HasCome bytes
 IsBytesFault most bytes _ = ⊥
 
 -- The inputs are good, and a write failed or memory was refused.
@@ -137,19 +137,20 @@ IsTapeFault tape fault = IsTapeInputFault tape fault ⊎ (IsGoodTape tape.had ×
 -- The same with a text of events, which is looked at after a good tape.
 abbrev pub IsEventRunFault : Input → Input → Fault → Type 0
 IsEventRunFault tape text fault =
-    IsTapeInputFault tape fault ⊎ (IsGoodTape tape.had × (IsEventsInputFault text fault ⊎ IsRunFault fault))
+    IsTapeInputFault tape fault ⊎ (IsGoodTape tape.had × (IsEventsInputFault text fault ⊎ (IsGoodEvents text.had × IsRunFault fault)))
 
 -- The same with a declaration between them: each input is looked at where those before it are good.
 abbrev pub IsWatchFault : Input → Input → Input → Fault → Type 0
 IsWatchFault tape text list fault =
     IsTapeInputFault tape fault ⊎ (IsGoodTape tape.had × (IsDeclarationInputFault text fault
-    ⊎ (IsGoodDeclaration text.had × (IsEventsInputFault list fault ⊎ IsRunFault fault))))
+    ⊎ (IsGoodDeclaration text.had × (IsEventsInputFault list fault ⊎ (IsGoodEvents list.had × IsRunFault fault)))))
 
 -- The same with a certificate in place of the events.
 abbrev pub IsCheckFault : Input → Input → Input → Fault → Type 0
 IsCheckFault tape text certificate fault =
     IsTapeInputFault tape fault ⊎ (IsGoodTape tape.had × (IsDeclarationInputFault text fault
-    ⊎ (IsGoodDeclaration text.had × (IsCertificateInputFault certificate fault ⊎ IsRunFault fault))))
+    ⊎ (IsGoodDeclaration text.had × (IsCertificateInputFault certificate fault
+    ⊎ (IsGoodCertificate certificate.had × IsRunFault fault)))))
 
 -- Why a certificate isn't migrated: its fault, or after a good one a write failed. Migrating takes no memory.
 abbrev pub IsMigrateFault : Input → Fault → Type 0

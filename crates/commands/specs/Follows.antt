@@ -80,13 +80,3 @@ pub record IsTraceUpToOutput (profile : Profile) (ends_at_halt : Bool) (events :
   pub final : WorldState
   pub follows : Follows profile ends_at_halt (take count events) w lines steps end final
   pub puts : count < length events → puts_out final (get_or events count Step) ≡ true
-
--- The world before an event that prints or punches, and after those before it.
-pub record IsBeforeOutput (profile : Profile) (ends_at_halt : Bool) (events : List Event) (w x : WorldState) : Type 0 where
-  pub count : ℕ
-  pub within : count < length events
-  pub lines : List ℕ
-  pub steps : ℕ
-  pub end : End
-  pub follows : Follows profile ends_at_halt (take count events) w lines steps end x
-  pub puts : puts_out x (get_or events count Step) ≡ true

@@ -2,8 +2,7 @@
 use Rattle.std.specs.Prelude.{ℕ, ◌≡◌, ◌≤◌, ◌<◌, Bool, true, IfSome, List, Option, length, take}
 use Rattle.streams.specs.Bytes.{Gave}
 use Rattle.bin_tape.specs.Tape.{IsTape}
-use Rattle.bin_tape.specs.Refuses.{IsUnfinished}
-use Rattle.bin_tape.specs.Serving as tape
+use Rattle.bin_tape.specs.Serving.{IsUnanswered as IsUnansweredTape, IsPrompt as IsPromptTape}
 use Rattle.peripherals.specs.declared.Event.{Event}
 use Rattle.peripherals.specs.EventText.{Spells}
 use Rattle.declaration.specs.Declaration.{Declaration}
@@ -47,6 +46,11 @@ pub record IsGoodDeclaration (text : Option (List ℕ)) : Type 0 where
   pub declaration : Declaration
   pub declares : HasDeclaration text declaration
 
+-- The text is that of a list of events.
+pub record IsGoodEvents (text : Option (List ℕ)) : Type 0 where
+  pub events : List Event
+  pub spelled : HasEvents text events
+
 -- The text is that of a certificate.
 pub record IsGoodCertificate (certificate : Option (List ℕ)) : Type 0 where
   pub lines : Lines
@@ -61,10 +65,10 @@ pub record Input : Type 0 where
 abbrev pub input : Bool → Option (List ℕ) → Option (List ℕ) → Input
 input failed had left = record { failed = failed; had = had; left = left }
 
--- A read of a tape failed, and the frames given before it bring no answer.
+-- A read of a tape failed, and the frames given before it bring no answer: no trailer has come, and another is looked at.
 pub record FailsInTape (tape : Input) : Type 0 where
   pub failed : tape.failed ≡ true
-  pub unanswered : Gave tape.had tape.left IsUnfinished
+  pub unanswered : Gave tape.had tape.left IsUnansweredTape
 
 -- A read of a text failed, and so many bytes at most were given before it: the text may still be short enough.
 pub record FailsInText (most : ℕ) (text : Input) : Type 0 where
@@ -75,6 +79,10 @@ pub record FailsInText (most : ℕ) (text : Input) : Type 0 where
 pub record FailsInCertificate (certificate : Input) : Type 0 where
   pub failed : certificate.failed ≡ true
   pub unanswered : Gave certificate.had certificate.left IsUnanswered
+
+-- Some byte of it has come: before that no memory is wanted for it.
+abbrev pub HasCome : Input → Type 0
+HasCome text = Gave text.had text.left (λ given. 0 < length given)
 
 -- These are the first bytes of a source, so many at most.
 abbrev pub AreFirst : ℕ → Option (List ℕ) → List ℕ → Type 0
@@ -93,7 +101,7 @@ TakesAtMost most had left = Gave had left (λ given. length given ≤ most)
 -- one that brings the answer.
 pub record TakesTape (had left : Option (List ℕ)) : Type 0 where
   pub limit : TakesAtMost 65537 had left
-  pub prompt : Gave had left (tape.IsPrompt 511)
+  pub prompt : Gave had left (IsPromptTape 511)
 
 -- Of a certificate as many as it may have and one, and at most 511 past the one that brings the answer.
 pub record TakesCertificate (had left : Option (List ℕ)) : Type 0 where

@@ -10,7 +10,8 @@ use Rattle.commands.specs.declared.status.Fault.TheVariants.{EmptyImage, Source,
 use Rattle.commands.specs.declared.status.Fault.TheVariants as fault
 use Rattle.commands.specs.declared.status.Status.{Status}
 use Rattle.instruct.specs.declared.Profile.{Profile}
-use Rattle.bin_tape.specs.Image.{IsEmptyImage}
+use Rattle.bin_tape.specs.Image.{HoldsWords, IsEmptyImage}
+use Rattle.bin_tape.specs.Written.{written_tape}
 use Rattle.pal_text.specs.declared.names.Name.{Name}
 use Rattle.pal_acts.specs.Permanent.{permanent_symbols}
 use Rattle.pal_asm.specs.Sources.{Means, IsFault}
@@ -73,6 +74,19 @@ ReadIsMeant =
     (profile : Profile) (parts : List (List ℕ)) (image : List (Option ℕ)) (tape : List ℕ) →
     IsAssembled profile (telling parts) tape → HasImage (Some tape) image →
     (symbols : List (Name × ℕ)) × Means (permanent_symbols profile) parts symbols image
+
+-- A source that means an image with a word has a tape,
+abbrev pub TapeIsThere : Type 0
+TapeIsThere =
+    (profile : Profile) (parts : List (List ℕ)) (symbols : List (Name × ℕ)) (image : List (Option ℕ)) →
+    Means (permanent_symbols profile) parts symbols image → HoldsWords image → (IsEmptyImage image → ⊥) →
+    IsAssembled profile (telling parts) (written_tape image)
+
+-- and one that means an image without a word has none.
+abbrev pub EmptyHasNoTape : Type 0
+EmptyHasNoTape =
+    (profile : Profile) (parts : List (List ℕ)) (symbols : List (Name × ℕ)) (image : List (Option ℕ)) (tape : List ℕ) →
+    Means (permanent_symbols profile) parts symbols image → IsEmptyImage image → IsAssembled profile (telling parts) tape → ⊥
 
 -- Why a source that means an image may have no tape: the image has no word, a device failed, or memory was refused.
 abbrev pub MayMiss : List (Option ℕ) → Fault → Type 0

@@ -43,7 +43,7 @@ pub record IsTraceOf (options : RunOptions) (ends_at_halt : Bool) (events : List
   pub is : IsTraceOfSome options.profile ends_at_halt events (fresh image options.start) text
 
 -- A trace is asked for, and the text is that of the run of all these events, or of those before one that prints or punches.
-pub record IsAskedTrace (options : RunOptions) (ends_at_halt : Bool) (events : List Event) (image : List (Option ℕ)) (text : List ℕ) : Type 0 where
+pub record IsTraceToOutput (options : RunOptions) (ends_at_halt : Bool) (events : List Event) (image : List (Option ℕ)) (text : List ℕ) : Type 0 where
   pub asked : options.trace ≡ true
   pub is : IsTraceUpToOutput options.profile ends_at_halt events (fresh image options.start) text
 
@@ -84,7 +84,7 @@ pub record IsPartOfEventRun (options : RunOptions) (frames list : Option (List �
 pub record IsTraceOfRounds (options : RunOptions) (frames : Option (List ℕ)) (text : List ℕ) : Type 0 where
   pub image : List (Option ℕ)
   pub tape : HasImage frames image
-  pub is : IsAskedTrace options true (rounds options.rounds) image text
+  pub is : IsTraceToOutput options true (rounds options.rounds) image text
 
 -- The same by the events that a list spells.
 pub record IsTraceOfEvents (options : RunOptions) (frames list : Option (List ℕ)) (text : List ℕ) : Type 0 where
@@ -92,4 +92,4 @@ pub record IsTraceOfEvents (options : RunOptions) (frames list : Option (List �
   pub tape : HasImage frames image
   pub events : List Event
   pub spelled : HasEvents list events
-  pub is : IsAskedTrace options false events image text
+  pub is : IsTraceToOutput options false events image text

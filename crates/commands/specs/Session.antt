@@ -1,6 +1,7 @@
 -- A run with an operator: which events come, and what is written, printed and punched.
-use Rattle.std.specs.Prelude.{ℕ, ◌≡◌, ◌≤◌, ◌%◌, Bool, true, false, ◌||◌, ◌⊎◌, Option, Some, None, List, [], ◌∷◌, ◌++◌, map, take, length}
+use Rattle.std.specs.Prelude.{ℕ, ◌≡◌, ◌+◌, ◌≤◌, ◌%◌, Bool, true, false, ◌||◌, ◌⊎◌, Option, Some, None, List, [], ◌∷◌, ◌++◌, map, take, length}
 use Rattle.std.specs.Io.KnownBytes.{Appends}
+use Rattle.streams.specs.Bytes.{AppendsFront}
 use Rattle.instruct.specs.declared.Profile.{Profile}
 use Rattle.peripherals.specs.declared.Event.{Event}
 use Rattle.peripherals.specs.Devices.{WorldState}
@@ -19,7 +20,7 @@ use Rattle.commands.specs.Running.{fresh, status_of}
 use Rattle.commands.specs.Summary.{summary}
 use Rattle.commands.specs.Trace.{traced}
 
--- How much of a run is told: all that comes; all of it, or what comes before an event that prints or punches; or any first part of it.
+-- How much of a run is told: all that comes; what comes up to an event that prints or punches; or what comes up to any event.
 pub data Extent : Type 0 where
   Whole : Extent
   UpToOutput : Extent
@@ -81,7 +82,7 @@ extent_after true = UpToAny
 extent_after false = UpToOutput
 
 -- It broke off in x after some first events: fronts of the trace and of the characters went out. All of the trace did
--- unless the report failed, and all the characters unless the report or the teletype did.
+-- unless the report failed, and all the characters unless the report or the teletype did; at most the last one is missing.
 pub record BrokeOff (profile : Profile) (trace : Bool) (plan : Plan) (w x : WorldState) (reported typed : Bool) (old new told tells : Option (List ℕ)) : Type 0 where
   pub events : List Event
   pub come : Comes profile (extent_after (reported || typed)) plan None w events
@@ -93,6 +94,9 @@ pub record BrokeOff (profile : Profile) (trace : Bool) (plan : Plan) (w x : Worl
   pub printed : AppendsSome told tells (printed_in x)
   pub wrote_whole : reported ≡ false → Appends old new (traced trace lines)
   pub printed_whole : (reported || typed) ≡ false → Appends told tells (printed_in x)
+  pub wrote_front : reported ≡ true → AppendsFront old new (traced trace lines)
+  pub printed_front : typed ≡ true → AppendsFront told tells (printed_in x)
+  pub printed_nearly : length (printed_in x) ≤ printed.count + 1
 
 -- The summary stands after a whole run.
 abbrev pub summary_where : Extent → End → WorldState → ℕ → List ℕ
@@ -138,8 +142,7 @@ pub record IsSession (options : SessionOptions) (extent : Extent) (tape reader k
 -- What a run with an operator that has a fault may be about to write, to print and to punch. The summary, which a whole run
 -- alone has, is written last: after it only that write itself can fail, so it's about to be written only where the report
 -- failed. Where neither the report nor the teletype failed, the run came to its end or to an event that prints or punches.
-pub record IsPartOfSession (options : SessionOptions) (reported typed : Bool) (tape reader keys : Option (List ℕ)) (text printed punched : List ℕ) : Type 0 where
-  pub extent : Extent
+pub record IsPartOfSession (options : SessionOptions) (reported typed : Bool) (tape reader keys : Option (List ℕ)) (extent : Extent) (text printed punched : List ℕ) : Type 0 where
   pub summed : extent ≡ Whole → reported ≡ true
   pub to_output : (reported || typed) ≡ false → extent ≡ UpToOutput
   pub status : Status
@@ -173,20 +176,34 @@ pub record Failures : Type 0 where
 abbrev pub failures : Bool → Bool → Bool → Failures
 failures report teletype punch = record { report = report; teletype = teletype; punch = punch }
 
--- A front of each of three such texts was appended: all of the report and of what was punched unless the write of it failed,
--- and all that was printed unless the teletype failed or the report did, which comes before it.
-pub record FrontsOf (P : List ℕ → List ℕ → List ℕ → Type 0) (failed : Failures) (old new : Taken) : Type 0 where
+-- A front of each of three such texts, which are told to some extent, was appended: all of the report and of what was punched
+-- unless the write of it failed, and all that was printed unless the teletype failed or the report did, which comes before it.
+-- Where a write failed its front isn't all. Whatever failed, at most the last character wasn't typed; and before the summary,
+-- which is written last, all was typed and punched.
+pub record FrontsOf (P : Extent → List ℕ → List ℕ → List ℕ → Type 0) (failed : Failures) (old new : Taken) : Type 0 where
+  pub extent : Extent
   pub text : List ℕ
   pub printed : List ℕ
   pub punched : List ℕ
-  pub is : P text printed punched
+  pub is : P extent text printed punched
   pub to_report : AppendsSome old.report new.report text
   pub to_teletype : AppendsSome old.teletype new.teletype printed
   pub to_punch : AppendsSome old.punch new.punch punched
   pub report_whole : failed.report ≡ false → Appends old.report new.report text
   pub teletype_whole : (failed.report || failed.teletype) ≡ false → Appends old.teletype new.teletype printed
   pub punch_whole : failed.punch ≡ false → Appends old.punch new.punch punched
+  pub report_front : failed.report ≡ true → AppendsFront old.report new.report text
+  pub teletype_front : failed.teletype ≡ true → AppendsFront old.teletype new.teletype printed
+  pub punch_front : failed.punch ≡ true → AppendsFront old.punch new.punch punched
+  pub typed_nearly : length printed ≤ to_teletype.count + 1
+  pub typed_before_summary : extent ≡ Whole → Appends old.teletype new.teletype printed
+  pub punched_before_summary : extent ≡ Whole → Appends old.punch new.punch punched
 
--- Nothing was written at all, or fronts of three such texts.
-abbrev pub NothingOrFronts : (List ℕ → List ℕ → List ℕ → Type 0) → Failures → Taken → Taken → Type 0
-NothingOrFronts P failed old new = (new ≡ old) ⊎ FrontsOf P failed old new
+-- Fronts went out of what a run with an operator may be about to write, where these of its sinks failed.
+abbrev pub SessionFronts : SessionOptions → Failures → Option (List ℕ) → Option (List ℕ) → Option (List ℕ) → Taken → Taken → Type 0
+SessionFronts options failed tape reader keys old new =
+    FrontsOf (IsPartOfSession options failed.report failed.teletype tape reader keys) failed old new
+
+-- Nothing was written at all, or such fronts were.
+abbrev pub NothingOrFronts : SessionOptions → Failures → Option (List ℕ) → Option (List ℕ) → Option (List ℕ) → Taken → Taken → Type 0
+NothingOrFronts options failed tape reader keys old new = (new ≡ old) ⊎ SessionFronts options failed tape reader keys old new

@@ -1,6 +1,7 @@
 -- One event of an operator's run, and what a run leaves. Private contracts alone cite this.
 use Rattle.std.specs.Prelude.{ℕ, ◌≡◌, Bool, true, false, ◌||◌, ◌⊎◌, List, Option, drop, length, map}
 use Rattle.std.specs.Io.KnownBytes.{Appends}
+use Rattle.streams.specs.Bytes.{AppendsFront}
 use Rattle.instruct.specs.declared.Profile.{Profile}
 use Rattle.peripherals.specs.declared.Event.{Event}
 use Rattle.peripherals.specs.declared.Event.TheVariants.{Step}
@@ -31,8 +32,9 @@ pub record Played (profile : Profile) (trace : Bool) (w : WorldState) (e : Event
   pub printed : Appends told tells (printed_from w x)
 
 -- Memory was refused for what the event puts out, and nothing happened.
-pub record Unplayed (w : WorldState) (e : Event) (x : WorldState) (old new told tells : Option (List ℕ)) : Type 0 where
+pub record Unplayed (w : WorldState) (e : Event) (x : WorldState) (reported typed : Bool) (old new told tells : Option (List ℕ)) : Type 0 where
   pub same : x ≡ w
+  pub unfailed : (reported || typed) ≡ false
   pub wanted : puts_out w e ≡ true
   pub unwritten : new ≡ old
   pub unprinted : tells ≡ told
@@ -45,14 +47,15 @@ pub record Faltered (profile : Profile) (trace : Bool) (w : WorldState) (e : Eve
   pub printed : AppendsSome told tells (printed_from w x)
   pub wrote_whole : reported ≡ false → Appends old new (traced trace (trace_of profile w e x))
   pub printed_whole : (reported || typed) ≡ false → Appends told tells (printed_from w x)
+  pub wrote_front : reported ≡ true → AppendsFront old new (traced trace (trace_of profile w e x))
+  pub printed_front : typed ≡ true → AppendsFront told tells (printed_from w x)
 
 abbrev pub PlayedFront : Profile → Bool → WorldState → Event → WorldState → Bool → Bool → Option (List ℕ) → Option (List ℕ) → Option (List ℕ) → Option (List ℕ) → Type 0
 PlayedFront profile trace w e x reported typed old new told tells =
-    Unplayed w e x old new told tells ⊎ Faltered profile trace w e x reported typed old new told tells
+    Unplayed w e x reported typed old new told tells ⊎ Faltered profile trace w e x reported typed old new told tells
 
 -- What the events of a plan, or the first of them, leave; all of them with the summary, where the report failed.
-pub record IsPartOfPlan (options : RunOptions) (reported typed : Bool) (plan : Plan) (image : List (Option ℕ)) (text printed punched : List ℕ) : Type 0 where
-  pub extent : Extent
+pub record IsPartOf (options : RunOptions) (reported typed : Bool) (plan : Plan) (image : List (Option ℕ)) (extent : Extent) (text printed punched : List ℕ) : Type 0 where
   pub summed : extent ≡ Whole → reported ≡ true
   pub to_output : (reported || typed) ≡ false → extent ≡ UpToOutput
   pub status : Status

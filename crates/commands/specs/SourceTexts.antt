@@ -72,6 +72,14 @@ pub record IsLongAt (sources : List (Option (List ℕ))) (at : ℕ) : Type 0 whe
   pub there : slice_get sources at ≡ Some (Some part)
   pub long : 65536 < length part
 
+-- Of sources that had these bytes and have those left, this one has some left.
+pub record HasLeft (sources left : List (Option (List ℕ))) (at : ℕ) : Type 0 where
+  pub part : List ℕ
+  pub there : slice_get sources at ≡ Some (Some part)
+  pub next : ℕ
+  pub more : List ℕ
+  pub still : slice_get left at ≡ Some (Some (next ∷ more))
+
 -- The sources after this one are as they were.
 abbrev pub LeavesThoseAfter : {S : Type 0} → ℕ → List S → List S → Type 0
 LeavesThoseAfter at old new = drop (at + 1) new ≡ drop (at + 1) old

@@ -9,7 +9,7 @@ ghost use Rattle.pal_acts.specs.declared.code.Code.TheVariants.{TooLong};
 ghost use Rattle.pal_asm.specs.Sources.{fault_at, texts, Means};
 ghost use Rattle.commands.specs.AssembleText.{IsAssembled, IsAssemblyFault, IsListFault, IsListing, IsSourceFault};
 ghost use Rattle.commands.specs.Faults.{fails_to_read, fails_to_write};
-ghost use Rattle.commands.specs.SourceTexts.{EachTakesAtMost, IsLongAt, LeavesThoseAfter, is_bad_number};
+ghost use Rattle.commands.specs.SourceTexts.{EachTakesAtMost, HasLeft, IsLongAt, LeavesThoseAfter, is_bad_number};
 ghost use Rattle.commands.specs.Writes.{FrontOf, Writes};
 ghost use Rattle.commands.specs.declared.status.Fault.TheVariants.{Source};
 ghost use Rattle.commands.specs.declared.status.Status.TheVariants.{Done};
@@ -100,6 +100,10 @@ pub fn assemble<A: Allocator + Copy, R: ByteSource, W: ByteSink>(
         LeavesThoseAfter at sources.old sources.new }
     ensures unread_after_failure { (at : ℕ) → slice_get (map R.mark sources.new) at ≡ Some true →
         LeavesThoseAfter at sources.old sources.new }
+    // A source is read only where those before it are read to their ends.
+    ensures unread_after { (at : ℕ) →
+        HasLeft (map R.remaining sources.old) (map R.remaining sources.new) at →
+        LeavesThoseAfter at sources.old sources.new }
     // Of a source no more is taken than a part may have and a byte.
     ensures takes { EachTakesAtMost 65537 (map R.remaining sources.old)
         (map R.remaining sources.new) }
@@ -144,6 +148,9 @@ pub fn list<A: Allocator + Copy, R: ByteSource, W: ByteSink>(
     ensures unread { (at : ℕ) → IsLongAt (map R.remaining sources.old) at →
         LeavesThoseAfter at sources.old sources.new }
     ensures unread_after_failure { (at : ℕ) → slice_get (map R.mark sources.new) at ≡ Some true →
+        LeavesThoseAfter at sources.old sources.new }
+    ensures unread_after { (at : ℕ) →
+        HasLeft (map R.remaining sources.old) (map R.remaining sources.new) at →
         LeavesThoseAfter at sources.old sources.new }
     ensures takes { EachTakesAtMost 65537 (map R.remaining sources.old)
         (map R.remaining sources.new) }

@@ -1,14 +1,17 @@
 //! The command that checks a certificate.
 
-ghost use Rattle.std.specs.Prelude.{◌≡◌, ◌||◌, ◌++◌, codes, false, true, IfOk, IfErr, OnErr, OnOk, Option};
+ghost use Rattle.std.specs.Prelude.{◌≡◌, ◌||◌, ◌++◌, ◌⊎◌, codes, false, true, Err, IfOk, IfErr, OnErr, OnOk, Option};
+ghost use Rattle.streams.specs.Bytes.{Gave};
 ghost use Rattle.word12.specs.Words.{octal_text};
 ghost use Rattle.wordset.specs.Words.{SameWords};
 ghost use Rattle.wordset.specs.Lanes.{words};
 ghost use Rattle.declaration.specs.Kept.{meaning};
 ghost use Rattle.commands.specs.CheckText.{IsChecked, IsCheckedSo, condition_text, counted, in_bodies, is_halt, no_text, reads_text, verdict_status, verdict_text, yes_text};
 ghost use Rattle.commands.specs.Faults.{IsCheckFault, is_fault_of_declaration, is_fault_of_tape, fails_to_read, fails_to_write};
-ghost use Rattle.commands.specs.Inputs.{TakesAtMost, TakesCertificate, TakesTape, input};
+ghost use Rattle.commands.specs.Inputs.{IsGoodCertificate, IsGoodDeclaration, IsGoodTape, TakesAtMost, TakesCertificate, TakesTape, input};
 ghost use Rattle.commands.specs.Writes.{FrontOf, Writes};
+ghost use Rattle.commands.specs.declared.status.Fault.TheVariants.{NoMemory};
+ghost use Rattle.certificate.specs.Faults.{AsksForMemory};
 
 use crate::inputs::{certificate_from, declaration_from, tape_from};
 use crate::status::{Fault, Status};
@@ -268,6 +271,15 @@ pub fn check<A: Allocator + Copy, R: ByteSource, D: ByteSource, C: ByteSource, W
         (declaration.new ≡ declaration.old) × (certificate.new ≡ certificate.old) }
     ensures unread_certificate_after_failure { D.mark declaration.new ≡ true →
         certificate.new ≡ certificate.old }
+    // It is read only after those before it are good,
+    ensures declaration_after_tape { (declaration.new ≡ declaration.old) ⊎
+        IsGoodTape (R.remaining tape.old) }
+    ensures certificate_after_declaration { (certificate.new ≡ certificate.old) ⊎
+        IsGoodDeclaration (D.remaining declaration.old) }
+    // and memory that is refused after the certificate was begun is wanted for it or after it.
+    ensures wanted { result ≡ Err NoMemory → (certificate.new ≡ certificate.old) ⊎
+        (Gave (C.remaining certificate.old) (C.remaining certificate.new) AsksForMemory ⊎
+        IsGoodCertificate (C.remaining certificate.old)) }
     // No input is read past its limit.
     ensures takes_tape { TakesTape (R.remaining tape.old) (R.remaining tape.new) }
     ensures takes_declaration { TakesAtMost 16385

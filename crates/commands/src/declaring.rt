@@ -60,7 +60,7 @@ fn push_verdict<A: Allocator, B: Allocator>(
 ) -> Result<(), AllocError> {
     match verdict {
         Verdict::Safe(_) => return Ok(()),
-        Verdict::Refused(refusal) => {
+        Verdict::Refused(_, refusal) => {
             text.extend_from_slice(b"/ No certificate is found: ")?;
             text.extend_from_slice(condition_name(refusal.condition).as_bytes())?;
             push_place(text, b" fails at ", refusal.address)?;

@@ -1,14 +1,16 @@
 //! The command that checks a certificate and says why a verdict is no.
 
-ghost use Rattle.std.specs.Prelude.{◌≡◌, ◌||◌, ◌++◌, false, true, is_err, IfOk, IfErr, OnErr, OnOk};
+ghost use Rattle.std.specs.Prelude.{◌≡◌, ◌||◌, ◌++◌, ◌⊎◌, false, true, is_err, Err, IfOk, IfErr, OnErr, OnOk};
 ghost use Rattle.std.specs.Io.KnownBytes.{Appends};
-ghost use Rattle.streams.specs.Bytes.{AppendsFront};
+ghost use Rattle.streams.specs.Bytes.{AppendsFront, Gave};
 ghost use Rattle.certificate.specs.Kept.{meaning as lines_of};
 ghost use Rattle.judge.specs.Judged.{judged};
 ghost use Rattle.commands.specs.Faults.{IsCheckFault, is_fault_of_declaration, is_fault_of_tape, fails_to_read, fails_to_write};
-ghost use Rattle.commands.specs.Inputs.{TakesAtMost, TakesCertificate, TakesTape, input};
+ghost use Rattle.commands.specs.Inputs.{IsGoodCertificate, IsGoodDeclaration, IsGoodTape, TakesAtMost, TakesCertificate, TakesTape, input};
 ghost use Rattle.commands.specs.WhyText.{IsExplained, IsExplainedSo, IsReason, fact_shown};
 ghost use Rattle.commands.specs.Writes.{FrontOf, Writes};
+ghost use Rattle.commands.specs.declared.status.Fault.TheVariants.{NoMemory};
+ghost use Rattle.certificate.specs.Faults.{AsksForMemory};
 
 use crate::checking::{verdict_line, verdict_status};
 use crate::inputs::{certificate_from, declaration_from, tape_from};
@@ -61,7 +63,7 @@ fn put_fact<A: Allocator, W: ByteSink>(
 /// cells in bodies, of variables, of entries, of declared halts and, where they are listed, of cells
 /// that may be read; or the first condition that fails and its address, and then the status is
 /// `Refused`, and lines follow that say why: the address with its word and name, what the condition
-/// asks, what breaks it, and the lines of the fact there.
+/// asks, what breaks it as far as that is found, and the lines of the fact there.
 ///
 /// # Errors
 ///
@@ -111,6 +113,15 @@ pub fn explain<A: Allocator + Copy, R: ByteSource, D: ByteSource, C: ByteSource,
         (declaration.new ≡ declaration.old) × (certificate.new ≡ certificate.old) }
     ensures unread_certificate_after_failure { D.mark declaration.new ≡ true →
         certificate.new ≡ certificate.old }
+    // It is read only after those before it are good,
+    ensures declaration_after_tape { (declaration.new ≡ declaration.old) ⊎
+        IsGoodTape (R.remaining tape.old) }
+    ensures certificate_after_declaration { (certificate.new ≡ certificate.old) ⊎
+        IsGoodDeclaration (D.remaining declaration.old) }
+    // and memory that is refused after the certificate was begun is wanted for it or after it.
+    ensures wanted { result ≡ Err NoMemory → (certificate.new ≡ certificate.old) ⊎
+        (Gave (C.remaining certificate.old) (C.remaining certificate.new) AsksForMemory ⊎
+        IsGoodCertificate (C.remaining certificate.old)) }
     // No input is read past its limit.
     ensures takes_tape { TakesTape (R.remaining tape.old) (R.remaining tape.new) }
     ensures takes_declaration { TakesAtMost 16385

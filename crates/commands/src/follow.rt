@@ -7,10 +7,10 @@ ghost use Rattle.peripherals.specs.Events.{Happens};
 ghost use Rattle.peripherals.specs.Seen.{puts_out, seen_of};
 ghost use Rattle.peripherals.specs.World.{view, profile_of};
 ghost use Rattle.commands.specs.Faults.{IsRunFault, fails_to_write};
-ghost use Rattle.commands.specs.Follows.{IsBeforeOutput, IsReached, IsTraceOfSome, IsTraceUpToOutput, end_of};
-ghost use Rattle.commands.specs.Course.{Ran, ends_at_halt, event_of_round, events_in};
+ghost use Rattle.commands.specs.Follows.{IsReached, IsTraceOfSome, end_of};
+ghost use Rattle.commands.specs.Course.{Ran, RanIntoLine, RanToOutput, ends_at_halt, event_of_round, events_in};
 ghost use Rattle.commands.specs.Trace.{trace_of, traced};
-ghost use Rattle.commands.specs.Writes.{FrontOf, Writes};
+ghost use Rattle.commands.specs.Writes.{FrontOf};
 
 use crate::status::Fault;
 use crate::trace::put_trace;
@@ -205,15 +205,16 @@ pub fn follow<A: Allocator, W: ByteSink>(
     // After a fault the world is the one after some first events.
     ensures reached { OnErr result (IsReached (profile_of world.old) (ends_at_halt course.now)
         (events_in course.now) (view world.old) (view world.new)) }
-    // Where memory was refused, that was before an event that prints or punches,
-    ensures wants { OnErr result (W.mark out.new ≡ false → IsBeforeOutput
+    // Where memory was refused, that was before an event that prints or punches: those before it led
+    // to the world, and their whole lines went out.
+    ensures refused { OnErr result (W.mark out.new ≡ false → RanToOutput
+        (profile_of world.old) (ends_at_halt course.now) trace (events_in course.now)
+        (view world.old) (view world.new) (W.taken out.old) (W.taken out.new)) }
+    // Where a line wasn't written whole, the world is the one after its event, and the whole lines of
+    // the events before it went out.
+    ensures broke { W.mark out.new ≡ true → RanIntoLine
         (profile_of world.old) (ends_at_halt course.now) (events_in course.now)
-        (view world.old) (view world.new)) }
-    // and the whole lines of the events before it went out.
-    ensures traced { OnErr result (W.mark out.new ≡ false → trace ≡ true → Writes
-        (IsTraceUpToOutput (profile_of world.old) (ends_at_halt course.now) (events_in course.now)
-        (view world.old))
-        (W.taken out.old) (W.taken out.new)) }
+        (view world.old) (view world.new) (W.taken out.old) (W.taken out.new) }
 {
     let mut steps = 0;
     for index in 0..course.len() {

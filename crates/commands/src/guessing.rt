@@ -1,9 +1,9 @@
 //! The command that guesses a certificate.
 
-ghost use Rattle.std.specs.Prelude.{◌≡◌, ◌||◌, false, true, IfOk, IfErr, OnErr, OnOk};
+ghost use Rattle.std.specs.Prelude.{◌≡◌, ◌||◌, ◌⊎◌, false, true, IfOk, IfErr, OnErr, OnOk};
 ghost use Rattle.commands.specs.CertificateText.{IsGuess};
 ghost use Rattle.commands.specs.Faults.{IsGuessFault, is_fault_of_tape, fails_to_read, fails_to_write};
-ghost use Rattle.commands.specs.Inputs.{TakesAtMost, TakesTape, input};
+ghost use Rattle.commands.specs.Inputs.{IsGoodTape, TakesAtMost, TakesTape, input};
 ghost use Rattle.commands.specs.Writes.{FrontOf, Writes};
 ghost use Rattle.commands.specs.declared.status.Status.TheVariants.{Done};
 
@@ -54,6 +54,9 @@ pub fn guess<A: Allocator + Copy, R: ByteSource, D: ByteSource, W: ByteSink>(
     ensures unread { IfErr result (λ fault. is_fault_of_tape fault ≡ true →
         declaration.new ≡ declaration.old) }
     ensures unread_after_failure { R.mark tape.new ≡ true → declaration.new ≡ declaration.old }
+    // It is read only after a good tape.
+    ensures declaration_after_tape { (declaration.new ≡ declaration.old) ⊎
+        IsGoodTape (R.remaining tape.old) }
     // No input is read past its limit.
     ensures takes_tape { TakesTape (R.remaining tape.old) (R.remaining tape.new) }
     ensures takes_declaration { TakesAtMost 16385

@@ -1,6 +1,7 @@
 //! What commands read: tapes, declarations and lists of events.
 
 ghost use Rattle.std.specs.Prelude.{◌≡◌, false, IfOk, IfErr};
+ghost use Rattle.std.specs.Io.KnownBytes.{Consumes};
 ghost use Rattle.declaration.specs.Kept.{meaning};
 ghost use Rattle.certificate.specs.Kept.{meaning as lines_of};
 ghost use Rattle.commands.specs.Faults.{IsTapeInputFault, IsCertificateInputFault, IsDeclarationInputFault, IsEventsInputFault, IsBytesFault, fails_to_read};
@@ -81,6 +82,8 @@ pub(crate) fn bytes_from<A: Allocator, R: ByteSource>(
 ) -> Result<Vec<u8, A>, Fault>
     requires { R.mark source.old ≡ false }
     ensures bytes { IfOk result (λ bytes. AreFirst most (R.remaining source.old) bytes.items) }
+    ensures taken { IfOk result (λ bytes.
+        Consumes (R.remaining source.old) (R.remaining source.new) bytes.items) }
     ensures faults { IfErr result (IsBytesFault most
         (input (R.mark source.new) (R.remaining source.old) (R.remaining source.new))) }
     ensures marks { R.mark source.new ≡ fails_to_read result }

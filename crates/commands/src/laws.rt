@@ -1,6 +1,6 @@
 //! Laws over the definitions alone. Each is the contract of a function that does nothing.
 
-ghost use Rattle.commands.specs.Laws.{FaultIsNotWritten, FaultIsTheOne, FaultIsTold, MeantIsListed, MeantIsRead, MeantIsWritten, ReadIsMeant, RunsEnd, SessionsEnd, TapeIsOne};
+ghost use Rattle.commands.specs.Laws.{EmptyHasNoTape, FaultIsNotWritten, FaultIsTheOne, FaultIsTold, MeantIsListed, MeantIsRead, MeantIsWritten, ReadIsMeant, RunsEnd, SessionsEnd, TapeIsOne, TapeIsThere};
 
 use pal_asm::laws::answers_are_one;
 
@@ -16,9 +16,13 @@ pub fn sessions_end()
     ensures { SessionsEnd }
 {}
 
-/// A source that tells its bytes has one tape at most; the image that the source means is read of it,
-/// and whatever image is read of it is the one that the source means.
+/// From a source to its tape and to the image that is read of the tape is one function, in both
+/// directions: a source that means an image with a word has a tape, and one without a word has none;
+/// the tape that `assemble` writes is one, the image that the source means is read of it, and whatever
+/// image is read of it is the one that the source means.
 pub fn sources_are_read_back()
+    ensures there { TapeIsThere }
+    ensures empty { EmptyHasNoTape }
     ensures tape { TapeIsOne }
     ensures read { MeantIsRead }
     ensures meant { ReadIsMeant }
@@ -26,9 +30,9 @@ pub fn sources_are_read_back()
     answers_are_one();
 }
 
-/// `assemble` and `list` tell no wrong fault of sources that tell their bytes. One that means
-/// something is refused only since it has no word (`assemble` alone) or memory or a device failed; one
-/// with a fault is told that fault, or that memory or a device failed, and nothing is written of it.
+/// What `assemble` and `list` answer is exact in both directions. A source that means something is
+/// refused only for want of a word, of memory or of a device; one with a fault is told that fault,
+/// or that a device or memory failed, and nothing is written of it.
 pub fn assemblies_are_exact()
     ensures meant { MeantIsWritten }
     ensures told { FaultIsTold }

@@ -1,11 +1,11 @@
 //! The commands that read a tape: its run and its words.
 
-ghost use Rattle.std.specs.Prelude.{◌≡◌, ◌||◌, true, false, Err, IfOk, IfErr, OnOk, OnErr};
+ghost use Rattle.std.specs.Prelude.{◌≡◌, ◌||◌, ◌⊎◌, true, false, Err, IfOk, IfErr, OnOk, OnErr};
 ghost use Rattle.commands.specs.Dumping.{IsDump};
 ghost use Rattle.commands.specs.Faults.{is_fault_of_tape, fails_to_read, fails_to_write, IsEventRunFault, IsRunFault, IsTapeFault};
 ghost use Rattle.commands.specs.Course.{ends_at_halt, events_in};
-ghost use Rattle.commands.specs.Inputs.{TakesAtMost, TakesTape, input};
-ghost use Rattle.commands.specs.Running.{IsEventRun, IsPartOf, IsPartOfEventRun, IsPartOfRoundRun, IsRoundRun, IsRunOf, IsAskedTrace, IsTraceOfEvents, IsTraceOfRounds, status_of};
+ghost use Rattle.commands.specs.Inputs.{HasCome, TakesAtMost, TakesTape, input};
+ghost use Rattle.commands.specs.Running.{IsEventRun, IsPartOf, IsPartOfEventRun, IsPartOfRoundRun, IsRoundRun, IsRunOf, IsTraceToOutput, IsTraceOfEvents, IsTraceOfRounds, status_of};
 ghost use Rattle.commands.specs.Writes.{FrontOf, Writes, WritesNothingOr};
 ghost use Rattle.commands.specs.declared.status.Fault.TheVariants.{NoMemory};
 ghost use Rattle.commands.specs.declared.status.Status.TheVariants.{Done};
@@ -65,7 +65,7 @@ fn run_course<A: Allocator + Copy, W: ByteSink>(
     ensures nothing { OnErr result (W.mark out.new ≡ false → options.trace ≡ false →
         W.taken out.new ≡ W.taken out.old) }
     ensures traced { OnErr result (W.mark out.new ≡ false → options.trace ≡ true → Writes
-        (IsAskedTrace options (ends_at_halt course.now) (events_in course.now) image.now)
+        (IsTraceToOutput options (ends_at_halt course.now) (events_in course.now) image.now)
         (W.taken out.old) (W.taken out.new)) }
     ensures marks { W.mark out.new ≡ fails_to_write result }
 {
@@ -104,15 +104,16 @@ pub fn run<A: Allocator + Copy, R: ByteSource, W: ByteSink>(
         FrontOf (IsPartOfRoundRun options (R.remaining tape.old))
         (W.taken out.old) (W.taken out.new) }
     // and any other fault leaves the output as it was; under a trace the whole lines may be there of
-    // the run, or of its instructions before one that prints or punches,
+    // the run, or of its instructions before one that prints or punches.
     ensures nothing { OnErr result (W.mark out.new ≡ false → options.trace ≡ false →
         W.taken out.new ≡ W.taken out.old) }
     ensures traced { OnErr result (W.mark out.new ≡ false → options.trace ≡ true →
         WritesNothingOr (IsTraceOfRounds options (R.remaining tape.old))
         (W.taken out.old) (W.taken out.new)) }
-    // and are there where memory was refused, which is asked for after the tape was read.
+    // Reading a tape takes no memory, so where memory was refused those lines are there.
     ensures traced_whole { result ≡ Err NoMemory → options.trace ≡ true →
-        Writes (IsTraceOfRounds options (R.remaining tape.old)) (W.taken out.old) (W.taken out.new) }
+        Writes (IsTraceOfRounds options (R.remaining tape.old))
+        (W.taken out.old) (W.taken out.new) }
     // A write failed exactly where the answer says so, and so did a read.
     ensures marks { W.mark out.new ≡ fails_to_write result }
     ensures reads { R.mark tape.new ≡ fails_to_read result }
@@ -154,6 +155,11 @@ pub fn run_events<A: Allocator + Copy, R: ByteSource, E: ByteSource, W: ByteSink
     ensures traced { OnErr result (W.mark out.new ≡ false → options.trace ≡ true →
         WritesNothingOr (IsTraceOfEvents options (R.remaining tape.old) (E.remaining text.old))
         (W.taken out.old) (W.taken out.new)) }
+    // Where memory was refused those lines are there, unless it may have been wanted for the text.
+    ensures traced_whole { result ≡ Err NoMemory → options.trace ≡ true →
+        HasCome (input (E.mark text.new) (E.remaining text.old) (E.remaining text.new))
+        ⊎ Writes (IsTraceOfEvents options (R.remaining tape.old) (E.remaining text.old))
+        (W.taken out.old) (W.taken out.new) }
     ensures marks { W.mark out.new ≡ fails_to_write result }
     ensures reads { R.mark tape.new || E.mark text.new ≡ fails_to_read result }
     // The text isn't read after a tape that is refused, or whose read failed.

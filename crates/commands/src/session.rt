@@ -1,13 +1,15 @@
 //! A run with an operator: frames in the reader, keys to strike, the teletype and the punch.
 
-ghost use Rattle.std.specs.Prelude.{◌≡◌, ◌<◌, ◌||◌, ◌%◌, [], ◌∷◌, false, true, None, drop, get_or, is_err, map, IfOk, IfErr, OnOk, OnErr};
+ghost use Rattle.std.specs.Prelude.{◌≡◌, ◌<◌, ◌||◌, ◌⊎◌, ◌%◌, [], ◌∷◌, false, true, None, Err, drop, get_or, is_err, map, IfOk, IfErr, OnOk, OnErr};
 ghost use Rattle.std.specs.Io.KnownBytes.{Appends};
+ghost use Rattle.streams.specs.Bytes.{AppendsFront, Gave};
 ghost use Rattle.peripherals.specs.Operator.{plan_of};
 ghost use Rattle.peripherals.specs.World.{view, profile_of};
+ghost use Rattle.commands.specs.declared.status.Fault.TheVariants.{NoMemory};
 ghost use Rattle.commands.specs.Faults.{is_fault_of_tape, fails_to_read, fails_to_write, IsRunFault, IsSessionFault};
-ghost use Rattle.commands.specs.Inputs.{TakesAtMost, TakesTape, input};
-ghost use Rattle.commands.specs.Session.{AppendsSome, BrokeOff, IsPartOfSession, IsSession, IsSessionOf, NothingOrFronts, Operated, FrontsOf, Whole, WritesAll, character, failures, printed_in, taken};
-ghost use Rattle.commands.specs.SessionParts.{IsPartOfPlan, Played, PlayedFront, is_step};
+ghost use Rattle.commands.specs.Inputs.{AreFirst, HasCome, TakesAtMost, TakesTape, input};
+ghost use Rattle.commands.specs.Session.{BrokeOff, FrontsOf, IsSession, IsSessionOf, NothingOrFronts, Operated, SessionFronts, Whole, WritesAll, character, failures, printed_in, taken};
+ghost use Rattle.commands.specs.SessionParts.{IsPartOf, Played, PlayedFront, is_step};
 
 use crate::follow::{End, Outcome, apply_event, end_of};
 use crate::inputs::{bytes_from, tape_from};
@@ -48,7 +50,7 @@ fn type_from<T: ByteSink>(bytes: &[u8], from: usize, teletype: &mut T) -> Result
     requires unmarked { T.mark teletype.old ≡ false }
     ensures whole { OnOk result (Appends (T.taken teletype.old) (T.taken teletype.new)
         (map character (drop from bytes.now))) }
-    ensures front { OnErr result (AppendsSome (T.taken teletype.old) (T.taken teletype.new)
+    ensures front { OnErr result (AppendsFront (T.taken teletype.old) (T.taken teletype.new)
         (map character (drop from bytes.now))) }
     ensures marks { T.mark teletype.new ≡ is_err result }
 {
@@ -78,7 +80,7 @@ fn type_printed<T: ByteSink>(
     requires quiet { is_step event.now ≡ false → drop from bytes.now ≡ [] }
     ensures whole { OnOk result (Appends (T.taken teletype.old) (T.taken teletype.new)
         (map character (drop from bytes.now))) }
-    ensures front { OnErr result (AppendsSome (T.taken teletype.old) (T.taken teletype.new)
+    ensures front { OnErr result (AppendsFront (T.taken teletype.old) (T.taken teletype.new)
         (map character (drop from bytes.now))) }
     ensures marks { T.mark teletype.new ≡ is_err result }
 {
@@ -203,7 +205,7 @@ fn attend<A: Allocator + Copy, W: ByteSink, T: ByteSink, P: ByteSink>(
         (taken (W.taken out.old.report) (T.taken out.old.teletype) (P.taken out.old.punch))
         (taken (W.taken out.new.report) (T.taken out.new.teletype) (P.taken out.new.punch))) }
     ensures front { OnErr result (FrontsOf
-        (IsPartOfPlan options (W.mark out.new.report) (T.mark out.new.teletype)
+        (IsPartOf options (W.mark out.new.report) (T.mark out.new.teletype)
         (plan_of operator.old) image.now)
         (failures (W.mark out.new.report) (T.mark out.new.teletype) (P.mark out.new.punch))
         (taken (W.taken out.old.report) (T.taken out.old.teletype) (P.taken out.old.punch))
@@ -266,15 +268,28 @@ pub fn run_session<
         (input (F.mark reader.new) (F.remaining reader.old) (F.remaining reader.new))
         (input (K.mark keys.new) (K.remaining keys.old) (K.remaining keys.new))) }
     // After a fault fronts of what the first events leave went out, and all of it where no write
-    // failed (these are then all events, or those before one that prints or punches), or of the whole
-    // with its summary where the report failed; or nothing at all,
-    ensures front { OnErr result (NothingOrFronts (IsPartOfSession options
-        (W.mark out.new.report) (T.mark out.new.teletype) (R.remaining tape.old)
-        (F.remaining reader.old) (K.remaining keys.old))
+    // failed, or of the whole with its summary where the report failed; or nothing at all,
+    ensures front { OnErr result (NothingOrFronts options
         (failures (W.mark out.new.report) (T.mark out.new.teletype) (P.mark out.new.punch))
+        (R.remaining tape.old) (F.remaining reader.old) (K.remaining keys.old)
         (taken (W.taken out.old.report) (T.taken out.old.teletype) (P.taken out.old.punch))
         (taken (W.taken out.new.report) (T.taken out.new.teletype) (P.taken out.new.punch))) }
-    // as where the tape is refused or a read failed.
+    // of which the fronts are sure where a write failed,
+    ensures front_of_failure { fails_to_write result ≡ true → SessionFronts options
+        (failures (W.mark out.new.report) (T.mark out.new.teletype) (P.mark out.new.punch))
+        (R.remaining tape.old) (F.remaining reader.old) (K.remaining keys.old)
+        (taken (W.taken out.old.report) (T.taken out.old.teletype) (P.taken out.old.punch))
+        (taken (W.taken out.new.report) (T.taken out.new.teletype) (P.taken out.new.punch)) }
+    // and where memory was refused, unless it may have been wanted for the frames or the keys;
+    ensures broke_off { result ≡ Err NoMemory →
+        HasCome (input (F.mark reader.new) (F.remaining reader.old) (F.remaining reader.new))
+        ⊎ (HasCome (input (K.mark keys.new) (K.remaining keys.old) (K.remaining keys.new))
+        ⊎ SessionFronts options
+        (failures (W.mark out.new.report) (T.mark out.new.teletype) (P.mark out.new.punch))
+        (R.remaining tape.old) (F.remaining reader.old) (K.remaining keys.old)
+        (taken (W.taken out.old.report) (T.taken out.old.teletype) (P.taken out.old.punch))
+        (taken (W.taken out.new.report) (T.taken out.new.teletype) (P.taken out.new.punch))) }
+    // and nothing is written where the tape is refused or a read failed.
     ensures nothing { IfErr result (λ fault. is_fault_of_tape fault ≡ true → out.new ≡ out.old) }
     ensures nothing_after_failure { fails_to_read result ≡ true → out.new ≡ out.old }
     // A write failed exactly where the answer says so, and so did a read.
@@ -288,6 +303,10 @@ pub fn run_session<
     ensures unread_after_failure { R.mark tape.new ≡ true →
         (reader.new ≡ reader.old) × (keys.new ≡ keys.old) }
     ensures keys_unread_after_failure { F.mark reader.new ≡ true → keys.new ≡ keys.old }
+    // No key is read before the frames have come whole.
+    ensures keys_unread { (keys.new ≡ keys.old)
+        ⊎ Gave (F.remaining reader.old) (F.remaining reader.new)
+        (λ given. AreFirst options.run.rounds (F.remaining reader.old) given) }
     // The tape is not read past its limit, and of frames and keys no more are taken than there are
     // rounds.
     ensures takes_tape { TakesTape (R.remaining tape.old) (R.remaining tape.new) }

@@ -2,12 +2,13 @@
 
 ghost use Rattle.std.specs.Prelude.{◌≡◌, Err, true, false, length, map, IfOk, IfErr, IfSome, List, ℕ, Some, slice_get};
 ghost use Rattle.std.specs.List.{AllByRecursion, list_any};
+ghost use Rattle.std.specs.Io.KnownBytes.{IsAtEnd};
 ghost use Rattle.pal_acts.specs.declared.code.Code.TheVariants.{TooLong};
 ghost use Rattle.pal_asm.specs.Sources.{fault_at, texts};
 ghost use Rattle.commands.specs.declared.status.Fault.TheVariants.{Source};
 ghost use Rattle.commands.specs.Faults.{fails_to_read};
 ghost use Rattle.commands.specs.Inputs.{TakesAtMost};
-ghost use Rattle.commands.specs.SourceTexts.{AreRead, EachTakesAtMost, IsShort, IsPartFault, ArePartsFault, IsLongAt, LeavesThoseAfter, is_bad_number};
+ghost use Rattle.commands.specs.SourceTexts.{AreRead, EachTakesAtMost, HasLeft, IsShort, IsPartFault, ArePartsFault, IsLongAt, LeavesThoseAfter, is_bad_number};
 
 use crate::status::Fault;
 use pal_acts::Code;
@@ -53,6 +54,9 @@ fn read_part<A: Allocator, R: ByteSource>(
         (IsPartFault number (R.remaining source.old) (R.remaining source.new)) }
     ensures marks { R.mark source.new ≡ fails_to_read result }
     ensures takes { TakesAtMost 65537 (R.remaining source.old) (R.remaining source.new) }
+    // A part that is read has come whole.
+    ensures ended { IfOk result (λ _.
+        IfSome (R.remaining source.old) (λ _. IsAtEnd (R.remaining source.new))) }
 {
     let part = read_at_most(alloc, source, MOST_PART)?;
     if part.len() >= MOST_PART {
@@ -82,6 +86,10 @@ pub(crate) fn read_parts<A: Allocator + Copy, R: ByteSource>(
     ensures unread { (at : ℕ) → IsLongAt (map R.remaining sources.old) at →
         LeavesThoseAfter at sources.old sources.new }
     ensures unread_after_failure { (at : ℕ) → slice_get (map R.mark sources.new) at ≡ Some true →
+        LeavesThoseAfter at sources.old sources.new }
+    // A source is read only where those before it are read to their ends.
+    ensures unread_after { (at : ℕ) →
+        HasLeft (map R.remaining sources.old) (map R.remaining sources.new) at →
         LeavesThoseAfter at sources.old sources.new }
     // Of a part no more is taken than it may have and a byte, which tells that it's too long.
     ensures takes { EachTakesAtMost 65537 (map R.remaining sources.old)

@@ -1,10 +1,11 @@
 //! The command that watches a run.
 
-ghost use Rattle.std.specs.Prelude.{◌≡◌, ◌||◌, false, true, IfOk, IfErr, OnErr};
+ghost use Rattle.std.specs.Prelude.{◌≡◌, ◌||◌, ◌⊎◌, false, true, Err, IfOk, IfErr, OnErr};
 ghost use Rattle.commands.specs.Faults.{IsWatchFault, is_fault_of_declaration, is_fault_of_tape, fails_to_read, fails_to_write};
-ghost use Rattle.commands.specs.Inputs.{TakesAtMost, TakesTape, input};
+ghost use Rattle.commands.specs.Inputs.{HasCome, IsGoodDeclaration, IsGoodEvents, IsGoodTape, TakesAtMost, TakesTape, input};
 ghost use Rattle.commands.specs.WatchText.{IsWatched, IsWatchedSo, broken_text, watched_status, watched_text};
 ghost use Rattle.commands.specs.Writes.{FrontOf, Writes};
+ghost use Rattle.commands.specs.declared.status.Fault.TheVariants.{NoMemory};
 
 use crate::inputs::{declaration_from, events_from, tape_from};
 use crate::status::{Fault, Status};
@@ -100,6 +101,15 @@ pub fn watch<A: Allocator + Copy, R: ByteSource, D: ByteSource, E: ByteSource, W
     ensures unread_after_failure { R.mark tape.new ≡ true →
         (declaration.new ≡ declaration.old) × (list.new ≡ list.old) }
     ensures unread_list_after_failure { D.mark declaration.new ≡ true → list.new ≡ list.old }
+    // It is read only after those before it are good,
+    ensures declaration_after_tape { (declaration.new ≡ declaration.old) ⊎
+        IsGoodTape (R.remaining tape.old) }
+    ensures list_after_declaration { (list.new ≡ list.old) ⊎
+        IsGoodDeclaration (D.remaining declaration.old) }
+    // and memory that is refused after the events were begun is wanted for them or after them.
+    ensures wanted { result ≡ Err NoMemory → (list.new ≡ list.old) ⊎
+        (HasCome (input (E.mark list.new) (E.remaining list.old) (E.remaining list.new)) ⊎
+        IsGoodEvents (E.remaining list.old)) }
     // No input is read past its limit.
     ensures takes_tape { TakesTape (R.remaining tape.old) (R.remaining tape.new) }
     ensures takes_declaration { TakesAtMost 16385

@@ -279,6 +279,11 @@ pub kept_here : (r : Bool) (s counted : Words) (pl : Place) (f : Fact) (m : Mean
 kept_here r s counted pl f m h e n =
     iff_trans h (λ q a lt w x. (n a lt).0 (q a lt (e a lt ∙ w) x), λ q a lt w x. (n a lt).1 (q a lt (sym (e a lt) ∙ w) x))
 
+-- where no entry is written
+pub kept_nowhere : (s : Words) (pl : Place) (f : Fact) (m : Meaning) → SameWords s (may_write pl f m) → ((a : ℕ) → a < 4096 → s a ≡ true → pl.declaration.entry a ≡ false) →
+    IsTrue true ↔ EntriesAreKept pl f m
+kept_nowhere s pl f m e h = (λ q a lt w x. absurd (false_true (sym (h a lt (e a lt ∙ w)) ∙ x)), λ q. refl)
+
 -- where nothing is written
 pub declared_anyhow : (pl : Place) (f : Fact) (m : Meaning) → ((a : ℕ) → may_write pl f m a ≡ false) → IsTrue true ↔ WritesAreDeclared pl f m
 declared_anyhow pl f m h = (λ q a lt w. absurd (false_true (sym (h a) ∙ w)), λ q. refl)

@@ -19,5 +19,6 @@ pub mod RegisterLemmas
 mod SingleLemmas
 pub mod SkipLemmas
 pub mod DispatchLemmas
+pub mod EachLemmas
 pub mod AskedLemmas
 pub mod CallLemmas

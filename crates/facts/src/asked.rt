@@ -9,7 +9,7 @@ ghost use Rattle.policy.specs.Rules.{IsSupported, HaltsDeclared};
 ghost use Rattle.facts.specs.Facts.{possible};
 ghost use Rattle.facts.specs.Outcomes.{meaning_at, outcomes_at};
 ghost use Rattle.facts.specs.Same.{AgreeingOutcomes};
-ghost use Rattle.facts.specs.Conditions.{KeepsConditions, BreaksFirst, WritesAreDeclared, EntriesAreKept, WritesAreListed, ReadsAreListed, calls, is_call, jumps, called, calls_through_index, returned_through};
+ghost use Rattle.facts.specs.Conditions.{may_write, KeepsConditions, BreaksFirst, WritesAreDeclared, EntriesAreKept, WritesAreListed, ReadsAreListed, calls, is_call, jumps, called, calls_through_index, returned_through};
 ghost use Rattle.facts.specs.Meaning.{meaning};
 ghost use Rattle.facts.specs.Places.{place_of, writes_of};
 ghost use Rattle.facts.specs.Slots.{slots};
@@ -18,7 +18,6 @@ use crate::Condition;
 use crate::dispatch::{Outcomes, outcomes};
 use crate::entailment::{narrowed, word_of};
 use crate::fact::Fact;
-use crate::known::Known;
 use crate::names::Name;
 use crate::place::{Place, tape_words};
 use crate::references::{either, steps_pointer};
@@ -105,8 +104,17 @@ impl<A: Allocator> Place<'_, A> {
         if !self.is_writing(at, word) {
             return true;
         }
-        let known = Known::of(fact);
-        let written = self.cells_written(at, word, &known);
+        self.written_are_declared(fact, at, word)
+    }
+
+    /// Whether each cell that a word may write is a variable or an entry; the room for them is made
+    /// here alone.
+    #[inline(never)]
+    fn written_are_declared(&self, fact: &Fact, at: Word, word: Word) -> bool
+        ensures { IsTrue result ↔ WritesAreDeclared (place_of self.now) (meaning fact.now)
+            (meaning_at (place_of self.now) at word) }
+    {
+        let written = self.cells_written(fact, at, word);
         self.are_declared(&written)
     }
 
@@ -119,10 +127,34 @@ impl<A: Allocator> Place<'_, A> {
         if !self.is_writing(at, word) {
             return true;
         }
-        let known = Known::of(fact);
-        let written = self.cells_written(at, word, &known);
-        let counted = self.cell_counted(at, word, &known);
-        self.keeps_entries(&written, &counted)
+        self.written_are_kept(fact, at, word)
+    }
+
+    /// Whether no cell that a word may write is an entry, save where ISZ counts the running
+    /// routine's own; the room for the cells is made here alone.
+    #[inline(never)]
+    fn written_are_kept(&self, fact: &Fact, at: Word, word: Word) -> bool
+        ensures { IsTrue result ↔ EntriesAreKept (place_of self.now) (meaning fact.now)
+            (meaning_at (place_of self.now) at word) }
+    {
+        let written = self.cells_written(fact, at, word);
+        if !self.has_entry(&written) {
+            return true;
+        }
+        self.counts_own(fact, at, word, &written)
+    }
+
+    /// Whether none of the cells that a word may write is an entry, save where ISZ counts the running
+    /// routine's own.
+    #[inline(never)]
+    fn counts_own(&self, fact: &Fact, at: Word, word: Word, written: &WordSet) -> bool
+        requires { SameWords (words written.now) (may_write (place_of self.now) (meaning fact.now)
+            (meaning_at (place_of self.now) at word)) }
+        ensures { IsTrue result ↔ EntriesAreKept (place_of self.now) (meaning fact.now)
+            (meaning_at (place_of self.now) at word) }
+    {
+        let counted = self.cell_counted(fact, at, word);
+        self.keeps_entries(written, &counted)
     }
 
     /// Whether each cell that a word may write is one that the running routine may write: one of
@@ -134,8 +166,17 @@ impl<A: Allocator> Place<'_, A> {
         if !self.is_writing(at, word) {
             return true;
         }
-        let known = Known::of(fact);
-        let written = self.cells_written(at, word, &known);
+        self.written_are_listed(fact, at, word)
+    }
+
+    /// Whether each cell that a word may write is one that the running routine may write; the room for
+    /// the cells is made here alone.
+    #[inline(never)]
+    fn written_are_listed(&self, fact: &Fact, at: Word, word: Word) -> bool
+        ensures { IsTrue result ↔ WritesAreListed (place_of self.now) (writes_of self.now.routine)
+            (meaning fact.now) (meaning_at (place_of self.now) at word) }
+    {
+        let written = self.cells_written(fact, at, word);
         self.may_write(&written)
     }
 
@@ -148,8 +189,17 @@ impl<A: Allocator> Place<'_, A> {
         if !self.declaration.reads_listed() {
             return true;
         }
-        let known = Known::of(fact);
-        let read = self.cells_read(at, word, &known);
+        self.read_are_listed(fact, at, word)
+    }
+
+    /// Whether each cell that a word may read is on the list of reads, if there is one, or is the
+    /// running routine's own entry; the room for the cells is made here alone.
+    #[inline(never)]
+    fn read_are_listed(&self, fact: &Fact, at: Word, word: Word) -> bool
+        ensures { IsTrue result ↔ ReadsAreListed (place_of self.now) (meaning fact.now)
+            (meaning_at (place_of self.now) at word) }
+    {
+        let read = self.cells_read(fact, at, word);
         self.are_listed(&read)
     }
 
@@ -174,8 +224,7 @@ impl<A: Allocator> Place<'_, A> {
         if !is_jms(word) {
             return WordSet::empty();
         }
-        let known = Known::of(fact);
-        self.reached(refers_indirectly(word), target(word, at), &known)
+        self.targets_at(fact, refers_indirectly(word), target(word, at))
     }
 
     /// Whether a word is a JMS through an auto-index cell, which it steps first.

@@ -8,7 +8,7 @@ ghost use Rattle.instruct.specs.Instructions.{kind_of, operation_of};
 ghost use Rattle.declaration.specs.Declaration.{IsListed};
 ghost use Rattle.facts.specs.Facts as said;
 ghost use Rattle.facts.specs.Facts.{is_routine};
-ghost use Rattle.facts.specs.Outcomes.{meaning_at};
+ghost use Rattle.facts.specs.Outcomes.{meaning_at, targets};
 ghost use Rattle.facts.specs.Conditions.{may_read, may_write, reads_operand, stores, counts, CountsItsReturn, MayWrite};
 ghost use Rattle.facts.specs.Same.{Agree};
 ghost use Rattle.facts.specs.Meaning.{known_of, meaning, IsUnchanged};
@@ -65,6 +65,27 @@ fn pointer_if(chosen: bool, named: Word) -> WordSet
     }
 }
 
+/// Whether each of some cells is in a set or is one more; mostly the set has all.
+fn are_within_or(cells: &WordSet, set: &WordSet, more: Word) -> bool
+    ensures { IsTrue result ↔ ((a : ℕ) → a < 4096 → words cells.now a ≡ true →
+        (words set.now a ≡ true) ⊎ (a ≡ more)) }
+{
+    if cells.is_subset(set) {
+        return true;
+    }
+    are_within_union(cells, set, more)
+}
+
+/// Whether each of some cells is in a set or is one more.
+#[inline(never)]
+fn are_within_union(cells: &WordSet, set: &WordSet, more: Word) -> bool
+    ensures { IsTrue result ↔ ((a : ℕ) → a < 4096 → words cells.now a ≡ true →
+        (words set.now a ≡ true) ⊎ (a ≡ more)) }
+{
+    let entry = WordSet::one(more);
+    cells.is_subset(&set.union(&entry))
+}
+
 impl<A: Allocator> Place<'_, A> {
     /// Whether a word is a memory reference.
     pub(crate) fn is_reference(&self, word: Word) -> bool
@@ -77,12 +98,29 @@ impl<A: Allocator> Place<'_, A> {
         )
     }
 
-    /// The cells that a word may read.
-    pub(crate) fn cells_read(&self, at: Word, word: Word, known: &Known<'_>) -> WordSet
-        requires pointer { IsUnchanged known.now.pointer }
-        requires target { IsUnchanged known.now.target }
-        ensures { (f : said.Fact) → Agree (known_of known.now) f →
-            SameWords (words result) (may_read (place_of self.now) f
+    /// The targets of a memory reference at the address of a fact.
+    pub(crate) fn targets_at(&self, fact: &Fact, indirect: bool, named: Word) -> WordSet
+        ensures { SameWords (words result)
+            (targets (place_of self.now) indirect named (meaning fact.now)) }
+    {
+        if indirect {
+            return self.targets_seen(fact, indirect, named);
+        }
+        WordSet::one(named)
+    }
+
+    /// The targets of a memory reference, by what a fact knows; the room for that is made here alone.
+    #[inline(never)]
+    fn targets_seen(&self, fact: &Fact, indirect: bool, named: Word) -> WordSet
+        ensures { SameWords (words result)
+            (targets (place_of self.now) indirect named (meaning fact.now)) }
+    {
+        self.reached(indirect, named, &Known::of(fact))
+    }
+
+    /// The cells that a word at the address of a fact may read.
+    pub(crate) fn cells_read(&self, fact: &Fact, at: Word, word: Word) -> WordSet
+        ensures { SameWords (words result) (may_read (place_of self.now) (meaning fact.now)
             (meaning_at (place_of self.now) at word)) }
     {
         if !self.is_reference(word) {
@@ -90,7 +128,7 @@ impl<A: Allocator> Place<'_, A> {
         }
         let indirect = refers_indirectly(word);
         let named = target(word, at);
-        let targets = self.reached(indirect, named, known);
+        let targets = self.targets_at(fact, indirect, named);
         union_if(reads_operand(word), &pointer_if(indirect, named), &targets)
     }
 
@@ -106,13 +144,10 @@ impl<A: Allocator> Place<'_, A> {
         either(stores(word), steps)
     }
 
-    /// The cells that a word may write, a stepped pointer among them; save the one that a JMS
-    /// itself writes.
-    pub(crate) fn cells_written(&self, at: Word, word: Word, known: &Known<'_>) -> WordSet
-        requires pointer { IsUnchanged known.now.pointer }
-        requires target { IsUnchanged known.now.target }
-        ensures { (f : said.Fact) → Agree (known_of known.now) f →
-            SameWords (words result) (may_write (place_of self.now) f
+    /// The cells that a word at the address of a fact may write, a stepped pointer among them; save
+    /// the one that a JMS itself writes.
+    pub(crate) fn cells_written(&self, fact: &Fact, at: Word, word: Word) -> WordSet
+        ensures { SameWords (words result) (may_write (place_of self.now) (meaning fact.now)
             (meaning_at (place_of self.now) at word)) }
     {
         if !self.is_reference(word) {
@@ -120,25 +155,23 @@ impl<A: Allocator> Place<'_, A> {
         }
         let indirect = refers_indirectly(word);
         let named = target(word, at);
-        let targets = self.reached(indirect, named, known);
+        let targets = self.targets_at(fact, indirect, named);
         let pointer = pointer_if(steps_pointer(indirect, named), named);
         union_if(stores(word), &pointer, &targets)
     }
 
     /// The cell in which ISZ counts the running routine's return word up: the routine's own entry
     /// alone, where the word isn't seven up already.
-    pub(crate) fn cell_counted(&self, at: Word, word: Word, known: &Known<'_>) -> WordSet
-        requires pointer { IsUnchanged known.now.pointer }
-        requires target { IsUnchanged known.now.target }
-        ensures { (f : said.Fact) → Agree (known_of known.now) f → (a : ℕ) → a < 4096 →
-            (words result a ≡ true) ↔ CountsItsReturn (place_of self.now) f
+    pub(crate) fn cell_counted(&self, fact: &Fact, at: Word, word: Word) -> WordSet
+        ensures { (a : ℕ) → a < 4096 →
+            (words result a ≡ true) ↔ CountsItsReturn (place_of self.now) (meaning fact.now)
             (meaning_at (place_of self.now) at word) a }
     {
         if !self.is_reference(word) {
             return WordSet::empty();
         }
-        let targets = self.reached(refers_indirectly(word), target(word, at), known);
-        let seven_up = known.offsets().contains(7);
+        let targets = self.targets_at(fact, refers_indirectly(word), target(word, at));
+        let seven_up = fact.offsets().contains(7);
         self.own_only(both(counts(word), !seven_up), &targets)
     }
 
@@ -168,14 +201,42 @@ impl<A: Allocator> Place<'_, A> {
         found
     }
 
-    /// Whether each of some cells is a variable or an entry.
+    /// Whether each of some cells is a variable or an entry; mostly all are variables.
     pub(crate) fn are_declared(&self, cells: &WordSet) -> bool
+        ensures { IsTrue result ↔ ((a : ℕ) → a < 4096 → words cells.now a ≡ true →
+            ((place_of self.now).declaration.variable a ≡ true) ⊎
+            ((place_of self.now).declaration.entry a ≡ true)) }
+    {
+        if cells.is_subset(self.declaration.variables()) {
+            return true;
+        }
+        self.are_declared_beside_variables(cells)
+    }
+
+    /// Whether each of some cells is a variable or an entry.
+    #[inline(never)]
+    fn are_declared_beside_variables(&self, cells: &WordSet) -> bool
         ensures { IsTrue result ↔ ((a : ℕ) → a < 4096 → words cells.now a ≡ true →
             ((place_of self.now).declaration.variable a ≡ true) ⊎
             ((place_of self.now).declaration.entry a ≡ true)) }
     {
         let rest = cells.minus(self.declaration.variables());
         rest.is_subset(&self.entries_in(&rest))
+    }
+
+    /// Whether one of some cells is an entry.
+    pub(crate) fn has_entry(&self, cells: &WordSet) -> bool
+        ensures { result ≡ false → (a : ℕ) → a < 4096 → words cells.now a ≡ true →
+            (place_of self.now).declaration.entry a ≡ false }
+    {
+        let mut next = 0usize;
+        while let Some(cell) = cells.first_from(next) {
+            if self.declaration.is_entry(cell) {
+                return true;
+            }
+            next = cell.index() + 1;
+        }
+        false
     }
 
     /// Whether none of some cells is an entry, save for those of another set.
@@ -194,10 +255,7 @@ impl<A: Allocator> Place<'_, A> {
     {
         match &self.routine {
             None => true,
-            Some(running) => {
-                let entry = WordSet::one(running.entry);
-                cells.is_subset(&running.writes.union(&entry))
-            }
+            Some(running) => are_within_or(cells, running.writes, running.entry),
         }
     }
 
@@ -233,8 +291,7 @@ pub fn reads<A: Allocator>(fact: &Fact, at: Word, word: Word, place: &Place<'_, 
         (may_read (place_of place.now) (meaning fact.now)
         (meaning_at (place_of place.now) at word)) }
 {
-    let known = Known::of(fact);
-    place.cells_read(at, word, &known)
+    place.cells_read(fact, at, word)
 }
 
 /// The cells that a word at the address of a fact may write, wherever the fact holds: the targets of
@@ -244,6 +301,5 @@ pub fn writes<A: Allocator>(fact: &Fact, at: Word, word: Word, place: &Place<'_,
         (may_write (place_of place.now) (meaning fact.now)
         (meaning_at (place_of place.now) at word)) }
 {
-    let known = Known::of(fact);
-    place.cells_written(at, word, &known)
+    place.cells_written(fact, at, word)
 }

@@ -1,5 +1,4 @@
 pub mod CallLemmas
-pub mod EachLemmas
 pub mod Fine
 pub mod Frames
 pub mod Induction

@@ -10,7 +10,7 @@ use Rattle.declaration.specs.declared.DeclarationFault.TheVariants as declaratio
 use Rattle.certificate.specs.Spelling.{text}
 use Rattle.certificate.specs.Reading.{AreLines}
 use Rattle.certificate.specs.Kept as certified
-use Rattle.certificate.specs.Faults.{HasFault, most_bytes}
+use Rattle.certificate.specs.Faults.{HasFault, AsksForMemory, most_bytes}
 use Rattle.processor.specs.Runs.{Image}
 use Rattle.judge.specs.Conditions.{Case, IsFirst, IsValid}
 use Rattle.judge.specs.declared.judging.Refusal.{Refusal}
@@ -65,13 +65,14 @@ abbrev pub FailFirst : (tape declaration certificate : List ℕ) → Refusal →
 FailFirst t d c r = (p : Parts) × AreRead t d c p × IsFirst (case_of p) r.condition r.address
 
 -- The parts are looked at in the order tape, declaration, certificate, conditions; the first that isn't good refuses, with
--- its fault. Memory may be wanting for the declaration's list of routines and for the certificate.
+-- its fault. Memory may be wanting for the declaration's list of routines, and for the certificate where it has a line that
+-- is kept.
 abbrev pub IsRefused : (tape declaration certificate : List ℕ) → CertifyFault → Type 0
 IsRefused t d c (fault.Tape f) = Refuses 65536 t f
 IsRefused t d c (fault.Declaration f) = IsSomeTape t × Fails d f × (f ≢ declaration.NoMemory)
 IsRefused t d c (fault.Certificate f) = IsSomeTape t × DeclaresSomething d × HasFault c f
 IsRefused t d c (fault.Refused r) = FailFirst t d c r
-IsRefused t d c fault.NoMemory = IsSomeTape t × (Fails d declaration.NoMemory ⊎ DeclaresSomething d)
+IsRefused t d c fault.NoMemory = IsSomeTape t × (Fails d declaration.NoMemory ⊎ (DeclaresSomething d × AsksForMemory c))
 
 -- A condition refuses.
 abbrev pub IsRefusal : CertifyFault → Type 0

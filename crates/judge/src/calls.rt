@@ -3,6 +3,9 @@
 ghost use Rattle.std.specs.Prelude.{ℕ, ◌≡◌, ◌<◌, ◌≤◌, ◌↔◌, Some, true, IsTrue};
 ghost use Rattle.wordset.specs.Lanes.{words};
 ghost use Rattle.instruct.specs.Instructions.{meaning_of};
+ghost use Rattle.wordset.specs.Words.{everything};
+ghost use Rattle.facts.specs.Changes.{with_offsets};
+ghost use Rattle.facts.specs.Meaning.{meaning};
 ghost use Rattle.facts.specs.declared.Condition.TheVariants.{V7, V8, V9, V10, V11, V12};
 ghost use Rattle.judge.specs.Conditions.{MayCall, MayReturn, CoversCallee, LandsAfter, EachTarget, fact_at};
 ghost use Rattle.judge.specs.Callees.{HoldsOfCallee, IsBelow, LandsBy, ReturnsBy, ReturnsThrough};
@@ -88,6 +91,20 @@ impl<A: Allocator, C: Claims> Spot<'_, A, C> {
         if !self.place.is_call(word) {
             return true;
         }
+        self.each_callee_passes(condition, word, others)
+    }
+
+    /// Whether a condition on calls holds of each callee of a word; the room for them is made here
+    /// alone.
+    #[inline(never)]
+    fn each_callee_passes(&self, condition: Condition, word: Word, others: &mut Others) -> bool
+        requires { IsSpot C.claims self.now }
+        ensures { IsTrue result ↔
+            EachTarget (case_of C.claims self.now) (routine_at self.now) self.now.at
+            (meaning_of (case_of C.claims self.now).declaration.profile self.now.at word)
+            (HoldsOfCallee (case_of C.claims self.now) condition (routine_at self.now)
+            self.now.at) }
+    {
         let callees = self.place.calls(self.fact, self.at, word);
         let mut next = 0usize;
         while let Some(entry) = callees.first_from(next) {
@@ -134,6 +151,7 @@ impl<A: Allocator, C: Claims> Spot<'_, A, C> {
     }
 
     /// Whether an entry is listed and of lower rank.
+    #[inline(never)]
     fn may_call_entry(&self, entry: Word) -> bool
         ensures { IsTrue result ↔
             MayCall (case_of C.claims self.now) (routine_at self.now) entry }
@@ -160,6 +178,7 @@ impl<A: Allocator, C: Claims> Spot<'_, A, C> {
 
     /// Whether the routine, if it isn't main, has an entry and what the entry's routine writes in
     /// its written set, and isn't written there itself.
+    #[inline(never)]
     fn covers(&self, entry: Word) -> bool
         requires { IsSpot C.claims self.now }
         ensures { IsTrue result ↔
@@ -179,6 +198,7 @@ impl<A: Allocator, C: Claims> Spot<'_, A, C> {
     }
 
     /// Whether the address is a site of an entry.
+    #[inline(never)]
     fn is_site_of(&self, entry: Word) -> bool
         ensures { IsTrue result ↔
             HoldsOfCallee (case_of C.claims self.now) V9 (routine_at self.now) self.now.at entry }
@@ -191,6 +211,7 @@ impl<A: Allocator, C: Claims> Spot<'_, A, C> {
 
     /// Whether the fact lands at the first address after an entry, with the return word not counted
     /// up.
+    #[inline(never)]
     fn enters(&self, entry: Word, next: &mut Fact) -> bool
         requires { IsSpot C.claims self.now }
         ensures { IsTrue result ↔
@@ -224,10 +245,25 @@ impl<A: Allocator, C: Claims> Spot<'_, A, C> {
         if !self.claims.exit_into(entry, offset, &mut others.exit) {
             return true;
         }
+        self.lands_with(entry, offset, &others.exit, &mut others.next)
+    }
+
+    /// Whether the run lands after a return by an offset with what an exit says; the room for what is
+    /// known then is made here alone.
+    #[inline(never)]
+    fn lands_with(&self, entry: Word, offset: usize, exit: &Fact, next: &mut Fact) -> bool
+        requires spot { IsSpot C.claims self.now }
+        requires offset { offset < 8 }
+        requires there { (case_of C.claims self.now).certificate.has_exit entry offset ≡ true }
+        requires exit { with_offsets everything (meaning exit.now) ≡
+            (case_of C.claims self.now).certificate.exit entry offset }
+        ensures { IsTrue result ↔
+            LandsBy (case_of C.claims self.now) (routine_at self.now) self.now.at entry offset }
+    {
         let written = self.claimed(entry).writes;
-        let known = Known::after_call(self.fact, &others.exit, &written);
+        let known = Known::after_call(self.fact, exit, &written);
         let at = self.at.increment().add(Word::from_index(offset));
-        self.lands(&self.owner(), at, &known, &mut others.next)
+        self.lands(&self.owner(), at, &known, next)
     }
 
     /// Whether a return through an entry is the routine's own, and each offset of the fact passes.

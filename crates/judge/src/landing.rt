@@ -5,6 +5,8 @@ ghost use Rattle.wordset.specs.Lanes.{words};
 ghost use Rattle.facts.specs.Facts as said;
 ghost use Rattle.facts.specs.Same.{Agree};
 ghost use Rattle.facts.specs.Meaning.{known_of};
+ghost use Rattle.facts.specs.Outcomes.{has_one, meaning_at};
+ghost use Rattle.facts.specs.Places.{place_of};
 ghost use Rattle.facts.specs.Slots.{outcome_of, slot, slots};
 ghost use Rattle.facts.specs.declared.Condition.TheVariants.{V4};
 ghost use Rattle.judge.specs.Conditions.{LandsAt, OutcomeLands, EachOutcome};
@@ -129,6 +131,16 @@ impl<A: Allocator, C: Claims> Spot<'_, A, C> {
         if !self.place.has_one_outcome(word) {
             return self.all_land(word, next);
         }
+        self.one_lands(word, next)
+    }
+
+    /// Whether the outcome of a word that has one at most lands; the room for it is made here alone.
+    #[inline(never)]
+    fn one_lands(&self, word: Word, next: &mut Fact) -> bool
+        requires spot { IsSpot C.claims self.now }
+        requires once { has_one (meaning_at (place_of self.now.place) self.now.at word) ≡ true }
+        ensures { IsTrue result ↔ HoldsHere C.claims self.now V4 word }
+    {
         self.slot_lands(&single_outcome(self.fact, self.at, word, &self.place), next)
     }
 

@@ -100,10 +100,18 @@ impl<A: Allocator, C: Claims> Case<'_, A, C> {
     fn names_routine(&self, at: Word, exit: &mut Fact) -> bool
         ensures { result ≡ names_routine (case_kept C.claims self.now).certificate at }
     {
-        if self.claims.routine(at).is_some() {
+        if self.lists_routine(at) {
             return true;
         }
         self.has_exit(at, exit)
+    }
+
+    /// Whether a routine line has an address; the room for the routine is made here alone.
+    #[inline(never)]
+    fn lists_routine(&self, at: Word) -> bool
+        ensures { result ≡ (case_kept C.claims self.now).certificate.listed at }
+    {
+        self.claims.routine(at).is_some()
     }
 
     /// The body that has the address of a fact, if that is where the fact may be: in main's with no
@@ -171,7 +179,9 @@ impl<A: Allocator, C: Claims> Case<'_, A, C> {
         self.check_fact(at, here.fact(), following, others)
     }
 
-    /// The first condition that fails of the fact at an address, if one does.
+    /// The first condition that fails of the fact at an address, if one does; the room for what is
+    /// claimed of its routine is made here alone.
+    #[inline(never)]
     fn check_fact(
         &self,
         at: Word,

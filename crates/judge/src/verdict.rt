@@ -42,7 +42,8 @@ pub enum CertifyFault {
     /// A condition fails.
     #[error("{0}")]
     Refused(Refusal),
-    /// A growth was refused while the declaration or the certificate was read.
+    /// A growth was refused while the declaration was read, or the certificate, which has a line that is
+    /// kept.
     #[error("NoMemory")]
     NoMemory,
 }

@@ -50,6 +50,7 @@ fn asks_few(condition: Condition) -> bool
 
 impl<A: Allocator, C: Claims> Spot<'_, A, C> {
     /// The first condition on words that fails here, if one does.
+    #[inline(never)]
     pub(crate) fn check(&self, others: &mut Others) -> Result<(), Condition>
         requires { IsSpot C.claims self.now }
         ensures { MatchResult result

@@ -114,8 +114,10 @@ fn whole_tapes(rt: HostRuntime) -> Result<(), Fail> {
     assert!(rt; image.get(word(0o232)?) == None);
     let tape = hello_tape();
     assert!(rt; read_tape(&tape) == Ok(image));
-    let mut source = MemorySource::new(&tape).in_pieces(7);
-    assert!(rt; read_from(&mut source) == Ok(image));
+    for piece in [1usize, 7, 512] {
+        let mut source = MemorySource::new(&tape).in_pieces(piece.max(1));
+        assert!(rt; read_from(&mut source) == Ok(image));
+    }
     Ok(())
 }
 

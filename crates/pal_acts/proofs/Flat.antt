@@ -1,5 +1,5 @@
 -- Acts whose expressions lie in one list.
-use Rattle.std.proofs.Common.{◌≡◌, ◌∙◌, ap, refl, ℕ, ◌+◌, ◌-◌, ◌≤◌, List, [], ◌∷◌, ◌++◌, arith, length, take, drop}
+use Rattle.std.proofs.Common.{◌≡◌, ◌∙◌, ap, refl, ℕ, ◌-◌, ◌≤◌, List, [], ◌∷◌, ◌++◌, arith, length, take, drop}
 use Rattle.std.specs.Prelude.{slice_range}
 use Rattle.std.specs.List.{AllByRecursion}
 use Rattle.std.proofs.lemmas.List.{take_all, drop_at, drop-append-le, take-append-le, length-append, length-drop, map-append}
@@ -24,25 +24,6 @@ kept_acts js more (k ∷ ks) h =
     let one : slice_range (js ++ more) k.span.first k.span.last ≡ slice_range js k.span.first k.span.last = range_kept js more k.span.first k.span.last h.0.forward h.0.inside in
     let rest : acts_in (js ++ more) ks ≡ acts_in js ks = kept_acts js more ks h.1 in
     λ i. placed k.place (one i) k.act ∷ rest i
-
--- terms that are added at the end change no act
-pub within_more : (js js' more : List Join) (ks : List Kept) → js' ≡ js ++ more → AllByRecursion (LiesWithin (length js)) ks → AllByRecursion (LiesWithin (length js')) ks
-within_more js js' more [] same h = tt
-within_more js js' more (k ∷ ks) same h =
-    let longer : length js' ≡ length js + length more = ap length same ∙ length-append js more in
-    (record { forward = h.0.forward; inside = omega (arith, h.0.inside, longer) }, within_more js js' more ks same h.1)
-
-pub within_added : (js js' more : List Join) (ks : List Kept) (k : Kept) → js' ≡ js ++ more → k.span.first ≡ length js → k.span.last ≡ length js' → AllByRecursion (LiesWithin (length js)) ks
-    → AllByRecursion (LiesWithin (length js')) (ks ++ k ∷ [])
-within_added js js' more [] k same first last h =
-    let longer : length js' ≡ length js + length more = ap length same ∙ length-append js more in
-    (record { forward = omega (arith, first, last, longer); inside = omega (arith, last) }, tt)
-within_added js js' more (j ∷ ks) k same first last h =
-    let longer : length js' ≡ length js + length more = ap length same ∙ length-append js more in
-    (record { forward = h.0.forward; inside = omega (arith, h.0.inside, longer) }, within_added js js' more ks k same first last h.1)
-
-pub same_acts : (js js' more : List Join) (ks : List Kept) → js' ≡ js ++ more → AllByRecursion (LiesWithin (length js)) ks → acts_in js' ks ≡ acts_in js ks
-same_acts js js' more ks same h = ap (λ l. acts_in l ks) same ∙ kept_acts js more ks h
 
 -- one act more, whose expression was laid at the end
 pub added : (js e js' : List Join) (ks : List Kept) (k : Kept) → AllByRecursion (LiesWithin (length js)) ks → js' ≡ js ++ e → k.span.first ≡ length js → k.span.last ≡ length js'

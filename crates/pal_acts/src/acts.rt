@@ -1,6 +1,6 @@
 //! What a source does, in order.
 
-ghost use Rattle.std.specs.Prelude.{◌≡◌, ◌<◌, [], ◌∷◌, ◌++◌, OnOk, OnErr, IfOk, Some, List, length, take, slice_get};
+ghost use Rattle.std.specs.Prelude.{◌≡◌, ◌<◌, [], ◌∷◌, ◌++◌, OnOk, IfOk, Some, List, length, take, slice_get};
 ghost use Rattle.pal_acts.specs.declared.act.Join.{Join as Joined};
 ghost use Rattle.pal_acts.specs.Acts.{placed, shown};
 
@@ -107,18 +107,13 @@ impl<A: Allocator> Acts<A> {
     ///
     /// # Errors
     ///
-    /// Memory was refused; the others are kept.
+    /// Memory was refused.
     #[inline(always)]
     pub fn keep(&mut self, place: Place, act: Act, terms: &[Join]) -> Result<(), AllocError>
-        ensures kept { OnOk result (self.new ≡ self.old ++ placed place terms.now act ∷ []) }
-        ensures same { OnErr result (self.new ≡ self.old) }
+        ensures { OnOk result (self.new ≡ self.old ++ placed place terms.now act ∷ []) }
     {
-        let Ok(span) = lay(&mut self.terms, terms) else {
-            return Err(AllocError);
-        };
-        let Ok(()) = self.list.push(Kept { place, act, span }) else {
-            return Err(AllocError);
-        };
+        let span = lay(&mut self.terms, terms)?;
+        self.list.push(Kept { place, act, span })?;
         Ok(())
     }
 

@@ -5,8 +5,7 @@ use Rattle.pal_text.specs.declared.tokens.Kind.{Kind}
 use Rattle.pal_text.specs.declared.tokens.Kind.TheVariants.{End}
 use Rattle.pal_text.specs.declared.tokens.Token.{Token}
 use Rattle.pal_text.specs.declared.cut.Statement.{Statement}
-use Rattle.pal_text.specs.declared.characters.Meaning.TheVariants.{LineEnd}
-use Rattle.pal_text.specs.Characters.{code, is_ignored, meaning_after, in_comment}
+use Rattle.pal_text.specs.Characters.{code, is_ignored, returned, in_comment}
 use Rattle.pal_text.specs.Tokens.{is_space, tokens}
 use Rattle.pal_text.specs.Names.{bytes_of, named, part_tokens}
 use Rattle.pal_text.specs.Statements.{is_end, Piece, pieces, Fills}
@@ -39,20 +38,20 @@ moved place size t = record t {
 abbrev pub IgnoredAddNothing : Type 0
 IgnoredAddNothing = (before after : List ℕ) (b : ℕ) → is_ignored (code b) ≡ true → part_tokens (before ++ b ∷ after) ≡ map (moved (length before) 1) (part_tokens (before ++ after))
 
--- A carriage return or a line feed.
+-- A byte that ends a line, where it isn't one that a return before it makes an ignored one.
 abbrev pub is_line_byte : ℕ → Bool
 is_line_byte b = nat_eq (code b) 13 || nat_eq (code b) 10
 
--- Here a line ends: by the next byte, or because none is left.
-abbrev pub LineEndsHere : List ℕ → List ℕ → Type 0
-LineEndsHere before [] = Unit {0}
-LineEndsHere before (b ∷ after) = meaning_after (reverse before) b ≡ LineEnd
+-- Here a line ends: by this byte, or because none is left.
+abbrev pub EndsLine : List ℕ → Type 0
+EndsLine [] = Unit {0}
+EndsLine (b ∷ bytes) = is_line_byte b ≡ true
 
--- A comment at the end of a line adds nothing: the tokens are the same with it and without it. A line feed right after a
--- return ends no line, so the place between these two is none of those.
+-- A comment adds nothing: the tokens are the same with it and without it. Right after a return the line feed that ends it
+-- would be ignored without it, so that place is left out.
 abbrev pub CommentsAddNothing : Type 0
-CommentsAddNothing = (before text after : List ℕ) (slash : ℕ) → in_comment (reverse before) ≡ false → code slash ≡ 47
-    → AllByRecursion (λ b. is_line_byte b ≡ false) text → LineEndsHere before after
+CommentsAddNothing = (before text after : List ℕ) (slash : ℕ) → in_comment (reverse before) ≡ false → returned (reverse before) ≡ false → code slash ≡ 47
+    → AllByRecursion (λ b. is_line_byte b ≡ false) text → EndsLine after
     → part_tokens (before ++ ((slash ∷ text) ++ after)) ≡ map (moved (length before) (length (slash ∷ text))) (part_tokens (before ++ after))
 
 -- The tokens of the bytes at the front of a part.

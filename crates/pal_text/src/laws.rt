@@ -2,8 +2,7 @@
 
 ghost use Rattle.pal_text.specs.Laws.{TokensSpellAgain, IgnoredAddNothing, CommentsAddNothing, StatementsStay};
 
-/// The slice of a token that is no space and no end of a statement, read as a part of its own, is
-/// that token again.
+/// The slice of a token, read as a part of its own, is that token again.
 pub fn tokens_spell_again()
     ensures { TokensSpellAgain }
 {}
@@ -14,15 +13,14 @@ pub fn ignored_bytes_add_nothing()
     ensures { IgnoredAddNothing }
 {}
 
-/// A comment where a line ends adds nothing: with it the tokens are the same, and stand where they
-/// stood or so much later as the comment is long. The place between a return and its line feed is
-/// none of those: no line ends there without the comment.
+/// A comment adds nothing: with it the tokens are the same, and stand where they stood or so much
+/// later as the comment is long.
 pub fn comments_add_nothing()
     ensures { CommentsAddNothing }
 {}
 
-/// What follows the end of a statement changes neither the tokens up to there nor how the statement
-/// and those before it are read.
+/// What follows the end of a statement doesn't change how the statement and those before it are
+/// read.
 pub fn statements_stay()
     ensures { StatementsStay }
 {}

@@ -513,6 +513,56 @@ fn a_read_off_the_list_is_told(rt: HostRuntime) -> Result<(), Fail> {
     Ok(())
 }
 
+/// Declarations of the program that prints HELLO with a list of reads, the status, and what watching it tells.
+const HELLO_READS: [(&[u8], Status, &[u8]); 3] = [
+    (
+        b"start 0200\nmain 0200-0213\nsub 0214 body 0215-0221 returns 0\nvar 0010 0224\npause 0212\nread 0010 0222-0231\n",
+        Status::Done,
+        b"clean\n",
+    ),
+    (
+        b"start 0200\nmain 0200-0213\nsub 0214 body 0215-0221 returns 0\nvar 0010 0224\npause 0212\nread 0010 0222-0230\n",
+        Status::Refused,
+        b"broken: event 114 rule 7\n",
+    ),
+    (
+        b"start 0200\nmain 0200-0213\nsub 0214 body 0215-0221 returns 0\nvar 0010 0224\npause 0212\nread\n",
+        Status::Refused,
+        b"broken: event 6 rule 7\n",
+    ),
+];
+
+/// The text of so many rounds of a step, the printer's completion and the punch's.
+fn rounds(alloc: Global, count: usize) -> Result<Vec<u8>, AllocError> {
+    let mut text = Vec::new(alloc);
+    for _ in 0..count {
+        text.extend_from_slice(b"step\nprinter\npunch\n")?;
+    }
+    Ok(text)
+}
+
+#[test]
+fn the_event_of_a_read_off_the_list_is_told(rt: HostRuntime) -> Result<(), Fail> {
+    let mut frames = MemorySink::new(rt.alloc(), 1000);
+    let mut parts = [MemorySource::new(HELLO)];
+    let ended = assemble(rt.alloc(), &mut parts, Profile::Pdp8I, &mut frames);
+    assert_eq!(rt; ended, Ok(Status::Done));
+    let events = rounds(rt.alloc(), 46)?;
+    for (declared, status, line) in &HELLO_READS {
+        let mut out = MemorySink::new(rt.alloc(), 1000);
+        let ended = watch(
+            rt.alloc(),
+            &mut MemorySource::new(frames.bytes()),
+            &mut MemorySource::new(declared),
+            &mut MemorySource::new(&events),
+            &mut out,
+        );
+        assert_eq!(rt; ended, Ok(*status));
+        assert_eq!(rt; out.bytes(), *line);
+    }
+    Ok(())
+}
+
 #[test]
 fn a_line_that_is_cut_is_a_prefix(rt: HostRuntime) -> Result<(), Fail> {
     let frames = halt_tape();

@@ -38,6 +38,7 @@ struct Asked {
     listed: bool,
     read: bool,
     reads: WordSet,
+    is_call: bool,
     calls: WordSet,
     indexed: bool,
     returned: Option<Word>,
@@ -90,6 +91,7 @@ fn ask<'a, A: Allocator>(
         listed: place.writes_are_listed(fact, at, word),
         read: place.reads_are_listed(fact, at, word),
         reads: reads(fact, at, word, &place),
+        is_call: place.is_call(word),
         calls: place.calls(fact, at, word),
         indexed: place.steps_call_pointer(at, word),
         returned: place.returned_entry(at, word),
@@ -309,10 +311,12 @@ fn calls_and_returns_are_told(rt: HostRuntime) -> Result<(), Fail> {
     assert!(rt; through.calls == two(0o250, 0o400) && !through.indexed);
     let stepping = in_main(&rt, &fact, 0o200, 0o4410)?;
     assert!(rt; stepping.calls == one(0o300) && stepping.indexed);
+    assert!(rt; direct.is_call && through.is_call && stepping.is_call);
     let sum = in_main(&rt, &fact, 0o200, 0o1410)?;
     assert!(rt; sum.calls.is_empty() && !sum.indexed && sum.returned.is_none());
     let back = in_routine(&rt, &fact, 0o5650)?;
     assert!(rt; back.returned == Some(word(0o250)) && back.calls.is_empty());
+    assert!(rt; !sum.is_call && !back.is_call);
     for number in [0o5250, 0o5706, 0o4650] {
         let jump = in_routine(&rt, &fact, number)?;
         assert!(rt; jump.returned.is_none());

@@ -2,7 +2,9 @@
 
 use bin_tape::Image;
 use declaration::Declaration;
-use facts::{Equation, Fact, Known, Name, Offsets, Outcome, Place, Running, outcomes};
+use facts::{
+    Equation, Fact, Known, Name, Offsets, Outcome, Place, Running, outcomes, single_outcome,
+};
 use std::alloc::Allocator;
 use std::test::Fail;
 use word12::{Link, Word};
@@ -189,6 +191,31 @@ fn in_routine(rt: &HostRuntime, fact: &Fact, number: usize) -> Result<[Option<Se
     outcomes_of(rt, ON_8I, fact, stand)
 }
 
+/// The outcome of a word at 0200 of main that has one at most; none where the word may have more.
+fn single_glimpse<'a, A: Allocator>(
+    image: &'a Image,
+    declaration: &'a Declaration<A>,
+    fact: &'a Fact,
+    word: Word,
+) -> Option<Seen> {
+    let place = Place {
+        image,
+        declaration,
+        routine: None,
+    };
+    if !place.has_one_outcome(word) {
+        return None;
+    }
+    glimpse(&single_outcome(fact, Word::from_index(0o200), word, &place))
+}
+
+/// The same on the 8/I.
+fn single_of(rt: &HostRuntime, fact: &Fact, number: usize) -> Result<Option<Seen>, Fail> {
+    let declared = Declaration::parse(rt.alloc(), ON_8I)?;
+    let image = tape();
+    Ok(single_glimpse(&image, &declared, fact, word(number)))
+}
+
 /// One outcome alone.
 fn alone(outcome: &Seen) -> [Option<Seen>; 4] {
     [Some(*outcome), None, None, None]
@@ -349,6 +376,22 @@ fn tad_of_one_word_moves_equations(rt: HostRuntime) -> Result<(), Fail> {
         in_main(&rt, ON_8I, &fact(last), 0o200, 0o1301)?,
         alone(&carried.linked(Links::one(Link::SET)))
     );
+    Ok(())
+}
+
+#[test]
+fn a_word_of_one_outcome_is_asked_alone(rt: HostRuntime) -> Result<(), Fail> {
+    let five = one(5);
+    let sum = same(five).moved(range(6, 0o10), 4);
+    assert_eq!(rt; single_of(&rt, &fact(five), 0o1301)?, Some(sum));
+    let jump = same(five).to(one(0o204));
+    assert_eq!(rt; single_of(&rt, &fact(five), 0o5204)?, Some(jump));
+    let still = same(five).moved(range(1, 3), 0o7777);
+    assert_eq!(rt; single_of(&rt, &fact(five), 0o7000)?, Some(still));
+    // ISZ, SZA, HLT and KSF may have more.
+    for number in [0o2301, 0o7440, 0o7402, 0o6031] {
+        assert_eq!(rt; single_of(&rt, &fact(five), number)?, None);
+    }
     Ok(())
 }
 

@@ -9,6 +9,8 @@ mod declarations;
 #[cfg(test)]
 mod facts_asked;
 #[cfg(test)]
+mod facts_counted;
+#[cfg(test)]
 mod facts_entailed;
 #[cfg(test)]
 mod facts_outcomes;

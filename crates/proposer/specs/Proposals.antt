@@ -1,5 +1,5 @@
 -- What is promised of a proposal.
-use Rattle.std.specs.Prelude.{◌≡◌, ◌≤◌, ℕ, ⊤, length, List, Option, is_some, true}
+use Rattle.std.specs.Prelude.{◌≡◌, ◌≤◌, ℕ, ⊤, length, List, Option, None, is_some, true}
 use Rattle.instruct.specs.declared.Profile.{Profile}
 use Rattle.peripherals.specs.Loading.{image_of}
 use Rattle.declaration.specs.Declaration.{IsDeclared}
@@ -34,10 +34,10 @@ abbrev pub IsFor : Kept → Lines → Type 0
 IsFor d ls = AreLines ls × (ls.version ≡ version_of (meaning d).profile) × (length (text ls) ≤ 1048576)
 
 -- With a certificate the program keeps the declaration in every run, and every condition holds of that certificate; a
--- refusal names the first condition that fails, of some certificate, and where.
+-- refusal names the first condition that fails, of the certificate beside it, and where.
 abbrev pub IsShown : {A : Type 0} → List (Option ℕ) → Kept → Verdict A → Type 0
 IsShown image d (Safe c) = IsSafe (image_of image) (meaning d) × IsFor d (certified.meaning c) × IsValid (judged image d (certified.claims c))
-IsShown image d (Refused r) = (c : certified.Kept) × IsFor d (certified.meaning c) × IsFirst (judged image d (certified.claims c)) r.condition r.address
+IsShown image d (Refused c r) = IsFor d (certified.meaning c) × IsFirst (judged image d (certified.claims c)) r.condition r.address
 IsShown image d _ = ⊤
 
 -- A want of memory isn't told as a declaration's fault.
@@ -49,7 +49,9 @@ IsTold _ = ⊤
 abbrev pub IsSpentUp : {A : Type 0} → Count → Verdict A → Type 0
 IsSpentUp turns v = v ≡ TurnsSpent → turns.spent ≡ turns.limit
 
--- Where a certificate is found the declaration lists the cells that may be read.
+-- Where a certificate is found that the judge accepts, the declaration lists the cells that may be read; where none is found it
+-- lists none. (One that the judge refuses may be refused with the list or without it.)
 abbrev pub IsListed : {A : Type 0} → Kept → Verdict A → Type 0
 IsListed d (Safe c) = is_some (meaning d).reads ≡ true
-IsListed d _ = ⊤
+IsListed d (Refused c r) = ⊤
+IsListed d _ = (meaning d).reads ≡ None

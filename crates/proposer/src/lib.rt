@@ -55,8 +55,8 @@ pub enum ProposeFault {
 pub enum Verdict<A: Allocator> {
     /// No run of the program breaks it, as this certificate shows, which the judge accepts.
     Safe(Certificate<A>),
-    /// The judge refuses the certificate that is found.
-    Refused(Refusal),
+    /// The judge refuses this certificate, which is the one that is found.
+    Refused(Certificate<A>, Refusal),
     /// No certificate is found: at this address an instruction was met that the judge would refuse.
     Stuck(Word),
     /// No certificate is found with all turns that there were.
@@ -139,7 +139,8 @@ pub fn propose_with_reads<A: Allocator + Copy>(
 ) -> Result<Proposal<A>, ProposeFault>
     ensures fits { IfOk result (Fits start profile) }
     ensures shown { IfOk result (λ p. IsShown image.now p.declaration p.verdict) }
-    // Where a certificate is found there is a list of reads.
+    // Where a certificate is found that the judge accepts there is a list of reads, and where none is
+    // found there is none.
     ensures listed { IfOk result (λ p. IsListed p.declaration p.verdict) }
     ensures spent { IfOk result (λ p. IsSpentUp turns.new p.verdict) }
     ensures faults { IfErr result IsTold }
@@ -345,11 +346,12 @@ fn tested<A: Allocator>(
         version_of (meaning declaration.now).profile }
     requires short { length (text (certified.meaning certificate)) ≤ 1048576 }
     ensures shown { IsShown image.now declaration.now result }
+    ensures listed { (d : Kept) → is_some (meaning d).reads ≡ true → IsListed d result }
     ensures spent { result ≢ TurnsSpent }
 {
     match judge(image, declaration, &certificate) {
         Ok(()) => Verdict::Safe(certificate),
-        Err(refusal) => Verdict::Refused(refusal),
+        Err(refusal) => Verdict::Refused(certificate, refusal),
     }
 }
 

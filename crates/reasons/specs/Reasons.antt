@@ -50,5 +50,5 @@ HasWrongWord j v a reason =
 -- The condition fails at the address, since this is so.
 abbrev pub Explains : Case → Condition → ℕ → Reason → Type 0
 Explains j v a reason =
-    ((v ≡ V1) × IsWrongStart j.image j.certificate a reason) ⊎
+    ((v ≡ V1) × (a ≡ j.declaration.start) × IsWrongStart j.image j.certificate a reason) ⊎
     (((v ≡ V2) × IsMisplaced j.declaration j.certificate a reason) ⊎ HasWrongWord j v a reason)

@@ -48,9 +48,15 @@ is_of_lines (why.TooManyWords n) = false
 is_of_lines (why.ByWord w b) = is_word_of_lines b
 is_of_lines _ = true
 
+-- It is a call to a routine of a rank that isn't lower.
+abbrev pub is_of_rank : Reason → Bool
+is_of_rank (why.ByWord w (breach.Calls entry (call.NotLower rank own))) = true
+is_of_rank _ = false
+
 -- It is told of the address at which the search is stuck, and isn't that a line is missing or too narrow; or of a call in the
--- body of the routine of which that address is the entry.
+-- body of the routine of which that address is the entry, and is then its rank or not that a line is missing.
 abbrev pub IsToldOf : Declaration → ℕ → Refusal → Reason → Type 0
 IsToldOf d at refusal reason =
     ((refusal.address ≡ at) × (is_of_lines reason ≡ false)) ⊎
-    ((refusal.condition ≡ V7) × (d.body (Some at) refusal.address ≡ true))
+    ((refusal.condition ≡ V7) × (d.body (Some at) refusal.address ≡ true)
+    × ((is_of_rank reason ≡ true) ⊎ (is_of_lines reason ≡ false)))

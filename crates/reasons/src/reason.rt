@@ -1,9 +1,10 @@
 //! Why a condition fails.
 
-ghost use Rattle.std.specs.Prelude.{IfSome};
+ghost use Rattle.std.specs.Prelude.{◌≡◌, IfSome};
 ghost use Rattle.declaration.specs.Kept as declared;
 ghost use Rattle.judge.specs.Judged.{judged};
-ghost use Rattle.reasons.specs.Reasons.{Explains, HasWrongWord};
+ghost use Rattle.peripherals.specs.Loading.{image_of};
+ghost use Rattle.reasons.specs.Reasons.{Explains, HasWrongWord, IsWrongStart};
 ghost use Rattle.reasons.specs.Spots.{IsBody};
 
 use crate::breach::Breach;
@@ -76,6 +77,22 @@ fn why_words<A: Allocator, C: Claims>(
     Spot::of(image, declaration, claims, &body, at, &fact).first_breach(condition)
 }
 
+/// Why the fact at an address, if it is the start, doesn't hold of every start.
+fn why_at_start<A: Allocator, C: Claims>(
+    image: &Image,
+    declaration: &Declaration<A>,
+    claims: &C,
+    at: Word,
+) -> Option<Reason>
+    ensures { IfSome result (λ reason. (at ≡ (declared.meaning declaration.now).start) ×
+        IsWrongStart (image_of image.now) (C.claims claims.now) at reason) }
+{
+    if at == declaration.start() {
+        return why_start(image, claims, at);
+    }
+    None
+}
+
 /// Why a condition fails at an address: what is possible there by a tape's words, a declaration and
 /// what is claimed, and breaks it. Where there are several, no clause says which of them is told.
 ///
@@ -90,7 +107,7 @@ pub fn why<A: Allocator, C: Claims>(
         refusal.now.condition refusal.now.address) }
 {
     match refusal.condition {
-        Condition::V1 => why_start(image, claims, refusal.address),
+        Condition::V1 => why_at_start(image, declaration, claims, refusal.address),
         Condition::V2 => why_placed(declaration, claims, refusal.address),
         condition => why_words(image, declaration, claims, condition, refusal.address),
     }

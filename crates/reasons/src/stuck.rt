@@ -1,11 +1,11 @@
 //! Why a search for a certificate is stuck at an address, by a draft of what it found until then.
 
-ghost use Rattle.std.specs.Prelude.{◌≡◌, false, true, IfSome, Some};
+ghost use Rattle.std.specs.Prelude.{◌≡◌, ◌⊎◌, false, true, IfSome, Some};
 ghost use Rattle.declaration.specs.Kept as declared;
 ghost use Rattle.facts.specs.declared.Condition.TheVariants.{V7};
 ghost use Rattle.judge.specs.Judged.{judged};
 ghost use Rattle.reasons.specs.Reasons.{Explains};
-ghost use Rattle.reasons.specs.Stuck.{IsToldOf, is_of_lines, is_call_of_lines, is_landing_of_lines, is_return_of_lines, is_word_of_lines};
+ghost use Rattle.reasons.specs.Stuck.{IsToldOf, is_of_lines, is_of_rank, is_call_of_lines, is_landing_of_lines, is_return_of_lines, is_word_of_lines};
 
 use crate::breach::{Breach, CallBreach, Landing, ReturnBreach};
 use crate::reason::{Reason, why};
@@ -100,6 +100,27 @@ impl Reason {
             _ => true,
         }
     }
+
+    /// Whether it is a call to a routine of a rank that isn't lower.
+    fn is_of_rank(&self) -> bool
+        ensures { result ≡ is_of_rank self.now }
+    {
+        matches!(
+            self,
+            Reason::ByWord(_, Breach::Calls(_, CallBreach::NotLower(_, _)))
+        )
+    }
+
+    /// Whether it is told of a call: its rank, or anything but that a line is missing or too narrow.
+    fn is_told_of_calls(&self) -> bool
+        ensures { result ≡ true →
+            (is_of_rank self.now ≡ true) ⊎ (is_of_lines self.now ≡ false) }
+    {
+        if self.is_of_rank() {
+            return true;
+        }
+        !self.is_of_lines()
+    }
 }
 
 /// Why a condition fails at an address, if it isn't that lines are missing or too narrow.
@@ -160,6 +181,8 @@ fn why_around<A: Allocator, C: Claims>(
     ensures calls { IfSome result (λ found. found.0.condition ≡ V7) }
     ensures inside { IfSome result (λ found.
         (declared.meaning declaration.now).body (Some entry) found.0.address ≡ true) }
+    ensures told { IfSome result (λ found.
+        (is_of_rank found.1 ≡ true) ⊎ (is_of_lines found.1 ≡ false)) }
 {
     for index in 0..4096usize {
         let refusal = Refusal {
@@ -168,7 +191,9 @@ fn why_around<A: Allocator, C: Claims>(
         };
         if declaration.in_body(entry, refusal.address) {
             if let Some(reason) = why(image, declaration, claims, &refusal) {
-                return Some((refusal, reason));
+                if reason.is_told_of_calls() {
+                    return Some((refusal, reason));
+                }
             }
         }
     }
@@ -177,7 +202,8 @@ fn why_around<A: Allocator, C: Claims>(
 
 /// Why a search is stuck at an address, by a draft of what it found until then: the first condition
 /// that fails there, and why; or, where the address is an entry, a call in its routine's body. That
-/// lines are missing or too narrow at the address isn't told, since a draft lacks what wasn't come to.
+/// lines are missing or too narrow isn't told, since a draft lacks what wasn't come to; but of a call,
+/// that its rank isn't lower, since ranks are given once all facts are found.
 ///
 /// No memory is taken, so none can be refused.
 pub fn why_stuck<A: Allocator, C: Claims>(

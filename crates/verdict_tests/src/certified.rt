@@ -16,7 +16,7 @@ use std::alloc::{AllocError, Global};
 use std::test::Fail;
 use testing::Refusing;
 use testing::memory::{MemorySink, MemorySource};
-use word12::Word;
+use word12::{Link, Word};
 
 /// The words of the program that prints HELLO, from 0200 on.
 pub(crate) const PROGRAM: [u16; 26] = [
@@ -117,16 +117,22 @@ fn hello_is_certified(rt: HostRuntime) -> Result<(), Fail> {
     Ok(())
 }
 
-#[test]
-fn a_certified_program_runs(rt: HostRuntime) -> Result<(), Fail> {
-    let tape = tape(rt.alloc(), &[(0o200, &PROGRAM)])?;
-    let text = without(rt.alloc(), HELLO.as_slice(), 0)?;
-    let certified = certify(rt.alloc(), tape.bytes(), DECLARED, &text)?;
+/// Rounds of a step, the printer's completion and the punch's.
+fn rounds() -> [Event; 138] {
     let mut events = [Event::Step; 138];
     for round in 0..46 {
         events[3 * round + 1] = Event::PrinterDone;
         events[3 * round + 2] = Event::PunchDone;
     }
+    events
+}
+
+#[test]
+fn a_certified_program_runs(rt: HostRuntime) -> Result<(), Fail> {
+    let tape = tape(rt.alloc(), &[(0o200, &PROGRAM)])?;
+    let text = without(rt.alloc(), HELLO.as_slice(), 0)?;
+    let certified = certify(rt.alloc(), tape.bytes(), DECLARED, &text)?;
+    let events = rounds();
     let start = Start::zero();
     let told = watch(
         rt.alloc(),
@@ -150,6 +156,44 @@ fn a_certified_program_runs(rt: HostRuntime) -> Result<(), Fail> {
         assert!(rt; heap.has_refused());
     }
     assert!(rt; false);
+    Ok(())
+}
+
+/// What AC and MQ hold at a start, whether the link is set, and what each cell holds.
+const STARTS: [(u16, bool, u16); 4] = [
+    (0, false, 0),
+    (0o1234, true, 0o7402),
+    (0o7777, true, 0o5555),
+    (0o4000, false, 0o7777),
+];
+
+/// That start.
+fn start_with(registers: u16, is_set: bool, filled: u16) -> Start {
+    let mut start = Start::zero();
+    start.ac = word(registers);
+    start.mq = word(registers);
+    start.link = if is_set { Link::SET } else { Link::CLEAR };
+    for address in 0..4096 {
+        start.memory.set(Word::from_index(address), word(filled));
+    }
+    start
+}
+
+#[test]
+fn a_certified_program_prints_the_same_from_any_start(rt: HostRuntime) -> Result<(), Fail> {
+    let tape = tape(rt.alloc(), &[(0o200, &PROGRAM)])?;
+    let text = without(rt.alloc(), HELLO.as_slice(), 0)?;
+    let certified = certify(rt.alloc(), tape.bytes(), DECLARED, &text)?;
+    let events = rounds();
+    for (registers, is_set, filled) in &STARTS {
+        let start = start_with(*registers, *is_set, *filled);
+        let world = certified.run(rt.alloc(), &start, &events)?;
+        assert_eq!(rt; world.halted_at(), Some(word(0o212)));
+        assert_eq!(rt;
+            world.printed(),
+            [0o000, 0o310, 0o305, 0o314, 0o314, 0o317].as_slice()
+        );
+    }
     Ok(())
 }
 
@@ -397,6 +441,9 @@ fn a_certificate_that_is_refused_or_not_read_is_not_migrated(rt: HostRuntime) ->
     Ok(())
 }
 
+/// The line of a yes for the program that prints HELLO.
+const YES: &str = "yes: 17 body cells, 2 variable cells, 1 entries, 1 halts\n";
+
 #[test]
 fn what_is_guessed_of_hello_is_certified(rt: HostRuntime) -> Result<(), Fail> {
     let tape = tape(rt.alloc(), &[(0o200, &PROGRAM)])?;
@@ -416,8 +463,9 @@ fn what_is_guessed_of_hello_is_certified(rt: HostRuntime) -> Result<(), Fail> {
             );
         } else {
             assert_eq!(rt; ended, Ok(Status::Done));
-            let said = verdict(rt.alloc(), tape.bytes(), DECLARED, out.bytes())?;
-            assert_eq!(rt; said.as_str(), "yes");
+            let (told, line) = line_of(rt.alloc(), tape.bytes(), DECLARED, out.bytes())?;
+            assert_eq!(rt; told, Ok(Status::Done));
+            assert_eq!(rt; line.bytes(), YES.as_bytes());
         }
     }
     Ok(())
@@ -478,9 +526,12 @@ fn declarations_of_hello_are_judged(rt: HostRuntime) -> Result<(), Fail> {
 
 #[test]
 fn an_empty_tape_is_refused_first(rt: HostRuntime) -> Result<(), Fail> {
-    for declared in [DECLARED, b"main 9"] {
-        let said = verdict(rt.alloc(), &[], declared, b"")?;
-        assert_eq!(rt; said.as_str(), "tape: NoWord");
+    let whole = without(rt.alloc(), HELLO.as_slice(), 0)?;
+    for declared in [DECLARED, b"main 9", b""] {
+        for text in [whole.as_slice(), b"PDP8-CERTIFICATE 3\n", b""] {
+            let said = verdict(rt.alloc(), &[], declared, text)?;
+            assert_eq!(rt; said.as_str(), "tape: NoWord");
+        }
     }
     Ok(())
 }
@@ -807,12 +858,8 @@ fn line_of(
 }
 
 /// Lines of the declaration, the status and the line of the verdict.
-const VERDICTS: [(&str, Status, &str); 4] = [
-    (
-        "var 0010 0224\n",
-        Status::Done,
-        "yes: 17 body cells, 2 variable cells, 1 entries, 1 halts\n",
-    ),
+const VERDICTS: [(&str, Status, &str); 5] = [
+    ("var 0010 0224\n", Status::Done, YES),
     (
         "var 0000-0177 0224\n",
         Status::Done,
@@ -827,6 +874,11 @@ const VERDICTS: [(&str, Status, &str); 4] = [
         "var 0010 0224\nread 0010 0222-0230\n",
         Status::Refused,
         "no: V15 at 0206\n",
+    ),
+    (
+        "var 0010 0224\nread\n",
+        Status::Refused,
+        "no: V15 at 0202\n",
     ),
 ];
 

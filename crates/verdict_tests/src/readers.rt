@@ -103,6 +103,29 @@ fn a_cut_text_names_the_line_that_is_lacking(rt: HostRuntime) -> Result<(), Fail
     Ok(())
 }
 
+#[test]
+fn a_text_that_is_cut_at_any_byte_names_the_line_that_is_lacking(
+    rt: HostRuntime,
+) -> Result<(), Fail> {
+    let whole = text(rt.alloc(), HELLO.as_slice())?;
+    let mut lines = 0usize;
+    for cut in 0..whole.len() {
+        let expected = if lines == 0 {
+            CertificateFault::Version
+        } else {
+            CertificateFault::BadLine(lines.saturating_add(1))
+        };
+        let front = &whole[..cut];
+        assert_eq!(rt; Certificate::parse(rt.alloc(), front).err(), Some(expected));
+        assert_eq!(rt; pieced(rt.alloc(), front, 512), Some(expected));
+        if whole[cut] == b'\n' {
+            lines = lines.saturating_add(1);
+        }
+    }
+    assert_eq!(rt; lines, 35);
+    Ok(())
+}
+
 /// A first line and then so many bytes with no line feed.
 fn unended(alloc: Global, count: usize) -> Result<Vec<u8>, AllocError> {
     let mut text = Vec::new(alloc);

@@ -1,4 +1,4 @@
-use Rattle.std.proofs.Common.{◌≡◌, ◌+◌, ◌∙◌, ap, drop, List}
+use Rattle.std.proofs.Common.{◌≡◌, ◌∙◌, ap, drop, List}
 use Rattle.certificate.specs.Line.{Line, all_ended}
 use Rattle.certificate.specs.Spelling.{fact_text_at}
 use Rattle.certificate.specs.Gathered.{gathered}

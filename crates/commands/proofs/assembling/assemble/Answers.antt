@@ -1,5 +1,6 @@
 use Rattle.std.proofs.Common.{rules, ◌≡◌, Err, map, refl}
 use Rattle.streams.specs.Bytes.{AppendsFront}
+use Rattle.bin_tape.specs.Image.{IsEmptyImage}
 use Rattle.bin_tape.specs.Tape.{IsTape}
 use Rattle.bin_tape.specs.Written.{written_tape}
 use Rattle.bin_tape.specs.declared.fault.WriteTapeFault.TheVariants.{EmptyImage, WriteFault}
@@ -25,14 +26,16 @@ returns-clause-front g c = λ marked.
     let means : Means (permanent_symbols c.args.profile) (map (λ part. part.items) c.in_ok-parts.parts.items) (symbols_in c.in_ok-translation.translation) (image_in c.in_ok-translation.translation) = search rules in
     let failed : c.write_tape.result ≡ Err WriteFault = search rules in
     let front : AppendsFront (g.W.ByteSink.taken c.args.out.now) (g.W.ByteSink.taken c.write_tape.new.sink) (written_tape (image_in c.in_ok-translation.translation)) = rw c.image-2.ensures at (c.write_tape.ensures.front failed) in
+    let has_word : IsEmptyImage (image_in c.in_ok-translation.translation) → ⊥ = not_empty c.write_tape.result (image_in c.in_ok-translation.translation) c.image-2.result.now c.write_tape.ensures.empty c.image-2.ensures failed in
     let back : IsTape (written_tape (image_in c.in_ok-translation.translation)) (image_in c.in_ok-translation.translation) =
-    (rw c.image.ensures at c.written_tapes_read_back.ensures) (not_empty c.write_tape.result (image_in c.in_ok-translation.translation) c.image-2.result.now c.write_tape.ensures.empty c.image-2.ensures failed) in
+    (rw c.image.ensures at c.written_tapes_read_back.ensures) has_word in
     record {
       text = written_tape (image_in c.in_ok-translation.translation);
       is = record {
         symbols = symbols_in c.in_ok-translation.translation;
         image = image_in c.in_ok-translation.translation;
         assembles = record { parts = map (λ part. part.items) c.in_ok-parts.parts.items; read = c.in_ok-parts.ensures.read; means = means };
+        has_word = has_word;
         tape_is = refl;
         reads_back = back;
       };

@@ -10,7 +10,7 @@ use Rattle.peripherals.specs.World.{view, profile_of}
 use Rattle.commands.specs.Course.{ends_at_halt, events_in}
 use Rattle.commands.specs.Follows.{counted, goes_on}
 use Rattle.commands.specs.Trace.{trace_of, traced}
-use Rattle.commands.proofs.FollowLemmas.{Came, came_all, came_more, came_to_fault, came_to_output, came_to_refusal, came_to_world, of_fault, came_to_halt, came_to_stuck}
+use Rattle.commands.proofs.FollowLemmas.{Came, came_all, came_more, came_into_line, came_to_fault, came_to_refusal, came_to_world, of_fault, came_to_halt, came_to_stuck}
 use Rattle.commands.proofs.follow.follow.Goals.{in-Ran, in-Halted-2, in-NotEnabled, in-Changed}
 use Rattle.commands.proofs.follow.follow.Goals as goal
 
@@ -25,18 +25,23 @@ returns-in_err-advance-clause-front g c = λ marked.
     came_to_fault p (ends_at_halt c.args.course.now) c.args.trace es c.loop-index.index c.event.result (view c.args.world.now) (view c.loop-index.world) (view c.advance.new.world) c.loop-index.steps _ _ _
     inv.came within c.event.ensures (c.advance.ensures.asked marked) happens front
 
-pub returns-in_err-advance-clause-traced : goal.returns-in_err-advance-clause-traced
-returns-in_err-advance-clause-traced g c = of_fault c.from_residual.result (λ unmarked asked.
+pub returns-in_err-advance-clause-broke : goal.returns-in_err-advance-clause-broke
+returns-in_err-advance-clause-broke g c = λ marked.
     let inv = c.loop-index.invariant in
-    came_to_refusal (profile_of c.args.world.now) (ends_at_halt c.args.course.now) c.args.trace (events_in c.args.course.now) c.loop-index.index c.event.result (view c.args.world.now) (view c.loop-index.world) c.loop-index.steps _ _ _
-    inv.came c.event.ensures (c.in_err-advance.ensures.wants unmarked) asked (c.in_err-advance.ensures.kept unmarked))
+    let p = profile_of c.args.world.now in
+    let es = events_in c.args.course.now in
+    let within : c.loop-index.index < length es = search rules in
+    let happens : Happens p (view c.loop-index.world) c.event.result (view c.advance.new.world) = rw inv.profile at (c.advance.ensures.broke marked) in
+    let front : AppendsFront (g.W.ByteSink.taken c.loop-index.out) (g.W.ByteSink.taken c.advance.new.out) (trace_of p (view c.loop-index.world) c.event.result (view c.advance.new.world)) = rw inv.profile at (c.advance.ensures.front marked) in
+    came_into_line p (ends_at_halt c.args.course.now) c.args.trace es c.loop-index.index c.event.result (view c.args.world.now) (view c.loop-index.world) (view c.advance.new.world) c.loop-index.steps _ _ _
+    inv.came within c.event.ensures (c.advance.ensures.asked marked) happens front
 
-pub returns-in_err-advance-clause-wants : goal.returns-in_err-advance-clause-wants
-returns-in_err-advance-clause-wants g c = of_fault c.from_residual.result (λ unmarked.
+pub returns-in_err-advance-clause-refused : goal.returns-in_err-advance-clause-refused
+returns-in_err-advance-clause-refused g c = of_fault c.from_residual.result (λ unmarked.
     let inv = c.loop-index.invariant in
     let within : c.loop-index.index < length (events_in c.args.course.now) = search rules in
-    came_to_output (profile_of c.args.world.now) (ends_at_halt c.args.course.now) c.args.trace (events_in c.args.course.now) c.loop-index.index c.event.result (view c.args.world.now) (view c.loop-index.world) (view c.advance.new.world) c.loop-index.steps _ _
-    inv.came within c.event.ensures (c.in_err-advance.ensures.wants unmarked) (c.in_err-advance.ensures.unchanged unmarked))
+    came_to_refusal (profile_of c.args.world.now) (ends_at_halt c.args.course.now) c.args.trace (events_in c.args.course.now) c.loop-index.index c.event.result (view c.args.world.now) (view c.loop-index.world) (view c.advance.new.world) c.loop-index.steps _ _ _
+    inv.came within c.event.ensures (c.in_err-advance.ensures.wants unmarked) (c.in_err-advance.ensures.unchanged unmarked) (c.in_err-advance.ensures.kept unmarked))
 
 pub returns-in_err-advance-clause-reached : goal.returns-in_err-advance-clause-reached
 returns-in_err-advance-clause-reached g c = of_fault c.from_residual.result (

@@ -12,5 +12,4 @@ returns-in-Ok-clause-claims g c =
 pub returns-in-Err-clause-faults : goal.returns-in-Err-clause-faults
 returns-in-Err-clause-faults g c =
     rw c.from.ensures (certificate_fault_is c.in-Err.fault (g.R.ByteSource.mark c.read_from.new.source) (g.R.ByteSource.remaining c.args.source.now) (g.R.ByteSource.remaining c.read_from.new.source)
-    c.in-Err.ensures.refused (λ e. record { failed = c.in-Err.ensures.failed ∙ ap is_read_fault e; unanswered = c.in-Err.ensures.unanswered (ap Err e) })
-    (λ e. c.in-Err.ensures.memory (ap Err e)))
+    c.in-Err.ensures.refused (λ e. c.in-Err.ensures.memory (ap Err e)) (λ e. record { failed = c.in-Err.ensures.failed ∙ ap is_read_fault e; unanswered = c.in-Err.ensures.unanswered (ap Err e) }))

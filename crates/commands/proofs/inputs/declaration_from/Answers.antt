@@ -8,4 +8,4 @@ returns-in-Ok-clause-declares g c =
 
 pub returns-clause-faults : goal.returns-clause-faults
 returns-clause-faults g c =
-    rw c.from.ensures (declaration_fault_is c.in-Err.fault _ (g.R.ByteSource.remaining c.args.source.now) _ c.in_ok-text.text.items c.in_ok-text.ensures.text (rw c.deref.ensures.value at c.in-Err.ensures.refused))
+    rw c.from.ensures (declaration_fault_is c.in-Err.fault _ (g.R.ByteSource.remaining c.args.source.now) _ c.in_ok-text.text.items c.in_ok-text.ensures.taken c.in_ok-text.ensures.text (rw c.deref.ensures.value at c.in-Err.ensures.refused))

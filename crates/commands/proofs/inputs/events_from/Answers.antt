@@ -7,4 +7,4 @@ returns-in-Ok-clause-spells g c =
 
 pub returns-clause-faults : goal.returns-clause-faults
 returns-clause-faults g c =
-    rw c.from.ensures (events_fault_is c.in-Err.fault _ (g.R.ByteSource.remaining c.args.source.now) _ c.in_ok-text.text.items c.in_ok-text.ensures.text (rw c.deref.ensures.value at c.in-Err.ensures.refused))
+    rw c.from.ensures (events_fault_is c.in-Err.fault _ (g.R.ByteSource.remaining c.args.source.now) _ c.in_ok-text.text.items c.in_ok-text.ensures.taken c.in_ok-text.ensures.text (rw c.deref.ensures.value at c.in-Err.ensures.refused))

@@ -1,8 +1,10 @@
-use Rattle.commands.proofs.SourceLaws.{tape_is_one, meant_is_read, read_is_meant}
+use Rattle.commands.proofs.SourceLaws.{tape_is_there, empty_has_no_tape, tape_is_one, meant_is_read, read_is_meant}
 use Rattle.commands.proofs.laws.sources_are_read_back.Goals as goal
 
 pub returns : goal.returns
 returns c = record {
+  there = tape_is_there;
+  empty = empty_has_no_tape c.answers_are_one.ensures.meaning;
   tape = tape_is_one c.answers_are_one.ensures.meaning;
   read = meant_is_read c.answers_are_one.ensures.meaning;
   meant = read_is_meant;

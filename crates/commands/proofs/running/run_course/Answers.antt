@@ -5,7 +5,7 @@ use Rattle.peripherals.specs.World.{view, profile_of}
 use Rattle.commands.specs.Course.{ends_at_halt, events_in}
 use Rattle.commands.specs.Running.{fresh}
 use Rattle.commands.specs.Summary.{summary}
-use Rattle.commands.proofs.RunLemmas.{run_front, run_whole, trace_front, trace_only, trace_whole}
+use Rattle.commands.proofs.RunLemmas.{run_front, run_whole, trace_front, trace_refused, trace_whole}
 use Rattle.commands.proofs.FollowLemmas.{of_fault}
 use Rattle.commands.proofs.running.run_course.Goals as goal
 
@@ -33,7 +33,7 @@ pub returns-in_err-outcome-clause-traced : goal.returns-in_err-outcome-clause-tr
 returns-in_err-outcome-clause-traced g c = of_fault c.from_residual.result (λ unmarked asked.
     let profile : profile_of c.load-world.result ≡ c.args.options.profile = c.load-world.ensures.profile in
     let begins : view c.load-world.result ≡ fresh c.args.image.now c.args.options.start = search rules in
-    trace_only c.args.options (ends_at_halt c.args.course.now) (events_in c.args.course.now) c.args.image.now _ (view c.load-world.result) _ _ profile begins asked (c.in_err-outcome.ensures.traced unmarked asked))
+    trace_refused c.args.options (ends_at_halt c.args.course.now) (events_in c.args.course.now) c.args.image.now _ (view c.load-world.result) (view c.follow.new.world) _ _ profile begins asked (c.in_err-outcome.ensures.refused unmarked))
 
 pub returns-in_err-text-clause-traced : goal.returns-in_err-text-clause-traced
 returns-in_err-text-clause-traced g c = of_fault c.from_residual-in_err-text.result (λ unmarked asked.

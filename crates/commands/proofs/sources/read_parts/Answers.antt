@@ -4,8 +4,8 @@ use Rattle.std.specs.List.{AllByRecursion}
 use Rattle.std.proofs.lemmas.List.{map-append}
 use Rattle.commands.specs.SourceTexts.{IsShort}
 use Rattle.commands.proofs.PartLemmas.{all_push, none_marked, one_tells, none_more, bad_number, parts_fault}
-use Rattle.commands.proofs.LaterLemmas.{unread_long, unread_failed, read_whole, marked_whole}
-use Rattle.commands.proofs.SourceLemmas.{reads_next, unmarked_next, same_next, none_taken, takes_next}
+use Rattle.commands.proofs.LaterLemmas.{unread_long, unread_failed, unread_left, read_whole, marked_whole, left_whole}
+use Rattle.commands.proofs.SourceLemmas.{reads_next, unmarked_next, same_next, none_taken, takes_next, ended_next}
 use Rattle.commands.proofs.sources.read_parts.Goals as goal
 
 pub returns-then-is_bad_number-clause-faults : goal.returns-then-is_bad_number-clause-faults
@@ -54,6 +54,7 @@ loop-source-preserved g c =
       same_next c.loop-source.sources c.args.sources.now c.loop-source.source-index c.read_part.new.source within short inv.4,
       inv.5,
       takes_next 65537 g.R.ByteSource.remaining c.loop-source.sources c.args.sources.now c.loop-source.source-index c.source-item.result c.read_part.new.source within short inv.4 inv.6 c.in-Ok.ensures.takes,
+      ended_next g.R.ByteSource.remaining c.loop-source.sources c.args.sources.now c.loop-source.source-index c.source-item.result c.read_part.new.source within short inv.4 inv.7 c.in-Ok.ensures.ended,
     )
 
 pub returns-then-is_err-clause-unread : goal.returns-then-is_err-clause-unread
@@ -109,3 +110,19 @@ returns-in-Err-clause-takes g c =
 
 pub returns-clause-takes : goal.returns-clause-takes
 returns-clause-takes g c = c.loop-source.invariant.6
+
+pub returns-then-is_err-clause-unread_after : goal.returns-then-is_err-clause-unread_after
+returns-then-is_err-clause-unread_after g c = λ at has.
+    let inv = c.loop-source.invariant in
+    unread_left g.R.ByteSource.remaining c.loop-source.sources c.args.sources.now c.loop-source.source-index c.read_part.new.source at inv.7 inv.4 has
+
+pub returns-in-Err-clause-unread_after : goal.returns-in-Err-clause-unread_after
+returns-in-Err-clause-unread_after g c = λ at has.
+    let inv = c.loop-source.invariant in
+    unread_left g.R.ByteSource.remaining c.loop-source.sources c.args.sources.now c.loop-source.source-index c.read_part.new.source at inv.7 inv.4 has
+
+pub returns-clause-unread_after : goal.returns-clause-unread_after
+returns-clause-unread_after g c = λ at has.
+    let inv = c.loop-source.invariant in
+    let past : length c.args.sources.now ≤ c.loop-source.source-index = search rules in
+    left_whole g.R.ByteSource.remaining c.loop-source.sources c.args.sources.now c.loop-source.source-index at past inv.7 has

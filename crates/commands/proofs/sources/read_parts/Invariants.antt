@@ -1,6 +1,7 @@
 use Rattle.std.proofs.Common.{◌≡◌, map, take, drop, length, false}
 use Rattle.std.specs.List.{AllByRecursion, list_any}
 use Rattle.commands.specs.SourceTexts.{AreRead, EachTakesAtMost, IsShort, is_bad_number}
+use Rattle.commands.proofs.SourceLemmas.{AreEnded}
 use Rattle.commands.proofs.sources.read_parts.Given as goal
 
 abbrev pub invariant-loop-source : goal.invariant-loop-source
@@ -12,3 +13,4 @@ invariant-loop-source g l =
     × (drop l.source-index l.sources ≡ drop l.source-index l.initial.sources)
     × (is_bad_number (length l.initial.sources) ≡ false)
     × EachTakesAtMost 65537 (map g.R.ByteSource.remaining l.initial.sources) (map g.R.ByteSource.remaining l.sources)
+    × AreEnded (map g.R.ByteSource.remaining (take l.source-index l.initial.sources)) (map g.R.ByteSource.remaining (take l.source-index l.sources))

@@ -1,9 +1,7 @@
-use Rattle.std.proofs.Common.{ℕ, List, [], ◌∷◌, ◌++◌, Ok, Err, refl, subst}
-use Rattle.certificate.specs.Meaning.{said}
+use Rattle.std.proofs.Common.{ℕ, List, subst}
 use Rattle.certificate.specs.Detail.{said_detail}
 use Rattle.certificate.specs.Order.{Spells}
-use Rattle.certificate.specs.Progress.{Takes}
-use Rattle.certificate.proofs.ParserLemmas.{next_kept, next_refused, long_refused}
+use Rattle.certificate.proofs.ParserLemmas.{long_refused}
 use Rattle.certificate.proofs.parser.Parser.end_next.Goals as goal
 
 pub returns-then-self-clause-seen : goal.returns-then-self-clause-seen

@@ -1,7 +1,5 @@
 use Rattle.std.proofs.Common.{ℕ, List, [], ◌∷◌, ◌++◌, Ok, Err, refl, subst}
 use Rattle.certificate.specs.Meaning.{said}
-use Rattle.certificate.specs.Detail.{said_detail}
-use Rattle.certificate.specs.Order.{Spells}
 use Rattle.certificate.specs.Progress.{Takes}
 use Rattle.certificate.proofs.ParserLemmas.{next_kept, next_refused}
 use Rattle.certificate.proofs.parser.Parser.end_other.Goals as goal

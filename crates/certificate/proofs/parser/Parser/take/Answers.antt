@@ -1,32 +1,30 @@
-use Rattle.std.proofs.Common.{arith}
-use Rattle.certificate.proofs.ParserLemmas.{one_too_many, pushed, passed, is_full, has_place}
+use Rattle.std.proofs.Common.{◌<◌, ◌+◌, ◌++◌, [], ◌∷◌, ◌∙◌, arith, List, ℕ, length, take, drop, subst, ap}
+use Rattle.certificate.specs.Parser.{Seen}
+use Rattle.certificate.proofs.ServedLemmas.{piece_rest, piece_length, refused_on, with_feed}
 use Rattle.certificate.proofs.parser.Parser.take.Goals as goal
 
-pub returns-then-self-eq-MOST_BYTES-clause-seen : goal.returns-then-self-eq-MOST_BYTES-clause-seen
-returns-then-self-eq-MOST_BYTES-clause-seen g c = λ bytes h e.
-    one_too_many c.args.self.now.kept h.text c.args.self.now.line.items bytes c.args.self.now.progress c.args.self.now.is_long c.args.byte
-    c.args.self.now.count h.parts c.if-self-eq-MOST_BYTES.true e
+pub returns-in-Err-clause-seen : goal.returns-in-Err-clause-seen
+returns-in-Err-clause-seen g c = λ before h e.
+    refused_on (before ++ take c.line_len-end.result c.args.bytes.now) (drop c.line_len-end.result c.args.bytes.now) (before ++ c.args.bytes.now) c.in-Err.fault
+    (piece_rest before c.args.bytes.now c.line_len-end.result) (c.in-Err.ensures.seen before h e)
 
-pub returns-then-is_full-clause-seen : goal.returns-then-is_full-clause-seen
-returns-then-is_full-clause-seen g c = λ bytes h e. record {
-  text = h.text;
-  parts =
-      passed c.args.self.now.kept h.text c.args.self.now.line.items bytes c.args.self.now.progress c.args.self.now.is_long c.args.byte h.parts
-      c.if-byte-eq10.false (is_full _ _ c.if-is_full.ensures.value);
-}
+pub returns-in-Err-end-clause-seen : goal.returns-in-Err-end-clause-seen
+returns-in-Err-end-clause-seen g c = λ before h e.
+    let bytes = c.args.bytes.now in
+    let end = c.line_len-end.result in
+    let fits = c.line_len-end.ensures.fits in
+    let within : end < length bytes = (let ne = c.if-end-bytes.false in omega (arith, fits, ne)) in
+    refused_on (before ++ take end bytes ++ 10 ∷ []) (drop (end + 1) bytes) (before ++ bytes) c.in-Err-end.fault
+    (ap (λ (x : List ℕ). x ++ drop (end + 1) bytes) (with_feed before bytes end within (c.line_len-end.ensures.feed within)) ∙ piece_rest before bytes (end + 1))
+    (c.in-Err-end.ensures.seen (before ++ take end bytes) (c.in_default.ensures.seen before h e)
+    (c.in_default.ensures.count ∙ piece_length before (take end bytes) c.args.self.now.count e))
 
-pub returns-else-is_full-clause-seen : goal.returns-else-is_full-clause-seen
-returns-else-is_full-clause-seen g c = λ bytes h e. record {
-  text = h.text;
-  parts =
-      pushed c.args.self.now.kept h.text c.args.self.now.line.items c.push.new.self.items bytes c.args.self.now.progress c.args.self.now.is_long c.args.byte h.parts
-      c.if-byte-eq10.false (has_place _ _ c.if-is_full.ensures.value c.if-is_full.ensures.fits) c.push.ensures.items;
-}
-
-pub returns-in-None-clause-seen : goal.returns-in-None-clause-seen
-returns-in-None-clause-seen g c = λ bytes h e. rw c.if-byte-eq10.true
-    (c.end_first.ensures.seen bytes (record { text = h.text; parts = h.parts }) (omega (arith, c.requires.count, c.if-self-eq-MOST_BYTES.false)))
-
-pub returns-in-Some-clause-seen : goal.returns-in-Some-clause-seen
-returns-in-Some-clause-seen g c = λ bytes h e. rw c.if-byte-eq10.true
-    (c.end_next.ensures.seen bytes (record { text = h.text; parts = h.parts }) (omega (arith, c.requires.count, c.if-self-eq-MOST_BYTES.false)))
+pub returns-clause-seen : goal.returns-clause-seen
+returns-clause-seen g c = λ before h e.
+    let bytes = c.args.bytes.now in
+    let end = c.line_len-end.result in
+    let fits = c.line_len-end.ensures.fits in
+    let within : end < length bytes = (let ne = c.if-end-bytes.false in omega (arith, fits, ne)) in
+    subst (λ (x : List ℕ). Seen c.end.new.self x) (with_feed before bytes end within (c.line_len-end.ensures.feed within))
+    (c.in_default-end.ensures.seen (before ++ take end bytes) (c.in_default.ensures.seen before h e)
+    (c.in_default.ensures.count ∙ piece_length before (take end bytes) c.args.self.now.count e))

@@ -1,21 +1,33 @@
-use Rattle.std.proofs.Common.{◌++◌, ◌∙◌, arith, List, ℕ, take, sym, subst}
-use Rattle.certificate.specs.Parser.{Seen}
-use Rattle.certificate.proofs.ServedLemmas.{piece_more, piece_count, piece_refused}
+use Rattle.std.proofs.Common.{◌≤◌, ◌-◌, ◌++◌, ◌∙◌, arith, List, ℕ, length, take, drop, subst, length-drop}
+use Rattle.certificate.specs.Parser.{Seen, Refuses}
+use Rattle.certificate.proofs.ServedLemmas.{piece_more, piece_rest, piece_left, piece_count}
 use Rattle.certificate.proofs.parser.Parser.take_all.Goals as goal
+
+pub loop-at-preserved : goal.loop-at-preserved
+loop-at-preserved g c =
+    let bytes = c.args.bytes.now in
+    let at = c.loop-at.at in
+    let n = c.in-Ok.count in
+    let few : n ≤ length (take (length bytes - at) (drop at bytes)) = c.in-Ok.ensures.within in
+    let within : n ≤ length (drop at bytes) = subst (λ (x : List ℕ). n ≤ length x) (piece_left bytes at) few in
+    record {
+      within = (let b = c.loop-at.invariant.within in omega (arith, within, b, length-drop at bytes));
+      small = c.in-Ok.ensures.small;
+      count = (let a = c.in-Ok.ensures.count in let b = c.loop-at.invariant.count in omega (arith, a, b));
+      seen = λ before h e.
+          let seen : Seen c.take.new.self (before ++ take at bytes ++ take n (take (length bytes - at) (drop at bytes))) =
+          c.in-Ok.ensures.seen (before ++ take at bytes) (c.loop-at.invariant.seen before h e)
+          (c.loop-at.invariant.count ∙ piece_count before bytes c.args.self.now.count at c.loop-at.invariant.within e) in
+          subst (λ (x : List ℕ). Seen c.take.new.self x) (piece_more before bytes at n)
+          (subst (λ (x : List ℕ). Seen c.take.new.self (before ++ take at bytes ++ take n x)) (piece_left bytes at) seen);
+    }
 
 pub returns-in-Err-clause-seen : goal.returns-in-Err-clause-seen
 returns-in-Err-clause-seen g c = λ before h e.
-    piece_refused before c.args.bytes.now c.loop-byte.byte-index c.in-Err.fault c.loop-byte-test.true
-    (c.in-Err.ensures.seen (before ++ take c.loop-byte.byte-index c.args.bytes.now) (c.loop-byte.invariant.seen before h e)
-    (c.loop-byte.invariant.count ∙ piece_count before c.args.bytes.now c.args.self.now.count c.loop-byte.byte-index c.loop-byte.auto.byte-index-end e))
-
-pub loop-byte-preserved : goal.loop-byte-preserved
-loop-byte-preserved g c = record {
-  small = c.in_default.ensures.small;
-  count = (let a = c.in_default.ensures.count in let b = c.loop-byte.invariant.count in omega (arith, a, b));
-  seen = λ before h e.
-      subst (λ (x : List ℕ). Seen c.take.new.self x)
-      (sym (piece_more before c.args.bytes.now c.loop-byte.byte-index c.loop-byte-test.true))
-      (c.in_default.ensures.seen (before ++ take c.loop-byte.byte-index c.args.bytes.now) (c.loop-byte.invariant.seen before h e)
-      (c.loop-byte.invariant.count ∙ piece_count before c.args.bytes.now c.args.self.now.count c.loop-byte.byte-index c.loop-byte.auto.byte-index-end e));
-}
+    let bytes = c.args.bytes.now in
+    let at = c.loop-at.at in
+    let refused : Refuses (before ++ take at bytes ++ take (length bytes - at) (drop at bytes)) c.in-Err.fault =
+    c.in-Err.ensures.seen (before ++ take at bytes) (c.loop-at.invariant.seen before h e)
+    (c.loop-at.invariant.count ∙ piece_count before bytes c.args.self.now.count at c.loop-at.invariant.within e) in
+    subst (λ (x : List ℕ). Refuses x c.in-Err.fault) (piece_rest before bytes at)
+    (subst (λ (x : List ℕ). Refuses (before ++ take at bytes ++ x) c.in-Err.fault) (piece_left bytes at) refused)

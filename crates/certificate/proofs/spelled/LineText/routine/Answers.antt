@@ -1,7 +1,10 @@
+use Rattle.certificate.specs.Line.{rank_text}
+use Rattle.certificate.specs.Spelled.{Adds}
 use Rattle.certificate.proofs.SpelledLemmas.{joined}
 use Rattle.certificate.proofs.spelled.LineText.routine.Goals as goal
 
 pub returns : goal.returns
 returns c =
-    let a = joined _ _ _ _ _ (joined _ _ _ _ _ (joined _ _ _ _ _ c.text.ensures c.word.ensures) c.text-2.ensures) c.rank.ensures in
-    joined _ _ _ _ _ (joined _ _ _ _ _ (joined _ _ _ _ _ (joined _ _ _ _ _ a c.text-3.ensures) c.set.ensures) c.text-4.ensures) c.set-2.ensures
+    let rank : Adds c.text-2.new.self.bytes.items c.rank.new.self.bytes.items (rank_text c.args.routine.now.rank) = rw c.from.ensures at c.rank.ensures in
+    let a = joined _ _ _ _ _ (joined _ _ _ _ _ (joined _ _ _ _ _ c.text.ensures c.word.ensures) c.text-2.ensures) rank in
+    joined _ _ _ _ _ (joined _ _ _ _ _ (joined _ _ _ _ _ (joined _ _ _ _ _ a c.text-3.ensures) c.one.ensures) c.text-4.ensures) c.other.ensures

@@ -1,10 +1,7 @@
-use Rattle.std.proofs.Common.{◌-◌}
-use Rattle.wordset.specs.Lanes.{words}
-use Rattle.certificate.proofs.SpelledLemmas.{SetSofar}
+use Rattle.std.proofs.Common.{drop}
+use Rattle.certificate.specs.Packed.{set_of_runs}
+use Rattle.certificate.proofs.ApartLemmas.{RunsWritten}
 use Rattle.certificate.proofs.spelled.LineText.runs.Given as goal
 
-abbrev pub invariant-loop-low : goal.invariant-loop-low
-invariant-loop-low l = SetSofar l.fn.self.bytes.items l.self.bytes.items (words l.set) l.next
-
-abbrev pub decreases-loop-low : goal.decreases-loop-low
-decreases-loop-low l = 4096 - l.next
+abbrev pub invariant-loop-run : goal.invariant-loop-run
+invariant-loop-run l = RunsWritten l.fn.self.bytes.items l.self.bytes.items (set_of_runs l.runs) l.next (drop l.run-index l.runs)

@@ -1,5 +1,4 @@
 use Rattle.std.proofs.Common.{◌≡◌, ◌∙◌, ap, map, List, [], ◌∷◌, ◌++◌}
-use Rattle.std.proofs.lemmas.List.{map-append}
 use Rattle.facts.specs.Facts.{Ac, Cell, same, Equation}
 use Rattle.facts.specs.Changes.{free_of}
 use Rattle.facts.specs.Meaning.{equation_of}

@@ -15,4 +15,4 @@ returns-then-not-is_jms g c = calls_nothing _ (place_of c.args.self.now) (meanin
 pub returns : goal.returns
 returns g c = calls_targets _ (place_of c.args.self.now) (meaning c.args.fact.now) c.args.at c.args.word _ _ _
     ((c.is_reference.ensures c.args.at).0 c.if-not-is_reference.false) c.is_jms.ensures c.if-not-is_jms.false
-    c.refers_indirectly.ensures c.target.ensures (c.reached.ensures (meaning c.args.fact.now) c.of-known.ensures.same)
+    c.refers_indirectly.ensures c.target.ensures c.targets_at.ensures

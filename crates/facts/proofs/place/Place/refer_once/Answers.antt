@@ -1,6 +1,5 @@
 use Rattle.std.proofs.Common.{◌∙◌, sym}
 use Rattle.facts.specs.Facts.{Cell}
-use Rattle.facts.specs.Places.{place_of}
 use Rattle.facts.proofs.AgreeLemmas.{agree_trans}
 use Rattle.facts.proofs.ChangingLemmas.{moved_agree}
 use Rattle.facts.proofs.ReachLemmas.{step_yes, step_no}

@@ -4,7 +4,7 @@ use Rattle.facts.specs.Meaning.{known_of}
 use Rattle.facts.proofs.AgreeLemmas.{agree_refl}
 use Rattle.judge.specs.Conditions.{LandsAt}
 use Rattle.judge.specs.Spots.{case_of, routine_at}
-use Rattle.judge.proofs.EachLemmas.{one_fails, one_more}
+use Rattle.facts.proofs.EachLemmas.{one_fails, one_more}
 use Rattle.judge.proofs.spot.Spot.lands_at_each.Goals as goal
 
 pub returns-then-not-lands : goal.returns-then-not-lands

@@ -1,12 +1,8 @@
 use Rattle.std.proofs.Common.{sym, ◌∙◌}
-use Rattle.judge.specs.Spots.{case_of, routine_at}
-use Rattle.judge.proofs.CallLemmas.{lands_claimed, lands_equally, return_place, joined_equally}
 use Rattle.judge.proofs.spot.Spot.lands_by.Goals as goal
 
-pub returns : goal.returns
-returns g c =
-    lands_claimed (case_of g.C.Claims.claims c.args.self.now) (routine_at c.args.self.now) c.args.self.now.at c.args.entry c.args.offset _ (sym c.if-not-exit_into.false ∙ c.exit_into.ensures.there)
-    (lands_equally (case_of g.C.Claims.claims c.args.self.now) _ c.owner.ensures
-    (return_place c.args.self.now.at c.args.offset c.increment.result c.from_index.result c.add-at.result c.increment.ensures c.from_index.ensures c.add-at.ensures)
-    (joined_equally _ _ _ _ _ _ c.requires.spot.fact (c.exit_into.ensures.fact c.if-not-exit_into.false) c.claimed-written.ensures.writes)
-    (c.lands.ensures _ c.after_call-known.ensures))
+pub lands_with-requires-clause-there : goal.lands_with-requires-clause-there
+lands_with-requires-clause-there g c = sym c.exit_into.ensures.there ∙ c.if-not-exit_into.false
+
+pub lands_with-requires-clause-exit : goal.lands_with-requires-clause-exit
+lands_with-requires-clause-exit g c = c.exit_into.ensures.fact c.if-not-exit_into.false

@@ -1,0 +1,159 @@
+-- Lines that add to what is said of a fact, and the line of the fact itself.
+use Rattle.std.proofs.Common.{◌≡◌, ℕ, suc, ◌+◌, ◌≤◌, true, false, List, [], ◌∷◌, ◌++◌, length, get_or, drop, Option, Some, None, refl, ap, ◌∙◌, sym, arith, length-append}
+use Rattle.std.specs.Prelude.{IfSome}
+use Rattle.std.proofs.lemmas.Bool.{true≢false}
+use Rattle.wordset.specs.Words.{Words, everything, between}
+use Rattle.wordset.specs.Lanes.{words}
+use Rattle.facts.specs.Statements.{Statement, fact_of}
+use Rattle.certificate.specs.declared.Routine.{Routine}
+use Rattle.certificate.specs.Spelling.{RoutineLine}
+use Rattle.certificate.specs.declared.packed.Run.{Run}
+use Rattle.certificate.specs.Line.{Line, RoutineIs, FactIs, ExitIs, CellIs, EquationIs, End}
+use Rattle.certificate.specs.Order.{is_detail}
+use Rattle.certificate.specs.Gathered.{cells_under, equations_under}
+use Rattle.certificate.specs.Packed.{set_of_runs}
+use Rattle.certificate.specs.Found.{with_details, begins_fact, begins_exit, begins_routine, first_fact, first_exit, fact_statement, exit_statement, FitUnderFirst, SaysFirst, IsRoutineOf}
+use Rattle.certificate.specs.Adding.{with_line, HasRoomFor, HasRoomUnder, IsFactLine, IsExitLine, IsRoutineLine, SaysFactAt, SaysExitAt}
+use Rattle.certificate.proofs.PackedLemmas.{set_is}
+use Rattle.certificate.proofs.DetailLemmas.{cell_added, equation_added, none_under}
+
+-- The set of a single run.
+pub single : (lanes : List ℕ) (rs : List Run) (d e : Run) → length rs ≡ 1 → words lanes ≡ between (get_or rs 0 d).first (get_or rs 0 e).last → words lanes ≡ set_of_runs rs
+single lanes [] d e one is = absurd (omega arith)
+single lanes (x ∷ []) d e one is = set_is lanes (x ∷ []) (λ v h. ap (λ (f : Words). f v) is)
+single lanes (x ∷ y ∷ rs) d e one is = absurd (omega arith)
+
+-- There is room for what is left, after a part was added.
+pub room_left : (s whole : Statement) (ls all : List Line) → with_details s ls ≡ with_details whole all → HasRoomUnder whole all → HasRoomUnder s ls
+room_left s whole ls all e h =
+    let a : length (s.cells ++ cells_under ls) ≡ length (whole.cells ++ cells_under all) = ap (λ (w : Statement). length w.cells) e in
+    let b : length (s.equations ++ equations_under ls) ≡ length (whole.equations ++ equations_under all) = ap (λ (w : Statement). length w.equations) e in
+    let c : length whole.cells + length (cells_under all) ≤ 64 = h.0 in
+    let d : length whole.equations + length (equations_under all) ≤ 32 = h.1 in (
+      (omega (arith, length-append s.cells (cells_under ls), length-append whole.cells (cells_under all))),
+      (omega (arith, length-append s.equations (equations_under ls), length-append whole.equations (equations_under all))),
+    )
+
+-- There is room for the first line.
+room_for : (s : Statement) (l : Line) (ls : List Line) → HasRoomUnder s (l ∷ ls) → HasRoomFor s l
+room_for s (RoutineIs r) ls h = tt
+room_for s (FactIs a r m) ls h = tt
+room_for s (ExitIs x o r) ls h = tt
+room_for s (CellIs c) ls h = let k : length s.cells + suc (length (cells_under ls)) ≤ 64 = h.0 in omega arith
+room_for s (EquationIs q) ls h = let k : length s.equations + suc (length (equations_under ls)) ≤ 32 = h.1 in omega arith
+room_for s End ls h = tt
+
+-- The first line is added, or it's neither a cell nor an equation.
+added : (s : Statement) (l : Line) (ls : List Line) → is_detail l ≡ true → with_details (with_line s l) ls ≡ with_details s (l ∷ ls)
+added s (RoutineIs r) ls e = absurd (true≢false (sym e))
+added s (FactIs a r m) ls e = absurd (true≢false (sym e))
+added s (ExitIs x o r) ls e = absurd (true≢false (sym e))
+added s (CellIs c) ls e = cell_added s c ls
+added s (EquationIs q) ls e = equation_added s q ls
+added s End ls e = absurd (true≢false (sym e))
+
+unchanged : (s : Statement) (l : Line) → is_detail l ≡ false → with_line s l ≡ s
+unchanged s (RoutineIs r) e = refl
+unchanged s (FactIs a r m) e = refl
+unchanged s (ExitIs x o r) e = refl
+unchanged s (CellIs c) e = absurd (true≢false e)
+unchanged s (EquationIs q) e = absurd (true≢false e)
+unchanged s End e = refl
+
+pub room_there : (s : Statement) (lines : List Line) (i : ℕ) (l : Line) → drop i lines ≡ l ∷ drop (i + 1) lines → HasRoomUnder s (drop i lines) → HasRoomFor s l
+room_there s lines i l e h = room_for s l (drop (i + 1) lines) (rw e at h)
+
+pub added_there : (s new : Statement) (lines : List Line) (i : ℕ) (l : Line) → drop i lines ≡ l ∷ drop (i + 1) lines → new ≡ with_line s l → is_detail l ≡ true →
+    with_details new (drop (i + 1) lines) ≡ with_details s (drop i lines)
+added_there s new lines i l e n d = rw (e, n) (added s l (drop (i + 1) lines) d)
+
+pub done_there : (s new : Statement) (lines : List Line) (i : ℕ) (l : Line) → drop i lines ≡ l ∷ drop (i + 1) lines → new ≡ with_line s l → is_detail l ≡ false →
+    new ≡ with_details s (drop i lines)
+done_there s new lines i l e n d = n ∙ (unchanged s l d ∙ rw e (sym (none_under s l (drop (i + 1) lines) d)))
+
+-- The first line alone tells what begins.
+pub fact_first : (l : Line) (ls : List Line) → begins_fact (l ∷ []) ≡ begins_fact (l ∷ ls)
+fact_first (RoutineIs r) ls = refl
+fact_first (FactIs a r m) ls = refl
+fact_first (ExitIs x o r) ls = refl
+fact_first (CellIs c) ls = refl
+fact_first (EquationIs q) ls = refl
+fact_first End ls = refl
+
+pub exit_first : (l : Line) (ls : List Line) → begins_exit (l ∷ []) ≡ begins_exit (l ∷ ls)
+exit_first (RoutineIs r) ls = refl
+exit_first (FactIs a r m) ls = refl
+exit_first (ExitIs x o r) ls = refl
+exit_first (CellIs c) ls = refl
+exit_first (EquationIs q) ls = refl
+exit_first End ls = refl
+
+pub routine_first : (l : Line) (ls : List Line) → begins_routine (l ∷ []) ≡ begins_routine (l ∷ ls)
+routine_first (RoutineIs r) ls = refl
+routine_first (FactIs a r m) ls = refl
+routine_first (ExitIs x o r) ls = refl
+routine_first (CellIs c) ls = refl
+routine_first (EquationIs q) ls = refl
+routine_first End ls = refl
+
+-- A fact's line at a place.
+record FactSaid (l : Line) (ls : List Line) (s : Statement) (offsets : Words) : Type 0 where
+  fact : first_fact (l ∷ ls) ≡ fact_of (with_details s ls) offsets
+  statement : fact_statement (l ∷ ls) ≡ Some (with_details s ls)
+  room : FitUnderFirst (l ∷ ls) → HasRoomUnder s ls
+
+fact_said : (l : Line) (ls : List Line) (s : Statement) (offsets : Words) → IsFactLine l s offsets → FactSaid l ls s offsets
+fact_said (RoutineIs r) ls s offsets h = absurd h
+fact_said (FactIs a r m) ls s offsets h = record {
+  fact = rw (h.0, h.1) refl;
+  statement = rw h.0 refl;
+  room = λ q. rw h.0 (let x : length (cells_under ls) ≤ 64 = q.0 in let y : length (equations_under ls) ≤ 32 = q.1 in ((omega arith), (omega arith)));
+}
+fact_said (ExitIs x o r) ls s offsets h = absurd h
+fact_said (CellIs c) ls s offsets h = absurd h
+fact_said (EquationIs q) ls s offsets h = absurd h
+fact_said End ls s offsets h = absurd h
+
+pub fact_there : (lines : List Line) (i : ℕ) (l : Line) (s : Statement) (offsets : Words) → drop i lines ≡ l ∷ drop (i + 1) lines → IsFactLine l s offsets →
+    SaysFactAt i lines s offsets
+fact_there lines i l s offsets e h =
+    let f : FactSaid l (drop (i + 1) lines) s offsets = fact_said l (drop (i + 1) lines) s offsets h in
+    record { fact = ap first_fact e ∙ f.fact; statement = ap fact_statement e ∙ f.statement; room = λ q. f.room (rw e at q) }
+
+-- An exit's line at a place.
+record ExitSaid (l : Line) (ls : List Line) (s : Statement) : Type 0 where
+  fact : first_exit (l ∷ ls) ≡ fact_of (with_details s ls) everything
+  statement : exit_statement (l ∷ ls) ≡ Some (with_details s ls)
+  room : FitUnderFirst (l ∷ ls) → HasRoomUnder s ls
+
+exit_said : (l : Line) (ls : List Line) (s : Statement) → IsExitLine l s → ExitSaid l ls s
+exit_said (RoutineIs r) ls s h = absurd h
+exit_said (FactIs a r m) ls s h = absurd h
+exit_said (ExitIs x o r) ls s h = record {
+  fact = rw h refl;
+  statement = rw h refl;
+  room = λ q. rw h (let x : length (cells_under ls) ≤ 64 = q.0 in let y : length (equations_under ls) ≤ 32 = q.1 in ((omega arith), (omega arith)));
+}
+exit_said (CellIs c) ls s h = absurd h
+exit_said (EquationIs q) ls s h = absurd h
+exit_said End ls s h = absurd h
+
+pub exit_there : (lines : List Line) (i : ℕ) (l : Line) (s : Statement) → drop i lines ≡ l ∷ drop (i + 1) lines → IsExitLine l s → SaysExitAt i lines s
+exit_there lines i l s e h =
+    let f : ExitSaid l (drop (i + 1) lines) s = exit_said l (drop (i + 1) lines) s h in
+    record { fact = ap first_exit e ∙ f.fact; statement = ap exit_statement e ∙ f.statement; room = λ q. f.room (rw e at q) }
+
+-- A routine's line at a place.
+is_routine : (l : Line) (ls : List Line) (given : Routine) (rs : List RoutineLine) (e : ℕ) → IsRoutineLine l given → SaysFirst rs e (l ∷ ls) → IsRoutineOf rs e given
+is_routine (RoutineIs r) ls given rs e h says =
+    record { rank = h.0 ∙ sym says.rank; sites = h.1 ∙ sym says.sites; writes = h.2 ∙ sym says.writes }
+is_routine (FactIs a r m) ls given rs e h says = absurd h
+is_routine (ExitIs x o r) ls given rs e h says = absurd h
+is_routine (CellIs c) ls given rs e h says = absurd h
+is_routine (EquationIs q) ls given rs e h says = absurd h
+is_routine End ls given rs e h says = absurd h
+
+pub routine_there : (lines : List Line) (i : ℕ) (l : Line) (given : Option Routine) (rs : List RoutineLine) (e : ℕ) → drop i lines ≡ l ∷ drop (i + 1) lines →
+    IfSome given (λ r. IsRoutineLine l r) → SaysFirst rs e (drop i lines) → IfSome given (λ r. IsRoutineOf rs e r)
+routine_there lines i l None rs e is h says = tt
+routine_there lines i l (Some r) rs e is h says = is_routine l (drop (i + 1) lines) r rs e h (rw is at says)

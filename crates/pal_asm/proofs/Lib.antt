@@ -4,8 +4,8 @@ pub mod Within
 pub mod Turned
 pub mod One
 pub mod EachAct
+pub mod Spoken
 pub mod Stepped
-pub mod TurnedLines
 pub mod Fronted
 pub mod Fronts
 pub mod Climbs

@@ -3,10 +3,10 @@ use Rattle.std.specs.Prelude.{◌≡◌, ℕ, List, [], ◌∷◌, Option, ◌�
 use Rattle.std.specs.List.{AllByRecursion}
 use Rattle.pal_text.specs.declared.names.Name.{Name}
 use Rattle.pal_asm.specs.declared.fault.PalFault.{PalFault}
-use Rattle.pal_asm.specs.Sources.{Means, IsFault}
+use Rattle.pal_asm.specs.Sources.{TextLine, Means, IsFault}
 use Rattle.pal_acts.specs.declared.act.Place.{Place}
 use Rattle.pal_acts.specs.Values.{known}
-use Rattle.pal_asm.specs.Listings.{TextLine, all_words, Lists}
+use Rattle.pal_asm.specs.Listings.{all_words, Lists}
 
 -- A source means no other symbols and no other image.
 abbrev pub MeaningIsOne : Type 0

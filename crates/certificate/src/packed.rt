@@ -340,6 +340,27 @@ fn begin(runs: &[Run], registers: &PackedRegisters, offsets: Offsets, fact: &mut
     fact.set_offsets(offsets);
 }
 
+/// The lent fact tracks a cell more, whose runs lie here. Most have one.
+fn track(runs: &[Run], cell: Word, span: Span, fact: &mut Fact)
+    requires within { span.first + span.count ≤ length runs.now }
+    requires room { length (statement_of fact.old).cells < 64 }
+    ensures statement { statement_of fact.new ≡ record (statement_of fact.old) {
+      cells = (statement_of fact.old).cells ++
+          record { address = cell; set = set_at runs.now span.first span.count } ∷ [];
+    } }
+    ensures offsets { offsets_of fact.new.offsets ≡ offsets_of fact.old.offsets }
+{
+    let first = span.first as usize;
+    if span.count == 1 {
+        let run = runs[first];
+        let last = run.last.index();
+        prove!(last < 4096);
+        fact.track_row(cell, run.first, run.last);
+    } else {
+        fact.track(cell, set_in(runs, first, usize::from(span.count)));
+    }
+}
+
 /// Whether a line is a cell or an equation, which the lent fact then says too.
 fn add(runs: &[Run], packed: &PackedLine, fact: &mut Fact) -> bool
     requires within { LiesWithin (length runs.now) packed.now }
@@ -351,8 +372,7 @@ fn add(runs: &[Run], packed: &PackedLine, fact: &mut Fact) -> bool
 {
     match packed {
         PackedLine::Cell(cell, span) => {
-            let set = set_in(runs, span.first as usize, usize::from(span.count));
-            fact.track(*cell, set);
+            track(runs, *cell, *span, fact);
             true
         }
         PackedLine::Equation(equation) => {

@@ -6,12 +6,11 @@ use Rattle.wordset.specs.Links.{links_of}
 use Rattle.facts.specs.Facts.{Ac, Cell, met_by, has_cell}
 use Rattle.facts.specs.Facts as spec
 use Rattle.facts.specs.Statements.{Statement, tracked, fact_of}
-use Rattle.facts.specs.Statements as said
+pub use Rattle.facts.specs.Tracking.{tracked_of, cells_of}
 use Rattle.facts.specs.declared.names.Name.{Name}
 use Rattle.facts.specs.declared.names.Name.TheVariants as name
 use Rattle.facts.specs.declared.names.Equation.{Equation}
 use Rattle.facts.specs.declared.offsets.Offsets.{Offsets}
-use Rattle.facts.specs.declared.fact.TrackedCell.{TrackedCell}
 use Rattle.facts.specs.declared.fact.Fact.{Fact}
 use Rattle.facts.specs.declared.known.Change.{Change}
 use Rattle.facts.specs.declared.known.Change.TheVariants.{Unchanged, Replaced, Counted, Stored}
@@ -28,10 +27,6 @@ name_of (name.Cell a) = Cell a
 abbrev pub equation_of : Equation → spec.Equation
 equation_of e = record { left = name_of e.left; right = Cell e.right; more = e.more }
 
--- The tracked cell that is meant.
-abbrev pub tracked_of : TrackedCell → said.TrackedCell
-tracked_of t = record { address = t.cell; set = words t.set }
-
 -- The offsets that are meant, each of them below 8.
 abbrev pub offsets_of : Offsets → Words
 offsets_of o k = slice_index_or o.known k false
@@ -42,7 +37,7 @@ statement_of f = record {
   ac = words f.ac;
   mq = words f.mq;
   link = links_of f.link;
-  cells = map tracked_of f.cells.items;
+  cells = cells_of f.cells;
   equations = map equation_of f.equations.items;
 }
 
@@ -52,7 +47,7 @@ meaning f = fact_of (statement_of f) (offsets_of f.offsets)
 
 -- The words of a fact's tracked cells.
 abbrev pub cell_words : Fact → ℕ → Words
-cell_words f a = tracked a (map tracked_of f.cells.items)
+cell_words f a = tracked a (cells_of f.cells)
 
 -- What a change makes of the words of a cell.
 abbrev pub changed : Change → ℕ → Words → Words

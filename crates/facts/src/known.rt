@@ -10,14 +10,16 @@ ghost use Rattle.wordset.specs.Lanes.{words};
 ghost use Rattle.wordset.specs.Links.{links_of};
 ghost use Rattle.facts.specs.Facts.{Ac, Cell, same, narrowed, Among, Knows, KnowsAll, Entails, EntailsOffsets, joined};
 ghost use Rattle.facts.specs.Changes.{moved, assigned, smeared, with_equations, with_name, with_mq, with_link, with_offsets};
+ghost use Rattle.facts.specs.Statements.{cell_at};
 ghost use Rattle.facts.specs.Same.{Agree};
-ghost use Rattle.facts.specs.Meaning.{name_of, equation_of, offsets_of, meaning, cell_words, source_words, changed, known_of, tracked_of, Meets, IsUnchanged};
+ghost use Rattle.facts.specs.Meaning.{name_of, equation_of, cells_of, offsets_of, meaning, cell_words, source_words, changed, known_of, Meets, IsUnchanged};
 ghost use Rattle.facts.specs.Showing.{Shows, EachWithin, EntailsRegisters};
 
 use crate::equations::{Equations, copy, freed, freed_of_cells, has_cell, joined, outside, raised};
-use crate::fact::{Fact, TrackedCell, has_entry_within};
+use crate::fact::Fact;
 use crate::names::{Equation, Name, is_same_equation, is_same_name, negated};
 use crate::offsets::Offsets;
+use crate::tracking::TrackedCells;
 use word12::Word;
 use wordset::{Links, WordSet};
 
@@ -100,30 +102,37 @@ fn change_set(change: &Change, cell: Word, set: WordSet) -> WordSet
     }
 }
 
-/// Whether an entry shows that the words of a cell are within a set.
-fn is_source_within(source: &Source<'_>, cell: Word, set: &WordSet) -> bool
-    ensures { IsTrue result → IsWithin (source_words source.now cell) (words set.now) }
+/// Whether an entry shows that the cell at a place of others has no word that it may not hold there.
+fn is_source_within(source: &Source<'_>, cells: &TrackedCells, at: usize) -> bool
+    requires { at < length (cells_of cells.now) }
+    ensures { IsTrue result → IsWithin (source_words source.now (cell_at (cells_of cells.now) at).address)
+        (cell_at (cells_of cells.now) at).set }
 {
-    has_entry_within(teller(source, cell).cells(), cell, set)
+    teller(source, cells.address(at))
+        .cells()
+        .has_within(cells, at)
 }
 
-/// Whether a change is seen to leave a cell no word outside a set, where its words before are known
-/// to be within it or not.
-fn is_change_within(change: &Change, cell: Word, set: &WordSet, before: bool) -> bool
-    ensures { (old : Words) → (IsTrue before → IsWithin old (words set.now)) →
-        IsTrue result → IsWithin (changed change.now cell old) (words set.now) }
+/// Whether a change is seen to leave the cell at a place of others no word that it may not hold
+/// there, where its words before are known to be such words or not.
+fn is_change_within(change: &Change, cells: &TrackedCells, at: usize, before: bool) -> bool
+    requires { at < length (cells_of cells.now) }
+    ensures { (old : Words) → (IsTrue before → IsWithin old (cell_at (cells_of cells.now) at).set) →
+        IsTrue result → IsWithin (changed change.now (cell_at (cells_of cells.now) at).address old)
+        (cell_at (cells_of cells.now) at).set }
 {
+    let cell = cells.address(at);
     match change {
         Change::Unchanged => before,
-        Change::Replaced(at, other) => {
-            if cell == *at {
-                other.is_subset(set)
+        Change::Replaced(changed, other) => {
+            if cell == *changed {
+                cells.has_all(at, other)
             } else {
                 before
             }
         }
-        Change::Counted(cells) => before && !has_cell(cells, cell),
-        Change::Stored(cells, _) => before && !has_cell(cells, cell),
+        Change::Counted(several) => before && !has_cell(several, cell),
+        Change::Stored(several, _) => before && !has_cell(several, cell),
     }
 }
 
@@ -275,34 +284,39 @@ impl Known<'_> {
         true
     }
 
-    /// Whether a cell is seen to hold no word outside a set before its set is narrowed.
-    fn is_plainly_within(&self, cell: Word, set: &WordSet) -> bool
+    /// Whether the cell at a place of others is seen to hold no word that it may not hold there,
+    /// before its set is narrowed.
+    fn is_plainly_within(&self, cells: &TrackedCells, at: usize) -> bool
+        requires { at < length (cells_of cells.now) }
         ensures { IsTrue result →
-            IsWithin ((known_of self.now).set (Cell cell)) (words set.now) }
+            IsWithin ((known_of self.now).set (Cell (cell_at (cells_of cells.now) at).address))
+            (cell_at (cells_of cells.now) at).set }
     {
-        let before = is_source_within(&self.base, cell, set);
-        let seen = is_change_within(&self.pointer, cell, set, before);
-        is_change_within(&self.target, cell, set, seen)
+        let before = is_source_within(&self.base, cells, at);
+        let seen = is_change_within(&self.pointer, cells, at, before);
+        is_change_within(&self.target, cells, at, seen)
     }
 
-    /// Whether the equations leave a cell no word outside a set; a set that isn't narrowed is tried
-    /// first.
-    fn is_within(&self, cell: Word, set: &WordSet) -> bool
+    /// Whether the equations leave the cell at a place of others no word that it may not hold there;
+    /// a set that isn't narrowed is tried first.
+    fn is_within(&self, cells: &TrackedCells, at: usize) -> bool
+        requires { at < length (cells_of cells.now) }
         ensures { IsTrue result ↔
-            IsWithin (narrowed (known_of self.now) (Cell cell)) (words set.now) }
+            IsWithin (narrowed (known_of self.now) (Cell (cell_at (cells_of cells.now) at).address))
+            (cell_at (cells_of cells.now) at).set }
     {
-        if self.is_plainly_within(cell, set) {
+        if self.is_plainly_within(cells, at) {
             return true;
         }
-        self.narrowed(&Name::Cell(cell)).is_subset(set)
+        cells.has_all(at, &self.narrowed(&Name::Cell(cells.address(at))))
     }
 
     /// Whether each of these cells has its narrowed set within what is tracked.
-    fn is_each_within(&self, cells: &[TrackedCell]) -> bool
-        ensures { IsTrue result ↔ EachWithin (known_of self.now) (map tracked_of cells.now) }
+    fn is_each_within(&self, cells: &TrackedCells) -> bool
+        ensures { IsTrue result ↔ EachWithin (known_of self.now) (cells_of cells.now) }
     {
-        for t in cells {
-            if !self.is_within(t.cell, &t.set) {
+        for at in 0..cells.len() {
+            if !self.is_within(cells, at) {
                 return false;
             }
         }

@@ -2,7 +2,7 @@
 
 ghost use Rattle.std.specs.Prelude.{ℕ, ◌≡◌, ◌+◌, ◌<◌, ◌≤◌, ◌^◌, List, [], ◌∷◌, ◌++◌, length, map, drop, OnOk, OnErr, Some, IfSome, is_some, true, false};
 ghost use Rattle.std.specs.Prelude.{is_ok, if◌then◌else◌};
-ghost use Rattle.facts.specs.Meaning.{statement_of, offsets_of, cells_of, equation_of, meaning as fact_meaning};
+ghost use Rattle.facts.specs.Meaning.{statement_of, offsets_of, tracked_cells, equation_of, meaning as fact_meaning};
 ghost use Rattle.facts.specs.Changes.{with_offsets};
 ghost use Rattle.wordset.specs.Words.{everything};
 ghost use Rattle.certificate.specs.Spelling.{RoutineLine as SaidRoutine};
@@ -89,7 +89,7 @@ impl<A: Allocator> KeptLines<A> {
         requires indexed { IsIndexed self.old }
         ensures indexed { IsIndexed self.new }
         ensures lines { all_said self.new ≡ (if is_ok result
-            then all_said self.old ++ (said head.now ∷ (map CellIs (cells_of cells.now) ++
+            then all_said self.old ++ (said head.now ∷ (map CellIs (tracked_cells cells.now) ++
             map EquationIs (map equation_of equations.now)))
             else all_said self.old) }
     {
@@ -116,7 +116,7 @@ impl<A: Allocator> KeptLines<A> {
     ) -> Result<(), AllocError>
         ensures front { Extends self.old self.new }
         ensures whole { OnOk result
-            (HasMore self.old self.new (said head.now) (cells_of cells.now)
+            (HasMore self.old self.new (said head.now) (tracked_cells cells.now)
             (map equation_of equations.now)) }
     {
         self.places.push(place_of(head) as u32)?;
@@ -146,7 +146,7 @@ fn push_all<A: Allocator>(
     equations: &[Equation],
 ) -> Result<(), AllocError>
     ensures whole { OnOk result (said_lines lines.new ≡ said_lines lines.old ++ (said head.now ∷
-        (map CellIs (cells_of cells.now) ++ map EquationIs (map equation_of equations.now)))) }
+        (map CellIs (tracked_cells cells.now) ++ map EquationIs (map equation_of equations.now)))) }
     ensures front { Begins (said_lines lines.old) (said_lines lines.new) }
 {
     lines.push(head)?;
@@ -160,7 +160,7 @@ fn push_cells<A: Allocator>(
     cells: &TrackedCells,
 ) -> Result<(), AllocError>
     ensures whole { OnOk result (said_lines lines.new ≡ said_lines lines.old ++
-        map CellIs (cells_of cells.now)) }
+        map CellIs (tracked_cells cells.now)) }
     ensures front { Begins (said_lines lines.old) (said_lines lines.new) }
 {
     for at in 0..cells.len() {

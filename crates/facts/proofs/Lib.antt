@@ -17,7 +17,6 @@ pub mod OutcomeLemmas
 pub mod TadLemmas
 pub mod ReachLemmas
 pub mod RegisterLemmas
-mod SingleLemmas
 pub mod SkipLemmas
 pub mod DispatchLemmas
 pub mod EachLemmas

@@ -6,7 +6,7 @@ use Rattle.wordset.specs.Links.{links_of}
 use Rattle.facts.specs.Facts.{Ac, Cell, met_by, has_cell}
 use Rattle.facts.specs.Facts as spec
 use Rattle.facts.specs.Statements.{Statement, tracked, fact_of}
-pub use Rattle.facts.specs.Tracking.{tracked_of, cells_of}
+pub use Rattle.facts.specs.Tracking.{tracked_of, tracked_cells}
 use Rattle.facts.specs.declared.names.Name.{Name}
 use Rattle.facts.specs.declared.names.Name.TheVariants as name
 use Rattle.facts.specs.declared.names.Equation.{Equation}
@@ -37,7 +37,7 @@ statement_of f = record {
   ac = words f.ac;
   mq = words f.mq;
   link = links_of f.link;
-  cells = cells_of f.cells;
+  cells = tracked_cells f.cells;
   equations = map equation_of f.equations.items;
 }
 
@@ -47,14 +47,14 @@ meaning f = fact_of (statement_of f) (offsets_of f.offsets)
 
 -- The words of a fact's tracked cells.
 abbrev pub cell_words : Fact → ℕ → Words
-cell_words f a = tracked a (cells_of f.cells)
+cell_words f a = tracked a (tracked_cells f.cells)
 
 -- What a change makes of the words of a cell.
 abbrev pub changed : Change → ℕ → Words → Words
 changed Unchanged a set = set
-changed (Replaced c s) a set = if a == c then words s else set
-changed (Counted p) a set = if has_cell (words p) a then union set (shifted set 1) else set
-changed (Stored p s) a set = if has_cell (words p) a then union set (words s) else set
+changed (Replaced c s) a set = if a == c then words s.now else set
+changed (Counted p) a set = if has_cell (words p.now) a then union set (shifted set 1) else set
+changed (Stored p s) a set = if has_cell (words p.now) a then union set (words s.now) else set
 
 -- The words of a cell by where they come from: a fact; or after a call the exit's fact for the cells that are written,
 -- and the caller's for the others.
@@ -65,16 +65,16 @@ source_words (Joined call exit written) a =
 
 -- The words of a name: what the two changes make of where they come from.
 abbrev pub known_set : Known → spec.Name → Words
-known_set k Ac = words k.ac
+known_set k Ac = words k.ac.now
 known_set k (Cell a) = changed k.target a (changed k.pointer a (source_words k.base a))
 
 -- The fact that is known.
 abbrev pub known_of : Known → spec.Fact
 known_of k = record {
   set = known_set k;
-  mq = words k.mq;
+  mq = words k.mq.now;
   link = links_of k.link;
-  equations = map equation_of k.equations.items;
+  equations = map equation_of k.equations.now;
   offsets = offsets_of k.offsets;
 }
 

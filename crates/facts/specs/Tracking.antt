@@ -42,5 +42,5 @@ pub record Kept : Type 0 where
   pub whole : List TrackedCell
 
 -- The tracked cells that are meant.
-abbrev pub cells_of : Kept → List said.TrackedCell
-cells_of k = map (entry_of k.whole) k.entries
+abbrev pub tracked_cells : Kept → List said.TrackedCell
+tracked_cells k = map (entry_of k.whole) k.entries

@@ -21,6 +21,7 @@ use crate::fact::Fact;
 use crate::names::Name;
 use crate::place::{Place, tape_words};
 use crate::references::{either, steps_pointer};
+use crate::room::Room;
 use crate::skipping::both;
 use instruct::{Instruction, Operation, decode, halts, refers_indirectly, target};
 use std::alloc::Allocator;
@@ -294,9 +295,10 @@ pub fn post<'a, A: Allocator>(
     at: Word,
     word: Word,
     place: &Place<'_, A>,
+    room: &'a mut Room,
 ) -> Result<Outcomes<'a>, Condition>
     ensures outcomes { IfOk result (λ given.
-        AgreeingOutcomes (slots given) (outcomes_at (place_of place.now) (meaning fact.now) at
+        AgreeingOutcomes (slots given.all) (outcomes_at (place_of place.now) (meaning fact.now) at
         word)) }
     ensures kept { OnOk result (KeepsConditions (place_of place.now) (writes_of place.now.routine)
         (meaning fact.now) at (meaning_at (place_of place.now) at word)) }
@@ -305,6 +307,6 @@ pub fn post<'a, A: Allocator>(
 {
     match place.first_broken(fact, at, word) {
         Some(condition) => Err(condition),
-        None => Ok(outcomes(fact, at, word, place)),
+        None => Ok(outcomes(fact, at, word, place, room)),
     }
 }

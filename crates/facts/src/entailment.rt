@@ -8,7 +8,7 @@ ghost use Rattle.bin_tape.specs.Image.{HoldsWords};
 ghost use Rattle.peripherals.specs.Loading.{image_of};
 ghost use Rattle.facts.specs.Facts.{narrowed, joined, Entails, EntailsOffsets};
 ghost use Rattle.facts.specs.Starts.{HoldsOfStarts, each_below, has_each, is_always, are_always, holds_before};
-ghost use Rattle.facts.specs.Meaning.{name_of, equation_of, cells_of, meaning};
+ghost use Rattle.facts.specs.Meaning.{name_of, equation_of, tracked_cells, meaning};
 ghost use Rattle.facts.specs.Places.{main_of};
 ghost use Rattle.facts.specs.Showing.{MayStart, AreCells, allows_all};
 
@@ -16,6 +16,7 @@ use crate::fact::Fact;
 use crate::known::Known;
 use crate::names::{Equation, Name};
 use crate::tracking::TrackedCells;
+use arrayvec::ArrayVec;
 use bin_tape::Image;
 use declaration::Declaration;
 use std::alloc::Allocator;
@@ -46,7 +47,8 @@ pub fn entails_return(call: &Fact, exit: &Fact, written: &WordSet, after: &Fact)
         (meaning after.now) ×
         EntailsOffsets (meaning call.now) (meaning after.now)) }
 {
-    Known::after_call(call, exit, written).entails(after)
+    let mut list = ArrayVec::new();
+    Known::returned(call, exit, written, &mut list).entails(after)
 }
 
 /// Whether a fact holds of every start of a declared tape, with no call open: whatever the
@@ -77,7 +79,7 @@ fn passes(fact: &Fact, image: &Image) -> bool
 
 /// The proof needs each tracked cell to be looked at, since each is a word.
 fn look_at(cells: &TrackedCells)
-    ensures { AreCells (cells_of cells.now) }
+    ensures { AreCells (tracked_cells cells.now) }
 {
     for at in 0..cells.len() {
         let _cell = cells.address(at);
@@ -126,7 +128,7 @@ pub(crate) fn word_of(image: &Image, at: Word) -> Option<Word>
 
 /// Whether each tracked cell may hold what the tape lets it hold.
 fn may_each_start(cells: &TrackedCells, image: &Image) -> bool
-    ensures { IsTrue result ↔ MayStart (image_of image.now) (cells_of cells.now) }
+    ensures { IsTrue result ↔ MayStart (image_of image.now) (tracked_cells cells.now) }
 {
     for at in 0..cells.len() {
         let tracked = cells.get(at);

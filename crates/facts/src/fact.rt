@@ -8,7 +8,7 @@ ghost use Rattle.facts.specs.Facts.{narrowed};
 ghost use Rattle.facts.specs.Changes.{with_offsets};
 ghost use Rattle.facts.specs.Statements.{unknown};
 ghost use Rattle.facts.specs.Same.{SameFact};
-ghost use Rattle.facts.specs.Meaning.{name_of, equation_of, cells_of, offsets_of, statement_of, cell_words, meaning};
+ghost use Rattle.facts.specs.Meaning.{name_of, equation_of, tracked_cells, offsets_of, statement_of, cell_words, meaning};
 
 use crate::names::{Equation, Name};
 use crate::offsets::Offsets;
@@ -83,7 +83,7 @@ impl Fact {
 
     /// The tracked cells.
     pub fn cells(&self) -> &TrackedCells
-        ensures { cells_of result.now ≡ (statement_of self.now).cells }
+        ensures { tracked_cells result.now ≡ (statement_of self.now).cells }
     {
         &self.cells
     }

@@ -1,10 +1,10 @@
 //! What is known after a step: a fact, or what a caller and an exit know, and what changed.
 //!
-//! A fact has up to 64 tracked cells of 512 bytes. What is known after a step is seen through the
-//! fact that it came from: at most two cells changed, or one of several unknown ones did.
+//! What is known after a step is seen through the fact that it came from, whose sets it borrows: at
+//! most two cells changed, or one of several unknown ones did. What is new stands in room that the
+//! asker lends.
 
 ghost use Rattle.std.specs.Prelude.{ℕ, ◌≡◌, ◌<◌, ◌≤◌, ◌↔◌, ◌+◌, ◌||◌, length, map, IsTrue};
-ghost use Rattle.arrayvec.specs.ArrayVec.{array_vec_len};
 ghost use Rattle.wordset.specs.Words.{Words, SameWords, IsWithin, one, plus, shifted};
 ghost use Rattle.wordset.specs.Lanes.{words};
 ghost use Rattle.wordset.specs.Links.{links_of};
@@ -12,28 +12,29 @@ ghost use Rattle.facts.specs.Facts.{Ac, Cell, same, narrowed, Among, Knows, Know
 ghost use Rattle.facts.specs.Changes.{moved, assigned, smeared, with_equations, with_name, with_mq, with_link, with_offsets};
 ghost use Rattle.facts.specs.Statements.{cell_at};
 ghost use Rattle.facts.specs.Same.{Agree};
-ghost use Rattle.facts.specs.Meaning.{name_of, equation_of, cells_of, offsets_of, meaning, cell_words, source_words, changed, known_of, Meets, IsUnchanged};
+ghost use Rattle.facts.specs.Meaning.{name_of, equation_of, tracked_cells, offsets_of, meaning, cell_words, source_words, changed, known_of, Meets, IsUnchanged};
 ghost use Rattle.facts.specs.Showing.{Shows, EachWithin, EntailsRegisters};
 
-use crate::equations::{Equations, copy, freed, freed_of_cells, has_cell, joined, outside, raised};
+use crate::equations::{Equations, add_all, has_cell, keep_outside};
 use crate::fact::Fact;
 use crate::names::{Equation, Name, is_same_equation, is_same_name, negated};
 use crate::offsets::Offsets;
+use crate::room::Room;
 use crate::tracking::TrackedCells;
 use word12::Word;
 use wordset::{Links, WordSet};
 
 /// What became of the words of cells.
 #[derive(Clone, Copy)]
-pub(crate) enum Change {
+pub(crate) enum Change<'a> {
     /// They are as they were.
     Unchanged,
-    /// The cell has these words now.
-    Replaced(Word, WordSet),
+    /// The cell of this address has these words now.
+    Replaced(usize, &'a WordSet),
     /// One of the cells, unknown which, went up by one.
-    Counted(WordSet),
+    Counted(&'a WordSet),
     /// One of the cells, unknown which, took one of the words.
-    Stored(WordSet, WordSet),
+    Stored(&'a WordSet, &'a WordSet),
 }
 
 /// Where the words of cells come from.
@@ -51,12 +52,12 @@ pub(crate) enum Source<'a> {
 #[derive(Drop)]
 pub struct Known<'a> {
     pub(crate) base: Source<'a>,
-    pub(crate) ac: WordSet,
-    pub(crate) mq: WordSet,
+    pub(crate) ac: &'a WordSet,
+    pub(crate) mq: &'a WordSet,
     pub(crate) link: Links,
-    pub(crate) pointer: Change,
-    pub(crate) target: Change,
-    pub(crate) equations: Equations,
+    pub(crate) pointer: Change<'a>,
+    pub(crate) target: Change<'a>,
+    pub(crate) equations: &'a [Equation],
     pub(crate) offsets: Offsets,
 }
 
@@ -78,12 +79,12 @@ fn source_set(source: &Source<'_>, cell: Word) -> WordSet
 }
 
 /// What a change makes of the words of a cell.
-fn change_set(change: &Change, cell: Word, set: WordSet) -> WordSet
+fn change_set(change: &Change<'_>, cell: Word, set: WordSet) -> WordSet
     ensures { SameWords (words result) (changed change.now cell (words set)) }
 {
     match change {
         Change::Unchanged => set,
-        Change::Replaced(at, other) => if cell == *at { *other } else { set },
+        Change::Replaced(at, other) => if cell.index() == *at { **other } else { set },
         Change::Counted(cells) => {
             if has_cell(cells, cell) {
                 let more = set.shift(Word::ZERO.increment());
@@ -104,9 +105,9 @@ fn change_set(change: &Change, cell: Word, set: WordSet) -> WordSet
 
 /// Whether an entry shows that the cell at a place of others has no word that it may not hold there.
 fn is_source_within(source: &Source<'_>, cells: &TrackedCells, at: usize) -> bool
-    requires { at < length (cells_of cells.now) }
-    ensures { IsTrue result → IsWithin (source_words source.now (cell_at (cells_of cells.now) at).address)
-        (cell_at (cells_of cells.now) at).set }
+    requires { at < length (tracked_cells cells.now) }
+    ensures { IsTrue result → IsWithin (source_words source.now (cell_at (tracked_cells cells.now) at).address)
+        (cell_at (tracked_cells cells.now) at).set }
 {
     teller(source, cells.address(at))
         .cells()
@@ -115,17 +116,17 @@ fn is_source_within(source: &Source<'_>, cells: &TrackedCells, at: usize) -> boo
 
 /// Whether a change is seen to leave the cell at a place of others no word that it may not hold
 /// there, where its words before are known to be such words or not.
-fn is_change_within(change: &Change, cells: &TrackedCells, at: usize, before: bool) -> bool
-    requires { at < length (cells_of cells.now) }
-    ensures { (old : Words) → (IsTrue before → IsWithin old (cell_at (cells_of cells.now) at).set) →
-        IsTrue result → IsWithin (changed change.now (cell_at (cells_of cells.now) at).address old)
-        (cell_at (cells_of cells.now) at).set }
+fn is_change_within(change: &Change<'_>, cells: &TrackedCells, at: usize, before: bool) -> bool
+    requires { at < length (tracked_cells cells.now) }
+    ensures { (old : Words) → (IsTrue before → IsWithin old (cell_at (tracked_cells cells.now) at).set) →
+        IsTrue result → IsWithin (changed change.now (cell_at (tracked_cells cells.now) at).address old)
+        (cell_at (tracked_cells cells.now) at).set }
 {
     let cell = cells.address(at);
     match change {
         Change::Unchanged => before,
         Change::Replaced(changed, other) => {
-            if cell == *changed {
+            if cell.index() == *changed {
                 cells.has_all(at, other)
             } else {
                 before
@@ -149,14 +150,14 @@ impl Known<'_> {
     pub fn accumulator(&self) -> &WordSet
         ensures { words result.now ≡ (known_of self.now).set Ac }
     {
-        &self.ac
+        self.ac
     }
 
     /// The words that MQ may hold.
     pub fn mq(&self) -> &WordSet
         ensures { words result.now ≡ (known_of self.now).mq }
     {
-        &self.mq
+        self.mq
     }
 
     /// What the link may be.
@@ -170,7 +171,7 @@ impl Known<'_> {
     pub fn equations(&self) -> &[Equation]
         ensures { map equation_of result.now ≡ (known_of self.now).equations }
     {
-        self.equations.as_slice()
+        self.equations
     }
 
     /// How far the running routine's return word may have been counted up.
@@ -185,7 +186,7 @@ impl Known<'_> {
         ensures { SameWords (words result) ((known_of self.now).set (name_of name.now)) }
     {
         match name {
-            Name::Accumulator => self.ac,
+            Name::Accumulator => *self.ac,
             Name::Cell(cell) => {
                 let old = source_set(&self.base, *cell);
                 let seen = change_set(&self.pointer, *cell, old);
@@ -223,8 +224,7 @@ impl Known<'_> {
         ensures { SameWords (words result) (narrowed (known_of self.now) (name_of name.now)) }
     {
         let mut set = self.set(name);
-        let equations = self.equations.as_slice();
-        for e in equations {
+        for e in self.equations {
             if !speaks_of(e, name) {
                 continue;
             }
@@ -237,8 +237,7 @@ impl Known<'_> {
     fn lists(&self, equation: &Equation) -> bool
         ensures { IsTrue result ↔ Among (equation_of equation.now) (known_of self.now).equations }
     {
-        let equations = self.equations.as_slice();
-        for e in equations {
+        for e in self.equations {
             if is_same_equation(e, equation) {
                 return true;
             }
@@ -287,10 +286,10 @@ impl Known<'_> {
     /// Whether the cell at a place of others is seen to hold no word that it may not hold there,
     /// before its set is narrowed.
     fn is_plainly_within(&self, cells: &TrackedCells, at: usize) -> bool
-        requires { at < length (cells_of cells.now) }
+        requires { at < length (tracked_cells cells.now) }
         ensures { IsTrue result →
-            IsWithin ((known_of self.now).set (Cell (cell_at (cells_of cells.now) at).address))
-            (cell_at (cells_of cells.now) at).set }
+            IsWithin ((known_of self.now).set (Cell (cell_at (tracked_cells cells.now) at).address))
+            (cell_at (tracked_cells cells.now) at).set }
     {
         let before = is_source_within(&self.base, cells, at);
         let seen = is_change_within(&self.pointer, cells, at, before);
@@ -300,10 +299,10 @@ impl Known<'_> {
     /// Whether the equations leave the cell at a place of others no word that it may not hold there;
     /// a set that isn't narrowed is tried first.
     fn is_within(&self, cells: &TrackedCells, at: usize) -> bool
-        requires { at < length (cells_of cells.now) }
+        requires { at < length (tracked_cells cells.now) }
         ensures { IsTrue result ↔
-            IsWithin (narrowed (known_of self.now) (Cell (cell_at (cells_of cells.now) at).address))
-            (cell_at (cells_of cells.now) at).set }
+            IsWithin (narrowed (known_of self.now) (Cell (cell_at (tracked_cells cells.now) at).address))
+            (cell_at (tracked_cells cells.now) at).set }
     {
         if self.is_plainly_within(cells, at) {
             return true;
@@ -313,7 +312,7 @@ impl Known<'_> {
 
     /// Whether each of these cells has its narrowed set within what is tracked.
     fn is_each_within(&self, cells: &TrackedCells) -> bool
-        ensures { IsTrue result ↔ EachWithin (known_of self.now) (cells_of cells.now) }
+        ensures { IsTrue result ↔ EachWithin (known_of self.now) (tracked_cells cells.now) }
     {
         for at in 0..cells.len() {
             if !self.is_within(cells, at) {
@@ -366,16 +365,16 @@ impl<'a> Known<'a> {
         ensures same { Agree (known_of result) (meaning fact.now) }
         ensures pointer { IsUnchanged result.pointer }
         ensures target { IsUnchanged result.target }
-        ensures len { array_vec_len result.equations ≤ 32 }
+        ensures len { length result.equations.now ≤ 32 }
     {
         Known {
             base: Source::One(fact),
-            ac: *fact.accumulator(),
-            mq: *fact.mq(),
+            ac: fact.accumulator(),
+            mq: fact.mq(),
             link: fact.link(),
             pointer: Change::Unchanged,
             target: Change::Unchanged,
-            equations: copy(fact.equations()),
+            equations: fact.equations(),
             offsets: fact.offsets(),
         }
     }
@@ -392,18 +391,38 @@ impl<'a> Known<'a> {
 
     /// What is known after a call: of the cells that the routine writes what its exit says, and of
     /// the others what the caller knew.
-    pub fn after_call(call: &'a Fact, exit: &'a Fact, written: &'a WordSet) -> Known<'a>
+    pub fn after_call(
+        call: &'a Fact,
+        exit: &'a Fact,
+        written: &'a WordSet,
+        room: &'a mut Room,
+    ) -> Known<'a>
         ensures { Agree (known_of result) (joined (meaning call.now) (meaning exit.now)
             (words written.now)) }
     {
+        Known::returned(call, exit, written, &mut room.pointer.list)
+    }
+
+    /// The same, where room for the equations alone is lent.
+    pub(crate) fn returned(
+        call: &'a Fact,
+        exit: &'a Fact,
+        written: &'a WordSet,
+        list: &'a mut Equations,
+    ) -> Known<'a>
+        ensures { Agree (known_of result) (joined (meaning call.now) (meaning exit.now)
+            (words written.now)) }
+    {
+        keep_outside(written, call.equations(), list);
+        add_all(list, exit.equations());
         Known {
             base: Source::Joined(call, exit, written),
-            ac: *exit.accumulator(),
-            mq: *exit.mq(),
+            ac: exit.accumulator(),
+            mq: exit.mq(),
             link: exit.link(),
             pointer: Change::Unchanged,
             target: Change::Unchanged,
-            equations: joined(outside(written, call.equations()), exit.equations()),
+            equations: list.as_slice(),
             offsets: call.offsets(),
         }
     }

@@ -19,7 +19,7 @@ mod outcome;
 mod place;
 mod references;
 mod registers;
-mod single;
+mod room;
 mod skipping;
 mod tracking;
 
@@ -33,7 +33,7 @@ pub use names::{Equation, Name};
 pub use offsets::Offsets;
 pub use outcome::Outcome;
 pub use place::{Place, Running};
-pub use single::single_outcome;
+pub use room::Room;
 pub use tracking::{TrackedCell, TrackedCells};
 
 /// The conditions that a certificate must meet.

@@ -5,7 +5,7 @@ ghost use Rattle.std.specs.Prelude.{ℕ, ◌≡◌, ◌<◌, ◌≤◌, ◌↔�
 ghost use Rattle.wordset.specs.Words.{SameWords, IsWithin, between, nothing};
 ghost use Rattle.wordset.specs.Lanes.{words};
 ghost use Rattle.facts.specs.Statements.{tracked, cell_at};
-ghost use Rattle.facts.specs.Tracking.{tracked_of, held_words, cells_of, IsPlaceBelow};
+ghost use Rattle.facts.specs.Tracking.{tracked_of, held_words, tracked_cells, IsPlaceBelow};
 
 use arrayvec::ArrayVec;
 use std::marker::Model;
@@ -64,7 +64,7 @@ impl Default for Entry {
 
 /// Tracked cells, at most 64, in the order in which they were told.
 ///
-/// Contracts see them as the list that `cells_of` gives.
+/// Contracts see them as the list that `tracked_cells` gives.
 #[derive(Clone, Drop)]
 pub struct TrackedCells {
     entries: ArrayVec<Entry, 64>,
@@ -134,7 +134,7 @@ fn set_of(whole: &[TrackedCell], held: &Held) -> WordSet
 impl TrackedCells {
     /// No cell.
     pub fn new() -> TrackedCells
-        ensures { cells_of result ≡ [] }
+        ensures { tracked_cells result ≡ [] }
     {
         TrackedCells {
             entries: ArrayVec::new(),
@@ -144,24 +144,24 @@ impl TrackedCells {
 
     /// How many there are.
     pub fn len(&self) -> usize
-        ensures count { result ≡ length (cells_of self.now) }
-        ensures few { length (cells_of self.now) ≤ 64 }
+        ensures count { result ≡ length (tracked_cells self.now) }
+        ensures few { length (tracked_cells self.now) ≤ 64 }
     {
         self.entries.len()
     }
 
     /// Whether there are 64.
     pub fn is_full(&self) -> bool
-        ensures full { IsTrue result ↔ (length (cells_of self.now) ≡ 64) }
-        ensures few { length (cells_of self.now) ≤ 64 }
+        ensures full { IsTrue result ↔ (length (tracked_cells self.now) ≡ 64) }
+        ensures few { length (tracked_cells self.now) ≤ 64 }
     {
         self.entries.is_full()
     }
 
     /// The one at a place.
     pub fn get(&self, at: usize) -> TrackedCell
-        requires { at < length (cells_of self.now) }
-        ensures { tracked_of result ≡ cell_at (cells_of self.now) at }
+        requires { at < length (tracked_cells self.now) }
+        ensures { tracked_of result ≡ cell_at (tracked_cells self.now) at }
     {
         let entry = &self.entries.as_slice()[at];
         TrackedCell {
@@ -172,9 +172,9 @@ impl TrackedCells {
 
     /// The address of the one at a place.
     pub(crate) fn address(&self, at: usize) -> Word
-        requires { at < length (cells_of self.now) }
-        ensures address { result ≡ (cell_at (cells_of self.now) at).address }
-        ensures small { (cell_at (cells_of self.now) at).address < 4096 }
+        requires { at < length (tracked_cells self.now) }
+        ensures address { result ≡ (cell_at (tracked_cells self.now) at).address }
+        ensures small { (cell_at (tracked_cells self.now) at).address < 4096 }
     {
         let cell = self.entries.as_slice()[at].cell;
         let _index = cell.index();
@@ -183,8 +183,8 @@ impl TrackedCells {
 
     /// Whether the one at a place may hold all words of a set.
     pub(crate) fn has_all(&self, at: usize, set: &WordSet) -> bool
-        requires { at < length (cells_of self.now) }
-        ensures { IsTrue result ↔ IsWithin (words set.now) (cell_at (cells_of self.now) at).set }
+        requires { at < length (tracked_cells self.now) }
+        ensures { IsTrue result ↔ IsWithin (words set.now) (cell_at (tracked_cells self.now) at).set }
     {
         has_all(
             self.whole.as_slice(),
@@ -196,9 +196,9 @@ impl TrackedCells {
     /// Whether the one at a place here is the cell of the one at a place there, and is seen to hold
     /// no word that this one may not.
     fn is_within_at(&self, place: usize, others: &TrackedCells, at: usize) -> bool
-        requires { at < length (cells_of others.now) }
+        requires { at < length (tracked_cells others.now) }
         ensures { IsTrue result →
-            IsWithin (tracked (cell_at (cells_of others.now) at).address (cells_of self.now)) (cell_at (cells_of others.now) at).set }
+            IsWithin (tracked (cell_at (tracked_cells others.now) at).address (tracked_cells self.now)) (cell_at (tracked_cells others.now) at).set }
     {
         if place >= self.entries.len() {
             return false;
@@ -220,9 +220,9 @@ impl TrackedCells {
     /// there. The facts of neighbours mostly track the same cells in the same order, so the same
     /// place is looked at first.
     pub(crate) fn has_within(&self, others: &TrackedCells, at: usize) -> bool
-        requires { at < length (cells_of others.now) }
+        requires { at < length (tracked_cells others.now) }
         ensures { IsTrue result →
-            IsWithin (tracked (cell_at (cells_of others.now) at).address (cells_of self.now)) (cell_at (cells_of others.now) at).set }
+            IsWithin (tracked (cell_at (tracked_cells others.now) at).address (tracked_cells self.now)) (cell_at (tracked_cells others.now) at).set }
     {
         if self.is_within_at(at, others, at) {
             return true;
@@ -237,7 +237,7 @@ impl TrackedCells {
 
     /// The words of a cell: those that all its entries allow, or all words where it has none.
     pub(crate) fn set_of(&self, cell: Word) -> WordSet
-        ensures { SameWords (words result) (tracked cell (cells_of self.now)) }
+        ensures { SameWords (words result) (tracked cell (tracked_cells self.now)) }
     {
         let mut set = WordSet::all();
         for entry in self.entries.as_slice() {
@@ -250,7 +250,7 @@ impl TrackedCells {
 
     /// Takes all away.
     pub(crate) fn clear(&mut self)
-        ensures { cells_of self.new ≡ [] }
+        ensures { tracked_cells self.new ≡ [] }
     {
         self.entries.clear();
         self.whole.clear();
@@ -258,8 +258,8 @@ impl TrackedCells {
 
     /// Adds a cell, which may hold the words of a set.
     pub(crate) fn push(&mut self, cell: Word, set: WordSet)
-        requires { length (cells_of self.old) < 64 }
-        ensures { cells_of self.new ≡ cells_of self.old ++ record { address = cell; set = words set } ∷ [] }
+        requires { length (tracked_cells self.old) < 64 }
+        ensures { tracked_cells self.new ≡ tracked_cells self.old ++ record { address = cell; set = words set } ∷ [] }
     {
         let held = Held::Whole(self.whole.len() as u8);
         self.whole.push(TrackedCell { cell, set });
@@ -268,8 +268,8 @@ impl TrackedCells {
 
     /// Adds a cell, which may hold the words from one up to another.
     pub(crate) fn push_row(&mut self, cell: Word, first: Word, last: Word)
-        requires { length (cells_of self.old) < 64 }
-        ensures { cells_of self.new ≡ cells_of self.old ++ record { address = cell; set = between first last } ∷ [] }
+        requires { length (tracked_cells self.old) < 64 }
+        ensures { tracked_cells self.new ≡ tracked_cells self.old ++ record { address = cell; set = between first last } ∷ [] }
     {
         let held = Held::Row(first, last);
         self.entries.push(Entry { cell, held });

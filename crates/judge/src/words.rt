@@ -127,7 +127,7 @@ impl<A: Allocator, C: Claims> Spot<'_, A, C> {
         match condition {
             Condition::V1 | Condition::V2 => true,
             Condition::V3 => self.is_supported(word),
-            Condition::V4 => self.outcomes_land(word, &mut others.next),
+            Condition::V4 => self.outcomes_land(word, others),
             Condition::V5 => self.writes_are_declared(word),
             Condition::V6 => self.writes_are_listed(word),
             Condition::V7 => self.may_call(word, others),

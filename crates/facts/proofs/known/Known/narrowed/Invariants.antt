@@ -7,5 +7,5 @@ use Rattle.facts.proofs.known.Known.narrowed.Given as goal
 
 abbrev pub invariant-loop-e : goal.invariant-loop-e
 invariant-loop-e l = (v : ℕ) → v < 4096 →
-    (words l.set v && met_by (known_of l.self) (name_of l.name) (map equation_of (drop l.e-index l.equations)) v) ≡
-    ((known_of l.self).set (name_of l.name) v && met_by (known_of l.self) (name_of l.name) (map equation_of l.self.equations.items) v)
+    (words l.set v && met_by (known_of l.self) (name_of l.name) (map equation_of (drop l.e-index l.self.equations.now)) v) ≡
+    ((known_of l.self).set (name_of l.name) v && met_by (known_of l.self) (name_of l.name) (map equation_of l.self.equations.now) v)

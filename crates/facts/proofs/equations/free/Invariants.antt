@@ -2,7 +2,7 @@ use Rattle.std.proofs.Common.{◌≡◌, ◌≤◌, ◌++◌, length, drop, map}
 use Rattle.facts.specs.Facts.{same}
 use Rattle.facts.specs.Changes.{free_of}
 use Rattle.facts.specs.Meaning.{name_of, equation_of}
-use Rattle.facts.proofs.equations.freed.Given as goal
+use Rattle.facts.proofs.equations.free.Given as goal
 
 abbrev pub invariant-loop-e : goal.invariant-loop-e
 invariant-loop-e l = record {

@@ -2,7 +2,7 @@ use Rattle.std.proofs.Common.{◌≡◌, ◌≤◌, ◌++◌, length, drop, map}
 use Rattle.facts.specs.Facts.{outside}
 use Rattle.wordset.specs.Lanes.{words}
 use Rattle.facts.specs.Meaning.{equation_of}
-use Rattle.facts.proofs.equations.outside.Given as goal
+use Rattle.facts.proofs.equations.keep_outside.Given as goal
 
 abbrev pub invariant-loop-e : goal.invariant-loop-e
 invariant-loop-e l = record {

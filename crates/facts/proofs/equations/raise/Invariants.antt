@@ -1,7 +1,7 @@
 use Rattle.std.proofs.Common.{◌≡◌, ◌≤◌, ◌++◌, length, drop, map}
 use Rattle.facts.specs.Changes.{moved_equations}
 use Rattle.facts.specs.Meaning.{name_of, equation_of}
-use Rattle.facts.proofs.equations.raised.Given as goal
+use Rattle.facts.proofs.equations.raise.Given as goal
 
 abbrev pub invariant-loop-e : goal.invariant-loop-e
 invariant-loop-e l = record {

@@ -1,4 +1,5 @@
 pub mod Sets
 pub mod Valid
+pub mod Spelled
 pub mod Breaks
 pub mod Alone

@@ -12,6 +12,7 @@ ghost use Rattle.judge.specs.Conditions.{IsValid};
 ghost use Rattle.certified_example.specs.Example.{image, declaration, example};
 ghost use Rattle.certified_example.specs.Broken.{IsUnsafe, bare, image_with};
 ghost use Rattle.certified_example.specs.Forbidden.{BreaksAlone, changing, two_cells};
+ghost use Rattle.certified_example.specs.Written.{IsWritten};
 
 /// The declaration keeps the overlap rules, the certificate is valid, and so the program is safe.
 pub fn example_is_safe()
@@ -21,6 +22,11 @@ pub fn example_is_safe()
 {
     judge::headline();
 }
+
+/// The certificate is that of lines in order, which have this text: `Certificate::parse` reads it.
+pub fn example_is_written()
+    ensures { IsWritten }
+{}
 
 /// Programs of one word that aren't safe: an unsupported word, DCA to no variable, JMS to no entry,
 /// a return with no call open, an undeclared HLT, and a read that isn't listed.

@@ -1,4 +1,4 @@
-use Rattle.std.proofs.Common.{sym, ap, ◌∙◌}
+use Rattle.std.proofs.Common.{ap, ◌∙◌}
 use Rattle.wordset.specs.Words.{Words}
 use Rattle.certificate.specs.Kept.{claims}
 use Rattle.judge.specs.Judged.{judged}

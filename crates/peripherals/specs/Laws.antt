@@ -1,9 +1,17 @@
--- What the definitions of a text of events leave open: nothing. Want of memory isn't a fault of the text.
+-- What the definitions of events and of their texts leave open: nothing. Want of memory isn't a fault of a text.
 use Rattle.std.specs.Prelude.{◌≡◌, ◌≢◌, ℕ, ◌⊎◌, List}
 use Rattle.peripherals.specs.declared.Event.{Event}
 use Rattle.peripherals.specs.declared.event_text.EventsFault.{EventsFault}
 use Rattle.peripherals.specs.declared.event_text.EventsFault.TheVariants.{NoMemory}
+use Rattle.instruct.specs.declared.Profile.{Profile}
+use Rattle.peripherals.specs.Devices.{WorldState}
+use Rattle.peripherals.specs.Events.{Happens}
 use Rattle.peripherals.specs.EventText.{Spells, Fails}
+
+-- An event leads to no other world.
+abbrev pub EventsLeadToOneWorld : Type 0
+EventsLeadToOneWorld =
+    (profile : Profile) (w : WorldState) (event : Event) (x y : WorldState) → Happens profile w event x → Happens profile w event y → x ≡ y
 
 -- A text spells no other events.
 abbrev pub EventsAreOne : Type 0

@@ -1,6 +1,5 @@
 -- Which cells are touched, and read.
-use Rattle.std.proofs.Common.{◌≡◌, ℕ, ◌<◌, Bool, true, Option, Some, None, ◌⊎◌, sym, ap, ◌∙◌, subst}
-use Rattle.std.specs.Prelude.{option_map}
+use Rattle.std.proofs.Common.{◌≡◌, ℕ, ◌<◌, true, Some, inl, inr, sym, ap, ◌∙◌, subst}
 use Rattle.std.proofs.lemmas.Bool.{or_cases}
 use Rattle.wordset.specs.Words.{Words, union}
 use Rattle.declaration.specs.Declaration.{Routine}

@@ -11,7 +11,7 @@ returns-in-None-clause-none g c =
     let claims = g.C.Claims.claims c.args.self.now.claims.now in
     let running = c.in_ok-running.running in
     let entry = c.args.entry in
-    covers_in claims (routine_of c.args.self.now.place.routine) running entry (sym c.owner.ensures ∙ c.in_ok-running.is) (record {
+    covers_in claims (routine_of c.args.self.now.place.routine) running entry (sym c.in_ok-running.ensures) (record {
       writes = λ a lt is. ap (λ (u : Words). u a) (sym c.claimed-caller.ensures.writes)
           ∙ none_left (words c.minus.result) (words c.claimed-callee.result.writes) (words c.claimed-caller.result.writes) c.in-None.ensures c.minus.ensures a lt (ap (λ (u : Words). u a) c.claimed-callee.ensures.writes ∙ is);
       entry = ap (λ (u : Words). u entry) (sym c.claimed-caller.ensures.writes) ∙ sym c.contains-2.ensures ∙ c.if-not-contains.false;

@@ -1,6 +1,6 @@
 -- That a reason is found where a condition fails.
 use Rattle.std.proofs.Common.{◌≡◌, ℕ, ◌<◌, ◌≤◌, ◌+◌, ◌*◌, true, false, ◌⊎◌, Option, Some, None, inl, inr, refl, sym, ap, ◌∙◌, subst, arith, lit≤}
-use Rattle.std.specs.Prelude.{Bool, IfNone, is_none, is_some}
+use Rattle.std.specs.Prelude.{IfNone, is_some}
 use Rattle.std.proofs.lemmas.Bool.{true≢false}
 use Rattle.instruct.specs.Instructions.{Meaning, Jms, meaning_of}
 use Rattle.wordset.specs.Words.{Words, how_many}
@@ -22,10 +22,6 @@ use Rattle.reasons.specs.declared.reason.Reason.{Reason}
 pub none_weaker : {T : Type 0} (r : Option T) (P Q : Type 0) → (P → Q) → IfNone r P → IfNone r Q
 none_weaker {T} (Some x) P Q f h = tt
 none_weaker {T} None P Q f h = f h
-
-pub some_of_none : {T : Type 0} (r : Option T) (b : Bool) → b ≡ is_none r → b ≡ false → is_some r ≡ true
-some_of_none {T} (Some x) b is e = refl
-some_of_none {T} None b is e = absurd (true≢false (sym is ∙ e))
 
 -- A condition that is on words alone.
 pub past_lines : (v : Condition) → (v ≡ V1 → ⊥) → (v ≡ V2 → ⊥) → 2 ≤ place_among v

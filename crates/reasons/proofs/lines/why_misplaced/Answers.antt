@@ -3,7 +3,6 @@ use Rattle.wordset.specs.Words.{Words}
 use Rattle.facts.specs.Facts.{Fact}
 use Rattle.facts.specs.Meaning.{offsets_of}
 use Rattle.judge.proofs.LineLemmas.{not_empty}
-use Rattle.reasons.proofs.FoundLemmas.{some_of_none}
 use Rattle.reasons.proofs.lines.why_misplaced.Goals as goal
 
 pub returns-then-is_empty-clause-found : goal.returns-then-is_empty-clause-found
@@ -19,6 +18,6 @@ returns-else-is_empty-clause-none g c = λ image.
     inr (
       c.in-Routine.entry,
       rw c.in-Routine.is at c.in-Some.ensures.found,
-      sym c.routine.ensures.listed ∙ some_of_none c.routine.result c.is_none.result c.is_none.ensures c.if-is_none.false,
+      sym c.routine.ensures.listed ∙ c.is_none.ensures ∙ ap not c.if-is_none.false,
       sym (not_empty (offsets_of c.offsets.result) (claims.fact c.args.at).offsets c.is_empty.result (c.offsets.ensures ∙ ap (λ (f : Fact). f.offsets) c.requires.fact) c.is_empty.ensures) ∙ ap not c.if-is_empty.false,
     )

@@ -23,7 +23,7 @@ returns-in_err-fact-clause-none g c = rw c.from_residual.ensures (λ le.
     holds_without_fact (judged c.args.image.now c.args.declaration.now (g.C.Claims.claims c.args.claims.now)) c.args.at c.args.condition (sym c.in_err-fact.ensures.there) le)
 
 pub returns-in_err-body-clause-none : goal.returns-in_err-body-clause-none
-returns-in_err-body-clause-none g c = rw c.from_residual.ensures (λ le.
+returns-in_err-body-clause-none g c = rw c.from_residual-in_err-body.ensures (λ le.
     holds_unowned (judged c.args.image.now c.args.declaration.now (g.C.Claims.claims c.args.claims.now)) c.args.at c.args.condition c.is_declared.ensures (sym c.in_ok-fact.ensures.there) c.in_err-body.ensures.none)
 
 pub returns-clause-none : goal.returns-clause-none

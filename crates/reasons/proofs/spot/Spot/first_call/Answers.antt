@@ -6,7 +6,7 @@ use Rattle.reasons.proofs.spot.Spot.first_call.Goals as goal
 
 pub loop-entry-preserved : goal.loop-entry-preserved
 loop-entry-preserved g c =
-    one_more (KeepsCallHere g.C.Claims.claims c.args.self.now c.args.condition) (words c.calls-callees.result) _ c.in-Some.ensures c.index-next.ensures.same c.in_default.ensures.none c.loop-entry.invariant
+    one_more (KeepsCallHere g.C.Claims.claims c.args.self.now c.args.condition) (words c.calls-callees.result) _ c.in-Some.ensures c.index-next.ensures.same c.in_default-call_breaks.ensures.none c.loop-entry.invariant
 
 pub returns-clause-none : goal.returns-clause-none
 returns-clause-none g c = λ e lt is.

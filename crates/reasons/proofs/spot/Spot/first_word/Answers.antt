@@ -6,7 +6,7 @@ use Rattle.reasons.proofs.spot.Spot.first_word.Goals as goal
 
 pub loop-word-preserved : goal.loop-word-preserved
 loop-word-preserved g c =
-    one_more (KeepsHere g.C.Claims.claims c.args.self.now c.args.condition) (words c.args.possible.now) _ c.in-Some.ensures c.index-next.ensures.same c.in_default.ensures.none c.loop-word.invariant
+    one_more (KeepsHere g.C.Claims.claims c.args.self.now c.args.condition) (words c.args.possible.now) _ c.in-Some.ensures c.index-next.ensures.same c.in_default-breach.ensures.none c.loop-word.invariant
 
 pub returns-clause-none : goal.returns-clause-none
 returns-clause-none g c = λ w lt is.

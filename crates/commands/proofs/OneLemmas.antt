@@ -62,10 +62,11 @@ follows_one p h (e ∷ es) w lines lines' n n' end end' x x' (Went _ _ _ m _ wha
 
 pub runs_are_one : RunsAreOne
 runs_are_one options h events image text text' status status' a b =
-    let one = follows_one options.profile h events (fresh image options.start) a.lines b.lines a.steps b.steps a.end b.end a.final b.final a.follows b.follows in
-    ( a.text_is ∙ (ap (λ (l : List ℕ). traced options.trace l ++ summary a.end a.final a.steps) one.same_lines ∙ (ap (λ (e : End). traced options.trace b.lines ++ summary e a.final a.steps) one.same_end
-      ∙ (ap (λ (x : WorldState). traced options.trace b.lines ++ summary b.end x a.steps) one.same_final ∙ (ap (λ (n : ℕ). traced options.trace b.lines ++ summary b.end b.final n) one.same_steps ∙ sym b.text_is))))
-    , a.status_is ∙ (ap status_of one.same_end ∙ sym b.status_is))
+    let one = follows_one options.profile h events (fresh image options.start) a.lines b.lines a.steps b.steps a.end b.end a.final b.final a.follows b.follows in (
+      a.text_is ∙ (ap (λ (l : List ℕ). traced options.trace l ++ summary a.end a.final a.steps) one.same_lines ∙ (ap (λ (e : End). traced options.trace b.lines ++ summary e a.final a.steps) one.same_end
+          ∙ (ap (λ (x : WorldState). traced options.trace b.lines ++ summary b.end x a.steps) one.same_final ∙ (ap (λ (n : ℕ). traced options.trace b.lines ++ summary b.end b.final n) one.same_steps ∙ sym b.text_is)))),
+      a.status_is ∙ (ap status_of one.same_end ∙ sym b.status_is),
+    )
 
 -- ---- an operator's run
 
@@ -104,9 +105,10 @@ sessions_are_one options plan image text text' printed printed' punched punched'
     let come : b.events ≡ a.events = comes_one options.profile plan None (fresh image options.start) b.events a.events b.come a.come in
     let follows : Follows options.profile true a.events (fresh image options.start) b.lines b.steps b.end b.final =
     subst (λ (es : List Event). Follows options.profile true es (fresh image options.start) b.lines b.steps b.end b.final) come b.follows in
-    let one = follows_one options.profile true a.events (fresh image options.start) a.lines b.lines a.steps b.steps a.end b.end a.final b.final a.follows follows in
-    ( a.text_is ∙ (ap (λ (l : List ℕ). traced options.trace l ++ summary a.end a.final a.steps) one.same_lines ∙ (ap (λ (e : End). traced options.trace b.lines ++ summary e a.final a.steps) one.same_end
-      ∙ (ap (λ (x : WorldState). traced options.trace b.lines ++ summary b.end x a.steps) one.same_final ∙ (ap (λ (n : ℕ). traced options.trace b.lines ++ summary b.end b.final n) one.same_steps ∙ sym b.text_is))))
-    , a.printed_is ∙ (ap (λ (x : WorldState). printed_in x) one.same_final ∙ sym b.printed_is)
-    , a.punched_is ∙ (ap (λ (x : WorldState). x.devices.punch.output) one.same_final ∙ sym b.punched_is)
-    , a.status_is ∙ (ap status_of one.same_end ∙ sym b.status_is))
+    let one = follows_one options.profile true a.events (fresh image options.start) a.lines b.lines a.steps b.steps a.end b.end a.final b.final a.follows follows in (
+      a.text_is ∙ (ap (λ (l : List ℕ). traced options.trace l ++ summary a.end a.final a.steps) one.same_lines ∙ (ap (λ (e : End). traced options.trace b.lines ++ summary e a.final a.steps) one.same_end
+          ∙ (ap (λ (x : WorldState). traced options.trace b.lines ++ summary b.end x a.steps) one.same_final ∙ (ap (λ (n : ℕ). traced options.trace b.lines ++ summary b.end b.final n) one.same_steps ∙ sym b.text_is)))),
+      a.printed_is ∙ (ap (λ (x : WorldState). printed_in x) one.same_final ∙ sym b.printed_is),
+      a.punched_is ∙ (ap (λ (x : WorldState). x.devices.punch.output) one.same_final ∙ sym b.punched_is),
+      a.status_is ∙ (ap status_of one.same_end ∙ sym b.status_is),
+    )

@@ -63,8 +63,8 @@ loop-event-preserved-in-Ran g c =
     let less = fewer (plan_of c.loop-event.operator) (plan_of c.next.new.self) (view c.loop-event.world) c.loop-event.operator.last c.next.new.self.last c.in-Some.event is c.in-Some.ensures.left c.in-Some.ensures.last in
     let fewer_left : events_left (plan_of c.next.new.self) (Some Step) < events_left (plan_of c.loop-event.operator) c.loop-event.operator.last = rw stepped at less in
     let ran : Sat p c.args.trace (plan_of c.args.operator.now) (plan_of c.next.new.self) (Some Step) (view c.args.world.now) (view c.play.new.world) (c.loop-event.steps + 1) (g.W.ByteSink.taken c.args.out.now.report) (g.W.ByteSink.taken c.play.new.out.report) (g.T.ByteSink.taken c.args.out.now.teletype) (g.T.ByteSink.taken c.play.new.out.teletype) =
-        sat_more p c.args.trace (plan_of c.args.operator.now) (plan_of c.loop-event.operator) (plan_of c.next.new.self) c.loop-event.operator.last (Some Step) c.in-Some.event (view c.args.world.now) (view c.loop-event.world) (view c.play.new.world) c.loop-event.steps Ran _ _ _ _ _ _
-            inv.sat is c.in-Some.ensures.left (ap Some (sym step)) played refl in
+    sat_more p c.args.trace (plan_of c.args.operator.now) (plan_of c.loop-event.operator) (plan_of c.next.new.self) c.loop-event.operator.last (Some Step) c.in-Some.event (view c.args.world.now) (view c.loop-event.world) (view c.play.new.world) c.loop-event.steps Ran _ _ _ _ _ _
+    inv.sat is c.in-Some.ensures.left (ap Some (sym step)) played refl in
     let left : plan_of c.complete.new.self ≡ plan_of c.next.new.self = c.complete.ensures.left in
     let last : c.complete.new.self.last ≡ Some PunchDone = c.complete.ensures.last in
     let done : view c.complete.new.world ≡ completed (view c.play.new.world) = c.complete.ensures.done in

@@ -3,3 +3,4 @@ pub mod Valid
 pub mod Spelled
 pub mod Breaks
 pub mod Alone
+mod Declared

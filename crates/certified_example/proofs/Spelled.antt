@@ -1,5 +1,5 @@
 -- The certificate as it is written.
-use Rattle.std.proofs.Common.{◌≡◌, ◌≢◌, ℕ, ◌==◌, Bool, true, false, ◌&&◌, ◌||◌, List, [], ◌∷◌, map, refl, sym, ap, ◌∙◌, subst, inl, inr, arith}
+use Rattle.std.proofs.Common.{◌≡◌, ◌≢◌, ℕ, ◌==◌, Bool, true, false, ◌&&◌, ◌||◌, ◌≤◌, List, [], ◌∷◌, length, map, refl, sym, ap, ◌∙◌, subst, inl, inr, arith}
 use Rattle.std.specs.Prelude.{if◌then◌else◌}
 use Rattle.std.proofs.Math.Bool.{and-true}
 use Rattle.std.proofs.lemmas.Bool.{cases_eq, eq-eqb, ne_eqb}
@@ -9,6 +9,8 @@ use Rattle.facts.specs.Facts.{Name, Ac, Cell, Fact}
 use Rattle.facts.specs.Statements.{TrackedCell, tracked, sets_of, fact_of}
 use Rattle.certificate.specs.Certificate.{Certificate}
 use Rattle.certificate.specs.declared.Version.TheVariants.{One}
+use Rattle.certificate.specs.Faults.{IsText}
+use Rattle.certificate.proofs.FromOrderLemmas.{reading_law}
 use Rattle.certificate.specs.Spelling.{marks, digits, text}
 use Rattle.certificate.specs.Reading.{AreLines, Each, IsStatement, IsFactLine, RiseFrom, certificate_of, exit_in, fact_in, has_exit_in, has_fact_in, has_routine, rank_in, sites_in, writes_in}
 use Rattle.certified_example.specs.Example.{any, certificate, changed, clear, fact, knowing, main_cells}
@@ -257,5 +259,6 @@ pub is_written : IsWritten
 is_written = record {
   are_lines = ordered;
   text_is = spelled;
+  is_text = subst (λ bytes. IsText One bytes) spelled (reading_law.text lines ordered (subst (λ bytes. length bytes ≤ 1048576) (sym spelled) (omega arith)));
   makes = one_certificate (certificate_of lines) certificate listed_same rank_same sites_same writes_same has_fact_same fact_same has_exit_same exit_same;
 }

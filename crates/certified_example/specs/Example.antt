@@ -43,7 +43,7 @@ declaration = record {
   start = 0o200;
   body = body;
   entry = one 0o210;
-  offset = λ e. one 0;
+  offset = λ e. if e == 0o210 then one 0 else nothing;
   variable = variables;
   stop = nothing;
   pause = one 0o205;

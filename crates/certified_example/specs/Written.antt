@@ -3,6 +3,7 @@ use Rattle.std.specs.Prelude.{◌≡◌, ℕ, List, [], ◌∷◌, ◌++◌, cod
 use Rattle.wordset.specs.Words.{Words, nothing, everything, one}
 use Rattle.facts.specs.Statements.{Statement, TrackedCell}
 use Rattle.certificate.specs.declared.Version.TheVariants.{One}
+use Rattle.certificate.specs.Faults.{IsText}
 use Rattle.certificate.specs.Spelling.{FactLine, Lines, text}
 use Rattle.certificate.specs.Reading.{AreLines, certificate_of}
 use Rattle.certified_example.specs.Example.{certificate}
@@ -50,8 +51,9 @@ certificate_text =
     line (codes "exit 0210 0 ac 0000-7777 link 01") (
     line (codes "end") []))))))))))))
 
--- The lines are in order, this is their text, and they make the certificate.
+-- The lines are in order, this is their text, which is read as a certificate's, and they make the certificate.
 pub record IsWritten : Type 0 where
   pub are_lines : AreLines lines
   pub text_is : text lines ≡ certificate_text
+  pub is_text : IsText One certificate_text
   pub makes : certificate_of lines ≡ certificate

@@ -64,7 +64,7 @@ carried_one : (profile : Profile) (w x y : WorldState) → CarriesOut profile w 
 carried_one profile w x y a b =
     same_world x y (does_one (instruction profile w.state) w.state (answer_of profile w) x.state y.state a.step b.step) (a.devices ∙ sym b.devices) (a.halted_at ∙ sym b.halted_at)
 
-not_carried : (m : Meaning) (s : State) (q : Answer) (t : State) → m ≡ Undefined → Does m s q t → ⊥
+pub not_carried : (m : Meaning) (s : State) (q : Answer) (t : State) → m ≡ Undefined → Does m s q t → ⊥
 not_carried m s q t is does = rw is at does
 
 instructs_one : (profile : Profile) (w x y : WorldState) → Instructs profile w x → Instructs profile w y → x ≡ y

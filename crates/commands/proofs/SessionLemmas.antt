@@ -743,14 +743,14 @@ pub sat_completed : (p : Profile) (trace : Bool) (plan now : Plan) (w x : WorldS
 sat_completed p trace plan now w x n old new told tells sat =
     let mid = printer_done x in
     let printed : Played p trace x PrinterDone (device_seen x.devices.printer.busy) mid new new tells tells =
-        device_played p trace x mid PrinterDone x.devices.printer.busy new tells refl refl (output_stays x.devices.printer.busy x.devices.printer) in
+    device_played p trace x mid PrinterDone x.devices.printer.busy new tells refl refl (output_stays x.devices.printer.busy x.devices.printer) in
     let punched : Played p trace mid PunchDone (device_seen mid.devices.punch.busy) (completed x) new new tells tells =
-        device_played p trace mid (completed x) PunchDone mid.devices.punch.busy new tells refl refl refl in
+    device_played p trace mid (completed x) PunchDone mid.devices.punch.busy new tells refl refl refl in
     let half : Sat p trace plan now (Some PrinterDone) w mid n old new told tells =
-        sat_still p trace plan now now (Some Step) (Some PrinterDone) PrinterDone w x mid n (device_seen x.devices.printer.busy) old new new told tells tells
-            sat refl refl refl printed (device_goes x.devices.printer.busy) (device_counts x.devices.printer.busy) in
+    sat_still p trace plan now now (Some Step) (Some PrinterDone) PrinterDone w x mid n (device_seen x.devices.printer.busy) old new new told tells tells
+    sat refl refl refl printed (device_goes x.devices.printer.busy) (device_counts x.devices.printer.busy) in
     sat_still p trace plan now now (Some PrinterDone) (Some PunchDone) PunchDone w mid (completed x) n (device_seen mid.devices.punch.busy) old new new told tells tells
-        half refl refl refl punched (device_goes mid.devices.punch.busy) (device_counts mid.devices.punch.busy)
+    half refl refl refl punched (device_goes mid.devices.punch.busy) (device_counts mid.devices.punch.busy)
 
 not_ran : (enabled : Bool) → seen.Ran ≡ device_seen enabled → ⊥
 not_ran true is = cc

@@ -350,8 +350,10 @@ impl<'a> Known<'a> {
     /// With what the equations of another say of the accumulator, said of a cell, before its own.
     fn told(&self, cell: Word, equations: &[Equation], list: &'a mut Equations) -> Known<'a>
         requires { length equations.now + length self.now.equations.now ≤ 64 }
-        ensures { Agree (known_of result) (with_equations
+        ensures same { Agree (known_of result) (with_equations
             (copied cell (map equation_of equations.now)) (known_of self.now)) }
+        ensures len { length result.equations.now ≤ length equations.now +
+            length self.now.equations.now }
     {
         copy_to(cell, equations, list);
         add_all(list, self.equations);

@@ -12,6 +12,7 @@ ghost use Rattle.facts.specs.Meaning.{name_of, equation_of, tracked_cells, meani
 ghost use Rattle.facts.specs.Places.{main_of};
 ghost use Rattle.facts.specs.Showing.{MayStart, AreCells, allows_all};
 
+use crate::equations::Equations;
 use crate::fact::Fact;
 use crate::known::Known;
 use crate::names::{Equation, Name};
@@ -48,7 +49,23 @@ pub fn entails_return(call: &Fact, exit: &Fact, written: &WordSet, after: &Fact)
         EntailsOffsets (meaning call.now) (meaning after.now)) }
 {
     let mut list = ArrayVec::new();
-    Known::returned(call, exit, written, &mut list).entails(after)
+    returned_entails(call, exit, written, &mut list, after)
+}
+
+/// The same, where room for equations is lent for as long as the others.
+fn returned_entails<'a>(
+    call: &'a Fact,
+    exit: &'a Fact,
+    written: &'a WordSet,
+    list: &'a mut Equations,
+    after: &Fact,
+) -> bool
+    ensures { IsTrue result ↔
+        (Entails (joined (meaning call.now) (meaning exit.now) (words written.now))
+        (meaning after.now) ×
+        EntailsOffsets (meaning call.now) (meaning after.now)) }
+{
+    Known::returned(call, exit, written, list).entails(after)
 }
 
 /// Whether a fact holds of every start of a declared tape, with no call open: whatever the

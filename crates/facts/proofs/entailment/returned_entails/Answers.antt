@@ -1,7 +1,7 @@
 use Rattle.facts.specs.Facts.{joined}
 use Rattle.facts.proofs.AgreeLemmas.{entails_agree}
-use Rattle.facts.proofs.entailment.entails_return.Goals as goal
+use Rattle.facts.proofs.entailment.returned_entails.Goals as goal
 
 pub returns : goal.returns
 unfolding joined
-returns c = entails_agree _ c.after_call.ensures c.entails.ensures
+returns c = entails_agree _ c.returned.ensures c.entails.ensures

@@ -224,4 +224,4 @@ front_kept runs (l ∷ ls) (suc n) = ap (λ (x : List Line). said_at runs l ∷ 
 pub cell_more : (old now new : List Line) (cells : List TrackedCell) (i : ℕ) (t : TrackedCell) → i < length cells → now ≡ old ++ map CellIs (take i cells) →
     t ≡ cell_at cells i → new ≡ now ++ CellIs t ∷ [] → new ≡ old ++ map CellIs (take (i + 1) cells)
 cell_more old now new cells i t lt so at e =
-    rw (map_more CellIs cells i (cell_at cells i) lt, e, so, at) (append_assoc old (map CellIs (take i cells)) (CellIs (cell_at cells i) ∷ []))
+    rw (map_more CellIs cells i (record { address = 0; set = nothing }) lt, e, so, at) (append_assoc old (map CellIs (take i cells)) (CellIs (cell_at cells i) ∷ []))

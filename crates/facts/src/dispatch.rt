@@ -1,8 +1,8 @@
 //! What may come of a word, whatever it is.
 
-ghost use Rattle.std.specs.Prelude.{◌≡◌, ◌≤◌, ◌++◌, List, [], length};
+ghost use Rattle.std.specs.Prelude.{false, ◌≡◌, ◌≤◌, ◌++◌, List, [], length};
 ghost use Rattle.instruct.specs.declared.Instruction.TheVariants.{Iot};
-ghost use Rattle.wordset.specs.Words.{SameWords};
+ghost use Rattle.wordset.specs.Words.{SameWords, only, one};
 ghost use Rattle.wordset.specs.Lanes.{words};
 ghost use Rattle.instruct.specs.Bits.{is_indirect, named_cell};
 ghost use Rattle.instruct.specs.Instructions.{kind_of, meaning_of, operation_of, reference_at, Group2};
@@ -81,6 +81,18 @@ fn branches<'a>(at: Word, word: Word, known: &Known<'a>, room: &'a mut Room) -> 
     }
 }
 
+/// The one target of a reference, where it has one and no other: the named cell of a direct one.
+fn single_target(indirect: bool, named: Word, targets: &WordSet) -> Option<Word>
+    requires { indirect ≡ false → SameWords (words targets.now) (one named) }
+    ensures { result ≡ only (words targets.now) }
+{
+    if indirect {
+        return targets.only();
+    }
+    let _index = named.index();
+    Some(named)
+}
+
 impl<A: Allocator> Place<'_, A> {
     /// The outcomes of a memory reference: a stepped pointer counts up first.
     fn refer<'a>(
@@ -100,11 +112,28 @@ impl<A: Allocator> Place<'_, A> {
         let indirect = refers_indirectly(word);
         let named = target(word, at);
         let targets = put(&mut room.targets, self.reached(indirect, named, known));
+        let single = single_target(indirect, named, targets);
         if steps_pointer(indirect, named) {
             let seen = known.stepped(named, &mut room.pointer);
-            return self.refer_to(at, word, &seen, targets, &mut room.one, &mut room.two);
+            return self.refer_to(
+                at,
+                word,
+                &seen,
+                targets,
+                &single,
+                &mut room.one,
+                &mut room.two,
+            );
         }
-        self.refer_to(at, word, known, targets, &mut room.one, &mut room.two)
+        self.refer_to(
+            at,
+            word,
+            known,
+            targets,
+            &single,
+            &mut room.one,
+            &mut room.two,
+        )
     }
 
     /// The outcomes of a memory reference to some targets.
@@ -114,9 +143,11 @@ impl<A: Allocator> Place<'_, A> {
         word: Word,
         seen: &Known<'a>,
         reached: &'a WordSet,
+        single: &Option<Word>,
         way: &'a mut Way,
         other: &'a mut Way,
     ) -> OutcomeList<'a>
+        requires single { single.now ≡ only (words reached.now) }
         requires target { IsUnchanged seen.now.target }
         requires room { length seen.now.equations.now ≤ 32 }
         ensures { (f : said.Fact) →
@@ -129,10 +160,10 @@ impl<A: Allocator> Place<'_, A> {
         let indirect = refers_indirectly(word);
         let named = target(word, at);
         match Operation::of(word) {
-            Operation::And => return one(self.combine(at, seen, reached, way)),
-            Operation::Tad => return one(self.add(at, seen, reached, way)),
-            Operation::Isz => return two(self.count(at, seen, reached, way, other)),
-            Operation::Dca => return one(deposit(at, seen, reached, way)),
+            Operation::And => return one(self.combine(at, seen, reached, single, way)),
+            Operation::Tad => return one(self.add(at, seen, reached, single, way)),
+            Operation::Isz => return two(self.count(at, seen, reached, single, way, other)),
+            Operation::Dca => return one(deposit(at, seen, reached, single, way)),
             Operation::Jms => return one(call(seen, reached)),
             Operation::Jmp => return one(self.jump(indirect, named, seen, reached)),
         }

@@ -129,6 +129,24 @@ impl Fact {
         self.ac = set;
     }
 
+    /// Lets the accumulator hold the words from one up to another.
+    pub fn set_accumulator_row(&mut self, first: Word, last: Word)
+        ensures statement { statement_of self.new ≡
+            record (statement_of self.old) { ac = between first last } }
+        ensures offsets { offsets_of self.new.offsets ≡ offsets_of self.old.offsets }
+    {
+        self.ac = WordSet::range(first, last);
+    }
+
+    /// Lets MQ hold the words from one up to another.
+    pub fn set_mq_row(&mut self, first: Word, last: Word)
+        ensures statement { statement_of self.new ≡
+            record (statement_of self.old) { mq = between first last } }
+        ensures offsets { offsets_of self.new.offsets ≡ offsets_of self.old.offsets }
+    {
+        self.mq = WordSet::range(first, last);
+    }
+
     /// Lets MQ hold these words.
     pub fn set_mq(&mut self, set: WordSet)
         ensures statement { statement_of self.new ≡

@@ -4,7 +4,7 @@
 //! most two cells changed, or one of several unknown ones did. What is new stands in room that the
 //! asker lends.
 
-ghost use Rattle.std.specs.Prelude.{ℕ, ◌≡◌, ◌<◌, ◌≤◌, ◌↔◌, ◌+◌, ◌||◌, length, map, IsTrue};
+ghost use Rattle.std.specs.Prelude.{ℕ, false, ◌≡◌, ◌<◌, ◌≤◌, ◌↔◌, ◌+◌, ◌||◌, length, map, IsTrue};
 ghost use Rattle.wordset.specs.Words.{Words, SameWords, IsWithin, one, plus, shifted};
 ghost use Rattle.wordset.specs.Lanes.{words};
 ghost use Rattle.wordset.specs.Links.{links_of};
@@ -78,26 +78,37 @@ fn source_set(source: &Source<'_>, cell: Word) -> WordSet
     teller(source, cell).set_of_cell(cell)
 }
 
-/// What a change makes of the words of a cell.
-fn change_set(change: &Change<'_>, cell: Word, set: WordSet) -> WordSet
-    ensures { SameWords (words result) (changed change.now cell (words set)) }
+/// Makes of the words of a cell what a change makes of them.
+fn apply(change: &Change<'_>, cell: Word, set: &mut WordSet)
+    ensures { SameWords (words set.new) (changed change.now cell (words set.old)) }
+{
+    if let Change::Unchanged = change {
+        return;
+    }
+    apply_new(change, cell, set);
+}
+
+/// The same, whatever the change.
+#[inline(never)]
+fn apply_new(change: &Change<'_>, cell: Word, set: &mut WordSet)
+    ensures { SameWords (words set.new) (changed change.now cell (words set.old)) }
 {
     match change {
-        Change::Unchanged => set,
-        Change::Replaced(at, other) => if cell.index() == *at { **other } else { set },
+        Change::Unchanged => {}
+        Change::Replaced(at, other) => {
+            if cell.index() == *at {
+                *set = **other;
+            }
+        }
         Change::Counted(cells) => {
             if has_cell(cells, cell) {
                 let more = set.shift(Word::ZERO.increment());
-                set.union(&more)
-            } else {
-                set
+                *set = set.union(&more);
             }
         }
         Change::Stored(cells, other) => {
             if has_cell(cells, cell) {
-                set.union(other)
-            } else {
-                set
+                *set = set.union(other);
             }
         }
     }
@@ -117,6 +128,20 @@ fn is_source_within(source: &Source<'_>, cells: &TrackedCells, at: usize) -> boo
 /// Whether a change is seen to leave the cell at a place of others no word that it may not hold
 /// there, where its words before are known to be such words or not.
 fn is_change_within(change: &Change<'_>, cells: &TrackedCells, at: usize, before: bool) -> bool
+    requires { at < length (tracked_cells cells.now) }
+    ensures { (old : Words) → (IsTrue before → IsWithin old (cell_at (tracked_cells cells.now) at).set) →
+        IsTrue result → IsWithin (changed change.now (cell_at (tracked_cells cells.now) at).address old)
+        (cell_at (tracked_cells cells.now) at).set }
+{
+    if let Change::Unchanged = change {
+        return before;
+    }
+    is_new_within(change, cells, at, before)
+}
+
+/// The same, whatever the change.
+#[inline(never)]
+fn is_new_within(change: &Change<'_>, cells: &TrackedCells, at: usize, before: bool) -> bool
     requires { at < length (tracked_cells cells.now) }
     ensures { (old : Words) → (IsTrue before → IsWithin old (cell_at (tracked_cells cells.now) at).set) →
         IsTrue result → IsWithin (changed change.now (cell_at (tracked_cells cells.now) at).address old)
@@ -188,9 +213,10 @@ impl Known<'_> {
         match name {
             Name::Accumulator => *self.ac,
             Name::Cell(cell) => {
-                let old = source_set(&self.base, *cell);
-                let seen = change_set(&self.pointer, *cell, old);
-                change_set(&self.target, *cell, seen)
+                let mut set = source_set(&self.base, *cell);
+                apply(&self.pointer, *cell, &mut set);
+                apply(&self.target, *cell, &mut set);
+                set
             }
         }
     }
@@ -221,6 +247,30 @@ impl Known<'_> {
     /// along the equations, one step only.
     #[inline(never)]
     pub fn narrowed(&self, name: &Name) -> WordSet
+        ensures { SameWords (words result) (narrowed (known_of self.now) (name_of name.now)) }
+    {
+        if !self.speaks_of(name) {
+            return self.set(name);
+        }
+        self.narrowed_by_equations(name)
+    }
+
+    /// Whether an equation speaks of a name; where none does nothing narrows it.
+    pub(crate) fn speaks_of(&self, name: &Name) -> bool
+        ensures { result ≡ false → SameWords ((known_of self.now).set (name_of name.now))
+            (narrowed (known_of self.now) (name_of name.now)) }
+    {
+        for e in self.equations {
+            if speaks_of(e, name) {
+                return true;
+            }
+        }
+        false
+    }
+
+    /// The same, whatever the equations.
+    #[inline(never)]
+    fn narrowed_by_equations(&self, name: &Name) -> WordSet
         ensures { SameWords (words result) (narrowed (known_of self.now) (name_of name.now)) }
     {
         let mut set = self.set(name);
@@ -307,6 +357,17 @@ impl Known<'_> {
         if self.is_plainly_within(cells, at) {
             return true;
         }
+        self.is_narrowed_within(cells, at)
+    }
+
+    /// The same, of the narrowed set; the room for it is made here alone.
+    #[inline(never)]
+    fn is_narrowed_within(&self, cells: &TrackedCells, at: usize) -> bool
+        requires { at < length (tracked_cells cells.now) }
+        ensures { IsTrue result ↔
+            IsWithin (narrowed (known_of self.now) (Cell (cell_at (tracked_cells cells.now) at).address))
+            (cell_at (tracked_cells cells.now) at).set }
+    {
         cells.has_all(at, &self.narrowed(&Name::Cell(cells.address(at))))
     }
 

@@ -47,6 +47,17 @@ fn has_link(links: Links) -> bool
 fn has_accumulator(known: &Known<'_>) -> bool
     ensures { result ≡ has_some (narrowed (known_of known.now) Ac) }
 {
+    if !known.speaks_of(&Name::Accumulator) {
+        return has_word(known.ac);
+    }
+    has_narrowed_accumulator(known)
+}
+
+/// The same, where equations may speak of it; the room for the narrowed set is made here alone.
+#[inline(never)]
+fn has_narrowed_accumulator(known: &Known<'_>) -> bool
+    ensures { result ≡ has_some (narrowed (known_of known.now) Ac) }
+{
     has_word(&known.narrowed(&Name::Accumulator))
 }
 

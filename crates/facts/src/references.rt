@@ -38,8 +38,10 @@ pub(crate) fn deposit<'a>(
     at: Word,
     known: &Known<'a>,
     targets: &WordSet,
+    single: &Option<Word>,
     way: &'a mut Way,
 ) -> Option<Outcome<'a>>
+    requires single { single.now ≡ only (words targets.now) }
     requires target { IsUnchanged known.now.target }
     requires room { length known.now.equations.now ≤ 32 }
     ensures { (place : said.Place) (f : said.Fact) (p : Words) → Agree (known_of known.now) f →
@@ -47,9 +49,9 @@ pub(crate) fn deposit<'a>(
         AgreeingOutcomes (slot result) (dca_case place at f p (only p)) }
 {
     let ac = known.narrowed(&Name::Accumulator);
-    match targets.only() {
+    match single {
         Some(cell) => {
-            let after = known.deposited(cell, ac, &mut way.first, &mut way.second, &mut way.third);
+            let after = known.deposited(*cell, ac, &mut way.first, &mut way.second, &mut way.third);
             going(targets, known, &ac, address_after(at, &mut way.next), after)
         }
         None => {
@@ -276,15 +278,17 @@ impl<A: Allocator> Place<'_, A> {
         at: Word,
         known: &Known<'a>,
         targets: &WordSet,
+        single: &Option<Word>,
         way: &'a mut Way,
     ) -> Option<Outcome<'a>>
+        requires single { single.now ≡ only (words targets.now) }
         requires room { length known.now.equations.now ≤ 32 }
         ensures { (f : said.Fact) (p : Words) → Agree (known_of known.now) f →
             SameWords (words targets.now) p →
             AgreeingOutcomes (slot result) (anded (place_of self.now) at f p) }
     {
         let ac = known.narrowed(&Name::Accumulator);
-        let seen = self.words_at(known, targets);
+        let seen = self.words_at(known, targets, single);
         let after = known.with_ac(ac.ands(&seen), &mut way.first);
         going(
             targets,
@@ -329,20 +333,22 @@ impl<A: Allocator> Place<'_, A> {
         at: Word,
         known: &Known<'a>,
         targets: &WordSet,
+        single: &Option<Word>,
         way: &'a mut Way,
     ) -> Option<Outcome<'a>>
+        requires single { single.now ≡ only (words targets.now) }
         requires room { length known.now.equations.now ≤ 32 }
         ensures { (f : said.Fact) (p : Words) → Agree (known_of known.now) f →
             SameWords (words targets.now) p →
             AgreeingOutcomes (slot result) (tad (place_of self.now) at f p) }
     {
         let ac = known.narrowed(&Name::Accumulator);
-        let seen = self.words_at(known, targets);
+        let seen = self.words_at(known, targets, single);
         let (sums, carries) = ac.sums(&seen);
         let links = known.link.toggled(carries);
         let mut sum = self.after_tad(
             known,
-            &targets.only(),
+            single,
             &ac.only(),
             &seen.only(),
             sums,
@@ -384,9 +390,11 @@ impl<A: Allocator> Place<'_, A> {
         at: Word,
         known: &Known<'a>,
         targets: &WordSet,
+        single: &Option<Word>,
         way: &'a mut Way,
         other: &'a mut Way,
     ) -> (Option<Outcome<'a>>, Option<Outcome<'a>>)
+        requires single { single.now ≡ only (words targets.now) }
         requires target { IsUnchanged known.now.target }
         requires room { length known.now.equations.now ≤ 32 }
         ensures { (f : said.Fact) (p : Words) → Agree (known_of known.now) f →
@@ -394,13 +402,13 @@ impl<A: Allocator> Place<'_, A> {
             AgreeingOutcomes (slot result.0 ++ slot result.1)
             (isz_case (place_of self.now) at f p (only p)) }
     {
-        match targets.only() {
+        match single {
             None => count_several(at, known, targets, way, other),
             Some(cell) => {
-                if self.declaration.is_variable(cell) {
-                    return count_one(at, known, targets, cell, way, other);
+                if self.declaration.is_variable(*cell) {
+                    return count_one(at, known, targets, *cell, way, other);
                 }
-                (count_own(at, known, targets, cell, &mut way.next), None)
+                (count_own(at, known, targets, *cell, &mut way.next), None)
             }
         }
     }

@@ -77,6 +77,7 @@ impl Page {
 pub(crate) struct Desk {
     pub(crate) even: Page,
     pub(crate) odd: Page,
+    pub(crate) body: Body,
     pub(crate) others: Others,
 }
 
@@ -97,6 +98,7 @@ impl Desk {
         Desk {
             even: Page::new(),
             odd: Page::new(),
+            body: Body::Main,
             others: Others {
                 next: Fact::any(),
                 exit: Fact::any(),

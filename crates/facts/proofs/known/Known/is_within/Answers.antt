@@ -1,10 +1,5 @@
 use Rattle.std.proofs.Common.{refl}
-use Rattle.wordset.specs.Words.{SameWords}
-use Rattle.wordset.specs.Lanes.{words}
-use Rattle.facts.specs.Facts.{Cell, narrowed}
-use Rattle.facts.specs.Statements.{cell_at}
-use Rattle.facts.specs.Meaning.{known_of, tracked_cells}
-use Rattle.facts.proofs.EntailLemmas.{narrowed_inside, within_same, same_flip}
+use Rattle.facts.proofs.EntailLemmas.{narrowed_inside}
 use Rattle.facts.proofs.known.Known.is_within.Goals as goal
 
 pub returns-then-is_plainly_within : goal.returns-then-is_plainly_within
@@ -12,10 +7,3 @@ returns-then-is_plainly_within c = (
   λ t. narrowed_inside _ _ _ (c.is_plainly_within.ensures c.if-is_plainly_within.true),
   λ w. refl,
 )
-
-pub returns : goal.returns
-returns c =
-    let n : SameWords (words c.narrowed.result) (narrowed (known_of c.args.self.now) (Cell (cell_at (tracked_cells c.args.cells.now) c.args.at).address)) = rw c.address.ensures.address at c.narrowed.ensures in (
-      λ t. within_same (same_flip n) (c.has_all.ensures.0 t),
-      λ w. c.has_all.ensures.1 (within_same n w),
-    )

@@ -5,7 +5,7 @@ use Rattle.wordset.specs.Lanes.{words}
 use Rattle.facts.specs.Facts.{words_in}
 use Rattle.facts.specs.Meaning.{known_of}
 use Rattle.facts.specs.Places.{place_of}
-use Rattle.facts.proofs.place.Place.words_at.Given as goal
+use Rattle.facts.proofs.place.Place.words_at_each.Given as goal
 
 abbrev pub invariant-loop-cell : goal.invariant-loop-cell
 invariant-loop-cell g l = record {

@@ -2,7 +2,7 @@ use Rattle.std.proofs.Common.{◌≡◌, ◌<◌, ◌≤◌, ◌+◌, ◌*◌, �
 use Rattle.std.specs.Int.{bit_at}
 use Rattle.wordset.specs.Words.{between}
 use Rattle.wordset.specs.Lanes.{AreLanes}
-use Rattle.wordset.proofs.WordSet.range.Given as goal
+use Rattle.wordset.proofs.WordSet.short_range.Given as goal
 
 abbrev pub invariant-loop-i : goal.invariant-loop-i
 invariant-loop-i l = record {

@@ -5,7 +5,7 @@ use Rattle.std.proofs.lemmas.List.{get_or-replicate, get_or_past}
 use Rattle.std.proofs.lemmas.Nat.{and_le_l}
 use Rattle.std.proofs.lemmas.Bool.{cases_lt}
 use Rattle.wordset.specs.Words.{between}
-use Rattle.wordset.proofs.WordSet.range.Goals as goal
+use Rattle.wordset.proofs.WordSet.short_range.Goals as goal
 use Rattle.wordset.proofs.LaneBits.{filled, AreLanes-set}
 use Rattle.wordset.proofs.SetLemmas.{words_are}
 use Rattle.wordset.proofs.Ranges.{lane_between, lane_outside, words_of_lanes, range_past}

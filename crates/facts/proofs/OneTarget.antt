@@ -18,12 +18,12 @@ use Rattle.facts.proofs.Numbers.{only_tells}
 first_has : (n : ℕ) (t : ℕ → Bool) (k : ℕ) → first_below n t ≡ Some k → (k < n) × (t k ≡ true)
 unfolding first_below
 first_has zero t k e = absurd (let z : None ≡ Some k = e in cc)
-first_has (suc n) t k e = go (some_below n t) (t n) refl e
+first_has (suc n) t k e = go (first_has n t k) (some_below n t) (t n) refl e
   where
-    go : (a b : Bool) → t n ≡ b → (if a then first_below n t else (if b then Some n else None)) ≡ Some k → (k < suc n) × (t k ≡ true)
-    go true b h q = let r : (k < n) × (t k ≡ true) = first_has n t k q in (omega (arith, r.0), r.1)
-    go false true h q = let z : n ≡ k = cc in (omega arith, ap t (sym z) ∙ h)
-    go false false h q = absurd (let z : None ≡ Some k = q in cc)
+    go : (first_below n t ≡ Some k → (k < n) × (t k ≡ true)) → (a b : Bool) → t n ≡ b → (if a then first_below n t else (if b then Some n else None)) ≡ Some k → (k < suc n) × (t k ≡ true)
+    go before true b h q = let r : (k < n) × (t k ≡ true) = before q in (omega (arith, r.0), r.1)
+    go before false true h q = let z : n ≡ k = cc in (omega arith, ap t (sym z) ∙ h)
+    go before false false h q = absurd (let z : None ≡ Some k = q in cc)
 
 -- the one word of a set is in it
 pub only_has : (s : Words) (y : ℕ) → only s ≡ Some y → (y < 4096) × (s y ≡ true)

@@ -88,27 +88,34 @@ fn apply(change: &Change<'_>, cell: Word, set: &mut WordSet)
     apply_new(change, cell, set);
 }
 
-/// The same, whatever the change.
+/// The same, whatever the change; the room for the words is made here alone.
 #[inline(never)]
 fn apply_new(change: &Change<'_>, cell: Word, set: &mut WordSet)
     ensures { SameWords (words set.new) (changed change.now cell (words set.old)) }
 {
+    *set = change_set(change, cell, *set);
+}
+
+/// What a change makes of the words of a cell.
+fn change_set(change: &Change<'_>, cell: Word, set: WordSet) -> WordSet
+    ensures { SameWords (words result) (changed change.now cell (words set)) }
+{
     match change {
-        Change::Unchanged => {}
-        Change::Replaced(at, other) => {
-            if cell.index() == *at {
-                *set = **other;
-            }
-        }
+        Change::Unchanged => set,
+        Change::Replaced(at, other) => if cell.index() == *at { **other } else { set },
         Change::Counted(cells) => {
             if has_cell(cells, cell) {
                 let more = set.shift(Word::ZERO.increment());
-                *set = set.union(&more);
+                set.union(&more)
+            } else {
+                set
             }
         }
         Change::Stored(cells, other) => {
             if has_cell(cells, cell) {
-                *set = set.union(other);
+                set.union(other)
+            } else {
+                set
             }
         }
     }

@@ -8,5 +8,5 @@ pub returns-then-count-eq1-clause-statement : goal.returns-then-count-eq1-clause
 returns-then-count-eq1-clause-statement c =
     c.set_accumulator_row.ensures.statement
     ∙ ap (λ (set : Words). record (statement_of c.args.fact.now) { ac = set })
-    (sym (row_there c.args.runs.now c.args.first c.args.count c.index-run.result c.if-count-eq1.true c.requires c.index-run.is
+    (sym (row_there c.args.runs.now c.args.first c.args.count c.index-runs-first.result c.if-count-eq1.true c.requires c.index-runs-first.is
     (subst (λ n. n < 4096) c.index-last.ensures.same c.if-prove.false)))

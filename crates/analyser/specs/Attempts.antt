@@ -1,7 +1,11 @@
 -- What a search came to.
-use Rattle.std.specs.Prelude.{◌≤◌, ⊤, length}
-use Rattle.certificate.specs.Kept.{Kept, meaning}
+use Rattle.std.specs.Prelude.{◌≡◌, ◌<◌, ◌≤◌, ◌⊎◌, ℕ, ⊤, true, length, List, Option}
+use Rattle.declaration.specs.Declaration.{Declaration, Routine}
+use Rattle.declaration.specs.Kept as declared
+use Rattle.certificate.specs.Certificate.{Certificate}
+use Rattle.certificate.specs.Kept.{Kept, claims, meaning}
 use Rattle.certificate.specs.Spelling.{text}
+use Rattle.analyser.specs.Accepted.{IsAccepted}
 use Rattle.analyser.specs.declared.Attempt.{Attempt}
 use Rattle.analyser.specs.declared.Attempt.TheVariants.{Found, Stuck}
 
@@ -14,3 +18,28 @@ claimed_by (Stuck at c) = c
 abbrev pub IsShortIfFound : {A : Type 0} → Attempt A → Type 0
 IsShortIfFound (Found c) = length (text (meaning c)) ≤ 1048576
 IsShortIfFound (Stuck at c) = ⊤
+
+-- The judge accepts what was found; nothing is said of a draft.
+abbrev pub IsAcceptedIfFound : {A : Type 0} → List (Option ℕ) → declared.Kept → Attempt A → Type 0
+IsAcceptedIfFound image d (Found c) = IsAccepted image d c
+IsAcceptedIfFound image d (Stuck at c) = ⊤
+
+-- Some body has the address.
+abbrev pub IsInSomeBody : Declaration → ℕ → Type 0
+IsInSomeBody d a = (r : Routine) × (d.body r a ≡ true)
+
+-- The lines of an address are where they may be: a fact's in some body, a routine's and its exits' at an entry.
+pub record StandsRight (d : Declaration) (c : Certificate) (a : ℕ) : Type 0 where
+  pub fact : c.has_fact a ≡ true → IsInSomeBody d a
+  pub routine : c.listed a ≡ true → d.entry a ≡ true
+  pub exits : (o : ℕ) → o < 8 → c.has_exit a o ≡ true → d.entry a ≡ true
+
+-- A draft's lines are where they may be, and where it is stuck it has a fact, or that is an entry.
+pub record IsDraft (d : Declaration) (at : ℕ) (c : Certificate) : Type 0 where
+  pub stands : (a : ℕ) → a < 4096 → StandsRight d c a
+  pub there : (c.has_fact at ≡ true) ⊎ (d.entry at ≡ true)
+
+-- This is promised of a draft; nothing is said here of what was found.
+abbrev pub IsDraftIfStuck : {A : Type 0} → Declaration → Attempt A → Type 0
+IsDraftIfStuck d (Found c) = ⊤
+IsDraftIfStuck d (Stuck at c) = IsDraft d at (claims c)

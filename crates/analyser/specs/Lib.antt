@@ -1,3 +1,4 @@
+pub mod Accepted
 pub mod Attempts
 pub mod Claimed
 pub mod Counts

@@ -1,5 +1,7 @@
 //! What is analysed: a tape's words and a declaration.
 
+ghost use Rattle.std.specs.Prelude.{◌≡◌};
+
 use crate::turns::Halt;
 use crate::widening::Limits;
 use bin_tape::Image;
@@ -109,7 +111,10 @@ fn add_cell(cells: &mut WordSet, cell: Word) {
 impl<'a, D: Allocator> Program<'a, D> {
     /// A tape's words and a declaration. The cells that facts speak of are the variables that
     /// instructions name, then those in bodies, then those on the tape; at most 64.
-    pub(crate) fn of(image: &'a Image, declaration: &'a Declaration<D>) -> Program<'a, D> {
+    pub(crate) fn of(image: &'a Image, declaration: &'a Declaration<D>) -> Program<'a, D>
+        ensures image { result.image.now ≡ image.now }
+        ensures declaration { result.declaration.now ≡ declaration.now }
+    {
         let bodies = bodies_of(declaration);
         let mut named = WordSet::empty();
         add_named(&mut named, image, declaration, &bodies);

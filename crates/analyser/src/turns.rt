@@ -11,7 +11,7 @@ use word12::Word;
 /// Why no guess is made, though turns are left.
 #[derive(Clone, Copy)]
 pub(crate) enum Halt {
-    /// At this address an instruction was met that the checker would refuse.
+    /// At this address an instruction was met that the judge would refuse.
     Stuck(Word),
     /// A growth of the table was refused.
     NoMemory,

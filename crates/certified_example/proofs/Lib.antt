@@ -1,4 +1,6 @@
 pub mod Sets
 pub mod Valid
+pub mod Spelled
 pub mod Breaks
 pub mod Alone
+mod Declared

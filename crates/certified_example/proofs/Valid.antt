@@ -227,9 +227,9 @@ fourth_fine = record {
   v6 = λ a lt h. tt;
   v7 = (refl, λ e lt h. record { entry = h; listed = h; lower = tt });
   v8 = λ e lt h. tt;
-  v9 = λ e lt h. (refl, omega arith);
+  v9 = λ e lt h. (let q : e ≡ 0o210 = eqb-true e 0o210 h in rw q refl, omega arith);
   v10 = λ e lt h. subst (λ x. LandsAt example (Some x) (plus x 1) (with_offsets (one 0) (fact 0o203))) (sym (eqb-true e 0o210 h)) enters;
-  v11 = λ e lt h o lo g. subst (λ x. LandsAt example None (plus 0o204 x) (joined (fact 0o203) (knowing any nothing) nothing)) (sym (eqb-true o 0 (and_parts (e == 0o210) (o == 0) g).1)) returns;
+  v11 = λ e lt h o lo g. subst (λ x. LandsAt example None (plus 0o204 x) (joined (fact 0o203) (knowing any everything) nothing)) (sym (eqb-true o 0 (and_parts (e == 0o210) (o == 0) g).1)) returns;
   v12 = tt;
   v13 = tt;
   v14 = λ a lt h e. absurd (false≢true h);
@@ -239,7 +239,7 @@ fourth_fine = record {
     enters : LandsAt example (Some 0o210) 0o211 (with_offsets (one 0) (fact 0o203))
     enters = record { there = refl; inside = refl; entails = any_entailed _ _; offsets = λ n lt g. g }
 
-    returns : LandsAt example None 0o204 (joined (fact 0o203) (knowing any nothing) nothing)
+    returns : LandsAt example None 0o204 (joined (fact 0o203) (knowing any everything) nothing)
     returns = record { there = refl; inside = refl; entails = any_entailed _ _; offsets = λ n lt g. g }
 
 -- 0204: TAD I 10

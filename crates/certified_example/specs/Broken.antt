@@ -21,7 +21,7 @@ bare reads = record {
   start = 0o200;
   body = body_alone;
   entry = one 0o210;
-  offset = λ e. one 0;
+  offset = λ e. if e == 0o210 then one 0 else nothing;
   variable = nothing;
   stop = nothing;
   pause = nothing;

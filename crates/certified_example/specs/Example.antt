@@ -43,7 +43,7 @@ declaration = record {
   start = 0o200;
   body = body;
   entry = one 0o210;
-  offset = λ e. one 0;
+  offset = λ e. if e == 0o210 then one 0 else nothing;
   variable = variables;
   stop = nothing;
   pause = one 0o205;
@@ -69,24 +69,26 @@ abbrev pub changed : Name → Words
 changed Ac = everything
 changed (Cell a) = if a == 0o202 then one 0 else everything
 
--- The accumulator is known at 0201, and the changed cell at 0202; the routine's return word is its call's own.
+-- The accumulator is known at 0201, and the changed cell at 0202; the routine's return word is its call's own. Elsewhere
+-- nothing is said.
 abbrev pub fact : ℕ → Fact
 fact a =
     if a == 0o201 then knowing clear nothing
     else (if a == 0o202 then knowing changed nothing
-    else (if a == 0o211 then knowing any (one 0) else knowing any nothing))
+    else (if a == 0o211 then knowing any (one 0)
+    else (if main_cells a then knowing any nothing else knowing any everything)))
 
 -- The routine has rank 0, is called from 0203 alone, and writes nothing.
 abbrev pub certificate : Certificate
 certificate = record {
   listed = one 0o210;
   rank = λ e. 0;
-  sites = λ e. one 0o203;
+  sites = λ e. if e == 0o210 then one 0o203 else nothing;
   writes = λ e. nothing;
   has_fact = λ a. main_cells a || a == 0o211;
   fact = fact;
   has_exit = λ e o. e == 0o210 && o == 0;
-  exit = λ e o. knowing any nothing;
+  exit = λ e o. knowing any everything;
 }
 
 -- The tape, the declaration and the certificate.

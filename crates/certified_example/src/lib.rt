@@ -3,8 +3,8 @@
 //! each rule a step that it forbids and the others let through.
 #![tactic(auto)]
 
-ghost use Rattle.std.specs.Prelude.{Some, None};
-ghost use Rattle.wordset.specs.Words.{nothing};
+ghost use Rattle.std.specs.Prelude.{Option, Some, None};
+ghost use Rattle.wordset.specs.Words.{Words, nothing};
 ghost use Rattle.declaration.specs.Declaration.{IsDeclared};
 ghost use Rattle.policy.specs.Runs.{IsSafe};
 ghost use Rattle.policy.specs.declared.rules.Rule.TheVariants as rule;
@@ -12,6 +12,7 @@ ghost use Rattle.judge.specs.Conditions.{IsValid};
 ghost use Rattle.certified_example.specs.Example.{image, declaration, example};
 ghost use Rattle.certified_example.specs.Broken.{IsUnsafe, bare, image_with};
 ghost use Rattle.certified_example.specs.Forbidden.{BreaksAlone, changing, two_cells};
+ghost use Rattle.certified_example.specs.Written.{IsWritten};
 
 /// The declaration keeps the overlap rules, the certificate is valid, and so the program is safe.
 pub fn example_is_safe()
@@ -22,9 +23,15 @@ pub fn example_is_safe()
     judge::headline();
 }
 
-/// Programs of one word that aren't safe: an unsupported word, DCA to no variable, JMS to no entry,
+/// The certificate is that of lines in order, which have this text: `Certificate::parse` reads it.
+pub fn example_is_written()
+    ensures { IsWritten }
+{}
+
+/// Programs of one word that keep the overlap rules and aren't safe: an unsupported word, DCA to no variable, JMS to no entry,
 /// a return with no call open, an undeclared HLT, and a read that isn't listed.
 pub fn broken_are_unsafe()
+    ensures declared { (reads : Option Words) → IsDeclared (bare reads) }
     ensures unsupported { IsUnsafe 0o7401 None }
     ensures undeclared_write { IsUnsafe 0o3202 None }
     ensures undeclared_call { IsUnsafe 0o4205 None }
@@ -39,6 +46,7 @@ pub fn broken_are_unsafe()
 /// fixed code, and a read that isn't listed. So none of
 /// the rules follows from the six others at the same step.
 pub fn each_rule_forbids()
+    ensures declared { IsDeclared two_cells }
     ensures stays { BreaksAlone rule.StaysInBody (image_with 0o7401) (bare None) }
     ensures writes { BreaksAlone rule.WritesDeclared (image_with 0o3202) (bare None) }
     ensures calls { BreaksAlone rule.CallsEntries (image_with 0o4205) (bare None) }

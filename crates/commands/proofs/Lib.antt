@@ -14,3 +14,4 @@ pub mod SessionLemmas
 pub mod SessionsAnswered
 pub mod StuckLemmas
 pub mod SourceLaws
+pub mod OneLemmas

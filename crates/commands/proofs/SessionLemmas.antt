@@ -5,17 +5,18 @@ use Rattle.std.proofs.KnownBytes.{Appends-nil, Appends-trans}
 use Rattle.std.proofs.Transfers.{drop-appended}
 use Rattle.std.proofs.lemmas.List.{map-append, take-append-le, drop_all, length-map}
 use Rattle.std.proofs.Math.Seq.{drop-cons, take-append-add}
-use Rattle.std.specs.Prelude.{IfErr}
+use Rattle.std.specs.Prelude.{IfErr, is_some}
 use Rattle.streams.specs.Bytes.{AppendsFront, Gave}
 use Rattle.instruct.specs.declared.Profile.{Profile}
 use Rattle.instruct.specs.Devices.{word_of}
 use Rattle.instruct.specs.declared.devices.DeviceOperation.TheVariants.{ClearPrinterFlag, ClearPrinterFlagAndPrint, ClearPunchFlag, ClearPunchFlagAndPunch, Print, Punch, ReadReaderBuffer, SetPrinterFlag}
+use Rattle.processor.specs.Machine.{State}
 use Rattle.peripherals.specs.declared.Event.{Event}
 use Rattle.peripherals.specs.declared.Event.TheVariants.{Step, Key, PrinterDone, ReaderDone, PunchDone, Switches, Continue}
 use Rattle.peripherals.specs.declared.Seen.{Seen}
 use Rattle.peripherals.specs.declared.Seen.TheVariants as seen
 use Rattle.peripherals.specs.Devices.{Devices, Writer, WorldState, Instructs, word_at_pc, devices_after, fetches, clears_keyboard, given, fetched, with_writer_flag, with_reader_flag, with_keyboard_flag}
-use Rattle.peripherals.specs.Events.{Happens, Steps, done}
+use Rattle.peripherals.specs.Events.{Happens, Steps, completed, done, with_devices}
 use Rattle.peripherals.specs.Operator.{Plan, due, first_due, frame_due, key_due, left_after, round_due}
 use Rattle.peripherals.specs.Seen.{puts_out, seen_of}
 use Rattle.commands.specs.declared.follow.End.{End}
@@ -33,7 +34,7 @@ use Rattle.commands.specs.Running.{fresh, status_of}
 use Rattle.commands.specs.Session.{AppendsSome, Comes, Over, Cut, Final, Then, Extent, Whole, UpToOutput, UpToAny, MayEnd, extent_after, summary_where, Operated, BrokeOff, FrontsOf, IsSession, IsSessionOf, NothingOrFronts, SessionFronts, WritesAll, character, plan_for, printed_in, taken, Taken, Failures, failures}
 use Rattle.commands.specs.Summary.{summary}
 use Rattle.commands.specs.SessionParts.{IsPartOf, Played, Unplayed, Faltered, PlayedFront, printed_from}
-use Rattle.commands.specs.Trace.{trace_of, traced}
+use Rattle.commands.specs.Trace.{line_of, trace_of, traced}
 use Rattle.commands.proofs.FollowLemmas.{Came, came_none, came_all, joined, leads_both, leads_one, front_after, no_line, one_by}
 
 pub or_left : (a b : Bool) → a || b ≡ false → a ≡ false
@@ -700,6 +701,70 @@ pub sat_still : (p : Profile) (trace : Bool) (plan now after : Plan) (last new_l
 sat_still p trace plan now after last new_last e w x y n what old mid new told tmid tells sat is left next played goes none =
     let more : Sat p trace plan after new_last w y (n + counted what) old new told tells = sat_more p trace plan now after last new_last e w x y n what old mid new told tmid tells sat is left next played goes in
     rw (none, add-zero n) at more
+
+-- what is seen of an event that changes a device, where it is enabled
+abbrev device_seen : Bool → Seen
+device_seen enabled = if enabled then seen.Changed else seen.NotEnabled
+
+device_goes : (enabled : Bool) → goes_on true (device_seen enabled) ≡ true
+device_goes true = refl
+device_goes false = refl
+
+device_counts : (enabled : Bool) → counted (device_seen enabled) ≡ 0
+device_counts true = refl
+device_counts false = refl
+
+device_line : (p : Profile) (enabled trace : Bool) (at word : ℕ) (s : State) → traced trace (line_of p (device_seen enabled) at word s) ≡ []
+device_line p true true at word s = refl
+device_line p true false at word s = refl
+device_line p false true at word s = refl
+device_line p false false at word s = refl
+
+-- such an event writes nothing, and prints nothing where the output stays
+device_played : (p : Profile) (trace : Bool) (w x : WorldState) (e : Event) (enabled : Bool) (told tells : Option (List ℕ)) →
+    Happens p w e x → seen_of p w e ≡ device_seen enabled → x.devices.printer.output ≡ w.devices.printer.output → Played p trace w e (device_seen enabled) x told told tells tells
+device_played p trace w x e enabled told tells happens is same = record {
+  happens = happens;
+  sees = sym is;
+  wrote = rw (is, device_line p enabled trace w.state.pc (word_at_pc w) x.state) (Appends-nil told);
+  printed = rw (same, drop_all (length w.devices.printer.output) w.devices.printer.output (le_refl (length w.devices.printer.output))) (Appends-nil tells);
+}
+
+output_stays : (busy : Bool) (d : Writer) → (if busy then record d { busy = false; flag = true } else d).output ≡ d.output
+output_stays true d = refl
+output_stays false d = refl
+
+abbrev printer_done : WorldState → WorldState
+printer_done w = with_devices w (record w.devices { printer = done w.devices.printer })
+
+-- after an instruction the printer gets done, and the punch
+pub sat_completed : (p : Profile) (trace : Bool) (plan now : Plan) (w x : WorldState) (n : ℕ) (old new told tells : Option (List ℕ)) →
+    Sat p trace plan now (Some Step) w x n old new told tells → Sat p trace plan now (Some PunchDone) w (completed x) n old new told tells
+sat_completed p trace plan now w x n old new told tells sat =
+    let mid = printer_done x in
+    let printed : Played p trace x PrinterDone (device_seen x.devices.printer.busy) mid new new tells tells =
+    device_played p trace x mid PrinterDone x.devices.printer.busy new tells refl refl (output_stays x.devices.printer.busy x.devices.printer) in
+    let punched : Played p trace mid PunchDone (device_seen mid.devices.punch.busy) (completed x) new new tells tells =
+    device_played p trace mid (completed x) PunchDone mid.devices.punch.busy new tells refl refl refl in
+    let half : Sat p trace plan now (Some PrinterDone) w mid n old new told tells =
+    sat_still p trace plan now now (Some Step) (Some PrinterDone) PrinterDone w x mid n (device_seen x.devices.printer.busy) old new new told tells tells
+    sat refl refl refl printed (device_goes x.devices.printer.busy) (device_counts x.devices.printer.busy) in
+    sat_still p trace plan now now (Some PrinterDone) (Some PunchDone) PunchDone w mid (completed x) n (device_seen mid.devices.punch.busy) old new new told tells tells
+    half refl refl refl punched (device_goes mid.devices.punch.busy) (device_counts mid.devices.punch.busy)
+
+not_ran : (enabled : Bool) → seen.Ran ≡ device_seen enabled → ⊥
+not_ran true is = cc
+not_ran false is = cc
+
+-- an instruction was carried out by a step alone
+pub ran_is_step : (p : Profile) (w : WorldState) (e : Event) → seen.Ran ≡ seen_of p w e → e ≡ Step
+ran_is_step p w Step is = refl
+ran_is_step p w (Key byte) is = absurd (not_ran true is)
+ran_is_step p w PrinterDone is = absurd (not_ran w.devices.printer.busy is)
+ran_is_step p w (ReaderDone byte) is = absurd (not_ran w.devices.reader.fetching is)
+ran_is_step p w PunchDone is = absurd (not_ran w.devices.punch.busy is)
+ran_is_step p w (Switches word) is = absurd (not_ran true is)
+ran_is_step p w Continue is = absurd (not_ran (is_some w.halted_at) is)
 
 -- where a write failed, or memory was refused, what holds of a fault holds
 pub of_failure : {T X : Type 0} (r : Result T Fault) → fails_to_write r ≡ true → OnErr r X → X

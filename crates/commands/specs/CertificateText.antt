@@ -5,7 +5,8 @@ use Rattle.certificate.specs.Made.{migrated}
 use Rattle.certificate.specs.Reading.{AreLines}
 use Rattle.certificate.specs.Spelling.{Lines, text as spelled}
 use Rattle.declaration.specs.Declaration.{Declaration}
-use Rattle.commands.specs.Inputs.{HasCertificate, HasDeclaration, IsGoodTape}
+use Rattle.commands.specs.CheckText.{IsYes, checked_case}
+use Rattle.commands.specs.Inputs.{HasCertificate, HasDeclaration, HasImage}
 
 -- The bytes are a certificate's; this is the text of that certificate in version 2.
 pub record IsMigrated (certificate : Option (List ℕ)) (text : List ℕ) : Type 0 where
@@ -14,9 +15,11 @@ pub record IsMigrated (certificate : Option (List ℕ)) (text : List ℕ) : Type
   pub text_is : text ≡ spelled (migrated lines)
 
 -- The frames are a tape, the text is that of a declaration; this is the text of some certificate, in the version of the
--- declared machine, with no more bytes than are read of one.
+-- declared machine, with no more bytes than are read of one, of which every condition holds: no run of the tape's program
+-- breaks the declaration.
 pub record IsGuess (frames text : Option (List ℕ)) (guess : List ℕ) : Type 0 where
-  pub tape : IsGoodTape frames
+  pub image : List (Option ℕ)
+  pub tape : HasImage frames image
   pub declaration : Declaration
   pub declares : HasDeclaration text declaration
   pub lines : Lines
@@ -24,3 +27,4 @@ pub record IsGuess (frames text : Option (List ℕ)) (guess : List ℕ) : Type 0
   pub version_is : lines.version ≡ version_of declaration.profile
   pub guess_is : guess ≡ spelled lines
   pub short : length guess ≤ 1048576
+  pub accepted : IsYes (checked_case image declaration lines)

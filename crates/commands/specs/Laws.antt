@@ -38,6 +38,14 @@ RunsEnd =
     (options : RunOptions) (ends_at_halt : Bool) (events : List Event) (image : List (Option ℕ)) → AllByRecursion Carries events →
     (text : List ℕ) × (status : Status) × IsRunOf options ends_at_halt events image text status
 
+-- There is no other such text and no other status.
+abbrev pub RunsAreOne : Type 0
+RunsAreOne =
+    (options : RunOptions) (ends_at_halt : Bool) (events : List Event) (image : List (Option ℕ))
+    (text text' : List ℕ) (status status' : Status) →
+    IsRunOf options ends_at_halt events image text status → IsRunOf options ends_at_halt events image text' status' →
+    (text ≡ text') × (status ≡ status')
+
 -- What is still to come is bytes, and a word on the switches.
 pub record CarriesAll (plan : Plan) : Type 0 where
   pub switches : IfSome plan.switches (λ word. word < 4096)
@@ -51,6 +59,15 @@ SessionsEnd =
     (options : RunOptions) (plan : Plan) (image : List (Option ℕ)) → CarriesAll plan →
     (text : List ℕ) × (printed : List ℕ) × (punched : List ℕ) × (status : Status) ×
     IsSessionOf options Whole plan image text printed punched status
+
+-- There is no other such end.
+abbrev pub SessionsAreOne : Type 0
+SessionsAreOne =
+    (options : RunOptions) (plan : Plan) (image : List (Option ℕ))
+    (text text' printed printed' punched punched' : List ℕ) (status status' : Status) →
+    IsSessionOf options Whole plan image text printed punched status →
+    IsSessionOf options Whole plan image text' printed' punched' status' →
+    (text ≡ text') × (printed ≡ printed') × (punched ≡ punched') × (status ≡ status')
 
 -- Sources that tell their bytes, which are these parts.
 abbrev pub telling : List (List ℕ) → List (Option (List ℕ))

@@ -1,6 +1,6 @@
 -- What `check --why` writes after the verdict: the word that breaks the condition, what the condition asks, and why it
 -- fails.
-use Rattle.std.specs.Prelude.{ℕ, ◌≡◌, ◌++◌, codes, decimal, List, [], Option, Some, None, IfSome, Result, Ok, Err}
+use Rattle.std.specs.Prelude.{ℕ, ◌≡◌, ◌++◌, codes, decimal, true, List, [], Option, Some, None, is_some, IfSome, Result, Ok, Err}
 use Rattle.word12.specs.Words.{octal_text}
 use Rattle.instruct.specs.declared.Profile.{Profile}
 use Rattle.bin_tape.specs.Image.{word_at}
@@ -11,8 +11,9 @@ use Rattle.facts.specs.declared.names.Name.{Name}
 use Rattle.facts.specs.declared.names.Name.TheVariants as name
 use Rattle.facts.specs.declared.names.Equation.{Equation}
 use Rattle.certificate.specs.Spelling.{Lines, fact_text_at}
-use Rattle.judge.specs.Conditions.{Case}
+use Rattle.judge.specs.Conditions.{Case, IsFirst}
 use Rattle.judge.specs.declared.judging.Refusal.{Refusal}
+use Rattle.reasons.specs.Always.{is_always_explained}
 use Rattle.reasons.specs.Reasons.{Explains}
 use Rattle.reasons.specs.declared.gap.Gap.{Gap}
 use Rattle.reasons.specs.declared.gap.Gap.TheVariants as gap
@@ -149,10 +150,15 @@ abbrev pub fact_shown : Lines → Result (Unit {0}) Refusal → List ℕ
 fact_shown lines (Ok _) = []
 fact_shown lines (Err r) = fact_text_at lines r.address
 
+-- The reason is why the condition fails; where it fails first and asks for no fact to be wide enough, one is told.
+pub record IsReasonFor (j : Case) (r : Refusal) (reason : Option Reason) : Type 0 where
+  pub explains : IfSome reason (Explains j r.condition r.address)
+  pub found : is_always_explained r.condition ≡ true → IsFirst j r.condition r.address → is_some reason ≡ true
+
 -- The reason is why the verdict is no.
 abbrev pub IsReason : Case → Result (Unit {0}) Refusal → Option Reason → Type 0
 IsReason j (Ok _) reason = reason ≡ None
-IsReason j (Err r) reason = IfSome reason (Explains j r.condition r.address)
+IsReason j (Err r) reason = IsReasonFor j r reason
 
 -- The frames are a tape, the texts a declaration and a certificate; the text is the line of their verdict, why it is, and the
 -- fact there.

@@ -12,9 +12,9 @@ use crate::status::{Fault, Status};
 use std::alloc::Allocator;
 use streams::{ByteSink, ByteSource};
 
-/// Looks for a certificate that may show that no run of a tape breaks its declaration, and writes
-/// its text: of version 1 for a PDP-8/I, of version 2 for a PDP-8/E. What is written is a
-/// certificate; that [`check`](crate::checking::check) says yes to it isn't promised.
+/// Looks for a certificate that shows that no run of a tape breaks its declaration, and writes its
+/// text: of version 1 for a PDP-8/I, of version 2 for a PDP-8/E. Every condition holds of it, so
+/// [`check`](crate::checking::check) says yes to it; that one is found isn't promised.
 ///
 /// # Errors
 ///
@@ -31,7 +31,8 @@ pub fn guess<A: Allocator + Copy, R: ByteSource, D: ByteSource, W: ByteSink>(
     requires readable { R.mark tape.old ≡ false }
     requires declaration_readable { D.mark declaration.old ≡ false }
     requires writable { W.mark out.old ≡ false }
-    // What is written is the text of a certificate, in the version of the declared machine.
+    // What is written is the text of a certificate, in the version of the declared machine, of which
+    // every condition holds.
     ensures done { IfOk result (λ status. status ≡ Done) }
     ensures guessed { OnOk result (Writes
         (IsGuess (R.remaining tape.old) (D.remaining declaration.old))

@@ -1,19 +1,22 @@
 //! Laws over the definitions alone. Each is the contract of a function that does nothing.
 
-ghost use Rattle.commands.specs.Laws.{EmptyHasNoTape, FaultIsNotWritten, FaultIsTheOne, FaultIsTold, MeantIsListed, MeantIsRead, MeantIsWritten, ReadIsMeant, RunsEnd, SessionsEnd, TapeIsOne, TapeIsThere};
+ghost use Rattle.commands.specs.Laws.{EmptyHasNoTape, FaultIsNotWritten, FaultIsTheOne, FaultIsTold, MeantIsListed, MeantIsRead, MeantIsWritten, ReadIsMeant, RunsAreOne, RunsEnd, SessionsAreOne, SessionsEnd, TapeIsOne, TapeIsThere};
 
 use pal_asm::laws::answers_are_one;
 
-/// From every image each list of events has a run, with its text and its status. So what a run is
-/// said to write is there, whatever the tape does.
+/// From every image each list of events has a run, with its text and its status, and has no other.
+/// So what a run is said to write is there, whatever the tape does.
 pub fn runs_end()
-    ensures { RunsEnd }
+    ensures end { RunsEnd }
+    ensures one { RunsAreOne }
 {}
 
 /// Whatever tape an operator puts into the reader and whatever keys are struck, a run of so many
-/// rounds comes to an end. So what a run with an operator is said to write is there.
+/// rounds comes to an end, and to no other. So what a run with an operator is said to write is
+/// there.
 pub fn sessions_end()
-    ensures { SessionsEnd }
+    ensures end { SessionsEnd }
+    ensures one { SessionsAreOne }
 {}
 
 /// From a source to its tape and to the image that is read of the tape is one function, in both

@@ -157,7 +157,10 @@ fn operate<A: Allocator, W: ByteSink, T: ByteSink, P>(
     let mut steps = 0;
     while let Some(event) = operator.next(world) {
         match play(world, out, trace, event)? {
-            Seen::Ran => steps += 1,
+            Seen::Ran => {
+                steps += 1;
+                operator.complete(world);
+            }
             Seen::Halted => {
                 return Ok(Outcome {
                     steps: steps + 1,

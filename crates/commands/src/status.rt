@@ -22,7 +22,8 @@ use thiserror::Error;
 pub enum Status {
     /// Done.
     Done = 0,
-    /// An input was refused, a run ended at an unsupported word, or a watched run broke a rule.
+    /// An input was refused, a run ended at an unsupported word, a watched run broke a rule, a
+    /// condition fails, a search found nothing, or a proposal isn't shown to be kept.
     Refused = 1,
     /// The program's words were bad.
     Words = 2,

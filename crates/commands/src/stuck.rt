@@ -1,6 +1,6 @@
 //! The command that guesses a certificate and says why the search is stuck.
 
-ghost use Rattle.std.specs.Prelude.{◌≡◌, ◌⊎◌, ◌||◌, ◌++◌, false, true, IfOk, IfErr, OnErr, OnOk};
+ghost use Rattle.std.specs.Prelude.{◌≡◌, ◌⊎◌, ◌||◌, ◌++◌, false, true, IfOk, IfErr, OnErr, OnOk, Ok};
 ghost use Rattle.declaration.specs.Kept.{meaning};
 ghost use Rattle.certificate.specs.Kept.{meaning as lines_of};
 ghost use Rattle.commands.specs.CertificateText.{IsGuess};
@@ -108,7 +108,8 @@ pub fn guess_or_explain<
     requires reportable { E.mark report.old ≡ false }
     // It's done where a certificate is found, and refused where the search is stuck.
     ensures statuses { IfOk result (λ status. (status ≡ Done) ⊎ (status ≡ Refused)) }
-    // What is written is the text of a certificate, in the version of the declared machine,
+    // What is written is the text of a certificate of which every condition holds, in the version of
+    // the declared machine,
     ensures guessed { IfOk result (λ status. status ≡ Done → Writes
         (IsGuess (R.remaining tape.old) (D.remaining declaration.old))
         (W.taken out.old) (W.taken out.new)) }
@@ -116,6 +117,8 @@ pub fn guess_or_explain<
     ensures stuck { IfOk result (λ status. status ≡ Refused → E.mark report.new ≡ false → Writes
         (IsStuck (R.remaining tape.old) (D.remaining declaration.old))
         (E.taken report.old) (E.taken report.new)) }
+    // Where the write of the report failed the status is as it would have been.
+    ensures report_failed { E.mark report.new ≡ true → result ≡ Ok Refused }
     // Only where the search is stuck is anything reported, and nothing is written then.
     ensures unreported { IfOk result (λ status. status ≡ Done → report.new ≡ report.old) }
     ensures unreported_fault { OnErr result (report.new ≡ report.old) }

@@ -25,7 +25,7 @@ pub gathered_fit : {S : Type 0} (say : S → Contents) (s t : S) (lines : List (
 gathered_fit say s t lines none all e is =
     let g = gathers say s t lines none all in entries_fit lines g.lines g.good.say e (subst (λ (x : Contents). is_entry x e ≡ true) (sym g.together) is)
 
-at_line : (text : List ℕ) (fault : DeclarationFault) → FailsAtLine text fault → Fails text fault
+pub at_line : (text : List ℕ) (fault : DeclarationFault) → FailsAtLine text fault → Fails text fault
 at_line text (BadLine n) f = f
 at_line text (TwoStarts n) f = f
 at_line text (TwoProfiles n) f = f

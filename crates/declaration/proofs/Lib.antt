@@ -5,4 +5,5 @@ pub mod IsDeclaredLemmas
 pub mod EntryLemmas
 pub mod FaultLemmas
 pub mod VerdictLemmas
+pub mod AnswerLemmas
 mod OwnerLemmas

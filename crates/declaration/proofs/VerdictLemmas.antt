@@ -167,7 +167,7 @@ verdict-rule : (text : List ℕ) (fault : DeclarationFault) → FailsAtRule text
 verdict-rule text fault f = verdict-all text f.lines f.good ∙ rule-broken (contents f.lines) fault f.fails
 
 -- a text that isn't too long and fails for no want of memory has its fault as its verdict
-verdict-fails : (text : List ℕ) (fault : DeclarationFault) → length text ≤ most_bytes → Fails text fault → fault ≢ NoMemory → verdict text ≡ Some fault
+pub verdict-fails : (text : List ℕ) (fault : DeclarationFault) → length text ≤ most_bytes → Fails text fault → fault ≢ NoMemory → verdict text ≡ Some fault
 verdict-fails text (BadLine n) short f known = verdict-line text (BadLine n) f known
 verdict-fails text (TwoStarts n) short f known = verdict-line text (TwoStarts n) f known
 verdict-fails text (TwoProfiles n) short f known = verdict-line text (TwoProfiles n) f known
@@ -200,7 +200,7 @@ is_memory StartNotInMain = inr (λ e. cc)
 is_memory (HaltNotInBody a) = inr (λ e. cc)
 
 -- a text that has a declaration fails by want of memory alone
-only_memory : (text : List ℕ) (d : Declaration) (fault : DeclarationFault) → Declares text d → Fails text fault → fault ≡ NoMemory
+pub only_memory : (text : List ℕ) (d : Declaration) (fault : DeclarationFault) → Declares text d → Fails text fault → fault ≡ NoMemory
 only_memory text d fault s f = elim (is_memory fault) [
   | inl e ↦ e
   | inr known ↦ let a = verdict-declares text d s in let b = verdict-fails text fault s.good.short f known in absurd (cc)

@@ -3,3 +3,4 @@ pub mod Kept
 pub mod Lines
 pub mod Text
 pub mod Drafts
+pub mod Laws

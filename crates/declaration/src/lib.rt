@@ -23,6 +23,7 @@ use wordset::WordSet;
 
 mod coverage;
 mod drafts;
+pub mod laws;
 mod lines;
 
 /// The most bytes of a declaration.

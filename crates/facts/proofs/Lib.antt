@@ -22,3 +22,4 @@ pub mod DispatchLemmas
 pub mod EachLemmas
 pub mod AskedLemmas
 pub mod CallLemmas
+mod AccessLemmas

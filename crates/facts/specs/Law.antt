@@ -46,7 +46,7 @@ SomeOutcome p [] = ⊥
 SomeOutcome p (o ∷ os) = p o ⊎ SomeOutcome p os
 
 -- From a state of a fact, a step by the word at the program counter, whose writes are as asked, lands in an outcome; a JMS,
--- a return and a HLT at a stop apart.
+-- a return and a HLT that isn't at a pause apart.
 abbrev pub StepLaw : Type 0
 StepLaw =
     (pl : Place) (start : Cells) (f : Fact) (s t : State) (q : Answer) (ks : Calls) →

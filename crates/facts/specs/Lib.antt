@@ -10,3 +10,4 @@ pub mod Meaning
 pub mod Showing
 pub mod Places
 pub mod Slots
+pub mod Access

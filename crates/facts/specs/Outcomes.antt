@@ -75,8 +75,9 @@ tad_fact pl f p =
 abbrev pub tad : Place → ℕ → Fact → Words → List Outcome
 tad pl at f p = goes p f everything (one (plus at 1)) (tad_fact pl f p)
 
--- ISZ of one variable: it skips where the variable was 7777, and otherwise leaves it not zero. ISZ of the running
--- routine's own entry counts the offsets up. ISZ of several variables counts an unknown one of them up.
+-- ISZ of one variable: it skips where the variable was 7777, and otherwise leaves it not zero. ISZ of any other one cell
+-- counts the offsets up: the only such cell that the conditions let it write is the running routine's own entry. ISZ of
+-- several cells counts an unknown one of them up.
 abbrev pub isz_case : Place → ℕ → Fact → Words → Option ℕ → List Outcome
 isz_case pl at f p (Some y) =
     if pl.declaration.variable y

@@ -159,9 +159,10 @@ impl<A: Allocator> Place<'_, A> {
     }
 }
 
-/// The outcomes of a word that stands at the address of a fact: what may come of it wherever the
-/// fact holds. They come in the order of the definition, and those that can't come about are left
-/// out: where the word has no meaning there are none.
+/// The outcomes of a word that stands at the address of a fact: what may come of it from a state of
+/// the fact, where its writes are declared and change no entry but for an ISZ of the routine's own
+/// (`step_law` says so). A HLT at a stop has none. They come in the order of the definition, and
+/// those that can't come about are left out: where the word has no meaning there are none.
 pub fn outcomes<'a, A: Allocator>(
     fact: &'a Fact,
     at: Word,

@@ -1,6 +1,7 @@
 //! Facts about a running program, and what each instruction makes of them.
 #![tactic(auto)]
 
+ghost use Rattle.facts.specs.Access.{CallsAreForeseen, EntailedFactsHold, ReadsAreForeseen, WordsAreForeseen, WritesAreForeseen};
 ghost use Rattle.facts.specs.Law.{StepLaw};
 ghost use Rattle.facts.specs.Starts.{StartLaw};
 ghost use Rattle.facts.specs.Same.{SameLaw};
@@ -77,6 +78,21 @@ pub enum Condition {
 /// keep the entries; a JMS, a JMP I through an entry and a HLT that isn't at a pause are apart.
 pub fn step_law()
     ensures { StepLaw }
+{}
+
+/// The access law: whatever the step at a state of a fact reads, writes or calls is among what the
+/// fact says that its word may, and a cell that is no entry holds a word that is possible there. It
+/// is asked of words whose writes are declared, since one of them may be a pointer that is stepped.
+pub fn access_law()
+    ensures reads { ReadsAreForeseen }
+    ensures writes { WritesAreForeseen }
+    ensures calls { CallsAreForeseen }
+    ensures words { WordsAreForeseen }
+{}
+
+/// A fact holds wherever one holds that entails it.
+pub fn entail_law()
+    ensures { EntailedFactsHold }
 {}
 
 /// The test `holds_before` is true exactly where a fact holds of every start: whatever the

@@ -114,8 +114,8 @@ impl<A: Allocator> Place<'_, A> {
     }
 }
 
-/// The outcome of a word that has one at most, and that stands at the address of a fact: what may
-/// come of it wherever the fact holds. None where it can't come about, or the word has no meaning.
+/// The outcome of a word that has one at most, and that stands at the address of a fact: what
+/// `outcomes` would give alone. None where it can't come about, or the word has no meaning.
 pub fn single_outcome<'a, A: Allocator>(
     fact: &'a Fact,
     at: Word,

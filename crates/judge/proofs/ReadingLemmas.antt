@@ -1,16 +1,15 @@
 -- Tape, declaration and certificate are read in one way: whatever parts the bytes have, the same conditions hold of them.
-use Rattle.std.proofs.Common.{◌≡◌, ℕ, ◌+◌, ◌*◌, ◌<◌, ◌≤◌, ◌==◌, Bool, true, false, List, [], ◌∷◌, length, map, Option, Some, None, refl, sym, ap, ◌∙◌, subst, inl, inr, arith}
+use Rattle.std.proofs.Common.{◌≡◌, ℕ, ◌+◌, ◌*◌, ◌<◌, ◌≤◌, ◌==◌, Bool, true, false, List, [], ◌∷◌, length, refl, sym, ap, ◌∙◌, subst, inl, inr, arith}
 use Rattle.std.proofs.Math.Path.{fun_ext}
 use Rattle.std.proofs.lemmas.Bool.{cases_order}
 use Rattle.std.specs.Prelude.{if◌then◌else◌}
-use Rattle.instruct.specs.declared.Profile.{Profile}
 use Rattle.wordset.specs.Words.{Words}
 use Rattle.wordset.proofs.SetLemmas.{equal_words}
 use Rattle.processor.specs.Runs.{Image}
 use Rattle.peripherals.specs.Loading.{image_of}
-use Rattle.declaration.specs.Declaration.{Routine, Declaration}
-use Rattle.declaration.specs.Lines.{Line}
-use Rattle.declaration.specs.Text.{Contents, contents, Says, Declares, ListsRoutines}
+use Rattle.declaration.specs.Declaration.{Declaration}
+use Rattle.declaration.specs.Text.{Declares, ListsRoutines}
+use Rattle.declaration.proofs.AnswerLemmas.{one_declaration}
 use Rattle.facts.specs.Facts.{Fact}
 use Rattle.facts.specs.declared.Condition.{Condition}
 use Rattle.facts.specs.declared.Condition.TheVariants.{V1, V2, V3, V4, V5, V6, V7, V8, V9, V10, V11, V12, V13, V14, V15}
@@ -34,55 +33,6 @@ use Rattle.judge.specs.Certifying.{Parts, AreRead, IsTapeOf, case_of, declaratio
 use Rattle.judge.specs.declared.judging.Refusal.{Refusal}
 use Rattle.judge.proofs.OrderLemmas.{IsLater, start_or_later, order_of}
 use Rattle.judge.proofs.RestatedLemmas.{Restates, restated, asked_as_to, holds_to}
-
--- ---- a text declares one declaration
-
-all_some : (xs ys : List Line) → map Some xs ≡ map Some ys → xs ≡ ys
-all_some [] [] e = refl
-all_some [] (y ∷ ys) e = absurd (cc)
-all_some (x ∷ xs) [] e = absurd (cc)
-all_some (x ∷ xs) (y ∷ ys) e =
-    let here : x ≡ y = cc in
-    let others : map Some xs ≡ map Some ys = cc in
-    let rest : xs ≡ ys = all_some xs ys others in
-    cc
-
-abbrev declared : ℕ → (Routine → Words) → Words → (ℕ → Words) → Words → Words → Words → Profile → Option Words → Declaration
-declared s b e o v t u p q = record { start = s; body = b; entry = e; offset = o; variable = v; stop = t; pause = u; profile = p; reads = q }
-
-same_declared : {s s' : ℕ} {b b' : Routine → Words} {e e' : Words} {o o' : ℕ → Words} {v v' t t' u u' : Words} {p p' : Profile} {q q' : Option Words}
-    → s ≡ s' → b ≡ b' → e ≡ e' → o ≡ o' → v ≡ v' → t ≡ t' → u ≡ u' → p ≡ p' → q ≡ q' → declared s b e o v t u p q ≡ declared s' b' e' o' v' t' u' p' q'
-same_declared es eb ee eo ev et eu ep eq = rw (es, eb, ee, eo, ev, et, eu, ep, eq) refl
-
-one_start : {s t : ℕ} {xs : List ℕ} → xs ≡ s ∷ [] → xs ≡ t ∷ [] → s ≡ t
-one_start e h = cc
-
-says_one : (c : Contents) (d e : Declaration) → Says c d → Says c e → d ≡ e
-says_one c d e s t =
-    let start : d.start ≡ e.start = one_start s.start t.start in
-    let body : d.body ≡ e.body = fun_ext (λ r. bodies r) in
-    let entry : d.entry ≡ e.entry = fun_ext (λ a. s.entry a ∙ sym (t.entry a)) in
-    let offset : d.offset ≡ e.offset = fun_ext (λ a. offsets a) in
-    let variable : d.variable ≡ e.variable = s.variable ∙ sym t.variable in
-    let stop : d.stop ≡ e.stop = s.stop ∙ sym t.stop in
-    let pause : d.pause ≡ e.pause = s.pause ∙ sym t.pause in
-    let profile : d.profile ≡ e.profile = s.profile ∙ sym t.profile in
-    let reads : d.reads ≡ e.reads = s.reads ∙ sym t.reads in
-    let all : declared d.start d.body d.entry d.offset d.variable d.stop d.pause d.profile d.reads ≡ declared e.start e.body e.entry e.offset e.variable e.stop e.pause e.profile e.reads =
-    same_declared start body entry offset variable stop pause profile reads in
-    all
-  where
-    bodies : (r : Routine) → d.body r ≡ e.body r
-    bodies None = s.main ∙ sym t.main
-    bodies (Some q) = fun_ext (λ a. s.body q a ∙ sym (t.body q a))
-
-    offsets : (a : ℕ) → d.offset a ≡ e.offset a
-    offsets a = fun_ext (λ o. s.offset a o ∙ sym (t.offset a o))
-
-pub one_declaration : (bytes : List ℕ) (d e : Declaration) → Declares bytes d → Declares bytes e → d ≡ e
-one_declaration bytes d e s t =
-    let lines : s.lines ≡ t.lines = all_some s.lines t.lines (sym s.good.good.say ∙ t.good.good.say) in
-    says_one (contents t.lines) d e (subst (λ (ls : List Line). Says (contents ls) d) lines s.says) t.says
 
 -- ---- a text claims one certificate, but that facts have the same words alone
 

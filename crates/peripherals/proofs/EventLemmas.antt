@@ -1,10 +1,11 @@
 -- The fault of a text of events, as one function of its lines, and that no other fits.
-use Rattle.std.proofs.Common.{ℕ, ◌≡◌, ◌≢◌, ◌<◌, ◌≤◌, ◌+◌, List, [], ◌∷◌, ◌++◌, length, arith, refl, sym, ◌∙◌, ap, Option, Some, None, cond, ltb, Result, Ok, Err, IfOk, IfErr, ◌⊎◌, inl, inr, append_assoc, append-nil, add-zero, length-append}
-use Rattle.std.proofs.lemmas.Bool.{le-ltb, lt-ltb}
+use Rattle.std.proofs.Common.{ℕ, ◌≡◌, ◌≢◌, ◌<◌, ◌≤◌, ◌+◌, List, [], ◌∷◌, ◌++◌, length, arith, refl, subst, sym, ◌∙◌, ap, Option, Some, None, cond, ltb, Result, Ok, Err, IfOk, IfErr, ◌⊎◌, inl, inr, append_assoc, append-nil, add-zero, length-append}
+use Rattle.std.proofs.lemmas.Bool.{cases_lt, le-ltb, lt-ltb}
 use Rattle.peripherals.specs.declared.Event.{Event}
 use Rattle.peripherals.specs.declared.event_text.EventsFault.{EventsFault}
 use Rattle.peripherals.specs.declared.event_text.EventsFault.TheVariants.{BadLine, TooMany, NoMemory}
 use Rattle.peripherals.specs.Repeated.{Adds}
+use Rattle.peripherals.specs.Laws.{EventsAreOne, EventsFaultIsOne, EventsAreNoFault, EachEventTextIsAnswered}
 use Rattle.streams.specs.Text.{text_lines}
 use Rattle.streams.specs.Taking.{TakesAll, RefusesFirst}
 use Rattle.streams.proofs.TakingLemmas.{takes_keep}
@@ -112,3 +113,58 @@ pub fails_text : {S : Type 0} (list : S → List Event) (s u : S) (text : List �
 fails_text list s u text fault short none f =
     let good = spelt list s f.t f.before none f.taken in
     at_line text fault (record { before = f.before; line = f.line; number = f.number; events = list f.t; good = record { short = short; stands = f.stands; spells = good.0; few = good.1 }; fails = f.refused })
+
+-- ---- each text has one answer
+
+-- lines spell one list of events
+lines_are_one : (ls : List (List ℕ)) (es fs : List Event) → LinesSpell ls es → LinesSpell ls fs → es ≡ fs
+lines_are_one [] es fs a b = a ∙ sym b
+lines_are_one (l ∷ ls) es fs a b =
+    let first : a.0 ≡ b.0 = let p = a.2 in let q = b.2 in cc in
+    let others : a.1 ≡ b.1 = lines_are_one ls a.1 b.1 a.3 b.3 in
+    a.4 ∙ (ap (λ z. z ++ a.1) first ∙ (ap (λ z. b.0 ++ z) others ∙ sym b.4))
+
+pub events_are_one : EventsAreOne
+events_are_one text es fs a b = lines_are_one (text_lines text) es fs a.spells b.spells
+
+pub fault_is_one : EventsFaultIsOne
+fault_is_one text f g known also a b = elim (same_fault text f g a b known) [ inl e ↦ sym e | inr e ↦ absurd (also e) ]
+
+pub events_are_no_fault : EventsAreNoFault
+events_are_no_fault text es fault known spells fails = known (only_memory text es fault spells fails)
+
+abbrev IsAnswered : List ℕ → Type 0
+IsAnswered text = ((events : List Event) × Spells text events) ⊎ ((fault : EventsFault) × (fault ≢ NoMemory) × Fails text fault)
+
+bad_is_none : (n : ℕ) → BadLine n ≢ NoMemory
+bad_is_none n e = cc
+
+many_is_none : TooMany ≢ NoMemory
+many_is_none e = cc
+
+-- a line after good ones is bad, brings too many events, or is good too
+at_next : (text : List ℕ) (before : List (List ℕ)) (l : List ℕ) (ls : List (List ℕ)) (es : List Event) → length text ≤ most_bytes → text_lines text ≡ before ++ l ∷ ls → LinesSpell before es → length es ≤ most_events
+    → (o : Option (List Event)) → line_events l ≡ o → ((more : List Event) → line_events l ≡ Some more → length (es ++ more) ≤ most_events → IsAnswered text) → IsAnswered text
+at_next text before l ls es short is spells few None none go =
+    let good : GoodBefore text before l (length before + 1) es = record { short = short; stands = record { after = ls; stands = is; counted = refl }; spells = spells; few = few } in
+    inr (BadLine (length before + 1), bad_is_none (length before + 1), record { before = before; line = l; number = length before + 1; events = es; good = good; fails = (refl, none) })
+at_next text before l ls es short is spells few (Some more) brings go = elim (cases_lt most_events (length es + length more)) [
+  | inl beyond ↦
+      let good : GoodBefore text before l (length before + 1) es = record { short = short; stands = record { after = ls; stands = is; counted = refl }; spells = spells; few = few } in
+      inr (TooMany, many_is_none, inr (record { before = before; line = l; number = length before + 1; events = es; good = good; fails = (more, brings, beyond) }))
+  | inr within ↦ go more brings (omega (arith, within, length-append es more))
+]
+
+each_from : (text : List ℕ) (before rest : List (List ℕ)) (es : List Event) → length text ≤ most_bytes → text_lines text ≡ before ++ rest → LinesSpell before es → length es ≤ most_events → IsAnswered text
+each_from text before [] es short is spells few =
+    let all : text_lines text ≡ before = is ∙ append-nil before in
+    inl (es, record { short = short; spells = subst (λ ls. LinesSpell ls es) (sym all) spells; few = few })
+each_from text before (l ∷ ls) es short is spells few =
+    at_next text before l ls es short is spells few (line_events l) refl
+    (λ more brings within. each_from text (before ++ l ∷ []) ls (es ++ more) short (is ∙ sym (append_assoc before (l ∷ []) ls)) (LinesSpell-push before es l more spells brings) within)
+
+pub each_is_answered : EachEventTextIsAnswered
+each_is_answered text = elim (cases_lt most_bytes (length text)) [
+  | inl long ↦ inr (TooMany, many_is_none, inl long)
+  | inr short ↦ each_from text [] (text_lines text) [] short refl refl (omega arith)
+]

@@ -2,3 +2,4 @@ pub mod LoadLemmas
 pub mod RunLemmas
 pub mod StepLemmas
 pub mod EventLemmas
+pub mod OneLemmas

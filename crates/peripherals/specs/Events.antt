@@ -21,6 +21,10 @@ read byte d = if d.fetching then record { flag = true; buffer = byte; fetching =
 abbrev pub with_devices : WorldState → Devices → WorldState
 with_devices w v = record w { devices = v }
 
+-- The printer gets done, and the punch.
+abbrev pub completed : WorldState → WorldState
+completed w = with_devices w (record w.devices { printer = done w.devices.printer; punch = done w.devices.punch })
+
 -- An instruction is tried while the machine runs; while it is halted nothing changes.
 pub record Steps (profile : Profile) (w x : WorldState) : Type 0 where
   pub runs : w.halted_at ≡ None → Instructs profile w x

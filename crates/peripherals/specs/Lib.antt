@@ -7,3 +7,4 @@ pub mod World
 pub mod EventText
 pub mod Repeated
 pub mod Operator
+pub mod Laws

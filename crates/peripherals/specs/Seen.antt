@@ -34,7 +34,7 @@ seen_of_enabled profile w _ = Changed
 abbrev pub seen_of : Profile → WorldState → Event → Seen
 seen_of profile w e = if is_enabled w e then seen_of_enabled profile w e else NotEnabled
 
--- A step that prints or punches: it alone takes memory.
+-- A step that prints or punches. No other event can be refused memory.
 abbrev pub puts_out : WorldState → Event → Bool
 puts_out w Step = is_none w.halted_at && (prints (word_at_pc w) || punches (word_at_pc w))
 puts_out w _ = false

@@ -7,12 +7,12 @@
 
 mod devices;
 mod event_text;
+pub mod laws;
 mod operator;
 mod world;
 
 ghost use Rattle.std.specs.Prelude.{◌≡◌};
 ghost use Rattle.processor.specs.Cells.{cell_of};
-ghost use Rattle.peripherals.specs.Runs.{EventsAreRuns};
 
 pub use devices::{Keyboard, Outlet, Panel, Reader};
 pub use event_text::{EventsFault, events};
@@ -98,8 +98,3 @@ impl Start {
         }
     }
 }
-
-/// Each list of events is a run of the instruction table, by some answers of the devices.
-pub fn events_are_runs()
-    ensures { EventsAreRuns }
-{}

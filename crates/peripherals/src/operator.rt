@@ -2,7 +2,9 @@
 
 ghost use Rattle.std.specs.Prelude.{◌≡◌, None, Some, IfSome, drop, map};
 ghost use Rattle.peripherals.specs.Operator.{due, due_after, first_due, frame_due, key_due, left_after, plan_of, round_due, struck_as};
-ghost use Rattle.peripherals.specs.World.{view};
+ghost use Rattle.peripherals.specs.World.{view, profile_of};
+ghost use Rattle.peripherals.specs.Events.{completed};
+ghost use Rattle.peripherals.specs.declared.Event.TheVariants.{Step, PunchDone};
 
 use crate::{Event, World};
 use std::alloc::Allocator;
@@ -120,6 +122,20 @@ impl<'t> Operator<'t> {
         self.use_up(&event);
         self.last = Some(event);
         Some(event)
+    }
+
+    /// After an instruction two events are due whatever it did, and both happen: the printer gets done,
+    /// and the punch.
+    #[inline(always)]
+    pub fn complete<A: Allocator>(&mut self, world: &mut World<A>)
+        requires stepped { self.old.last ≡ Some Step }
+        ensures done { view world.new ≡ completed (view world.old) }
+        ensures profile { profile_of world.new ≡ profile_of world.old }
+        ensures left { plan_of self.new ≡ plan_of self.old }
+        ensures last { self.new.last ≡ Some PunchDone }
+    {
+        world.complete();
+        self.last = Some(Event::PunchDone);
     }
 
     /// What an event uses up is gone.

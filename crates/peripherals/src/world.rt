@@ -4,7 +4,7 @@ ghost use Rattle.std.specs.Prelude.{ℕ, ◌≡◌, ◌<◌, None, IsTrue, IfOk,
 ghost use Rattle.processor.specs.Cells.{cell_of, AreWords};
 ghost use Rattle.processor.specs.Steps.{state_of};
 ghost use Rattle.peripherals.specs.declared.Event.{Event};
-ghost use Rattle.peripherals.specs.Events.{Happens, IsLoaded};
+ghost use Rattle.peripherals.specs.Events.{Happens, IsLoaded, completed};
 ghost use Rattle.peripherals.specs.Loading.{image_of, laid, loaded};
 ghost use Rattle.peripherals.specs.Seen.{seen_of, puts_out};
 ghost use Rattle.peripherals.specs.World.{view, profile_of, prints, punches, put_out};
@@ -150,6 +150,16 @@ impl<A: Allocator> World<A> {
         ensures { result ≡ (view self.now).devices.keyboard.flag }
     {
         self.panel.keyboard.flag
+    }
+
+    /// The printer and the punch get done.
+    #[inline(always)]
+    pub(crate) fn complete(&mut self)
+        ensures done { view self.new ≡ completed (view self.old) }
+        ensures profile { profile_of self.new ≡ profile_of self.old }
+    {
+        let _printed = self.panel.printer.finish();
+        let _punched = self.panel.punch.finish();
     }
 
     /// Tries one instruction of a machine that runs.

@@ -5,3 +5,4 @@ pub mod CodeLemmas
 pub mod WatchLemmas
 pub mod TellLemmas
 pub mod RunLemmas
+pub mod LawLemmas

@@ -6,3 +6,4 @@ pub mod Watching
 pub mod Decided
 pub mod OpenCalls
 pub mod WatchedSteps
+pub mod Laws

@@ -2,12 +2,13 @@
 #![tactic(auto)]
 
 mod actions;
+pub mod laws;
 mod legality;
 mod rules;
 mod runs;
 mod watcher;
 
 pub use declaration::{Declaration, DeclarationFault, Offsets, Routine};
-pub use rules::{Rule, unlisted_reads_are_kept};
+pub use rules::Rule;
 pub use runs::run_declared;
 pub use watcher::{Watched, watch};

@@ -1,7 +1,6 @@
 //! The seven rules that a declaration lays down for each step.
 
 ghost use Rattle.std.specs.Prelude.{◌≡◌};
-ghost use Rattle.policy.specs.Rules.{UnlistedReadsAreKept};
 ghost use Rattle.policy.specs.Watching.{number_of};
 
 /// A rule for the steps of a program. Where a step breaks several, the one with the least number is
@@ -41,8 +40,3 @@ impl Rule {
         }
     }
 }
-
-/// Where a declaration lists no reads, each step keeps the rule on reads.
-pub fn unlisted_reads_are_kept()
-    ensures { UnlistedReadsAreKept }
-{}

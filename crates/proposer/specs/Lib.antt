@@ -1,1 +1,3 @@
+pub mod Needed
 pub mod Proposals
+pub mod Touched

@@ -12,6 +12,7 @@ use Rattle.certificate.specs.Spelling.{Lines, text}
 use Rattle.judge.specs.Conditions.{IsFirst, IsValid}
 use Rattle.judge.specs.Judged.{judged}
 use Rattle.declaration.specs.declared.DeclarationFault.TheVariants as declaration_fault
+use Rattle.proposer.specs.Needed.{ReadsAreNeeded}
 use Rattle.analyser.specs.Counts.{Count}
 use Rattle.analyser.specs.Versions.{version_of}
 use Rattle.proposer.specs.declared.Proposal.{Proposal}
@@ -55,3 +56,14 @@ abbrev pub IsListed : {A : Type 0} → Kept → Verdict A → Type 0
 IsListed d (Safe c) = is_some (meaning d).reads ≡ true
 IsListed d (Refused c r) = ⊤
 IsListed d _ = (meaning d).reads ≡ None
+
+-- It isn't told that the judge refuses what is found.
+abbrev pub IsNoRefusal : {A : Type 0} → Verdict A → Type 0
+IsNoRefusal (Refused c r) = ⊥
+IsNoRefusal _ = ⊤
+
+-- By the facts of the certificate that is found, some word may read each cell of the list of reads.
+abbrev pub AreNeeded : {A : Type 0} → List (Option ℕ) → Kept → Verdict A → Type 0
+AreNeeded image d (Safe c) = ReadsAreNeeded (judged image d (certified.claims c))
+AreNeeded image d (Refused c r) = ReadsAreNeeded (judged image d (certified.claims c))
+AreNeeded image d _ = ⊤

@@ -9,8 +9,10 @@ ghost use Rattle.certificate.specs.Reading.{AreLines};
 ghost use Rattle.certificate.specs.Spelling.{text};
 ghost use Rattle.declaration.specs.Kept.{Kept, meaning, routines_of};
 ghost use Rattle.declaration.specs.Text.{Declares, ListsRoutines};
+ghost use Rattle.judge.specs.Judged.{judged};
+ghost use Rattle.proposer.specs.Needed.{ReadsAreNeeded};
 ghost use Rattle.proposer.specs.declared.Verdict.TheVariants.{TurnsSpent};
-ghost use Rattle.proposer.specs.Proposals.{Fits, IsListed, IsShown, IsSpentUp, IsTold};
+ghost use Rattle.proposer.specs.Proposals.{AreNeeded, Fits, IsListed, IsNoRefusal, IsShown, IsSpentUp, IsTold};
 
 mod map;
 mod steps;
@@ -21,7 +23,7 @@ mod walk;
 
 use crate::map::Map;
 use crate::text::push_reads;
-use crate::variables::{Breadth, read, written};
+use crate::variables::{Breadth, lists_needed, read, written};
 use analyser::{GuessFault, Turns, guess_within};
 use bin_tape::Image;
 use certificate::Certificate;
@@ -42,7 +44,7 @@ pub enum ProposeFault {
     /// What was found can't be declared, as where there are more than 64 routines.
     #[error("Undeclarable {0}")]
     Undeclarable(DeclarationFault),
-    /// What was found has another start or is for another machine than was asked.
+    /// What was found has another start, is for another machine than was asked, or lists other cells.
     #[error("Mismatch")]
     Mismatch,
     /// A growth was refused.
@@ -55,7 +57,7 @@ pub enum ProposeFault {
 pub enum Verdict<A: Allocator> {
     /// No run of the program breaks it, as this certificate shows, which the judge accepts.
     Safe(Certificate<A>),
-    /// The judge refuses this certificate, which is the one that is found.
+    /// The judge refuses this certificate, which is the one that is found, by the list of reads.
     Refused(Certificate<A>, Refusal),
     /// No certificate is found: at this address an instruction was met that the judge would refuse.
     Stuck(Word),
@@ -102,6 +104,7 @@ pub fn propose<A: Allocator + Copy>(
 ) -> Result<Proposal<A>, ProposeFault>
     ensures fits { IfOk result (Fits start profile) }
     ensures shown { IfOk result (λ p. IsShown image.now p.declaration p.verdict) }
+    ensures accepted { IfOk result (λ p. IsNoRefusal p.verdict) }
     ensures unlisted { IfOk result (λ p. (meaning p.declaration).reads ≡ None) }
     ensures spent { IfOk result (λ p. IsSpentUp turns.new p.verdict) }
     ensures faults { IfErr result IsTold }
@@ -142,6 +145,8 @@ pub fn propose_with_reads<A: Allocator + Copy>(
     // Where a certificate is found that the judge accepts there is a list of reads, and where none is
     // found there is none.
     ensures listed { IfOk result (λ p. IsListed p.declaration p.verdict) }
+    // By its facts some step may read each cell that is listed.
+    ensures needed { IfOk result (λ p. AreNeeded image.now p.declaration p.verdict) }
     ensures spent { IfOk result (λ p. IsSpentUp turns.new p.verdict) }
     ensures faults { IfErr result IsTold }
     ensures limit { turns.new.limit ≡ turns.old.limit }
@@ -160,6 +165,9 @@ pub fn propose_with_reads<A: Allocator + Copy>(
             let cells = read(image, &declaration, &certificate);
             let listing = relisted(alloc, &mut text, &cells, start, profile)?;
             listing.is_declared();
+            if !lists_needed(image, &listing, &certificate) {
+                return Err(ProposeFault::Mismatch);
+            }
             let verdict = tested(image, &listing, certificate);
             Ok(Proposal {
                 declaration: listing,
@@ -213,6 +221,7 @@ fn widened<A: Allocator + Copy>(
 ) -> Result<Proposal<A>, ProposeFault>
     ensures fits { IfOk result (Fits map.now.start map.now.profile) }
     ensures shown { IfOk result (λ p. IsShown image.now p.declaration p.verdict) }
+    ensures accepted { IfOk result (λ p. IsNoRefusal p.verdict) }
     ensures unlisted { IfOk result (λ p. (meaning p.declaration).reads ≡ None) }
     ensures spent { IfOk result (λ p. IsSpentUp turns.new p.verdict) }
     ensures faults { IfErr result IsTold }
@@ -246,6 +255,7 @@ fn attempt<A: Allocator + Copy>(
 ) -> Result<Proposal<A>, ProposeFault>
     ensures fits { IfOk result (Fits map.now.start map.now.profile) }
     ensures shown { IfOk result (λ p. IsShown image.now p.declaration p.verdict) }
+    ensures accepted { IfOk result (λ p. IsNoRefusal p.verdict) }
     ensures unlisted { IfOk result (λ p. (meaning p.declaration).reads ≡ None) }
     ensures spent { IfOk result (λ p. IsSpentUp turns.new p.verdict) }
     ensures faults { IfErr result IsTold }
@@ -284,6 +294,7 @@ fn proposed<A: Allocator + Copy>(
     requires routines { ListsRoutines text.items (routines_of declaration) }
     ensures fits { IfOk result (Fits map.now.start map.now.profile) }
     ensures shown { IfOk result (λ p. IsShown image.now p.declaration p.verdict) }
+    ensures accepted { IfOk result (λ p. IsNoRefusal p.verdict) }
     ensures unlisted { IfOk result (λ p. (meaning p.declaration).reads ≡ None) }
     ensures spent { IfOk result (λ p. IsSpentUp turns.new p.verdict) }
     ensures faults { IfErr result IsTold }
@@ -323,6 +334,7 @@ fn judged<A: Allocator + Copy>(
     turns: &mut Turns,
 ) -> Result<Verdict<A>, ProposeFault>
     ensures shown { IfOk result (IsShown image.now declaration.now) }
+    ensures accepted { IfOk result IsNoRefusal }
     ensures spent { IfOk result (IsSpentUp turns.new) }
     ensures faults { IfErr result IsTold }
     ensures limit { turns.new.limit ≡ turns.old.limit }
@@ -330,7 +342,7 @@ fn judged<A: Allocator + Copy>(
     ensures within { turns.new.spent ≤ turns.new.limit }
 {
     match guess_within(alloc, image, declaration, turns) {
-        Ok(certificate) => Ok(tested(image, declaration, certificate)),
+        Ok(certificate) => Ok(Verdict::Safe(certificate)),
         Err(fault) => unfound(fault),
     }
 }
@@ -347,6 +359,9 @@ fn tested<A: Allocator>(
     requires short { length (text (certified.meaning certificate)) ≤ 1048576 }
     ensures shown { IsShown image.now declaration.now result }
     ensures listed { (d : Kept) → is_some (meaning d).reads ≡ true → IsListed d result }
+    ensures needed { ReadsAreNeeded
+        (judged image.now declaration.now (certified.claims certificate)) →
+        AreNeeded image.now declaration.now result }
     ensures spent { result ≢ TurnsSpent }
 {
     match judge(image, declaration, &certificate) {
@@ -358,6 +373,7 @@ fn tested<A: Allocator>(
 /// What is known where no certificate is found.
 fn unfound<A: Allocator>(fault: GuessFault) -> Result<Verdict<A>, ProposeFault>
     ensures shown { (image : List (Option ℕ)) → (d : Kept) → IfOk result (IsShown image d) }
+    ensures accepted { IfOk result IsNoRefusal }
     ensures spent { IfOk result (λ v. v ≡ TurnsSpent → fault ≡ guess_fault.TurnsSpent) }
     ensures faults { IfErr result IsTold }
 {

@@ -1,5 +1,18 @@
 //! Which cells a program may change, and which it may read.
 
+ghost use Rattle.std.specs.Prelude.{ℕ, ◌≡◌, ◌<◌, true, IfSome};
+ghost use Rattle.wordset.specs.Words.{SameWords, IsWithin};
+ghost use Rattle.wordset.specs.Lanes.{words};
+ghost use Rattle.declaration.specs.Kept as declared;
+ghost use Rattle.facts.specs.Meaning.{meaning};
+ghost use Rattle.facts.specs.Outcomes.{meaning_at};
+ghost use Rattle.facts.specs.Places.{place_of, routine_of, sites_of};
+ghost use Rattle.certificate.specs.Kept.{claims};
+ghost use Rattle.judge.specs.Judged.{judged};
+ghost use Rattle.proposer.specs.Needed.{ReadsAreNeeded};
+ghost use Rattle.proposer.specs.Touched.{IsBody, IsTouched, IsTouchedBy, place_with, routine_with, sites_with, touches};
+ghost use Rattle.proposer.specs.declared.variables.Access.TheVariants.{Read};
+
 use crate::map::Map;
 use crate::trials::loaded;
 use bin_tape::Image;
@@ -44,7 +57,10 @@ enum Body {
 
 impl Body {
     /// The routine, if it isn't main's.
-    fn running(&self) -> Option<Running<'_>> {
+    fn running(&self) -> Option<Running<'_>>
+        ensures routine { routine_of result ≡ routine_with self.now }
+        ensures sites { sites_of result ≡ sites_with self.now }
+    {
         match self {
             Body::Main => None,
             Body::Of(entry, routine) => Some(Running {
@@ -56,7 +72,9 @@ impl Body {
     }
 
     /// Cells but the routine's own entry.
-    fn without_own(&self, cells: WordSet) -> WordSet {
+    fn without_own(&self, cells: WordSet) -> WordSet
+        ensures { IsWithin (words result) (words cells) }
+    {
         match self {
             Body::Main => cells,
             Body::Of(entry, _) => cells.minus(&WordSet::one(*entry)),
@@ -69,7 +87,9 @@ fn place_in<'a, D: Allocator>(
     image: &'a Image,
     declaration: &'a Declaration<D>,
     body: &'a Body,
-) -> Place<'a, D> {
+) -> Place<'a, D>
+    ensures { place_of result ≡ place_with image.now declaration.now body.now }
+{
     let routine = body.running();
     Place {
         image,
@@ -83,7 +103,10 @@ fn body_at<A: Allocator, D: Allocator>(
     declaration: &Declaration<D>,
     certificate: &Certificate<A>,
     at: Word,
-) -> Option<Body> {
+) -> Option<Body>
+    ensures { IfSome result
+        (IsBody (declared.meaning declaration.now) (claims certificate.now) at) }
+{
     let Some(owner) = declaration.owner_of(at) else {
         return None;
     };
@@ -105,13 +128,10 @@ enum Access {
 
 impl Access {
     /// The cells to which a word at the address of a fact may do it.
-    fn cells<D: Allocator>(
-        self,
-        fact: &Fact,
-        at: Word,
-        word: Word,
-        place: &Place<'_, D>,
-    ) -> WordSet {
+    fn cells<D: Allocator>(self, fact: &Fact, at: Word, word: Word, place: &Place<'_, D>) -> WordSet
+        ensures { SameWords (words result) (touches self (place_of place.now) (meaning fact.now)
+            (meaning_at (place_of place.now) at word)) }
+    {
         match self {
             Access::Write => writes(fact, at, word, place),
             Access::Read => reads(fact, at, word, place),
@@ -120,12 +140,10 @@ impl Access {
 }
 
 /// The cells to which some possible word may do it at the address of a fact.
-fn touched_at<D: Allocator>(
-    access: Access,
-    fact: &Fact,
-    at: Word,
-    place: &Place<'_, D>,
-) -> WordSet {
+fn touched_at<D: Allocator>(access: Access, fact: &Fact, at: Word, place: &Place<'_, D>) -> WordSet
+    ensures { (cell : ℕ) → cell < 4096 → words result cell ≡ true →
+        IsTouchedBy access (place_of place.now) (meaning fact.now) at cell }
+{
     let possible = place.possible_words(fact, at);
     let mut cells = WordSet::empty();
     let mut next = 0usize;
@@ -136,24 +154,45 @@ fn touched_at<D: Allocator>(
     cells
 }
 
+/// The cells to which the program may do it by the fact at an address, if there is one, a routine's own
+/// entry apart; the fact is told by way of the lent one.
+fn touched_from<A: Allocator, D: Allocator>(
+    access: Access,
+    image: &Image,
+    declaration: &Declaration<D>,
+    certificate: &Certificate<A>,
+    at: Word,
+    fact: &mut Fact,
+) -> WordSet
+    ensures { (cell : ℕ) → cell < 4096 → words result cell ≡ true →
+        IsTouched access (judged image.now declaration.now (claims certificate.now)) cell }
+{
+    let Some(body) = body_at(declaration, certificate, at) else {
+        return WordSet::empty();
+    };
+    if !certificate.fact_into(at, fact) {
+        return WordSet::empty();
+    }
+    let place = place_in(image, declaration, &body);
+    body.without_own(touched_at(access, fact, at, &place))
+}
+
 /// The cells to which the program may do it by the facts of a certificate, a routine's own entry apart.
 fn touched<A: Allocator, D: Allocator>(
     access: Access,
     image: &Image,
     declaration: &Declaration<D>,
     certificate: &Certificate<A>,
-) -> WordSet {
+) -> WordSet
+    ensures { (cell : ℕ) → cell < 4096 → words result cell ≡ true →
+        IsTouched access (judged image.now declaration.now (claims certificate.now)) cell }
+{
     let mut fact = Fact::any();
     let mut cells = WordSet::empty();
     for index in 0..4096usize {
         let at = Word::from_index(index);
-        if let Some(body) = body_at(declaration, certificate, at) {
-            if certificate.fact_into(at, &mut fact) {
-                let place = place_in(image, declaration, &body);
-                let found = touched_at(access, &fact, at, &place);
-                cells = cells.union(&body.without_own(found));
-            }
-        }
+        let found = touched_from(access, image, declaration, certificate, at, &mut fact);
+        cells = cells.union(&found);
     }
     cells
 }
@@ -173,6 +212,24 @@ pub(crate) fn read<A: Allocator, D: Allocator>(
     image: &Image,
     declaration: &Declaration<D>,
     certificate: &Certificate<A>,
-) -> WordSet {
+) -> WordSet
+    ensures { (cell : ℕ) → cell < 4096 → words result cell ≡ true →
+        IsTouched Read (judged image.now declaration.now (claims certificate.now)) cell }
+{
     touched(Access::Read, image, declaration, certificate)
+}
+
+/// Whether the program may read each cell of the list of reads by the facts of a certificate.
+pub(crate) fn lists_needed<A: Allocator, D: Allocator>(
+    image: &Image,
+    declaration: &Declaration<D>,
+    certificate: &Certificate<A>,
+) -> bool
+    ensures { result ≡ true →
+        ReadsAreNeeded (judged image.now declaration.now (claims certificate.now)) }
+{
+    match declaration.reads() {
+        None => true,
+        Some(cells) => cells.is_subset(&read(image, declaration, certificate)),
+    }
 }

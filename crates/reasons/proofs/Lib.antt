@@ -1,3 +1,5 @@
 pub mod BreachLemmas
+pub mod FoundLemmas
 pub mod GapLemmas
 pub mod LineLemmas
+pub mod SetLemmas

@@ -1,10 +1,11 @@
 //! What a call breaks.
 
-ghost use Rattle.std.specs.Prelude.{◌≡◌, ◌<◌, IfSome};
+ghost use Rattle.std.specs.Prelude.{◌≡◌, ◌<◌, IfNone, IfSome};
 ghost use Rattle.facts.specs.Conditions.{called};
 ghost use Rattle.facts.specs.Outcomes.{meaning_at};
 ghost use Rattle.facts.specs.declared.Condition.TheVariants.{V7, V8, V9, V10, V11};
-ghost use Rattle.reasons.specs.Spots.{BreaksHere, CallBreaksHere};
+ghost use Rattle.reasons.specs.Keeping.{KeepsCallHere, KeepsCalls, KeepsHere};
+ghost use Rattle.reasons.specs.Spots.{BreaksHere, CallBreaksHere, claimed_by, fact_of, here};
 
 use crate::breach::{Breach, CallBreach};
 use crate::spot::Spot;
@@ -21,7 +22,8 @@ const LAST_SITE: usize = 0o7767;
 impl<A: Allocator, C: Claims> Spot<'_, A, C> {
     /// A call that the rules on what may be called forbid.
     pub(crate) fn calls_wrongly(&self, word: Word) -> Option<Breach>
-        ensures { IfSome result (BreaksHere C.claims self.now V7 word) }
+        ensures found { IfSome result (BreaksHere C.claims self.now V7 word) }
+        ensures none { IfNone result (KeepsHere C.claims self.now V7 word) }
     {
         if self.place.steps_call_pointer(self.at, word) {
             return Some(Breach::CallsThroughIndex);
@@ -31,7 +33,10 @@ impl<A: Allocator, C: Claims> Spot<'_, A, C> {
 
     /// The first call of a word that breaks a condition on calls.
     pub(crate) fn first_call(&self, condition: Condition, word: Word) -> Option<Breach>
-        ensures { IfSome result (BreaksHere C.claims self.now condition word) }
+        ensures found { IfSome result (BreaksHere C.claims self.now condition word) }
+        ensures none { IfNone result (KeepsCalls (claimed_by C.claims self.now) (here self.now)
+            (fact_of self.now) self.now.at condition
+            (meaning_at (here self.now) self.now.at word)) }
     {
         let callees = self.place.calls(self.fact, self.at, word);
         let mut next = 0usize;
@@ -46,7 +51,8 @@ impl<A: Allocator, C: Claims> Spot<'_, A, C> {
 
     /// What a call of an entry breaks of a condition.
     fn call_breaks(&self, condition: Condition, entry: Word) -> Option<CallBreach>
-        ensures { IfSome result (CallBreaksHere C.claims self.now condition entry) }
+        ensures found { IfSome result (CallBreaksHere C.claims self.now condition entry) }
+        ensures none { IfNone result (KeepsCallHere C.claims self.now condition entry) }
     {
         match condition {
             Condition::V7 => self.may_not_call(entry),
@@ -60,7 +66,8 @@ impl<A: Allocator, C: Claims> Spot<'_, A, C> {
 
     /// Why an address may not be called.
     fn may_not_call(&self, entry: Word) -> Option<CallBreach>
-        ensures { IfSome result (CallBreaksHere C.claims self.now V7 entry) }
+        ensures found { IfSome result (CallBreaksHere C.claims self.now V7 entry) }
+        ensures none { IfNone result (KeepsCallHere C.claims self.now V7 entry) }
     {
         if !self.place.declaration.is_entry(entry) {
             return Some(CallBreach::NoEntry);
@@ -77,7 +84,8 @@ impl<A: Allocator, C: Claims> Spot<'_, A, C> {
 
     /// What of a callee the running routine's written set doesn't cover.
     fn is_not_covered(&self, entry: Word) -> Option<CallBreach>
-        ensures { IfSome result (CallBreaksHere C.claims self.now V8 entry) }
+        ensures found { IfSome result (CallBreaksHere C.claims self.now V8 entry) }
+        ensures none { IfNone result (KeepsCallHere C.claims self.now V8 entry) }
     {
         let running = self.owner()?;
         let caller = self.claimed(running);
@@ -96,7 +104,8 @@ impl<A: Allocator, C: Claims> Spot<'_, A, C> {
 
     /// Why an entry may not be called from the address.
     fn is_no_site(&self, entry: Word) -> Option<CallBreach>
-        ensures { IfSome result (CallBreaksHere C.claims self.now V9 entry) }
+        ensures found { IfSome result (CallBreaksHere C.claims self.now V9 entry) }
+        ensures none { IfNone result (KeepsCallHere C.claims self.now V9 entry) }
     {
         if self.at.index() > LAST_SITE {
             return Some(CallBreach::TooHigh);

@@ -1,9 +1,11 @@
 //! Why the lines at an address aren't where they may be, and why the fact at a start is wrong.
 
-ghost use Rattle.std.specs.Prelude.{◌≡◌, ◌<◌, true, IfSome};
+ghost use Rattle.std.specs.Prelude.{ℕ, ◌≡◌, ◌<◌, true, false, IfNone, IfSome, List, Option};
 ghost use Rattle.peripherals.specs.Loading.{image_of};
 ghost use Rattle.declaration.specs.Kept as declared;
 ghost use Rattle.facts.specs.Meaning.{meaning};
+ghost use Rattle.judge.specs.Conditions.{IsPlaced, LinesArePlaced};
+ghost use Rattle.judge.specs.Judged.{judged};
 ghost use Rattle.reasons.specs.Reasons.{IsMisplaced, IsWrongStart, NamesRoutine};
 
 use crate::gap::gap_at_start;
@@ -31,7 +33,8 @@ pub(crate) fn why_start<C: Claims>(image: &Image, claims: &C, at: Word) -> Optio
 
 /// Whether a routine or exit line has an address.
 fn names_routine<C: Claims>(claims: &C, at: Word) -> bool
-    ensures { result ≡ true → NamesRoutine (C.claims claims.now) at }
+    ensures yes { result ≡ true → NamesRoutine (C.claims claims.now) at }
+    ensures no { result ≡ false → NamesRoutine (C.claims claims.now) at → ⊥ }
 {
     if claims.routine(at).is_some() {
         return true;
@@ -44,9 +47,27 @@ fn names_routine<C: Claims>(claims: &C, at: Word) -> bool
     false
 }
 
+/// Whether the routine and exit lines at an address are where they may be: at an entry.
+fn routines_are_placed<A: Allocator, C: Claims>(
+    declaration: &Declaration<A>,
+    claims: &C,
+    at: Word,
+) -> bool
+    ensures yes { result ≡ true → NamesRoutine (C.claims claims.now) at →
+        (declared.meaning declaration.now).entry at ≡ true }
+    ensures no { result ≡ false → NamesRoutine (C.claims claims.now) at ×
+        ((declared.meaning declaration.now).entry at ≡ false) }
+{
+    if !names_routine(claims, at) {
+        return true;
+    }
+    declaration.is_entry(at)
+}
+
 /// The first offset of a fact.
 fn first_offset(fact: &Fact) -> Option<usize>
-    ensures { IfSome result (λ o. (o < 8) × ((meaning fact.now).offsets o ≡ true)) }
+    ensures found { IfSome result (λ o. (o < 8) × ((meaning fact.now).offsets o ≡ true)) }
+    ensures none { IfNone result ((o : ℕ) → o < 8 → (meaning fact.now).offsets o ≡ false) }
 {
     for offset in 0..8usize {
         if fact.offsets().contains(offset) {
@@ -65,8 +86,10 @@ fn why_misplaced<A: Allocator, C: Claims>(
 ) -> Option<Reason>
     requires there { (C.claims claims.now).has_fact at ≡ true }
     requires fact { meaning fact.now ≡ (C.claims claims.now).fact at }
-    ensures { IfSome result (IsMisplaced (declared.meaning declaration.now) (C.claims claims.now)
-        at) }
+    ensures found { IfSome result (IsMisplaced (declared.meaning declaration.now)
+        (C.claims claims.now) at) }
+    ensures none { (image : List (Option ℕ)) → IfNone result
+        (IsPlaced (judged image declaration.now (C.claims claims.now)) at) }
 {
     let Some(owner) = declaration.owner_of(at) else {
         return Some(Reason::InNoBody);
@@ -94,10 +117,12 @@ pub(crate) fn why_placed<A: Allocator, C: Claims>(
     claims: &C,
     at: Word,
 ) -> Option<Reason>
-    ensures { IfSome result (IsMisplaced (declared.meaning declaration.now) (C.claims claims.now)
-        at) }
+    ensures found { IfSome result (IsMisplaced (declared.meaning declaration.now)
+        (C.claims claims.now) at) }
+    ensures none { (image : List (Option ℕ)) → IfNone result
+        (LinesArePlaced (judged image declaration.now (C.claims claims.now)) at) }
 {
-    if names_routine(claims, at) && !declaration.is_entry(at) {
+    if !routines_are_placed(declaration, claims, at) {
         return Some(Reason::LineAtNoEntry);
     }
     let fact = claimed_fact(claims, at)?;

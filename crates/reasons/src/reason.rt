@@ -1,9 +1,12 @@
 //! Why a condition fails.
 
-ghost use Rattle.std.specs.Prelude.{◌≡◌, IfSome};
+ghost use Rattle.std.specs.Prelude.{◌≡◌, ◌≤◌, true, is_some, IfNone, IfSome};
 ghost use Rattle.declaration.specs.Kept as declared;
+ghost use Rattle.judge.specs.Conditions.{IsFirst, place_among};
 ghost use Rattle.judge.specs.Judged.{judged};
 ghost use Rattle.peripherals.specs.Loading.{image_of};
+ghost use Rattle.reasons.specs.Always.{is_always_explained};
+ghost use Rattle.reasons.specs.Keeping.{HoldsIfAsked, IsUnowned};
 ghost use Rattle.reasons.specs.Reasons.{Explains, HasWrongWord, IsWrongStart};
 ghost use Rattle.reasons.specs.Spots.{IsBody};
 
@@ -48,8 +51,10 @@ fn body_of<A: Allocator, C: Claims>(
     claims: &C,
     at: Word,
 ) -> Option<Body>
-    ensures { IfSome result
+    ensures found { IfSome result
         (IsBody (declared.meaning declaration.now) (C.claims claims.now) at) }
+    ensures none { IfNone result
+        (IsUnowned (declared.meaning declaration.now) (C.claims claims.now) at) }
 {
     let owner = declaration.owner_of(at)?;
     match owner {
@@ -69,9 +74,12 @@ fn why_words<A: Allocator, C: Claims>(
     condition: Condition,
     at: Word,
 ) -> Option<Reason>
-    ensures { IfSome result
+    ensures found { IfSome result
         (HasWrongWord (judged image.now declaration.now (C.claims claims.now)) condition at) }
+    ensures none { IfNone result (2 ≤ place_among condition →
+        HoldsIfAsked (judged image.now declaration.now (C.claims claims.now)) condition at) }
 {
+    declaration.is_declared();
     let fact = claimed_fact(claims, at)?;
     let body = body_of(declaration, claims, at)?;
     Spot::of(image, declaration, claims, &body, at, &fact).first_breach(condition)
@@ -94,7 +102,9 @@ fn why_at_start<A: Allocator, C: Claims>(
 }
 
 /// Why a condition fails at an address: what is possible there by a tape's words, a declaration and
-/// what is claimed, and breaks it. Where there are several, no clause says which of them is told.
+/// what is claimed, and breaks it. Where there are several, no clause says which of them is told. A
+/// reason is found where the judge refuses by a condition that doesn't ask whether a fact is too narrow;
+/// that one is found for the five others isn't promised.
 ///
 /// No memory is taken, so none can be refused.
 pub fn why<A: Allocator, C: Claims>(
@@ -103,8 +113,13 @@ pub fn why<A: Allocator, C: Claims>(
     claims: &C,
     refusal: &Refusal,
 ) -> Option<Reason>
-    ensures { IfSome result (Explains (judged image.now declaration.now (C.claims claims.now))
+    ensures explained { IfSome result (Explains
+        (judged image.now declaration.now (C.claims claims.now))
         refusal.now.condition refusal.now.address) }
+    // Where the judge refuses by one of ten conditions, a reason is found.
+    ensures found { is_always_explained refusal.now.condition ≡ true →
+        IsFirst (judged image.now declaration.now (C.claims claims.now))
+        refusal.now.condition refusal.now.address → is_some result ≡ true }
 {
     match refusal.condition {
         Condition::V1 => why_at_start(image, declaration, claims, refusal.address),

@@ -1,11 +1,12 @@
 //! A fact at an address of a body, of whose words it is asked what they break.
 
-ghost use Rattle.std.specs.Prelude.{◌≡◌, IfSome};
+ghost use Rattle.std.specs.Prelude.{◌≡◌, IfNone, IfSome};
 ghost use Rattle.wordset.specs.Words.{SameWords};
 ghost use Rattle.wordset.specs.Lanes.{words};
 ghost use Rattle.facts.specs.Meaning.{meaning};
 ghost use Rattle.facts.specs.Places.{routine_of, sites_of};
 ghost use Rattle.facts.specs.declared.Condition.TheVariants.{V3};
+ghost use Rattle.reasons.specs.Keeping.{EachKeepsHere, WordsKeepHere};
 ghost use Rattle.reasons.specs.Spots.{IsWrongHere, claimed_by, fact_of, here, place_with, possible_at, routine_with, sites_with};
 
 use crate::reason::Reason;
@@ -88,7 +89,8 @@ impl<A: Allocator, C: Claims> Spot<'_, A, C> {
     /// The first possible word that breaks a condition, and what it breaks; or how many words are
     /// possible, where they are too many.
     pub(crate) fn first_breach(&self, condition: Condition) -> Option<Reason>
-        ensures { IfSome result (IsWrongHere C.claims self.now condition) }
+        ensures found { IfSome result (IsWrongHere C.claims self.now condition) }
+        ensures none { IfNone result (WordsKeepHere C.claims self.now condition) }
     {
         let possible = self.place.possible_words(self.fact, self.at);
         match condition {
@@ -100,7 +102,8 @@ impl<A: Allocator, C: Claims> Spot<'_, A, C> {
     /// How many words are possible, where they are too many; else the first that isn't supported.
     fn too_many(&self, possible: &WordSet) -> Option<Reason>
         requires { SameWords (words possible.now) (possible_at self.now) }
-        ensures { IfSome result (IsWrongHere C.claims self.now V3) }
+        ensures found { IfSome result (IsWrongHere C.claims self.now V3) }
+        ensures none { IfNone result (WordsKeepHere C.claims self.now V3) }
     {
         let count = possible.count();
         if count > MOST_WORDS {
@@ -112,7 +115,8 @@ impl<A: Allocator, C: Claims> Spot<'_, A, C> {
     /// The first possible word that breaks a condition, and what it breaks.
     fn first_word(&self, condition: Condition, possible: &WordSet) -> Option<Reason>
         requires { SameWords (words possible.now) (possible_at self.now) }
-        ensures { IfSome result (IsWrongHere C.claims self.now condition) }
+        ensures found { IfSome result (IsWrongHere C.claims self.now condition) }
+        ensures none { IfNone result (EachKeepsHere C.claims self.now condition) }
     {
         let mut next = 0usize;
         while let Some(word) = possible.first_from(next) {

@@ -1,11 +1,12 @@
 //! What a possible word breaks by itself.
 
-ghost use Rattle.std.specs.Prelude.{ℕ, ◌≡◌, ◌<◌, true, false, IfSome};
+ghost use Rattle.std.specs.Prelude.{ℕ, ◌≡◌, ◌<◌, true, false, IfNone, IfSome};
 ghost use Rattle.wordset.specs.Words.{SameWords};
 ghost use Rattle.wordset.specs.Lanes.{words};
 ghost use Rattle.facts.specs.Conditions.{may_write, may_read};
 ghost use Rattle.facts.specs.Outcomes.{meaning_at};
 ghost use Rattle.facts.specs.declared.Condition.TheVariants.{V3, V5, V6, V13, V14, V15};
+ghost use Rattle.reasons.specs.Keeping.{KeepsHere};
 ghost use Rattle.reasons.specs.Spots.{BreaksHere, fact_of, here};
 
 use crate::breach::Breach;
@@ -19,7 +20,8 @@ use wordset::WordSet;
 impl<A: Allocator, C: Claims> Spot<'_, A, C> {
     /// What a word breaks of a condition.
     pub(crate) fn breach(&self, condition: Condition, word: Word) -> Option<Breach>
-        ensures { IfSome result (BreaksHere C.claims self.now condition word) }
+        ensures found { IfSome result (BreaksHere C.claims self.now condition word) }
+        ensures none { IfNone result (KeepsHere C.claims self.now condition word) }
     {
         match condition {
             Condition::V1 | Condition::V2 => None,
@@ -40,7 +42,8 @@ impl<A: Allocator, C: Claims> Spot<'_, A, C> {
 
     /// A word that isn't supported.
     fn is_unsupported(&self, word: Word) -> Option<Breach>
-        ensures { IfSome result (BreaksHere C.claims self.now V3 word) }
+        ensures found { IfSome result (BreaksHere C.claims self.now V3 word) }
+        ensures none { IfNone result (KeepsHere C.claims self.now V3 word) }
     {
         if self.place.is_supported(word) {
             return None;
@@ -50,7 +53,8 @@ impl<A: Allocator, C: Claims> Spot<'_, A, C> {
 
     /// A HLT where no halt is declared.
     fn halts_undeclared(&self, word: Word) -> Option<Breach>
-        ensures { IfSome result (BreaksHere C.claims self.now V13 word) }
+        ensures found { IfSome result (BreaksHere C.claims self.now V13 word) }
+        ensures none { IfNone result (KeepsHere C.claims self.now V13 word) }
     {
         if self.place.halts_are_declared(self.at, word) {
             return None;
@@ -69,8 +73,10 @@ impl<A: Allocator, C: Claims> Spot<'_, A, C> {
 
     /// The first of some cells that is an entry.
     fn first_entry(&self, cells: &WordSet) -> Option<Word>
-        ensures { IfSome result (λ b. (b < 4096) × (words cells.now b ≡ true) ×
+        ensures found { IfSome result (λ b. (b < 4096) × (words cells.now b ≡ true) ×
             ((here self.now).declaration.entry b ≡ true)) }
+        ensures none { IfNone result ((b : ℕ) → b < 4096 → words cells.now b ≡ true →
+            (here self.now).declaration.entry b ≡ false) }
     {
         let mut next = 0usize;
         while let Some(cell) = cells.first_from(next) {
@@ -84,8 +90,10 @@ impl<A: Allocator, C: Claims> Spot<'_, A, C> {
 
     /// The first of some cells that isn't an entry.
     fn first_other(&self, cells: &WordSet) -> Option<Word>
-        ensures { IfSome result (λ b. (b < 4096) × (words cells.now b ≡ true) ×
+        ensures found { IfSome result (λ b. (b < 4096) × (words cells.now b ≡ true) ×
             ((here self.now).declaration.entry b ≡ false)) }
+        ensures none { IfNone result ((b : ℕ) → b < 4096 → words cells.now b ≡ true →
+            (here self.now).declaration.entry b ≡ true) }
     {
         let mut next = 0usize;
         while let Some(cell) = cells.first_from(next) {
@@ -99,7 +107,8 @@ impl<A: Allocator, C: Claims> Spot<'_, A, C> {
 
     /// A cell that a word may write and that is neither a variable nor an entry.
     fn writes_undeclared(&self, word: Word) -> Option<Breach>
-        ensures { IfSome result (BreaksHere C.claims self.now V5 word) }
+        ensures found { IfSome result (BreaksHere C.claims self.now V5 word) }
+        ensures none { IfNone result (KeepsHere C.claims self.now V5 word) }
     {
         let rest = self.written(word).minus(self.place.declaration.variables());
         match self.first_other(&rest) {
@@ -110,7 +119,8 @@ impl<A: Allocator, C: Claims> Spot<'_, A, C> {
 
     /// An entry that a word may write, where it isn't the one that ISZ may count.
     fn writes_entry(&self, word: Word) -> Option<Breach>
-        ensures { IfSome result (BreaksHere C.claims self.now V14 word) }
+        ensures found { IfSome result (BreaksHere C.claims self.now V14 word) }
+        ensures none { IfNone result (KeepsHere C.claims self.now V14 word) }
     {
         if self.place.entries_are_kept(self.fact, self.at, word) {
             return None;
@@ -123,7 +133,8 @@ impl<A: Allocator, C: Claims> Spot<'_, A, C> {
 
     /// A cell that a word may write and the running routine may not.
     fn writes_unlisted(&self, word: Word) -> Option<Breach>
-        ensures { IfSome result (BreaksHere C.claims self.now V6 word) }
+        ensures found { IfSome result (BreaksHere C.claims self.now V6 word) }
+        ensures none { IfNone result (KeepsHere C.claims self.now V6 word) }
     {
         let entry = self.owner()?;
         let listed = self.claimed(entry).writes.union(&WordSet::one(entry));
@@ -136,7 +147,8 @@ impl<A: Allocator, C: Claims> Spot<'_, A, C> {
     /// A cell that a word may read and that isn't on the list of reads, nor the running routine's
     /// entry.
     fn reads_unlisted(&self, word: Word) -> Option<Breach>
-        ensures { IfSome result (BreaksHere C.claims self.now V15 word) }
+        ensures found { IfSome result (BreaksHere C.claims self.now V15 word) }
+        ensures none { IfNone result (KeepsHere C.claims self.now V15 word) }
     {
         let listed = self.place.declaration.reads()?;
         let read = reads(self.fact, self.at, word, &self.place);

@@ -229,6 +229,10 @@ from_zero : (o : Option ℕ) (a : Words) → MatchOption o ((v : ℕ) → v < 40
 from_zero None a none = λ v f h. none v h
 from_zero (Some w) a is = is
 
+-- a set has a least number, or none
+pub first_of : (a : Words) → MatchOption (first_below 4096 a) (HasNoneFrom 0 a) (λ w. IsFirstFrom 0 a w)
+first_of a = from_zero (first_below 4096 a) a (least_of 4096 a (omega arith))
+
 pub only-one : (a : Words) → how_many 4096 a ≡ 1 → first_below 4096 a ≡ only a
 unfolding only
 only-one a one = only_some (first_below 4096 a) a one (from_zero (first_below 4096 a) a (least_of 4096 a (omega arith)))

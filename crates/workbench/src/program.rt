@@ -29,7 +29,8 @@ static RUN_STANDARD_INPUT: [&str; 3] = ["pdp8", "run", "-"];
 /// Does what the program's words ask for, and says with which status it ends: 0 done, 1 refused, 2
 /// bad words, 3 a device's fault, 4 want of memory. Without words it runs the tape on standard
 /// input. Faults and the text for bad words go to standard error, help to standard output; where
-/// standard error fails, the status is the same.
+/// standard error fails, the status of a fault or of bad words is the same. Under `--teletype` the
+/// summary goes there too, and where that fails the status is 3.
 pub fn exit_status<R: Env + Files + Input + Print + Eprint + AllocGlobal>(rt: &R) -> u8
     ensures { result ≤ 4 }
 {

@@ -8,6 +8,7 @@ use commands::running::RunOptions;
 use instruct::Profile;
 use std::alloc::{AllocError, Global};
 use std::convert::AsStr;
+use streams::text::decimal_between;
 use word12::{OctalFault, Word};
 
 /// How many rounds are made without `--steps`.
@@ -352,17 +353,6 @@ fn command<'a>(alloc: Global) -> Result<Command<'a>, AllocError> {
         .subcommand(migrate_command(alloc)?)
 }
 
-/// The number that decimal digits spell, if it is one from 1 to 1,000,000. There is no sign.
-fn rounds_of(text: &str) -> Option<u32> {
-    if !text.bytes().all(|digit| digit.is_ascii_digit()) {
-        return None;
-    }
-    match text.parse::<u32>() {
-        Ok(count) if 1 <= count && count <= MOST_ROUNDS => Some(count),
-        _ => None,
-    }
-}
-
 fn profile_of(found: &ArgMatches<'_>) -> Result<Profile, Refused> {
     match found.get_str("profile") {
         None | Some("8i") => Ok(Profile::Pdp8I),
@@ -379,7 +369,7 @@ pub(crate) fn run_options(found: &ArgMatches<'_>) -> Result<RunOptions, Refused>
     let start = start_of(found)?;
     let rounds = match found.get_str("steps") {
         None => ROUNDS,
-        Some(text) => rounds_of(text).ok_or(Refused::Steps)?,
+        Some(text) => { decimal_between(1, MOST_ROUNDS, text.as_bytes()).ok_or(Refused::Steps)? }
     };
     Ok(RunOptions {
         start,

@@ -1,4 +1,5 @@
 use Rattle.certified_example.proofs.broken_are_unsafe.Goals as goal
+use Rattle.certified_example.proofs.Declared.{bare_is_declared}
 use Rattle.certified_example.proofs.Breaks.{unsupported, undeclared_write, undeclared_call, return_without_call, undeclared_halt, unlisted_read}
 
 pub returns-clause-unsupported : goal.returns-clause-unsupported
@@ -18,3 +19,6 @@ returns-clause-undeclared_halt c = undeclared_halt
 
 pub returns-clause-unlisted_read : goal.returns-clause-unlisted_read
 returns-clause-unlisted_read c = unlisted_read
+
+pub returns-clause-declared : goal.returns-clause-declared
+returns-clause-declared c = bare_is_declared

@@ -1,5 +1,6 @@
 use Rattle.commands.proofs.Answered.{runs_end}
+use Rattle.commands.proofs.OneLemmas.{runs_are_one}
 use Rattle.commands.proofs.laws.runs_end.Goals as goal
 
 pub returns : goal.returns
-returns c = runs_end
+returns c = record { end = runs_end; one = runs_are_one }

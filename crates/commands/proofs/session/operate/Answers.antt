@@ -1,9 +1,12 @@
-use Rattle.std.proofs.Common.{rules, ◌≡◌, ◌+◌, ◌*◌, ◌<◌, ◌∙◌, Some, None, refl, sym, arith}
+use Rattle.std.proofs.Common.{rules, ◌≡◌, ◌+◌, ◌*◌, ◌<◌, ◌∙◌, Option, Some, None, ap, refl, sym, arith}
+use Rattle.peripherals.specs.declared.Event.{Event}
+use Rattle.peripherals.specs.declared.Event.TheVariants.{Step, PunchDone}
+use Rattle.peripherals.specs.Events.{completed}
 use Rattle.peripherals.specs.declared.Seen.TheVariants.{NotEnabled, Changed, Ran, Halted, Unsupported}
-use Rattle.peripherals.specs.Operator.{due, plan_of}
+use Rattle.peripherals.specs.Operator.{Plan, due, plan_of}
 use Rattle.peripherals.specs.World.{view, profile_of}
 use Rattle.commands.specs.SessionParts.{Played, PlayedFront}
-use Rattle.commands.proofs.SessionLemmas.{events_left, fewer, or_left, or_right, sat_all, sat_more, sat_none, sat_still, sat_to_fault, sat_to_halt, sat_to_stuck}
+use Rattle.commands.proofs.SessionLemmas.{Sat, events_left, fewer, or_left, or_right, ran_is_step, sat_all, sat_completed, sat_more, sat_none, sat_still, sat_to_fault, sat_to_halt, sat_to_stuck}
 use Rattle.commands.proofs.session.operate.Goals as goal
 
 pub loop-event-init : goal.loop-event-init
@@ -42,18 +45,35 @@ overflow_add-result g c =
     let bound : c.loop-event.steps + 1 < 18446744073709551616 = omega (arith, was, all, below) in
     record { fits = bound }
 
+pub complete-requires : goal.complete-requires
+complete-requires g c =
+    let inv = c.loop-event.invariant in
+    let p = profile_of c.args.world.now in
+    let played : Played p c.args.trace (view c.loop-event.world) c.in-Some.event Ran (view c.play.new.world) (g.W.ByteSink.taken c.loop-event.out.report) (g.W.ByteSink.taken c.play.new.out.report) (g.T.ByteSink.taken c.loop-event.out.teletype) (g.T.ByteSink.taken c.play.new.out.teletype) = rw (inv.profile, c.in-Ran.is) at c.in_ok-play.ensures.played in
+    record { stepped = c.in-Some.ensures.last ∙ ap Some (ran_is_step p (view c.loop-event.world) c.in-Some.event played.sees) }
+
 pub loop-event-preserved-in-Ran : goal.loop-event-preserved-in-Ran
 loop-event-preserved-in-Ran g c =
     let inv = c.loop-event.invariant in
     let p = profile_of c.args.world.now in
     let is : due (plan_of c.loop-event.operator) (view c.loop-event.world) c.loop-event.operator.last ≡ Some c.in-Some.event = sym c.next.ensures.due ∙ c.in-Some.is in
     let played : Played p c.args.trace (view c.loop-event.world) c.in-Some.event Ran (view c.play.new.world) (g.W.ByteSink.taken c.loop-event.out.report) (g.W.ByteSink.taken c.play.new.out.report) (g.T.ByteSink.taken c.loop-event.out.teletype) (g.T.ByteSink.taken c.play.new.out.teletype) = rw (inv.profile, c.in-Ran.is) at c.in_ok-play.ensures.played in
+    let step : c.in-Some.event ≡ Step = ran_is_step p (view c.loop-event.world) c.in-Some.event played.sees in
+    let stepped : c.next.new.self.last ≡ Some Step = c.in-Some.ensures.last ∙ ap Some step in
     let less = fewer (plan_of c.loop-event.operator) (plan_of c.next.new.self) (view c.loop-event.world) c.loop-event.operator.last c.next.new.self.last c.in-Some.event is c.in-Some.ensures.left c.in-Some.ensures.last in
+    let fewer_left : events_left (plan_of c.next.new.self) (Some Step) < events_left (plan_of c.loop-event.operator) c.loop-event.operator.last = rw stepped at less in
+    let ran : Sat p c.args.trace (plan_of c.args.operator.now) (plan_of c.next.new.self) (Some Step) (view c.args.world.now) (view c.play.new.world) (c.loop-event.steps + 1) (g.W.ByteSink.taken c.args.out.now.report) (g.W.ByteSink.taken c.play.new.out.report) (g.T.ByteSink.taken c.args.out.now.teletype) (g.T.ByteSink.taken c.play.new.out.teletype) =
+    sat_more p c.args.trace (plan_of c.args.operator.now) (plan_of c.loop-event.operator) (plan_of c.next.new.self) c.loop-event.operator.last (Some Step) c.in-Some.event (view c.args.world.now) (view c.loop-event.world) (view c.play.new.world) c.loop-event.steps Ran _ _ _ _ _ _
+    inv.sat is c.in-Some.ensures.left (ap Some (sym step)) played refl in
+    let left : plan_of c.complete.new.self ≡ plan_of c.next.new.self = c.complete.ensures.left in
+    let last : c.complete.new.self.last ≡ Some PunchDone = c.complete.ensures.last in
+    let done : view c.complete.new.world ≡ completed (view c.play.new.world) = c.complete.ensures.done in
+    let same_left : events_left (plan_of c.complete.new.self) (Some PunchDone) ≡ events_left (plan_of c.next.new.self) (Some PunchDone) = ap (λ (q : Plan). events_left q (Some PunchDone)) left in
+    let same_last : events_left (plan_of c.complete.new.self) c.complete.new.self.last ≡ events_left (plan_of c.complete.new.self) (Some PunchDone) = ap (λ (l : Option Event). events_left (plan_of c.complete.new.self) l) last in
     record {
-      sat = sat_more p c.args.trace (plan_of c.args.operator.now) (plan_of c.loop-event.operator) (plan_of c.next.new.self) c.loop-event.operator.last c.next.new.self.last c.in-Some.event (view c.args.world.now) (view c.loop-event.world) (view c.play.new.world) c.loop-event.steps Ran _ _ _ _ _ _
-          inv.sat is c.in-Some.ensures.left c.in-Some.ensures.last played refl;
-      profile = c.play.ensures.profile ∙ inv.profile;
-      steps = let was = inv.steps in omega (arith, was, less);
+      sat = rw (left, last, done) (sat_completed p c.args.trace _ _ _ _ _ _ _ _ _ ran);
+      profile = c.complete.ensures.profile ∙ c.play.ensures.profile ∙ inv.profile;
+      steps = let was = inv.steps in omega (arith, was, fewer_left, same_left, same_last);
       unmarked = or_left _ _ c.in_ok-play.ensures.marks;
       untyped = or_right _ _ c.in_ok-play.ensures.marks;
       punch = c.play.ensures.punch ∙ inv.punch;

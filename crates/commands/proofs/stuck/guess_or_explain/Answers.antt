@@ -19,7 +19,8 @@ pub returns-in-Found-clause-guessed : goal.returns-in-Found-clause-guessed
 returns-in-Found-clause-guessed g c = λ done. record {
   text = spelled (lines_of c.in-Found.claims);
   is = record {
-    tape = record { image = c.in_ok-image.image; tape = c.in_ok-image.ensures.tape };
+    image = c.in_ok-image.image;
+    tape = c.in_ok-image.ensures.tape;
     declaration = meaning c.in_ok-promised.promised;
     declares = c.in_ok-promised.ensures.declares;
     lines = lines_of c.in-Found.claims;
@@ -27,6 +28,10 @@ returns-in-Found-clause-guessed g c = λ done. record {
     version_is = rw c.in-Found.is at c.in_ok-attempt.ensures.version;
     guess_is = refl;
     short = rw c.in-Found.is at c.in_ok-attempt.ensures.short;
+    accepted = record {
+      valid = (rw c.in-Found.is at c.in_ok-attempt.ensures.accepted).valid;
+      safe = (rw c.in-Found.is at c.in_ok-attempt.ensures.accepted).safe;
+    };
   };
   written = c.in_ok-write-in-Found.ensures.whole;
 }
@@ -35,7 +40,8 @@ pub returns-in_err-write-in-Found-clause-front : goal.returns-in_err-write-in-Fo
 returns-in_err-write-in-Found-clause-front g c = λ marked. record {
   text = spelled (lines_of c.in-Found.claims);
   is = record {
-    tape = record { image = c.in_ok-image.image; tape = c.in_ok-image.ensures.tape };
+    image = c.in_ok-image.image;
+    tape = c.in_ok-image.ensures.tape;
     declaration = meaning c.in_ok-promised.promised;
     declares = c.in_ok-promised.ensures.declares;
     lines = lines_of c.in-Found.claims;
@@ -43,6 +49,10 @@ returns-in_err-write-in-Found-clause-front g c = λ marked. record {
     version_is = rw c.in-Found.is at c.in_ok-attempt.ensures.version;
     guess_is = refl;
     short = rw c.in-Found.is at c.in_ok-attempt.ensures.short;
+    accepted = record {
+      valid = (rw c.in-Found.is at c.in_ok-attempt.ensures.accepted).valid;
+      safe = (rw c.in-Found.is at c.in_ok-attempt.ensures.accepted).safe;
+    };
   };
   front = c.in_err-write-in-Found.ensures.front;
 }

@@ -1,8 +1,12 @@
-use Rattle.std.proofs.Common.{◌-◌, ◌≤◌}
+use Rattle.std.proofs.Common.{ℕ, ◌≡◌, ◌<◌, ◌-◌, true}
+use Rattle.wordset.specs.Lanes.{words}
+use Rattle.facts.specs.Meaning.{meaning}
+use Rattle.facts.specs.Places.{place_of}
+use Rattle.proposer.specs.Touched.{IsTouchedBy}
 use Rattle.proposer.proofs.variables.touched_at.Given as goal
 
 abbrev pub invariant-loop-word : goal.invariant-loop-word
-invariant-loop-word g l = l.next ≤ 4096
+invariant-loop-word g l = (cell : ℕ) → cell < 4096 → words l.cells cell ≡ true → IsTouchedBy l.access (place_of l.place) (meaning l.fact) l.at cell
 
 abbrev pub decreases-loop-word : goal.decreases-loop-word
 decreases-loop-word g l = 4096 - l.next

@@ -1,0 +1,114 @@
+-- Events, and the plan of an operator, have one run.
+use Rattle.std.proofs.Common.{ℕ, ◌≡◌, ◌+◌, Bool, true, false, Option, Some, None, List, [], ◌∷◌, ◌++◌, refl, sym, ap, ◌∙◌, subst}
+use Rattle.instruct.specs.declared.Profile.{Profile}
+use Rattle.peripherals.specs.declared.Event.{Event}
+use Rattle.peripherals.specs.declared.Seen.{Seen}
+use Rattle.peripherals.specs.declared.Seen.TheVariants as seen
+use Rattle.peripherals.specs.Devices.{WorldState}
+use Rattle.peripherals.specs.Events.{Happens}
+use Rattle.peripherals.specs.Operator.{Plan, due, left_after}
+use Rattle.peripherals.specs.Seen.{seen_of}
+use Rattle.peripherals.proofs.OneLemmas.{one_world}
+use Rattle.commands.specs.declared.follow.End.{End}
+use Rattle.commands.specs.declared.follow.End.TheVariants.{Unsupported}
+use Rattle.commands.specs.declared.running.RunOptions.{RunOptions}
+use Rattle.commands.specs.Follows.{Follows, Ended, Stuck, Stopped, Went, end_of, goes_on, counted}
+use Rattle.commands.specs.Laws.{RunsAreOne, SessionsAreOne}
+use Rattle.commands.specs.Running.{IsRunOf, fresh, status_of}
+use Rattle.commands.specs.Session.{Comes, Over, Cut, Final, Then, Whole, printed_in, summary_where}
+use Rattle.commands.specs.Summary.{summary}
+use Rattle.commands.specs.Trace.{trace_of, traced}
+
+-- two runs are one
+record AreOne (lines lines' : List ℕ) (n n' : ℕ) (end end' : End) (x x' : WorldState) : Type 0 where
+  same_lines : lines ≡ lines'
+  same_steps : n ≡ n'
+  same_end : end ≡ end'
+  same_final : x ≡ x'
+
+-- a run that goes on doesn't end here
+not_on : (h : Bool) (what : Seen) (word : ℕ) → what ≡ seen.Unsupported word → goes_on h what ≡ true → ⊥
+not_on h what word is on = let no : goes_on h what ≡ false = ap (goes_on h) is in cc
+
+not_halted : (h : Bool) (what : Seen) → h ≡ true → what ≡ seen.Halted → goes_on h what ≡ true → ⊥
+not_halted true what ends is on = let no : goes_on true what ≡ false = ap (goes_on true) is in cc
+not_halted false what ends is on = cc
+
+follows_one : (p : Profile) (h : Bool) (es : List Event) (w : WorldState) (lines lines' : List ℕ) (n n' : ℕ) (end end' : End) (x x' : WorldState) →
+    Follows p h es w lines n end x → Follows p h es w lines' n' end' x' → AreOne lines lines' n n' end end' x x'
+follows_one p h [] w lines lines' n n' end end' x x' (Ended _) (Ended _) = record { same_lines = refl; same_steps = refl; same_end = refl; same_final = refl }
+follows_one p h (e ∷ es) w lines lines' n n' end end' x x' (Stuck _ _ _ _ word s a) (Stuck _ _ _ _ word' s' a') =
+    let one : x ≡ x' = one_world p w e x x' a a' in
+    record { same_lines = refl; same_steps = refl; same_end = ap (λ (y : WorldState). Unsupported y.state.pc) one; same_final = one }
+follows_one p h (e ∷ es) w lines lines' n n' end end' x x' (Stuck _ _ _ _ word s a) (Stopped _ _ _ _ ends s' a') = absurd (let both : seen.Unsupported word ≡ seen.Halted = sym s ∙ s' in cc)
+follows_one p h (e ∷ es) w lines lines' n n' end end' x x' (Stuck _ _ _ _ word s a) (Went _ _ _ m' _ what' ls' k' _ s' on' a' f') = absurd (not_on h what' word (sym s' ∙ s) on')
+follows_one p h (e ∷ es) w lines lines' n n' end end' x x' (Stopped _ _ _ _ ends s a) (Stuck _ _ _ _ word s' a') = absurd (let both : seen.Unsupported word ≡ seen.Halted = sym s' ∙ s in cc)
+follows_one p h (e ∷ es) w lines lines' n n' end end' x x' (Stopped _ _ _ _ ends s a) (Stopped _ _ _ _ ends' s' a') =
+    let one : x ≡ x' = one_world p w e x x' a a' in
+    record { same_lines = ap (λ (y : WorldState). trace_of p w e y) one; same_steps = refl; same_end = ap (λ (y : WorldState). end_of y) one; same_final = one }
+follows_one p h (e ∷ es) w lines lines' n n' end end' x x' (Stopped _ _ _ _ ends s a) (Went _ _ _ m' _ what' ls' k' _ s' on' a' f') = absurd (not_halted h what' ends (sym s' ∙ s) on')
+follows_one p h (e ∷ es) w lines lines' n n' end end' x x' (Went _ _ _ m _ what ls k _ s on a f) (Stuck _ _ _ _ word s' a') = absurd (not_on h what word (sym s ∙ s') on)
+follows_one p h (e ∷ es) w lines lines' n n' end end' x x' (Went _ _ _ m _ what ls k _ s on a f) (Stopped _ _ _ _ ends s' a') = absurd (not_halted h what ends (sym s ∙ s') on)
+follows_one p h (e ∷ es) w lines lines' n n' end end' x x' (Went _ _ _ m _ what ls k _ s on a f) (Went _ _ _ m' _ what' ls' k' _ s' on' a' f') =
+    let one : m' ≡ m = one_world p w e m' m a' a in
+    let same : what ≡ what' = sym s ∙ s' in
+    let rest : AreOne ls ls' k k' end end' x x' = follows_one p h es m ls ls' k k' end end' x x' f (subst (λ (y : WorldState). Follows p h es y ls' k' end' x') one f') in
+    record {
+      same_lines = ap (λ (y : WorldState). trace_of p w e y ++ ls) (sym one) ∙ ap (λ (l : List ℕ). trace_of p w e m' ++ l) rest.same_lines;
+      same_steps = ap (λ (y : Seen). counted y + k) same ∙ ap (λ (y : ℕ). counted what' + y) rest.same_steps;
+      same_end = rest.same_end;
+      same_final = rest.same_final;
+    }
+
+pub runs_are_one : RunsAreOne
+runs_are_one options h events image text text' status status' a b =
+    let one = follows_one options.profile h events (fresh image options.start) a.lines b.lines a.steps b.steps a.end b.end a.final b.final a.follows b.follows in (
+      a.text_is ∙ (ap (λ (l : List ℕ). traced options.trace l ++ summary a.end a.final a.steps) one.same_lines ∙ (ap (λ (e : End). traced options.trace b.lines ++ summary e a.final a.steps) one.same_end
+          ∙ (ap (λ (x : WorldState). traced options.trace b.lines ++ summary b.end x a.steps) one.same_final ∙ (ap (λ (n : ℕ). traced options.trace b.lines ++ summary b.end b.final n) one.same_steps ∙ sym b.text_is)))),
+      a.status_is ∙ (ap status_of one.same_end ∙ sym b.status_is),
+    )
+
+-- ---- an operator's run
+
+some_one : {e d : Event} → Some e ≡ Some d → e ≡ d
+some_one is = cc
+
+comes_one : (p : Profile) (plan : Plan) (last : Option Event) (w : WorldState) (es fs : List Event) → Comes p Whole plan last w es → Comes p Whole plan last w fs → es ≡ fs
+comes_one p plan last w es fs (Cut _ _ _ may) b = absurd may
+comes_one p plan last w es fs (Over _ _ _ none) (Cut _ _ _ may) = absurd may
+comes_one p plan last w es fs (Final _ _ _ e is off) (Cut _ _ _ may) = absurd may
+comes_one p plan last w es fs (Then _ _ _ m e more is on a f) (Cut _ _ _ may) = absurd may
+comes_one p plan last w es fs (Over _ _ _ none) (Over _ _ _ none') = refl
+comes_one p plan last w es fs (Over _ _ _ none) (Final _ _ _ e due' off') = absurd (let both : None ≡ Some e = sym none ∙ due' in cc)
+comes_one p plan last w es fs (Over _ _ _ none) (Then _ _ _ m e more due' on' a' f') = absurd (let both : None ≡ Some e = sym none ∙ due' in cc)
+comes_one p plan last w es fs (Final _ _ _ e is off) (Over _ _ _ none') = absurd (let both : None ≡ Some e = sym none' ∙ is in cc)
+comes_one p plan last w es fs (Final _ _ _ e is off) (Final _ _ _ d is' off') = ap (λ (x : Event). x ∷ []) (some_one (sym is ∙ is'))
+comes_one p plan last w es fs (Final _ _ _ e is off) (Then _ _ _ m d more is' on' a' f') =
+    let same : e ≡ d = some_one (sym is ∙ is') in
+    let on : goes_on true (seen_of p w e) ≡ true = subst (λ (x : Event). goes_on true (seen_of p w x) ≡ true) (sym same) on' in
+    absurd (cc)
+comes_one p plan last w es fs (Then _ _ _ m e more is on a f) (Over _ _ _ none') = absurd (let both : None ≡ Some e = sym none' ∙ is in cc)
+comes_one p plan last w es fs (Then _ _ _ m e more is on a f) (Final _ _ _ d is' off') =
+    let same : e ≡ d = some_one (sym is ∙ is') in
+    let on' : goes_on true (seen_of p w d) ≡ true = subst (λ (x : Event). goes_on true (seen_of p w x) ≡ true) same on in
+    absurd (cc)
+comes_one p plan last w es fs (Then _ _ _ m e more is on a f) (Then _ _ _ m' d more' is' on' a' f') =
+    let same : d ≡ e = some_one (sym is' ∙ is) in
+    let here : Happens p w e m' = subst (λ (x : Event). Happens p w x m') same a' in
+    let one : m' ≡ m = one_world p w e m' m here a in
+    let after : Comes p Whole (left_after e plan) (Some e) m' more' = subst (λ (x : Event). Comes p Whole (left_after x plan) (Some x) m' more') same f' in
+    let rest : more ≡ more' = comes_one p (left_after e plan) (Some e) m more more' f (subst (λ (y : WorldState). Comes p Whole (left_after e plan) (Some e) y more') one after) in
+    ap (λ (l : List Event). e ∷ l) rest ∙ ap (λ (x : Event). x ∷ more') (sym same)
+
+pub sessions_are_one : SessionsAreOne
+sessions_are_one options plan image text text' printed printed' punched punched' status status' a b =
+    let come : b.events ≡ a.events = comes_one options.profile plan None (fresh image options.start) b.events a.events b.come a.come in
+    let follows : Follows options.profile true a.events (fresh image options.start) b.lines b.steps b.end b.final =
+    subst (λ (es : List Event). Follows options.profile true es (fresh image options.start) b.lines b.steps b.end b.final) come b.follows in
+    let one = follows_one options.profile true a.events (fresh image options.start) a.lines b.lines a.steps b.steps a.end b.end a.final b.final a.follows follows in (
+      a.text_is ∙ (ap (λ (l : List ℕ). traced options.trace l ++ summary a.end a.final a.steps) one.same_lines ∙ (ap (λ (e : End). traced options.trace b.lines ++ summary e a.final a.steps) one.same_end
+          ∙ (ap (λ (x : WorldState). traced options.trace b.lines ++ summary b.end x a.steps) one.same_final ∙ (ap (λ (n : ℕ). traced options.trace b.lines ++ summary b.end b.final n) one.same_steps ∙ sym b.text_is)))),
+      a.printed_is ∙ (ap (λ (x : WorldState). printed_in x) one.same_final ∙ sym b.printed_is),
+      a.punched_is ∙ (ap (λ (x : WorldState). x.devices.punch.output) one.same_final ∙ sym b.punched_is),
+      a.status_is ∙ (ap status_of one.same_end ∙ sym b.status_is),
+    )

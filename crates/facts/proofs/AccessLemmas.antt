@@ -1,0 +1,94 @@
+-- What a step from a state of a fact does is among what the fact says that it may.
+use Rattle.std.proofs.Common.{◌≡◌, ℕ, ◌<◌, ◌==◌, Bool, true, false, ◌&&◌, ◌||◌, ◌⊎◌, refl, sym, ap, ◌∙◌, subst}
+use Rattle.std.proofs.lemmas.Bool.{eqb-true}
+use Rattle.instruct.specs.Instructions.{Meaning, And, Tad, Isz, Dca, Jms, Jmp, Group1, Group2, Group3, Device, Undefined}
+use Rattle.wordset.specs.Words.{Words}
+use Rattle.processor.specs.Cells.{Cells}
+use Rattle.processor.specs.Machine.{State, place, instruction, steps_pointer}
+use Rattle.declaration.specs.Declaration.{IsDeclared}
+use Rattle.policy.specs.Calls.{Calls}
+use Rattle.policy.specs.Rules.{pointer_of, read_by, written_by, stored_at}
+use Rattle.facts.specs.Facts.{Fact, Place, Means, possible, Entails, EntailsOffsets}
+use Rattle.facts.specs.Outcomes.{targets}
+use Rattle.facts.specs.Conditions.{may_read, may_write, may_store, called, WritesAreDeclared}
+use Rattle.facts.specs.Law.{IsState, TopIsEntry}
+use Rattle.facts.specs.Access.{IsStateOf, ReadsAreForeseen, WritesAreForeseen, CallsAreForeseen, WordsAreForeseen, EntailedFactsHold}
+use Rattle.facts.proofs.Numbers.{or_left, or_right}
+use Rattle.facts.proofs.Laws.{entails_holds}
+use Rattle.facts.proofs.Cells.{values_words, own_like, possible_true}
+use Rattle.facts.proofs.Covers.{NamesWord, meaning_names, pointer_written, accessed}
+
+or_wider : (x y z : Bool) → (y ≡ true → z ≡ true) → (x || y) ≡ true → (x || z) ≡ true
+or_wider true y z f e = refl
+or_wider false y z f e = f e
+
+at_place : (set : Words) (a p : ℕ) → set p ≡ true → (a == p) ≡ true → set a ≡ true
+at_place set a p there e = ap set (eqb-true a p e) ∙ there
+
+-- the place that a memory reference refers to is one of its targets
+reaches : (pl : Place) (start : Cells) (f : Fact) (s : State) (ks : Calls) (i : Bool) (c : ℕ) → IsStateOf pl start f s ks → c < 4096
+    → (steps_pointer i c ≡ true → (pl.declaration.variable c ≡ true) ⊎ (pl.declaration.entry c ≡ true)) → targets pl i c f (place i c s.memory) ≡ true
+reaches pl start f s ks i c is named declared = (accessed pl is.declared start is.begun.words is.begun.loaded f s ks i c is.state is.top is.means named declared).target
+
+read_may : (pl : Place) (start : Cells) (f : Fact) (s : State) (ks : Calls) (a : ℕ) (m : Meaning) → IsStateOf pl start f s ks → NamesWord m → WritesAreDeclared pl f m → read_by m s.memory a ≡ true → may_read pl f m a ≡ true
+read_may pl start f s ks a (And i c) is named declared reads =
+    let there : targets pl i c f (place i c s.memory) ≡ true = reaches pl start f s ks i c is named (λ e. declared c named (or_left _ _ (pointer_written pl is.declared start is.begun.words is.begun.loaded i c e))) in
+    or_wider (i && (a == c)) (a == place i c s.memory) (targets pl i c f a) (at_place (targets pl i c f) a (place i c s.memory) there) reads
+read_may pl start f s ks a (Tad i c) is named declared reads =
+    let there : targets pl i c f (place i c s.memory) ≡ true = reaches pl start f s ks i c is named (λ e. declared c named (or_left _ _ (pointer_written pl is.declared start is.begun.words is.begun.loaded i c e))) in
+    or_wider (i && (a == c)) (a == place i c s.memory) (targets pl i c f a) (at_place (targets pl i c f) a (place i c s.memory) there) reads
+read_may pl start f s ks a (Isz i c) is named declared reads =
+    let there : targets pl i c f (place i c s.memory) ≡ true = reaches pl start f s ks i c is named (λ e. declared c named (or_left _ _ (pointer_written pl is.declared start is.begun.words is.begun.loaded i c e))) in
+    or_wider (i && (a == c)) (a == place i c s.memory) (targets pl i c f a) (at_place (targets pl i c f) a (place i c s.memory) there) reads
+read_may pl start f s ks a (Dca i c) is named declared reads = reads
+read_may pl start f s ks a (Jms i c) is named declared reads = reads
+read_may pl start f s ks a (Jmp i c) is named declared reads = reads
+read_may pl start f s ks a (Group1 w) is named declared reads = reads
+read_may pl start f s ks a (Group2 w) is named declared reads = reads
+read_may pl start f s ks a (Group3 o) is named declared reads = reads
+read_may pl start f s ks a (Device x) is named declared reads = reads
+read_may pl start f s ks a Undefined is named declared reads = reads
+
+write_may : (pl : Place) (start : Cells) (f : Fact) (s : State) (ks : Calls) (a : ℕ) (m : Meaning) → IsStateOf pl start f s ks → NamesWord m → WritesAreDeclared pl f m → written_by m s.memory a ≡ true → may_write pl f m a ≡ true
+write_may pl start f s ks a (And i c) is named declared writes = writes
+write_may pl start f s ks a (Tad i c) is named declared writes = writes
+write_may pl start f s ks a (Isz i c) is named declared writes =
+    let there : targets pl i c f (place i c s.memory) ≡ true = reaches pl start f s ks i c is named (λ e. declared c named (or_left _ _ (pointer_written pl is.declared start is.begun.words is.begun.loaded i c e))) in
+    or_wider (pointer_of (Isz i c) a) (a == place i c s.memory) (targets pl i c f a) (at_place (targets pl i c f) a (place i c s.memory) there) writes
+write_may pl start f s ks a (Dca i c) is named declared writes =
+    let there : targets pl i c f (place i c s.memory) ≡ true = reaches pl start f s ks i c is named (λ e. declared c named (or_left _ _ (pointer_written pl is.declared start is.begun.words is.begun.loaded i c e))) in
+    or_wider (pointer_of (Dca i c) a) (a == place i c s.memory) (targets pl i c f a) (at_place (targets pl i c f) a (place i c s.memory) there) writes
+write_may pl start f s ks a (Jms i c) is named declared writes = writes
+write_may pl start f s ks a (Jmp i c) is named declared writes = writes
+write_may pl start f s ks a (Group1 w) is named declared writes = writes
+write_may pl start f s ks a (Group2 w) is named declared writes = writes
+write_may pl start f s ks a (Group3 o) is named declared writes = writes
+write_may pl start f s ks a (Device x) is named declared writes = writes
+write_may pl start f s ks a Undefined is named declared writes = writes
+
+pub reads_are_foreseen : ReadsAreForeseen
+reads_are_foreseen pl start f s ks a is declared reads =
+    read_may pl start f s ks a (instruction pl.declaration.profile s) is (meaning_names pl.declaration.profile s.pc (s.memory s.pc) is.state.pc) declared reads
+
+pub writes_are_foreseen : WritesAreForeseen
+writes_are_foreseen pl start f s ks a is declared writes =
+    write_may pl start f s ks a (instruction pl.declaration.profile s) is (meaning_names pl.declaration.profile s.pc (s.memory s.pc) is.state.pc) declared writes
+
+pub calls_are_foreseen : CallsAreForeseen
+calls_are_foreseen pl start f s ks i c is declared call =
+    let named : NamesWord (Jms i c) = subst NamesWord call (meaning_names pl.declaration.profile s.pc (s.memory s.pc) is.state.pc) in
+    let here : WritesAreDeclared pl f (Jms i c) = subst (λ (m : Meaning). WritesAreDeclared pl f m) call declared in
+    reaches pl start f s ks i c is named (λ e. here c named (or_left _ _ (pointer_written pl is.declared start is.begun.words is.begun.loaded i c e)))
+
+pub words_are_foreseen : WordsAreForeseen
+words_are_foreseen pl start f s ks a is none = possible_true pl is.declared start is.begun.words is.begun.loaded f s ks a is.state is.means none
+
+pub entailed_facts_hold : EntailedFactsHold
+entailed_facts_hold pl start f g s ks sw ss en off h = record {
+  holds = entails_holds en (values_words pl.declaration start s.ac s.memory ss.ac sw ss.words) h.holds;
+  mq = en.mq s.mq ss.mq h.mq;
+  link = en.link s.link ss.link h.link;
+  rest = h.rest;
+  stands = h.stands;
+  own = own_like f g s.memory ks off h.own;
+}

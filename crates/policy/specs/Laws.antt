@@ -1,0 +1,27 @@
+-- What the definitions of declared runs and of what is told of them leave open: nothing.
+use Rattle.std.specs.Prelude.{◌≡◌, ℕ, List}
+use Rattle.processor.specs.Runs.{Image}
+use Rattle.peripherals.specs.declared.Event.{Event}
+use Rattle.peripherals.specs.Devices.{WorldState}
+use Rattle.declaration.specs.Declaration.{Declaration, IsDeclared}
+use Rattle.policy.specs.Rules.{KeepsCode}
+use Rattle.policy.specs.Watching.{BreaksAt, LeadsTo, Tells}
+use Rattle.policy.specs.declared.rules.Rule.TheVariants as rule
+use Rattle.policy.specs.declared.watcher.Watched.{Watched}
+
+-- Events lead a declared run to one world.
+abbrev pub RunIsOne : Type 0
+RunIsOne = (d : Declaration) (events : List Event) (w x x' : WorldState) → LeadsTo d events w x → LeadsTo d events w x' → x ≡ x'
+
+-- One thing is told of a declared run.
+abbrev pub VerdictIsOne : Type 0
+VerdictIsOne =
+    (image : Image) (d : Declaration) (events : List Event) (w : WorldState) (told told' : Watched) →
+    Tells image d events w told → Tells image d events w told' → told ≡ told'
+
+-- Where a run begins with the tape's words in its code, no step breaks the rule on code first: whatever changes code breaks
+-- another rule before.
+abbrev pub CodeIsKept : Type 0
+CodeIsKept =
+    (image : Image) (d : Declaration) (events : List Event) (w : WorldState) (n : ℕ) →
+    IsDeclared d → KeepsCode image d w.state.memory → BreaksAt image d events w n rule.KeepsCode → ⊥

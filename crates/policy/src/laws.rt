@@ -1,0 +1,21 @@
+//! Laws over the definitions alone. Each is the contract of a function that does nothing.
+
+ghost use Rattle.policy.specs.Laws.{CodeIsKept, RunIsOne, VerdictIsOne};
+ghost use Rattle.policy.specs.Rules.{UnlistedReadsAreKept};
+
+/// Where a declaration lists no reads, each step keeps the rule on reads.
+pub fn unlisted_reads_are_kept()
+    ensures { UnlistedReadsAreKept }
+{}
+
+/// A list of events leads a declared run to one world, and one thing is told of it.
+pub fn verdicts_are_one()
+    ensures run { RunIsOne }
+    ensures told { VerdictIsOne }
+{}
+
+/// The rule on code is never the one that is told of a loaded program: a step that would change
+/// code breaks another rule.
+pub fn code_is_kept()
+    ensures { CodeIsKept }
+{}

@@ -1,0 +1,24 @@
+-- What is left of a set.
+use Rattle.std.proofs.Common.{◌≡◌, ℕ, ◌+◌, ◌<◌, Bool, true, false, not, ◌&&◌, ◌⊎◌, refl, sym, ap, ◌∙◌, subst, inl, inr, arith}
+use Rattle.std.proofs.lemmas.Bool.{cases_lt, true≢false, or_cases}
+use Rattle.wordset.specs.Words.{Words, HasNoneFrom, difference, union}
+
+-- Where nothing is left of a set without another, each of its words is in the other.
+pub none_left : (r s t : Words) → HasNoneFrom 0 r → r ≡ difference s t → (a : ℕ) → a < 4096 → s a ≡ true → t a ≡ true
+none_left r s t none same a lt is = picked (s a) (t a) is (sym (ap (λ (u : Words). u a) same) ∙ none a (omega arith) lt)
+  where
+    picked : (x y : Bool) → x ≡ true → (x && not y) ≡ false → y ≡ true
+    picked true true e h = refl
+    picked true false e h = absurd (true≢false h)
+    picked false y e h = absurd (true≢false (sym e))
+
+-- A word of two sets together is in the one or in the other.
+pub in_union : (r s t : Words) → r ≡ union s t → (a : ℕ) → r a ≡ true → (s a ≡ true) ⊎ (t a ≡ true)
+in_union r s t same a is = or_cases (s a) (t a) (sym (ap (λ (u : Words). u a) same) ∙ is)
+
+-- None below the next number is in the set, where none below this one is and this one isn't.
+pub none_below : (s : Words) (i : ℕ) → ((o : ℕ) → o < i → s o ≡ false) → s i ≡ false → (o : ℕ) → o < i + 1 → s o ≡ false
+none_below s i before here o lt = elim (cases_lt o i) [
+  | inl h ↦ before o h
+  | inr h ↦ (let same : i ≡ o = omega arith in subst (λ k. s k ≡ false) same here)
+]

@@ -3,7 +3,8 @@ use Rattle.std.proofs.Common.{ℕ, ◌≡◌, Bool, true, false, List, Option, N
 use Rattle.std.proofs.lemmas.Bool.{true≢false}
 use Rattle.declaration.specs.Kept.{meaning}
 use Rattle.certificate.specs.declared.Certificate.{Certificate}
-use Rattle.proposer.specs.Proposals.{Fits, IsListed, IsShown}
+use Rattle.certificate.specs.Kept as certified
+use Rattle.proposer.specs.Proposals.{AreNeeded, Fits, IsListed, IsShown}
 use Rattle.proposer.specs.declared.Proposal.{Proposal}
 use Rattle.proposer.specs.declared.Verdict.TheVariants.{Safe}
 use Rattle.commands.specs.Inputs.{HasImage}
@@ -22,8 +23,9 @@ refused_not_done is = absurd (true≢false (sym (ap is_done is)))
 -- with a certificate
 pub shown_proposal : {A : Type 0} → (options : DeclareOptions) (frames : Option (List ℕ)) (image : List (Option ℕ)) (p : Proposal A) (c : Certificate A) →
     HasImage frames image → Fits options.start options.profile p → IsShown image p.declaration p.verdict → (options.reads ≡ true → IsListed p.declaration p.verdict) →
+    (options.reads ≡ true → AreNeeded image p.declaration p.verdict) →
     (options.reads ≡ false → (meaning p.declaration).reads ≡ None) → p.verdict ≡ Safe c → IsProposal options frames Done p.text.items
-shown_proposal {A = A} options frames image p c has fits shown listed unlisted is =
+shown_proposal {A = A} options frames image p c has fits shown listed needed unlisted is =
     let kept : IsShown {A = A} image p.declaration (Safe c) = rw is at shown in
     record {
       image = image;
@@ -31,6 +33,7 @@ shown_proposal {A = A} options frames image p c has fits shown listed unlisted i
       is = record { declaration = meaning p.declaration; declares = fits.text; start_is = fits.start; profile_is = fits.profile; unlisted = unlisted };
       safe = λ done. kept.0;
       listed = λ done asked. let lists : IsListed {A = A} p.declaration (Safe c) = rw is at listed asked in lists;
+      needed = λ done asked. let all : AreNeeded {A = A} image p.declaration (Safe c) = rw is at needed asked in record { lines = certified.meaning c; lines_are = kept.1.0; valid = kept.2; needed = all };
     }
 
 -- without one
@@ -42,4 +45,5 @@ remarked_proposal options frames image text has is = record {
   is = is;
   safe = λ done. refused_not_done done;
   listed = λ done asked. refused_not_done done;
+  needed = λ done asked. refused_not_done done;
 }

@@ -8,7 +8,7 @@ ghost use Rattle.commands.specs.Inputs.{TakesTape, input};
 ghost use Rattle.commands.specs.Writes.{FrontOf, Writes};
 ghost use Rattle.declaration.specs.Kept.{meaning};
 ghost use Rattle.declaration.specs.Text.{Declares};
-ghost use Rattle.proposer.specs.Proposals.{Fits, IsListed, IsShown, IsTold};
+ghost use Rattle.proposer.specs.Proposals.{AreNeeded, Fits, IsListed, IsShown, IsTold};
 
 use crate::checking::condition_name;
 use crate::inputs::tape_from;
@@ -87,6 +87,8 @@ fn proposal_for<A: Allocator + Copy>(
     ensures shown { IfOk result (λ p. IsShown image.now p.declaration p.verdict) }
     ensures listed { options.now.reads ≡ true →
         IfOk result (λ p. IsListed p.declaration p.verdict) }
+    ensures needed { options.now.reads ≡ true →
+        IfOk result (λ p. AreNeeded image.now p.declaration p.verdict) }
     ensures unlisted { options.now.reads ≡ false →
         IfOk result (λ p. (meaning p.declaration).reads ≡ None) }
     ensures faults { IfErr result IsTold }
@@ -183,7 +185,8 @@ pub fn declare<A: Allocator + Copy, R: ByteSource, W: ByteSink>(
     requires readable { R.mark tape.old ≡ false }
     requires writable { W.mark out.old ≡ false }
     // What is written declares a program from that start, on that machine; and where the command is
-    // done the tape's program is safe, and there is a list of reads if one was asked for.
+    // done the tape's program is safe, and there is a list of reads if one was asked for, of cells that
+    // by the facts of a certificate some possible word may read.
     ensures declared { IfOk result (λ status. Writes
         (IsProposal options (R.remaining tape.old) status) (W.taken out.old) (W.taken out.new)) }
     ensures statuses { IfOk result (λ status. (status ≡ Done) ⊎ (status ≡ Refused)) }

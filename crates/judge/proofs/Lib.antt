@@ -15,3 +15,4 @@ pub mod VerdictLemmas
 pub mod AgreeingLemmas
 pub mod RestatedLemmas
 pub mod ReadingLemmas
+mod TrueLemmas

@@ -178,7 +178,7 @@ one_order j v u a b asked also same = elim (start_or_later v) [
   ]
 ]
 
-one_first : (j : Case) (v u : Condition) (a b : ℕ) → IsFirst j v a → IsFirst j u b → (v ≡ u) × (a ≡ b)
+pub one_first : (j : Case) (v u : Condition) (a b : ℕ) → IsFirst j v a → IsFirst j u b → (v ≡ u) × (a ≡ b)
 one_first j v u a b f g = elim (cases_order (order v a) (order u b)) [
   | inl same ↦ one_order j v u a b f.asked g.asked same
   | inr differ ↦ elim differ [

@@ -1,10 +1,12 @@
 -- What the definitions of declared runs and of what is told of them leave open: nothing.
 use Rattle.std.specs.Prelude.{◌≡◌, ℕ, List}
+use Rattle.processor.specs.Machine.{State, Answer, Step, instruction}
 use Rattle.processor.specs.Runs.{Image}
 use Rattle.peripherals.specs.declared.Event.{Event}
 use Rattle.peripherals.specs.Devices.{WorldState}
 use Rattle.declaration.specs.Declaration.{Declaration, IsDeclared}
-use Rattle.policy.specs.Rules.{KeepsCode}
+use Rattle.policy.specs.Calls.{Calls}
+use Rattle.policy.specs.Rules.{StaysInBody, WritesDeclared, CallsEntries, KeepsCode}
 use Rattle.policy.specs.Watching.{BreaksAt, LeadsTo, Tells}
 use Rattle.policy.specs.declared.rules.Rule.TheVariants as rule
 use Rattle.policy.specs.declared.watcher.Watched.{Watched}
@@ -18,6 +20,13 @@ abbrev pub VerdictIsOne : Type 0
 VerdictIsOne =
     (image : Image) (d : Declaration) (events : List Event) (w : WorldState) (told told' : Watched) →
     Tells image d events w told → Tells image d events w told' → told ≡ told'
+
+-- A step that keeps the first three rules keeps the code.
+abbrev pub StepsKeepCode : Type 0
+StepsKeepCode =
+    (image : Image) (d : Declaration) (s t : State) (q : Answer) (ks : Calls) →
+    IsDeclared d → StaysInBody d s ks → WritesDeclared d (instruction d.profile s) s ks → CallsEntries d (instruction d.profile s) s →
+    Step d.profile s q t → KeepsCode image d s.memory → KeepsCode image d t.memory
 
 -- Where a run begins with the tape's words in its code, no step breaks the rule on code first: whatever changes code breaks
 -- another rule before.

@@ -12,6 +12,7 @@ use Rattle.certificate.specs.Spelling.{Lines, text}
 use Rattle.judge.specs.Conditions.{IsFirst, IsValid}
 use Rattle.judge.specs.Judged.{judged}
 use Rattle.declaration.specs.declared.DeclarationFault.TheVariants as declaration_fault
+use Rattle.facts.specs.declared.Condition.TheVariants.{V15}
 use Rattle.proposer.specs.Needed.{ReadsAreNeeded}
 use Rattle.analyser.specs.Counts.{Count}
 use Rattle.analyser.specs.Versions.{version_of}
@@ -61,6 +62,11 @@ IsListed d _ = (meaning d).reads ≡ None
 abbrev pub IsNoRefusal : {A : Type 0} → Verdict A → Type 0
 IsNoRefusal (Refused c r) = ⊥
 IsNoRefusal _ = ⊤
+
+-- Where the judge refuses what is found, it is by the condition on reads.
+abbrev pub IsByReads : {A : Type 0} → Verdict A → Type 0
+IsByReads (Refused c r) = r.condition ≡ V15
+IsByReads _ = ⊤
 
 -- By the facts of the certificate that is found, some word may read each cell of the list of reads.
 abbrev pub AreNeeded : {A : Type 0} → List (Option ℕ) → Kept → Verdict A → Type 0

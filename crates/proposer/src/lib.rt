@@ -12,7 +12,7 @@ ghost use Rattle.declaration.specs.Text.{Declares, ListsRoutines};
 ghost use Rattle.judge.specs.Judged.{judged};
 ghost use Rattle.proposer.specs.Needed.{ReadsAreNeeded};
 ghost use Rattle.proposer.specs.declared.Verdict.TheVariants.{TurnsSpent};
-ghost use Rattle.proposer.specs.Proposals.{AreNeeded, Fits, IsListed, IsNoRefusal, IsShown, IsSpentUp, IsTold};
+ghost use Rattle.proposer.specs.Proposals.{AreNeeded, Fits, IsByReads, IsListed, IsNoRefusal, IsShown, IsSpentUp, IsTold};
 
 mod map;
 mod steps;
@@ -29,7 +29,7 @@ use bin_tape::Image;
 use certificate::Certificate;
 use declaration::{Declaration, DeclarationFault};
 use instruct::Profile;
-use judge::{Refusal, judge};
+use judge::{Condition, Refusal, judge};
 use std::alloc::Allocator;
 use thiserror::Error;
 use word12::Word;
@@ -44,7 +44,8 @@ pub enum ProposeFault {
     /// What was found can't be declared, as where there are more than 64 routines.
     #[error("Undeclarable {0}")]
     Undeclarable(DeclarationFault),
-    /// What was found has another start, is for another machine than was asked, or lists other cells.
+    /// What was found has another start, is for another machine than was asked, or lists other cells; or
+    /// the judge refuses it by another condition than that on reads.
     #[error("Mismatch")]
     Mismatch,
     /// A growth was refused.
@@ -147,6 +148,8 @@ pub fn propose_with_reads<A: Allocator + Copy>(
     ensures listed { IfOk result (λ p. IsListed p.declaration p.verdict) }
     // By its facts some step may read each cell that is listed.
     ensures needed { IfOk result (λ p. AreNeeded image.now p.declaration p.verdict) }
+    // A refusal that is told is by the condition on reads.
+    ensures by_reads { IfOk result (λ p. IsByReads p.verdict) }
     ensures spent { IfOk result (λ p. IsSpentUp turns.new p.verdict) }
     ensures faults { IfErr result IsTold }
     ensures limit { turns.new.limit ≡ turns.old.limit }
@@ -169,6 +172,9 @@ pub fn propose_with_reads<A: Allocator + Copy>(
                 return Err(ProposeFault::Mismatch);
             }
             let verdict = tested(image, &listing, certificate);
+            if !is_by_reads(&verdict) {
+                return Err(ProposeFault::Mismatch);
+            }
             Ok(Proposal {
                 declaration: listing,
                 text,
@@ -367,6 +373,16 @@ fn tested<A: Allocator>(
     match judge(image, declaration, &certificate) {
         Ok(()) => Verdict::Safe(certificate),
         Err(refusal) => Verdict::Refused(certificate, refusal),
+    }
+}
+
+/// Whether a refusal, if it is one, is by the condition on reads.
+fn is_by_reads<A: Allocator>(verdict: &Verdict<A>) -> bool
+    ensures { result ≡ true → IsByReads verdict.now }
+{
+    match verdict {
+        Verdict::Refused(_, refusal) => matches!(refusal.condition, Condition::V15),
+        _ => true,
     }
 }
 

@@ -1,0 +1,39 @@
+-- What a valid certificate says of every run, and which condition fails first.
+use Rattle.std.specs.Prelude.{◌≡◌, ℕ, true, None, List, []}
+use Rattle.processor.specs.Cells.{Cells}
+use Rattle.processor.specs.Machine.{State, Answer}
+use Rattle.processor.specs.Runs.{IsStart}
+use Rattle.peripherals.specs.declared.Event.{Event}
+use Rattle.peripherals.specs.Devices.{WorldState}
+use Rattle.peripherals.specs.Events.{IsLoaded}
+use Rattle.declaration.specs.Declaration.{IsDeclared}
+use Rattle.policy.specs.Calls.{Calls, current}
+use Rattle.policy.specs.Runs.{DeclaredRun, DeclaredEvents}
+use Rattle.facts.specs.Facts.{Means}
+use Rattle.facts.specs.declared.Condition.{Condition}
+use Rattle.judge.specs.Conditions.{Case, IsFirst, IsValid, fact_at, place_in}
+
+-- There is a fact at the program counter, and it holds of the memory at the start, this state and this call list, in the
+-- running routine.
+pub record IsTrueAt (j : Case) (start : Cells) (t : State) (ls : Calls) : Type 0 where
+  pub there : j.certificate.has_fact t.pc ≡ true
+  pub means : Means (place_in j (current ls)) start (fact_at j t.pc) t ls
+
+-- Wherever a declared run may go on, the fact there is true: in runs of the instruction table,
+abbrev pub FactsHoldInRuns : Type 0
+FactsHoldInRuns =
+    (j : Case) → IsDeclared j.declaration → IsValid j →
+    (s t : State) (ls : Calls) (answers : List Answer) →
+    IsStart j.image j.declaration.start s → DeclaredRun j.declaration answers s [] t ls → IsTrueAt j s.memory t ls
+
+-- and by lists of events, while the machine runs.
+abbrev pub FactsHoldInEvents : Type 0
+FactsHoldInEvents =
+    (j : Case) → IsDeclared j.declaration → IsValid j →
+    (w x : WorldState) (ls : Calls) (events : List Event) →
+    IsLoaded j.image j.declaration.start w → DeclaredEvents j.declaration events w [] x ls → x.halted_at ≡ None →
+    IsTrueAt j w.state.memory x.state ls
+
+-- No two conditions fail first.
+abbrev pub FirstIsOne : Type 0
+FirstIsOne = (j : Case) (v u : Condition) (a b : ℕ) → IsFirst j v a → IsFirst j u b → (v ≡ u) × (a ≡ b)

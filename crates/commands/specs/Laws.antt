@@ -10,7 +10,7 @@ use Rattle.commands.specs.declared.status.Fault.TheVariants.{EmptyImage, Source,
 use Rattle.commands.specs.declared.status.Fault.TheVariants as fault
 use Rattle.commands.specs.declared.status.Status.{Status}
 use Rattle.instruct.specs.declared.Profile.{Profile}
-use Rattle.bin_tape.specs.Image.{HoldsWords, IsEmptyImage}
+use Rattle.bin_tape.specs.Image.{IsEmptyImage}
 use Rattle.bin_tape.specs.Written.{written_tape}
 use Rattle.pal_text.specs.declared.names.Name.{Name}
 use Rattle.pal_acts.specs.Permanent.{permanent_symbols}
@@ -96,7 +96,7 @@ ReadIsMeant =
 abbrev pub TapeIsThere : Type 0
 TapeIsThere =
     (profile : Profile) (parts : List (List ℕ)) (symbols : List (Name × ℕ)) (image : List (Option ℕ)) →
-    Means (permanent_symbols profile) parts symbols image → HoldsWords image → (IsEmptyImage image → ⊥) →
+    Means (permanent_symbols profile) parts symbols image → (IsEmptyImage image → ⊥) →
     IsAssembled profile (telling parts) (written_tape image)
 
 -- and one that means an image without a word has none.

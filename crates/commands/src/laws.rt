@@ -2,7 +2,7 @@
 
 ghost use Rattle.commands.specs.Laws.{EmptyHasNoTape, FaultIsNotWritten, FaultIsTheOne, FaultIsTold, MeantIsListed, MeantIsRead, MeantIsWritten, ReadIsMeant, RunsAreOne, RunsEnd, SessionsAreOne, SessionsEnd, TapeIsOne, TapeIsThere};
 
-use pal_asm::laws::answers_are_one;
+use pal_asm::laws::{answers_are_one, meant_are_words};
 
 /// From every image each list of events has a run, with its text and its status, and has no other.
 /// So what a run is said to write is there, whatever the tape does.
@@ -31,6 +31,7 @@ pub fn sources_are_read_back()
     ensures meant { ReadIsMeant }
 {
     answers_are_one();
+    meant_are_words();
 }
 
 /// What `assemble` and `list` answer is exact in both directions. A source that means something is

@@ -241,19 +241,16 @@ pub(crate) fn mark_at(source: &[u8], line: usize, at: usize) -> Token
     }
 }
 
-/// Where the next statement begins, after one that ends on this line, at this place.
-pub(crate) fn place_after(source: &[u8], line: usize, at: usize) -> Option<Place>
-    requires inside { at ≤ length source.now }
+/// Where the next statement begins, after one that ends on this line, by the byte at this place.
+pub(crate) fn place_after(source: &[u8], line: usize, at: usize) -> Place
+    requires inside { at < length source.now }
     requires small { line ≤ 65536 + 1 }
     ensures { result ≡ next_place source.now line at }
 {
-    if at == source.len() {
-        return None;
-    }
     let code = source[at] % 128;
-    Some(Place {
+    Place {
         at: at + 1,
         line: if is_line_end(code) { line + 1 } else { line },
         returned: code == 13,
-    })
+    }
 }

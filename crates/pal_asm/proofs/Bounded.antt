@@ -28,7 +28,7 @@ use Rattle.pal_asm.specs.declared.number.Radix.{Radix}
 use Rattle.pal_asm.specs.declared.number.Radix.TheVariants.{Octal}
 use Rattle.pal_asm.specs.Numbers.{base, radix_after, worth, is_digit_of, number}
 use Rattle.pal_asm.specs.Expressions.{sign_of, number_term, term_by, term, in_front, joins, expression}
-use Rattle.pal_asm.specs.Acts.{tag_act, operand, said_acts, settled, statement_acts, Does, ends, goes_on}
+use Rattle.pal_asm.specs.Acts.{tag_act, operand, said_acts, acts_with, statement_acts, Does, ends, goes_on}
 use Rattle.pal_asm.specs.Sources.{TextLine, Reads, no_part, broken, last_part, next_part}
 use Rattle.pal_asm.specs.Laws.{MeantAreWords}
 
@@ -84,14 +84,13 @@ said_hold p last source (Word e) js h = (h, tt)
 said_hold p last source Pause js h = cond_both last (placed p [] act.LastPause ∷ []) [] Each (λ is. (tt, tt)) (λ is. tt)
 said_hold p last source _ js h = tt
 
-settled_hold : (p : Place) (before : List PlacedAct) (body : List Join → List PlacedAct) (r : Result (List Join) Code) → ReadAll r → Each before → ((js : List Join) → Numbers js → Each (body js)) → Each (settled p before body r)
-settled_hold p before body (Err c) h k e = (tt, tt)
-settled_hold p before body (Ok js) h k e = all_append HasNumbers before (body js) k (e js h)
+with_hold : (p : Place) (last : Bool) (source : List ℕ) (tags : List Token) (said : Said) (r : Result (List Join) Code) → ReadAll r → Each (acts_with p last source tags said r)
+with_hold p last source tags said (Err c) h = (tt, tt)
+with_hold p last source tags said (Ok js) h = all_append HasNumbers (map (tag_act p source) tags) (said_acts p last source said js) (tags_hold p source tags) (said_hold p last source said js h)
 
 statement_hold : (p : Place) (b : ℕ) (last : Bool) (source : List ℕ) (tags : List Token) (said : Said) → Each (statement_acts p b last source tags said)
 statement_hold p b last source tags said =
-    settled_hold p (map (tag_act p source) tags) (said_acts p last source said) (expression b source (operand said)) (joins_read b source Or (operand said)) (tags_hold p source tags)
-    (λ js h. said_hold p last source said js h)
+    with_hold p last source tags said (expression b source (operand said)) (joins_read b source Or (operand said))
 
 does_hold : (n : ℕ) (last : Bool) (source : List ℕ) (r r' : Radix) (ps : List Piece) (acts : List PlacedAct) (c : Close) → Does n last source r ps acts r' c → Each acts
 does_hold n last source r r' ps acts c (ends q p qs tags said d s e) = statement_hold (place n p.mark.line) (base q) last source tags said

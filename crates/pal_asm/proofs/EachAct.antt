@@ -17,7 +17,7 @@ use Rattle.pal_acts.specs.declared.code.Code.{Code}
 use Rattle.pal_acts.specs.declared.code.Code.TheVariants.{DuplicateTag}
 use Rattle.pal_acts.specs.Acts.{PlacedAct, placed}
 use Rattle.pal_asm.specs.Expressions.{name_of, expression}
-use Rattle.pal_asm.specs.Acts.{tag_by, tag_act, operand, said_acts, settled, statement_acts}
+use Rattle.pal_asm.specs.Acts.{tag_by, tag_act, operand, said_acts, acts_with, statement_acts}
 
 module _ (P : PlacedAct → Type 0) (p : Place) (idle : (e : List Join) (a : Act) → (a ≡ act.Word → ⊥) → P (placed p e a)) where
   abbrev Each : List PlacedAct → Type 0
@@ -39,10 +39,10 @@ module _ (P : PlacedAct → Type 0) (p : Place) (idle : (e : List Join) (a : Act
   said_holds last source Pause js h = cond_both last (placed p [] act.LastPause ∷ []) [] (λ l. Each l) (λ is. (idle [] act.LastPause (λ e. cc), tt)) (λ is. tt)
   said_holds last source _ js h = tt
 
-  settled_holds : (before : List PlacedAct) (body : List Join → List PlacedAct) (r : Result (List Join) Code) → Each before → ((js : List Join) → Each (body js)) → Each (settled p before body r)
-  settled_holds before body (Err c) h k = (idle [] (act.Wrong c) (λ e. cc), tt)
-  settled_holds before body (Ok js) h k = all_append P before (body js) h (k js)
+  with_holds : (last : Bool) (source : List ℕ) (tags : List Token) (s : Said) (r : Result (List Join) Code) → ((js : List Join) → form_of s ≡ form.Word → P (placed p js act.Word)) → Each (acts_with p last source tags s r)
+  with_holds last source tags s (Err c) h = (idle [] (act.Wrong c) (λ e. cc), tt)
+  with_holds last source tags s (Ok js) h = all_append P (map (tag_act p source) tags) (said_acts p last source s js) (tags_hold source tags) (said_holds last source s js (h js))
 
   pub statement_holds : (b : ℕ) (last : Bool) (source : List ℕ) (tags : List Token) (s : Said) → ((js : List Join) → form_of s ≡ form.Word → P (placed p js act.Word)) → Each (statement_acts p b last source tags s)
   statement_holds b last source tags s h =
-      settled_holds (map (tag_act p source) tags) (said_acts p last source s) (expression b source (operand s)) (tags_hold source tags) (λ js. said_holds last source s js (h js))
+      with_holds last source tags s (expression b source (operand s)) h

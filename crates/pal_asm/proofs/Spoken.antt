@@ -20,7 +20,7 @@ use Rattle.pal_acts.specs.Acts.{PlacedAct, placed, place}
 use Rattle.pal_asm.specs.declared.number.Radix.{Radix}
 use Rattle.pal_asm.specs.Numbers.{base}
 use Rattle.pal_asm.specs.Expressions.{expression}
-use Rattle.pal_asm.specs.Acts.{tag_by, tag_act, operand, said_acts, settled, statement_acts}
+use Rattle.pal_asm.specs.Acts.{tag_by, tag_act, operand, said_acts, acts_with, statement_acts}
 use Rattle.pal_asm.specs.Kept.{Says, names_in, after_tags, operand_by, assign_by, body_by, read_of}
 
 record Apart (ts names : List Token) (said : Said) : Type 0 where
@@ -93,13 +93,13 @@ module _ (ts : List Token) (s : Statement) (says : Says ts s) where
       (λ i. body_by p last source (after i) (says.form i) js) ∙ ap (λ n. body_by p last source (after_tags n ts) (form_of says.said) js) says.tags ∙ parts.body_is p last source js in
       rest ∙ (λ i. tags i ++ acts i) ∙ append_assoc old (map (tag_act p source) (names_in s.tags ts)) (said_acts p last source says.said js)
       ∙ ap (λ l. old ++ (map (tag_act p source) l ++ said_acts p last source says.said js)) names
-      ∙ ap (λ r. old ++ settled p (map (tag_act p source) says.names) (said_acts p last source says.said) r) (sym (expression_is b source (Ok js) body tokens after is reads))
+      ∙ ap (λ r. old ++ acts_with p last source says.names says.said r) (sym (expression_is b source (Ok js) body tokens after is reads))
 
   -- one is bad
   pub kept_none : (b : ℕ) (last : Bool) (source : List ℕ) (p : Place) (c : Code) (body tokens : List Token) (old new : List PlacedAct) → body ≡ after_tags s.tags ts → tokens ≡ operand_by s.form body
       → Err c ≡ expression b source tokens → new ≡ old ++ placed p [] (act.Wrong c) ∷ [] → new ≡ old ++ statement_acts p b last source says.names says.said
   kept_none b last source p c body tokens old new after is reads kept =
-      kept ∙ ap (λ r. old ++ settled p (map (tag_act p source) says.names) (said_acts p last source says.said) r) (sym (expression_is b source (Err c) body tokens after is reads))
+      kept ∙ ap (λ r. old ++ acts_with p last source says.names says.said r) (sym (expression_is b source (Err c) body tokens after is reads))
 
 pub on_ok_also : {X E : Type 0} (r : Result X E) (P Q : Type 0) → OnOk r P → (P → Q) → OnOk r Q
 on_ok_also (Ok x) P Q h f = f h

@@ -44,14 +44,15 @@ said_acts p last source (Word e) js = placed p js act.Word ∷ []
 said_acts p last source Pause js = if last then placed p [] act.LastPause ∷ [] else []
 said_acts p last source _ js = []
 
--- A statement with a bad number is that fault and nothing else.
-abbrev pub settled : Place → List PlacedAct → (List Join → List PlacedAct) → Result (List Join) Code → List PlacedAct
-settled p before body (Err c) = placed p [] (act.Wrong c) ∷ []
-settled p before body (Ok js) = before ++ body js
+-- What a statement at this place with these tags does, which says this, where its expression has these terms: what its tags do,
+-- and then the rest. With a bad number it is that fault and nothing else.
+abbrev pub acts_with : Place → Bool → List ℕ → List Token → Said → Result (List Join) Code → List PlacedAct
+acts_with p last source tags said (Err c) = placed p [] (act.Wrong c) ∷ []
+acts_with p last source tags said (Ok js) = map (tag_act p source) tags ++ said_acts p last source said js
 
--- A statement at this place with these tags, which says this: its numbers, its tags, and then the rest.
+-- A statement at this place with these tags, which says this.
 abbrev pub statement_acts : Place → ℕ → Bool → List ℕ → List Token → Said → List PlacedAct
-statement_acts p b last source tags said = settled p (map (tag_act p source) tags) (said_acts p last source said) (expression b source (operand said))
+statement_acts p b last source tags said = acts_with p last source tags said (expression b source (operand said))
 
 -- These pieces of a part with this number and these bytes have these acts, where numbers are written so before them. Then they
 -- are written so, and the part ends so.

@@ -14,7 +14,7 @@ pub fn meant_are_words()
     ensures { MeantAreWords }
 {}
 
-/// A source has at most one listing.
+/// A source has at most one listing with the same symbols of its own.
 pub fn listings_are_one()
     ensures { ListingIsOne }
 {}

@@ -102,7 +102,7 @@ stop_tokens source place stop before raw p o cut h c =
     ∙ ap (λ n. added (token (mark_kind (code (get_or source stop 0))) n stop) (tokens (front source stop))) o.line_is
     ∙ passed source place stop before raw (token (mark_kind (code (get_or source stop 0))) place.line stop) p o cut c.is_mark
 
-split_source : (source : List ℕ) (at : ℕ) → reverse source ≡ reverse (drop at source) ++ front source at
+pub split_source : (source : List ℕ) (at : ℕ) → reverse source ≡ reverse (drop at source) ++ front source at
 split_source source at = ap reverse (sym (take-append-drop at source)) ∙ reverse-append (take at source) (drop at source)
 
 cut_at : (ts us : List Token) (m : Token) → ts ≡ m ∷ us → is_end m.kind ≡ true → IsCut ts
@@ -229,7 +229,7 @@ direction_open false true c = refl
 direction_open false false true = refl
 direction_open false false false = refl
 
-with_name_open : (source : List ℕ) (t : Token) (k : Kind) → is_end k ≡ false → is_end (with_name source t k) ≡ false
+pub with_name_open : (source : List ℕ) (t : Token) (k : Kind) → is_end k ≡ false → is_end (with_name source t k) ≡ false
 with_name_open source t kind.Symbol h =
     let letters : List ℕ = name (bytes_of source t) in
     direction_open (pointwise nat_eq letters (codes "DECIMA")) (pointwise nat_eq letters (codes "OCTAL ")) (pointwise nat_eq letters (codes "PAUSE "))

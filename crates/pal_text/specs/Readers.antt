@@ -1,5 +1,5 @@
 -- The statements of a part, one after another.
-use Rattle.std.specs.Prelude.{◌≡◌, ℕ, ◌+◌, List, [], ◌∷◌, Option, Some, None, drop, length, slice_range}
+use Rattle.std.specs.Prelude.{◌≡◌, ℕ, ◌+◌, false, List, [], ◌∷◌, Option, Some, None, drop, length, slice_get, slice_range}
 use Rattle.pal_text.specs.declared.tokens.Token.{Token}
 use Rattle.pal_text.specs.declared.cut.Close.{Close}
 use Rattle.pal_text.specs.declared.fault.StatementFault.{StatementFault}
@@ -9,7 +9,7 @@ use Rattle.pal_text.specs.declared.reader.Next.TheVariants as next
 use Rattle.pal_text.specs.declared.reader.Found.{Found}
 use Rattle.pal_text.specs.Names.{part_tokens}
 use Rattle.pal_text.specs.Progress.{Progress}
-use Rattle.pal_text.specs.Statements.{Piece, piece, pieces, Fills, IsNone, closing}
+use Rattle.pal_text.specs.Statements.{is_end, Piece, piece, pieces, Fills, IsNone, closing}
 
 -- The pieces of a part after so many of its tokens.
 abbrev pub rest : List ℕ → ℕ → List Piece
@@ -37,10 +37,16 @@ pub record IsBroken (source : List ℕ) (n line : ℕ) : Type 0 where
   pub none : IsNone (part_tokens source) (piece n last mark)
   pub line_is : line ≡ mark.line
 
--- A fault at the next piece, after n tokens.
+-- The next piece, after n tokens, has a token: the next one ends no statement.
+pub record HasToken (source : List ℕ) (n : ℕ) : Type 0 where
+  pub token : Token
+  pub stands : slice_get (part_tokens source) n ≡ Some token
+  pub ends_none : is_end token.kind ≡ false
+
+-- A fault at the next piece, after n tokens. Memory is wanted only for a token.
 abbrev pub StopsAt : List ℕ → ℕ → StatementFault → Type 0
 StopsAt source n (Illegal line) = IsBroken source n line
-StopsAt source n NoMemory = Unit {0}
+StopsAt source n NoMemory = HasToken source n
 
 -- A reader tells a fault only where the part hasn't ended.
 abbrev pub BreaksNext : Progress → StatementFault → Type 0

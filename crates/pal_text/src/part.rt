@@ -1,6 +1,6 @@
 //! A part of a source, read.
 
-ghost use Rattle.std.specs.Prelude.{◌≡◌, ◌↔◌, ◌≤◌, ◌<◌, ◌+◌, ◌++◌, ◌∷◌, [], length, reverse, take, slice_range, IfOk, OnOk, IfErr, MatchResult, Err, ℕ, List};
+ghost use Rattle.std.specs.Prelude.{◌≡◌, ◌≢◌, ◌↔◌, ◌≤◌, ◌<◌, ◌+◌, ◌++◌, ◌∷◌, [], length, reverse, take, slice_range, IfOk, OnOk, OnErr, IfErr, MatchResult, Err, ℕ, List};
 ghost use Rattle.std.specs.List.{AllByRecursion};
 ghost use Rattle.pal_text.specs.Order.{IsOrdered, IsPlaced, IsLineWithin};
 ghost use Rattle.pal_text.specs.Names.{IsWithin, bytes_of, part_tokens};
@@ -57,12 +57,13 @@ impl<'s, A: Allocator + Copy> Part<'s, A> {
     ///
     /// # Errors
     ///
-    /// Where memory was refused.
+    /// Where memory was refused, which is wanted only where there is a line.
     pub fn lines(&self, alloc: A) -> Result<Vec<Line, A>, AllocError>
         requires { self.now.stop ≤ length self.now.source.now }
         ensures lines { IfOk result (λ lines. lines.items ≡ lines_in self.now) }
         ensures within { IfOk result (λ lines. AllByRecursion
             (IsLineWithin (length self.now.source.now)) lines.items) }
+        ensures refused { OnErr result (lines_in self.now ≢ []) }
     {
         lines_of(alloc, &self.source[..self.stop])
     }

@@ -173,7 +173,8 @@ impl<'s, A: Allocator + Copy> Reader<'s, A> {
     /// # Errors
     ///
     /// `Illegal` with the line of the next statement where that has no form, and `NoMemory` where
-    /// memory was refused. The next read then begins at the same statement.
+    /// memory was refused, which is wanted only where the statement has a token. The next read then
+    /// begins at the same statement.
     pub fn read_next(&mut self) -> Result<Next, StatementFault>
         ensures source { self.new.source ≡ self.old.source }
         ensures found { IfOk result (λ next. Finds self.old next self.new) }

@@ -300,7 +300,7 @@ impl Cpu {
             (B.answer_to bus.old (word_at_pc self.old)) (B.switch_word bus.old))
             (state_of self.new) }
         ensures profile { self.new.profile ≡ self.old.profile }
-        // The bus is asked at a device word alone.
+        // The bus changes at a device word alone.
         ensures bus { BusAfter (instruction_at_pc self.old)
             (B.goes_on bus.old (word_at_pc self.old) self.old.ac bus.new)
             (bus.new ≡ bus.old) }

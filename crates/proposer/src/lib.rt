@@ -89,7 +89,7 @@ pub struct Proposal<A: Allocator> {
 /// the way. A HLT is a pause where what stands behind it is code, else a stop. A pointer that no
 /// instruction stores in is taken to keep its word; another may hold each word of a table behind which
 /// there is code. The variables are first the cells that instructions store in by name, or all that may
-/// be data; and then, where a certificate is found, those that its facts let the program write.
+/// be data; and then, where a certificate is found, fewer as far as one is found for these too. No clause says how few.
 ///
 /// # Errors
 ///

@@ -26,4 +26,4 @@ returns-in_ok-keep-in-Err-Illegal g c =
     let P : StatementFault → Type 0 = λ f. StopsPart c.args.part.now.source.now c.args.acts.now c.keep_statements.new.acts f in
     let stops = subst P c.in-Err-Illegal.field-0-is c.in-Err-Illegal.ensures.stops in
     refused c.args.part.now.number c.args.radix c.args.part.now.last c.args.part.now.source.now c.in-Err-Illegal.line c.args.acts.now stops.1.0 c.truncate.new.self c.keep.new.self (lines_of_fronts c.args.fronts.now.items)
-    stops.0 (c.truncate.ensures ∙ (λ i. take (c.len-count.ensures i) (stops.1.1 i))) c.in_ok-keep-in-Err-Illegal.ensures
+    stops.0 (c.truncate.ensures ∙ (λ i. take (c.len-count.ensures i) (stops.1.1 i))) c.in_ok-keep-in-Err-Illegal.ensures.kept

@@ -35,6 +35,6 @@ pub returns-in-Err : goal.returns-in-Err
 returns-in-Err g c =
     let reads : Err c.in-Err.code ≡ expression (base c.args.radix) c.args.part.now.source.now c.operand_of.result.now =
     sym (ap (read_of c.read_expression.new.joins.items) c.in-Err.is) ∙ c.in_ok-read_expression.ensures in
-    on_ok_also c.keep.result _ _ c.keep.ensures
+    on_ok_also c.keep.result _ _ c.keep.ensures.kept
     (λ kept says. kept_none c.args.tokens.now c.args.statement says (base c.args.radix) c.args.part.now.last c.args.part.now.source.now (place c.args.part.now.number c.args.statement.line) c.in-Err.code
     c.without_tags-body.result.now c.operand_of.result.now c.args.acts.now c.keep.new.self c.without_tags-body.ensures c.operand_of.ensures reads kept)

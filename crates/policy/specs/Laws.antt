@@ -1,5 +1,5 @@
 -- What the definitions of declared runs and of what is told of them leave open: nothing.
-use Rattle.std.specs.Prelude.{◌≡◌, ℕ, List}
+use Rattle.std.specs.Prelude.{◌≡◌, ℕ, None, List}
 use Rattle.processor.specs.Machine.{State, Answer, Step, instruction}
 use Rattle.processor.specs.Runs.{Image}
 use Rattle.peripherals.specs.declared.Event.{Event}
@@ -7,6 +7,7 @@ use Rattle.peripherals.specs.Devices.{WorldState}
 use Rattle.declaration.specs.Declaration.{Declaration, IsDeclared}
 use Rattle.policy.specs.Calls.{Calls}
 use Rattle.policy.specs.Rules.{StaysInBody, WritesDeclared, CallsEntries, KeepsCode}
+use Rattle.policy.specs.Runs.{DeclaredEvents, DeclaredRun, IsSafe, IsSafeInRuns}
 use Rattle.policy.specs.Watching.{BreaksAt, LeadsTo, Tells}
 use Rattle.policy.specs.declared.rules.Rule.TheVariants as rule
 use Rattle.policy.specs.declared.watcher.Watched.{Watched}
@@ -34,3 +35,14 @@ abbrev pub CodeIsKept : Type 0
 CodeIsKept =
     (image : Image) (d : Declaration) (events : List Event) (w : WorldState) (n : ℕ) →
     IsDeclared d → KeepsCode image d w.state.memory → BreaksAt image d events w n rule.KeepsCode → ⊥
+
+-- The events of a declared run that leave the machine running are a declared run of the instruction table, with the same
+-- call list.
+abbrev pub DeclaredEventsAreRuns : Type 0
+DeclaredEventsAreRuns =
+    (d : Declaration) (events : List Event) (w x : WorldState) (ks ls : Calls) →
+    DeclaredEvents d events w ks x ls → x.halted_at ≡ None → (answers : List Answer) × DeclaredRun d answers w.state ks x.state ls
+
+-- So a program that is safe in runs of the instruction table is safe in lists of events.
+abbrev pub SafeInRunsIsSafe : Type 0
+SafeInRunsIsSafe = (image : Image) (d : Declaration) → IsSafeInRuns image d → IsSafe image d

@@ -1,6 +1,6 @@
 //! Laws over the definitions alone. Each is the contract of a function that does nothing.
 
-ghost use Rattle.policy.specs.Laws.{CodeIsKept, RunIsOne, StepsKeepCode, VerdictIsOne};
+ghost use Rattle.policy.specs.Laws.{CodeIsKept, DeclaredEventsAreRuns, RunIsOne, SafeInRunsIsSafe, StepsKeepCode, VerdictIsOne};
 ghost use Rattle.policy.specs.Rules.{UnlistedReadsAreKept};
 
 /// Where a declaration lists no reads, each step keeps the rule on reads.
@@ -19,4 +19,11 @@ pub fn verdicts_are_one()
 pub fn code_is_kept()
     ensures steps { StepsKeepCode }
     ensures told { CodeIsKept }
+{}
+
+/// The events of a declared run that leave the machine running are a declared run of the
+/// instruction table. So a program that is safe in these runs is safe.
+pub fn declared_events_are_runs()
+    ensures runs { DeclaredEventsAreRuns }
+    ensures safe { SafeInRunsIsSafe }
 {}

@@ -16,3 +16,4 @@ pub mod AgreeingLemmas
 pub mod RestatedLemmas
 pub mod ReadingLemmas
 mod TrueLemmas
+pub mod AlikeLaws

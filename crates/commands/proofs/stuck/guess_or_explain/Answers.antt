@@ -2,6 +2,7 @@ use Rattle.std.proofs.Common.{◌≡◌, refl}
 use Rattle.declaration.specs.Kept.{meaning}
 use Rattle.certificate.specs.Spelling.{text as spelled}
 use Rattle.certificate.specs.Kept.{meaning as lines_of}
+use Rattle.commands.proofs.CheckLemmas.{kept_sets}
 use Rattle.commands.proofs.StuckLemmas.{writes_stuck, front_of_stuck}
 use Rattle.commands.proofs.stuck.guess_or_explain.Goals as goal
 
@@ -25,6 +26,7 @@ returns-in-Found-clause-guessed g c = λ done. record {
     declares = c.in_ok-promised.ensures.declares;
     lines = lines_of c.in-Found.certificate;
     lines_are = rw c.in-Found.is at c.in_ok-attempt.ensures.lines;
+    of_words = kept_sets c.in-Found.certificate;
     version_is = rw c.in-Found.is at c.in_ok-attempt.ensures.version;
     guess_is = refl;
     short = rw c.in-Found.is at c.in_ok-attempt.ensures.short;
@@ -46,6 +48,7 @@ returns-in_err-write-in-Found-clause-front g c = λ marked. record {
     declares = c.in_ok-promised.ensures.declares;
     lines = lines_of c.in-Found.certificate;
     lines_are = rw c.in-Found.is at c.in_ok-attempt.ensures.lines;
+    of_words = kept_sets c.in-Found.certificate;
     version_is = rw c.in-Found.is at c.in_ok-attempt.ensures.version;
     guess_is = refl;
     short = rw c.in-Found.is at c.in_ok-attempt.ensures.short;

@@ -1,13 +1,12 @@
 -- What `declare` writes.
-use Rattle.std.proofs.Common.{ℕ, ◌≡◌, Bool, true, false, List, Option, None, refl, sym, ap}
+use Rattle.std.proofs.Common.{ℕ, ◌≡◌, Bool, true, false, List, Option, None, sym, ap}
 use Rattle.std.proofs.lemmas.Bool.{true≢false}
 use Rattle.declaration.specs.Kept.{meaning}
 use Rattle.certificate.specs.declared.Certificate.{Certificate}
 use Rattle.certificate.specs.Kept as certified
 use Rattle.proposer.specs.Proposals.{AreNeeded, Fits, IsListed, IsShown}
 use Rattle.proposer.specs.declared.Proposal.{Proposal}
-use Rattle.proposer.specs.declared.Verdict.{Verdict}
-use Rattle.proposer.specs.declared.Verdict.TheVariants.{Safe, Stuck, TurnsSpent, TooLong}
+use Rattle.proposer.specs.declared.Verdict.TheVariants.{Safe}
 use Rattle.commands.specs.Inputs.{HasImage}
 use Rattle.commands.specs.DeclareText.{IsBare, IsProposal}
 use Rattle.commands.specs.declared.declaring.DeclareOptions.{DeclareOptions}
@@ -55,15 +54,3 @@ remarked_proposal options frames image text has is = record {
   listed = λ done asked. refused_not_done done;
   needed = λ done asked. refused_not_done done;
 }
-
--- what is proposed without a certificate lists no reads
-pub bare_without : {A : Type 0} → (asked : Bool) (p : Proposal A) → ((c : Certificate A) → p.verdict ≡ Safe c → ⊥) →
-    (asked ≡ true → IsListed p.declaration p.verdict) → (asked ≡ false → (meaning p.declaration).reads ≡ None) → (meaning p.declaration).reads ≡ None
-bare_without true p without listed unlisted = go p.verdict refl (listed refl)
-  where
-    go : (v : Verdict _) → p.verdict ≡ v → IsListed p.declaration v → (meaning p.declaration).reads ≡ None
-    go (Safe c) is lists = absurd (without c is)
-    go (Stuck at) is lists = lists
-    go TurnsSpent is lists = lists
-    go TooLong is lists = lists
-bare_without false p without listed unlisted = unlisted refl

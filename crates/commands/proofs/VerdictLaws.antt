@@ -46,9 +46,9 @@ module _ (image : List (Option ℕ)) (d : Declaration) (c e : Lines) (one : Sets
   first_to v a first = claims_fail (image_of image) d (certificate_of c) (certificate_of e) one other same back v a first
 
   same_verdict : (v w : Verdict) → IsVerdict (checked_case image d c) v → IsVerdict (checked_case image d e) w → v ≡ w
-  same_verdict (Ok u) (Ok w) yes also = refl
-  same_verdict (Ok u) (Err r) yes first = absurd (none_fails (claims_are_valid (image_of image) d (certificate_of c) (certificate_of e) one other same yes.valid) first)
-  same_verdict (Err r) (Ok w) first yes = absurd (none_fails yes.valid (first_to r.condition r.address first))
+  same_verdict (Ok u) (Ok w) holds also = refl
+  same_verdict (Ok u) (Err r) holds first = absurd (none_fails (claims_are_valid (image_of image) d (certificate_of c) (certificate_of e) one other same holds.valid) first)
+  same_verdict (Err r) (Ok w) first holds = absurd (none_fails holds.valid (first_to r.condition r.address first))
   same_verdict (Err r) (Err s) first second =
       let alike = one_first (checked_case image d e) r.condition s.condition r.address s.address (first_to r.condition r.address first) second in
       let whole : refusal r.condition r.address ≡ refusal s.condition s.address = same_refusal alike.0 alike.1 in

@@ -127,11 +127,12 @@ fn declares_for<A: Allocator + Copy>(
     ensures read { fails_to_read result ≡ false }
 {
     match Declaration::parse(alloc, text) {
-        Ok(found) => Ok(
-            found.start() == options.start
-                && found.profile() == options.profile
-                && !found.reads_listed(),
-        ),
+        Ok(found) => {
+            if found.reads_listed() || found.start() != options.start {
+                return Ok(false);
+            }
+            Ok(found.profile() == options.profile)
+        }
         Err(DeclarationFault::NoMemory) => Err(Fault::NoMemory),
         Err(_) => Ok(false),
     }

@@ -21,7 +21,7 @@ use streams::{ByteSink, ByteSource};
 /// The fault of the tape or of the declaration: each is read and, if it has a fault, refused before
 /// the next is read; `Guess` where nothing is found; `Device` where a read or a write failed, after
 /// which a prefix of the text went out; `NoMemory`. Nothing is written but where a write failed.
-#[tactic(auto, using(crate::proofs::InputLemmas::takes_no_text, crate::proofs::CheckLemmas::kept_sets))]
+#[tactic(auto, using(crate::proofs::InputLemmas::takes_no_text))]
 pub fn guess<A: Allocator + Copy, R: ByteSource, D: ByteSource, W: ByteSink>(
     alloc: A,
     tape: &mut R,

@@ -22,3 +22,10 @@ returns-in_err-put-2-clause-front g c =
     let is : IsProposal c.args.options (g.R.ByteSource.remaining c.args.tape.now) Refused c.in_ok-text.text.items =
     remarked_proposal c.args.options (g.R.ByteSource.remaining c.args.tape.now) c.in_ok-image.image c.in_ok-text.text.items c.in_ok-image.ensures.tape c.in_ok-text.ensures.declares in
     λ marked. record { text = c.in_ok-text.text.items; is = (Refused, is); front = search rules }
+
+pub returns-clause-declared : goal.returns-clause-declared
+returns-clause-declared g c = record {
+  text = c.in_ok-text.text.items;
+  is = remarked_proposal c.args.options (g.R.ByteSource.remaining c.args.tape.now) c.in_ok-image.image c.in_ok-text.text.items c.in_ok-image.ensures.tape c.in_ok-text.ensures.declares;
+  written = search rules;
+}

@@ -70,12 +70,32 @@ impl WordSet {
     pub fn range(low: Word, high: Word) -> WordSet
         ensures { words result ≡ between low high }
     {
+        if low.index() == 0 && high.index() == 4095 {
+            return WordSet::all();
+        }
+        WordSet::short_range(low, high)
+    }
+
+    /// The same, lane by lane.
+    fn short_range(low: Word, high: Word) -> WordSet
+        ensures { words result ≡ between low high }
+    {
         let end = high.index() + 1;
         let mut lanes = [0u64; 64];
         for i in low.index() / 64..high.index() / 64 + 1 {
             lanes[i] = lane_below(end, i) & !lane_below(low.index(), i);
         }
         WordSet { lanes }
+    }
+
+    /// Puts in the words from `low` to `high`, both of them; none where `high` is the lesser.
+    pub fn insert_range(&mut self, low: Word, high: Word)
+        ensures { words self.new ≡ union (words self.old) (between low high) }
+    {
+        let end = high.index() + 1;
+        for i in low.index() / 64..high.index() / 64 + 1 {
+            self.lanes[i] |= lane_below(end, i) & !lane_below(low.index(), i);
+        }
     }
 
     /// The lanes of the set: bit j of lane i, the least bit being bit 0, is set exactly where the

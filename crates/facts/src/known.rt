@@ -228,25 +228,19 @@ impl Known<'_> {
         }
     }
 
-    /// The words of a set that an equation leaves to a name.
+    /// Leaves in a set the words that an equation leaves to a name.
     #[tactic(auto, using(crate::proofs::EntailLemmas::back_twice))]
-    fn met(&self, name: &Name, equation: &Equation, set: &WordSet) -> WordSet
+    fn keep_met(&self, name: &Name, equation: &Equation, set: &mut WordSet)
         ensures { Meets (known_of self.now) (name_of name.now) (equation_of equation.now)
-            (words set.now) (words result) }
+            (words set.old) (words set.new) }
     {
-        let left = if is_same_name(&equation.left, name) {
-            self.set(&Name::Cell(equation.right))
-                .shift(equation.more)
-                .meet(set)
-        } else {
-            *set
-        };
+        if is_same_name(&equation.left, name) {
+            let partner = self.set(&Name::Cell(equation.right));
+            set.keep_shifted(&partner, equation.more);
+        }
         if is_same_name(&Name::Cell(equation.right), name) {
-            self.set(&equation.left)
-                .shift(negated(equation.more))
-                .meet(&left)
-        } else {
-            left
+            let partner = self.set(&equation.left);
+            set.keep_shifted(&partner, negated(equation.more));
         }
     }
 
@@ -285,7 +279,7 @@ impl Known<'_> {
             if !speaks_of(e, name) {
                 continue;
             }
-            set = self.met(name, e, &set);
+            self.keep_met(name, e, &mut set);
         }
         set
     }

@@ -213,10 +213,12 @@ impl WordSet {
     pub fn only(&self) -> Option<Word>
         ensures { result ≡ only (words self.now) }
     {
-        if self.count() == 1 {
-            self.least()
-        } else {
-            None
+        let Some(word) = self.first_from(0) else {
+            return None;
+        };
+        match self.first_from(word.index() + 1) {
+            None => Some(word),
+            Some(_) => None,
         }
     }
 
@@ -262,7 +264,19 @@ impl WordSet {
     pub fn shift(&self, k: Word) -> WordSet
         ensures { SameWords (words result) (shifted (words self.now) k) }
     {
+        if k.index() == 0 {
+            return *self;
+        }
         self.shift_from(&self.lanes_twice(), k)
+    }
+
+    /// Keeps the words that are a + k, modulo 4096, for a word a of another set.
+    pub fn keep_shifted(&mut self, other: &WordSet, k: Word)
+        ensures { SameWords (words self.new) (meet (words self.old) (shifted (words other.now) k)) }
+    {
+        let shifted = other.shift(k);
+        let both = u64x64::from_array(self.lanes) & u64x64::from_array(shifted.lanes);
+        self.lanes = both.to_array();
     }
 
     /// The lanes stored twice in a row, from which every shift of the set is taken.

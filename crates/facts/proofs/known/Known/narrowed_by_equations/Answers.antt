@@ -7,7 +7,7 @@ use Rattle.facts.proofs.known.Known.narrowed_by_equations.Goals as goal
 
 pub loop-e-preserved : goal.loop-e-preserved
 loop-e-preserved c = λ v lt.
-    narrowed_step (known_of c.args.self.now) (name_of c.args.name.now) c.args.self.now.equations.now c.loop-e.e-index c.e-item.result (words c.loop-e.set) (words c.met-set.result) c.loop-e-test.true c.e-item.is c.met-set.ensures v lt ∙ c.loop-e.invariant v lt
+    narrowed_step (known_of c.args.self.now) (name_of c.args.name.now) c.args.self.now.equations.now c.loop-e.e-index c.e-item.result (words c.loop-e.set) (words c.keep_met.new.set) c.loop-e-test.true c.e-item.is c.keep_met.ensures v lt ∙ c.loop-e.invariant v lt
 
 pub loop-e-preserved-then-not-speaks_of : goal.loop-e-preserved-then-not-speaks_of
 loop-e-preserved-then-not-speaks_of c = λ v lt.

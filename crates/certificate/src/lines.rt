@@ -136,6 +136,18 @@ impl<A: Allocator> KeptLines<A> {
             Err(_) => self.lines.len(),
         }
     }
+
+    /// Whether a line has a place from one number on and before another.
+    pub fn has_between(&self, first: usize, end: usize) -> bool
+        requires order { RiseFrom 0 self.now.places.items }
+        requires small { first < 2 ^ 32 }
+        ensures { IsTrue result ↔ HasBetween self.now.places.items first end }
+    {
+        match self.places.binary_search(&(first as u32)) {
+            Ok(_) => first < end,
+            Err(at) => at < self.places.len() && (self.places[at] as usize) < end,
+        }
+    }
 }
 
 /// Adds a line and those of its cells and equations; where that's refused, some of them.

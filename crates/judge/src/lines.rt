@@ -115,44 +115,14 @@ impl<A: Allocator, C: Claims> Case<'_, A, C> {
         holds_before(desk.even.fact(), self.image, self.declaration)
     }
 
-    /// Whether an exit line has an address.
-    fn has_exit(&self, at: Word, exit: &mut Fact) -> bool
-        ensures { result ≡ some_below 8 ((case_kept C.claims self.now).certificate.has_exit at) }
-    {
-        for offset in 0..8usize {
-            if self.claims.exit_into(at, offset, exit) {
-                return true;
-            }
-        }
-        false
-    }
-
     /// Whether the routine and exit lines at an address are where they may be: at an entry.
-    fn routines_are_placed(&self, at: Word, exit: &mut Fact) -> bool
+    fn routines_are_placed(&self, at: Word) -> bool
         ensures { IsTrue result ↔ RoutinesArePlaced (case_kept C.claims self.now) at }
     {
-        if !self.names_routine(at, exit) {
+        if !self.claims.names(at) {
             return true;
         }
         self.declaration.is_entry(at)
-    }
-
-    /// Whether a routine or exit line has an address.
-    fn names_routine(&self, at: Word, exit: &mut Fact) -> bool
-        ensures { result ≡ names_routine (case_kept C.claims self.now).certificate at }
-    {
-        if self.lists_routine(at) {
-            return true;
-        }
-        self.has_exit(at, exit)
-    }
-
-    /// Whether a routine line has an address; the room for the routine is made here alone.
-    #[inline(never)]
-    fn lists_routine(&self, at: Word) -> bool
-        ensures { result ≡ (case_kept C.claims self.now).certificate.listed at }
-    {
-        self.claims.routine(at).is_some()
     }
 
     /// Whether the fact at an address is where it may be: in main's body with no offset, or in a listed
@@ -229,7 +199,7 @@ impl<A: Allocator, C: Claims> Case<'_, A, C> {
         ensures following { Shows (C.claims self.now.claims.now) following.new }
         ensures body { Tells (C.claims self.now.claims.now) body.new }
     {
-        if !self.routines_are_placed(at, &mut others.exit) {
+        if !self.routines_are_placed(at) {
             return Err(Condition::V2);
         }
         if !here.turn_to(self.claims, at) {

@@ -86,18 +86,19 @@ some_one y t lt = go (t y) refl
         pick v true k = rw k (ap t (eqb-true v y k) ∙ e)
         pick v false k = rw k refl
 
+-- some word of one set with a property, and of another with the same words
+some_alike : (n : ℕ) (a b t : Words) → ((v : ℕ) → v < n → a v ≡ b v) → some_below n (λ x. a x && t x) ≡ some_below n (λ x. b x && t x)
+unfolding some_below
+some_alike zero a b t h = refl
+some_alike (suc n) a b t h =
+    ap (λ q. (q && t n) || some_below n (λ x. a x && t x)) (h n (omega arith))
+    ∙ ap (λ q. (b n && t n) || q) (some_alike n a b t (λ v l. h v (omega arith)))
+
 -- the words that the one target may hold
 pub words_of_only : (pl : Place) (f : Fact) (p : Words) (y : ℕ) (s : Words) → only p ≡ Some y → SameWords s (words_in pl f y) → SameWords s (words_at pl f p)
 words_of_only pl f p y s e h v lt =
     h v lt ∙ sym (some_one y (λ a. words_in pl f a v) (only_has p y e).0)
     ∙ sym (some_alike 4096 p (one y) (λ a. words_in pl f a v) (λ a l. only_is p y e a l))
-  where
-    some_alike : (n : ℕ) (a b t : Words) → ((v : ℕ) → v < n → a v ≡ b v) → some_below n (λ x. a x && t x) ≡ some_below n (λ x. b x && t x)
-    unfolding some_below
-    some_alike zero a b t h = refl
-    some_alike (suc n) a b t h =
-        ap (λ q. (q && t n) || some_below n (λ x. a x && t x)) (h n (omega arith))
-        ∙ ap (λ q. (b n && t n) || q) (some_alike n a b t (λ v l. h v (omega arith)))
 
 -- a direct reference's one target
 pub direct_only : (t : Words) (n : ℕ) → n < 4096 → SameWords t (one n) → Some n ≡ only t
@@ -114,13 +115,13 @@ either_iff {p} {q} r a b e ea eb = (
     cases true h t = inl (sym ea ∙ h)
     cases false h t = inr (sym eb ∙ (ap (λ k. k || b) (sym h) ∙ t))
 
-    back : (p ≡ true) ⊎ (q ≡ true) → (a || b) ≡ true
-    back (inl h) = ap (λ k. k || b) (ea ∙ h)
-    back (inr h) = ap (λ k. a || k) (eb ∙ h) ∙ or_true a
-
     or_true : (k : Bool) → (k || true) ≡ true
     or_true true = refl
     or_true false = refl
+
+    back : (p ≡ true) ⊎ (q ≡ true) → (a || b) ≡ true
+    back (inl h) = ap (λ k. k || b) (ea ∙ h)
+    back (inr h) = ap (λ k. a || k) (eb ∙ h) ∙ or_true a
 
 -- a word that writes one cell alone, which is no entry
 pub leaves : (entry p : Words) (n : ℕ) (r : Bool) → SameWords p (one n) → r ≡ entry n → IsTrue (not r) → (a : ℕ) → a < 4096 → p a ≡ true → entry a ≡ false

@@ -252,7 +252,8 @@ pub fn guess_or_draft_within<A: Allocator + Copy, D: Allocator>(
 ) -> Result<Attempt<A>, GuessFault>
     // The judge accepts what is found.
     ensures accepted { IfOk result (IsAcceptedIfFound image.now declaration.now) }
-    // A draft's lines are where they may be, and it has a fact where it is stuck, or that is an entry.
+    // A draft's facts stand in bodies and its routine and exit lines at entries, and it has a fact
+    // where it is stuck, or that is an entry.
     ensures draft { IfOk result (IsDraftIfStuck (declared declaration.now)) }
     ensures lines { IfOk result (λ a. AreLines (meaning (claimed_by a))) }
     ensures version { IfOk result (λ a. (meaning (claimed_by a)).version ≡
@@ -287,7 +288,8 @@ pub fn guess_or_draft<A: Allocator + Copy, D: Allocator>(
 ) -> Result<Attempt<A>, GuessFault>
     // The judge accepts what is found.
     ensures accepted { IfOk result (IsAcceptedIfFound image.now declaration.now) }
-    // A draft's lines are where they may be, and it has a fact where it is stuck, or that is an entry.
+    // A draft's facts stand in bodies and its routine and exit lines at entries, and it has a fact
+    // where it is stuck, or that is an entry.
     ensures draft { IfOk result (IsDraftIfStuck (declared declaration.now)) }
     ensures lines { IfOk result (λ a. AreLines (meaning (claimed_by a))) }
     ensures version { IfOk result (λ a. (meaning (claimed_by a)).version ≡

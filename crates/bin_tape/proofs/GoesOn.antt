@@ -19,7 +19,7 @@ use Rattle.bin_tape.specs.Viable.{IsByte, IsViable, EndsAt, NamesPlace}
 use Rattle.bin_tape.proofs.Parsed.{no_tape}
 
 -- the cells that words leave
-image_of : ℕ → List TapeWord → List (Option ℕ)
+pub image_of : ℕ → List TapeWord → List (Option ℕ)
 image_of size ws = map (image_at ws) (range_with_len 0 size)
 
 image_cell : (size a : ℕ) (ws : List TapeWord) → a < size → unwrap_or (slice_get (image_of size ws) a) None ≡ image_at ws a
@@ -30,7 +30,7 @@ image_size : (size : ℕ) (ws : List TapeWord) → length (image_of size ws) ≡
 unfolding image_of
 image_size size ws = length-map-range_with_len (image_at ws) 0 size
 
-has_image : (ws : List TapeWord) → IsImage ws (image_of 4096 ws)
+pub has_image : (ws : List TapeWord) → IsImage ws (image_of 4096 ws)
 has_image ws = record { size = image_size 4096 ws; cells = λ a lt. image_cell 4096 a ws lt }
 
 -- an origin, the checksum and the trailer
@@ -109,7 +109,7 @@ rubout_closed fs parts skipped h = record {
 one_byte : (f : ℕ) → f < 256 → All IsByte (f ∷ [])
 one_byte f lt = byte_first f [] lt (All-nil IsByte)
 
-unfinished_goes_on : (fs : List ℕ) → IsUnfinished fs → IsViable fs
+pub unfinished_goes_on : (fs : List ℕ) → IsUnfinished fs → IsViable fs
 unfinished_goes_on fs (inl (parts, whole)) = goes_on_after fs [] parts (All-nil IsByte) (rw append-nil whole)
 unfinished_goes_on fs (inr (inl (parts, first, h))) = let closed = word_closed fs parts first h in goes_on_after fs (0 ∷ []) (word closed.0 ∷ parts) (one_byte 0 (lit≤ tt)) closed.1
 unfinished_goes_on fs (inr (inr (parts, skipped, h))) = goes_on_after fs (255 ∷ []) (rubout skipped ∷ parts) (one_byte 255 (lit≤ tt)) (rubout_closed fs parts skipped h)

@@ -7,3 +7,4 @@ pub mod Reading
 pub mod Holds
 pub mod Served
 pub mod Serving
+pub mod Laws

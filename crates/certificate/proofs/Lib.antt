@@ -30,3 +30,4 @@ pub mod ReadLemmas
 pub mod ServedLemmas
 pub mod DetailAddedLemmas
 pub mod AddingLemmas
+mod ReadBackLemmas

@@ -96,3 +96,14 @@ pub record FaultLaw : Type 0 where
   pub none : (v : Version) (bytes : List ℕ) (fault : CertificateFault) →
       IsText v bytes → HasFault bytes fault → ⊥
   pub one : (bytes : List ℕ) (f g : CertificateFault) → HasFault bytes f → HasFault bytes g → f ≡ g
+
+-- The text of this certificate is one of lines in order, and each certificate that has this text is of the same version and
+-- claims the same.
+pub record IsReadBack (c : Lines) : Type 0 where
+  pub read : IsText c.version (text c)
+  pub version : (d : Lines) → AreLines d → text d ≡ text c → d.version ≡ c.version
+  pub claims : (d : Lines) → AreLines d → text d ≡ text c → SameCertificate (certificate_of c) (certificate_of d)
+
+-- So is every certificate's whose text isn't longer than what is read.
+abbrev pub ReadBackLaw : Type 0
+ReadBackLaw = (c : Lines) → AreLines c → length (text c) ≤ most_bytes → IsReadBack c

@@ -17,7 +17,7 @@ ghost use Rattle.certificate.specs.Reading.{AreLines, statement_in, exit_stateme
 ghost use Rattle.certificate.specs.Kept.{meaning, claims};
 ghost use Rattle.certificate.specs.Sample.{SampleLaw};
 ghost use Rattle.certificate.specs.Line.{TextLaw};
-ghost use Rattle.certificate.specs.Exact.{SpellingLaw, MeaningLaw, ReadingLaw, FaultLaw};
+ghost use Rattle.certificate.specs.Exact.{SpellingLaw, MeaningLaw, ReadingLaw, ReadBackLaw, FaultLaw};
 
 use crate::lines::{KeptLines, first_exit, first_fact, first_routine};
 use crate::parser::Parser;
@@ -309,6 +309,12 @@ pub fn meaning_law()
 /// read, and each text of lines in order is a certificate's.
 pub fn reading_law()
     ensures { ReadingLaw }
+{}
+
+/// What [`Certificate::write`] writes is read, unless it's longer than what is read, and as a
+/// certificate of the same version that claims the same.
+pub fn read_back_law()
+    ensures { ReadBackLaw }
 {}
 
 /// A certificate's text has no fault, and no text has two.

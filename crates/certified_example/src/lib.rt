@@ -1,5 +1,5 @@
 //! Small programs: one with a routine, an auto-index pointer, a pause and a cell of changeable code,
-//! whose certificate meets every condition; programs that break a rule at their first step; and for
+//! whose certificate meets every condition; programs that aren't safe; and for
 //! each rule a step that it forbids and the others let through.
 #![tactic(auto)]
 

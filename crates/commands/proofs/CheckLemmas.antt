@@ -6,7 +6,9 @@ use Rattle.std.proofs.lemmas.Bool.{true≢false, eq-eqb}
 use Rattle.wordset.specs.Words.{Words, SameWords, some_below}
 use Rattle.policy.specs.Runs.{IsSafe}
 use Rattle.judge.specs.Conditions.{Case, IsValid, IsFirst}
+use Rattle.judge.specs.Laws.{SetsAreOfWords}
 use Rattle.judge.specs.declared.judging.Refusal.{Refusal}
+use Rattle.judge.proofs.ReadingLemmas.{kept_of_words}
 use Rattle.commands.specs.CheckText.{counted, IsVerdict}
 use Rattle.wordset.specs.Lanes.{words}
 use Rattle.wordset.proofs.Counts.{how_many_same}
@@ -16,17 +18,22 @@ use Rattle.declaration.specs.Kept.{bodies, entries}
 use Rattle.certificate.specs.declared.CertificateFault.{CertificateFault}
 use Rattle.certificate.specs.declared.CertificateFault.TheVariants as faults
 use Rattle.certificate.specs.declared.Version.{Version}
-use Rattle.certificate.specs.Spelling.{Lines, text}
-use Rattle.certificate.specs.Reading.{AreLines}
+use Rattle.certificate.specs.Kept.{Kept, meaning}
+use Rattle.certificate.specs.Spelling.{text}
+use Rattle.certificate.specs.Reading.{AreLines, certificate_of}
 use Rattle.certificate.specs.Faults.{AsksForMemory, HasFault, IsText}
 use Rattle.streams.specs.Bytes.{Gave}
 use Rattle.commands.specs.Faults.{IsCertificateInputFault, fault_of_certificate}
 use Rattle.commands.specs.Inputs.{FailsInCertificate, HasCertificate, input}
 
-pub has_certificate : (had : Option (List ℕ)) (c : Lines) (v : Version) → AreLines c → IfSome had (λ bytes. bytes ≡ text c) → IfSome had (IsText v) →
-    HasCertificate had c
+-- the sets of a certificate that is kept
+pub kept_sets : (c : Kept) → SetsAreOfWords (certificate_of (meaning c))
+kept_sets c = kept_of_words c
+
+pub has_certificate : (had : Option (List ℕ)) (c : Kept) (v : Version) → AreLines (meaning c) → IfSome had (λ bytes. bytes ≡ text (meaning c)) → IfSome had (IsText v) →
+    HasCertificate had (meaning c)
 has_certificate None c v lines same whole = tt
-has_certificate (Some bytes) c v lines same whole = record { lines_are = lines; text_is = same; few = whole.few }
+has_certificate (Some bytes) c v lines same whole = record { lines_are = lines; of_words = kept_sets c; text_is = same; few = whole.few }
 
 -- the fault of what a source had
 abbrev pub Told : Option (List ℕ) → CertificateFault → Type 0

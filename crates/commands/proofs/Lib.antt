@@ -15,3 +15,4 @@ pub mod SessionsAnswered
 pub mod StuckLemmas
 pub mod SourceLaws
 pub mod OneLemmas
+mod VerdictLaws

@@ -14,7 +14,7 @@ use Rattle.bin_tape.proofs.Parsed.{tape_read}
 use Rattle.bin_tape.proofs.ReadBack.{reads_back}
 use Rattle.pal_text.specs.declared.names.Name.{Name}
 use Rattle.pal_acts.specs.Permanent.{permanent_symbols}
-use Rattle.pal_asm.specs.Laws.{MeaningIsOne, FaultIsOne, MeaningIsNoFault}
+use Rattle.pal_asm.specs.Laws.{MeaningIsOne, FaultIsOne, MeaningIsNoFault, MeantAreWords}
 use Rattle.pal_asm.specs.Sources.{Means, IsFault}
 use Rattle.pal_asm.specs.declared.fault.PalFault.{PalFault}
 use Rattle.commands.specs.declared.status.Fault.{Fault}
@@ -69,14 +69,14 @@ telling_all : (parts : List (List ℕ)) → AreRead (telling parts) parts
 telling_all [] = tt
 telling_all (part ∷ parts) = (refl, telling_all parts)
 
-pub tape_is_there : TapeIsThere
-tape_is_there profile parts symbols image means holds has_word = record {
+pub tape_is_there : MeantAreWords → TapeIsThere
+tape_is_there words profile parts symbols image means has_word = record {
   symbols = symbols;
   image = image;
   assembles = record { parts = parts; read = telling_all parts; means = means };
   has_word = has_word;
   tape_is = refl;
-  reads_back = reads_back image holds has_word;
+  reads_back = reads_back image (words profile parts symbols image means) has_word;
 }
 
 pub empty_has_no_tape : MeaningIsOne → EmptyHasNoTape

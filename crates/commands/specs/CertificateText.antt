@@ -2,9 +2,10 @@
 use Rattle.std.specs.Prelude.{ℕ, ◌≡◌, ◌≤◌, List, Option, length}
 use Rattle.analyser.specs.Versions.{version_of}
 use Rattle.certificate.specs.Made.{migrated}
-use Rattle.certificate.specs.Reading.{AreLines}
+use Rattle.certificate.specs.Reading.{AreLines, certificate_of}
 use Rattle.certificate.specs.Spelling.{Lines, text as spelled}
 use Rattle.declaration.specs.Declaration.{Declaration}
+use Rattle.judge.specs.Laws.{SetsAreOfWords}
 use Rattle.commands.specs.CheckText.{IsYes, checked_case}
 use Rattle.commands.specs.Inputs.{HasCertificate, HasDeclaration, HasImage}
 
@@ -15,8 +16,8 @@ pub record IsMigrated (certificate : Option (List ℕ)) (text : List ℕ) : Type
   pub text_is : text ≡ spelled (migrated lines)
 
 -- The frames are a tape, the text is that of a declaration; this is the text of some certificate, in the version of the
--- declared machine, with no more bytes than are read of one, of which every condition holds: no run of the tape's program
--- breaks the declaration.
+-- declared machine, whose sets are of words, with no more bytes than are read of one, of which every condition holds: no
+-- run of the tape's program breaks the declaration.
 pub record IsGuess (frames text : Option (List ℕ)) (guess : List ℕ) : Type 0 where
   pub image : List (Option ℕ)
   pub tape : HasImage frames image
@@ -24,6 +25,7 @@ pub record IsGuess (frames text : Option (List ℕ)) (guess : List ℕ) : Type 0
   pub declares : HasDeclaration text declaration
   pub lines : Lines
   pub lines_are : AreLines lines
+  pub of_words : SetsAreOfWords (certificate_of lines)
   pub version_is : lines.version ≡ version_of declaration.profile
   pub guess_is : guess ≡ spelled lines
   pub short : length guess ≤ 1048576

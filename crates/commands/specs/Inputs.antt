@@ -9,10 +9,11 @@ use Rattle.declaration.specs.Declaration.{Declaration}
 use Rattle.declaration.specs.Text.{Declares}
 use Rattle.certificate.specs.Spelling.{Lines}
 use Rattle.certificate.specs.Spelling as certificate
-use Rattle.certificate.specs.Reading.{AreLines}
+use Rattle.certificate.specs.Reading.{AreLines, certificate_of}
 use Rattle.certificate.specs.Faults.{most_bytes}
 use Rattle.certificate.specs.Serving.{IsUnanswered}
 use Rattle.certificate.specs.Serving as serving
+use Rattle.judge.specs.Laws.{SetsAreOfWords}
 
 -- The frames are a tape with this image, whose trailer is within the limit of what is looked at.
 abbrev pub HasImage : Option (List ℕ) → List (Option ℕ) → Type 0
@@ -26,9 +27,10 @@ HasEvents text events = IfSome text (λ bytes. Spells bytes events)
 abbrev pub HasDeclaration : Option (List ℕ) → Declaration → Type 0
 HasDeclaration text declaration = IfSome text (λ bytes. Declares bytes declaration)
 
--- The bytes are the text of a certificate with these lines, and not too many.
+-- The bytes are the text of a certificate with these lines, whose sets are of words, and not too many.
 pub record IsTextOf (bytes : List ℕ) (lines : Lines) : Type 0 where
   pub lines_are : AreLines lines
+  pub of_words : SetsAreOfWords (certificate_of lines)
   pub text_is : bytes ≡ certificate.text lines
   pub few : length bytes ≤ most_bytes
 

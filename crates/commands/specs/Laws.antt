@@ -10,12 +10,15 @@ use Rattle.commands.specs.declared.status.Fault.TheVariants.{EmptyImage, Source,
 use Rattle.commands.specs.declared.status.Fault.TheVariants as fault
 use Rattle.commands.specs.declared.status.Status.{Status}
 use Rattle.instruct.specs.declared.Profile.{Profile}
-use Rattle.bin_tape.specs.Image.{HoldsWords, IsEmptyImage}
+use Rattle.bin_tape.specs.Image.{IsEmptyImage}
 use Rattle.bin_tape.specs.Written.{written_tape}
 use Rattle.pal_text.specs.declared.names.Name.{Name}
 use Rattle.pal_acts.specs.Permanent.{permanent_symbols}
 use Rattle.pal_asm.specs.Sources.{Means, IsFault}
 use Rattle.pal_asm.specs.declared.fault.PalFault.{PalFault}
+use Rattle.commands.specs.CertificateText.{IsGuess, IsMigrated}
+use Rattle.commands.specs.CheckText.{IsCheckedSo}
+use Rattle.commands.specs.declared.status.Status.TheVariants.{Done}
 use Rattle.commands.specs.AssembleText.{IsAssembled, IsListing, IsListFault, IsSourceFault}
 use Rattle.commands.specs.Inputs.{HasImage}
 use Rattle.commands.specs.Running.{IsRunOf}
@@ -96,7 +99,7 @@ ReadIsMeant =
 abbrev pub TapeIsThere : Type 0
 TapeIsThere =
     (profile : Profile) (parts : List (List ℕ)) (symbols : List (Name × ℕ)) (image : List (Option ℕ)) →
-    Means (permanent_symbols profile) parts symbols image → HoldsWords image → (IsEmptyImage image → ⊥) →
+    Means (permanent_symbols profile) parts symbols image → (IsEmptyImage image → ⊥) →
     IsAssembled profile (telling parts) (written_tape image)
 
 -- and one that means an image without a word has none.
@@ -151,3 +154,23 @@ abbrev pub FaultIsTheOne : Type 0
 FaultIsTheOne =
     (profile : Profile) (parts : List (List ℕ)) (fault told : PalFault) (marks : List Bool) (left : List (Option (List ℕ))) →
     IsFault (permanent_symbols profile) parts fault → IsListFault profile marks (telling parts) left (Source told) → told ≡ fault
+
+-- The bytes of a tape, a declaration and a certificate have one verdict: one line and one status.
+abbrev pub ChecksAreOne : Type 0
+ChecksAreOne =
+    (tape declaration certificate line line' : List ℕ) (status status' : Status) →
+    IsCheckedSo (Some tape) (Some declaration) (Some certificate) line status →
+    IsCheckedSo (Some tape) (Some declaration) (Some certificate) line' status' → (line ≡ line') × (status ≡ status')
+
+-- To what `guess` writes `check` says yes,
+abbrev pub GuessIsAccepted : Type 0
+GuessIsAccepted =
+    (tape declaration guess line : List ℕ) (status : Status) → IsGuess (Some tape) (Some declaration) guess →
+    IsCheckedSo (Some tape) (Some declaration) (Some guess) line status → status ≡ Done
+
+-- and to what `migrate` writes it says what it says to the certificate that is migrated.
+abbrev pub MigratedIsCheckedAlike : Type 0
+MigratedIsCheckedAlike =
+    (tape declaration certificate migrated line line' : List ℕ) (status status' : Status) → IsMigrated (Some certificate) migrated →
+    IsCheckedSo (Some tape) (Some declaration) (Some certificate) line status →
+    IsCheckedSo (Some tape) (Some declaration) (Some migrated) line' status' → (line ≡ line') × (status ≡ status')

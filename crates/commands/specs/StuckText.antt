@@ -2,8 +2,9 @@
 use Rattle.std.specs.Prelude.{ℕ, ◌≡◌, ◌++◌, codes, List, [], Option, Some, None, IfSome, Err}
 use Rattle.word12.specs.Words.{octal_text}
 use Rattle.instruct.specs.declared.Profile.{Profile}
+use Rattle.analyser.specs.Attempts.{IsDraft}
 use Rattle.analyser.specs.Versions.{version_of}
-use Rattle.certificate.specs.Reading.{AreLines}
+use Rattle.certificate.specs.Reading.{AreLines, certificate_of}
 use Rattle.certificate.specs.Spelling.{Lines}
 use Rattle.declaration.specs.Declaration.{Declaration}
 use Rattle.judge.specs.declared.judging.Refusal.{Refusal}
@@ -24,10 +25,12 @@ abbrev pub stuck_text : Profile → List (Option ℕ) → ℕ → Option (Refusa
 stuck_text profile image at told =
     (codes "pdp8: guess: Stuck " ++ octal_text at) ++ codes "\n" ++ told_text profile image told
 
--- These are the lines of a search that is stuck somewhere. The condition that is told fails by the draft of a certificate,
--- since what is told is so: at that address, and not because a line is missing or too narrow, or at a call in its routine.
+-- These are the lines of a search that is stuck somewhere. The draft's facts stand in bodies and its routine and exit lines
+-- at entries, and it has a fact there, or there is an entry. The condition that is told fails by the draft, since what is
+-- told is so: at that address, and not because a line is missing or too narrow, or at a call in its routine.
 pub record IsReport (image : List (Option ℕ)) (d : Declaration) (draft : Lines) (report : List ℕ) : Type 0 where
   pub at : ℕ
+  pub is_draft : IsDraft d at (certificate_of draft)
   pub told : Option (Refusal × Reason)
   pub why : IfSome told (λ found. Explains (checked_case image d draft) found.0.condition found.0.address found.1)
   pub place : IfSome told (λ found. IsToldOf d at found.0 found.1)

@@ -2,15 +2,14 @@
 
 ghost use Rattle.std.specs.Prelude.{◌≡◌, ◌⊎◌, None, false, true, IfOk, IfErr, OnErr};
 ghost use Rattle.commands.specs.declared.status.Status.TheVariants.{Done, Refused};
-ghost use Rattle.commands.specs.DeclareText.{IsDeclarationFor, IsProposal, IsProposed};
+ghost use Rattle.commands.specs.DeclareText.{IsBare, IsProposal, IsProposed};
 ghost use Rattle.commands.specs.Faults.{IsDeclareFault, IsProposeFault, fails_to_read, fails_to_write};
 ghost use Rattle.commands.specs.Inputs.{TakesTape, input};
 ghost use Rattle.commands.specs.Writes.{FrontOf, Writes};
 ghost use Rattle.declaration.specs.Kept.{meaning};
 ghost use Rattle.declaration.specs.Text.{Declares};
-ghost use Rattle.proposer.specs.Proposals.{Fits, IsListed, IsShown, IsTold};
+ghost use Rattle.proposer.specs.Proposals.{AreNeeded, Fits, IsListed, IsShown, IsTold};
 
-use crate::checking::condition_name;
 use crate::inputs::tape_from;
 use crate::status::{Fault, Status};
 use crate::text::push_place;
@@ -60,11 +59,6 @@ fn push_verdict<A: Allocator, B: Allocator>(
 ) -> Result<(), AllocError> {
     match verdict {
         Verdict::Safe(_) => return Ok(()),
-        Verdict::Refused(_, refusal) => {
-            text.extend_from_slice(b"/ No certificate is found: ")?;
-            text.extend_from_slice(condition_name(refusal.condition).as_bytes())?;
-            push_place(text, b" fails at ", refusal.address)?;
-        }
         Verdict::Stuck(at) => push_place(text, b"/ No certificate is found: stuck at ", *at)?,
         Verdict::TurnsSpent => {
             text.extend_from_slice(b"/ No certificate is found within the turns that there are")?
@@ -87,6 +81,8 @@ fn proposal_for<A: Allocator + Copy>(
     ensures shown { IfOk result (λ p. IsShown image.now p.declaration p.verdict) }
     ensures listed { options.now.reads ≡ true →
         IfOk result (λ p. IsListed p.declaration p.verdict) }
+    ensures needed { options.now.reads ≡ true →
+        IfOk result (λ p. AreNeeded image.now p.declaration p.verdict) }
     ensures unlisted { options.now.reads ≡ false →
         IfOk result (λ p. (meaning p.declaration).reads ≡ None) }
     ensures faults { IfErr result IsTold }
@@ -119,29 +115,30 @@ fn remarks_and_text<A: Allocator + Copy>(
     Ok(text)
 }
 
-/// Whether a text declares a program for what was asked.
+/// Whether a text declares a program for what was asked, without a list of reads.
 fn declares_for<A: Allocator + Copy>(
     alloc: A,
     text: &[u8],
     options: &DeclareOptions,
 ) -> Result<bool, Fault>
-    ensures declares { IfOk result (λ yes. yes ≡ true → IsDeclarationFor options.now text.now) }
+    ensures declares { IfOk result (λ yes. yes ≡ true → IsBare options.now text.now) }
     ensures faults { IfErr result IsProposeFault }
     ensures wrote { fails_to_write result ≡ false }
     ensures read { fails_to_read result ≡ false }
 {
     match Declaration::parse(alloc, text) {
-        Ok(found) => Ok(
-            found.start() == options.start
-                && found.profile() == options.profile
-                && (options.reads || !found.reads_listed()),
-        ),
+        Ok(found) => {
+            if found.reads_listed() || found.start() != options.start {
+                return Ok(false);
+            }
+            Ok(found.profile() == options.profile)
+        }
         Err(DeclarationFault::NoMemory) => Err(Fault::NoMemory),
         Err(_) => Ok(false),
     }
 }
 
-/// The text of a proposal, behind the remarks where there is room for them.
+/// The text of a proposal without a list of reads, behind the remarks where there is room for them.
 fn remarked<A: Allocator + Copy>(
     alloc: A,
     proposal: &Proposal<A>,
@@ -150,9 +147,8 @@ fn remarked<A: Allocator + Copy>(
     requires text { Declares proposal.now.text.items (meaning proposal.now.declaration) }
     requires start { (meaning proposal.now.declaration).start ≡ options.now.start }
     requires profile { (meaning proposal.now.declaration).profile ≡ options.now.profile }
-    requires unlisted { options.now.reads ≡ false →
-        (meaning proposal.now.declaration).reads ≡ None }
-    ensures declares { IfOk result (λ text. IsDeclarationFor options.now text.items) }
+    requires unlisted { (meaning proposal.now.declaration).reads ≡ None }
+    ensures declares { IfOk result (λ text. IsBare options.now text.items) }
     ensures faults { IfErr result IsProposeFault }
     ensures wrote { fails_to_write result ≡ false }
     ensures read { fails_to_read result ≡ false }
@@ -183,7 +179,8 @@ pub fn declare<A: Allocator + Copy, R: ByteSource, W: ByteSink>(
     requires readable { R.mark tape.old ≡ false }
     requires writable { W.mark out.old ≡ false }
     // What is written declares a program from that start, on that machine; and where the command is
-    // done the tape's program is safe, and there is a list of reads if one was asked for.
+    // done the tape's program is safe, and there is a list of reads if one was asked for, of cells that
+    // by the facts of a certificate some possible word may read. Else there is no list.
     ensures declared { IfOk result (λ status. Writes
         (IsProposal options (R.remaining tape.old) status) (W.taken out.old) (W.taken out.new)) }
     ensures statuses { IfOk result (λ status. (status ≡ Done) ⊎ (status ≡ Refused)) }

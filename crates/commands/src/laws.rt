@@ -1,8 +1,8 @@
 //! Laws over the definitions alone. Each is the contract of a function that does nothing.
 
-ghost use Rattle.commands.specs.Laws.{EmptyHasNoTape, FaultIsNotWritten, FaultIsTheOne, FaultIsTold, MeantIsListed, MeantIsRead, MeantIsWritten, ReadIsMeant, RunsAreOne, RunsEnd, SessionsAreOne, SessionsEnd, TapeIsOne, TapeIsThere};
+ghost use Rattle.commands.specs.Laws.{ChecksAreOne, EmptyHasNoTape, FaultIsNotWritten, FaultIsTheOne, FaultIsTold, GuessIsAccepted, MeantIsListed, MeantIsRead, MeantIsWritten, MigratedIsCheckedAlike, ReadIsMeant, RunsAreOne, RunsEnd, SessionsAreOne, SessionsEnd, TapeIsOne, TapeIsThere};
 
-use pal_asm::laws::answers_are_one;
+use pal_asm::laws::{answers_are_one, meant_are_words};
 
 /// From every image each list of events has a run, with its text and its status, and has no other.
 /// So what a run is said to write is there, whatever the tape does.
@@ -31,6 +31,7 @@ pub fn sources_are_read_back()
     ensures meant { ReadIsMeant }
 {
     answers_are_one();
+    meant_are_words();
 }
 
 /// What `assemble` and `list` answer is exact in both directions. A source that means something is
@@ -45,3 +46,11 @@ pub fn assemblies_are_exact()
 {
     answers_are_one();
 }
+
+/// The bytes of a tape, a declaration and a certificate have one verdict. To what `guess` writes it is
+/// yes, and to what `migrate` writes it is that of the certificate which was migrated.
+pub fn checks_are_one()
+    ensures one { ChecksAreOne }
+    ensures guessed { GuessIsAccepted }
+    ensures migrated { MigratedIsCheckedAlike }
+{}

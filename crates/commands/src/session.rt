@@ -38,7 +38,7 @@ pub struct SessionOptions {
 pub struct Outputs<W, T, P> {
     /// Takes the trace and the summary.
     pub report: W,
-    /// Takes the characters that are printed, as they are printed.
+    /// Takes the characters that are printed.
     pub teletype: T,
     /// Takes the bytes that are punched.
     pub punch: P,
@@ -229,8 +229,7 @@ fn attend<A: Allocator + Copy, W: ByteSink, T: ByteSink, P: ByteSink>(
 
 /// Runs a tape with an operator: the frames of one source are in the reader, the bytes of another
 /// are the keys, and both are read before the run, as many bytes as there are rounds. What is
-/// printed is typed as characters as it is printed, what is punched is written when the run is over,
-/// and the trace, if it is asked for, and the summary are the report. The run ends early as that of
+/// printed is typed as characters, what is punched is written as it is, and the trace, if it is asked for, and the summary are the report. The run ends early as that of
 /// `run`.
 ///
 /// # Errors

@@ -2,7 +2,8 @@
 
 ghost use Rattle.std.specs.Prelude.{◌≡◌, ◌⊎◌, ◌||◌, ◌++◌, false, true, IfOk, IfErr, OnErr, OnOk, Ok};
 ghost use Rattle.declaration.specs.Kept.{meaning};
-ghost use Rattle.certificate.specs.Kept.{meaning as lines_of};
+ghost use Rattle.analyser.specs.Attempts.{IsDraft};
+ghost use Rattle.certificate.specs.Kept.{claims, meaning as lines_of};
 ghost use Rattle.commands.specs.CertificateText.{IsGuess};
 ghost use Rattle.commands.specs.Faults.{IsGuessFault, is_fault_of_tape, fails_to_read, fails_to_write};
 ghost use Rattle.commands.specs.Inputs.{TakesAtMost, TakesTape, input};
@@ -52,6 +53,7 @@ fn stuck_lines<A: Allocator, D: Allocator, C: Allocator>(
     draft: &Certificate<C>,
     at: Word,
 ) -> Result<Vec<u8, A>, AllocError>
+    requires draft { IsDraft (meaning declaration.now) at (claims draft.now) }
     ensures { IfOk result (λ text. IsReport image.now (meaning declaration.now) (lines_of draft.now)
         text.items) }
 {
@@ -70,7 +72,8 @@ fn report_stuck<A: Allocator, D: Allocator, C: Allocator, E: ByteSink>(
     at: Word,
     report: &mut E,
 ) -> Result<(), AllocError>
-    requires { E.mark report.old ≡ false }
+    requires unmarked { E.mark report.old ≡ false }
+    requires draft { IsDraft (meaning declaration.now) at (claims draft.now) }
     ensures told { OnOk result (E.mark report.new ≡ false → Writes
         (IsReport image.now (meaning declaration.now) (lines_of draft.now))
         (E.taken report.old) (E.taken report.new)) }
@@ -154,8 +157,8 @@ pub fn guess_or_explain<
     let promised = declaration_from(alloc, declaration)?;
     let attempt = guess_or_draft(alloc, &image, &promised)?;
     match &attempt {
-        Attempt::Found(claims) => {
-            claims.write(out)?;
+        Attempt::Found(certificate) => {
+            certificate.write(out)?;
             Ok(Status::Done)
         }
         Attempt::Stuck(at, draft) => {

@@ -223,24 +223,37 @@ module _ (pl : Place) (tape : AreTapeWords pl.image) (begin : pl.declaration.sta
       sets p q Ac = each_at 4096 (f.set Ac) s.ac st.ac p
       sets p q (Cell x) = rw (begun_cell s x) (cell_set q x)
 
+  -- a cell's set has each word that the cell may hold at a start
+  pub cell_each : (f : Fact) → HoldsOfStarts pl f → (a : ℕ) → has_each (pl.image a) (f.set (Cell a)) ≡ true
+  cell_each f h a = go (pl.image a) refl
+    where
+      at : (v : ℕ) → v < 4096 → f.set (Cell a) (begun (state_with 0 0 0 (but a v)) (Cell a)) ≡ true
+      at v lt = (h (state_with 0 0 0 (but a v)) (start_of 0 zero_word (but a v) (but_words a v lt))).holds.sets (Cell a)
+
+      go : (o : Option ℕ) → pl.image a ≡ o → has_each o (f.set (Cell a)) ≡ true
+      go None e = each_from 4096 (f.set (Cell a)) (λ v lt. rw (free_cell a v 0 e) at (at v lt))
+      go (Some w) e = rw (tape_cell a w 0 (but a 0) e) at (at 0 zero_word)
+
+  pub ac_each : (f : Fact) → HoldsOfStarts pl f → (v : ℕ) → v < 4096 → f.set Ac v ≡ true
+  ac_each f h v lt = (h (state_with v 0 0 (λ a. 0)) (ac_start v lt)).holds.sets Ac
+
+  pub mq_each : (f : Fact) → HoldsOfStarts pl f → (v : ℕ) → v < 4096 → f.mq v ≡ true
+  mq_each f h v lt = (h (state_with 0 0 v (λ a. 0)) (is_start 0 0 v (λ a. 0) zero_word (omega arith) lt zeros)).mq
+
+  pub link_each : (f : Fact) → HoldsOfStarts pl f → (l : ℕ) → l < 2 → f.link l ≡ true
+  link_each f h l lt = (h (state_with 0 l 0 (λ a. 0)) (is_start 0 l 0 (λ a. 0) zero_word lt zero_word zeros)).link
+
+  pub equations_always : (f : Fact) → HoldsOfStarts pl f → are_always pl.image f.equations ≡ true
+  equations_always f h = all_always f.equations (λ s st. (h s st).holds.equations)
+
   holds_is_before : (f : Fact) → HoldsOfStarts pl f → holds_before pl.image f ≡ true
   unfolding holds_before
   holds_is_before f h =
-      and_from _ _ (each_from 4096 (f.set Ac) (λ v lt. (h (state_with v 0 0 (λ a. 0)) (ac_start v lt)).holds.sets Ac))
-      (and_from _ _ (each_from 4096 f.mq (λ v lt. (h (state_with 0 0 v (λ a. 0)) (is_start 0 0 v (λ a. 0) zero_word (omega arith) lt zeros)).mq))
-      (and_from _ _ (each_from 2 f.link (λ l lt. (h (state_with 0 l 0 (λ a. 0)) (is_start 0 l 0 (λ a. 0) zero_word lt zero_word zeros)).link))
-      (and_from _ _ (each_from 4096 (λ a. has_each (pl.image a) (f.set (Cell a))) (λ a lt. cell a))
-      (all_always f.equations (λ s st. (h s st).holds.equations)))))
-    where
-      at : (a v : ℕ) → v < 4096 → f.set (Cell a) (begun (state_with 0 0 0 (but a v)) (Cell a)) ≡ true
-      at a v lt = (h (state_with 0 0 0 (but a v)) (start_of 0 zero_word (but a v) (but_words a v lt))).holds.sets (Cell a)
-
-      go : (a : ℕ) (o : Option ℕ) → pl.image a ≡ o → has_each o (f.set (Cell a)) ≡ true
-      go a None e = each_from 4096 (f.set (Cell a)) (λ v lt. rw (free_cell a v 0 e) at (at a v lt))
-      go a (Some w) e = rw (tape_cell a w 0 (but a 0) e) at (at a 0 zero_word)
-
-      cell : (a : ℕ) → has_each (pl.image a) (f.set (Cell a)) ≡ true
-      cell a = go a (pl.image a) refl
+      and_from _ _ (each_from 4096 (f.set Ac) (ac_each f h))
+      (and_from _ _ (each_from 4096 f.mq (mq_each f h))
+      (and_from _ _ (each_from 2 f.link (link_each f h))
+      (and_from _ _ (each_from 4096 (λ a. has_each (pl.image a) (f.set (Cell a))) (λ a lt. cell_each f h a))
+      (equations_always f h))))
 
 pub start_law : StartLaw
 start_law pl f tape tracks main begin = (

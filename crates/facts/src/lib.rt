@@ -40,7 +40,8 @@ pub use single::single_outcome;
 pub enum Condition {
     /// There is a fact at the start, and it holds of every start.
     V1,
-    /// Facts are in bodies, with offsets in routines alone; routine and exit lines are at entries.
+    /// A fact is in main's body, without offsets, or in the body of a routine that has a line, with at
+    /// least one; routine and exit lines are at entries.
     V2,
     /// At most 64 words are possible, and each is supported.
     V3,

@@ -1,3 +1,4 @@
 pub mod Tests
 pub mod KindLemmas
 pub mod Spaces
+mod Decoded

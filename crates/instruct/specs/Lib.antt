@@ -4,3 +4,4 @@ pub mod Group3
 pub mod Devices
 pub mod Instructions
 pub mod Names
+pub mod Laws

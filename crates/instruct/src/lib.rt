@@ -7,6 +7,7 @@
 
 mod bits;
 mod devices;
+pub mod laws;
 mod naming;
 mod operate;
 

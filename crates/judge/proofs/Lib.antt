@@ -15,3 +15,5 @@ pub mod VerdictLemmas
 pub mod AgreeingLemmas
 pub mod RestatedLemmas
 pub mod ReadingLemmas
+mod TrueLemmas
+pub mod AlikeLaws

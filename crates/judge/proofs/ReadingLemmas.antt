@@ -16,6 +16,7 @@ use Rattle.facts.specs.declared.Condition.TheVariants.{V1, V2, V3, V4, V5, V6, V
 use Rattle.certificate.specs.declared.packed.Run.{Run}
 use Rattle.certificate.specs.declared.packed.PackedLine.{PackedLine}
 use Rattle.certificate.specs.declared.packed.PackedLine.TheVariants as packed
+use Rattle.certificate.specs.Certificate.{Certificate}
 use Rattle.certificate.specs.Exact.{SameLines, SameCertificate}
 use Rattle.certificate.specs.Faults.{IsText, most_bytes}
 use Rattle.certificate.specs.Gathered.{routines_of}
@@ -28,8 +29,9 @@ use Rattle.certificate.proofs.FromOrderLemmas.{reading_law}
 use Rattle.certificate.proofs.PackedLemmas.{runs_past}
 use Rattle.certificate.proofs.SameMeaningLemmas.{meaning_law}
 use Rattle.certificate.proofs.SameTextLemmas.{spelling_law}
-use Rattle.judge.specs.Conditions.{Case, HoldsAt, IsAsked, IsFirst, IsValid, is_first_condition, order, place_among}
-use Rattle.judge.specs.Certifying.{Parts, AreRead, IsTapeOf, case_of, declaration_of}
+use Rattle.judge.specs.Conditions.{Case, HoldsAt, IsAsked, IsAskedAs, IsFirst, IsValid, is_first_condition, order, place_among}
+use Rattle.judge.specs.Certifying.{Parts, AreRead, IsTapeOf, case_of, declaration_of, words_of}
+use Rattle.judge.specs.Laws.{SetsAreOfWords}
 use Rattle.judge.specs.declared.judging.Refusal.{Refusal}
 use Rattle.judge.proofs.OrderLemmas.{IsLater, start_or_later, order_of}
 use Rattle.judge.proofs.RestatedLemmas.{Restates, restated, asked_as_to, holds_to}
@@ -74,40 +76,64 @@ same_judged f g ei ed el er es ew eh ex = rw (ei, ed, el, er, es, ew, eh, ex) re
 
 -- ---- so what is judged is one but for facts that agree
 
+-- the case of a tape's words, a declaration and what is claimed
+abbrev judged_by : Image → Declaration → Certificate → Case
+judged_by i d c = record { image = i; declaration = d; certificate = c }
+
+pub kept_of_words : (c : certified.Kept) → SetsAreOfWords (certified.claims c)
+kept_of_words c = record { sites = λ e v past. sites_past c.lines.runs c.lines.list e v past; writes = λ e v past. writes_past c.lines.runs c.lines.list e v past }
+
+restated_is : (i i' : Image) (d d' : Declaration) (c e : Certificate) → i ≡ i' → d ≡ d' → SetsAreOfWords c → SetsAreOfWords e → SameCertificate c e →
+    restated (judged_by i d c) e.fact e.exit ≡ judged_by i' d' e
+restated_is i i' d d' c e at promised one other same =
+    let listed : c.listed ≡ e.listed = fun_ext (λ r. same.listed r) in
+    let rank : c.rank ≡ e.rank = fun_ext (λ r. same.rank r) in
+    let sites : c.sites ≡ e.sites = fun_ext (λ r. equal_words (c.sites r) (e.sites r) (λ v past. one.sites r v past) (λ v past. other.sites r v past) (same.sites r)) in
+    let writes : c.writes ≡ e.writes = fun_ext (λ r. equal_words (c.writes r) (e.writes r) (λ v past. one.writes r v past) (λ v past. other.writes r v past) (same.writes r)) in
+    let there : c.has_fact ≡ e.has_fact = fun_ext (λ a. same.has_fact a) in
+    let exits : c.has_exit ≡ e.has_exit = fun_ext (λ r. fun_ext (λ o. same.has_exit r o)) in
+    same_judged e.fact e.exit at promised listed rank sites writes there exits
+
+-- what is asked speaks of no facts
+asked_from : (j : Case) (fs : ℕ → Fact) (xs : ℕ → ℕ → Fact) (b : Bool) (a : ℕ) → IsAskedAs b (restated j fs xs) a → IsAskedAs b j a
+asked_from j fs xs true a h = h
+asked_from j fs xs false a h = h
+
+module _ (i i' : Image) (d d' : Declaration) (c e : Certificate) (at : i ≡ i') (promised : d ≡ d') (one : SetsAreOfWords c) (other : SetsAreOfWords e) (same : SameCertificate c e) where
+  restates : Restates (judged_by i d c) e.fact e.exit
+  restates = record { facts = same.fact; exits = same.exit }
+
+  pub holds_alike : (v : Condition) (a : ℕ) → HoldsAt (judged_by i d c) v a → HoldsAt (judged_by i' d' e) v a
+  holds_alike v a h =
+      subst (λ j. HoldsAt j v a) (restated_is i i' d d' c e at promised one other same) (holds_to (judged_by i d c) e.fact e.exit restates v a h)
+
+  pub asked_alike : (v : Condition) (a : ℕ) → IsAsked (judged_by i d c) v a → IsAsked (judged_by i' d' e) v a
+  asked_alike v a h =
+      subst (λ j. IsAsked j v a) (restated_is i i' d d' c e at promised one other same) (asked_as_to (judged_by i d c) e.fact e.exit (is_first_condition v) a h)
+
+  pub asked_back : (v : Condition) (a : ℕ) → IsAsked (judged_by i' d' e) v a → IsAsked (judged_by i d c) v a
+  asked_back v a h =
+      asked_from (judged_by i d c) e.fact e.exit (is_first_condition v) a
+      (subst (λ j. IsAsked j v a) (sym (restated_is i i' d d' c e at promised one other same)) h)
+
+-- ---- so whatever parts the bytes have, the same holds of them
+
 same_certificate : {t d c : List ℕ} (p q : Parts) → AreRead t d c p → AreRead t d c q → SameCertificate (certified.claims p.certificate) (certified.claims q.certificate)
 same_certificate p q one other =
     let lines : SameLines (certified.meaning p.certificate) (certified.meaning q.certificate) =
     spelling_law.lines (certified.meaning p.certificate) (certified.meaning q.certificate) one.are_lines other.are_lines (sym one.is_text ∙ other.is_text) in
     meaning_law (certified.meaning p.certificate) (certified.meaning q.certificate) lines
 
-restates : {t d c : List ℕ} (p q : Parts) → AreRead t d c p → AreRead t d c q → Restates (case_of p) (certified.claims q.certificate).fact (certified.claims q.certificate).exit
-restates p q one other = let same = same_certificate p q one other in record { facts = same.fact; exits = same.exit }
-
-restated_is : {t d c : List ℕ} (p q : Parts) → p.image ≡ q.image → AreRead t d c p → AreRead t d c q →
-    restated (case_of p) (certified.claims q.certificate).fact (certified.claims q.certificate).exit ≡ case_of q
-restated_is {t} {d} {c} p q image one other =
-    let same = same_certificate p q one other in
-    let at : image_of p.image ≡ image_of q.image = ap image_of image in
-    let promised : declaration_of p ≡ declaration_of q = one_declaration d (declaration_of p) (declaration_of q) one.declares other.declares in
-    let listed : (certified.claims p.certificate).listed ≡ (certified.claims q.certificate).listed = fun_ext (λ e. same.listed e) in
-    let rank : (certified.claims p.certificate).rank ≡ (certified.claims q.certificate).rank = fun_ext (λ e. same.rank e) in
-    let sites : (certified.claims p.certificate).sites ≡ (certified.claims q.certificate).sites =
-    fun_ext (λ e. equal_words ((certified.claims p.certificate).sites e) ((certified.claims q.certificate).sites e) (sites_past p.certificate.lines.runs p.certificate.lines.list e) (sites_past q.certificate.lines.runs q.certificate.lines.list e) (same.sites e)) in
-    let writes : (certified.claims p.certificate).writes ≡ (certified.claims q.certificate).writes =
-    fun_ext (λ e. equal_words ((certified.claims p.certificate).writes e) ((certified.claims q.certificate).writes e) (writes_past p.certificate.lines.runs p.certificate.lines.list e) (writes_past q.certificate.lines.runs q.certificate.lines.list e) (same.writes e)) in
-    let there : (certified.claims p.certificate).has_fact ≡ (certified.claims q.certificate).has_fact = fun_ext (λ a. same.has_fact a) in
-    let exits : (certified.claims p.certificate).has_exit ≡ (certified.claims q.certificate).has_exit = fun_ext (λ e. fun_ext (λ o. same.has_exit e o)) in
-    same_judged (certified.claims q.certificate).fact (certified.claims q.certificate).exit at promised listed rank sites writes there exits
+promised_is : {t d c : List ℕ} (p q : Parts) → AreRead t d c p → AreRead t d c q → declaration_of p ≡ declaration_of q
+promised_is {t} {d} {c} p q one other = one_declaration d (declaration_of p) (declaration_of q) one.declares other.declares
 
 holds_too : {t d c : List ℕ} (p q : Parts) → p.image ≡ q.image → AreRead t d c p → AreRead t d c q → (v : Condition) (a : ℕ) → HoldsAt (case_of p) v a → HoldsAt (case_of q) v a
 holds_too p q image one other v a h =
-    subst (λ j. HoldsAt j v a) (restated_is p q image one other)
-    (holds_to (case_of p) (certified.claims q.certificate).fact (certified.claims q.certificate).exit (restates p q one other) v a h)
+    holds_alike (words_of p) (words_of q) (declaration_of p) (declaration_of q) (certified.claims p.certificate) (certified.claims q.certificate) (ap image_of image) (promised_is p q one other) (kept_of_words p.certificate) (kept_of_words q.certificate) (same_certificate p q one other) v a h
 
 asked_too : {t d c : List ℕ} (p q : Parts) → p.image ≡ q.image → AreRead t d c p → AreRead t d c q → (v : Condition) (a : ℕ) → IsAsked (case_of p) v a → IsAsked (case_of q) v a
 asked_too p q image one other v a h =
-    subst (λ j. IsAsked j v a) (restated_is p q image one other)
-    (asked_as_to (case_of p) (certified.claims q.certificate).fact (certified.claims q.certificate).exit (is_first_condition v) a h)
+    asked_alike (words_of p) (words_of q) (declaration_of p) (declaration_of q) (certified.claims p.certificate) (certified.claims q.certificate) (ap image_of image) (promised_is p q one other) (kept_of_words p.certificate) (kept_of_words q.certificate) (same_certificate p q one other) v a h
 
 pub valid_too : {t d c : List ℕ} (p q : Parts) → p.image ≡ q.image → AreRead t d c p → AreRead t d c q → IsValid (case_of p) → IsValid (case_of q)
 valid_too p q image one other valid v a asked = holds_too p q image one other v a (valid v a (asked_too q p (sym image) other one v a asked))
@@ -178,7 +204,7 @@ one_order j v u a b asked also same = elim (start_or_later v) [
   ]
 ]
 
-one_first : (j : Case) (v u : Condition) (a b : ℕ) → IsFirst j v a → IsFirst j u b → (v ≡ u) × (a ≡ b)
+pub one_first : (j : Case) (v u : Condition) (a b : ℕ) → IsFirst j v a → IsFirst j u b → (v ≡ u) × (a ≡ b)
 one_first j v u a b f g = elim (cases_order (order v a) (order u b)) [
   | inl same ↦ one_order j v u a b f.asked g.asked same
   | inr differ ↦ elim differ [

@@ -6,3 +6,4 @@ pub mod Judged
 pub mod Pages
 pub mod Spots
 pub mod Certifying
+pub mod Laws

@@ -7,6 +7,7 @@ mod calls;
 mod claims;
 mod judging;
 mod landing;
+pub mod laws;
 mod lines;
 mod spot;
 mod verdict;

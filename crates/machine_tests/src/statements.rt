@@ -142,33 +142,58 @@ fn a_part_has_at_most_65536_bytes(rt: HostRuntime) -> Result<(), Fail> {
     Ok(())
 }
 
-/// The form, the line and the last token of each statement read, how many tokens there are then,
-/// and where its line closes.
-const READINGS: [(Form, usize, usize, usize, Option<usize>); 6] = [
-    (Form::Word, 1, 3, 3, None),
-    (Form::Empty, 2, 4, 0, Some(9)),
-    (Form::Word, 2, 6, 1, None),
-    (Form::Empty, 3, 7, 0, None),
-    (Form::Pause, 3, 9, 1, Some(17)),
-    (Form::Empty, 0, 0, 0, None),
+/// The form, the line and the last token of each statement read, and how many tokens there are then.
+const READINGS: [(Form, usize, usize, usize); 5] = [
+    (Form::Word, 1, 3, 3),
+    (Form::Empty, 2, 4, 0),
+    (Form::Word, 2, 6, 1),
+    (Form::Empty, 3, 7, 0),
+    (Form::Pause, 3, 9, 1),
 ];
 
 #[test]
 fn a_reader_gives_one_statement_at_a_time(rt: HostRuntime) -> Result<(), Fail> {
-    let mut reader = Reader::new(rt.alloc(), b"A, 5 \r\n $B\n;PAUSE");
-    for (form, line, last, count, stop) in &READINGS {
+    let mut reader = Reader::new(rt.alloc(), b"A, 5 \r\n ;B\n;PAUSE$?");
+    for (form, line, last, count) in &READINGS {
         match reader.read_next()? {
-            Some(found) => {
+            Next::Statement(found) => {
                 assert_eq!(rt; found.statement.form, *form);
                 assert_eq!(rt;
                     (found.statement.line, found.statement.last),
                     (*line, *last)
                 );
-                assert_eq!(rt; found.close.map(|close| close.stop), *stop);
             }
-            None => assert_eq!(rt; *line, 0),
+            Next::End(_) => assert!(rt; false),
         }
         assert_eq!(rt; reader.tokens().len(), *count);
+    }
+    for _ in 0..2 {
+        match reader.read_next()? {
+            Next::Statement(_) => assert!(rt; false),
+            Next::End(close) => assert_eq!(rt; (close.ending, close.stop), (Ending::Pause, 17)),
+        }
+        assert_eq!(rt; reader.tokens().len(), 0);
+    }
+    Ok(())
+}
+
+/// Parts of one statement, and where they end.
+const CLOSES: [(&[u8], Ending, usize); 4] = [
+    (b"A, 5 $B", Ending::Dollar, 6),
+    (b"PAUSE$B", Ending::Pause, 5),
+    (b" 5 / $", Ending::Bytes, 6),
+    (b"", Ending::Bytes, 0),
+];
+
+#[test]
+fn a_reader_stops_where_the_part_ends(rt: HostRuntime) -> Result<(), Fail> {
+    for (source, ending, stop) in &CLOSES {
+        let mut reader = Reader::new(rt.alloc(), source);
+        assert!(rt; matches!(reader.read_next()?, Next::Statement(_)));
+        match reader.read_next()? {
+            Next::Statement(_) => assert!(rt; false),
+            Next::End(close) => assert_eq!(rt; (close.ending, close.stop), (*ending, *stop)),
+        }
     }
     Ok(())
 }
@@ -177,12 +202,12 @@ fn a_reader_gives_one_statement_at_a_time(rt: HostRuntime) -> Result<(), Fail> {
 fn a_reader_tells_the_line_without_a_form(rt: HostRuntime) -> Result<(), Fail> {
     let mut reader = Reader::new(rt.alloc(), b"HLT\n\r5A;$");
     for _ in 0..2 {
-        assert!(rt; reader.read_next()?.is_some());
+        assert!(rt; matches!(reader.read_next()?, Next::Statement(_)));
     }
     for _ in 0..2 {
         match reader.read_next() {
             Ok(_) => assert!(rt; false),
-            Err(fault) => assert_eq!(rt; fault, TextFault::Illegal(3)),
+            Err(fault) => assert_eq!(rt; fault, StatementFault::Illegal(3)),
         }
     }
     Ok(())

@@ -1,8 +1,9 @@
 -- Acts whose expressions lie in one list.
-use Rattle.std.proofs.Common.{◌≡◌, ◌∙◌, ap, refl, ℕ, ◌-◌, ◌≤◌, List, [], ◌∷◌, ◌++◌, arith, length, take, drop}
-use Rattle.std.specs.Prelude.{slice_range}
+use Rattle.std.proofs.Common.{◌≡◌, ◌∙◌, ap, sym, refl, subst, ℕ, ◌+◌, ◌-◌, ◌≤◌, List, [], ◌∷◌, ◌++◌, arith, length, take, drop}
+use Rattle.std.specs.Prelude.{slice_range, Result, Ok, Err, OnErr}
 use Rattle.std.specs.List.{AllByRecursion}
 use Rattle.std.proofs.lemmas.List.{take_all, drop_at, drop-append-le, take-append-le, length-append, length-drop, map-append}
+use Rattle.pal_text.proofs.Rises.{all_append}
 use Rattle.pal_acts.specs.declared.act.Join.{Join}
 use Rattle.pal_acts.specs.declared.acts.Kept.{Kept}
 use Rattle.pal_acts.specs.Acts.{placed, kept_act, acts_in}
@@ -24,6 +25,30 @@ kept_acts js more (k ∷ ks) h =
     let one : slice_range (js ++ more) k.span.first k.span.last ≡ slice_range js k.span.first k.span.last = range_kept js more k.span.first k.span.last h.0.forward h.0.inside in
     let rest : acts_in (js ++ more) ks ≡ acts_in js ks = kept_acts js more ks h.1 in
     λ i. placed k.place (one i) k.act ∷ rest i
+
+-- the same where more terms were laid after them
+pub kept_longer : (js js' : List Join) (ks : List Kept) → AllByRecursion (LiesWithin (length js)) ks → ((more : List Join) × (js' ≡ js ++ more)) → acts_in js' ks ≡ acts_in js ks
+kept_longer js js' ks h (more, e) = ap (λ l. acts_in l ks) e ∙ kept_acts js more ks h
+
+pub within_longer : (js js' : List Join) (ks : List Kept) → AllByRecursion (LiesWithin (length js)) ks → ((more : List Join) × (js' ≡ js ++ more)) → AllByRecursion (LiesWithin (length js')) ks
+within_longer js js' [] h e = tt
+within_longer js js' (k ∷ ks) h (more, e) =
+    let size : length js' ≡ length js + length more = ap length e ∙ length-append js more in
+    (record { forward = h.0.forward; inside = omega (arith, h.0.inside, size) }, within_longer js js' ks h.1 (more, e))
+
+-- and one more, whose expression was laid at the end
+pub within_added : (js e js' : List Join) (ks ks' : List Kept) (k : Kept) → AllByRecursion (LiesWithin (length js)) ks → js' ≡ js ++ e → k.span.first ≡ length js → k.span.last ≡ length js' → ks' ≡ ks ++ k ∷ []
+    → AllByRecursion (LiesWithin (length js')) ks'
+within_added js e js' ks ks' k h same first last is =
+    let P : List Kept → Type 0 = λ l. AllByRecursion (LiesWithin (length js')) l in
+    let size : length js' ≡ length js + length e = ap length same ∙ length-append js e in
+    let one : LiesWithin (length js') k = record { forward = omega (arith, first, last, size); inside = omega (arith, last) } in
+    subst P (sym is) (all_append (LiesWithin (length js')) ks (k ∷ []) (within_longer js js' ks h (e, same)) (one, tt))
+
+-- what holds anyway holds of an error
+pub anyway : {T E : Type 0} {P : Type 0} (r : Result T E) → P → OnErr r P
+anyway (Ok x) p = tt
+anyway (Err e) p = p
 
 -- one act more, whose expression was laid at the end
 pub added : (js e js' : List Join) (ks : List Kept) (k : Kept) → AllByRecursion (LiesWithin (length js)) ks → js' ≡ js ++ e → k.span.first ≡ length js → k.span.last ≡ length js'

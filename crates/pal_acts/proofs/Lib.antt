@@ -5,5 +5,6 @@ pub mod Places
 pub mod Images
 pub mod Unique
 pub mod First
+pub mod Bounds
 pub mod Told
 pub mod PermanentLemmas

@@ -226,7 +226,7 @@ stood_by perm limit before e (act.Assign n) new order given law lawful room =
 pub stood : (perm : List (Name × ℕ)) (limit : ℕ) (before : List PlacedAct) (next : PlacedAct) (new : List (Name × ℕ)) → Defines perm limit (next ∷ before) new → Before perm limit before next.terms next.act new
 stood perm limit before next new d = stood_by perm limit before next.terms next.act new d.order d.one_value d.lawful.0 d.lawful.1 d.room
 
-none_left : (s : List (Name × ℕ)) (perm : List (Name × ℕ)) → keys_of (perm ++ s) ≡ keys_of perm → s ≡ []
+pub none_left : (s : List (Name × ℕ)) (perm : List (Name × ℕ)) → keys_of (perm ++ s) ≡ keys_of perm → s ≡ []
 none_left [] perm e = refl
 none_left (x ∷ s) perm e = absurd (omega (arith, ap length (sym (keys-append perm (x ∷ s)) ∙ e), length-append (keys_of perm) (keys_of (x ∷ s))))
 

@@ -1,6 +1,6 @@
 //! What a source does, in order.
 
-ghost use Rattle.std.specs.Prelude.{◌≡◌, ◌<◌, [], ◌∷◌, ◌++◌, OnOk, IfOk, Some, List, length, take, slice_get};
+ghost use Rattle.std.specs.Prelude.{◌≡◌, ◌<◌, [], ◌∷◌, ◌++◌, OnOk, OnErr, IfOk, Some, List, length, take, slice_get};
 ghost use Rattle.pal_acts.specs.declared.act.Join.{Join as Joined};
 ghost use Rattle.pal_acts.specs.Acts.{placed, shown};
 
@@ -107,10 +107,11 @@ impl<A: Allocator> Acts<A> {
     ///
     /// # Errors
     ///
-    /// Memory was refused.
+    /// Memory was refused. Then the acts are as they were.
     #[inline(always)]
     pub fn keep(&mut self, place: Place, act: Act, terms: &[Join]) -> Result<(), AllocError>
-        ensures { OnOk result (self.new ≡ self.old ++ placed place terms.now act ∷ []) }
+        ensures kept { OnOk result (self.new ≡ self.old ++ placed place terms.now act ∷ []) }
+        ensures same { OnErr result (self.new ≡ self.old) }
     {
         let span = lay(&mut self.terms, terms)?;
         self.list.push(Kept { place, act, span })?;

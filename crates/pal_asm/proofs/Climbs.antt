@@ -1,4 +1,4 @@
--- The statements of a part stand on lines that never fall.
+-- The pieces of a part stand on lines that never fall.
 use Rattle.std.proofs.Common.{◌∙◌, sym, ap, subst, ℕ, ◌+◌, ◌≤◌, List, [], ◌∷◌, ◌++◌, append_assoc, Bool, Option, Some, None, arith, ◌||◌, ◌&&◌, length}
 use Rattle.std.specs.Prelude.{reverse, map, nat_eq, if◌then◌else◌}
 use Rattle.std.proofs.lemmas.Bool.{cond_both}
@@ -8,15 +8,10 @@ use Rattle.pal_text.specs.declared.characters.Meaning.TheVariants.{Ignored, Line
 use Rattle.pal_text.specs.declared.tokens.Kind.{Kind}
 use Rattle.pal_text.specs.declared.tokens.Kind.TheVariants.{End}
 use Rattle.pal_text.specs.declared.tokens.Token.{Token}
-use Rattle.pal_text.specs.declared.cut.Statement.{Statement}
-use Rattle.pal_text.specs.declared.cut.Close.{Close}
-use Rattle.pal_text.specs.declared.cut.Ending.{Ending}
-use Rattle.pal_text.specs.declared.lines.Line.{Line}
 use Rattle.pal_text.specs.Characters.{line, line_by, in_comment, meaning_after}
 use Rattle.pal_text.specs.Tokens.{is_space, absorbs, longer, with_kind, without_space, joined, one_or_both, added, token, kind_of, grown, tokens, end_token, ended, all_tokens}
 use Rattle.pal_text.specs.Names.{named, part_tokens}
-use Rattle.pal_text.specs.Statements.{is_end, Piece, piece, pieces, own, closing, closed, Goes, Stand}
-use Rattle.pal_text.specs.Parts.{IsPart}
+use Rattle.pal_text.specs.Statements.{is_end, Piece, piece, pieces}
 
 -- tokens, the newest first, on lines up to this one
 abbrev Rising : ℕ → List Token → Type 0
@@ -86,11 +81,11 @@ part_climbing source =
     named_climbing source 0 (all_tokens source) (subst P (append-nil (reverse (ended before)))
     (turned (ended before) [] (line before) (added_rising (line before) (end_token before) (tokens before) (omega arith, tokens_rising before)) tt))
 
-abbrev Marks : ℕ → List Piece → Type 0
+abbrev pub Marks : ℕ → List Piece → Type 0
 Marks n [] = Unit {0}
 Marks n (p ∷ ps) = (n ≤ p.mark.line) × Marks p.mark.line ps
 
-lower_marks : (ps : List Piece) (m n : ℕ) → m ≤ n → Marks n ps → Marks m ps
+pub lower_marks : (ps : List Piece) (m n : ℕ) → m ≤ n → Marks n ps → Marks m ps
 lower_marks [] m n h c = tt
 lower_marks (p ∷ ps) m n h c = (omega (arith, c.0), c.1)
 
@@ -100,26 +95,5 @@ marks_climb n first at (t ∷ ts) c =
     cond_both (is_end t.kind) (piece first at t ∷ pieces (at + 1) (at + 1) ts) (pieces first (at + 1) ts) (λ l. Marks n l)
     (λ is. (c.0, marks_climb t.line (at + 1) (at + 1) ts c.1)) (λ is. lower_marks (pieces first (at + 1) ts) n t.line c.0 (marks_climb t.line first (at + 1) ts c.1))
 
--- statements on lines from this one on
-abbrev pub Steps : ℕ → List Statement → Type 0
-Steps n [] = Unit {0}
-Steps n (s ∷ ss) = (n ≤ s.line) × Steps s.line ss
-
-goes_climbs : (n : ℕ) (o : Option Close) (ss : List Statement) (c : Close) (later : Type 0) → (later → Steps n ss) → Goes o ss c later → Steps n ss
-goes_climbs n None ss c later k h = k h
-goes_climbs n (Some d) ss c later k h = let P : List Statement → Type 0 = λ l. Steps n l in subst P (sym h.0) tt
-
-stand_climbs : (ts : List Token) (size n : ℕ) (ps : List Piece) (ss : List Statement) (c : Close) → Marks n ps → Stand ts size ps ss c → Steps n ss
-stand_climbs ts size n [] [] c m h = tt
-stand_climbs ts size n [] (s ∷ ss) c m h = absurd h
-stand_climbs ts size n (p ∷ ps) [] c m h = absurd h
-stand_climbs ts size n (p ∷ ps) (s ∷ ss) c m h =
-    let P : ℕ → Type 0 = λ k. Steps k ss in (
-      omega (arith, m.0, h.0.line),
-      subst P (sym h.0.line) (goes_climbs p.mark.line (closing (own ts p) p.mark s.form) ss c (Stand ts size ps ss c) (stand_climbs ts size p.mark.line ps ss c m.1) h.1),
-    )
-
-pub statements_climb : (source : List ℕ) (ts : List Token) (ss : List Statement) (lines : List Line) (ending : Ending) → IsPart source ts ss lines ending → Steps 0 ss
-statements_climb source ts ss lines ending h =
-    let P : List Token → Type 0 = λ l. Climbing 0 l in
-    stand_climbs ts (length source) 0 (pieces 0 0 ts) ss (closed ending h.stop) (marks_climb 0 0 0 ts (subst P (sym h.tokens_are) (part_climbing source))) h.statements_are
+pub part_marks : (source : List ℕ) → Marks 0 (pieces 0 0 (part_tokens source))
+part_marks source = marks_climb 0 0 0 (part_tokens source) (part_climbing source)

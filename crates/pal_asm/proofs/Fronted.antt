@@ -1,30 +1,29 @@
 -- A part that was read up to where it ended.
-use Rattle.std.proofs.Common.{◌≡◌, ◌∙◌, sym, ap, refl, ℕ, ◌+◌, ◌≤◌, List, [], ◌∷◌, ◌++◌, append_assoc, arith, length, take, drop, inl, Bool}
+use Rattle.std.proofs.Common.{◌≡◌, ◌∙◌, sym, ap, refl, ℕ, ◌+◌, ◌≤◌, List, [], ◌∷◌, ◌++◌, append_assoc, arith, length, take, drop, Bool}
 use Rattle.std.specs.Prelude.{slice_range}
 use Rattle.std.specs.List.{AllByRecursion}
-use Rattle.std.proofs.lemmas.List.{append-nil, take_at, take_all, take-append-drop}
+use Rattle.std.proofs.lemmas.List.{append-nil, take_all, take-append-drop}
+use Rattle.pal_text.specs.declared.tokens.Token.{Token}
+use Rattle.pal_text.specs.declared.cut.Close.{Close}
 use Rattle.pal_text.specs.declared.lines.Line.{Line}
+use Rattle.pal_text.specs.Grammar.{form_of}
 use Rattle.pal_text.specs.Lines.{all_lines}
 use Rattle.pal_text.specs.Order.{IsLineWithin}
 use Rattle.pal_text.specs.Names.{part_tokens}
-use Rattle.pal_text.specs.Parts.{IsPart, IsIllegal}
+use Rattle.pal_text.specs.Statements.{Piece, pieces, own, closing}
 use Rattle.pal_text.proofs.Rises.{part_tokens_within}
-use Rattle.pal_text.proofs.Ends.{stop_within}
+use Rattle.pal_text.proofs.Ends.{Marks, marks_within, closing_within, stop_by, own_within}
 use Rattle.pal_text.proofs.Placed.{lines_within_by}
-use Rattle.pal_acts.specs.declared.act.Act.TheVariants as act
-use Rattle.pal_acts.specs.declared.code.Code.TheVariants.{IllegalCharacter}
 use Rattle.pal_asm.specs.declared.number.Radix.{Radix}
 use Rattle.pal_asm.specs.declared.front.Front.{Front}
 use Rattle.pal_asm.specs.declared.reading.Reached.{Reached}
-use Rattle.pal_asm.specs.declared.reading.Turn.{Turn}
-use Rattle.pal_asm.specs.declared.reading.Turn.TheVariants.{Ends}
 use Rattle.pal_asm.specs.declared.statement.NumberedPart.{NumberedPart}
-use Rattle.pal_acts.specs.Acts.{PlacedAct, placed, place}
-use Rattle.pal_asm.specs.Listings.{text_line, text_lines}
-use Rattle.pal_asm.specs.Kept.{IsRead, lines_of_fronts, Turns, TurnsLines}
+use Rattle.pal_acts.specs.Acts.{PlacedAct, place}
+use Rattle.pal_asm.specs.Numbers.{radix_after}
+use Rattle.pal_asm.specs.Acts.{Does, ends, goes_on}
+use Rattle.pal_asm.specs.Sources.{text_line, text_lines, part_lines}
+use Rattle.pal_asm.specs.Kept.{IsRead, lines_of_fronts}
 use Rattle.pal_acts.proofs.Flat.{range_kept}
-use Rattle.pal_asm.proofs.Turned.{Leads, turned}
-use Rattle.pal_asm.proofs.TurnedLines.{turned_lines}
 
 -- the lines of a front of some bytes are lines of those bytes
 lines_kept : (n k : ℕ) (front more : List ℕ) (ls : List Line) → AllByRecursion (IsLineWithin (length front)) ls → text_lines n k (front ++ more) ls ≡ text_lines n k front ls
@@ -48,32 +47,24 @@ fronts_more (g ∷ fs) f =
     ap (λ l. text_lines g.number 1 g.bytes.now (all_lines g.bytes.now) ++ l) (fronts_more fs f)
     ∙ sym (append_assoc (text_lines g.number 1 g.bytes.now (all_lines g.bytes.now)) (lines_of_fronts fs) (text_lines f.number 1 f.bytes.now (all_lines f.bytes.now)))
 
+-- a part ends within its bytes
+does_within : (n : ℕ) (last : Bool) (source : List ℕ) (r r' : Radix) (ps : List Piece) (acts : List PlacedAct) (c : Close) → Marks (length source) ps → Does n last source r ps acts r' c → c.stop ≤ length source
+does_within n last source r r' ps acts c marks (ends q p qs tags said d reads e) =
+    let tokens : List Token = part_tokens source in
+    stop_by (length source) (closing (length source) (own tokens p) p.mark (form_of said)) d
+    (closing_within (length source) (own tokens p) p.mark (form_of said) marks.0 (own_within tokens (length source) p (part_tokens_within source))) e
+does_within n last source r r' ps acts c marks (goes_on q q' p qs tags said later d reads e h) = does_within n last source (radix_after q (form_of said)) q' qs later d marks.1 h
+
 module _ (part : NumberedPart) (before : Radix) (old new : List PlacedAct) (reached : Reached) (is : IsRead part before old new reached) where
-  is_part : IsPart part.source.now (part_tokens part.source.now) is.statements (all_lines (take reached.close.stop part.source.now)) reached.close.ending
-  is_part = record { stop = reached.close.stop; tokens_are = refl; statements_are = is.stands; lines_are = refl }
-
   pub stop_inside : reached.close.stop ≤ length part.source.now
-  stop_inside = stop_within (part_tokens part.source.now) (length part.source.now) is.statements reached.close (part_tokens_within part.source.now) is.stands
+  stop_inside =
+      does_within part.number part.last part.source.now before reached.radix (pieces 0 0 (part_tokens part.source.now)) is.acts reached.close
+      (marks_within (length part.source.now) 0 0 (part_tokens part.source.now) (part_tokens_within part.source.now)) is.does
 
-  pub read_acts : (turn : Turn) → Leads reached.close.ending reached.radix turn → Turns part.number before part.last part.source.now old new turn
-  read_acts turn leads =
-      turned part.number before reached.radix part.last part.source.now part.source.now (part_tokens part.source.now) is.statements (all_lines (take reached.close.stop part.source.now)) reached.close.ending old new turn
-      refl is_part is.radix_is leads is.acts_are
-
-  pub read_lines : (turn : Turn) (fs fs' : List Front) (f : Front) → Leads reached.close.ending reached.radix turn → fs' ≡ fs ++ f ∷ [] → f.number ≡ part.number → f.bytes.now ≡ take reached.close.stop part.source.now
-      → TurnsLines part.number part.source.now (lines_of_fronts fs) (lines_of_fronts fs') turn
-  read_lines turn fs fs' f leads more number bytes =
-      turned_lines part.number reached.radix part.source.now part.source.now (part_tokens part.source.now) is.statements (all_lines (take reached.close.stop part.source.now)) reached.close.ending
-      (lines_of_fronts fs) (lines_of_fronts fs') turn refl is_part leads
-      (ap lines_of_fronts more ∙ fronts_more fs f
-      ∙ (λ i. lines_of_fronts fs ++ text_lines (number i) 1 (bytes i) (all_lines (bytes i)))
-      ∙ ap (λ l. lines_of_fronts fs ++ l) (lines_same part.number part.source.now reached.close.stop))
-
--- a part with a statement that has no form is that fault
-pub refused_acts : (n : ℕ) (r : Radix) (last : Bool) (source : List ℕ) (line : ℕ) (old more kept new : List PlacedAct) → IsIllegal source line → kept ≡ take (length old) (old ++ more)
-    → new ≡ kept ++ placed (place n line) [] (act.Wrong IllegalCharacter) ∷ [] → Turns n r last source old new Ends
-refused_acts n r last source line old more kept new is cut e = record {
-  more = placed (place n line) [] (act.Wrong IllegalCharacter) ∷ [];
-  new_is = e ∙ ap (λ l. l ++ placed (place n line) [] (act.Wrong IllegalCharacter) ∷ []) (cut ∙ take_at old more (length old) refl);
-  gives = λ rest later empty next. inl (line, is, ap (λ l. placed (place n line) [] (act.Wrong IllegalCharacter) ∷ l) next);
-}
+-- the lines of one part more
+pub front_lines : (n : ℕ) (source : List ℕ) (c : Close) (fs fs' : List Front) (f : Front) → fs' ≡ fs ++ f ∷ [] → f.number ≡ n → f.bytes.now ≡ take c.stop source
+    → lines_of_fronts fs' ≡ lines_of_fronts fs ++ part_lines n source c
+front_lines n source c fs fs' f more number bytes =
+    ap lines_of_fronts more ∙ fronts_more fs f
+    ∙ (λ i. lines_of_fronts fs ++ text_lines (number i) 1 (bytes i) (all_lines (bytes i)))
+    ∙ ap (λ l. lines_of_fronts fs ++ l) (lines_same n source c.stop)

@@ -3,9 +3,10 @@ pub mod Terms
 pub mod Within
 pub mod Turned
 pub mod One
+pub mod Bounded
 pub mod EachAct
+pub mod Spoken
 pub mod Stepped
-pub mod TurnedLines
 pub mod Fronted
 pub mod Fronts
 pub mod Climbs

@@ -1,41 +1,36 @@
 -- The words of a listing stand on its lines.
-use Rattle.std.proofs.Common.{◌≡◌, sym, ap, refl, subst, ℕ, ◌+◌, ◌<◌, ◌≤◌, List, [], ◌∷◌, ◌++◌, arith, Bool, Result, Ok, Err, inl, inr, length}
-use Rattle.std.specs.Prelude.{map, reverse, slice_range}
+use Rattle.std.proofs.Common.{◌≡◌, sym, ap, refl, subst, ℕ, ◌+◌, ◌<◌, ◌≤◌, List, [], ◌∷◌, ◌++◌, arith, Bool, Result, Ok, Err, inl, inr, length, take}
+use Rattle.std.specs.Prelude.{reverse}
 use Rattle.std.specs.List.{AllByRecursion}
-use Rattle.std.proofs.lemmas.Bool.{cases_eq, cond_both}
-use Rattle.pal_text.specs.declared.tokens.Kind.{Kind}
-use Rattle.pal_text.specs.declared.tokens.Kind.TheVariants as kind
-use Rattle.pal_text.specs.declared.tokens.Token.{Token}
-use Rattle.pal_text.specs.declared.grammar.Form.{Form}
-use Rattle.pal_text.specs.declared.grammar.Form.TheVariants as form
-use Rattle.pal_text.specs.declared.cut.Statement.{Statement}
-use Rattle.pal_text.specs.declared.cut.Ending.{Ending}
-use Rattle.pal_text.specs.declared.cut.Ending.TheVariants.{Dollar, Pause, Bytes}
+use Rattle.std.proofs.lemmas.Bool.{cases_eq}
+use Rattle.pal_text.specs.declared.cut.Close.{Close}
 use Rattle.pal_text.specs.declared.lines.Line.{Line}
 use Rattle.pal_text.specs.declared.names.Name.{Name}
-use Rattle.pal_text.specs.Parts.{Agrees}
+use Rattle.pal_text.specs.Grammar.{form_of}
+use Rattle.pal_text.specs.Lines.{all_lines}
+use Rattle.pal_text.specs.Names.{part_tokens}
+use Rattle.pal_text.specs.Statements.{Piece, pieces}
 use Rattle.pal_text.proofs.Rises.{all_append, all_reverse}
-use Rattle.pal_text.proofs.Unique.{agrees, no_fault}
 use Rattle.pal_acts.specs.declared.act.Join.{Join}
 use Rattle.pal_acts.specs.declared.act.Act.{Act}
 use Rattle.pal_acts.specs.declared.act.Act.TheVariants as act
+use Rattle.pal_acts.specs.declared.act.Place.{Place}
 use Rattle.pal_acts.specs.declared.code.Code.{Code}
+use Rattle.pal_acts.specs.Acts.{PlacedAct, placed, place}
 use Rattle.pal_acts.specs.Values.{Values, known}
 use Rattle.pal_acts.specs.Meaning.{location}
 use Rattle.pal_acts.specs.Words.{word_value}
 use Rattle.pal_asm.specs.declared.number.Radix.{Radix}
 use Rattle.pal_asm.specs.declared.number.Radix.TheVariants.{Octal}
-use Rattle.pal_acts.specs.declared.act.Place.{Place}
 use Rattle.pal_asm.specs.declared.listing.ListedWord.{ListedWord}
 use Rattle.pal_asm.specs.Numbers.{base, radix_after}
-use Rattle.pal_asm.specs.Expressions.{expression}
-use Rattle.pal_acts.specs.Acts.{PlacedAct, placed, place}
-use Rattle.pal_asm.specs.Acts.{statement_acts, part_acts, last_radix}
-use Rattle.pal_asm.specs.Sources.{is_empty, Follows, Gives}
-use Rattle.pal_asm.specs.Listings.{TextLine, text_lines, Shows, word_at_place, and_word, words, all_words, Lists}
+use Rattle.pal_asm.specs.Acts.{statement_acts, Does, ends, goes_on}
+use Rattle.pal_asm.specs.Sources.{is_empty, TextLine, text_lines, part_lines, PartDoes, Reads, no_part, broken, last_part, next_part}
+use Rattle.pal_asm.specs.Listings.{word_at_place, and_word, words, all_words, Lists}
 use Rattle.pal_asm.specs.Laws.{IsListed}
+use Rattle.pal_asm.proofs.Climbs.{Marks, part_marks}
 use Rattle.pal_asm.proofs.EachAct.{statement_holds}
-use Rattle.pal_asm.proofs.StandsOn.{words_on_lines}
+use Rattle.pal_asm.proofs.StandsOn.{Fairs, lines_to, part_fair, stops, on_line}
 
 -- ---- lines
 
@@ -77,52 +72,36 @@ idle_stands : (lines : List TextLine) (p : Place) (e : List Join) (a : Act) → 
 idle_stands lines p e act.Word h = absurd (h refl)
 idle_stands lines p e _ h = tt
 
--- the words among the statements of a part are on lines
-abbrev OnLines : List TextLine → ℕ → Statement → Type 0
-OnLines lines n s = s.form ≡ form.Word → IsListed (place n s.line) lines
+-- the acts of a part stand on its lines
+does_stands : (n : ℕ) (last : Bool) (source : List ℕ) (lines : List TextLine) (r r' : Radix) (l : ℕ) (ps : List Piece) (acts : List PlacedAct) (c : Close)
+    → ((m : ℕ) → 1 ≤ m → m ≤ lines_to source c.stop → IsListed (place n m) lines) → Fairs source ps → Marks l ps → Does n last source r ps acts r' c → AllByRecursion (Stands lines) acts
+does_stands n last source lines r r' l ps acts c listed fair marks (ends q p qs tags said d reads e) =
+    let stopped = stops source n last q (radix_after q (form_of said)) p.mark.line (p ∷ qs) (statement_acts (place n p.mark.line) (base q) last source tags said) d fair (omega arith, marks.1) (ends q p qs tags said d reads e) in
+    statement_holds (Stands lines) (place n p.mark.line) (idle_stands lines (place n p.mark.line)) (base q) last source tags said
+    (λ js w. let at = on_line source p tags said d fair.0 reads stopped w in listed p.mark.line at.0 at.1)
+does_stands n last source lines r r' l ps acts c listed fair marks (goes_on q q' p qs tags said more d reads e h) =
+    let stopped = stops source n last q q' p.mark.line (p ∷ qs) (statement_acts (place n p.mark.line) (base q) last source tags said ++ more) d fair (omega arith, marks.1) (goes_on q q' p qs tags said more d reads e h) in
+    all_append (Stands lines) (statement_acts (place n p.mark.line) (base q) last source tags said) more
+    (statement_holds (Stands lines) (place n p.mark.line) (idle_stands lines (place n p.mark.line)) (base q) last source tags said
+    (λ js w. let at = on_line source p tags said d fair.0 reads stopped w in listed p.mark.line at.0 at.1))
+    (does_stands n last source lines (radix_after q (form_of said)) q' p.mark.line qs more d listed fair.1 marks.1 h)
 
-part_stands : (lines : List TextLine) (n : ℕ) (last : Bool) (source : List ℕ) (tokens : List Token) (r : Radix) (ss : List Statement) → AllByRecursion (OnLines lines n) ss
-    → AllByRecursion (Stands lines) (part_acts n last source tokens r ss)
-part_stands lines n last source tokens r [] h = tt
-part_stands lines n last source tokens r (s ∷ ss) h =
-    let own : List Token = slice_range tokens s.first s.last in
-    all_append (Stands lines) (statement_acts (place n s.line) (base r) last source own s.form) (part_acts n last source tokens (radix_after r s.form) ss)
-    (statement_holds (Stands lines) (place n s.line) (idle_stands lines (place n s.line)) (base r) last source own s.form (λ js. h.0))
-    (part_stands lines n last source tokens (radix_after r s.form) ss h.1)
-
-statements_on : (n : ℕ) (source : List ℕ) (ls : List Line) (ss : List Statement) → AllByRecursion (λ s. s.form ≡ form.Word → (1 ≤ s.line) × (s.line ≤ length ls)) ss
-    → AllByRecursion (OnLines (text_lines n 1 source ls) n) ss
-statements_on n source ls [] h = tt
-statements_on n source ls (s ∷ ss) h = (λ w. let at = h.0 w in text_listed n s.line 1 source ls at.0 (omega (arith, at.1)), statements_on n source ls ss h.1)
-
-follows_stand : (ending : Ending) (acts : List PlacedAct) (lines : List TextLine) (A B : Type 0) → (A → B → AllByRecursion (Stands lines) acts) → Follows ending acts A → Follows ending lines B
-    → AllByRecursion (Stands lines) acts
-follows_stand Dollar acts lines A B k h j = let P : List PlacedAct → Type 0 = λ l. AllByRecursion (Stands lines) l in subst P (sym h) tt
-follows_stand Pause acts lines A B k h j = k h j
-follows_stand Bytes acts lines A B k h j = k h j
+part_stands : (n : ℕ) (last : Bool) (source : List ℕ) (r r' : Radix) (acts : List PlacedAct) (c : Close) → PartDoes n last r source acts r' c → AllByRecursion (Stands (part_lines n source c)) acts
+part_stands n last source r r' acts c does =
+    does_stands n last source (part_lines n source c) r r' 0 (pieces 0 0 (part_tokens source)) acts c
+    (λ m first top. text_listed n m 1 source (all_lines (take c.stop source)) first (omega (arith, top))) (part_fair source) (part_marks source) does
 
 -- ---- sources
 
-gives_stand : (n : ℕ) (r : Radix) (parts : List (List ℕ)) (acts : List PlacedAct) (lines : List TextLine) → Gives n r parts acts → Shows n parts lines → AllByRecursion (Stands lines) acts
-gives_stand n r [] acts lines h k = let P : List PlacedAct → Type 0 = λ l. AllByRecursion (Stands lines) l in subst P (sym h) tt
-gives_stand n r (p ∷ ps) acts lines (inl h) (inl k) = let P : List PlacedAct → Type 0 = λ l. AllByRecursion (Stands lines) l in subst P (sym h.2) (tt, tt)
-gives_stand n r (p ∷ ps) acts lines (inl h) (inr k) = absurd (no_fault p k.0.tokens k.0.statements k.0.lines k.0.ending h.0 k.0.is_part h.1)
-gives_stand n r (p ∷ ps) acts lines (inr h) (inl k) = absurd (no_fault p h.0.tokens h.0.statements h.0.lines h.0.ending k.0 h.0.is_part k.1)
-gives_stand n r (p ∷ ps) acts lines (inr h) (inr k) =
-    let a : Agrees h.0.tokens h.0.statements h.0.lines h.0.ending k.0.tokens k.0.statements k.0.lines k.0.ending =
-    agrees p h.0.tokens k.0.tokens h.0.statements k.0.statements h.0.lines k.0.lines h.0.ending k.0.ending h.0.is_part k.0.is_part in
-    let mine : List TextLine = text_lines n 1 p k.0.lines in
-    let own : List PlacedAct = part_acts n (is_empty ps) p h.0.tokens r h.0.statements in
-    let Q : List Line → Type 0 = λ ls. AllByRecursion (λ s. s.form ≡ form.Word → (1 ≤ s.line) × (s.line ≤ length ls)) h.0.statements in
-    let on : Q k.0.lines = subst Q a.lines_are (words_on_lines p h.0.tokens h.0.statements h.0.lines h.0.ending h.0.is_part) in
-    let E : Ending → Type 0 = λ e. Follows e k.1 (Shows (n + 1) ps k.1) in
-    let later : AllByRecursion (Stands k.1) h.1 = follows_stand h.0.ending h.1 k.1 (Gives (n + 1) (last_radix r h.0.statements) ps h.1) (Shows (n + 1) ps k.1)
-    (gives_stand (n + 1) (last_radix r h.0.statements) ps h.1 k.1) h.3 (subst E (sym a.ending_is) k.3) in
-    let A : List PlacedAct → Type 0 = λ l. AllByRecursion (Stands lines) l in
-    let B : List TextLine → Type 0 = λ l. AllByRecursion (Stands l) (own ++ h.1) in
-    subst A (sym h.2) (subst B (sym k.2) (all_append (Stands (mine ++ k.1)) own h.1
-    (all_more mine (mine ++ k.1) own (λ q. listed_left q mine k.1) (part_stands mine n (is_empty ps) p h.0.tokens r h.0.statements (statements_on n p k.0.lines h.0.statements on)))
-    (all_more k.1 (mine ++ k.1) h.1 (λ q. listed_right q mine k.1) later)))
+reads_stand : (n : ℕ) (r : Radix) (parts : List (List ℕ)) (acts : List PlacedAct) (lines : List TextLine) → Reads n r parts acts lines → AllByRecursion (Stands lines) acts
+reads_stand n r parts acts lines (no_part m q) = tt
+reads_stand n r parts acts lines (broken m q p ps line is) = (tt, tt)
+reads_stand n r parts acts lines (last_part m q q' p ps mine c does e) = part_stands m (is_empty ps) p q q' mine c does
+reads_stand n r parts acts lines (next_part m q q' p ps mine more ls c does e h) =
+    let own_lines : List TextLine = part_lines m p c in
+    all_append (Stands (own_lines ++ ls)) mine more
+    (all_more own_lines (own_lines ++ ls) mine (λ q. listed_left q own_lines ls) (part_stands m (is_empty ps) p q q' mine c does))
+    (all_more ls (own_lines ++ ls) more (λ q. listed_right q own_lines ls) (reads_stand (m + 1) q' ps more ls h))
 
 -- ---- words
 
@@ -145,4 +124,4 @@ pub words_are_listed : (perm : List (Name × ℕ)) (parts : List (List ℕ)) (ow
 words_are_listed perm parts own text h =
     let σ : Values = known perm own in
     all_reverse (λ w. IsListed w.place h.lines) (words σ (reverse h.acts))
-    (words_listed h.lines σ (reverse h.acts) (all_reverse (Stands h.lines) h.acts (gives_stand 1 Octal parts h.acts h.lines h.gives h.shows)))
+    (words_listed h.lines σ (reverse h.acts) (all_reverse (Stands h.lines) h.acts (reads_stand 1 Octal parts h.acts h.lines h.reads)))

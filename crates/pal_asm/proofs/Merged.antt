@@ -5,7 +5,8 @@ use Rattle.std.proofs.lemmas.Bool.{cond-true, cond-false, cases_order, cond_both
 use Rattle.pal_text.specs.Characters.{characters}
 use Rattle.pal_acts.specs.declared.act.Place.{Place}
 use Rattle.pal_asm.specs.declared.listing.ListedWord.{ListedWord}
-use Rattle.pal_asm.specs.Listings.{TextLine, is_at, line_text, without_front, lines_text}
+use Rattle.pal_asm.specs.Sources.{TextLine}
+use Rattle.pal_asm.specs.Listings.{is_at, line_text, without_front, lines_text}
 use Rattle.pal_asm.specs.Kept.{is_before, skip, next_at, after_those, turns_text}
 
 abbrev pub Upto : Place → Place → Type 0

@@ -1,12 +1,16 @@
 -- A source has one meaning or one fault, and not both.
-use Rattle.std.proofs.Common.{◌≡◌, ◌∙◌, sym, ap, subst, ℕ, ◌+◌, List, [], ◌∷◌, ◌++◌, Option, Some, None, Result, Ok, Err, inl, inr}
+use Rattle.std.proofs.Common.{◌≡◌, ◌∙◌, sym, ap, refl, subst, ℕ, ◌+◌, List, [], ◌∷◌, ◌++◌, Bool, Option, Some, None, Result, Ok, Err, inl, inr, length}
 use Rattle.std.specs.Prelude.{IfOk, IfErr, MatchResult}
+use Rattle.pal_text.specs.declared.tokens.Token.{Token}
 use Rattle.pal_text.specs.declared.cut.Statement.{Statement}
+use Rattle.pal_text.specs.declared.cut.Close.{Close}
 use Rattle.pal_text.specs.declared.cut.Ending.{Ending}
-use Rattle.pal_text.specs.declared.cut.Ending.TheVariants.{Dollar, Pause, Bytes}
 use Rattle.pal_text.specs.declared.names.Name.{Name}
-use Rattle.pal_text.specs.Parts.{Agrees}
-use Rattle.pal_text.proofs.Unique.{agrees, no_fault, one_line}
+use Rattle.pal_text.specs.Grammar.{Said, form_of, IsStatement}
+use Rattle.pal_text.specs.Names.{part_tokens}
+use Rattle.pal_text.specs.Statements.{Piece, pieces, own, Fills, closing, Breaks, here, later}
+use Rattle.pal_text.proofs.Readings.{one_said}
+use Rattle.pal_text.proofs.Unique.{one_line}
 use Rattle.pal_acts.specs.declared.act.Act.TheVariants as act
 use Rattle.pal_acts.specs.declared.code.Code.TheVariants.{IllegalCharacter}
 use Rattle.pal_acts.specs.Sources.{IsSource}
@@ -18,28 +22,9 @@ use Rattle.pal_asm.specs.declared.fault.AssembleFault.{AssembleFault}
 use Rattle.pal_asm.specs.declared.fault.AssembleFault.TheVariants.{Source, NoMemory}
 use Rattle.pal_acts.specs.declared.act.Place.{Place}
 use Rattle.pal_acts.specs.Acts.{PlacedAct, placed, place}
-use Rattle.pal_asm.specs.Acts.{part_acts, last_radix}
-use Rattle.pal_asm.specs.Sources.{size_fault, is_empty, Follows, Gives, Means, IsFaultOf, IsFault, Refuses, IsSilent, TellsOnly}
-
-follows_one : (ending : Ending) (later other : List PlacedAct) (A B : Type 0) → (A → B → later ≡ other) → Follows ending later A → Follows ending other B → later ≡ other
-follows_one Dollar later other A B k h j = h ∙ sym j
-follows_one Pause later other A B k h j = k h j
-follows_one Bytes later other A B k h j = k h j
-
--- parts give one list of acts
-pub gives_one : (n : ℕ) (r : Radix) (parts : List (List ℕ)) (acts others : List PlacedAct) → Gives n r parts acts → Gives n r parts others → acts ≡ others
-gives_one n r [] acts others h k = h ∙ sym k
-gives_one n r (p ∷ ps) acts others (inl h) (inl k) = h.2 ∙ ap (λ l. placed (place n l) [] (act.Wrong IllegalCharacter) ∷ []) (one_line p h.0 k.0 h.1 k.1) ∙ sym k.2
-gives_one n r (p ∷ ps) acts others (inl h) (inr k) = absurd (no_fault p k.0.tokens k.0.statements k.0.lines k.0.ending h.0 k.0.is_part h.1)
-gives_one n r (p ∷ ps) acts others (inr h) (inl k) = absurd (no_fault p h.0.tokens h.0.statements h.0.lines h.0.ending k.0 h.0.is_part k.1)
-gives_one n r (p ∷ ps) acts others (inr h) (inr k) =
-    let a : Agrees h.0.tokens h.0.statements h.0.lines h.0.ending k.0.tokens k.0.statements k.0.lines k.0.ending =
-    agrees p h.0.tokens k.0.tokens h.0.statements k.0.statements h.0.lines k.0.lines h.0.ending k.0.ending h.0.is_part k.0.is_part in
-    let P : Ending → Type 0 = λ e. Follows e k.1 (Gives (n + 1) (last_radix r k.0.statements) ps k.1) in
-    let Q : List Statement → Type 0 = λ ss. Gives (n + 1) (last_radix r ss) ps k.1 in
-    let later : h.1 ≡ k.1 = follows_one h.0.ending h.1 k.1 (Gives (n + 1) (last_radix r h.0.statements) ps h.1) (Gives (n + 1) (last_radix r k.0.statements) ps k.1)
-    (λ g o. gives_one (n + 1) (last_radix r h.0.statements) ps h.1 k.1 g (subst Q (sym a.statements_are) o)) h.3 (subst P (sym a.ending_is) k.3) in
-    h.2 ∙ (λ i. part_acts n (is_empty ps) p (a.tokens_are i) r (a.statements_are i) ++ later i) ∙ sym k.2
+use Rattle.pal_asm.specs.Numbers.{base, radix_after}
+use Rattle.pal_asm.specs.Acts.{statement_acts, Does, ends, goes_on}
+use Rattle.pal_asm.specs.Sources.{size_fault, is_empty, TextLine, part_lines, Reads, no_part, broken, last_part, next_part, Means, IsFaultOf, IsFault, Refuses, IsSilent, TellsOnly}
 
 none_some : {X : Type 0} (o : Option X) (x : X) → o ≡ None → o ≡ Some x → ⊥
 none_some o x e f = let both : None ≡ Some x = sym e ∙ f in cc
@@ -47,17 +32,83 @@ none_some o x e f = let both : None ≡ Some x = sym e ∙ f in cc
 one_some : {X : Type 0} (o : Option X) (x y : X) → o ≡ Some x → o ≡ Some y → x ≡ y
 one_some o x y e f = let both : Some x ≡ Some y = sym e ∙ f in cc
 
+some_same : {X : Type 0} (x y : X) → Some x ≡ Some y → x ≡ y
+some_same x y e = cc
+
+abbrev ending_in : Close → Ending
+ending_in c = c.ending
+
+-- the pieces of a part have one list of acts, and no fault
+module _ (n : ℕ) (last : Bool) (source : List ℕ) where
+  abbrev after : Piece → Said → Option Close
+  after p said = closing (length source) (own (part_tokens source) p) p.mark (form_of said)
+
+  ends_not_on : (p : Piece) (tags others : List Token) (said other : Said) (c : Close) → IsStatement (own (part_tokens source) p) tags said → IsStatement (own (part_tokens source) p) others other
+      → after p said ≡ Some c → after p other ≡ None → ⊥
+  ends_not_on p tags others said other c s t e h = none_some (after p other) c h (ap (after p) (sym (one_said (own (part_tokens source) p) tags others said other s t).1) ∙ e)
+
+  pub does_one : (r r1 r2 : Radix) (ps : List Piece) (acts others : List PlacedAct) (c d : Close) → Does n last source r ps acts r1 c → Does n last source r ps others r2 d → (acts ≡ others) × (r1 ≡ r2) × (c ≡ d)
+  does_one r r1 r2 ps acts others c d (ends q p qs tags said c' s e) (ends q' p' qs' tags' said' d' t f) =
+      let same : (tags ≡ tags') × (said ≡ said') = one_said (own (part_tokens source) p) tags tags' said said' s t in (
+        λ i. statement_acts (place n p.mark.line) (base q) last source (same.0 i) (same.1 i),
+        ap (λ x. radix_after q (form_of x)) same.1,
+        some_same c' d' (sym e ∙ ap (after p) same.1 ∙ f),
+      )
+  does_one r r1 r2 ps acts others c d (ends q p qs tags said c' s e) (goes_on q' r' p' qs' tags' said' more' d' t f k) = absurd (ends_not_on p tags tags' said said' c' s t e f)
+  does_one r r1 r2 ps acts others c d (goes_on q r' p qs tags said mine c' s e h) (ends q' p' qs' tags' said' d' t f) = absurd (ends_not_on p tags' tags said' said d' t s f e)
+  does_one r r1 r2 ps acts others c d (goes_on q r' p qs tags said mine c' s e h) (goes_on q' r'' p' qs' tags' said' other d' t f k) =
+      let same : (tags ≡ tags') × (said ≡ said') = one_said (own (part_tokens source) p) tags tags' said said' s t in
+      let P : Said → Type 0 = λ x. Does n last source (radix_after q (form_of x)) qs other r'' d' in
+      let more : (mine ≡ other) × (r' ≡ r'') × (c' ≡ d') = does_one (radix_after q (form_of said)) r' r'' qs mine other c' d' h (subst P (sym same.1) k) in (
+        λ i. statement_acts (place n p.mark.line) (base q) last source (same.0 i) (same.1 i) ++ more.0 i,
+        more.1,
+        more.2,
+      )
+
+  forms_are : (p : Piece) (tags : List Token) (said : Said) (s : Statement) → IsStatement (own (part_tokens source) p) tags said → (f : Fills (part_tokens source) p s) → closing (length source) (own (part_tokens source) p) p.mark s.form ≡ after p said
+  forms_are p tags said s h f =
+      ap (closing (length source) (own (part_tokens source) p) p.mark) (f.form ∙ ap form_of (one_said (own (part_tokens source) p) f.names tags f.said said f.reads h).1)
+
+  pub does_sound : (r r' : Radix) (ps : List Piece) (acts : List PlacedAct) (c : Close) (line : ℕ) → Does n last source r ps acts r' c → Breaks (part_tokens source) (length source) ps line → ⊥
+  does_sound r r' ps acts c line (ends q p qs tags said c' s e) (here p' qs' k) = k tags said s
+  does_sound r r' ps acts c line (ends q p qs tags said c' s e) (later p' qs' t m f g k) = none_some (after p said) c' (sym (forms_are p tags said t s f) ∙ g) e
+  does_sound r r' ps acts c line (goes_on q q' p qs tags said more c' s e h) (here p' qs' k) = k tags said s
+  does_sound r r' ps acts c line (goes_on q q' p qs tags said more c' s e h) (later p' qs' t m f g k) = does_sound (radix_after q (form_of said)) q' qs more c' m h k
+
+-- parts have one list of acts, and one of lines
+pub reads_one : (n : ℕ) (r : Radix) (parts : List (List ℕ)) (acts others : List PlacedAct) (lines more : List TextLine) → Reads n r parts acts lines → Reads n r parts others more → (acts ≡ others) × (lines ≡ more)
+reads_one n r parts acts others lines more (no_part m q) (no_part m' q') = (refl, refl)
+reads_one n r parts acts others lines more (broken m q p ps line is) (broken m' q' p' ps' line' is') = (ap (λ l. placed (place m l) [] (act.Wrong IllegalCharacter) ∷ []) (one_line p line line' is is'), refl)
+reads_one n r parts acts others lines more (broken m q p ps line is) (last_part m' q' r' p' ps' b c does e) = absurd (does_sound m (is_empty ps) p q r' (pieces 0 0 (part_tokens p)) b c line does is)
+reads_one n r parts acts others lines more (broken m q p ps line is) (next_part m' q' r' p' ps' b b' ls c does e h) = absurd (does_sound m (is_empty ps) p q r' (pieces 0 0 (part_tokens p)) b c line does is)
+reads_one n r parts acts others lines more (last_part m q r' p ps a c does e) (broken m' q' p' ps' line is) = absurd (does_sound m (is_empty ps) p q r' (pieces 0 0 (part_tokens p)) a c line does is)
+reads_one n r parts acts others lines more (next_part m q r' p ps a a' ls c does e h) (broken m' q' p' ps' line is) = absurd (does_sound m (is_empty ps) p q r' (pieces 0 0 (part_tokens p)) a c line does is)
+reads_one n r parts acts others lines more (last_part m q r' p ps a c does e) (last_part m' q' r'' p' ps' b d does' f) =
+    let same : (a ≡ b) × (r' ≡ r'') × (c ≡ d) = does_one m (is_empty ps) p q r' r'' (pieces 0 0 (part_tokens p)) a b c d does does' in
+    (same.0, ap (part_lines m p) same.2)
+reads_one n r parts acts others lines more (last_part m q r' p ps a c does e) (next_part m' q' r'' p' ps' b b' ls d does' f k) =
+    let same : (a ≡ b) × (r' ≡ r'') × (c ≡ d) = does_one m (is_empty ps) p q r' r'' (pieces 0 0 (part_tokens p)) a b c d does does' in
+    absurd (f (ap ending_in (sym same.2) ∙ e))
+reads_one n r parts acts others lines more (next_part m q r' p ps a a' ls c does e h) (last_part m' q' r'' p' ps' b d does' f) =
+    let same : (a ≡ b) × (r' ≡ r'') × (c ≡ d) = does_one m (is_empty ps) p q r' r'' (pieces 0 0 (part_tokens p)) a b c d does does' in
+    absurd (e (ap ending_in same.2 ∙ f))
+reads_one n r parts acts others lines more (next_part m q r' p ps a a' ls c does e h) (next_part m' q' r'' p' ps' b b' ls' d does' f k) =
+    let same : (a ≡ b) × (r' ≡ r'') × (c ≡ d) = does_one m (is_empty ps) p q r' r'' (pieces 0 0 (part_tokens p)) a b c d does does' in
+    let P : Radix → Type 0 = λ x. Reads (m + 1) x ps b' ls' in
+    let rest : (a' ≡ b') × (ls ≡ ls') = reads_one (m + 1) r' ps a' b' ls ls' h (subst P (sym same.1) k) in
+    ((λ i. same.0 i ++ rest.0 i), (λ i. part_lines m p (same.2 i) ++ rest.1 i))
+
 module _ (perm : List (Name × ℕ)) (parts : List (List ℕ)) where
   pub means_one : (s u : List (Name × ℕ)) (i j : List (Option ℕ)) → Means perm parts s i → Means perm parts u j → (s ≡ u) × (i ≡ j)
   means_one s u i j h k =
-      let e : h.acts ≡ k.acts = gives_one 1 Octal parts h.acts k.acts h.gives k.gives in
+      let e : h.acts ≡ k.acts = (reads_one 1 Octal parts h.acts k.acts h.lines k.lines h.reads k.reads).0 in
       let P : List PlacedAct → Type 0 = λ l. IsSource perm 1024 l s i in
       one_source perm 1024 k.acts s u i j (subst P e h.is_source) k.is_source
 
   pub means_sound : (s : List (Name × ℕ)) (i : List (Option ℕ)) (fault : PalFault) → Means perm parts s i → IsFault perm parts fault → ⊥
   means_sound s i fault h (inl k) = none_some (size_fault parts) fault h.sizes k
   means_sound s i fault h (inr k) =
-      let e : h.acts ≡ k.acts = gives_one 1 Octal parts h.acts k.acts h.gives k.gives in
+      let e : h.acts ≡ k.acts = (reads_one 1 Octal parts h.acts k.acts h.lines k.lines h.reads k.reads).0 in
       let P : List PlacedAct → Type 0 = λ l. IsSource perm 1024 l s i in
       not_both perm 1024 k.acts s i (place fault.part fault.line) fault.code (subst P e h.is_source) k.is_fault
 
@@ -75,7 +126,7 @@ module _ (perm : List (Name × ℕ)) (parts : List (List ℕ)) where
   faults_one f g (inl h) (inr k) = absurd (none_some (size_fault parts) f k.sizes h)
   faults_one f g (inr h) (inl k) = absurd (none_some (size_fault parts) g h.sizes k)
   faults_one f g (inr h) (inr k) =
-      let e : h.acts ≡ k.acts = gives_one 1 Octal parts h.acts k.acts h.gives k.gives in
+      let e : h.acts ≡ k.acts = (reads_one 1 Octal parts h.acts k.acts h.lines k.lines h.reads k.reads).0 in
       let P : List PlacedAct → Type 0 = λ l. IsFaultOf perm l f in
       one_fault_of k.acts f g (subst P e h.is_fault) k.is_fault
 

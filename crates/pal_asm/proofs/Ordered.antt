@@ -1,33 +1,34 @@
 -- The words and the lines of parts are in order, so one pass gives each line its words.
-use Rattle.std.proofs.Common.{◌≡◌, ◌∙◌, sym, ap, refl, subst, ℕ, ◌+◌, ◌<◌, List, [], ◌∷◌, ◌++◌, append_assoc, Bool, arith, inl, inr, Result, Ok, Err}
-use Rattle.std.specs.Prelude.{reverse, map, codes, slice_range}
+use Rattle.std.proofs.Common.{◌≡◌, ◌∙◌, sym, ap, refl, subst, ℕ, ◌+◌, ◌<◌, List, [], ◌∷◌, ◌++◌, append_assoc, Bool, arith, inl, inr, take, Result, Ok, Err}
+use Rattle.std.specs.Prelude.{reverse, codes}
+use Rattle.std.specs.List.{AllByRecursion}
 use Rattle.std.proofs.lemmas.List.{reverse-append, append-nil}
-use Rattle.pal_text.specs.declared.tokens.Token.{Token}
-use Rattle.pal_text.specs.declared.cut.Statement.{Statement}
-use Rattle.pal_text.specs.declared.cut.Ending.{Ending}
-use Rattle.pal_text.specs.declared.cut.Ending.TheVariants.{Dollar, Pause, Bytes}
+use Rattle.pal_text.specs.declared.cut.Close.{Close}
 use Rattle.pal_text.specs.declared.lines.Line.{Line}
 use Rattle.pal_text.specs.declared.names.Name.{Name}
+use Rattle.pal_text.specs.Grammar.{form_of}
+use Rattle.pal_text.specs.Lines.{all_lines}
+use Rattle.pal_text.specs.Names.{part_tokens}
+use Rattle.pal_text.specs.Statements.{Piece, pieces}
 use Rattle.pal_acts.specs.declared.act.Act.{Act}
 use Rattle.pal_acts.specs.declared.act.Act.TheVariants as act
+use Rattle.pal_acts.specs.declared.act.Join.{Join}
+use Rattle.pal_acts.specs.declared.act.Place.{Place}
 use Rattle.pal_acts.specs.declared.code.Code.{Code}
+use Rattle.pal_acts.specs.Acts.{PlacedAct, place}
 use Rattle.pal_acts.specs.Values.{Values, known}
 use Rattle.pal_acts.specs.Meaning.{location}
 use Rattle.pal_acts.specs.Words.{word_value}
 use Rattle.pal_asm.specs.declared.number.Radix.{Radix}
 use Rattle.pal_asm.specs.declared.number.Radix.TheVariants.{Octal}
-use Rattle.pal_acts.specs.declared.act.Place.{Place}
 use Rattle.pal_asm.specs.declared.listing.ListedWord.{ListedWord}
 use Rattle.pal_asm.specs.Numbers.{base, radix_after}
-use Rattle.pal_acts.specs.declared.act.Join.{Join}
-use Rattle.pal_acts.specs.Acts.{PlacedAct, place}
-use Rattle.pal_asm.specs.Acts.{part_acts, statement_acts, last_radix}
-use Rattle.pal_asm.specs.Sources.{Follows, Gives, is_empty}
-use Rattle.pal_asm.specs.Listings.{TextLine, text_lines, Shows, word_at_place, and_word, words, all_words, symbols_text, listing, Lists}
+use Rattle.pal_asm.specs.Acts.{statement_acts, Does, ends, goes_on}
+use Rattle.pal_asm.specs.Sources.{is_empty, TextLine, text_lines, part_lines, Reads, no_part, broken, last_part, next_part}
+use Rattle.pal_asm.specs.Listings.{word_at_place, and_word, words, all_words, symbols_text, listing, Lists}
 use Rattle.pal_asm.specs.Kept.{turns_text}
-use Rattle.std.specs.List.{AllByRecursion}
 use Rattle.pal_asm.proofs.EachAct.{statement_holds}
-use Rattle.pal_asm.proofs.Climbs.{Steps, statements_climb}
+use Rattle.pal_asm.proofs.Climbs.{Marks, part_marks}
 use Rattle.pal_asm.proofs.Merged.{Upto, upto_trans, After, LinesAfter, lines_weaker, turns_are}
 
 upto_refl : (p : Place) → Upto p p
@@ -49,32 +50,31 @@ at_after : (p : Place) (xs tail : List PlacedAct) → AllByRecursion (IsAt p) xs
 at_after p [] tail all h = h
 at_after p (x ∷ xs) tail all h = let P : Place → Type 0 = λ q. Upto p q × ActsAfter q (xs ++ tail) in subst P (sym all.0) (upto_refl p, at_after p xs tail all.1 h)
 
-part_after : (n : ℕ) (last : Bool) (source : List ℕ) (ts : List Token) (r : Radix) (l : ℕ) (ss : List Statement) (later : List PlacedAct)
-    → Steps l ss → ((m : ℕ) → ActsAfter (place n m) later) → ActsAfter (place n l) (part_acts n last source ts r ss ++ later)
-part_after n last source ts r l [] later c k = k l
-part_after n last source ts r l (s ∷ ss) later c k =
-    let own : List PlacedAct = statement_acts (place n s.line) (base r) last source (slice_range ts s.first s.last) s.form in
-    let at : AllByRecursion (IsAt (place n s.line)) own = statement_holds (IsAt (place n s.line)) (place n s.line) (λ e a h. refl) (base r) last source (slice_range ts s.first s.last) s.form (λ js h. refl) in
-    let more : List PlacedAct = part_acts n last source ts (radix_after r s.form) ss in
+does_after : (n : ℕ) (last : Bool) (source : List ℕ) (r r' : Radix) (l : ℕ) (ps : List Piece) (acts later : List PlacedAct) (c : Close)
+    → Marks l ps → Does n last source r ps acts r' c → ((m : ℕ) → ActsAfter (place n m) later) → ActsAfter (place n l) (acts ++ later)
+does_after n last source r r' l ps acts later c marks (ends q p qs tags said d reads e) k =
+    let at : Place = place n p.mark.line in
+    let mine : List PlacedAct = statement_acts at (base q) last source tags said in
+    let all : AllByRecursion (IsAt at) mine = statement_holds (IsAt at) at (λ e a h. refl) (base q) last source tags said (λ js h. refl) in
+    acts_weaker (place n l) at (mine ++ later) (inr (refl, marks.0)) (at_after at mine later all (k p.mark.line))
+does_after n last source r r' l ps acts later c marks (goes_on q q' p qs tags said more d reads e h) k =
+    let at : Place = place n p.mark.line in
+    let mine : List PlacedAct = statement_acts at (base q) last source tags said in
+    let all : AllByRecursion (IsAt at) mine = statement_holds (IsAt at) at (λ e a h. refl) (base q) last source tags said (λ js h. refl) in
     let P : List PlacedAct → Type 0 = λ xs. ActsAfter (place n l) xs in
-    subst P (sym (append_assoc own more later))
-    (acts_weaker (place n l) (place n s.line) (own ++ (more ++ later)) (inr (refl, c.0))
-    (at_after (place n s.line) own (more ++ later) at (part_after n last source ts (radix_after r s.form) s.line ss later c.1 k)))
+    subst P (sym (append_assoc mine more later))
+    (acts_weaker (place n l) at (mine ++ (more ++ later)) (inr (refl, marks.0))
+    (at_after at mine (more ++ later) all (does_after n last source (radix_after q (form_of said)) q' p.mark.line qs more later d marks.1 h k)))
 
-follows_all : {X : Type 0} (P : List X → Type 0) (ending : Ending) (later : List X) (A : Type 0) → P [] → (A → P later) → Follows ending later A → P later
-follows_all P Dollar later A none k h = subst P (sym h) none
-follows_all P Pause later A none k h = k h
-follows_all P Bytes later A none k h = k h
-
-gives_after : (p : Place) (n : ℕ) (r : Radix) (parts : List (List ℕ)) (acts : List PlacedAct) → p.part < n → Gives n r parts acts → ActsAfter p acts
-gives_after p n r [] acts lt h = let P : List PlacedAct → Type 0 = λ xs. ActsAfter p xs in subst P (sym h) tt
-gives_after p n r (q ∷ qs) acts lt (inl h) = let P : List PlacedAct → Type 0 = λ xs. ActsAfter p xs in subst P (sym h.2) (inl lt, tt)
-gives_after p n r (q ∷ qs) acts lt (inr h) =
-    let P : List PlacedAct → Type 0 = λ xs. ActsAfter p xs in
-    subst P (sym h.2) (acts_weaker p (place n 0) (part_acts n (is_empty qs) q h.0.tokens r h.0.statements ++ h.1) (inl lt)
-    (part_after n (is_empty qs) q h.0.tokens r 0 h.0.statements h.1 (statements_climb q h.0.tokens h.0.statements h.0.lines h.0.ending h.0.is_part)
-    (λ m. follows_all (λ xs. ActsAfter (place n m) xs) h.0.ending h.1 (Gives (n + 1) (last_radix r h.0.statements) qs h.1) tt
-    (λ g. gives_after (place n m) (n + 1) (last_radix r h.0.statements) qs h.1 (omega arith) g) h.3)))
+reads_after : (p : Place) (n : ℕ) (r : Radix) (parts : List (List ℕ)) (acts : List PlacedAct) (lines : List TextLine) → p.part < n → Reads n r parts acts lines → ActsAfter p acts
+reads_after p n r parts acts lines lt (no_part m q) = tt
+reads_after p n r parts acts lines lt (broken m q s ss line is) = (inl lt, tt)
+reads_after p n r parts acts lines lt (last_part m q q' s ss mine c does e) =
+    let P : List PlacedAct → Type 0 = λ xs. ActsAfter (place m 0) xs in
+    acts_weaker p (place m 0) mine (inl lt) (subst P (append-nil mine) (does_after m (is_empty ss) s q q' 0 (pieces 0 0 (part_tokens s)) mine [] c (part_marks s) does (λ k. tt)))
+reads_after p n r parts acts lines lt (next_part m q q' s ss mine more ls c does e h) =
+    acts_weaker p (place m 0) (mine ++ more) (inl lt)
+    (does_after m (is_empty ss) s q q' 0 (pieces 0 0 (part_tokens s)) mine more c (part_marks s) does (λ k. reads_after (place m k) (m + 1) q' ss more ls (omega arith) h))
 
 -- the same with the newest first
 abbrev ActsUpto : Place → List PlacedAct → Type 0
@@ -123,9 +123,9 @@ words_turned p (w ∷ ws) later a b =
     subst P (sym (ap (λ l. l ++ later) (reverse-append (w ∷ []) ws) ∙ append_assoc (reverse ws) (w ∷ []) later))
     (words_turned w.place ws (w ∷ later) a.1 (upto_refl w.place, words_lower w.place p later a.0 b))
 
-words_after : (σ : Values) (parts : List (List ℕ)) (acts : List PlacedAct) → Gives 1 Octal parts acts → (q : Place) × After q (all_words σ acts)
-words_after σ parts acts g =
-    let turned : (q : Place) × ActsUpto q (reverse acts ++ []) = acts_turned (place 0 0) acts [] (gives_after (place 0 0) 1 Octal parts acts (omega arith) g) tt in
+words_after : (σ : Values) (parts : List (List ℕ)) (acts : List PlacedAct) (lines : List TextLine) → Reads 1 Octal parts acts lines → (q : Place) × After q (all_words σ acts)
+words_after σ parts acts lines reads =
+    let turned : (q : Place) × ActsUpto q (reverse acts ++ []) = acts_turned (place 0 0) acts [] (reads_after (place 0 0) 1 Octal parts acts lines (omega arith) reads) tt in
     let P : List PlacedAct → Type 0 = λ l. ActsUpto turned.0 l in
     let upto : WordsUpto turned.0 (words σ (reverse acts)) = words_upto σ turned.0 (reverse acts) (subst P (append-nil (reverse acts)) turned.1) in
     let found : (q : Place) × After q (all_words σ acts ++ []) = words_turned turned.0 (words σ (reverse acts)) [] upto tt in
@@ -136,22 +136,26 @@ text_after : (n m k : ℕ) (source : List ℕ) (ls : List Line) (later : List Te
 text_after n m k source [] later lt f = f m
 text_after n m k source (l ∷ ls) later lt f = (inr (refl, lt), text_after n k (k + 1) source ls later (omega arith) f)
 
-shows_after : (p : Place) (n : ℕ) (parts : List (List ℕ)) (lines : List TextLine) → p.part < n → Shows n parts lines → LinesAfter p lines
-shows_after p n [] lines lt h = let P : List TextLine → Type 0 = λ l. LinesAfter p l in subst P (sym h) tt
-shows_after p n (q ∷ qs) lines lt (inl h) = let P : List TextLine → Type 0 = λ l. LinesAfter p l in subst P (sym h.2) tt
-shows_after p n (q ∷ qs) lines lt (inr h) =
+part_lines_after : (p : Place) (n : ℕ) (source : List ℕ) (c : Close) (later : List TextLine) → p.part < n → ((i : ℕ) → LinesAfter (place n i) later) → LinesAfter p (part_lines n source c ++ later)
+part_lines_after p n source c later lt f =
+    lines_weaker p (place n 0) (part_lines n source c ++ later) (inl lt) (text_after n 0 1 source (all_lines (take c.stop source)) later (omega arith) f)
+
+lines_after : (p : Place) (n : ℕ) (r : Radix) (parts : List (List ℕ)) (acts : List PlacedAct) (lines : List TextLine) → p.part < n → Reads n r parts acts lines → LinesAfter p lines
+lines_after p n r parts acts lines lt (no_part m q) = tt
+lines_after p n r parts acts lines lt (broken m q s ss line is) = tt
+lines_after p n r parts acts lines lt (last_part m q q' s ss mine c does e) =
     let P : List TextLine → Type 0 = λ l. LinesAfter p l in
-    subst P (sym h.2) (lines_weaker p (place n 0) (text_lines n 1 q h.0.lines ++ h.1) (inl lt)
-    (text_after n 0 1 q h.0.lines h.1 (omega arith)
-    (λ m. follows_all (λ l. LinesAfter (place n m) l) h.0.ending h.1 (Shows (n + 1) qs h.1) tt (λ g. shows_after (place n m) (n + 1) qs h.1 (omega arith) g) h.3)))
+    subst P (append-nil (part_lines m s c)) (part_lines_after p m s c [] lt (λ i. tt))
+lines_after p n r parts acts lines lt (next_part m q q' s ss mine more ls c does e h) =
+    part_lines_after p m s c ls lt (λ i. lines_after (place m i) (m + 1) q' ss more ls (omega arith) h)
 
 -- the text that one pass makes is the listing
-pub listed_by : (σ : Values) (parts : List (List ℕ)) (acts : List PlacedAct) (lines : List TextLine) (own : List (Name × ℕ)) (text : List ℕ) → Gives 1 Octal parts acts → Shows 1 parts lines
+pub listed_by : (σ : Values) (parts : List (List ℕ)) (acts : List PlacedAct) (lines : List TextLine) (own : List (Name × ℕ)) (text : List ℕ) → Reads 1 Octal parts acts lines
     → text ≡ turns_text lines (all_words σ acts) ++ codes "\n" ++ symbols_text own → text ≡ listing lines (all_words σ acts) own
-listed_by σ parts acts lines own text g s e =
-    let w : (q : Place) × After q (all_words σ acts) = words_after σ parts acts g in
-    e ∙ ap (λ l. l ++ codes "\n" ++ symbols_text own) (turns_are (place 0 0) w.0 lines (all_words σ acts) (shows_after (place 0 0) 1 parts lines (omega arith) s) w.1)
+listed_by σ parts acts lines own text reads e =
+    let w : (q : Place) × After q (all_words σ acts) = words_after σ parts acts lines reads in
+    e ∙ ap (λ l. l ++ codes "\n" ++ symbols_text own) (turns_are (place 0 0) w.0 lines (all_words σ acts) (lines_after (place 0 0) 1 Octal parts acts lines (omega arith) reads) w.1)
 
-pub lists_by : (perm own : List (Name × ℕ)) (parts : List (List ℕ)) (acts : List PlacedAct) (lines : List TextLine) (text : List ℕ) → Gives 1 Octal parts acts → Shows 1 parts lines
+pub lists_by : (perm own : List (Name × ℕ)) (parts : List (List ℕ)) (acts : List PlacedAct) (lines : List TextLine) (text : List ℕ) → Reads 1 Octal parts acts lines
     → text ≡ turns_text lines (all_words (known perm own) acts) ++ codes "\n" ++ symbols_text own → Lists perm parts own text
-lists_by perm own parts acts lines text g s e = record { acts = acts; lines = lines; gives = g; shows = s; text_is = listed_by (known perm own) parts acts lines own text g s e }
+lists_by perm own parts acts lines text reads e = record { acts = acts; lines = lines; reads = reads; text_is = listed_by (known perm own) parts acts lines own text reads e }

@@ -1,6 +1,6 @@
 -- The statement of a word stands on a line of its part.
 use Rattle.std.proofs.Common.{◌≡◌, ◌≢◌, ◌∙◌, sym, ap, refl, subst, ℕ, ◌+◌, ◌-◌, ◌≤◌, List, [], ◌∷◌, ◌++◌, append_assoc, arith, Bool, true, false, if◌then◌else◌, Option, Some, None, inl, inr, ◌⊎◌, length, length-append, take, drop}
-use Rattle.std.specs.Prelude.{slice_range, reverse}
+use Rattle.std.specs.Prelude.{slice_range, reverse, nat_eq}
 use Rattle.std.specs.List.{AllByRecursion}
 use Rattle.std.proofs.lemmas.Bool.{cases_Bool}
 use Rattle.std.proofs.lemmas.List.{length-reverse}
@@ -10,36 +10,35 @@ use Rattle.pal_text.specs.declared.tokens.Kind.TheVariants as kind
 use Rattle.pal_text.specs.declared.tokens.Token.{Token}
 use Rattle.pal_text.specs.declared.grammar.Form.{Form}
 use Rattle.pal_text.specs.declared.grammar.Form.TheVariants as form
-use Rattle.pal_text.specs.declared.cut.Statement.{Statement}
 use Rattle.pal_text.specs.declared.cut.Close.{Close}
-use Rattle.pal_text.specs.declared.cut.Ending.{Ending}
 use Rattle.pal_text.specs.declared.cut.Ending.TheVariants as ending
-use Rattle.pal_text.specs.Grammar.{is_expression, IsStatement, nothing, origin, assign, decimal, octal, pause, word, tagged}
-use Rattle.pal_text.specs.Reading.{kinds}
-use Rattle.pal_text.specs.Statements.{is_end, is_dollar, Piece, piece, pieces, own, Fills, last_end, closed, closing, Goes, Stand}
-use Rattle.pal_text.specs.declared.lines.Line.{Line}
+use Rattle.pal_text.specs.Grammar.{is_expression, Said, form_of, IsStatement, nothing, origin, assign, assign_direction, decimal, octal, pause, word, tagged}
+use Rattle.pal_text.specs.Names.{part_tokens}
+use Rattle.pal_text.specs.Statements.{is_end, is_dollar, Piece, piece, pieces, own, last_end, closed, closing}
 use Rattle.pal_text.specs.Lines as text
-use Rattle.pal_text.specs.Parts.{IsPart}
-use Rattle.pal_asm.proofs.Climbs.{Steps, statements_climb}
+use Rattle.pal_text.specs.Lines.{all_lines}
+use Rattle.pal_acts.specs.Acts.{PlacedAct}
+use Rattle.pal_asm.specs.declared.number.Radix.{Radix}
+use Rattle.pal_asm.specs.Numbers.{radix_after}
+use Rattle.pal_asm.specs.Acts.{Does, ends, goes_on}
+use Rattle.pal_asm.proofs.Climbs.{Marks}
 use Rattle.pal_asm.proofs.Lined.{lined, lined_all, is_stop, Chain, part_chain}
 
 -- a word and PAUSE have tokens
-has_tokens : (ks : List Kind) (tags : ℕ) (f : Form) → IsStatement ks tags f → (f ≡ form.Word) ⊎ (f ≡ form.Pause) → ks ≡ [] → ⊥
-has_tokens ks tags f nothing (inl e) none = let both : form.Empty ≡ form.Word = e in cc
-has_tokens ks tags f nothing (inr e) none = let both : form.Empty ≡ form.Pause = e in cc
-has_tokens ks tags f (origin e' h) e none = cc
-has_tokens ks tags f (assign n e' name h) e none = cc
-has_tokens ks tags f decimal e none = cc
-has_tokens ks tags f octal e none = cc
-has_tokens ks tags f pause e none = cc
-has_tokens ks tags f (word e' h) e none = let bad : false ≡ true = sym (ap is_expression none) ∙ h in cc
-has_tokens ks tags f (tagged n own more g name h) e none = cc
-
-some_tokens : (ts : List Token) (tags : ℕ) (f : Form) → (f ≡ form.Word) ⊎ (f ≡ form.Pause) → IsStatement (kinds ts) tags f → ts ≢ []
-some_tokens ts tags f e h none = has_tokens (kinds ts) tags f h e (ap kinds none)
+has_tokens : (ts tags : List Token) (said : Said) → IsStatement ts tags said → (form_of said ≡ form.Word) ⊎ (form_of said ≡ form.Pause) → ts ≢ []
+has_tokens ts tags said nothing (inl e) none = let both : form.Empty ≡ form.Word = e in cc
+has_tokens ts tags said nothing (inr e) none = let both : form.Empty ≡ form.Pause = e in cc
+has_tokens ts tags said (origin t e' is h) e none = cc
+has_tokens ts tags said (assign t u e' is equals h) e none = cc
+has_tokens ts tags said (assign_direction t u e' is equals h) e none = cc
+has_tokens ts tags said (decimal t is) e none = cc
+has_tokens ts tags said (octal t is) e none = cc
+has_tokens ts tags said (pause t is) e none = cc
+has_tokens ts tags said (word e' h) e none = let bad : false ≡ true = sym (ap is_expression none) ∙ h in cc
+has_tokens ts tags said (tagged t u own_tokens more q name comma s) e none = cc
 
 -- the last of some tokens is on this line, and the line is there
-abbrev Lasts : (ℕ → ℕ) → ℕ → List Token → Type 0
+abbrev pub Lasts : (ℕ → ℕ) → ℕ → List Token → Type 0
 Lasts L m [] = Unit {0}
 Lasts L m (q ∷ []) = (q.line ≡ m) × (m ≤ L q.end)
 Lasts L m (q ∷ r ∷ ts) = Lasts L m (r ∷ ts)
@@ -73,10 +72,10 @@ inner_more [] t i h = (h, tt)
 inner_more (x ∷ xs) t i h = (i.0, inner_more xs t i.1 h)
 
 -- a piece whose tokens and mark are on one line, which is there
-record Fair (L : ℕ → ℕ) (tokens : List Token) (p : Piece) : Type 0 where
-  lasts : Lasts L p.mark.line (own tokens p)
-  positive : 1 ≤ p.mark.line
-  dollar : is_dollar p.mark.kind ≡ true → p.mark.line ≤ L p.mark.end
+pub record Fair (L : ℕ → ℕ) (tokens : List Token) (p : Piece) : Type 0 where
+  pub lasts : Lasts L p.mark.line (own tokens p)
+  pub positive : 1 ≤ p.mark.line
+  pub dollar : is_dollar p.mark.kind ≡ true → p.mark.line ≤ L p.mark.end
 
 dollar_no_stop : (k : Kind) → is_dollar k ≡ true → is_stop k ≡ false
 dollar_no_stop kind.Dollar h = refl
@@ -92,13 +91,13 @@ pieces_fair : (L : ℕ → ℕ) (tokens b xs ts : List Token) (first at : ℕ) �
     → AllByRecursion (Fair L tokens) (pieces first at ts)
 pieces_fair L tokens b xs [] first at e f a i c = tt
 pieces_fair L tokens b xs (t ∷ ts) first at e f a i c = elim (cases_Bool (is_end t.kind)) [
-  | inl ends ↦ (let P : Bool → Type 0 = λ k. AllByRecursion (Fair L tokens) (if k then piece first at t ∷ pieces (at + 1) (at + 1) ts else pieces first (at + 1) ts) in
+  | inl stop ↦ (let P : Bool → Type 0 = λ k. AllByRecursion (Fair L tokens) (if k then piece first at t ∷ pieces (at + 1) (at + 1) ts else pieces first (at + 1) ts) in
       let mine : slice_range tokens first at ≡ xs = own_is tokens b xs (t ∷ ts) first at e f a in
       let Q : List Token → Type 0 = λ l. Lasts L t.line l in
       let after : Chain L (t ∷ ts) = chain_after L xs (t ∷ ts) c in
       let next : tokens ≡ (b ++ (xs ++ t ∷ [])) ++ ts = e ∙ ap (λ l. b ++ l) (sym (append_assoc xs (t ∷ []) ts)) ∙ sym (append_assoc b (xs ++ t ∷ []) ts) in
       let size : at + 1 ≡ length (b ++ (xs ++ t ∷ [])) = omega (arith, a, length-append b (xs ++ t ∷ []), length-append xs (t ∷ [])) in
-      subst P (sym ends) (
+      subst P (sym stop) (
         record { lasts = subst Q (sym mine) (lasts_by L xs t ts i c); positive = after.0; dollar = λ d. after.1 (dollar_no_stop t.kind d) },
         pieces_fair L tokens (b ++ (xs ++ t ∷ [])) [] ts (at + 1) (at + 1) next size (omega (arith, size)) tt after.3,
       ))
@@ -110,77 +109,66 @@ pieces_fair L tokens b xs (t ∷ ts) first at e f a i c = elim (cases_Bool (is_e
 
 -- ---- statements
 
-abbrev Bound : (ℕ → ℕ) → ℕ → Option Close → Type 0
-Bound L m None = Unit {0}
-Bound L m (Some d) = m ≤ L d.stop
+-- a part ends by its last byte, or after this line
+abbrev pub Stopped : (ℕ → ℕ) → ℕ → ℕ → Close → Type 0
+Stopped L size n c = (c.stop ≡ size) ⊎ (n ≤ L c.stop)
 
-dollar_bound : (L : ℕ → ℕ) (mark : Token) → (is_dollar mark.kind ≡ true → mark.line ≤ L mark.end) → Bound L mark.line (if is_dollar mark.kind then Some (closed ending.Dollar mark.end) else None)
-dollar_bound L mark h = elim (cases_Bool (is_dollar mark.kind)) [
-  | inl is ↦ (let P : Bool → Type 0 = λ b. Bound L mark.line (if b then Some (closed ending.Dollar mark.end) else None) in subst P (sym is) (h is))
-  | inr other ↦ (let P : Bool → Type 0 = λ b. Bound L mark.line (if b then Some (closed ending.Dollar mark.end) else None) in subst P (sym other) tt)
-]
+abbrev Bound : (ℕ → ℕ) → ℕ → ℕ → Option Close → Type 0
+Bound L size m None = Unit {0}
+Bound L size m (Some d) = Stopped L size m d
 
-closing_bound : (L : ℕ → ℕ) (ts : List Token) (mark : Token) (f : Form) → (f ≡ form.Pause → ts ≢ []) → Lasts L mark.line ts → (is_dollar mark.kind ≡ true → mark.line ≤ L mark.end) → Bound L mark.line (closing ts mark f)
-closing_bound L ts mark form.Pause some lasts d = last_counts L mark.line mark.start ts lasts (some refl)
-closing_bound L ts mark _ some lasts d = dollar_bound L mark d
+dollar_bound : (L : ℕ → ℕ) (size m stop : ℕ) (b : Bool) (o : Option Close) → (b ≡ true → m ≤ L stop) → Bound L size m o → Bound L size m (if b then Some (closed ending.Dollar stop) else o)
+dollar_bound L size m stop true o h k = inr (h refl)
+dollar_bound L size m stop false o h k = k
 
-module _ (L : ℕ → ℕ) (tokens : List Token) (size : ℕ) where
-  piece_bound : (p : Piece) (s : Statement) → Fair L tokens p → Fills tokens p s → Bound L p.mark.line (closing (own tokens p) p.mark s.form)
-  piece_bound p s h f = closing_bound L (own tokens p) p.mark s.form (λ e. some_tokens (own tokens p) s.tags s.form (inr e) f.reads) h.lasts h.dollar
+bytes_bound : (L : ℕ → ℕ) (size m : ℕ) (b : Bool) → Bound L size m (if b then Some (closed ending.Bytes size) else None)
+bytes_bound L size m true = inl refl
+bytes_bound L size m false = tt
 
-  abbrev Stopped : ℕ → Close → Type 0
-  Stopped n c = (c.stop ≡ size) ⊎ (n ≤ L c.stop)
+closing_bound : (L : ℕ → ℕ) (size : ℕ) (ts : List Token) (mark : Token) (f : Form) → (f ≡ form.Pause → ts ≢ []) → Lasts L mark.line ts → (is_dollar mark.kind ≡ true → mark.line ≤ L mark.end) → Bound L size mark.line (closing size ts mark f)
+closing_bound L size ts mark form.Pause some lasts d = inr (last_counts L mark.line mark.start ts lasts (some refl))
+closing_bound L size ts mark _ some lasts d =
+    dollar_bound L size mark.line mark.end (is_dollar mark.kind) (if nat_eq mark.start size then Some (closed ending.Bytes size) else None) d (bytes_bound L size mark.line (nat_eq mark.start size))
 
-  stopped_lower : (m n : ℕ) (c : Close) → m ≤ n → Stopped n c → Stopped m c
+-- the lines of the first so many bytes
+abbrev pub lines_to : List ℕ → ℕ → ℕ
+lines_to source stop = length (all_lines (take stop source))
+
+pub lines_to_is : (source : List ℕ) (stop : ℕ) → lined source stop ≡ lines_to source stop
+lines_to_is source stop = sym (length-reverse (text.lines (reverse (take stop source))))
+
+module _ (source : List ℕ) where
+  abbrev L : ℕ → ℕ
+  L = lined source
+
+  abbrev pub Fairs : List Piece → Type 0
+  Fairs ps = AllByRecursion (Fair L (part_tokens source)) ps
+
+  pub part_fair : Fairs (pieces 0 0 (part_tokens source))
+  part_fair = pieces_fair L (part_tokens source) [] [] (part_tokens source) 0 0 refl refl refl tt (part_chain source)
+
+  stopped_lower : (m n : ℕ) (c : Close) → m ≤ n → Stopped L (length source) n c → Stopped L (length source) m c
   stopped_lower m n c h (inl e) = inl e
   stopped_lower m n c h (inr k) = inr (omega arith)
 
-  goes_stopped : (n m : ℕ) (o : Option Close) (ss : List Statement) (c : Close) (rest : Type 0) → n ≤ m → Bound L m o → (rest → Stopped n c) → Goes o ss c rest → Stopped n c
-  goes_stopped n m None ss c rest le b k h = k h
-  goes_stopped n m (Some d) ss c rest le b k h = let P : Close → Type 0 = λ x. Stopped n x in subst P (sym h.1) (inr (omega (arith, le, b)))
+  bound_by : (m : ℕ) (o : Option Close) (c : Close) → Bound L (length source) m o → o ≡ Some c → Stopped L (length source) m c
+  bound_by m o c h e = let P : Option Close → Type 0 = λ x. Bound L (length source) m x in subst P e h
 
-  -- the lines up to the end of a part go to that of its last statement, if it doesn't end by its last byte
-  stops : (n : ℕ) (ps : List Piece) (ss : List Statement) (c : Close) → AllByRecursion (Fair L tokens) ps → Steps n ss → Stand tokens size ps ss c → Stopped n c
-  stops n [] [] c all steps h = inl (let stop_in : Close → ℕ = λ x. x.stop in ap stop_in h)
-  stops n [] (s ∷ ss) c all steps h = absurd h
-  stops n (p ∷ ps) [] c all steps h = absurd h
-  stops n (p ∷ ps) (s ∷ ss) c all steps h =
-      goes_stopped n p.mark.line (closing (own tokens p) p.mark s.form) ss c (Stand tokens size ps ss c) (omega (arith, steps.0, h.0.line)) (piece_bound p s all.0 h.0)
-      (λ later. stopped_lower n s.line c steps.0 (stops s.line ps ss c all.1 steps.1 later)) h.1
+  -- the lines up to the end of a part go to that of each of its pieces, if it doesn't end by its last byte
+  pub stops : (n : ℕ) (last : Bool) (r r' : Radix) (l : ℕ) (ps : List Piece) (acts : List PlacedAct) (c : Close) → Fairs ps → Marks l ps → Does n last source r ps acts r' c → Stopped L (length source) l c
+  stops n last r r' l ps acts c fair marks (ends q p qs tags said d reads e) =
+      let mine : List Token = own (part_tokens source) p in
+      stopped_lower l p.mark.line d marks.0 (bound_by p.mark.line (closing (length source) mine p.mark (form_of said)) d
+      (closing_bound L (length source) mine p.mark (form_of said) (λ is. has_tokens mine tags said reads (inr is)) fair.0.lasts fair.0.dollar) e)
+  stops n last r r' l ps acts c fair marks (goes_on q q' p qs tags said more d reads e h) =
+      stopped_lower l p.mark.line d marks.0 (stops n last (radix_after q (form_of said)) q' p.mark.line qs more d fair.1 marks.1 h)
 
-  -- a word is on a line of these bytes
-  abbrev pub IsOnLine : ℕ → Statement → Type 0
-  IsOnLine stop s = s.form ≡ form.Word → (1 ≤ s.line) × (s.line ≤ L stop)
-
-  on_line : (p : Piece) (s : Statement) (c : Close) → ((k : ℕ) → L k ≤ L size) → Fair L tokens p → Fills tokens p s → Stopped s.line c → IsOnLine c.stop s
-  on_line p s c top h f (inl e) w =
-      let own_line : p.mark.line ≤ L (last_end 0 (own tokens p)) = last_counts L p.mark.line 0 (own tokens p) h.lasts (some_tokens (own tokens p) s.tags s.form (inl w) f.reads) in
-      (omega (arith, h.positive, f.line), omega (arith, own_line, top (last_end 0 (own tokens p)), f.line, ap L e))
-  on_line p s c top h f (inr k) w = (omega (arith, h.positive, f.line), k)
-
-  goes_on_line : (o : Option Close) (ss : List Statement) (c : Close) (rest : Type 0) → (rest → AllByRecursion (IsOnLine c.stop) ss) → Goes o ss c rest → AllByRecursion (IsOnLine c.stop) ss
-  goes_on_line None ss c rest k h = k h
-  goes_on_line (Some d) ss c rest k h = let P : List Statement → Type 0 = λ l. AllByRecursion (IsOnLine c.stop) l in subst P (sym h.0) tt
-
-  stand_on_lines : (n : ℕ) (ps : List Piece) (ss : List Statement) (c : Close) → ((k : ℕ) → L k ≤ L size) → AllByRecursion (Fair L tokens) ps → Steps n ss → Stand tokens size ps ss c
-      → AllByRecursion (IsOnLine c.stop) ss
-  stand_on_lines n [] [] c top all steps h = tt
-  stand_on_lines n [] (s ∷ ss) c top all steps h = absurd h
-  stand_on_lines n (p ∷ ps) [] c top all steps h = absurd h
-  stand_on_lines n (p ∷ ps) (s ∷ ss) c top all steps h = (
-    on_line p s c top all.0 h.0 (stops s.line (p ∷ ps) (s ∷ ss) c all (omega arith, steps.1) h),
-    goes_on_line (closing (own tokens p) p.mark s.form) ss c (Stand tokens size ps ss c) (stand_on_lines s.line ps ss c top all.1 steps.1) h.1,
-  )
-
--- each word of a part stands on one of its lines
-pub words_on_lines : (source : List ℕ) (tokens : List Token) (ss : List Statement) (lines : List Line) (e : Ending) → IsPart source tokens ss lines e
-    → AllByRecursion (λ s. s.form ≡ form.Word → (1 ≤ s.line) × (s.line ≤ length lines)) ss
-words_on_lines source tokens ss lines e h =
-    let L : ℕ → ℕ = lined source in
-    let C : List Token → Type 0 = λ l. Chain L l in
-    let chain : Chain L tokens = subst C (sym h.tokens_are) (part_chain source) in
-    let fair : AllByRecursion (Fair L tokens) (pieces 0 0 tokens) = pieces_fair L tokens [] [] tokens 0 0 refl refl refl tt chain in
-    let top : (k : ℕ) → L k ≤ L (length source) = λ k. let P : List ℕ → Type 0 = λ l. L k ≤ length (text.lines (reverse l)) in subst P (sym (take-length source)) (lined_all source k) in
-    let size : L h.stop ≡ length lines = sym (length-reverse (text.lines (reverse (take h.stop source)))) ∙ ap length (sym h.lines_are) in
-    let Q : ℕ → Type 0 = λ n. AllByRecursion (λ s. s.form ≡ form.Word → (1 ≤ s.line) × (s.line ≤ n)) ss in
-    subst Q size (stand_on_lines L tokens (length source) 0 (pieces 0 0 tokens) ss (closed e h.stop) top fair (statements_climb source tokens ss lines e h) h.statements_are)
+  -- a word is on a line of the bytes up to there
+  pub on_line : (p : Piece) (tags : List Token) (said : Said) (c : Close) → Fair L (part_tokens source) p → IsStatement (own (part_tokens source) p) tags said → Stopped L (length source) p.mark.line c → form_of said ≡ form.Word
+      → (1 ≤ p.mark.line) × (p.mark.line ≤ lines_to source c.stop)
+  on_line p tags said c fair reads (inl e) w =
+      let mine : List Token = own (part_tokens source) p in
+      let own_line : p.mark.line ≤ L (last_end 0 mine) = last_counts L p.mark.line 0 mine fair.lasts (has_tokens mine tags said reads (inl w)) in
+      let top : L (last_end 0 mine) ≤ L (length source) = (let P : List ℕ → Type 0 = λ l. L (last_end 0 mine) ≤ length (text.lines (reverse l)) in subst P (sym (take-length source)) (lined_all source (last_end 0 mine))) in
+      (fair.positive, omega (arith, own_line, top, ap L e, lines_to_is source c.stop))
+  on_line p tags said c fair reads (inr k) w = (fair.positive, omega (arith, k, lines_to_is source c.stop))

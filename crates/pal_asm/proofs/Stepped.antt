@@ -1,155 +1,115 @@
 -- The statements of a part, read one after another.
-use Rattle.std.proofs.Common.{◌≡◌, ◌∙◌, sym, ap, refl, subst, ℕ, ◌<◌, List, [], ◌∷◌, ◌++◌, append_assoc, Bool, arith, length, inl, inr, Some, None, Option}
-use Rattle.std.specs.Prelude.{slice_range, Result, Ok, Err, IfErr}
-use Rattle.std.specs.Result.{IsErrAnd}
+use Rattle.std.proofs.Common.{◌≡◌, ◌∙◌, sym, ap, refl, subst, ℕ, ◌+◌, List, [], ◌∷◌, ◌++◌, append_assoc, length, Some, None, Option}
 use Rattle.std.proofs.lemmas.List.{append-nil}
 use Rattle.pal_text.specs.declared.tokens.Token.{Token}
 use Rattle.pal_text.specs.declared.cut.Statement.{Statement}
 use Rattle.pal_text.specs.declared.cut.Close.{Close}
-use Rattle.pal_text.specs.declared.cut.Ending.TheVariants.{Bytes}
 use Rattle.pal_text.specs.declared.reader.Found.{Found}
-use Rattle.pal_text.specs.declared.fault.TextFault.{TextFault}
-use Rattle.pal_text.specs.declared.fault.TextFault.TheVariants.{Illegal, TooLong, NoMemory}
+use Rattle.pal_text.specs.declared.fault.StatementFault.{StatementFault}
+use Rattle.pal_text.specs.declared.fault.StatementFault.TheVariants.{Illegal, NoMemory}
+use Rattle.pal_text.specs.Grammar.{Said, form_of, IsStatement}
 use Rattle.pal_text.specs.Names.{part_tokens}
 use Rattle.pal_text.specs.Parts.{IsIllegal}
-use Rattle.pal_text.specs.Readers.{rest, IsNext, Finds, IsBroken, BreaksNext}
-use Rattle.pal_text.specs.Statements.{Piece, closing, closed, Goes, Stand, Breaks}
+use Rattle.pal_text.specs.Progress.{Progress}
+use Rattle.pal_text.specs.Readers.{rest, IsNext, IsBroken, StopsAt, BreaksNext}
+use Rattle.pal_text.specs.Statements.{Piece, piece, own, Fills, closing, Breaks, here, later}
+use Rattle.pal_acts.specs.Acts.{PlacedAct, place}
 use Rattle.pal_asm.specs.declared.number.Radix.{Radix}
 use Rattle.pal_asm.specs.declared.statement.NumberedPart.{NumberedPart}
 use Rattle.pal_asm.specs.Numbers.{base, radix_after}
-use Rattle.pal_acts.specs.Acts.{PlacedAct, place}
-use Rattle.pal_asm.specs.Acts.{statement_acts, part_acts, last_radix}
-use Rattle.pal_asm.specs.Kept.{IsRead, StopsPart}
+use Rattle.pal_asm.specs.Acts.{statement_acts, Does, ends, goes_on}
+use Rattle.pal_asm.specs.Sources.{PartDoes}
+use Rattle.pal_asm.specs.Kept.{Says, IsRead, StopsPart}
 
-acts_more : (n : ℕ) (last : Bool) (source : List ℕ) (ts : List Token) (r : Radix) (ss : List Statement) (s : Statement)
-    → part_acts n last source ts r (ss ++ s ∷ []) ≡ part_acts n last source ts r ss ++ statement_acts (place n s.line) (base (last_radix r ss)) last source (slice_range ts s.first s.last) s.form
-acts_more n last source ts r [] s = append-nil (statement_acts (place n s.line) (base r) last source (slice_range ts s.first s.last) s.form)
-acts_more n last source ts r (q ∷ ss) s =
-    let front : List PlacedAct = statement_acts (place n q.line) (base r) last source (slice_range ts q.first q.last) q.form in
-    ap (λ l. front ++ l) (acts_more n last source ts (radix_after r q.form) ss s)
-    ∙ sym (append_assoc front (part_acts n last source ts (radix_after r q.form) ss) (statement_acts (place n s.line) (base (last_radix (radix_after r q.form) ss)) last source (slice_range ts s.first s.last) s.form))
+-- the acts so far: where the part has ended so, all of them, and else those of the pieces that are left follow
+abbrev Came : NumberedPart → Radix → Radix → ℕ → Option Close → List PlacedAct → Type 0
+Came part before r n None acts =
+    ((more : List PlacedAct) (r' : Radix) (c : Close) → Does part.number part.last part.source.now r (rest part.source.now n) more r' c → PartDoes part.number part.last before part.source.now (acts ++ more) r' c)
+    × ((line : ℕ) → Breaks (part_tokens part.source.now) (length part.source.now) (rest part.source.now n) line → IsIllegal part.source.now line)
+Came part before r n (Some c) acts = PartDoes part.number part.last before part.source.now acts r c
 
-radix_more : (r : Radix) (ss : List Statement) (s : Statement) → last_radix r (ss ++ s ∷ []) ≡ radix_after (last_radix r ss) s.form
-radix_more r [] s = refl
-radix_more r (q ∷ ss) s = radix_more (radix_after r q.form) ss s
+-- the statements of the first n tokens were read, and what they do is kept
+pub record Stepped (part : NumberedPart) (before radix : Radix) (old new : List PlacedAct) (n : ℕ) (close : Option Close) : Type 0 where
+  pub acts : List PlacedAct
+  pub came : Came part before radix n close acts
+  pub new_is : new ≡ old ++ acts
 
--- the statements that were read so far, the first n tokens of the part, and what was kept of them
-pub record Stepped (part : NumberedPart) (before radix : Radix) (old new : List PlacedAct) (n : ℕ) : Type 0 where
-  pub statements : List Statement
-  pub stands : (ss : List Statement) (c : Close) → Stand (part_tokens part.source.now) (length part.source.now) (rest part.source.now n) ss c
-      → Stand (part_tokens part.source.now) (length part.source.now) (rest part.source.now 0) (statements ++ ss) c
-  pub breaks : (line : ℕ) → Breaks (part_tokens part.source.now) (rest part.source.now n) line → IsIllegal part.source.now line
-  pub radix_is : radix ≡ last_radix before statements
-  pub acts_are : new ≡ old ++ part_acts part.number part.last part.source.now (part_tokens part.source.now) before statements
+pub stepped_none : (part : NumberedPart) (before : Radix) (old : List PlacedAct) (n : ℕ) (close : Option Close) → n ≡ 0 → close ≡ None → Stepped part before before old old n close
+stepped_none part before old n close zero' none =
+    let begun : Came part before before 0 None [] = (λ more r' c h. h, λ line h. h) in
+    let P : ℕ → Type 0 = λ k. Came part before before k None [] in
+    let Q : Option Close → Type 0 = λ o. Came part before before n o [] in
+    record { acts = []; came = subst Q (sym none) (subst P (sym zero') begun); new_is = sym (append-nil old) }
 
-pub stepped_none : (part : NumberedPart) (before : Radix) (old : List PlacedAct) → Stepped part before before old old 0
-stepped_none part before old = record {
-  statements = [];
-  stands = λ ss c h. h;
-  breaks = λ line h. h;
-  radix_is = refl;
-  acts_are = sym (append-nil old);
+-- what was found, as what its tokens say
+abbrev pub says_by : (source : List ℕ) (n m : ℕ) (found : Found) (mine seen : List Token) (after : Option Close) → IsNext source n found mine m after → seen ≡ mine → Says seen found.statement
+says_by source n m found mine seen after next is = record {
+  names = next.fills.names;
+  said = next.fills.said;
+  reads = subst (λ ts. IsStatement ts next.fills.names next.fills.said) (sym next.own_is ∙ sym is) next.fills.reads;
+  tags = next.fills.tags;
+  form = next.fills.form;
 }
 
--- what was found of these bytes
-pub found_next : (source bytes : List ℕ) (n m : ℕ) (o : Option Found) (found : Found) (own_tokens : List Token) → source ≡ bytes → o ≡ Some found → Finds source n o own_tokens m → IsNext bytes n found own_tokens m
-found_next source bytes n m o found own_tokens same is h =
-    let P : Option Found → Type 0 = λ x. Finds bytes n x own_tokens m in
-    let Q : List ℕ → Type 0 = λ x. Finds x n o own_tokens m in
-    subst P is (subst Q same h)
+came_by : (part : NumberedPart) (before r : Radix) (n m : ℕ) (p : Piece) (s : Statement) (f : Fills (part_tokens part.source.now) p s) (acts : List PlacedAct) (o : Option Close) → p ∷ rest part.source.now m ≡ rest part.source.now n
+    → closing (length part.source.now) (own (part_tokens part.source.now) p) p.mark s.form ≡ o → Came part before r n None acts
+    → Came part before (radix_after r (form_of f.said)) m o (acts ++ statement_acts (place part.number p.mark.line) (base r) part.last part.source.now f.names f.said)
+came_by part before r n m p s f acts (Some c) same e g =
+    let source : List ℕ = part.source.now in
+    let mine : List PlacedAct = statement_acts (place part.number p.mark.line) (base r) part.last source f.names f.said in
+    let closes : closing (length source) (own (part_tokens source) p) p.mark (form_of f.said) ≡ Some c = ap (closing (length source) (own (part_tokens source) p) p.mark) (sym f.form) ∙ e in
+    let P : List Piece → Type 0 = λ ps. Does part.number part.last source r ps mine (radix_after r (form_of f.said)) c in
+    g.0 mine (radix_after r (form_of f.said)) c (subst P same (ends r p (rest source m) f.names f.said c f.reads closes))
+came_by part before r n m p s f acts None same e g =
+    let source : List ℕ = part.source.now in
+    let mine : List PlacedAct = statement_acts (place part.number p.mark.line) (base r) part.last source f.names f.said in
+    let closes : closing (length source) (own (part_tokens source) p) p.mark (form_of f.said) ≡ None = ap (closing (length source) (own (part_tokens source) p) p.mark) (sym f.form) ∙ e in (
+      λ more r' c h.
+          (let P : List Piece → Type 0 = λ ps. Does part.number part.last source r ps (mine ++ more) r' c in
+          let Q : List PlacedAct → Type 0 = λ l. PartDoes part.number part.last before source l r' c in
+          subst Q (sym (append_assoc acts mine more)) (g.0 (mine ++ more) r' c (subst P same (goes_on r r' p (rest source m) f.names f.said more c f.reads closes h)))),
+      λ line h.
+          (let P : List Piece → Type 0 = λ ps. Breaks (part_tokens source) (length source) ps line in
+          g.1 line (subst P same (later p (rest source m) s line f e h))),
+    )
 
-pub found_none : (source bytes : List ℕ) (n m : ℕ) (o : Option Found) (own_tokens : List Token) → source ≡ bytes → o ≡ None → Finds source n o own_tokens m → rest bytes n ≡ []
-found_none source bytes n m o own_tokens same is h =
-    let P : Option Found → Type 0 = λ x. Finds bytes n x own_tokens m in
-    let Q : List ℕ → Type 0 = λ x. Finds x n o own_tokens m in
-    subst P is (subst Q same h)
+-- one statement more
+pub stepped_more : (part : NumberedPart) (before r r' : Radix) (old mid new : List PlacedAct) (n m : ℕ) (close after : Option Close) (found : Found) (mine : List Token) → Stepped part before r old mid n close
+    → close ≡ None → (next : IsNext part.source.now n found mine m after)
+    → new ≡ mid ++ statement_acts (place part.number found.statement.line) (base r) part.last part.source.now next.fills.names next.fills.said → r' ≡ radix_after r found.statement.form
+    → Stepped part before r' old new m after
+stepped_more part before r r' old mid new n m close after found mine st going next kept turns =
+    let source : List ℕ = part.source.now in
+    let p : Piece = piece n found.statement.last found.mark in
+    let X : ℕ → List PlacedAct = λ line. statement_acts (place part.number line) (base r) part.last source next.fills.names next.fills.said in
+    let R : Option Close → Type 0 = λ o. Came part before r n o st.acts in
+    let S : Radix → Type 0 = λ q. Came part before q m after (st.acts ++ X found.mark.line) in
+    let closes : closing (length source) (own (part_tokens source) p) found.mark found.statement.form ≡ after = ap (λ l. closing (length source) l found.mark found.statement.form) (sym next.own_is) ∙ sym next.close_is in
+    let radix_is : r' ≡ radix_after r (form_of next.fills.said) = turns ∙ ap (radix_after r) next.fills.form in
+    record {
+      acts = st.acts ++ X found.mark.line;
+      came = subst S (sym radix_is) (came_by part before r n m p found.statement next.fills st.acts after (sym next.rest_is) closes (subst R going st.came));
+      new_is = kept ∙ (λ i. st.new_is i ++ X (next.fills.line i)) ∙ append_assoc old st.acts (X found.mark.line);
+    }
 
-pub kept_by : (part : NumberedPart) (r : Radix) (mid new : List PlacedAct) (s : Statement) (seen own_tokens : List Token) → seen ≡ own_tokens
-    → new ≡ mid ++ statement_acts (place part.number s.line) (base r) part.last part.source.now seen s.form
-    → new ≡ mid ++ statement_acts (place part.number s.line) (base r) part.last part.source.now own_tokens s.form
-kept_by part r mid new s seen own_tokens same h = h ∙ ap (λ o. mid ++ statement_acts (place part.number s.line) (base r) part.last part.source.now o s.form) same
+-- the part has ended
+pub stepped_all : (part : NumberedPart) (before r : Radix) (old new : List PlacedAct) (n : ℕ) (close : Option Close) (c : Close) → Stepped part before r old new n close → close ≡ Some c → IsRead part before old new (record { radix = r; close = c })
+stepped_all part before r old new n close c st is =
+    let R : Option Close → Type 0 = λ o. Came part before r n o st.acts in
+    record { acts = st.acts; does = subst R is st.came; new_is = st.new_is }
 
-module _ (part : NumberedPart) (before r r' : Radix) (old mid new : List PlacedAct) (n m : ℕ) (found : Found) (own_tokens : List Token) (st : Stepped part before r old mid n) (next : IsNext part.source.now n found own_tokens m)
-    (kept : new ≡ mid ++ statement_acts (place part.number found.statement.line) (base r) part.last part.source.now own_tokens found.statement.form) (turns : r' ≡ radix_after r found.statement.form) where
-  closes : closing (slice_range (part_tokens part.source.now) n found.statement.last) found.mark found.statement.form ≡ found.close
-  closes = ap (λ o. closing o found.mark found.statement.form) (sym next.own_is) ∙ sym next.close_is
-
-  radix_on : r' ≡ last_radix before (st.statements ++ found.statement ∷ [])
-  radix_on = turns ∙ ap (λ q. radix_after q found.statement.form) st.radix_is ∙ sym (radix_more before st.statements found.statement)
-
-  acts_on : new ≡ old ++ part_acts part.number part.last part.source.now (part_tokens part.source.now) before (st.statements ++ found.statement ∷ [])
-  acts_on =
-      let X : Radix → List Token → List PlacedAct = λ q o. statement_acts (place part.number found.statement.line) (base q) part.last part.source.now o found.statement.form in
-      let own_is : own_tokens ≡ slice_range (part_tokens part.source.now) found.statement.first found.statement.last =
-      next.own_is ∙ ap (λ k. slice_range (part_tokens part.source.now) k found.statement.last) (sym next.fills.first) in
-      let front : List PlacedAct = part_acts part.number part.last part.source.now (part_tokens part.source.now) before st.statements in
-      kept ∙ (λ i. st.acts_are i ++ X (st.radix_is i) (own_is i))
-      ∙ append_assoc old front (X (last_radix before st.statements) (slice_range (part_tokens part.source.now) found.statement.first found.statement.last))
-      ∙ ap (λ l. old ++ l) (sym (acts_more part.number part.last part.source.now (part_tokens part.source.now) before st.statements found.statement))
-
-  -- a statement after which the part goes on
-  pub stepped_more : found.close ≡ None → Stepped part before r' old new m
-  stepped_more none =
-      let goes : closing (slice_range (part_tokens part.source.now) n found.statement.last) found.mark found.statement.form ≡ None = closes ∙ none in
-      record {
-        statements = st.statements ++ found.statement ∷ [];
-        stands = λ ss c later.
-            (let G : Option Close → Type 0 = λ o. Goes o ss c (Stand (part_tokens part.source.now) (length part.source.now) (rest part.source.now m) ss c) in
-            let P : List Piece → Type 0 = λ ps. Stand (part_tokens part.source.now) (length part.source.now) ps (found.statement ∷ ss) c in
-            let Q : List Statement → Type 0 = λ all. Stand (part_tokens part.source.now) (length part.source.now) (rest part.source.now 0) all c in
-            subst Q (sym (append_assoc st.statements (found.statement ∷ []) ss)) (st.stands (found.statement ∷ ss) c (subst P (sym next.rest_is) (next.fills, subst G (sym goes) later))));
-        breaks = λ line later.
-            (let P : List Piece → Type 0 = λ ps. Breaks (part_tokens part.source.now) ps line in
-            st.breaks line (subst P (sym next.rest_is) (inr (record { statement = found.statement; fills = next.fills; goes_on = goes }, later))));
-        radix_is = radix_on;
-        acts_are = acts_on;
-      }
-
-  -- a statement by which it ends
-  pub stepped_closed : (c : Close) → found.close ≡ Some c → IsRead part before old new (record { radix = r'; close = c })
-  stepped_closed c is =
-      let G : Option Close → Type 0 = λ o. Goes o [] c (Stand (part_tokens part.source.now) (length part.source.now) (rest part.source.now m) [] c) in
-      let P : List Piece → Type 0 = λ ps. Stand (part_tokens part.source.now) (length part.source.now) ps (found.statement ∷ []) c in
-      record {
-        statements = st.statements ++ found.statement ∷ [];
-        stands = st.stands (found.statement ∷ []) c (subst P (sym next.rest_is) (next.fills, subst G (sym (closes ∙ is)) (refl, refl)));
-        radix_is = radix_on;
-        acts_are = acts_on;
-      }
-
-  -- so many pieces are left
-  pub fewer : length (rest part.source.now m) < length (rest part.source.now n)
-  fewer = omega (arith, ap length next.rest_is)
-
-module _ (part : NumberedPart) (before r : Radix) (old new : List PlacedAct) (n : ℕ) (st : Stepped part before r old new n) where
-  -- no statement is left
-  pub stepped_all : (size : ℕ) → size ≡ length part.source.now → rest part.source.now n ≡ [] → IsRead part before old new (record { radix = r; close = closed Bytes size })
-  stepped_all size same none =
-      let P : List Piece → Type 0 = λ ps. Stand (part_tokens part.source.now) (length part.source.now) ps [] (closed Bytes size) in
-      let Q : List Statement → Type 0 = λ all. Stand (part_tokens part.source.now) (length part.source.now) (rest part.source.now 0) all (closed Bytes size) in
-      record {
-        statements = st.statements;
-        stands = subst Q (append-nil st.statements) (st.stands [] (closed Bytes size) (subst P (sym none) (ap (closed Bytes) same)));
-        radix_is = st.radix_is;
-        acts_are = st.acts_are;
-      }
-
-  -- the next one has no form
-  pub stepped_stops : (line : ℕ) → IsBroken part.source.now n line → IsIllegal part.source.now line
-  stepped_stops line broken =
-      let P : List Piece → Type 0 = λ ps. Breaks (part_tokens part.source.now) ps line in
-      st.breaks line (subst P (sym broken.rest_is) (inl (broken.none, broken.line_is)))
-
-  pub stepped_stuck : (fault : TextFault) → BreaksNext part.source.now n fault → StopsPart part.source.now old new fault
-  stepped_stuck (Illegal line) broken = (stepped_stops line broken, (part_acts part.number part.last part.source.now (part_tokens part.source.now) before st.statements, st.acts_are))
-  stepped_stuck TooLong broken = broken
-  stepped_stuck NoMemory broken = tt
-
--- the error that is handed on
-pub told_on : {V : Type 0} (r : Result V TextFault) (fault : TextFault) (P : TextFault → Type 0) → IsErrAnd r (λ e. e ≡ fault) → P fault → IfErr r P
-told_on (Ok x) fault P e h = tt
-told_on (Err f) fault P e h = subst P (sym e) h
-
-pub stuck_at : (part : NumberedPart) (before r : Radix) (old new : List PlacedAct) (n : ℕ) (source : List ℕ) (fault : TextFault) → Stepped part before r old new n → source ≡ part.source.now → BreaksNext source n fault
+-- the next statement has no form
+stuck : (part : NumberedPart) (before r : Radix) (old new : List PlacedAct) (n : ℕ) (close : Option Close) (fault : StatementFault) → Stepped part before r old new n close → close ≡ None → StopsAt part.source.now n fault
     → StopsPart part.source.now old new fault
-stuck_at part before r old new n source fault st same h = let Q : List ℕ → Type 0 = λ s. BreaksNext s n fault in stepped_stuck part before r old new n st fault (subst Q same h)
+stuck part before r old new n close (Illegal line) st going b =
+    let source : List ℕ = part.source.now in
+    let R : Option Close → Type 0 = λ o. Came part before r n o st.acts in
+    let P : List Piece → Type 0 = λ ps. Breaks (part_tokens source) (length source) ps line in
+    let Q : ℕ → Type 0 = λ k. Breaks (part_tokens source) (length source) (piece n b.last b.mark ∷ rest source (b.last + 1)) k in
+    let came = subst R going st.came in
+    (came.1 line (subst P (sym b.rest_is) (subst Q (sym b.line_is) (here (piece n b.last b.mark) (rest source (b.last + 1)) b.none))), (st.acts, st.new_is))
+stuck part before r old new n close NoMemory st going b = tt
+
+pub stuck_at : (part : NumberedPart) (before r : Radix) (old new : List PlacedAct) (at : Progress) (fault : StatementFault) → Stepped part before r old new at.count at.close → at.source ≡ part.source.now → BreaksNext at fault
+    → StopsPart part.source.now old new fault
+stuck_at part before r old new at fault st same h = let Q : List ℕ → Type 0 = λ s. StopsAt s at.count fault in stuck part before r old new at.count at.close fault st h.0 (subst Q same h.1)

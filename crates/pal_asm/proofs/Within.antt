@@ -1,28 +1,24 @@
 -- Tokens of a part are within it, and parts are short.
 use Rattle.std.proofs.Common.{◌≡◌, ◌∙◌, sym, ap, refl, ℕ, zero, suc, ◌+◌, ◌-◌, ◌<◌, ◌≤◌, List, [], ◌∷◌, Bool, true, false, ◌||◌, Option, Some, None, arith, length, get_or, drop, inl, inr}
-use Rattle.std.specs.Prelude.{slice_range, nat_lt, if◌then◌else◌}
+use Rattle.std.specs.Prelude.{nat_eq, nat_lt, if◌then◌else◌}
 use Rattle.std.specs.Borrow.{Bor}
 use Rattle.std.specs.List.{AllByRecursion}
 use Rattle.std.proofs.lemmas.Bool.{cond_both, cases_lt, lt-ltb}
 use Rattle.pal_text.specs.declared.tokens.Token.{Token}
 use Rattle.pal_text.specs.declared.grammar.Form.{Form}
 use Rattle.pal_text.specs.declared.grammar.Form.TheVariants as form
-use Rattle.pal_text.specs.Reading.{is_comma}
-use Rattle.pal_text.proofs.Rises.{all_take, all_drop}
-use Rattle.pal_asm.specs.Acts.{after_tags, operand}
+use Rattle.pal_text.proofs.Rises.{all_drop}
+use Rattle.pal_asm.specs.Kept.{after_tags, operand_by}
 use Rattle.pal_asm.specs.Sources.{first_long, long_fault, size_fault, texts}
 
--- the tokens of a statement, those after its tags, and those of its expression
+-- the tokens of a statement, and those of its expression
 module _ (P : Token → Type 0) where
-  pub own_within : (ts : List Token) (first last : ℕ) → AllByRecursion P ts → AllByRecursion P (slice_range ts first last)
-  own_within ts first last all = all_take P (last - first) (drop first ts) (all_drop P first ts all)
+  pub body_within : (n : ℕ) (ts : List Token) → AllByRecursion P ts → AllByRecursion P (after_tags n ts)
+  body_within n [] all = tt
+  body_within n (t ∷ []) all = all
+  body_within n (t ∷ m ∷ ts) all = cond_both (nat_eq n 0) (t ∷ m ∷ ts) (after_tags (n - 1) ts) (λ l. AllByRecursion P l) (λ is. all) (λ is. body_within (n - 1) ts all.1.1)
 
-  pub body_within : (ts : List Token) → AllByRecursion P ts → AllByRecursion P (after_tags ts)
-  body_within [] all = tt
-  body_within (t ∷ []) all = all
-  body_within (t ∷ m ∷ ts) all = cond_both (is_comma m.kind) (after_tags ts) (t ∷ m ∷ ts) (λ l. AllByRecursion P l) (λ is. body_within ts all.1.1) (λ is. all)
-
-  pub operand_within : (f : Form) (ts : List Token) → AllByRecursion P ts → AllByRecursion P (operand f ts)
+  pub operand_within : (f : Form) (ts : List Token) → AllByRecursion P ts → AllByRecursion P (operand_by f ts)
   operand_within form.Origin ts all = all_drop P 1 ts all
   operand_within form.Assign ts all = all_drop P 2 ts all
   operand_within form.Word ts all = all

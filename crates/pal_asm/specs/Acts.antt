@@ -1,12 +1,12 @@
 -- What statements do, in the order in which faults are looked for.
-use Rattle.std.specs.Prelude.{ℕ, Bool, if◌then◌else◌, List, [], ◌∷◌, ◌++◌, map, drop, slice_range, Result, Ok, Err}
+use Rattle.std.specs.Prelude.{◌≡◌, ℕ, Bool, if◌then◌else◌, List, [], ◌∷◌, ◌++◌, length, map, Option, Some, None, Result, Ok, Err}
 use Rattle.pal_text.specs.declared.tokens.Kind.{Kind}
 use Rattle.pal_text.specs.declared.tokens.Kind.TheVariants as kind
 use Rattle.pal_text.specs.declared.tokens.Token.{Token}
-use Rattle.pal_text.specs.declared.grammar.Form.{Form}
-use Rattle.pal_text.specs.declared.grammar.Form.TheVariants as form
-use Rattle.pal_text.specs.declared.cut.Statement.{Statement}
-use Rattle.pal_text.specs.Reading.{is_comma}
+use Rattle.pal_text.specs.declared.cut.Close.{Close}
+use Rattle.pal_text.specs.Grammar.{Said, Origin, Assign, AssignDirection, Pause, Word, form_of, IsStatement}
+use Rattle.pal_text.specs.Names.{part_tokens}
+use Rattle.pal_text.specs.Statements.{Piece, own, closing}
 use Rattle.pal_acts.specs.declared.act.Join.{Join}
 use Rattle.pal_acts.specs.declared.act.Act.{Act}
 use Rattle.pal_acts.specs.declared.act.Act.TheVariants as act
@@ -18,18 +18,6 @@ use Rattle.pal_asm.specs.declared.number.Radix.{Radix}
 use Rattle.pal_asm.specs.Numbers.{base, radix_after}
 use Rattle.pal_asm.specs.Expressions.{name_of, expression}
 
--- The tags of a statement: the tokens right before its commas.
-abbrev pub tags : List Token → List Token
-tags [] = []
-tags (t ∷ []) = []
-tags (t ∷ m ∷ ts) = if is_comma m.kind then t ∷ tags ts else []
-
--- And what stands after them.
-abbrev pub after_tags : List Token → List Token
-after_tags [] = []
-after_tags (t ∷ []) = t ∷ []
-after_tags (t ∷ m ∷ ts) = if is_comma m.kind then after_tags ts else t ∷ m ∷ ts
-
 -- What a tag does, by what its token is.
 abbrev pub tag_by : List ℕ → Token → Kind → Act
 tag_by source t kind.Symbol = act.Tag (name_of source t)
@@ -39,48 +27,40 @@ tag_by source t _ = act.Wrong DuplicateTag
 abbrev pub tag_act : Place → List ℕ → Token → PlacedAct
 tag_act p source t = placed p [] (tag_by source t t.kind)
 
--- The expression of what a statement does: after `*`, after `symbol=`, or all of it.
-abbrev pub operand : Form → List Token → List Token
-operand form.Origin ts = drop 1 ts
-operand form.Assign ts = drop 2 ts
-operand form.Word ts = ts
-operand _ ts = []
+-- The expression of what is said.
+abbrev pub operand : Said → List Token
+operand (Origin e) = e
+operand (Assign name e) = e
+operand (AssignDirection e) = e
+operand (Word e) = e
+operand _ = []
 
--- What an assignment does, by what its first token is.
-abbrev pub assign_by : Place → List ℕ → Token → List Join → Kind → List PlacedAct
-assign_by p source t js kind.Symbol = placed p js (act.Assign (name_of source t)) ∷ []
-assign_by p source t js _ = placed p js act.AssignDirection ∷ []
+-- What is said after the tags does this, where its expression has these terms. PAUSE is a fault in the last part.
+abbrev pub said_acts : Place → Bool → List ℕ → Said → List Join → List PlacedAct
+said_acts p last source (Origin e) js = placed p js act.Origin ∷ []
+said_acts p last source (Assign name e) js = placed p js (act.Assign (name_of source name)) ∷ []
+said_acts p last source (AssignDirection e) js = placed p js act.AssignDirection ∷ []
+said_acts p last source (Word e) js = placed p js act.Word ∷ []
+said_acts p last source Pause js = if last then placed p [] act.LastPause ∷ [] else []
+said_acts p last source _ js = []
 
--- An assignment to this first token.
-abbrev pub assign_acts : Place → List ℕ → List Token → List Join → List PlacedAct
-assign_acts p source [] js = []
-assign_acts p source (t ∷ ts) js = assign_by p source t js t.kind
+-- What a statement at this place with these tags does, which says this, where its expression has these terms: what its tags do,
+-- and then the rest. With a bad number it is that fault and nothing else.
+abbrev pub acts_with : Place → Bool → List ℕ → List Token → Said → Result (List Join) Code → List PlacedAct
+acts_with p last source tags said (Err c) = placed p [] (act.Wrong c) ∷ []
+acts_with p last source tags said (Ok js) = map (tag_act p source) tags ++ said_acts p last source said js
 
--- What stands after the tags and does this, with this expression. PAUSE is a fault in the last part.
-abbrev pub body_acts : Place → Bool → List ℕ → List Token → Form → List Join → List PlacedAct
-body_acts p last source ts form.Origin js = placed p js act.Origin ∷ []
-body_acts p last source ts form.Assign js = assign_acts p source ts js
-body_acts p last source ts form.Word js = placed p js act.Word ∷ []
-body_acts p last source ts form.Pause js = if last then placed p [] act.LastPause ∷ [] else []
-body_acts p last source ts _ js = []
+-- A statement at this place with these tags, which says this.
+abbrev pub statement_acts : Place → ℕ → Bool → List ℕ → List Token → Said → List PlacedAct
+statement_acts p b last source tags said = acts_with p last source tags said (expression b source (operand said))
 
--- A statement with a bad number is that fault and nothing else.
-abbrev pub settled : Place → List PlacedAct → (List Join → List PlacedAct) → Result (List Join) Code → List PlacedAct
-settled p before body (Err c) = placed p [] (act.Wrong c) ∷ []
-settled p before body (Ok js) = before ++ body js
-
--- A statement at this place with these tokens: its numbers, its tags, and then the rest.
-abbrev pub statement_acts : Place → ℕ → Bool → List ℕ → List Token → Form → List PlacedAct
-statement_acts p b last source own f =
-    settled p (map (tag_act p source) (tags own)) (body_acts p last source (after_tags own) f) (expression b source (operand f (after_tags own)))
-
--- The statements of a part with this number, bytes and tokens, numbers being written so before them.
-abbrev pub part_acts : ℕ → Bool → List ℕ → List Token → Radix → List Statement → List PlacedAct
-part_acts n last source tokens r [] = []
-part_acts n last source tokens r (s ∷ ss) =
-    statement_acts (place n s.line) (base r) last source (slice_range tokens s.first s.last) s.form ++ part_acts n last source tokens (radix_after r s.form) ss
-
--- How numbers are written after these statements.
-abbrev pub last_radix : Radix → List Statement → Radix
-last_radix r [] = r
-last_radix r (s ∷ ss) = last_radix (radix_after r s.form) ss
+-- These pieces of a part with this number and these bytes have these acts, where numbers are written so before them. Then they
+-- are written so, and the part ends so.
+pub data Does (n : ℕ) (last : Bool) (source : List ℕ) : Radix → List Piece → List PlacedAct → Radix → Close → Type 0 where
+  ends : (r : Radix) (p : Piece) (ps : List Piece) (tags : List Token) (said : Said) (c : Close) → IsStatement (own (part_tokens source) p) tags said
+      → closing (length source) (own (part_tokens source) p) p.mark (form_of said) ≡ Some c
+      → Does n last source r (p ∷ ps) (statement_acts (place n p.mark.line) (base r) last source tags said) (radix_after r (form_of said)) c
+  goes_on : (r r' : Radix) (p : Piece) (ps : List Piece) (tags : List Token) (said : Said) (later : List PlacedAct) (c : Close) → IsStatement (own (part_tokens source) p) tags said
+      → closing (length source) (own (part_tokens source) p) p.mark (form_of said) ≡ None
+      → Does n last source (radix_after r (form_of said)) ps later r' c
+      → Does n last source r (p ∷ ps) (statement_acts (place n p.mark.line) (base r) last source tags said ++ later) r' c

@@ -1,7 +1,25 @@
 -- What a source does as it is kept in memory, for the private contracts below `assemble`.
-use Rattle.std.specs.Prelude.{◌≡◌, ℕ, ◌+◌, ◌≤◌, Bool, ◌||◌, ◌&&◌, nat_eq, nat_lt, if◌then◌else◌, List, [], ◌∷◌, ◌++◌, length, map, reverse, slice_range, Result, Ok, Err}
+use Rattle.std.specs.Prelude.{◌≡◌, ℕ, ◌+◌, ◌-◌, Bool, ◌||◌, ◌&&◌, nat_eq, nat_lt, if◌then◌else◌, List, [], ◌∷◌, ◌++◌, length, map, drop, reverse, Result, Ok, Err}
+use Rattle.pal_text.specs.declared.tokens.Kind.{Kind}
+use Rattle.pal_text.specs.declared.tokens.Kind.TheVariants as kind
+use Rattle.pal_text.specs.declared.tokens.Token.{Token}
+use Rattle.pal_text.specs.declared.grammar.Form.{Form}
+use Rattle.pal_text.specs.declared.grammar.Form.TheVariants as form
+use Rattle.pal_text.specs.declared.cut.Statement.{Statement}
+use Rattle.pal_text.specs.declared.fault.StatementFault.{StatementFault}
+use Rattle.pal_text.specs.declared.fault.StatementFault.TheVariants as text
+use Rattle.pal_text.specs.declared.names.Name.{Name}
+use Rattle.pal_text.specs.Characters.{characters}
+use Rattle.pal_text.specs.Grammar.{Said, form_of, IsStatement}
+use Rattle.pal_text.specs.Lines.{all_lines}
+use Rattle.pal_text.specs.Parts.{IsIllegal}
 use Rattle.pal_acts.specs.declared.act.Join.{Join}
+use Rattle.pal_acts.specs.declared.act.Act.TheVariants as act
+use Rattle.pal_acts.specs.declared.act.Place.{Place}
 use Rattle.pal_acts.specs.declared.code.Code.{Code}
+use Rattle.pal_acts.specs.Acts.{PlacedAct, placed}
+use Rattle.pal_acts.specs.Meaning.{location}
+use Rattle.pal_acts.specs.Values.{Values}
 use Rattle.pal_asm.specs.declared.number.Radix.{Radix}
 use Rattle.pal_asm.specs.declared.reading.Turn.{Turn}
 use Rattle.pal_asm.specs.declared.reading.Turn.TheVariants.{On, Ends}
@@ -9,54 +27,85 @@ use Rattle.pal_asm.specs.declared.reading.Reached.{Reached}
 use Rattle.pal_asm.specs.declared.statement.NumberedPart.{NumberedPart}
 use Rattle.pal_asm.specs.declared.front.Front.{Front}
 use Rattle.pal_asm.specs.declared.listing.ListedLine.{ListedLine}
-use Rattle.pal_text.specs.declared.cut.Statement.{Statement}
-use Rattle.pal_text.specs.declared.fault.TextFault.{TextFault}
-use Rattle.pal_text.specs.declared.fault.TextFault.TheVariants as text
-use Rattle.pal_text.specs.Lines.{all_lines}
-use Rattle.pal_text.specs.Names.{part_tokens}
-use Rattle.pal_text.specs.Statements.{pieces, Stand}
-use Rattle.pal_text.specs.Parts.{IsIllegal}
-use Rattle.pal_asm.specs.Acts.{part_acts, last_radix}
-use Rattle.pal_acts.specs.declared.act.Place.{Place}
-use Rattle.pal_acts.specs.Acts.{PlacedAct}
-use Rattle.pal_text.specs.Characters.{characters}
-use Rattle.pal_asm.specs.Listings.{TextLine, text_line, text_lines, Shows, words, is_at, line_text, without_front}
 use Rattle.pal_asm.specs.declared.listing.ListedWord.{ListedWord}
-use Rattle.pal_acts.specs.Values.{Values}
-use Rattle.pal_acts.specs.Meaning.{location}
 use Rattle.pal_asm.specs.declared.fault.AssembleFault.{AssembleFault}
 use Rattle.pal_asm.specs.declared.fault.AssembleFault.TheVariants.{Source, NoMemory}
-use Rattle.pal_text.specs.declared.names.Name.{Name}
-use Rattle.pal_asm.specs.Sources.{Gives, is_empty, IsFaultOf}
+use Rattle.pal_asm.specs.Expressions.{name_of}
+use Rattle.pal_asm.specs.Sources.{TextLine, text_line, text_lines, is_empty, PartDoes, Reads, IsFaultOf}
+use Rattle.pal_asm.specs.Listings.{words, is_at, line_text, without_front}
 
 -- An expression that was read into these terms, or what is wrong with it.
 abbrev pub read_of : List Join → Result (Unit {0}) Code → Result (List Join) Code
 read_of js (Ok _) = Ok js
 read_of js (Err c) = Err c
 
--- A part was read up to this close: its statements are kept.
+-- A statement with these tokens has this form, and so many tags.
+pub record Says (tokens : List Token) (s : Statement) : Type 0 where
+  pub names : List Token
+  pub said : Said
+  pub reads : IsStatement tokens names said
+  pub tags : s.tags ≡ length names
+  pub form : s.form ≡ form_of said
+
+-- The names of so many tags, each of which has a comma after it.
+abbrev pub names_in : ℕ → List Token → List Token
+names_in n [] = []
+names_in n (t ∷ []) = []
+names_in n (t ∷ c ∷ ts) = if nat_eq n 0 then [] else t ∷ names_in (n - 1) ts
+
+-- What stands after them.
+abbrev pub after_tags : ℕ → List Token → List Token
+after_tags n [] = []
+after_tags n (t ∷ []) = t ∷ []
+after_tags n (t ∷ c ∷ ts) = if nat_eq n 0 then t ∷ c ∷ ts else after_tags (n - 1) ts
+
+-- The expression of a statement of this form, by its tokens after the tags.
+abbrev pub operand_by : Form → List Token → List Token
+operand_by form.Origin ts = drop 1 ts
+operand_by form.Assign ts = drop 2 ts
+operand_by form.Word ts = ts
+operand_by _ ts = []
+
+-- What an assignment does, by what its first token is.
+abbrev pub assign_by : Place → List ℕ → Token → List Join → Kind → List PlacedAct
+assign_by p source t js kind.Symbol = placed p js (act.Assign (name_of source t)) ∷ []
+assign_by p source t js _ = placed p js act.AssignDirection ∷ []
+
+abbrev pub assign_acts : Place → List ℕ → List Token → List Join → List PlacedAct
+assign_acts p source [] js = []
+assign_acts p source (t ∷ ts) js = assign_by p source t js t.kind
+
+-- What the tokens after the tags do in a statement of this form.
+abbrev pub body_by : Place → Bool → List ℕ → List Token → Form → List Join → List PlacedAct
+body_by p last source ts form.Origin js = placed p js act.Origin ∷ []
+body_by p last source ts form.Assign js = assign_acts p source ts js
+body_by p last source ts form.Word js = placed p js act.Word ∷ []
+body_by p last source ts form.Pause js = if last then placed p [] act.LastPause ∷ [] else []
+body_by p last source ts _ js = []
+
+-- A part was read up to where it ends: its acts are kept.
 pub record IsRead (part : NumberedPart) (before : Radix) (old new : List PlacedAct) (reached : Reached) : Type 0 where
-  pub statements : List Statement
-  pub stands : Stand (part_tokens part.source.now) (length part.source.now) (pieces 0 0 (part_tokens part.source.now)) statements reached.close
-  pub radix_is : reached.radix ≡ last_radix before statements
-  pub acts_are : new ≡ old ++ part_acts part.number part.last part.source.now (part_tokens part.source.now) before statements
+  pub acts : List PlacedAct
+  pub does : PartDoes part.number part.last before part.source.now acts reached.radix reached.close
+  pub new_is : new ≡ old ++ acts
 
 -- A part isn't read to its end: a statement has no form, and what was kept so far is in front of what is kept now.
-abbrev pub StopsPart : List ℕ → List PlacedAct → List PlacedAct → TextFault → Type 0
+abbrev pub StopsPart : List ℕ → List PlacedAct → List PlacedAct → StatementFault → Type 0
 StopsPart source old new (text.Illegal line) = IsIllegal source line × ((more : List PlacedAct) × (new ≡ old ++ more))
-StopsPart source old new text.TooLong = ⊥
 StopsPart source old new text.NoMemory = Unit {0}
 
--- What may follow a part: by the next parts, or nothing.
-abbrev pub Next : Turn → ℕ → List (List ℕ) → List PlacedAct → Type 0
-Next (On r) n rest later = Gives n r rest later
-Next Ends n rest later = later ≡ []
+-- What may follow a part: the acts and the lines of the next parts, or none.
+abbrev pub Follows : Turn → ℕ → List (List ℕ) → List PlacedAct → List TextLine → Type 0
+Follows (On r) n rest acts lines = Reads n r rest acts lines
+Follows Ends n rest acts lines = (acts ≡ []) × (lines ≡ [])
 
--- A part was read: it gives more acts, whatever parts follow.
-pub record Turns (n : ℕ) (r : Radix) (last : Bool) (part : List ℕ) (old new : List PlacedAct) (turn : Turn) : Type 0 where
+-- A part was read: it has more acts and more lines, whatever parts follow.
+pub record Turns (n : ℕ) (r : Radix) (last : Bool) (part : List ℕ) (old new : List PlacedAct) (old_lines new_lines : List TextLine) (turn : Turn) : Type 0 where
   pub more : List PlacedAct
   pub new_is : new ≡ old ++ more
-  pub gives : (rest : List (List ℕ)) (later : List PlacedAct) → last ≡ is_empty rest → Next turn (n + 1) rest later → Gives n r (part ∷ rest) (more ++ later)
+  pub more_lines : List TextLine
+  pub lines_are : new_lines ≡ old_lines ++ more_lines
+  pub reads : (rest : List (List ℕ)) (acts : List PlacedAct) (lines : List TextLine) → last ≡ is_empty rest → Follows turn (n + 1) rest acts lines → Reads n r (part ∷ rest) (more ++ acts) (more_lines ++ lines)
 
 -- The line that is kept so.
 abbrev pub shown_line : ListedLine → TextLine
@@ -70,17 +119,6 @@ lines_in ls = map shown_line ls
 abbrev pub lines_of_fronts : List Front → List TextLine
 lines_of_fronts [] = []
 lines_of_fronts (f ∷ fs) = text_lines f.number 1 f.bytes.now (all_lines f.bytes.now) ++ lines_of_fronts fs
-
--- What lines may follow a part: those of the next parts, or none.
-abbrev pub NextLines : Turn → ℕ → List (List ℕ) → List TextLine → Type 0
-NextLines (On r) n rest later = Shows n rest later
-NextLines Ends n rest later = later ≡ []
-
--- A part was read: it has more lines, whatever parts follow.
-pub record TurnsLines (n : ℕ) (part : List ℕ) (old new : List TextLine) (turn : Turn) : Type 0 where
-  pub more : List TextLine
-  pub new_is : new ≡ old ++ more
-  pub shows : (rest : List (List ℕ)) (later : List TextLine) → NextLines turn (n + 1) rest later → Shows n (part ∷ rest) (more ++ later)
 
 -- Kept acts are refused so: by their fault, or memory was refused.
 abbrev pub RefusesActs : List (Name × ℕ) → List PlacedAct → AssembleFault → Type 0

@@ -1,12 +1,15 @@
 -- What the definitions of meanings, faults and listings leave open: nothing.
 use Rattle.std.specs.Prelude.{◌≡◌, ℕ, List, [], ◌∷◌, Option, ◌⊎◌}
 use Rattle.std.specs.List.{AllByRecursion}
+use Rattle.instruct.specs.declared.Profile.{Profile}
+use Rattle.bin_tape.specs.Image.{HoldsWords}
 use Rattle.pal_text.specs.declared.names.Name.{Name}
+use Rattle.pal_acts.specs.Permanent.{permanent_symbols}
 use Rattle.pal_asm.specs.declared.fault.PalFault.{PalFault}
-use Rattle.pal_asm.specs.Sources.{Means, IsFault}
+use Rattle.pal_asm.specs.Sources.{TextLine, Means, IsFault}
 use Rattle.pal_acts.specs.declared.act.Place.{Place}
 use Rattle.pal_acts.specs.Values.{known}
-use Rattle.pal_asm.specs.Listings.{TextLine, all_words, Lists}
+use Rattle.pal_asm.specs.Listings.{all_words, Lists}
 
 -- A source means no other symbols and no other image.
 abbrev pub MeaningIsOne : Type 0
@@ -22,6 +25,11 @@ FaultIsOne = (permanent : List (Name × ℕ)) (parts : List (List ℕ)) (fault f
 abbrev pub MeaningIsNoFault : Type 0
 MeaningIsNoFault = (permanent : List (Name × ℕ)) (parts : List (List ℕ)) (own : List (Name × ℕ)) (image : List (Option ℕ)) (fault : PalFault)
     → Means permanent parts own image → IsFault permanent parts fault → ⊥
+
+-- What a source means can stand on a tape: each word of its image is below 4096.
+abbrev pub MeantAreWords : Type 0
+MeantAreWords = (profile : Profile) (parts : List (List ℕ)) (own : List (Name × ℕ)) (image : List (Option ℕ))
+    → Means (permanent_symbols profile) parts own image → HoldsWords image
 
 -- A source with these symbols, which its meaning gives, has no other listing.
 abbrev pub ListingIsOne : Type 0

@@ -1,44 +1,20 @@
 -- The listing of a source: its lines with their words, and its symbols.
-use Rattle.std.specs.Prelude.{◌≡◌, ℕ, ◌+◌, Bool, ◌||◌, ◌&&◌, not, if◌then◌else◌, List, [], ◌∷◌, ◌++◌, filter, map, reverse, slice_range, nat_eq, codes, Result, Ok, Err, ◌⊎◌}
+use Rattle.std.specs.Prelude.{◌≡◌, ℕ, Bool, ◌||◌, ◌&&◌, not, if◌then◌else◌, List, [], ◌∷◌, ◌++◌, filter, reverse, nat_eq, codes, Result, Ok, Err}
 use Rattle.word12.specs.Words.{octal_text}
-use Rattle.pal_text.specs.declared.lines.Line.{Line}
 use Rattle.pal_text.specs.declared.names.Name.{Name}
 use Rattle.pal_text.specs.Characters.{characters, code, is_character}
-use Rattle.pal_text.specs.Parts.{IsIllegal}
 use Rattle.pal_acts.specs.declared.act.Join.{Join}
 use Rattle.pal_acts.specs.declared.act.Place.{Place}
 use Rattle.pal_acts.specs.declared.act.Act.{Act}
 use Rattle.pal_acts.specs.declared.act.Act.TheVariants as act
 use Rattle.pal_acts.specs.declared.code.Code.{Code}
-use Rattle.pal_acts.specs.Acts.{PlacedAct, place}
+use Rattle.pal_acts.specs.Acts.{PlacedAct}
 use Rattle.pal_acts.specs.Values.{Values, known}
 use Rattle.pal_acts.specs.Meaning.{location}
 use Rattle.pal_acts.specs.Words.{word_value}
 use Rattle.pal_asm.specs.declared.number.Radix.TheVariants.{Octal}
 use Rattle.pal_asm.specs.declared.listing.ListedWord.{ListedWord}
-use Rattle.pal_asm.specs.Sources.{Read, Follows, Gives}
-
--- A line of a source: where it stands, and its bytes without those that end it.
-pub record TextLine : Type 0 where
-  pub place : Place
-  pub bytes : List ℕ
-
--- The line that stands there with these bytes.
-abbrev pub text_line : Place → List ℕ → TextLine
-text_line p bytes = record { place = p; bytes = bytes }
-
--- The lines of a part, the first of which has this number.
-abbrev pub text_lines : ℕ → ℕ → List ℕ → List Line → List TextLine
-text_lines part n source [] = []
-text_lines part n source (l ∷ ls) = text_line (place part n) (slice_range source l.start l.end) ∷ text_lines part (n + 1) source ls
-
--- These parts, the first of which has this number, have these lines, up to the statement by which the program ends.
-abbrev pub Shows : ℕ → List (List ℕ) → List TextLine → Type 0
-Shows n [] lines = lines ≡ []
-Shows n (p ∷ ps) lines =
-    ((line : ℕ) × IsIllegal p line × (lines ≡ []))
-    ⊎ ((part : Read p) × (later : List TextLine) × (lines ≡ text_lines n 1 p part.lines ++ later)
-    × Follows part.ending later (Shows (n + 1) ps later))
+use Rattle.pal_asm.specs.Sources.{TextLine, Reads}
 
 -- A word with its place and its address, before others; an expression that is no word brings none.
 abbrev pub word_at_place : Place → ℕ → Result ℕ Code → List ListedWord → List ListedWord
@@ -114,6 +90,5 @@ listing lines ws own = lines_text lines ws ++ codes "\n" ++ symbols_text own
 pub record Lists (permanent : List (Name × ℕ)) (parts : List (List ℕ)) (own : List (Name × ℕ)) (text : List ℕ) : Type 0 where
   pub acts : List PlacedAct
   pub lines : List TextLine
-  pub gives : Gives 1 Octal parts acts
-  pub shows : Shows 1 parts lines
+  pub reads : Reads 1 Octal parts acts lines
   pub text_is : text ≡ listing lines (all_words (known permanent own) acts) own

@@ -1,14 +1,16 @@
 -- What a source means, and what its fault is.
-use Rattle.std.specs.Prelude.{◌≡◌, ℕ, ◌+◌, Bool, true, false, ◌||◌, nat_lt, if◌then◌else◌, List, [], ◌∷◌, ◌++◌, length, map, Option, Some, None, ◌⊎◌}
+use Rattle.std.specs.Prelude.{◌≡◌, ◌≢◌, ℕ, ◌+◌, Bool, true, false, ◌||◌, nat_lt, if◌then◌else◌, List, [], ◌∷◌, ◌++◌, length, map, take, slice_range, Option, Some, None, ◌⊎◌}
 use Rattle.std.specs.Borrow.{Bor}
-use Rattle.pal_text.specs.declared.tokens.Token.{Token}
-use Rattle.pal_text.specs.declared.cut.Statement.{Statement}
-use Rattle.pal_text.specs.declared.cut.Ending.{Ending}
-use Rattle.pal_text.specs.declared.cut.Ending.TheVariants.{Dollar, Pause, Bytes}
+use Rattle.pal_text.specs.declared.cut.Close.{Close}
+use Rattle.pal_text.specs.declared.cut.Ending.TheVariants.{Dollar}
 use Rattle.pal_text.specs.declared.lines.Line.{Line}
 use Rattle.pal_text.specs.declared.names.Name.{Name}
-use Rattle.pal_text.specs.Parts.{IsPart, IsIllegal}
+use Rattle.pal_text.specs.Lines.{all_lines}
+use Rattle.pal_text.specs.Names.{part_tokens}
+use Rattle.pal_text.specs.Statements.{pieces}
+use Rattle.pal_text.specs.Parts.{IsIllegal}
 use Rattle.pal_acts.specs.declared.act.Act.TheVariants as act
+use Rattle.pal_acts.specs.declared.act.Place.{Place}
 use Rattle.pal_acts.specs.declared.code.Code.{Code}
 use Rattle.pal_acts.specs.declared.code.Code.TheVariants.{IllegalCharacter, TooLong}
 use Rattle.pal_acts.specs.Acts.{PlacedAct, placed, place}
@@ -19,7 +21,7 @@ use Rattle.pal_asm.specs.declared.number.Radix.TheVariants.{Octal}
 use Rattle.pal_asm.specs.declared.fault.PalFault.{PalFault}
 use Rattle.pal_asm.specs.declared.fault.AssembleFault.{AssembleFault}
 use Rattle.pal_asm.specs.declared.fault.AssembleFault.TheVariants.{Source, NoMemory}
-use Rattle.pal_asm.specs.Acts.{part_acts, last_radix}
+use Rattle.pal_asm.specs.Acts.{Does}
 
 -- The fault with this code at this part and line.
 abbrev pub fault_at : Code → ℕ → ℕ → PalFault
@@ -39,50 +41,62 @@ long_fault (Some n) = Some (fault_at TooLong n 0)
 abbrev pub size_fault : List (List ℕ) → Option PalFault
 size_fault parts = if nat_lt (length parts) 1 || nat_lt 16 (length parts) then Some (fault_at TooLong 0 0) else long_fault (first_long 1 parts)
 
--- A part as it is read.
-pub record Read (source : List ℕ) : Type 0 where
-  pub tokens : List Token
-  pub statements : List Statement
-  pub lines : List Line
-  pub ending : Ending
-  pub is_part : IsPart source tokens statements lines ending
-
 -- No part is left.
 abbrev pub is_empty : List (List ℕ) → Bool
 is_empty [] = true
 is_empty (p ∷ ps) = false
 
--- After a dollar sign nothing is looked at.
-abbrev pub Follows : {X : Type 0} → Ending → List X → Type 0 → Type 0
-Follows Dollar later next = later ≡ []
-Follows Pause later next = next
-Follows Bytes later next = next
+-- A line of a source: where it stands, and its bytes without those that end it.
+pub record TextLine : Type 0 where
+  pub place : Place
+  pub bytes : List ℕ
 
--- These parts, the first of which has this number, give these acts. A part with a statement that has no form is that one fault
--- in the place of its statements, and nothing after it is looked at.
-abbrev pub Gives : ℕ → Radix → List (List ℕ) → List PlacedAct → Type 0
-Gives n r [] acts = acts ≡ []
-Gives n r (p ∷ ps) acts =
-    ((line : ℕ) × IsIllegal p line × (acts ≡ placed (place n line) [] (act.Wrong IllegalCharacter) ∷ []))
-    ⊎ ((part : Read p) × (later : List PlacedAct) × (acts ≡ part_acts n (is_empty ps) p part.tokens r part.statements ++ later)
-    × Follows part.ending later (Gives (n + 1) (last_radix r part.statements) ps later))
+-- The line that stands there with these bytes.
+abbrev pub text_line : Place → List ℕ → TextLine
+text_line p bytes = record { place = p; bytes = bytes }
 
--- The meaning of a source of parts, over these permanent symbols: the symbols and the image of the acts that the parts give.
+-- The lines of a part, the first of which has this number.
+abbrev pub text_lines : ℕ → ℕ → List ℕ → List Line → List TextLine
+text_lines part n source [] = []
+text_lines part n source (l ∷ ls) = text_line (place part n) (slice_range source l.start l.end) ∷ text_lines part (n + 1) source ls
+
+-- The lines of a part up to where it ends.
+abbrev pub part_lines : ℕ → List ℕ → Close → List TextLine
+part_lines n source c = text_lines n 1 source (all_lines (take c.stop source))
+
+-- The acts of a part with this number, where numbers are written so before it. Then they are written so, and the part ends so.
+abbrev pub PartDoes : ℕ → Bool → Radix → List ℕ → List PlacedAct → Radix → Close → Type 0
+PartDoes n last r source acts r' c = Does n last source r (pieces 0 0 (part_tokens source)) acts r' c
+
+-- These parts, the first of which has this number, have these acts and these lines.
+pub data Reads : ℕ → Radix → List (List ℕ) → List PlacedAct → List TextLine → Type 0 where
+  no_part : (n : ℕ) (r : Radix) → Reads n r [] [] []
+  -- a statement without a form is that one fault in the place of its part, and nothing after it is looked at
+  broken : (n : ℕ) (r : Radix) (p : List ℕ) (ps : List (List ℕ)) (line : ℕ) → IsIllegal p line → Reads n r (p ∷ ps) (placed (place n line) [] (act.Wrong IllegalCharacter) ∷ []) []
+  -- nor is anything after a dollar sign
+  last_part : (n : ℕ) (r r' : Radix) (p : List ℕ) (ps : List (List ℕ)) (acts : List PlacedAct) (c : Close) → PartDoes n (is_empty ps) r p acts r' c → c.ending ≡ Dollar
+      → Reads n r (p ∷ ps) acts (part_lines n p c)
+  next_part : (n : ℕ) (r r' : Radix) (p : List ℕ) (ps : List (List ℕ)) (acts more : List PlacedAct) (lines : List TextLine) (c : Close) → PartDoes n (is_empty ps) r p acts r' c → c.ending ≢ Dollar
+      → Reads (n + 1) r' ps more lines → Reads n r (p ∷ ps) (acts ++ more) (part_lines n p c ++ lines)
+
+-- The meaning of a source of parts, over these permanent symbols: the symbols and the image of their acts.
 pub record Means (permanent : List (Name × ℕ)) (parts : List (List ℕ)) (symbols : List (Name × ℕ)) (image : List (Option ℕ)) : Type 0 where
   pub acts : List PlacedAct
+  pub lines : List TextLine
   pub sizes : size_fault parts ≡ None
-  pub gives : Gives 1 Octal parts acts
+  pub reads : Reads 1 Octal parts acts lines
   pub is_source : IsSource permanent 1024 acts symbols image
 
 -- The first fault of acts over these permanent symbols, told at the part and the line of its act.
 abbrev pub IsFaultOf : List (Name × ℕ) → List PlacedAct → PalFault → Type 0
 IsFaultOf permanent acts fault = IsRefused permanent 1024 acts (place fault.part fault.line) fault.code
 
--- A source breaks so: its sizes are good, and this is the fault of the acts that the parts give.
+-- A source breaks so: its sizes are good, and this is the fault of the acts of its parts.
 pub record Breaks (permanent : List (Name × ℕ)) (parts : List (List ℕ)) (fault : PalFault) : Type 0 where
   pub acts : List PlacedAct
+  pub lines : List TextLine
   pub sizes : size_fault parts ≡ None
-  pub gives : Gives 1 Octal parts acts
+  pub reads : Reads 1 Octal parts acts lines
   pub is_fault : IsFaultOf permanent acts fault
 
 -- The fault of a source.

@@ -1,6 +1,6 @@
 //! Laws over the definitions alone. Each is the contract of a function that does nothing.
 
-ghost use Rattle.pal_asm.specs.Laws.{MeaningIsOne, FaultIsOne, MeaningIsNoFault, ListingIsOne, WordsAreListed};
+ghost use Rattle.pal_asm.specs.Laws.{MeaningIsOne, FaultIsOne, MeaningIsNoFault, MeantAreWords, ListingIsOne, WordsAreListed};
 
 /// A source has one meaning or one fault at most, and not both.
 pub fn answers_are_one()
@@ -9,7 +9,12 @@ pub fn answers_are_one()
     ensures either { MeaningIsNoFault }
 {}
 
-/// A source has at most one listing.
+/// What a source means holds words that a tape can have.
+pub fn meant_are_words()
+    ensures { MeantAreWords }
+{}
+
+/// A source has at most one listing with the same symbols of its own.
 pub fn listings_are_one()
     ensures { ListingIsOne }
 {}

@@ -6,7 +6,8 @@ ghost use Rattle.pal_text.specs.Characters.{characters};
 ghost use Rattle.pal_text.specs.Order.{IsLineWithin};
 ghost use Rattle.pal_acts.specs.Acts.{shown};
 ghost use Rattle.pal_acts.specs.Values.{known};
-ghost use Rattle.pal_asm.specs.Listings.{all_words, is_no_text, is_at, without_front, word_text, words_text, line_text, text_lines, symbol_text, symbols_text};
+ghost use Rattle.pal_asm.specs.Listings.{all_words, is_no_text, is_at, without_front, word_text, words_text, line_text, symbol_text, symbols_text};
+ghost use Rattle.pal_asm.specs.Sources.{text_lines};
 ghost use Rattle.pal_asm.specs.Kept.{lines_in, lines_of_fronts, Adds, is_before, skip, next_at, after_those, turns_text};
 
 use crate::front::Front;

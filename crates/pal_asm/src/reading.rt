@@ -2,15 +2,14 @@
 
 ghost use Rattle.std.specs.Prelude.{◌≡◌, ◌≤◌, IfOk, IfErr, length, None};
 ghost use Rattle.pal_asm.specs.declared.number.Radix.TheVariants.{Octal};
-ghost use Rattle.pal_asm.specs.Sources.{Gives, size_fault, texts};
-ghost use Rattle.pal_asm.specs.Listings.{Shows};
-ghost use Rattle.pal_asm.specs.Kept.{lines_of_fronts, IsRead, StopsPart, Turns, TurnsLines};
+ghost use Rattle.pal_asm.specs.Sources.{Reads, size_fault, texts};
+ghost use Rattle.pal_asm.specs.Kept.{lines_of_fronts, IsRead, StopsPart, Turns};
 
 use crate::front::Front;
 use crate::number::Radix;
 use crate::statement::{NumberedPart, keep_statement};
 use pal_acts::{Act, Acts, Code, Place};
-use pal_text::{Close, Ending, Reader, TextFault};
+use pal_text::{Close, Ending, Next, Reader, StatementFault};
 use std::alloc::{AllocError, Allocator};
 
 /// What comes after a part: the next one, with numbers written so, or nothing.
@@ -33,7 +32,7 @@ fn keep_statements<A: Allocator + Copy>(
     before: Radix,
     part: &NumberedPart<'_>,
     acts: &mut Acts<A>,
-) -> Result<Reached, TextFault>
+) -> Result<Reached, StatementFault>
     requires { length part.now.source.now ≤ 65536 }
     ensures read { IfOk result (IsRead part.now before acts.old acts.new) }
     ensures stops { IfErr result (StopsPart part.now.source.now acts.old acts.new) }
@@ -41,24 +40,26 @@ fn keep_statements<A: Allocator + Copy>(
     let mut reader = Reader::new(alloc, part.source);
     let mut joins = Vec::new(alloc);
     let mut radix = before;
-    while let Some(found) = reader.read_next()? {
-        let statement = found.statement;
-        let kept = keep_statement(part, radix, reader.tokens(), statement, &mut joins, acts);
-        let Ok(()) = kept else {
-            return Err(TextFault::NoMemory);
-        };
-        radix = radix.after(statement.form);
-        if let Some(close) = found.close {
-            return Ok(Reached { radix, close });
+    loop {
+        match reader.read_next()? {
+            Next::Statement(found) => {
+                let statement = found.statement;
+                let kept = keep_statement(
+                    part,
+                    radix,
+                    reader.tokens(),
+                    statement,
+                    &mut joins,
+                    acts,
+                );
+                let Ok(()) = kept else {
+                    return Err(StatementFault::NoMemory);
+                };
+                radix = radix.after(statement.form);
+            }
+            Next::End(close) => return Ok(Reached { radix, close }),
         }
     }
-    Ok(Reached {
-        radix,
-        close: Close {
-            ending: Ending::Bytes,
-            stop: part.source.len(),
-        },
-    })
 }
 
 /// Keeps what a part does, and its bytes up to where it ended. Of a part with a statement that has
@@ -71,10 +72,8 @@ fn read_part<'s, A: Allocator + Copy>(
     fronts: &mut Vec<Front<'s>, A>,
 ) -> Result<Turn, AllocError>
     requires { length part.now.source.now ≤ 65536 }
-    ensures acts { IfOk result (Turns part.now.number radix part.now.last part.now.source.now
-        acts.old acts.new) }
-    ensures lines { IfOk result (TurnsLines part.now.number part.now.source.now
-        (lines_of_fronts fronts.old.items) (lines_of_fronts fronts.new.items)) }
+    ensures { IfOk result (Turns part.now.number radix part.now.last part.now.source.now acts.old
+        acts.new (lines_of_fronts fronts.old.items) (lines_of_fronts fronts.new.items)) }
 {
     let count = acts.len();
     match keep_statements(alloc, radix, part, acts) {
@@ -88,7 +87,7 @@ fn read_part<'s, A: Allocator + Copy>(
                 Ending::Pause | Ending::Bytes => Ok(Turn::On(reached.radix)),
             }
         }
-        Err(TextFault::Illegal(line)) => {
+        Err(StatementFault::Illegal(line)) => {
             acts.truncate(count);
             let place = Place {
                 part: part.number,
@@ -97,8 +96,7 @@ fn read_part<'s, A: Allocator + Copy>(
             acts.keep(place, Act::Wrong(Code::IllegalCharacter), &[])?;
             Ok(Turn::Ends)
         }
-        Err(TextFault::NoMemory) => Err(AllocError),
-        Err(TextFault::TooLong) => unreachable!(),
+        Err(StatementFault::NoMemory) => Err(AllocError),
     }
 }
 
@@ -115,8 +113,7 @@ pub(crate) fn read_source<'s, A: Allocator + Copy>(
     parts: &[&'s [u8]],
 ) -> Result<Reading<'s, A>, AllocError>
     requires { size_fault (texts parts.now) ≡ None }
-    ensures acts { IfOk result (λ reading. Gives 1 Octal (texts parts.now) reading.acts) }
-    ensures lines { IfOk result (λ reading. Shows 1 (texts parts.now)
+    ensures { IfOk result (λ reading. Reads 1 Octal (texts parts.now) reading.acts
         (lines_of_fronts reading.fronts.items)) }
 {
     let mut acts = Acts::new(alloc);

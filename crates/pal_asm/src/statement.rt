@@ -3,10 +3,10 @@
 ghost use Rattle.std.specs.Prelude.{◌≡◌, ◌++◌, OnOk, length, map};
 ghost use Rattle.std.specs.List.{AllByRecursion};
 ghost use Rattle.pal_text.specs.Names.{IsWithin};
-ghost use Rattle.pal_text.specs.Reading.{is_comma};
 ghost use Rattle.pal_asm.specs.Numbers.{base};
 ghost use Rattle.pal_acts.specs.Acts.{place};
-ghost use Rattle.pal_asm.specs.Acts.{tags, after_tags, tag_by, tag_act, operand, assign_acts, body_acts, statement_acts};
+ghost use Rattle.pal_asm.specs.Acts.{tag_by, tag_act, statement_acts};
+ghost use Rattle.pal_asm.specs.Kept.{Says, names_in, after_tags, operand_by, assign_acts, body_by};
 
 use crate::expression::{name, read_expression};
 use crate::number::Radix;
@@ -22,26 +22,6 @@ pub(crate) struct NumberedPart<'s> {
     pub(crate) source: &'s [u8],
 }
 
-fn comma(kind: Kind) -> bool
-    ensures { result ≡ is_comma kind }
-{
-    matches!(kind, Kind::Comma)
-}
-
-/// The tokens of a statement after its tags.
-fn without_tags(tokens: &[Token]) -> &[Token]
-    ensures { result.now ≡ after_tags tokens.now }
-{
-    let mut rest = tokens;
-    while let [_, second, more @ ..] = rest {
-        if !comma(second.kind) {
-            break;
-        }
-        rest = more;
-    }
-    rest
-}
-
 /// What a tag does: DECIMAL, OCTAL and PAUSE can't be given a value.
 fn tag_of(source: &[u8], token: Token) -> Act
     requires { IsWithin (length source.now) token }
@@ -53,23 +33,42 @@ fn tag_of(source: &[u8], token: Token) -> Act
     }
 }
 
-/// Keeps the tags of a statement.
+/// The tokens of a statement after so many tags, each of which has a comma after it.
+fn without_tags(count: usize, tokens: &[Token]) -> &[Token]
+    ensures { result.now ≡ after_tags count tokens.now }
+{
+    let mut left = count;
+    let mut rest = tokens;
+    while let [_, _, more @ ..] = rest {
+        if left == 0 {
+            break;
+        }
+        left -= 1;
+        rest = more;
+    }
+    rest
+}
+
+/// Keeps so many tags, each of which has a comma after it.
 fn keep_tags<A: Allocator>(
     source: &[u8],
     place: Place,
+    count: usize,
     tokens: &[Token],
     acts: &mut Acts<A>,
 ) -> Result<(), AllocError>
     requires { AllByRecursion (IsWithin (length source.now)) tokens.now }
     ensures { OnOk result (acts.new ≡ acts.old ++ map (tag_act place source.now)
-        (tags tokens.now)) }
+        (names_in count tokens.now)) }
 {
+    let mut left = count;
     let mut rest = tokens;
-    while let [first, second, more @ ..] = rest {
-        if !comma(second.kind) {
+    while let [name, _, more @ ..] = rest {
+        if left == 0 {
             break;
         }
-        acts.keep(place, tag_of(source, *first), &[])?;
+        acts.keep(place, tag_of(source, *name), &[])?;
+        left -= 1;
         rest = more;
     }
     Ok(())
@@ -77,7 +76,7 @@ fn keep_tags<A: Allocator>(
 
 /// The expression of a statement by its tokens after the tags.
 fn operand_of(form: Form, tokens: &[Token]) -> &[Token]
-    ensures { result.now ≡ operand form tokens.now }
+    ensures { result.now ≡ operand_by form tokens.now }
 {
     match (form, tokens) {
         (Form::Origin, [_, rest @ ..]) | (Form::Assign, [_, _, rest @ ..]) => rest,
@@ -117,7 +116,7 @@ fn keep_body<A: Allocator>(
     acts: &mut Acts<A>,
 ) -> Result<(), AllocError>
     requires { AllByRecursion (IsWithin (length part.now.source.now)) tokens.now }
-    ensures { OnOk result (acts.new ≡ acts.old ++ body_acts place part.now.last
+    ensures { OnOk result (acts.new ≡ acts.old ++ body_by place part.now.last
         part.now.source.now tokens.now form joins.now) }
 {
     match form {
@@ -139,19 +138,20 @@ pub(crate) fn keep_statement<A: Allocator>(
     joins: &mut Vec<Join, A>,
     acts: &mut Acts<A>,
 ) -> Result<(), AllocError>
-    requires { AllByRecursion (IsWithin (length part.now.source.now)) tokens.now }
-    ensures { OnOk result (acts.new ≡ acts.old ++ statement_acts
-        (place part.now.number statement.line) (base radix) part.now.last part.now.source.now
-        tokens.now statement.form) }
+    requires within { AllByRecursion (IsWithin (length part.now.source.now)) tokens.now }
+    requires says { Says tokens.now statement }
+    ensures { OnOk result ((says : Says tokens.now statement) → acts.new ≡ acts.old ++
+        statement_acts (place part.now.number statement.line) (base radix) part.now.last
+        part.now.source.now says.names says.said) }
 {
     let place = Place {
         part: part.number,
         line: statement.line,
     };
-    let body = without_tags(tokens);
+    let body = without_tags(statement.tags, tokens);
     match read_expression(radix, part.source, operand_of(statement.form, body), joins)? {
         Ok(()) => {
-            keep_tags(part.source, place, tokens, acts)?;
+            keep_tags(part.source, place, statement.tags, tokens, acts)?;
             keep_body(part, place, body, statement.form, joins, acts)
         }
         Err(code) => acts.keep(place, Act::Wrong(code), &[]),

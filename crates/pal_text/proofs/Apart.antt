@@ -41,7 +41,7 @@ longer_to_end _ Dollar h = refl
 longer_to_end k _ h = cc
 
 -- beside the end of a statement a space is left out, and anything else stands
-joined_cut : (e next : Token) → is_end e.kind ≡ true → joined e next ≡ (if is_space next.kind && true then Some e else None)
+pub joined_cut : (e next : Token) → is_end e.kind ≡ true → joined e next ≡ (if is_space next.kind && true then Some e else None)
 joined_cut e next h =
     ap (with_kind e next) (longer_end e.kind next.kind h)
     ∙ ap (λ b. if is_space next.kind && b then Some e else (if is_space e.kind && absorbs next.kind then Some next else None)) (absorbs_end e.kind h)
@@ -68,7 +68,7 @@ pub added_apart : (next : Token) (s b : List Token) → IsCut b → added next (
 added_apart next [] b h = added_none next b h
 added_apart next (t ∷ s) b h = one_or_both_apart next t s b (joined t next)
 
-grown_apart : (at n : ℕ) (comment : Bool) (m : Meaning) (s b : List Token) → IsCut b → grown at n comment m (s ++ b) ≡ grown at n comment m s ++ b
+pub grown_apart : (at n : ℕ) (comment : Bool) (m : Meaning) (s b : List Token) → IsCut b → grown at n comment m (s ++ b) ≡ grown at n comment m s ++ b
 grown_apart at n comment Ignored s b h = refl
 grown_apart at n comment LineEnd s b h = added_apart (token End n at) s b h
 grown_apart at n comment (Character c) s b h = elim (cases_Bool (comment || nat_eq c 47)) [

@@ -251,7 +251,7 @@ added_open next [] n h = elim (cases_Bool (is_space next.kind)) [
 ]
 added_open next (t ∷ ts) n h = open_both next t ts (joined t next) (open_kind t next (longer t.kind next.kind) refl h.0 n) n h
 
-reading_added : (source : List ℕ) (place : Place) (at : ℕ) (was : Bool) (own more : List Token) (k : Kind) → IsPlaceIn source place → at < length source → brings (code (get_or source at 0)) ≡ One k
+pub reading_added : (source : List ℕ) (place : Place) (at : ℕ) (was : Bool) (own more : List Token) (k : Kind) → IsPlaceIn source place → at < length source → brings (code (get_or source at 0)) ≡ One k
     → Reading source place at was own → reverse more ≡ added (token k place.line at) (reverse own) → tokens (front source (at + 1)) ≡ reverse more ++ tokens (front source place.at)
 reading_added source place at was own more k p h b r e =
     let g : GrowsAt source at k = grows_at source at k h (one_grows (front source at) (get_or source at 0) k r.2 b) in

@@ -16,3 +16,5 @@ pub mod Stays
 pub mod Moved
 pub mod Respelled
 pub mod Remarks
+pub mod Spaces
+pub mod LineCounts

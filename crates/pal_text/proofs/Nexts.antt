@@ -1,5 +1,5 @@
 -- The next statement of a part, by its tokens as they were read.
-use Rattle.std.proofs.Common.{◌≡◌, ◌∙◌, sym, ap, refl, subst, ℕ, ◌+◌, ◌-◌, ◌<◌, ◌≤◌, zero, List, [], ◌∷◌, ◌++◌, Bool, true, false, ◌||◌, if◌then◌else◌, Option, Some, None, inl, inr, arith, length, take, drop, get_or, append_assoc, length-append}
+use Rattle.std.proofs.Common.{◌≡◌, ◌≢◌, ◌∙◌, sym, ap, refl, subst, ℕ, ◌+◌, ◌-◌, ◌<◌, ◌≤◌, zero, List, [], ◌∷◌, ◌++◌, Bool, true, false, ◌||◌, if◌then◌else◌, Option, Some, None, inl, inr, arith, length, take, drop, get_or, append_assoc, length-append}
 use Rattle.std.specs.Prelude.{reverse, map, slice_range, nat_eq, codes}
 use Rattle.std.specs.List.{AllByRecursion}
 use Rattle.std.specs.Cmp.Lexicographic.{pointwise}
@@ -12,21 +12,27 @@ use Rattle.pal_text.specs.declared.characters.Meaning.TheVariants.{Ignored, Line
 use Rattle.pal_text.specs.declared.tokens.Kind.{Kind}
 use Rattle.pal_text.specs.declared.tokens.Kind.TheVariants as kind
 use Rattle.pal_text.specs.declared.tokens.Token.{Token}
+use Rattle.pal_text.specs.declared.grammar.Form.{Form}
+use Rattle.pal_text.specs.declared.grammar.Form.TheVariants as form
 use Rattle.pal_text.specs.declared.grammar.Shape.{Shape}
 use Rattle.pal_text.specs.declared.scan.Place.{Place}
 use Rattle.pal_text.specs.declared.cut.Close.{Close}
 use Rattle.pal_text.specs.declared.reader.Found.{Found}
+use Rattle.pal_text.specs.declared.reader.Standing.{Standing}
+use Rattle.pal_text.specs.declared.reader.Standing.TheVariants.{Begins, Ended}
 use Rattle.pal_text.specs.Characters.{code, returned, in_comment, line, line_by, meaning_after}
 use Rattle.pal_text.specs.Tokens.{is_space, joined, one_or_both, added, token, kind_of, grown, tokens, end_token, ended, all_tokens}
 use Rattle.pal_text.specs.Names.{IsWithin, with_name, name, bytes_of, named, part_tokens}
-use Rattle.pal_text.specs.Reading.{kinds, shape}
-use Rattle.pal_text.specs.Statements.{is_end, piece, pieces, closing}
+use Rattle.pal_text.specs.Progress.{ended_at}
+use Rattle.pal_text.specs.Reading.{shape}
+use Rattle.pal_text.specs.Statements.{is_end, is_dollar, piece, pieces, own, closing}
 use Rattle.pal_text.specs.Readers.{rest, IsNext, IsBroken}
-use Rattle.pal_text.specs.Scan.{front, mark_kind, line_past, trimmed, mark, next_place, Closes, IsStop, IsCut, IsOpen, IsPlaceIn, IsStanding, IsOwn}
+use Rattle.pal_text.specs.Scan.{front, mark_kind, line_past, trimmed, mark, next_place, Closes, IsStop, IsCut, IsOpen, IsPlaceIn, stands_by, StandsAt, IsOwn}
 use Rattle.pal_text.proofs.Apart.{added_apart, added_end, Later, ended_later, Ends, ended_on}
-use Rattle.pal_text.proofs.Cuts.{made, made_fills, none_read}
+use Rattle.pal_text.proofs.Cuts.{made, made_fills}
 use Rattle.pal_text.proofs.Fronts.{next_front}
 use Rattle.pal_text.proofs.Grows.{turned}
+use Rattle.pal_text.proofs.Readings.{shape_none}
 use Rattle.pal_text.proofs.Rises.{all_reverse, all_tokens_within, part_tokens_within, written_back}
 
 -- no byte brings more than one token, or ends more than one line
@@ -96,7 +102,7 @@ stop_tokens source place stop before raw p o cut h c =
     ∙ ap (λ n. added (token (mark_kind (code (get_or source stop 0))) n stop) (tokens (front source stop))) o.line_is
     ∙ passed source place stop before raw (token (mark_kind (code (get_or source stop 0))) place.line stop) p o cut c.is_mark
 
-split_source : (source : List ℕ) (at : ℕ) → reverse source ≡ reverse (drop at source) ++ front source at
+pub split_source : (source : List ℕ) (at : ℕ) → reverse source ≡ reverse (drop at source) ++ front source at
 split_source source at = ap reverse (sym (take-append-drop at source)) ∙ reverse-append (take at source) (drop at source)
 
 cut_at : (ts us : List Token) (m : Token) → ts ≡ m ∷ us → is_end m.kind ≡ true → IsCut ts
@@ -142,26 +148,45 @@ counted : (source : List ℕ) (place : Place) (count : ℕ) (raw : List Token) (
 counted source place count raw m ts n e = omega (arith, ap length e, length-append (reverse raw) (tokens (front source place.at)), length-reverse raw)
 
 pub standing_after : (source : List ℕ) (place : Place) (stop count : ℕ) (before raw : List Token) → IsPlaceIn source place → IsOwn source place stop before → IsStop source stop → reverse raw ≡ trimmed (reverse before)
-    → count ≡ length (tokens (front source place.at)) → IsStanding source (count + length raw + 1) (next_place source place.line stop)
-standing_after source place stop count before raw p o s cut n = elim (cases_Bool (nat_eq stop (length source))) [
-  | inl last ↦ (let P : Bool → Type 0 = λ b. IsStanding source (count + length raw + 1) (if b then None else Some (record { at = stop + 1; line = line_past place.line (code (get_or source stop 0)); returned = nat_eq (code (get_or source stop 0)) 13 })) in
-      subst P (sym last) (counted source place count raw (end_mark source place.line stop) (ended (reverse source)) n (ended_all source place stop before raw p o cut (eqb-true stop (length source) last))))
-  | inr other ↦ (let P : Bool → Type 0 = λ b. IsStanding source (count + length raw + 1) (if b then None else Some (record { at = stop + 1; line = line_past place.line (code (get_or source stop 0)); returned = nat_eq (code (get_or source stop 0)) 13 })) in
-      let h : stop < length source = inside_of stop (length source) other s.inside in
-      let c : Closes (front source stop) (get_or source stop 0) = s.closes h in
-      let m : Token = token (mark_kind (code (get_or source stop 0))) place.line stop in
-      let e : tokens (front source (stop + 1)) ≡ m ∷ reverse raw ++ tokens (front source place.at) = stop_tokens source place stop before raw p o cut h c in
-      subst P (sym other) (
-        record {
-          inside = omega arith;
-          line_is = ap (λ k. line_past k (code (get_or source stop 0))) (sym o.line_is) ∙ sym c.line_is ∙ ap line (sym (next_front source stop h));
-          returned_is = sym c.returned_is ∙ ap returned (sym (next_front source stop h));
-          comment_is = ap in_comment (next_front source stop h) ∙ c.comment_is;
-          cut = cut_at (tokens (front source (stop + 1))) (reverse raw ++ tokens (front source place.at)) m e c.is_mark;
-        },
-        counted source place count raw m (tokens (front source (stop + 1))) n e,
-      ))
+    → count ≡ length (tokens (front source place.at)) → stop < length source → StandsAt source (count + length raw + 1) (Begins (next_place source place.line stop))
+standing_after source place stop count before raw p o s cut n h =
+    let c : Closes (front source stop) (get_or source stop 0) = s.closes h in
+    let m : Token = token (mark_kind (code (get_or source stop 0))) place.line stop in
+    let e : tokens (front source (stop + 1)) ≡ m ∷ reverse raw ++ tokens (front source place.at) = stop_tokens source place stop before raw p o cut h c in (
+      record {
+        inside = omega arith;
+        line_is = ap (λ k. line_past k (code (get_or source stop 0))) (sym o.line_is) ∙ sym c.line_is ∙ ap line (sym (next_front source stop h));
+        returned_is = sym c.returned_is ∙ ap returned (sym (next_front source stop h));
+        comment_is = ap in_comment (next_front source stop h) ∙ c.comment_is;
+        cut = cut_at (tokens (front source (stop + 1))) (reverse raw ++ tokens (front source place.at)) m e c.is_mark;
+      },
+      counted source place count raw m (tokens (front source (stop + 1))) n e,
+    )
+
+-- a part that goes on has a byte where the statement ends
+mark_start : (source : List ℕ) (n at : ℕ) → (mark source n at).start ≡ at
+unfolding end_mark
+mark_start source n at = elim (cases_Bool (nat_eq at (length source))) [
+  | inl last ↦ ap (λ b. (if b then end_mark source n at else token (mark_kind (code (get_or source at 0))) n at).start) last
+  | inr other ↦ ap (λ b. (if b then end_mark source n at else token (mark_kind (code (get_or source at 0))) n at).start) other
 ]
+
+some_none : (b : Bool) (c : Close) → (if b then Some c else None) ≡ None → b ≡ false
+some_none true c e = cc
+some_none false c e = refl
+
+past_dollar : (b : Bool) (c : Close) (o : Option Close) → (if b then Some c else o) ≡ None → o ≡ None
+past_dollar true c o e = cc
+past_dollar false c o e = e
+
+bytes_left : (size : ℕ) (ts : List Token) (m : Token) (f : Form) → closing size ts m f ≡ None → nat_eq m.start size ≡ false
+bytes_left size ts m form.Pause e = cc
+bytes_left size ts m _ e = some_none (nat_eq m.start size) _ (past_dollar (is_dollar m.kind) _ _ e)
+
+pub goes_inside : (source : List ℕ) (n at : ℕ) (ts : List Token) (m : Token) (f : Form) (close : Option Close) → m ≡ mark source n at → at ≤ length source → close ≡ closing (length source) ts m f → close ≡ None → at < length source
+goes_inside source n at ts m f close is inside closes none =
+    let start : m.start ≡ at = (let start_in : Token → ℕ = λ t. t.start in ap start_in is) ∙ mark_start source n at in
+    inside_of at (length source) (ap (λ k. nat_eq k (length source)) (sym start) ∙ bytes_left (length source) ts m f (sym closes ∙ none)) inside
 
 -- the tokens of the part around those of the statement
 all_around : (source : List ℕ) (place : Place) (raw : List Token) (m : Token) (k : Made source place raw m) → all_tokens source ≡ reverse (tokens (front source place.at)) ++ (raw ++ m ∷ reverse k.more)
@@ -204,7 +229,7 @@ direction_open false true c = refl
 direction_open false false true = refl
 direction_open false false false = refl
 
-with_name_open : (source : List ℕ) (t : Token) (k : Kind) → is_end k ≡ false → is_end (with_name source t k) ≡ false
+pub with_name_open : (source : List ℕ) (t : Token) (k : Kind) → is_end k ≡ false → is_end (with_name source t k) ≡ false
 with_name_open source t kind.Symbol h =
     let letters : List ℕ = name (bytes_of source t) in
     direction_open (pointwise nat_eq letters (codes "DECIMA")) (pointwise nat_eq letters (codes "OCTAL ")) (pointwise nat_eq letters (codes "PAUSE "))
@@ -288,38 +313,40 @@ back items now new n f e is size =
     written_back items new n (sym size) (ap length same ∙ length-map items f ∙ sym size) ∙ same
 
 -- what is found
-abbrev pub found_of : ℕ → ℕ → Token → Shape → Option Close → Found
-found_of count size m s close = record { statement = made count (count + size) m s; mark = m; close = close }
+abbrev pub found_of : ℕ → ℕ → Token → Shape → Found
+found_of count size m s = record { statement = made count (count + size) m s; mark = m }
 
-pub next_found : (source : List ℕ) (count size : ℕ) (raw own_tokens read_tokens closed_tokens : List Token) (m : Token) (s : Shape) (close : Option Close) → Stands source count (map (named source) raw) m
+ended_as : (o : Option Close) (next : Place) → ended_at (stands_by o next) ≡ o
+ended_as None next = refl
+ended_as (Some c) next = refl
+
+pub next_found : (source : List ℕ) (count size : ℕ) (raw own_tokens read_tokens closed_tokens : List Token) (m : Token) (s : Shape) (close : Option Close) (next : Place) (standing : Standing) → Stands source count (map (named source) raw) m
     → own_tokens ≡ map (named source) raw → read_tokens ≡ own_tokens → closed_tokens ≡ own_tokens → size ≡ length raw
-    → shape 0 (kinds read_tokens) ≡ Some s → close ≡ closing closed_tokens m s.form → IsNext source count (found_of count size m s close) own_tokens (count + size + 1)
-next_found source count size raw own_tokens read_tokens closed_tokens m s close h is r k n reads closes =
+    → shape 0 read_tokens ≡ Some s → close ≡ closing (length source) closed_tokens m s.form → standing ≡ stands_by close next
+    → IsNext source count (found_of count size m s) own_tokens (count + size + 1) (ended_at standing)
+next_found source count size raw own_tokens read_tokens closed_tokens m s close next standing h is r k n reads closes stands =
     let width : size ≡ length (map (named source) raw) = n ∙ sym (length-map raw (named source)) in
     let slice : own_tokens ≡ slice_range (part_tokens source) count (count + size) = is ∙ h.own_is ∙ ap (λ w. slice_range (part_tokens source) count (count + w)) (sym width) in
     record {
       rest_is = h.rest_is ∙ ap (λ w. piece count (count + w) m ∷ rest source (count + w + 1)) (sym width);
-      fills = made_fills (part_tokens source) count (count + size) m s (ap (λ l. shape 0 (kinds l)) (sym slice ∙ sym r) ∙ reads);
+      fills = made_fills (part_tokens source) count (count + size) m s (ap (shape 0) (sym slice ∙ sym r) ∙ reads);
       own_is = slice;
-      close_is = closes ∙ ap (λ l. closing l m s.form) k;
       count_is = refl;
+      close_is = ap ended_at stands ∙ ended_as close next ∙ closes ∙ ap (λ l. closing (length source) l m s.form) k;
     }
 
 pub next_broken : (source : List ℕ) (count : ℕ) (raw own_tokens read_tokens : List Token) (m : Token) → Stands source count (map (named source) raw) m → own_tokens ≡ map (named source) raw → read_tokens ≡ own_tokens
-    → shape 0 (kinds read_tokens) ≡ None → IsBroken source count m.line
+    → shape 0 read_tokens ≡ None → IsBroken source count m.line
 next_broken source count raw own_tokens read_tokens m h is r reads = record {
   last = count + length (map (named source) raw);
   mark = m;
   rest_is = h.rest_is;
-  none = none_read (part_tokens source) (piece count (count + length (map (named source) raw)) m) (ap (λ l. shape 0 (kinds l)) (sym h.own_is ∙ sym is ∙ sym r) ∙ reads);
+  none = shape_none (own (part_tokens source) (piece count (count + length (map (named source) raw)) m)) (ap (shape 0) (sym h.own_is ∙ sym is ∙ sym r) ∙ reads);
   line_is = refl;
 }
 
 pub next_small : (source : List ℕ) (count size : ℕ) (raw : List Token) (m : Token) → length source ≤ 65536 → Stands source count (map (named source) raw) m → size ≡ length raw → count + size ≤ 65536
 next_small source count size raw m most h n = omega (arith, h.small, length-map raw (named source))
-
-pub next_standing : (source : List ℕ) (count size : ℕ) (raw : List Token) (next : Option Place) → size ≡ length raw → IsStanding source (count + length raw + 1) next → IsStanding source (count + size + 1) next
-next_standing source count size raw next n h = let P : ℕ → Type 0 = λ w. IsStanding source (count + w + 1) next in subst P (sym n) h
 
 pub next_within : (source : List ℕ) (count : ℕ) (raw own_tokens : List Token) (m : Token) → Stands source count (map (named source) raw) m → own_tokens ≡ map (named source) raw → AllByRecursion (IsWithin (length source)) own_tokens
 next_within source count raw own_tokens m h is = let P : List Token → Type 0 = λ l. AllByRecursion (IsWithin (length source)) l in subst P (sym is) h.within
@@ -354,6 +381,19 @@ left_at source place count p n none =
     ap (drop count) is ∙ ap (λ j. drop j (map (named source) (reverse b) ++ (map (named source) (reverse k.more) ++ named source k.mark ∷ []))) (sym size) ∙ drop-append_seam (map (named source) (reverse b)) (map (named source) (reverse k.more) ++ named source k.mark ∷ []) in
     pieces_some count count (map (named source) (reverse k.more)) (named source k.mark) (ap (λ t. is_end t.kind) (named_mark source k.mark k.is_mark) ∙ k.is_mark) (sym (ap (pieces count count) here) ∙ none)
 
-pub one_left : (source : List ℕ) (count : ℕ) (o : Option Place) (place : Place) → o ≡ Some place → IsStanding source count o → rest source count ≡ [] → ⊥
-one_left source count None place is standing none = cc
-one_left source count (Some p) place is standing none = left_at source p count standing.0 standing.1 none
+-- where the reader stands
+stands_on : (source : List ℕ) (n : ℕ) (o : Option Close) (next : Place) → (o ≡ None → StandsAt source n (Begins next)) → StandsAt source n (stands_by o next)
+stands_on source n None next h = h refl
+stands_on source n (Some c) next h = tt
+
+pub next_stands : (source : List ℕ) (count size : ℕ) (raw : List Token) (close : Option Close) (next : Place) (standing : Standing) → size ≡ length raw → standing ≡ stands_by close next
+    → (close ≡ None → StandsAt source (count + length raw + 1) (Begins next)) → StandsAt source (count + size + 1) standing
+next_stands source count size raw close next standing n is h =
+    let P : Standing → Type 0 = λ s. StandsAt source (count + size + 1) s in
+    let Q : ℕ → Type 0 = λ w. StandsAt source (count + w + 1) (stands_by close next) in
+    subst P (sym is) (subst Q (sym n) (stands_on source (count + length raw + 1) close next h))
+
+-- where the part hasn't ended, a piece is left
+pub piece_left : (source : List ℕ) (count : ℕ) (standing : Standing) → StandsAt source count standing → ended_at standing ≡ None → rest source count ≢ []
+piece_left source count (Begins place) h is none = left_at source place count h.0 h.1 none
+piece_left source count (Ended c) h is none = cc

@@ -1,5 +1,5 @@
--- Statements stand among the tokens, and lines within the bytes.
-use Rattle.std.proofs.Common.{◌≡◌, sym, subst, ℕ, ◌+◌, ◌<◌, ◌≤◌, List, [], ◌∷◌, Bool, if◌then◌else◌, Option, Some, None, inl, inr, arith, length, take}
+-- Pieces stand among the tokens, and lines within the bytes.
+use Rattle.std.proofs.Common.{◌≡◌, sym, subst, ℕ, ◌+◌, ◌<◌, ◌≤◌, List, [], ◌∷◌, Bool, if◌then◌else◌, inl, inr, arith, length, take}
 use Rattle.std.specs.Prelude.{reverse}
 use Rattle.std.specs.List.{AllByRecursion}
 use Rattle.std.proofs.lemmas.Bool.{cases_Bool}
@@ -7,13 +7,11 @@ use Rattle.std.proofs.lemmas.List.{length-reverse, length-take}
 use Rattle.pal_text.specs.declared.characters.Meaning.{Meaning}
 use Rattle.pal_text.specs.declared.characters.Meaning.TheVariants.{Ignored, LineEnd, Character}
 use Rattle.pal_text.specs.declared.tokens.Token.{Token}
-use Rattle.pal_text.specs.declared.cut.Statement.{Statement}
-use Rattle.pal_text.specs.declared.cut.Close.{Close}
 use Rattle.pal_text.specs.declared.lines.Line.{Line}
 use Rattle.pal_text.specs.Characters.{meaning_after}
 use Rattle.pal_text.specs.Lines.{line_start, is_begun, ended_lines, line_of, lines, all_lines, start_by, lines_by}
-use Rattle.pal_text.specs.Order.{IsPlaced, IsLineWithin}
-use Rattle.pal_text.specs.Statements.{is_end, Piece, piece, pieces, own, closing, Goes, Stand}
+use Rattle.pal_text.specs.Order.{IsLineWithin}
+use Rattle.pal_text.specs.Statements.{is_end, Piece, piece, pieces}
 use Rattle.pal_text.proofs.Rises.{all_reverse}
 
 -- a piece stands before so many tokens
@@ -29,22 +27,6 @@ pieces_before n first at (t ∷ ts) f h = elim (cases_Bool (is_end t.kind)) [
   | inr other ↦ (let P : Bool → Type 0 = λ b. AllByRecursion (IsBefore n) (if b then piece first at t ∷ pieces (at + 1) (at + 1) ts else pieces first (at + 1) ts) in
       subst P (sym other) (pieces_before n first (at + 1) ts (omega arith) (omega arith)))
 ]
-
-goes_placed : (tokens : List Token) (o : Option Close) (ss : List Statement) (c : Close) (rest : Type 0) → (rest → AllByRecursion (IsPlaced tokens) ss) → Goes o ss c rest → AllByRecursion (IsPlaced tokens) ss
-goes_placed tokens None ss c rest k h = k h
-goes_placed tokens (Some d) ss c rest k h = let P : List Statement → Type 0 = λ l. AllByRecursion (IsPlaced tokens) l in subst P (sym h.0) tt
-
-stands_placed : (tokens : List Token) (size : ℕ) (ps : List Piece) (ss : List Statement) (c : Close) → AllByRecursion (IsBefore (length tokens)) ps → Stand tokens size ps ss c → AllByRecursion (IsPlaced tokens) ss
-stands_placed tokens size [] [] c all h = tt
-stands_placed tokens size [] (s ∷ ss) c all h = absurd h
-stands_placed tokens size (p ∷ ps) [] c all h = absurd h
-stands_placed tokens size (p ∷ ps) (s ∷ ss) c all h = (
-  record { forward = omega (arith, h.0.first, h.0.last, all.0.forward); inside = omega (arith, h.0.last, all.0.inside) },
-  goes_placed tokens (closing (own tokens p) p.mark s.form) ss c (Stand tokens size ps ss c) (stands_placed tokens size ps ss c all.1) h.1,
-)
-
-pub placed_by : (tokens : List Token) (size : ℕ) (ss : List Statement) (c : Close) → Stand tokens size (pieces 0 0 tokens) ss c → AllByRecursion (IsPlaced tokens) ss
-placed_by tokens size ss c h = stands_placed tokens size (pieces 0 0 tokens) ss c (pieces_before (length tokens) 0 0 tokens (omega arith) (omega arith)) h
 
 start_by_within : (start n : ℕ) (m : Meaning) → start ≤ n → start_by start (n + 1) m ≤ n + 1
 start_by_within start n LineEnd h = omega arith

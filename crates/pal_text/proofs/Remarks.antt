@@ -4,15 +4,16 @@ use Rattle.std.specs.Prelude.{map, reverse, slice_range}
 use Rattle.std.specs.List.{AllByRecursion}
 use Rattle.std.proofs.lemmas.Bool.{cond_both}
 use Rattle.std.proofs.lemmas.List.{reverse-append, length-reverse, length-append}
+use Rattle.pal_text.specs.declared.characters.Meaning.TheVariants.{LineEnd}
 use Rattle.pal_text.specs.declared.tokens.Token.{Token}
-use Rattle.pal_text.specs.Characters.{code, returned, in_comment, line}
+use Rattle.pal_text.specs.Characters.{code, returned, meaning_after, in_comment, line}
 use Rattle.pal_text.specs.Tokens.{is_space, added, token, tokens, end_token, ended, all_tokens}
 use Rattle.pal_text.specs.Names.{IsWithin, name, bytes_of, with_name, named, part_tokens}
 use Rattle.pal_text.specs.Order.{IsOrdered}
 use Rattle.pal_text.specs.Scan.{brings, trimmed, mark_kind, line_past, Closes, IsCut}
 use Rattle.pal_text.specs.Laws.{moved, is_line_byte, CommentsAddNothing}
 use Rattle.pal_text.proofs.Apart.{added_end, Later, ended_later}
-use Rattle.pal_text.proofs.Steps.{Comments, comment_begins, comment_more, comment_closes}
+use Rattle.pal_text.proofs.Steps.{Comments, comment_begins, comment_more, line_is_code, line_closes, comment_closes}
 use Rattle.pal_text.proofs.Stays.{range_front, told_alike}
 use Rattle.pal_text.proofs.Moved.{moved_after, moved_before, Same, same_more, put_moved, ended_moved, AllSpan, tokens_span, early, range_back}
 use Rattle.pal_text.proofs.Rises.{map_reverse, all_tokens_within, all_reverse, all_append, ended_ordered}
@@ -65,7 +66,7 @@ newer_apart k n (t ∷ more) m us e h = (inr (omega (arith, e, reaches t.start m
 marked_apart : (f : List ℕ) (mark : Token) → mark.start ≡ length f → AllApart (length f) (mark ∷ trimmed (tokens f))
 marked_apart f mark e = (inr (omega (arith, e)), trimmed_apart (length f) (tokens f) (early_apart (length f) (tokens f) (tokens_span f)))
 
-module _ (before text : List ℕ) (slash : ℕ) (outside : in_comment (reverse before) ≡ false) (unreturned : returned (reverse before) ≡ false) (is : code slash ≡ 47)
+module _ (before text : List ℕ) (slash : ℕ) (outside : in_comment (reverse before) ≡ false) (is : code slash ≡ 47)
     (quiet : AllByRecursion (λ b. is_line_byte b ≡ false) text) where
   abbrev k : ℕ
   k = length before
@@ -140,12 +141,12 @@ module _ (before text : List ℕ) (slash : ℕ) (outside : in_comment (reverse b
       (subst (λ ts. AllApart k ts) (sym (added_end (end_token f) (tokens f) refl)) (subst (λ m. AllApart m (end_token f ∷ trimmed (tokens f))) size_f (marked_apart f (end_token f) refl))))
 
   -- or the line does
-  module _ (b : ℕ) (rest : List ℕ) (ends : is_line_byte b ≡ true) where
+  module _ (b : ℕ) (rest : List ℕ) (ends : meaning_after (reverse before) b ≡ LineEnd) where
     closes_f : Closes f b
-    closes_f = comment_closes f b unreturned ends
+    closes_f = line_closes f b ends
 
     closes_g : Closes g b
-    closes_g = comment_closes g b open_all.returned_is ends
+    closes_g = comment_closes g b open_all.returned_is (line_is_code f b ends)
 
     abbrev mark : Token
     mark = token (mark_kind (code b)) (line f) (length f)
@@ -191,5 +192,5 @@ module _ (before text : List ℕ) (slash : ℕ) (outside : in_comment (reverse b
         (subst (λ l. AllApart k (ended l)) (sym short) all_apart)
 
 pub comments_add_nothing : CommentsAddNothing
-comments_add_nothing before text [] slash outside unreturned is quiet ends = at_end before text slash outside unreturned is quiet
-comments_add_nothing before text (b ∷ rest) slash outside unreturned is quiet ends = at_line before text slash outside unreturned is quiet b rest ends
+comments_add_nothing before text [] slash outside is quiet ends = at_end before text slash outside is quiet
+comments_add_nothing before text (b ∷ rest) slash outside is quiet ends = at_line before text slash outside is quiet b rest ends

@@ -9,7 +9,6 @@ use Rattle.pal_text.specs.declared.tokens.Kind.TheVariants.{Symbol}
 use Rattle.pal_text.specs.declared.tokens.Token.{Token}
 use Rattle.pal_text.specs.Tokens.{tokens, ended}
 use Rattle.pal_text.specs.Names.{IsWithin, name, named_kind, bytes_of, with_name, named, part_tokens}
-use Rattle.pal_text.specs.Reading.{kinds}
 use Rattle.pal_text.specs.Grammar.{IsStatement}
 use Rattle.pal_text.specs.Statements.{is_end, Piece, piece, pieces}
 use Rattle.pal_text.specs.Scan.{IsCut}
@@ -58,7 +57,11 @@ read_so_by xs ys (p ∷ ps) h = (
     line = f.line;
     first = f.first;
     last = f.last;
-    reads = subst (λ own_tokens. IsStatement (kinds own_tokens) s.tags s.form) (sym (range_front xs ys p.first p.last h.0.forward (omega (arith, h.0.inside)))) f.reads;
+    names = f.names;
+    said = f.said;
+    reads = subst (λ own_tokens. IsStatement own_tokens f.names f.said) (sym (range_front xs ys p.first p.last h.0.forward (omega (arith, h.0.inside)))) f.reads;
+    tags = f.tags;
+    form = f.form;
   },
   read_so_by xs ys ps h.1,
 )

@@ -302,22 +302,42 @@ comment_more f b e was h =
       comment_is = ap (λ x. comment_by x m) e ∙ k.2;
     }
 
-returns_by : (ig cr lf r : Bool) → (cr || lf) ≡ true → r ≡ false → returned_from ig cr lf r ≡ cr
-unfolding returned_from
-returns_by ig true lf r e h = refl
-returns_by true false true r e h = h
-returns_by false false true r e h = h
-returns_by ig false false r e h = cc
+-- a byte that ends a line is a return or a feed
+line_code_by : (ig cr lf ta r : Bool) (c : ℕ) → meaning_by ig cr lf ta r c ≡ LineEnd → (cr || lf) ≡ true
+unfolding meaning_by
+line_code_by ig true lf ta r c e = refl
+line_code_by ig false true ta r c e = refl
+line_code_by true false false ta r c e = cc
+line_code_by false false false true r c e = cc
+line_code_by false false false false r c e = cc
 
-pub comment_closes : (f : List ℕ) (b : ℕ) → returned f ≡ false → is_line_code (code b) ≡ true → Closes f b
+line_returns_by : (ig cr lf ta r : Bool) (c : ℕ) → meaning_by ig cr lf ta r c ≡ LineEnd → returned_from ig cr lf r ≡ cr
 unfolding meaning_by returned_from
-comment_closes f b was h =
-    let e : meaning (returned f) b ≡ LineEnd = line_ends_by (is_ignored (code b)) (nat_eq (code b) 13) (nat_eq (code b) 10) (nat_eq (code b) 9) (returned f) (code b) (ignored_no_return (code b)) (ignored_no_feed (code b)) was h in
+line_returns_by ig true lf ta r c e = refl
+line_returns_by true false lf ta r c e = cc
+line_returns_by false false true ta true c e = cc
+line_returns_by false false true ta false c e = refl
+line_returns_by false false false true r c e = cc
+line_returns_by false false false false r c e = cc
+
+pub line_is_code : (f : List ℕ) (b : ℕ) → meaning (returned f) b ≡ LineEnd → is_line_code (code b) ≡ true
+unfolding meaning_by
+line_is_code f b e = line_code_by (is_ignored (code b)) (nat_eq (code b) 13) (nat_eq (code b) 10) (nat_eq (code b) 9) (returned f) (code b) e
+
+pub line_closes : (f : List ℕ) (b : ℕ) → meaning (returned f) b ≡ LineEnd → Closes f b
+unfolding meaning_by returned_from
+line_closes f b e =
+    let h : is_line_code (code b) ≡ true = line_is_code f b e in
     let mark : kind.End ≡ mark_kind (code b) = sym (ap (λ x. if x then kind.End else kind_of (code b)) h) in
     record {
       tokens_are = ap (λ m. grown (length f) (line f) (in_comment f) m (tokens f)) e ∙ ap (λ k. added (token k (line f) (length f)) (tokens f)) mark;
       is_mark = ap is_end (sym mark);
       line_is = ap (line_by (line f)) e ∙ sym (ap (λ x. if x then line f + 1 else line f) h);
-      returned_is = returns_by (is_ignored (code b)) (nat_eq (code b) 13) (nat_eq (code b) 10) (returned f) h was;
+      returned_is = line_returns_by (is_ignored (code b)) (nat_eq (code b) 13) (nat_eq (code b) 10) (nat_eq (code b) 9) (returned f) (code b) e;
       comment_is = ap (comment_by (in_comment f)) e;
     }
+
+pub comment_closes : (f : List ℕ) (b : ℕ) → returned f ≡ false → is_line_code (code b) ≡ true → Closes f b
+unfolding meaning_by
+comment_closes f b was h =
+    line_closes f b (line_ends_by (is_ignored (code b)) (nat_eq (code b) 13) (nat_eq (code b) 10) (nat_eq (code b) 9) (returned f) (code b) (ignored_no_return (code b)) (ignored_no_feed (code b)) was h)

@@ -11,8 +11,7 @@ use Rattle.pal_text.specs.declared.fault.TextFault.{TextFault}
 use Rattle.pal_text.specs.declared.fault.TextFault.TheVariants.{Illegal, TooLong, NoMemory}
 use Rattle.pal_text.specs.Names.{IsWithin, part_tokens}
 use Rattle.pal_text.specs.Order.{IsOrdered}
-use Rattle.pal_text.specs.Statements.{IsFault}
-use Rattle.pal_text.specs.Parts.{IsPart, IsIllegal, IsSilent, TellsOnly}
+use Rattle.pal_text.specs.Parts.{IsPart, IsIllegal, IsFault, IsSilent, TellsOnly}
 use Rattle.pal_text.proofs.Unique.{no_fault, one_line}
 use Rattle.pal_text.proofs.Rises.{later, all_take, part_tokens_within, part_tokens_ordered}
 
@@ -21,13 +20,13 @@ matched (Ok x) P Q F G ok err p f = p x ok
 matched (Err e) P Q F G ok err p f = f e err
 
 -- a part with a reading is refused for its length or for want of memory alone
-pub silent : (source : List ℕ) (tokens : List Token) (ss : List Statement) (lines : List Line) (end : Ending) → IsPart source tokens ss lines end → (e : TextFault) → IsFault (part_tokens source) e → IsSilent e
+pub silent : (source : List ℕ) (tokens : List Token) (ss : List Statement) (lines : List Line) (end : Ending) → IsPart source tokens ss lines end → (e : TextFault) → IsFault source e → IsSilent e
 silent source tokens ss lines end h (Illegal n) f = no_fault source tokens ss lines end n h f
 silent source tokens ss lines end h TooLong f = tt
 silent source tokens ss lines end h NoMemory f = tt
 
 -- and one with a fault names no other line
-pub tells_only : (source : List ℕ) (line : ℕ) → IsIllegal source line → (e : TextFault) → IsFault (part_tokens source) e → TellsOnly line e
+pub tells_only : (source : List ℕ) (line : ℕ) → IsIllegal source line → (e : TextFault) → IsFault source e → TellsOnly line e
 tells_only source line h (Illegal n) f = one_line source n line f h
 tells_only source line h TooLong f = tt
 tells_only source line h NoMemory f = tt

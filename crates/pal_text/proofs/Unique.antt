@@ -1,76 +1,64 @@
 -- A part has one reading, or one fault, and not both.
-use Rattle.std.proofs.Common.{◌≡◌, ◌∙◌, sym, ap, refl, subst, ℕ, List, [], ◌∷◌, Option, Some, None, inl, inr, length, take}
+use Rattle.std.proofs.Common.{◌≡◌, ◌∙◌, sym, ap, refl, subst, ℕ, List, [], ◌∷◌, Option, Some, None, length, take}
 use Rattle.pal_text.specs.declared.tokens.Token.{Token}
-use Rattle.pal_text.specs.declared.grammar.Form.{Form}
-use Rattle.pal_text.specs.declared.grammar.Shape.{Shape}
 use Rattle.pal_text.specs.declared.cut.Statement.{Statement}
 use Rattle.pal_text.specs.declared.cut.Close.{Close}
 use Rattle.pal_text.specs.declared.cut.Ending.{Ending}
 use Rattle.pal_text.specs.declared.lines.Line.{Line}
+use Rattle.pal_text.specs.Grammar.{form_of}
 use Rattle.pal_text.specs.Lines.{all_lines}
 use Rattle.pal_text.specs.Names.{part_tokens}
 use Rattle.pal_text.specs.Parts.{IsPart, IsIllegal, Agrees}
-use Rattle.pal_text.specs.Reading.{kinds}
-use Rattle.pal_text.specs.Statements.{Piece, own, Fills, closing, closed, pieces, Goes, Stand, Breaks}
-use Rattle.pal_text.proofs.Readings.{shape_complete}
-
-some_same : {X : Type 0} (x y : X) → Some x ≡ Some y → x ≡ y
-some_same x y e = cc
-
-shape_of_fills : (tokens : List Token) (p : Piece) (s t : Statement) → Fills tokens p s → Fills tokens p t → (s.tags ≡ t.tags) × (s.form ≡ t.form)
-shape_of_fills tokens p s t f g =
-    let e : record { tags = s.tags; form = s.form } ≡ record { tags = t.tags; form = t.form } =
-    some_same {X = Shape} (record { tags = s.tags; form = s.form }) (record { tags = t.tags; form = t.form })
-    (sym (shape_complete (kinds (own tokens p)) s.tags s.form f.reads) ∙ shape_complete (kinds (own tokens p)) t.tags t.form g.reads) in
-    (let tags_in : Shape → ℕ = λ x. x.tags in ap tags_in e, let form_in : Shape → Form = λ x. x.form in ap form_in e)
+use Rattle.pal_text.specs.Statements.{Piece, own, Fills, closing, closed, pieces, Stand, ends, goes_on, Breaks, here, later}
+use Rattle.pal_text.proofs.Readings.{one_said}
 
 -- a piece is one statement
 one_statement : (tokens : List Token) (p : Piece) (s t : Statement) → Fills tokens p s → Fills tokens p t → s ≡ t
 one_statement tokens p s t f g =
-    let e : (s.tags ≡ t.tags) × (s.form ≡ t.form) = shape_of_fills tokens p s t f g in
+    let e : (f.names ≡ g.names) × (f.said ≡ g.said) = one_said (own tokens p) f.names g.names f.said g.said f.reads g.reads in
     let lines : s.line ≡ t.line = f.line ∙ sym g.line in
     let firsts : s.first ≡ t.first = f.first ∙ sym g.first in
     let lasts : s.last ≡ t.last = f.last ∙ sym g.last in
-    λ i. record { line = lines i; first = firsts i; last = lasts i; tags = e.0 i; form = e.1 i }
+    let tags : s.tags ≡ t.tags = f.tags ∙ ap length e.0 ∙ sym g.tags in
+    let forms : s.form ≡ t.form = f.form ∙ ap form_of e.1 ∙ sym g.form in
+    λ i. record { line = lines i; first = firsts i; last = lasts i; tags = tags i; form = forms i }
 
-abbrev Same : List Statement → Close → List Statement → Close → Type 0
-Same ss c ts d = (ss ≡ ts) × (c ≡ d)
+some_same : {X : Type 0} (x y : X) → Some x ≡ Some y → x ≡ y
+some_same x y e = cc
 
-goes_same : (o : Option Close) (ss ts : List Statement) (c d : Close) (A B : Type 0) → (A → B → Same ss c ts d) → Goes o ss c A → Goes o ts d B → Same ss c ts d
-goes_same None ss ts c d A B k h j = k h j
-goes_same (Some e) ss ts c d A B k h j = (h.0 ∙ sym j.0, h.1 ∙ sym j.1)
+none_some : {X : Type 0} (o : Option X) (x : X) → o ≡ None → o ≡ Some x → ⊥
+none_some o x e f = let both : None ≡ Some x = sym e ∙ f in cc
 
-pub one_reading : (tokens : List Token) (size : ℕ) (ps : List Piece) (ss ts : List Statement) (c d : Close) → Stand tokens size ps ss c → Stand tokens size ps ts d → Same ss c ts d
-one_reading tokens size [] [] [] c d h k = (refl, h ∙ sym k)
-one_reading tokens size [] [] (t ∷ ts) c d h k = absurd k
-one_reading tokens size [] (s ∷ ss) ts c d h k = absurd h
-one_reading tokens size (p ∷ ps) [] ts c d h k = absurd h
-one_reading tokens size (p ∷ ps) (s ∷ ss) [] c d h k = absurd k
-one_reading tokens size (p ∷ ps) (s ∷ ss) (t ∷ ts) c d h k =
-    let e : s ≡ t = one_statement tokens p s t h.0 k.0 in
-    let P : Statement → Type 0 = λ x. Goes (closing (own tokens p) p.mark x.form) ts d (Stand tokens size ps ts d) in
-    let r : Same ss c ts d = goes_same (closing (own tokens p) p.mark s.form) ss ts c d (Stand tokens size ps ss c) (Stand tokens size ps ts d) (one_reading tokens size ps ss ts c d) h.1 (subst P (sym e) k.1) in
-    (λ i. e i ∷ r.0 i, r.1)
+-- after a statement a part ends, or goes on
+module _ (tokens : List Token) (size : ℕ) where
+  abbrev after : Piece → Statement → Option Close
+  after p s = closing size (own tokens p) p.mark s.form
 
-pub one_fault : (tokens : List Token) (ps : List Piece) (m n : ℕ) → Breaks tokens ps m → Breaks tokens ps n → m ≡ n
-one_fault tokens [] m n h k = absurd h
-one_fault tokens (p ∷ ps) m n (inl h) (inl k) = h.1 ∙ sym k.1
-one_fault tokens (p ∷ ps) m n (inl h) (inr k) = absurd (h.0 k.0.statement.tags k.0.statement.form k.0.fills.reads)
-one_fault tokens (p ∷ ps) m n (inr h) (inl k) = absurd (k.0 h.0.statement.tags h.0.statement.form h.0.fills.reads)
-one_fault tokens (p ∷ ps) m n (inr h) (inr k) = one_fault tokens ps m n h.1 k.1
+  ends_not_on : (p : Piece) (s t : Statement) (c : Close) → Fills tokens p s → Fills tokens p t → after p s ≡ Some c → after p t ≡ None → ⊥
+  ends_not_on p s t c f g e h = none_some (after p t) c h (ap (after p) (sym (one_statement tokens p s t f g)) ∙ e)
 
-goes_on : (o : Option Close) (ss : List Statement) (c : Close) (A : Type 0) → o ≡ None → Goes o ss c A → A
-goes_on None ss c A e h = h
-goes_on (Some d) ss c A e h = cc
+  pub one_reading : (ps : List Piece) (ss ts : List Statement) (c d : Close) → Stand tokens size ps ss c → Stand tokens size ps ts d → (ss ≡ ts) × (c ≡ d)
+  one_reading ps ss ts c d (ends p qs s c' f e) (ends p' qs' t d' g h) =
+      let same : s ≡ t = one_statement tokens p s t f g in
+      (λ i. same i ∷ [], some_same c' d' (sym e ∙ ap (after p) same ∙ h))
+  one_reading ps ss ts c d (ends p qs s c' f e) (goes_on p' qs' t us d' g h k) = absurd (ends_not_on p s t c' f g e h)
+  one_reading ps ss ts c d (goes_on p qs s rs c' f e r) (ends p' qs' t d' g h) = absurd (ends_not_on p t s d' g f h e)
+  one_reading ps ss ts c d (goes_on p qs s rs c' f e r) (goes_on p' qs' t us d' g h k) =
+      let same : s ≡ t = one_statement tokens p s t f g in
+      let more : (rs ≡ us) × (c' ≡ d') = one_reading qs rs us c' d' r k in
+      (λ i. same i ∷ more.0 i, more.1)
 
-pub not_both : (tokens : List Token) (size : ℕ) (ps : List Piece) (ss : List Statement) (c : Close) (n : ℕ) → Stand tokens size ps ss c → Breaks tokens ps n → ⊥
-not_both tokens size [] ss c n h k = k
-not_both tokens size (p ∷ ps) [] c n h k = h
-not_both tokens size (p ∷ ps) (s ∷ ss) c n h (inl k) = k.0 s.tags s.form h.0.reads
-not_both tokens size (p ∷ ps) (s ∷ ss) c n h (inr k) =
-    let e : s ≡ k.0.statement = one_statement tokens p s k.0.statement h.0 k.0.fills in
-    let none : closing (own tokens p) p.mark s.form ≡ None = ap (λ x. closing (own tokens p) p.mark x.form) e ∙ k.0.goes_on in
-    not_both tokens size ps ss c n (goes_on (closing (own tokens p) p.mark s.form) ss c (Stand tokens size ps ss c) none h.1) k.1
+  pub one_fault : (ps : List Piece) (m n : ℕ) → Breaks tokens size ps m → Breaks tokens size ps n → m ≡ n
+  one_fault ps m n (here p qs h) (here p' qs' k) = refl
+  one_fault ps m n (here p qs h) (later p' qs' s n' g k r) = absurd (h g.names g.said g.reads)
+  one_fault ps m n (later p qs s m' f e r) (here p' qs' k) = absurd (k f.names f.said f.reads)
+  one_fault ps m n (later p qs s m' f e r) (later p' qs' t n' g k q) = one_fault qs m' n' r q
+
+  pub not_both : (ps : List Piece) (ss : List Statement) (c : Close) (n : ℕ) → Stand tokens size ps ss c → Breaks tokens size ps n → ⊥
+  not_both ps ss c n (ends p qs s c' f e) (here p' qs' k) = k f.names f.said f.reads
+  not_both ps ss c n (ends p qs s c' f e) (later p' qs' t n' g h r) = ends_not_on p s t c' f g e h
+  not_both ps ss c n (goes_on p qs s rs c' f e q) (here p' qs' k) = k f.names f.said f.reads
+  not_both ps ss c n (goes_on p qs s rs c' f e q) (later p' qs' t n' g h r) = not_both qs rs c' n' q r
 
 -- a reading is the only one
 pub agrees : (source : List ℕ) (tokens tokens' : List Token) (ss ss' : List Statement) (lines lines' : List Line) (e e' : Ending) → IsPart source tokens ss lines e → IsPart source tokens' ss' lines' e' → Agrees tokens ss lines e tokens' ss' lines' e'
@@ -94,4 +82,4 @@ no_fault source tokens ss lines e n h k =
     not_both (part_tokens source) (length source) (pieces 0 0 (part_tokens source)) ss (closed e h.stop) n (subst P h.tokens_are h.statements_are) k
 
 pub one_line : (source : List ℕ) (m n : ℕ) → IsIllegal source m → IsIllegal source n → m ≡ n
-one_line source m n h k = one_fault (part_tokens source) (pieces 0 0 (part_tokens source)) m n h k
+one_line source m n h k = one_fault (part_tokens source) (length source) (pieces 0 0 (part_tokens source)) m n h k

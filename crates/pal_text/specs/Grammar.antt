@@ -1,61 +1,89 @@
--- The grammar of a statement, on the whole list of its tokens' kinds.
-use Rattle.std.specs.Prelude.{◌≡◌, ℕ, ◌+◌, Bool, true, false, ◌&&◌, if◌then◌else◌, List, [], ◌∷◌}
+-- The grammar of a statement, on the whole list of its tokens.
+use Rattle.std.specs.Prelude.{◌≡◌, Bool, true, false, ◌&&◌, if◌then◌else◌, List, [], ◌∷◌}
 use Rattle.pal_text.specs.declared.tokens.Kind.{Kind}
-use Rattle.pal_text.specs.declared.tokens.Kind.TheVariants.{Symbol, Decimal, Octal, Pause, Number, Here, Space, Comma, Equals, Plus, Minus, Star}
+use Rattle.pal_text.specs.declared.tokens.Kind.TheVariants as kind
+use Rattle.pal_text.specs.declared.tokens.Token.{Token}
 use Rattle.pal_text.specs.declared.grammar.Form.{Form}
 use Rattle.pal_text.specs.declared.grammar.Form.TheVariants as form
 
 -- A number, a symbol or the current location. DECIMAL, OCTAL and PAUSE are no terms.
 abbrev pub is_term : Kind → Bool
-is_term Symbol = true
-is_term Number = true
-is_term Here = true
+is_term kind.Symbol = true
+is_term kind.Number = true
+is_term kind.Here = true
 is_term _ = false
 
 -- What stands between two terms.
 abbrev pub is_joiner : Kind → Bool
-is_joiner Space = true
-is_joiner Plus = true
-is_joiner Minus = true
+is_joiner kind.Space = true
+is_joiner kind.Plus = true
+is_joiner kind.Minus = true
 is_joiner _ = false
 
 abbrev pub is_sign : Kind → Bool
-is_sign Plus = true
-is_sign Minus = true
+is_sign kind.Plus = true
+is_sign kind.Minus = true
 is_sign _ = false
+
+abbrev pub is_direction : Kind → Bool
+is_direction kind.Decimal = true
+is_direction kind.Octal = true
+is_direction kind.Pause = true
+is_direction _ = false
 
 -- What may be a tag or be assigned by its form, though DECIMAL, OCTAL and PAUSE never have a value to give.
 abbrev pub is_name : Kind → Bool
-is_name Symbol = true
-is_name Decimal = true
-is_name Octal = true
-is_name Pause = true
-is_name _ = false
+is_name kind.Symbol = true
+is_name k = is_direction k
 
 -- Terms with a joiner between each two.
-abbrev pub is_terms : List Kind → Bool
+abbrev pub is_terms : List Token → Bool
 is_terms [] = false
-is_terms (t ∷ []) = is_term t
-is_terms (t ∷ j ∷ ts) = is_term t && is_joiner j && is_terms ts
+is_terms (t ∷ []) = is_term t.kind
+is_terms (t ∷ j ∷ ts) = is_term t.kind && is_joiner j.kind && is_terms ts
 
 -- Terms, after a sign or without one.
-abbrev pub is_expression : List Kind → Bool
+abbrev pub is_expression : List Token → Bool
 is_expression [] = false
-is_expression (t ∷ ts) = if is_sign t then is_terms ts else is_terms (t ∷ ts)
+is_expression (t ∷ ts) = if is_sign t.kind then is_terms ts else is_terms (t ∷ ts)
 
--- These kinds are a statement with so many tags, which does this.
-pub data IsStatement : List Kind → ℕ → Form → Type 0 where
+-- What a statement says after its tags, with the name and the expression that say it.
+pub data Said : Type 0 where
   -- nothing
-  nothing : IsStatement [] 0 form.Empty
+  Nothing : Said
   -- *e
-  origin : (e : List Kind) → is_expression e ≡ true → IsStatement (Star ∷ e) 0 form.Origin
+  Origin : (e : List Token) → Said
   -- symbol=e
-  assign : (n : Kind) (e : List Kind) → is_name n ≡ true → is_expression e ≡ true → IsStatement (n ∷ Equals ∷ e) 0 form.Assign
+  Assign : (name : Token) (e : List Token) → Said
+  -- DECIMAL=e, OCTAL=e and PAUSE=e
+  AssignDirection : (e : List Token) → Said
   -- DECIMAL, OCTAL and PAUSE
-  decimal : IsStatement (Decimal ∷ []) 0 form.Decimal
-  octal : IsStatement (Octal ∷ []) 0 form.Octal
-  pause : IsStatement (Pause ∷ []) 0 form.Pause
+  Decimal : Said
+  Octal : Said
+  Pause : Said
   -- e
-  word : (e : List Kind) → is_expression e ≡ true → IsStatement e 0 form.Word
+  Word : (e : List Token) → Said
+
+-- The form of what is said.
+abbrev pub form_of : Said → Form
+form_of Nothing = form.Empty
+form_of (Origin e) = form.Origin
+form_of (Assign name e) = form.Assign
+form_of (AssignDirection e) = form.Assign
+form_of Decimal = form.Decimal
+form_of Octal = form.Octal
+form_of Pause = form.Pause
+form_of (Word e) = form.Word
+
+-- These tokens are a statement with these tags, which says this.
+pub data IsStatement : List Token → List Token → Said → Type 0 where
+  nothing : IsStatement [] [] Nothing
+  origin : (star : Token) (e : List Token) → star.kind ≡ kind.Star → is_expression e ≡ true → IsStatement (star ∷ e) [] (Origin e)
+  assign : (name equals : Token) (e : List Token) → name.kind ≡ kind.Symbol → equals.kind ≡ kind.Equals → is_expression e ≡ true → IsStatement (name ∷ equals ∷ e) [] (Assign name e)
+  assign_direction : (name equals : Token) (e : List Token) → is_direction name.kind ≡ true → equals.kind ≡ kind.Equals → is_expression e ≡ true → IsStatement (name ∷ equals ∷ e) [] (AssignDirection e)
+  decimal : (t : Token) → t.kind ≡ kind.Decimal → IsStatement (t ∷ []) [] Decimal
+  octal : (t : Token) → t.kind ≡ kind.Octal → IsStatement (t ∷ []) [] Octal
+  pause : (t : Token) → t.kind ≡ kind.Pause → IsStatement (t ∷ []) [] Pause
+  word : (e : List Token) → is_expression e ≡ true → IsStatement e [] (Word e)
   -- a tag, and a statement after it
-  tagged : (n : Kind) (own : List Kind) (tags : ℕ) (does : Form) → is_name n ≡ true → IsStatement own tags does → IsStatement (n ∷ Comma ∷ own) (tags + 1) does
+  tagged : (name comma : Token) (own tags : List Token) (said : Said) → is_name name.kind ≡ true → comma.kind ≡ kind.Comma → IsStatement own tags said → IsStatement (name ∷ comma ∷ own) (name ∷ tags) said

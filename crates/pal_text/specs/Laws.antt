@@ -1,14 +1,18 @@
 -- What the manual says of tokens and statements: it follows from their definitions.
 use Rattle.std.specs.Prelude.{◌≡◌, ℕ, ◌+◌, ◌-◌, Bool, true, false, ◌||◌, ◌&&◌, not, if◌then◌else◌, List, [], ◌∷◌, ◌++◌, length, map, reverse, nat_lt, nat_le, nat_eq}
 use Rattle.std.specs.List.{AllByRecursion}
+use Rattle.pal_text.specs.declared.characters.Meaning.TheVariants.{LineEnd}
 use Rattle.pal_text.specs.declared.tokens.Kind.{Kind}
 use Rattle.pal_text.specs.declared.tokens.Kind.TheVariants.{End}
 use Rattle.pal_text.specs.declared.tokens.Token.{Token}
 use Rattle.pal_text.specs.declared.cut.Statement.{Statement}
-use Rattle.pal_text.specs.Characters.{code, is_ignored, returned, in_comment}
+use Rattle.pal_text.specs.declared.cut.Ending.{Ending}
+use Rattle.pal_text.specs.declared.lines.Line.{Line}
+use Rattle.pal_text.specs.Characters.{code, is_ignored, meaning_after, in_comment}
 use Rattle.pal_text.specs.Tokens.{is_space, tokens}
 use Rattle.pal_text.specs.Names.{bytes_of, named, part_tokens}
 use Rattle.pal_text.specs.Statements.{is_end, Piece, pieces, Fills}
+use Rattle.pal_text.specs.Parts.{IsPart, IsIllegal, Agrees}
 
 -- A token that stands for itself: no space, whose place counts, and no end of a statement.
 abbrev pub stands_alone : Kind → Bool
@@ -38,20 +42,20 @@ moved place size t = record t {
 abbrev pub IgnoredAddNothing : Type 0
 IgnoredAddNothing = (before after : List ℕ) (b : ℕ) → is_ignored (code b) ≡ true → part_tokens (before ++ b ∷ after) ≡ map (moved (length before) 1) (part_tokens (before ++ after))
 
--- A byte that ends a line, where it isn't one that a return before it makes an ignored one.
+-- A carriage return or a line feed.
 abbrev pub is_line_byte : ℕ → Bool
 is_line_byte b = nat_eq (code b) 13 || nat_eq (code b) 10
 
--- Here a line ends: by this byte, or because none is left.
-abbrev pub EndsLine : List ℕ → Type 0
-EndsLine [] = Unit {0}
-EndsLine (b ∷ bytes) = is_line_byte b ≡ true
+-- After some bytes, the newest first, a line ends with the next byte, or because none is left.
+abbrev pub EndsLine : List ℕ → List ℕ → Type 0
+EndsLine before [] = Unit {0}
+EndsLine before (b ∷ bytes) = meaning_after before b ≡ LineEnd
 
--- A comment adds nothing: the tokens are the same with it and without it. Right after a return the line feed that ends it
--- would be ignored without it, so that place is left out.
+-- A comment adds nothing at the end of a line: the tokens are the same with it and without it. A line feed that is ignored
+-- without the comment, since it follows a return, would end a line after it, so that place is left out.
 abbrev pub CommentsAddNothing : Type 0
-CommentsAddNothing = (before text after : List ℕ) (slash : ℕ) → in_comment (reverse before) ≡ false → returned (reverse before) ≡ false → code slash ≡ 47
-    → AllByRecursion (λ b. is_line_byte b ≡ false) text → EndsLine after
+CommentsAddNothing = (before text after : List ℕ) (slash : ℕ) → in_comment (reverse before) ≡ false → code slash ≡ 47
+    → AllByRecursion (λ b. is_line_byte b ≡ false) text → EndsLine (reverse before) after
     → part_tokens (before ++ ((slash ∷ text) ++ after)) ≡ map (moved (length before) (length (slash ∷ text))) (part_tokens (before ++ after))
 
 -- The tokens of the bytes at the front of a part.
@@ -77,3 +81,17 @@ pub record Stays (front after : List ℕ) : Type 0 where
 
 abbrev pub StatementsStay : Type 0
 StatementsStay = (front after : List ℕ) → EndsStatement (tokens (reverse front)) → Stays front after
+
+-- Any two readings of a part are the same.
+abbrev pub ReadingIsOne : Type 0
+ReadingIsOne = (source : List ℕ) (tokens tokens' : List Token) (statements statements' : List Statement) (lines lines' : List Line) (ending ending' : Ending)
+    → IsPart source tokens statements lines ending → IsPart source tokens' statements' lines' ending' → Agrees tokens statements lines ending tokens' statements' lines' ending'
+
+-- No other line is the first that has a statement without a form.
+abbrev pub IllegalIsOne : Type 0
+IllegalIsOne = (source : List ℕ) (line line' : ℕ) → IsIllegal source line → IsIllegal source line' → line ≡ line'
+
+-- A part that has a reading has no statement without a form.
+abbrev pub ReadingIsNotIllegal : Type 0
+ReadingIsNotIllegal = (source : List ℕ) (tokens : List Token) (statements : List Statement) (lines : List Line) (ending : Ending) (line : ℕ)
+    → IsPart source tokens statements lines ending → IsIllegal source line → ⊥

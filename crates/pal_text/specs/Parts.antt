@@ -4,6 +4,8 @@ use Rattle.pal_text.specs.declared.tokens.Token.{Token}
 use Rattle.pal_text.specs.declared.cut.Statement.{Statement}
 use Rattle.pal_text.specs.declared.cut.Ending.{Ending}
 use Rattle.pal_text.specs.declared.lines.Line.{Line}
+use Rattle.pal_text.specs.declared.fault.StatementFault.{StatementFault}
+use Rattle.pal_text.specs.declared.fault.StatementFault.TheVariants as statement
 use Rattle.pal_text.specs.declared.fault.TextFault.{TextFault}
 use Rattle.pal_text.specs.declared.fault.TextFault.TheVariants.{Illegal, TooLong, NoMemory}
 use Rattle.pal_text.specs.Names.{part_tokens}
@@ -19,7 +21,7 @@ pub record IsPart (source : List ℕ) (tokens : List Token) (statements : List S
 
 -- The first statement of these bytes that has no form is on this line.
 abbrev pub IsIllegal : List ℕ → ℕ → Type 0
-IsIllegal source line = Breaks (part_tokens source) (pieces 0 0 (part_tokens source)) line
+IsIllegal source line = Breaks (part_tokens source) (length source) (pieces 0 0 (part_tokens source)) line
 
 -- How many tokens the last of some statements and those before it take, each with the one that ends it; with none, so many.
 abbrev pub past : ℕ → List Statement → ℕ
@@ -44,3 +46,14 @@ abbrev pub TellsOnly : ℕ → TextFault → Type 0
 TellsOnly line (Illegal n) = n ≡ line
 TellsOnly line TooLong = Unit {0}
 TellsOnly line NoMemory = Unit {0}
+
+-- What a refusal of a part that isn't too long says of it.
+abbrev pub IsFault : List ℕ → TextFault → Type 0
+IsFault source (Illegal n) = IsIllegal source n
+IsFault source TooLong = ⊥
+IsFault source NoMemory = Unit {0}
+
+-- A statement's fault as that of its part.
+abbrev pub fault_of : StatementFault → TextFault
+fault_of (statement.Illegal n) = Illegal n
+fault_of statement.NoMemory = NoMemory

@@ -1,10 +1,19 @@
 -- How far a reader has come.
-use Rattle.std.specs.Prelude.{ℕ, List}
+use Rattle.std.specs.Prelude.{ℕ, List, Option, Some, None}
 use Rattle.pal_text.specs.declared.tokens.Token.{Token}
+use Rattle.pal_text.specs.declared.cut.Close.{Close}
+use Rattle.pal_text.specs.declared.reader.Standing.{Standing}
+use Rattle.pal_text.specs.declared.reader.Standing.TheVariants.{Begins, Ended}
 
--- The bytes of the part, how many of its tokens stand before the next statement, and the tokens of the statement that was
--- read last without the one that ends it.
+-- The bytes of the part, how many of its tokens stand before the next statement, the tokens of the statement that was read
+-- last without the one that ends it, and how the part has ended, if it has.
 pub record Progress : Type 0 where
   pub source : List ℕ
   pub count : ℕ
   pub own : List Token
+  pub close : Option Close
+
+-- How the part has ended, where a reader stands so.
+abbrev pub ended_at : Standing → Option Close
+ended_at (Begins place) = None
+ended_at (Ended c) = Some c

@@ -1,28 +1,33 @@
 -- The statements of a part, one after another.
-use Rattle.std.specs.Prelude.{◌≡◌, ℕ, ◌+◌, List, [], ◌∷◌, Option, Some, None, drop, slice_range}
+use Rattle.std.specs.Prelude.{◌≡◌, ℕ, ◌+◌, false, List, [], ◌∷◌, Option, Some, None, drop, length, slice_get, slice_range}
 use Rattle.pal_text.specs.declared.tokens.Token.{Token}
-use Rattle.pal_text.specs.declared.fault.TextFault.{TextFault}
-use Rattle.pal_text.specs.declared.fault.TextFault.TheVariants.{Illegal, TooLong, NoMemory}
+use Rattle.pal_text.specs.declared.cut.Close.{Close}
+use Rattle.pal_text.specs.declared.fault.StatementFault.{StatementFault}
+use Rattle.pal_text.specs.declared.fault.StatementFault.TheVariants.{Illegal, NoMemory}
+use Rattle.pal_text.specs.declared.reader.Next.{Next}
+use Rattle.pal_text.specs.declared.reader.Next.TheVariants as next
 use Rattle.pal_text.specs.declared.reader.Found.{Found}
 use Rattle.pal_text.specs.Names.{part_tokens}
-use Rattle.pal_text.specs.Statements.{Piece, piece, pieces, Fills, IsNone, closing}
+use Rattle.pal_text.specs.Progress.{Progress}
+use Rattle.pal_text.specs.Statements.{is_end, Piece, piece, pieces, Fills, IsNone, closing}
 
 -- The pieces of a part after so many of its tokens.
 abbrev pub rest : List ℕ → ℕ → List Piece
 rest source n = pieces n n (drop n (part_tokens source))
 
--- The next piece, after n tokens, is this statement, whose tokens these are; m tokens stand before what follows it.
-pub record IsNext (source : List ℕ) (n : ℕ) (found : Found) (own : List Token) (m : ℕ) : Type 0 where
+-- The next piece, after n tokens, is this statement, whose tokens these are; m tokens stand before what follows it, and the
+-- part has ended so then, if it has.
+pub record IsNext (source : List ℕ) (n : ℕ) (found : Found) (own : List Token) (m : ℕ) (close : Option Close) : Type 0 where
   pub rest_is : rest source n ≡ piece n found.statement.last found.mark ∷ rest source m
   pub fills : Fills (part_tokens source) (piece n found.statement.last found.mark) found.statement
   pub own_is : own ≡ slice_range (part_tokens source) n found.statement.last
-  pub close_is : found.close ≡ closing own found.mark found.statement.form
   pub count_is : m ≡ found.statement.last + 1
+  pub close_is : close ≡ closing (length source) own found.mark found.statement.form
 
--- What is found after n tokens: no piece is left, or the next one is a statement.
-abbrev pub Finds : List ℕ → ℕ → Option Found → List Token → ℕ → Type 0
-Finds source n None own m = rest source n ≡ []
-Finds source n (Some found) own m = IsNext source n found own m
+-- What a reader finds: the next statement, where the part hasn't ended, or how it has.
+abbrev pub Finds : Progress → Next → Progress → Type 0
+Finds old (next.Statement found) new = (old.close ≡ None) × IsNext old.source old.count found new.own new.count new.close
+Finds old (next.End c) new = (old.close ≡ Some c) × (new.close ≡ Some c) × (new.count ≡ old.count) × (new.own ≡ [])
 
 -- The next piece, after n tokens, is no statement, and the token that ends it is on this line.
 pub record IsBroken (source : List ℕ) (n line : ℕ) : Type 0 where
@@ -32,7 +37,17 @@ pub record IsBroken (source : List ℕ) (n line : ℕ) : Type 0 where
   pub none : IsNone (part_tokens source) (piece n last mark)
   pub line_is : line ≡ mark.line
 
-abbrev pub BreaksNext : List ℕ → ℕ → TextFault → Type 0
-BreaksNext source n (Illegal line) = IsBroken source n line
-BreaksNext source n TooLong = ⊥
-BreaksNext source n NoMemory = Unit {0}
+-- The next piece, after n tokens, has a token: the next one ends no statement.
+pub record HasToken (source : List ℕ) (n : ℕ) : Type 0 where
+  pub token : Token
+  pub stands : slice_get (part_tokens source) n ≡ Some token
+  pub ends_none : is_end token.kind ≡ false
+
+-- A fault at the next piece, after n tokens. Memory is wanted only for a token.
+abbrev pub StopsAt : List ℕ → ℕ → StatementFault → Type 0
+StopsAt source n (Illegal line) = IsBroken source n line
+StopsAt source n NoMemory = HasToken source n
+
+-- A reader tells a fault only where the part hasn't ended.
+abbrev pub BreaksNext : Progress → StatementFault → Type 0
+BreaksNext at fault = (at.close ≡ None) × StopsAt at.source at.count fault

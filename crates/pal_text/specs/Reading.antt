@@ -1,5 +1,5 @@
--- How a statement is read from its kinds. That this is the grammar is proved of it.
-use Rattle.std.specs.Prelude.{ℕ, ◌+◌, Bool, true, false, ◌&&◌, if◌then◌else◌, List, [], ◌∷◌, Option, Some, None, map}
+-- How a statement is read from its tokens, for private contracts. That this is the grammar is proved of it.
+use Rattle.std.specs.Prelude.{ℕ, ◌+◌, Bool, true, false, ◌&&◌, if◌then◌else◌, List, [], ◌∷◌, Option, Some, None}
 use Rattle.pal_text.specs.declared.tokens.Kind.{Kind}
 use Rattle.pal_text.specs.declared.tokens.Kind.TheVariants.{Decimal, Octal, Pause, Comma, Equals, Star}
 use Rattle.pal_text.specs.declared.tokens.Token.{Token}
@@ -7,12 +7,6 @@ use Rattle.pal_text.specs.declared.grammar.Form.{Form}
 use Rattle.pal_text.specs.declared.grammar.Form.TheVariants as form
 use Rattle.pal_text.specs.declared.grammar.Shape.{Shape}
 use Rattle.pal_text.specs.Grammar.{is_term, is_name, is_expression}
-
-abbrev pub kind_in : Token → Kind
-kind_in t = t.kind
-
-abbrev pub kinds : List Token → List Kind
-kinds ts = map kind_in ts
 
 abbrev pub is_star : Kind → Bool
 is_star Star = true
@@ -29,7 +23,7 @@ is_comma _ = false
 abbrev pub is_tag : Kind → Kind → Bool
 is_tag n k = is_name n && is_comma k
 
-abbrev pub if_expression : List Kind → Form → Option Form
+abbrev pub if_expression : List Token → Form → Option Form
 if_expression e f = if is_expression e then Some f else None
 
 abbrev pub direction : Kind → Option Form
@@ -41,18 +35,18 @@ direction _ = None
 abbrev pub single : Kind → Option Form
 single k = if is_term k then Some form.Word else direction k
 
-abbrev pub body : List Kind → Option Form
+abbrev pub body : List Token → Option Form
 body [] = Some form.Empty
-body (k ∷ []) = single k
-body (k ∷ j ∷ ks) =
-    if is_star k then if_expression (j ∷ ks) form.Origin else
-    if is_name k && is_equals j then if_expression ks form.Assign else if_expression (k ∷ j ∷ ks) form.Word
+body (t ∷ []) = single t.kind
+body (t ∷ u ∷ ts) =
+    if is_star t.kind then if_expression (u ∷ ts) form.Origin else
+    if is_name t.kind && is_equals u.kind then if_expression ts form.Assign else if_expression (t ∷ u ∷ ts) form.Word
 
 abbrev pub shaped : ℕ → Option Form → Option Shape
 shaped n None = None
 shaped n (Some f) = Some (record { tags = n; form = f })
 
-abbrev pub shape : ℕ → List Kind → Option Shape
+abbrev pub shape : ℕ → List Token → Option Shape
 shape n [] = shaped n (body [])
-shape n (k ∷ []) = shaped n (body (k ∷ []))
-shape n (k ∷ j ∷ ks) = if is_tag k j then shape (n + 1) ks else shaped n (body (k ∷ j ∷ ks))
+shape n (t ∷ []) = shaped n (body (t ∷ []))
+shape n (t ∷ u ∷ ts) = if is_tag t.kind u.kind then shape (n + 1) ts else shaped n (body (t ∷ u ∷ ts))

@@ -8,8 +8,11 @@ use Rattle.pal_text.specs.declared.scan.Brings.{Brings}
 use Rattle.pal_text.specs.declared.scan.Brings.TheVariants.{Nothing, Feed, End, Comment, One}
 use Rattle.pal_text.specs.declared.scan.Place.{Place}
 use Rattle.pal_text.specs.declared.scan.Run.{Run}
+use Rattle.pal_text.specs.declared.cut.Close.{Close}
+use Rattle.pal_text.specs.declared.reader.Standing.{Standing}
+use Rattle.pal_text.specs.declared.reader.Standing.TheVariants.{Begins, Ended}
 use Rattle.pal_text.specs.Characters.{code, is_ignored, returned, in_comment, line}
-use Rattle.pal_text.specs.Tokens.{is_space, kind_of, token, added, tokens, ended}
+use Rattle.pal_text.specs.Tokens.{is_space, kind_of, token, added, tokens}
 use Rattle.pal_text.specs.Statements.{is_end}
 
 abbrev pub of_kind : Kind → Brings
@@ -45,9 +48,9 @@ trimmed (t ∷ ts) = if is_space t.kind then ts else t ∷ ts
 abbrev pub mark : List ℕ → ℕ → ℕ → Token
 mark source n at = if nat_eq at (length source) then record { kind = kind.End; line = n; start = at; end = at } else token (mark_kind (code (get_or source at 0))) n at
 
--- Where the next statement begins, after one that ends at a place.
-abbrev pub next_place : List ℕ → ℕ → ℕ → Option Place
-next_place source n at = if nat_eq at (length source) then None else Some (record { at = at + 1; line = line_past n (code (get_or source at 0)); returned = nat_eq (code (get_or source at 0)) 13 })
+-- Where the next statement begins, after one that ends by the byte at a place.
+abbrev pub next_place : List ℕ → ℕ → ℕ → Place
+next_place source n at = record { at = at + 1; line = line_past n (code (get_or source at 0)); returned = nat_eq (code (get_or source at 0)) 13 }
 
 -- The bytes before a place, the newest first.
 abbrev pub front : List ℕ → ℕ → List ℕ
@@ -94,10 +97,15 @@ pub record IsPlaceIn (source : List ℕ) (place : Place) : Type 0 where
   pub comment_is : in_comment (front source place.at) ≡ false
   pub cut : IsCut (tokens (front source place.at))
 
--- So many tokens stand before the place where the next statement begins; after the last one there is none.
-abbrev pub IsStanding : List ℕ → ℕ → Option Place → Type 0
-IsStanding source count None = count ≡ length (ended (reverse source))
-IsStanding source count (Some place) = IsPlaceIn source place × (count ≡ length (tokens (front source place.at)))
+-- Where a reader stands after a statement by which the part ends so, if it does; else the next one begins there.
+abbrev pub stands_by : Option Close → Place → Standing
+stands_by (Some c) next = Ended c
+stands_by None next = Begins next
+
+-- Where the part hasn't ended, so many tokens stand before the next statement.
+abbrev pub StandsAt : List ℕ → ℕ → Standing → Type 0
+StandsAt source count (Begins place) = IsPlaceIn source place × (count ≡ length (tokens (front source place.at)))
+StandsAt source count (Ended c) = Unit {0}
 
 -- These are the tokens from the front of a statement up to a place.
 pub record IsOwn (source : List ℕ) (place : Place) (at : ℕ) (own : List Token) : Type 0 where

@@ -1,5 +1,5 @@
 -- The statements of a part, by its tokens in order.
-use Rattle.std.specs.Prelude.{◌≡◌, ℕ, ◌+◌, Bool, true, false, if◌then◌else◌, List, [], ◌∷◌, Option, Some, None, slice_range, ◌⊎◌}
+use Rattle.std.specs.Prelude.{◌≡◌, ℕ, ◌+◌, Bool, true, false, if◌then◌else◌, List, [], ◌∷◌, Option, Some, None, length, nat_eq, slice_range}
 use Rattle.pal_text.specs.declared.tokens.Kind.{Kind}
 use Rattle.pal_text.specs.declared.tokens.Kind.TheVariants.{End, Dollar}
 use Rattle.pal_text.specs.declared.tokens.Token.{Token}
@@ -9,10 +9,7 @@ use Rattle.pal_text.specs.declared.cut.Statement.{Statement}
 use Rattle.pal_text.specs.declared.cut.Ending.{Ending}
 use Rattle.pal_text.specs.declared.cut.Ending.TheVariants as ending
 use Rattle.pal_text.specs.declared.cut.Close.{Close}
-use Rattle.pal_text.specs.declared.fault.TextFault.{TextFault}
-use Rattle.pal_text.specs.declared.fault.TextFault.TheVariants.{Illegal, TooLong, NoMemory}
-use Rattle.pal_text.specs.Grammar.{IsStatement}
-use Rattle.pal_text.specs.Reading.{kinds}
+use Rattle.pal_text.specs.Grammar.{Said, form_of, IsStatement}
 
 -- These end a statement.
 abbrev pub is_end : Kind → Bool
@@ -42,16 +39,20 @@ pieces first at (t ∷ ts) = if is_end t.kind then piece first at t ∷ pieces (
 abbrev pub own : List Token → Piece → List Token
 own tokens p = slice_range tokens p.first p.last
 
--- A piece is this statement.
+-- A piece is this statement: its tokens have so many tags, and what they say has this form.
 pub record Fills (tokens : List Token) (p : Piece) (s : Statement) : Type 0 where
   pub line : s.line ≡ p.mark.line
   pub first : s.first ≡ p.first
   pub last : s.last ≡ p.last
-  pub reads : IsStatement (kinds (own tokens p)) s.tags s.form
+  pub names : List Token
+  pub said : Said
+  pub reads : IsStatement (own tokens p) names said
+  pub tags : s.tags ≡ length names
+  pub form : s.form ≡ form_of said
 
 -- A piece is no statement.
 abbrev pub IsNone : List Token → Piece → Type 0
-IsNone tokens p = (tags : ℕ) (done : Form) → IsStatement (kinds (own tokens p)) tags done → ⊥
+IsNone tokens p = (names : List Token) (said : Said) → IsStatement (own tokens p) names said → ⊥
 
 -- Where the last of some tokens ends; with none, at this place.
 abbrev pub last_end : ℕ → List Token → ℕ
@@ -61,36 +62,21 @@ last_end n (t ∷ ts) = last_end t.end ts
 abbrev pub closed : Ending → ℕ → Close
 closed e n = record { ending = e; stop = n }
 
--- Where a part ends by a statement with these tokens: after the word PAUSE, or after a dollar sign. None where it goes on.
-abbrev pub closing : List Token → Token → Form → Option Close
-closing own mark form.Pause = Some (closed ending.Pause (last_end mark.start own))
-closing own mark _ = if is_dollar mark.kind then Some (closed ending.Dollar mark.end) else None
+-- Where a part of so many bytes ends by a statement with these tokens: after the word PAUSE, after a dollar sign, or at its
+-- last byte. None where it goes on.
+abbrev pub closing : ℕ → List Token → Token → Form → Option Close
+closing size own mark form.Pause = Some (closed ending.Pause (last_end mark.start own))
+closing size own mark _ =
+    if is_dollar mark.kind then Some (closed ending.Dollar mark.end) else
+    if nat_eq mark.start size then Some (closed ending.Bytes size) else None
 
--- After a statement by which the part ends no more statements are looked at.
-abbrev pub Goes : Option Close → List Statement → Close → Type 0 → Type 0
-Goes None ss c later = later
-Goes (Some d) ss c later = (ss ≡ []) × (c ≡ d)
-
--- The statements of a part of so many bytes: its pieces are these one after another, up to the first by which the part ends,
--- or else up to its last byte.
-abbrev pub Stand : List Token → ℕ → List Piece → List Statement → Close → Type 0
-Stand tokens size [] [] c = c ≡ closed ending.Bytes size
-Stand tokens size [] (s ∷ ss) c = ⊥
-Stand tokens size (p ∷ ps) [] c = ⊥
-Stand tokens size (p ∷ ps) (s ∷ ss) c = Fills tokens p s × Goes (closing (own tokens p) p.mark s.form) ss c (Stand tokens size ps ss c)
-
--- A piece is a statement after which the part goes on.
-pub record Passes (tokens : List Token) (p : Piece) : Type 0 where
-  pub statement : Statement
-  pub fills : Fills tokens p statement
-  pub goes_on : closing (own tokens p) p.mark statement.form ≡ None
+-- The statements of a part of so many bytes, whose pieces these are: one after another up to the one by which the part ends so.
+pub data Stand (tokens : List Token) (size : ℕ) : List Piece → List Statement → Close → Type 0 where
+  ends : (p : Piece) (ps : List Piece) (s : Statement) (c : Close) → Fills tokens p s → closing size (own tokens p) p.mark s.form ≡ Some c → Stand tokens size (p ∷ ps) (s ∷ []) c
+  goes_on : (p : Piece) (ps : List Piece) (s : Statement) (ss : List Statement) (c : Close) → Fills tokens p s → closing size (own tokens p) p.mark s.form ≡ None
+      → Stand tokens size ps ss c → Stand tokens size (p ∷ ps) (s ∷ ss) c
 
 -- The first piece that is no statement is on this line, and the part doesn't end before it.
-abbrev pub Breaks : List Token → List Piece → ℕ → Type 0
-Breaks tokens [] n = ⊥
-Breaks tokens (p ∷ ps) n = (IsNone tokens p × (n ≡ p.mark.line)) ⊎ (Passes tokens p × Breaks tokens ps n)
-
-abbrev pub IsFault : List Token → TextFault → Type 0
-IsFault tokens (Illegal n) = Breaks tokens (pieces 0 0 tokens) n
-IsFault tokens TooLong = ⊥
-IsFault tokens NoMemory = Unit {0}
+pub data Breaks (tokens : List Token) (size : ℕ) : List Piece → ℕ → Type 0 where
+  here : (p : Piece) (ps : List Piece) → IsNone tokens p → Breaks tokens size (p ∷ ps) p.mark.line
+  later : (p : Piece) (ps : List Piece) (s : Statement) (n : ℕ) → Fills tokens p s → closing size (own tokens p) p.mark s.form ≡ None → Breaks tokens size ps n → Breaks tokens size (p ∷ ps) n

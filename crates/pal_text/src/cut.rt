@@ -53,9 +53,10 @@ fn end_of(otherwise: usize, tokens: &[Token]) -> usize
     end
 }
 
-/// Whether and where the part ends by a statement with these tokens and the one that ends it.
-pub(crate) fn close_of(own: &[Token], mark: Token, form: Form) -> Option<Close>
-    ensures { result ≡ closing own.now mark form }
+/// Whether and where a part of so many bytes ends by a statement with these tokens and the one that
+/// ends it.
+pub(crate) fn close_of(size: usize, own: &[Token], mark: Token, form: Form) -> Option<Close>
+    ensures { result ≡ closing size own.now mark form }
 {
     if form == Form::Pause {
         Some(Close {
@@ -66,6 +67,11 @@ pub(crate) fn close_of(own: &[Token], mark: Token, form: Form) -> Option<Close>
         Some(Close {
             ending: Ending::Dollar,
             stop: mark.end,
+        })
+    } else if mark.start == size {
+        Some(Close {
+            ending: Ending::Bytes,
+            stop: size,
         })
     } else {
         None

@@ -1,6 +1,20 @@
 //! Why a part is refused.
 
+ghost use Rattle.std.specs.Prelude.{◌≡◌};
+ghost use Rattle.pal_text.specs.Parts.{fault_of};
+
 use thiserror::Error;
+
+/// Why the next statement of a part isn't read.
+#[derive(Clone, Copy, PartialEq, Eq, Debug, Error)]
+pub enum StatementFault {
+    /// The statement is on this line, counted from 1, and has no form.
+    #[error("Illegal {0}")]
+    Illegal(usize),
+    /// Memory was refused.
+    #[error("NoMemory")]
+    NoMemory,
+}
 
 /// Why a part is refused.
 #[derive(Clone, Copy, PartialEq, Eq, Debug, Error)]
@@ -14,4 +28,15 @@ pub enum TextFault {
     /// Memory was refused.
     #[error("NoMemory")]
     NoMemory,
+}
+
+impl From<StatementFault> for TextFault {
+    ghost from_gives = { λ fault result. result ≡ fault_of fault };
+
+    fn from(fault: StatementFault) -> TextFault {
+        match fault {
+            StatementFault::Illegal(line) => TextFault::Illegal(line),
+            StatementFault::NoMemory => TextFault::NoMemory,
+        }
+    }
 }

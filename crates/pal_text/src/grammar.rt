@@ -2,7 +2,7 @@
 
 ghost use Rattle.std.specs.Prelude.{◌≡◌};
 ghost use Rattle.pal_text.specs.Grammar.{is_term, is_joiner, is_sign, is_name, is_terms, is_expression};
-ghost use Rattle.pal_text.specs.Reading.{kinds, is_tag, is_star, is_equals, single, body, shape};
+ghost use Rattle.pal_text.specs.Reading.{is_tag, is_star, is_equals, single, body, shape};
 
 use crate::tokens::{Kind, Token};
 
@@ -79,7 +79,7 @@ fn tag(first: Kind, second: Kind) -> bool
 
 /// Whether these are terms with a joiner between each two.
 fn terms(tokens: &[Token]) -> bool
-    ensures { result ≡ is_terms (kinds tokens.now) }
+    ensures { result ≡ is_terms tokens.now }
 {
     let mut rest = tokens;
     while let [first, second, more @ ..] = rest {
@@ -96,7 +96,7 @@ fn terms(tokens: &[Token]) -> bool
 
 /// Whether these are an expression: terms, after a sign or without one.
 fn expression(tokens: &[Token]) -> bool
-    ensures { result ≡ is_expression (kinds tokens.now) }
+    ensures { result ≡ is_expression tokens.now }
 {
     match tokens {
         [first, rest @ ..] if sign(first.kind) => terms(rest),
@@ -118,7 +118,7 @@ fn single_form(kind: Kind) -> Option<Form>
 
 /// What these tokens do, which stand after the tags.
 fn body_of(tokens: &[Token]) -> Option<Form>
-    ensures { result ≡ body (kinds tokens.now) }
+    ensures { result ≡ body tokens.now }
 {
     let (form, operand) = match tokens {
         [] => return Some(Form::Empty),
@@ -138,7 +138,7 @@ fn body_of(tokens: &[Token]) -> Option<Form>
 
 /// What the tokens of a statement are; none where they are no statement.
 pub(crate) fn shape_of(tokens: &[Token]) -> Option<Shape>
-    ensures { result ≡ shape 0 (kinds tokens.now) }
+    ensures { result ≡ shape 0 tokens.now }
 {
     let mut tags = 0;
     let mut rest = tokens;

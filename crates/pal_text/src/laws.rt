@@ -1,20 +1,22 @@
 //! Laws over the definitions alone. Each is the contract of a function that does nothing.
 
-ghost use Rattle.pal_text.specs.Laws.{TokensSpellAgain, IgnoredAddNothing, CommentsAddNothing, StatementsStay};
+ghost use Rattle.pal_text.specs.Laws.{TokensSpellAgain, IgnoredAddNothing, CommentsAddNothing, StatementsStay, ReadingIsOne, IllegalIsOne, ReadingIsNotIllegal};
 
-/// The slice of a token, read as a part of its own, is that token again.
+/// The slice of a token that is no space and ends no statement, read as a part of its own, is that
+/// token again.
 pub fn tokens_spell_again()
     ensures { TokensSpellAgain }
 {}
 
-/// An ignored byte adds nothing: with it the tokens are the same, and stand where they stood or
-/// one byte later.
+/// An ignored byte adds nothing: with it the tokens are the same, and those after it stand one
+/// byte later.
 pub fn ignored_bytes_add_nothing()
     ensures { IgnoredAddNothing }
 {}
 
-/// A comment adds nothing: with it the tokens are the same, and stand where they stood or so much
-/// later as the comment is long.
+/// A comment adds nothing at the end of a line that has none: with it the tokens are the same, and
+/// those after it stand so much later as it is long. A line feed that is ignored after a return
+/// ends no line, so before that one a comment does add something.
 pub fn comments_add_nothing()
     ensures { CommentsAddNothing }
 {}
@@ -23,4 +25,12 @@ pub fn comments_add_nothing()
 /// read.
 pub fn statements_stay()
     ensures { StatementsStay }
+{}
+
+/// A part has at most one reading, or at most one first line with a statement that has no form, and
+/// not both.
+pub fn parts_have_one_answer()
+    ensures reading { ReadingIsOne }
+    ensures illegal { IllegalIsOne }
+    ensures either { ReadingIsNotIllegal }
 {}

@@ -18,10 +18,10 @@ mod scan;
 pub mod tokens;
 
 pub use cut::{Close, Ending, Statement};
-pub use fault::TextFault;
+pub use fault::{StatementFault, TextFault};
 pub use grammar::Form;
 pub use lines::{Line, lines_of};
 pub use names::Name;
 pub use part::{LONGEST, Part, statements};
-pub use reader::{Found, Reader};
+pub use reader::{Found, Next, Reader};
 pub use tokens::{Kind, Token};

@@ -1,6 +1,6 @@
 //! The lines of a part.
 
-ghost use Rattle.std.specs.Prelude.{◌≡◌, ◌≤◌, length, reverse, IfOk};
+ghost use Rattle.std.specs.Prelude.{◌≡◌, ◌≢◌, ◌≤◌, [], length, reverse, IfOk, OnErr};
 ghost use Rattle.pal_text.specs.Lines.{begun_by, all_lines};
 
 use crate::characters::{Meaning, meaning_of, returned_after};
@@ -30,9 +30,10 @@ fn begun_after(begun: bool, meaning: Meaning) -> bool
 ///
 /// # Errors
 ///
-/// Where memory was refused.
+/// Where memory was refused, which is wanted only where there is a line.
 pub fn lines_of<A: Allocator>(alloc: A, bytes: &[u8]) -> Result<Vec<Line, A>, AllocError>
-    ensures { IfOk result (λ out. out.items ≡ all_lines bytes.now) }
+    ensures lines { IfOk result (λ out. out.items ≡ all_lines bytes.now) }
+    ensures refused { OnErr result (all_lines bytes.now ≢ []) }
 {
     let mut out = Vec::new(alloc);
     let mut start = 0;

@@ -1,12 +1,12 @@
 //! A part of a source, read.
 
-ghost use Rattle.std.specs.Prelude.{◌≡◌, ◌↔◌, ◌≤◌, ◌<◌, ◌+◌, ◌++◌, ◌∷◌, [], length, reverse, take, slice_range, IfOk, OnOk, IfErr, MatchResult, Err, ℕ, List};
+ghost use Rattle.std.specs.Prelude.{◌≡◌, ◌≢◌, ◌↔◌, ◌≤◌, ◌<◌, ◌+◌, ◌++◌, ◌∷◌, [], length, reverse, take, slice_range, IfOk, OnOk, OnErr, IfErr, MatchResult, Err, ℕ, List};
 ghost use Rattle.std.specs.List.{AllByRecursion};
 ghost use Rattle.pal_text.specs.Order.{IsOrdered, IsPlaced, IsLineWithin};
 ghost use Rattle.pal_text.specs.Names.{IsWithin, bytes_of, part_tokens};
 ghost use Rattle.pal_text.specs.ReadParts.{tokens_in, lines_in};
-ghost use Rattle.pal_text.specs.Statements.{closed, pieces, IsFault, Stand};
-ghost use Rattle.pal_text.specs.Parts.{IsPart, IsIllegal, Agrees, IsSilent, TellsOnly, past};
+ghost use Rattle.pal_text.specs.Statements.{closed, pieces, Stand};
+ghost use Rattle.pal_text.specs.Parts.{IsPart, IsIllegal, IsFault, Agrees, IsSilent, TellsOnly, past};
 ghost use Rattle.pal_text.specs.declared.tokens.Token.{Token as Tokened};
 ghost use Rattle.pal_text.specs.declared.cut.Statement.{Statement as Stated};
 ghost use Rattle.pal_text.specs.declared.cut.Ending.{Ending as Ended};
@@ -15,7 +15,7 @@ ghost use Rattle.pal_text.specs.declared.lines.Line.{Line as Lined};
 use crate::cut::{Ending, Statement};
 use crate::fault::TextFault;
 use crate::lines::{Line, lines_of};
-use crate::reader::{Found, Reader};
+use crate::reader::{Found, Next, Reader};
 use crate::tokens::Token;
 use std::alloc::{AllocError, Allocator};
 
@@ -57,12 +57,13 @@ impl<'s, A: Allocator + Copy> Part<'s, A> {
     ///
     /// # Errors
     ///
-    /// Where memory was refused.
+    /// Where memory was refused, which is wanted only where there is a line.
     pub fn lines(&self, alloc: A) -> Result<Vec<Line, A>, AllocError>
         requires { self.now.stop ≤ length self.now.source.now }
         ensures lines { IfOk result (λ lines. lines.items ≡ lines_in self.now) }
         ensures within { IfOk result (λ lines. AllByRecursion
             (IsLineWithin (length self.now.source.now)) lines.items) }
+        ensures refused { OnErr result (lines_in self.now ≢ []) }
     {
         lines_of(alloc, &self.source[..self.stop])
     }
@@ -109,32 +110,29 @@ fn read_part<'s, A: Allocator + Copy>(alloc: A, source: &'s [u8]) -> Result<Part
     ensures closes { IfOk result (λ part. Stand (part_tokens source.now) (length source.now)
         (pieces 0 0 (part_tokens source.now)) part.statements.items
         (closed part.ending part.stop)) }
-    ensures fault { IfErr result (IsFault (part_tokens source.now)) }
+    ensures fault { IfErr result (IsFault source.now) }
 {
     let mut reader = Reader::new(alloc, source);
     let mut tokens = Vec::new(alloc);
     let mut statements = Vec::new(alloc);
-    while let Some(found) = reader.read_next()? {
-        if keep(&mut tokens, &mut statements, reader.tokens(), &found).is_err() {
-            return Err(TextFault::NoMemory);
-        }
-        if let Some(close) = found.close {
-            return Ok(Part {
-                source,
-                tokens,
-                statements,
-                ending: close.ending,
-                stop: close.stop,
-            });
+    loop {
+        match reader.read_next()? {
+            Next::Statement(found) => {
+                if keep(&mut tokens, &mut statements, reader.tokens(), &found).is_err() {
+                    return Err(TextFault::NoMemory);
+                }
+            }
+            Next::End(close) => {
+                return Ok(Part {
+                    source,
+                    tokens,
+                    statements,
+                    ending: close.ending,
+                    stop: close.stop,
+                });
+            }
         }
     }
-    Ok(Part {
-        source,
-        tokens,
-        statements,
-        ending: Ending::Bytes,
-        stop: source.len(),
-    })
 }
 
 /// Reads a part of a source: its statements up to `$`, PAUSE or its last byte. Where each of them

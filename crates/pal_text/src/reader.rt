@@ -1,14 +1,17 @@
 //! The statements of a part, read one after another.
 
-ghost use Rattle.std.specs.Prelude.{◌≡◌, ◌≤◌, ◌+◌, length, Ok, None, IfOk, OnOk, IfErr, []};
+ghost use Rattle.std.specs.Prelude.{◌≡◌, ◌≢◌, ◌≤◌, ◌<◌, ◌+◌, length, Ok, Some, None, IfOk, OnOk, IfErr, []};
 ghost use Rattle.std.specs.List.{AllByRecursion};
 ghost use Rattle.pal_text.specs.Names.{IsWithin};
 ghost use Rattle.pal_text.specs.Tokens.{tokens};
-ghost use Rattle.pal_text.specs.Scan.{front, IsPlaceIn, IsStanding};
-ghost use Rattle.pal_text.specs.Readers.{rest, IsNext, Finds, BreaksNext};
+ghost use Rattle.pal_text.specs.Scan.{front, next_place, IsPlaceIn, stands_by, StandsAt};
+ghost use Rattle.pal_text.specs.Progress.{ended_at};
+ghost use Rattle.pal_text.specs.Readers.{rest, IsNext, Finds, StopsAt, BreaksNext};
+ghost use Rattle.pal_text.specs.declared.cut.Close.{Close as Closed};
+ghost use Rattle.pal_text.specs.declared.reader.Next.TheVariants.{End};
 
 use crate::cut::{Close, Statement, close_of};
-use crate::fault::TextFault;
+use crate::fault::StatementFault;
 use crate::grammar::shape_of;
 use crate::names::name_tokens;
 use crate::scan::{Place, drop_space, mark_at, place_after, read_own};
@@ -16,20 +19,47 @@ use crate::tokens::Token;
 use std::alloc::Allocator;
 use std::marker::Model;
 
-/// What was read: a statement, the token that ends it, and where the part ends, if it ends by this
-/// statement.
+/// A statement that was read, and the token that ends it.
 #[derive(Clone, Copy, PartialEq, Eq, Debug)]
 pub struct Found {
     pub statement: Statement,
     pub mark: Token,
-    pub close: Option<Close>,
 }
 
-/// What was read, and where the next statement begins; nowhere after the last one.
+/// What comes next in a part.
+#[derive(Clone, Copy, PartialEq, Eq, Debug)]
+pub enum Next {
+    /// A statement.
+    Statement(Found),
+    /// No statement: the part has ended so.
+    End(Close),
+}
+
+/// Where a reader stands: where the next statement begins, or how the part has ended.
+#[derive(Clone, Copy, PartialEq, Eq, Debug)]
+enum Standing {
+    Begins(Place),
+    Ended(Close),
+}
+
+/// A statement that was read, and where the reader stands after it.
 #[derive(Clone, Copy, PartialEq, Eq, Debug)]
 struct Step {
     found: Found,
-    next: Option<Place>,
+    next: Standing,
+}
+
+/// Where a reader stands after a statement that ends on this line, at this place, and by which the
+/// part ends so, if it does.
+fn standing_after(source: &[u8], close: Option<Close>, line: usize, at: usize) -> Standing
+    requires inside { close ≡ None → at < length source.now }
+    requires small { line ≤ 65536 + 1 }
+    ensures { result ≡ stands_by close (next_place source.now line at) }
+{
+    match close {
+        Some(close) => Standing::Ended(close),
+        None => Standing::Begins(place_after(source, line, at)),
+    }
 }
 
 /// Reads the statement at a place, before which so many tokens stand.
@@ -38,27 +68,27 @@ fn read_statement<A: Allocator>(
     place: &Place,
     count: usize,
     own: &mut Vec<Token, A>,
-) -> Result<Step, TextFault>
+) -> Result<Step, StatementFault>
     requires size { length source.now ≤ 65536 }
     requires place { IsPlaceIn source.now place.now }
     requires count { count ≡ length (tokens (front source.now place.now.at)) }
     requires empty { own.old.items ≡ [] }
     ensures found { IfOk result (λ step. IsNext source.now count step.found own.new.items
-        (step.found.statement.last + 1)) }
-    ensures standing { IfOk result (λ step. IsStanding source.now (step.found.statement.last + 1)
+        (step.found.statement.last + 1) (ended_at step.next)) }
+    ensures standing { IfOk result (λ step. StandsAt source.now (step.found.statement.last + 1)
         step.next) }
     ensures within { OnOk result (AllByRecursion (IsWithin (length source.now)) own.new.items) }
     ensures small { IfOk result (λ step. step.found.statement.last ≤ 65536) }
-    ensures fault { IfErr result (BreaksNext source.now count) }
+    ensures fault { IfErr result (StopsAt source.now count) }
 {
     let Ok(stop) = read_own(source, place, own) else {
-        return Err(TextFault::NoMemory);
+        return Err(StatementFault::NoMemory);
     };
     drop_space(own);
     name_tokens(source, own);
     let mark = mark_at(source, place.line, stop);
     let Some(shape) = shape_of(own) else {
-        return Err(TextFault::Illegal(mark.line));
+        return Err(StatementFault::Illegal(mark.line));
     };
     let last = count + own.len();
     let statement = Statement {
@@ -68,45 +98,45 @@ fn read_statement<A: Allocator>(
         tags: shape.tags,
         form: shape.form,
     };
-    let close = close_of(own, mark, shape.form);
-    let found = Found {
-        statement,
-        mark,
-        close,
-    };
-    let next = place_after(source, place.line, stop);
-    Ok(Step { found, next })
+    let close = close_of(source.len(), own, mark, shape.form);
+    let next = standing_after(source, close, place.line, stop);
+    Ok(Step {
+        found: Found { statement, mark },
+        next,
+    })
 }
 
 /// A reader of the statements of a part, one after another. A statement goes up to `;`, `$`, the
 /// end of a line or of the part; from `/` up to the end of the line stands a comment. It is tags,
-/// each a name and a comma, and then what a `Form` names. The reader holds the tokens of one
-/// statement at a time, and goes over the bytes once.
+/// each a name and a comma, and then what a `Form` names. The part ends after the statement PAUSE,
+/// after `$` or at its last byte. The reader holds the tokens of one statement at a time, and goes
+/// over the bytes once.
 #[derive(Drop)]
 pub struct Reader<'s, A: Allocator + Copy> {
     source: &'s [u8],
-    place: Option<Place>,
+    standing: Standing,
     count: usize,
     tokens: Vec<Token, A>,
 }
 
 impl<'s, A: Allocator + Copy> Model for Reader<'s, A> {
     ghost use Rattle.std.specs.Prelude.{length, ◌≤◌};
-    ghost use Rattle.pal_text.specs.Progress.{Progress};
+    ghost use Rattle.pal_text.specs.Progress.{Progress, ended_at};
 
     ghost Value = { Progress };
+
+    ghost use Rattle.pal_text.specs.Scan.{StandsAt};
 
     ghost view = { λ reader. record {
       source = reader.source.now;
       count = reader.count;
       own = reader.tokens.items;
+      close = ended_at reader.standing;
     } };
-
-    ghost use Rattle.pal_text.specs.Scan.{IsStanding};
 
     // The next statement begins after as many tokens as were counted.
     ghost invariant = { λ reader. (length reader.source.now ≤ 65536) ×
-        IsStanding reader.source.now reader.count reader.place };
+        StandsAt reader.source.now reader.count reader.standing };
 }
 
 impl<'s, A: Allocator + Copy> Reader<'s, A> {
@@ -116,10 +146,11 @@ impl<'s, A: Allocator + Copy> Reader<'s, A> {
         ensures source { result.source ≡ source.now }
         ensures count { result.count ≡ 0 }
         ensures own { result.own ≡ [] }
+        ensures close { result.close ≡ None }
     {
         Reader {
             source,
-            place: Some(Place {
+            standing: Standing::Begins(Place {
                 at: 0,
                 line: 1,
                 returned: false,
@@ -137,35 +168,37 @@ impl<'s, A: Allocator + Copy> Reader<'s, A> {
         &self.tokens
     }
 
-    /// Reads the next statement, and none after the last one, however often it is asked. It goes
-    /// on where a part ends by a statement: that is the caller's to see.
+    /// Reads the next statement, or tells how the part has ended, however often it is asked.
     ///
     /// # Errors
     ///
     /// `Illegal` with the line of the next statement where that has no form, and `NoMemory` where
-    /// memory was refused. The next read then begins at the same statement.
-    pub fn read_next(&mut self) -> Result<Option<Found>, TextFault>
+    /// memory was refused, which is wanted only where the statement has a token. The next read then
+    /// begins at the same statement.
+    pub fn read_next(&mut self) -> Result<Next, StatementFault>
         ensures source { self.new.source ≡ self.old.source }
-        ensures found { IfOk result (λ found. Finds self.old.source self.old.count found
-            self.new.own self.new.count) }
-        ensures ended { result ≡ Ok None → (self.new.count ≡ self.old.count) × (self.new.own ≡ []) }
-        // Where no statement is left it says so, and nothing else, so also whenever it is asked again.
-        ensures over { rest self.old.source self.old.count ≡ [] → result ≡ Ok None }
+        ensures found { IfOk result (λ next. Finds self.old next self.new) }
+        // Where the part has ended it says so, and nothing else, so also whenever it is asked again,
+        ensures over { (close : Closed) → self.old.close ≡ Some close → result ≡ Ok (End close) }
+        // and where it hasn't, a statement is left or a fault.
+        ensures open { self.old.close ≡ None → rest self.old.source self.old.count ≢ [] }
         ensures within { OnOk result (AllByRecursion (IsWithin (length self.old.source))
             self.new.own) }
-        ensures fault { IfErr result (BreaksNext self.old.source self.old.count) }
-        ensures stays { IfErr result (λ _. self.new.count ≡ self.old.count) }
+        ensures fault { IfErr result (BreaksNext self.old) }
+        ensures stays { IfErr result (λ _. (self.new.count ≡ self.old.count) ×
+            (self.new.close ≡ self.old.close)) }
         ensures cleared { IfErr result (λ _. self.new.own ≡ []) }
     {
         self.tokens.clear();
-        let Some(place) = self.place else {
-            return Ok(None);
+        let place = match self.standing {
+            Standing::Begins(place) => place,
+            Standing::Ended(close) => return Ok(Next::End(close)),
         };
         match read_statement(self.source, &place, self.count, &mut self.tokens) {
             Ok(step) => {
-                self.place = step.next;
+                self.standing = step.next;
                 self.count = step.found.statement.last + 1;
-                Ok(Some(step.found))
+                Ok(Next::Statement(step.found))
             }
             Err(fault) => {
                 self.tokens.clear();

@@ -1,10 +1,11 @@
 //! The tokens of a statement, read from the bytes.
 
-ghost use Rattle.std.specs.Prelude.{◌≡◌, ◌≤◌, ◌<◌, ◌+◌, ◌^◌, false, true, List, [], length, reverse, OnOk, IfOk, get_or, Some};
+ghost use Rattle.std.specs.Prelude.{◌≡◌, ◌≤◌, ◌<◌, ◌+◌, ◌^◌, false, true, List, [], length, reverse, OnOk, OnErr, IfOk, get_or, Some};
 ghost use Rattle.pal_text.specs.declared.tokens.Token.{Token as Tokened};
 ghost use Rattle.pal_text.specs.declared.tokens.Kind.TheVariants.{Symbol};
-ghost use Rattle.pal_text.specs.Tokens.{is_letter, longer};
+ghost use Rattle.pal_text.specs.Tokens.{is_letter, longer, tokens};
 ghost use Rattle.pal_text.specs.Characters.{code, line, returned, in_comment};
+ghost use Rattle.pal_text.specs.Readers.{HasToken};
 ghost use Rattle.pal_text.specs.Scan.{trimmed, mark, next_place, brings, is_line_code, mark_kind, line_past, front, IsStop, IsQuiet, IsOutside, IsPlaceIn, IsOwn, is_word, IsRun, IsOnward};
 
 use crate::tokens::{Kind, Token, add, is_a_space, kind_for};
@@ -165,6 +166,7 @@ fn finish_run<A: Allocator>(source: &[u8], out: &mut Vec<Token, A>, at: usize) -
 }
 
 /// Reads the tokens of the statement at a place; where it ends, by a byte there or with the part.
+/// Memory is wanted only for a token.
 pub(crate) fn read_own<A: Allocator>(
     source: &[u8],
     place: &Place,
@@ -174,6 +176,8 @@ pub(crate) fn read_own<A: Allocator>(
     requires empty { out.old.items ≡ [] }
     ensures own { IfOk result (λ stop. IsOwn source.now place.now stop out.new.items) }
     ensures stop { IfOk result (IsStop source.now) }
+    ensures refused { OnErr result (HasToken source.now
+        (length (tokens (front source.now place.now.at)))) }
 {
     let mut returned = place.returned;
     let mut at = place.at;
@@ -241,19 +245,16 @@ pub(crate) fn mark_at(source: &[u8], line: usize, at: usize) -> Token
     }
 }
 
-/// Where the next statement begins, after one that ends on this line, at this place.
-pub(crate) fn place_after(source: &[u8], line: usize, at: usize) -> Option<Place>
-    requires inside { at ≤ length source.now }
+/// Where the next statement begins, after one that ends on this line, by the byte at this place.
+pub(crate) fn place_after(source: &[u8], line: usize, at: usize) -> Place
+    requires inside { at < length source.now }
     requires small { line ≤ 65536 + 1 }
     ensures { result ≡ next_place source.now line at }
 {
-    if at == source.len() {
-        return None;
-    }
     let code = source[at] % 128;
-    Some(Place {
+    Place {
         at: at + 1,
         line: if is_line_end(code) { line + 1 } else { line },
         returned: code == 13,
-    })
+    }
 }

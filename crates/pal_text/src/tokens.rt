@@ -1,6 +1,6 @@
 //! The tokens of a part.
 
-ghost use Rattle.std.specs.Prelude.{◌≡◌, List, reverse, OnOk};
+ghost use Rattle.std.specs.Prelude.{◌≡◌, false, List, [], reverse, OnOk, OnErr};
 ghost use Rattle.pal_text.specs.Tokens.{kind_of, is_run, is_space, absorbs, longer, joined, added};
 ghost use Rattle.pal_text.specs.declared.tokens.Token.{Token as Tokened};
 
@@ -128,10 +128,11 @@ fn join(last: Token, next: Token) -> Option<Token>
     }
 }
 
-/// Adds a character.
+/// Adds a character. A space that would be the first token wants no memory.
 pub(crate) fn add<A: Allocator>(out: &mut Vec<Token, A>, next: Token) -> Result<(), AllocError>
-    ensures { OnOk result ((ts : List Tokened) → out.old.items ≡ reverse ts → out.new.items ≡
-        reverse (added next ts)) }
+    ensures added { OnOk result ((ts : List Tokened) → out.old.items ≡ reverse ts →
+        out.new.items ≡ reverse (added next ts)) }
+    ensures refused { OnErr result (out.old.items ≡ [] → is_space next.kind ≡ false) }
 {
     let count = out.len();
     if count == 0 {

@@ -3,3 +3,4 @@ pub mod RunLemmas
 pub mod StepLemmas
 pub mod EventLemmas
 pub mod OneLemmas
+mod IdleLemmas

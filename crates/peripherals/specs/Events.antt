@@ -1,5 +1,5 @@
 -- Events: what happens to a machine and its devices, one at a time and in any order.
-use Rattle.std.specs.Prelude.{ℕ, ◌≡◌, ◌<◌, true, false, if◌then◌else◌, Some, None, List, [], ◌∷◌}
+use Rattle.std.specs.Prelude.{ℕ, ◌≡◌, ◌<◌, true, false, if◌then◌else◌, Some, None}
 use Rattle.instruct.specs.declared.Profile.{Profile}
 use Rattle.processor.specs.Runs.{Image, IsStart}
 use Rattle.peripherals.specs.declared.Event.{Event}
@@ -41,11 +41,6 @@ Happens profile w PunchDone x = x ≡ with_devices w (record w.devices { punch =
 Happens profile w (Switches word) x = (word < 4096) × (x ≡ with_devices w (record w.devices { switches = word }))
 -- a halted machine runs on at the program counter; a running one just does
 Happens profile w Continue x = x ≡ record w { halted_at = None }
-
--- From w these events lead to x, one after the other.
-abbrev pub Events : Profile → List Event → WorldState → WorldState → Type 0
-Events profile [] w x = w ≡ x
-Events profile (e ∷ es) w x = (m : WorldState) × Happens profile w e m × Events profile es m x
 
 -- A world as it is loaded: the machine at its start, running, and the devices idle.
 pub record IsLoaded (image : Image) (at : ℕ) (w : WorldState) : Type 0 where

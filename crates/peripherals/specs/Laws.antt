@@ -1,17 +1,30 @@
 -- What the definitions of events and of their texts leave open: nothing. Want of memory isn't a fault of a text.
-use Rattle.std.specs.Prelude.{◌≡◌, ◌≢◌, ℕ, ◌⊎◌, List}
+use Rattle.std.specs.Prelude.{◌≡◌, ◌≢◌, ℕ, ◌⊎◌, false, List}
 use Rattle.peripherals.specs.declared.Event.{Event}
 use Rattle.peripherals.specs.declared.event_text.EventsFault.{EventsFault}
 use Rattle.peripherals.specs.declared.event_text.EventsFault.TheVariants.{NoMemory}
 use Rattle.instruct.specs.declared.Profile.{Profile}
 use Rattle.peripherals.specs.Devices.{WorldState}
+use Rattle.peripherals.specs.declared.Event.TheVariants.{Step}
+use Rattle.peripherals.specs.declared.Seen.TheVariants.{Unsupported}
 use Rattle.peripherals.specs.Events.{Happens}
+use Rattle.peripherals.specs.Seen.{is_enabled, seen_of}
 use Rattle.peripherals.specs.EventText.{Spells, Fails}
 
 -- An event leads to no other world.
 abbrev pub EventsLeadToOneWorld : Type 0
 EventsLeadToOneWorld =
     (profile : Profile) (w : WorldState) (event : Event) (x y : WorldState) → Happens profile w event x → Happens profile w event y → x ≡ y
+
+-- An event that isn't enabled changes nothing,
+abbrev pub IdleEventsChangeNothing : Type 0
+IdleEventsChangeNothing =
+    (profile : Profile) (w x : WorldState) (event : Event) → is_enabled w event ≡ false → Happens profile w event x → x ≡ w
+
+-- nor does a step at a word that isn't supported.
+abbrev pub UnsupportedStepsChangeNothing : Type 0
+UnsupportedStepsChangeNothing =
+    (profile : Profile) (w x : WorldState) (word : ℕ) → seen_of profile w Step ≡ Unsupported word → Happens profile w Step x → x ≡ w
 
 -- A text spells no other events.
 abbrev pub EventsAreOne : Type 0

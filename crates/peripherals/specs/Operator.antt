@@ -6,8 +6,8 @@ use Rattle.peripherals.specs.declared.Event.TheVariants.{Step, Key, PrinterDone,
 use Rattle.peripherals.specs.declared.operator.Operator.{Operator}
 use Rattle.peripherals.specs.Devices.{WorldState}
 
--- What is still to come: what the switches are set to, if they are; so many rounds; the frames in the reader; and the
--- bytes of the keys.
+-- What an operator brings: what the switches are set to at first, if they are; and still to come so many rounds, the frames
+-- in the reader, and the bytes of the keys.
 pub record Plan : Type 0 where
   pub switches : Option ℕ
   pub rounds : ℕ

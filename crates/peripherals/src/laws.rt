@@ -1,6 +1,6 @@
 //! Laws over the definitions alone. Each is the contract of a function that does nothing.
 
-ghost use Rattle.peripherals.specs.Laws.{EachEventTextIsAnswered, EventsAreNoFault, EventsAreOne, EventsFaultIsOne, EventsLeadToOneWorld};
+ghost use Rattle.peripherals.specs.Laws.{EachEventTextIsAnswered, EventsAreNoFault, EventsAreOne, EventsFaultIsOne, EventsLeadToOneWorld, IdleEventsChangeNothing, UnsupportedStepsChangeNothing};
 ghost use Rattle.peripherals.specs.Runs.{EventsAreRuns};
 
 /// Each list of events is a run of the instruction table, by some answers of the devices.
@@ -11,6 +11,12 @@ pub fn events_are_runs()
 /// An event leads from a world to one world.
 pub fn events_lead_to_one_world()
     ensures { EventsLeadToOneWorld }
+{}
+
+/// An event that isn't enabled changes nothing, nor does a step at a word that isn't supported.
+pub fn idle_events_change_nothing()
+    ensures idle { IdleEventsChangeNothing }
+    ensures unsupported { UnsupportedStepsChangeNothing }
 {}
 
 /// Each text of events has one answer: it spells one list of events, or it has one fault, and not

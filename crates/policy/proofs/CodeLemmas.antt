@@ -11,7 +11,7 @@ use Rattle.processor.proofs.CellLemmas.{updated_other}
 use Rattle.peripherals.specs.Loading.{laid}
 use Rattle.declaration.specs.Declaration.{Routine, Declaration, IsDeclared}
 use Rattle.policy.specs.Calls.{Calls, current}
-use Rattle.policy.specs.Rules.{WritesDeclared, CallsEntries, KeepsCode, IsLegal}
+use Rattle.policy.specs.Rules.{StaysInBody, WritesDeclared, CallsEntries, KeepsCode, IsLegal}
 
 module _ (image : Image) (d : Declaration) (dd : IsDeclared d) where
   -- a cell that is no fixed code
@@ -80,6 +80,10 @@ module _ (image : Image) (d : Declaration) (dd : IsDeclared d) where
   does_keeps (Group3 o) s t q ks body writes calls does keeps = subst (λ (x : State). KeepsCode image d x.memory) (sym does.1) keeps
   does_keeps (Device action) s t q ks body writes calls does keeps = subst (λ (x : State). KeepsCode image d x.memory) (sym does.3) keeps
   does_keeps Undefined s t q ks body writes calls does keeps = absurd does
+
+  pub declared_keeps : (s t : State) (q : Answer) (ks : Calls) → StaysInBody d s ks → WritesDeclared d (instruction d.profile s) s ks → CallsEntries d (instruction d.profile s) s → Does (instruction d.profile s) s q t
+      → KeepsCode image d s.memory → KeepsCode image d t.memory
+  declared_keeps s t q ks stays writes calls does keeps = does_keeps (instruction d.profile s) s t q ks stays.in_body writes calls does keeps
 
   pub step_keeps : (s t : State) (q : Answer) (ks : Calls) → IsLegal image d s ks → Does (instruction d.profile s) s q t → KeepsCode image d t.memory
   step_keeps s t q ks legal does = does_keeps (instruction d.profile s) s t q ks legal.stays.in_body legal.writes legal.calls does legal.code

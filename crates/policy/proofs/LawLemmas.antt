@@ -9,13 +9,13 @@ use Rattle.peripherals.specs.Devices.{WorldState, answer_of}
 use Rattle.peripherals.specs.Events.{Steps}
 use Rattle.declaration.specs.Declaration.{Declaration, IsDeclared}
 use Rattle.policy.specs.Calls.{Calls}
-use Rattle.policy.specs.Laws.{RunIsOne, VerdictIsOne, CodeIsKept}
+use Rattle.policy.specs.Laws.{RunIsOne, VerdictIsOne, CodeIsKept, StepsKeepCode}
 use Rattle.policy.specs.Rules.{KeepsCode, IsLegal}
 use Rattle.policy.specs.Runs.{HappensDeclared, DeclaredEvents, calls_by}
 use Rattle.policy.specs.Watching.{Tells}
 use Rattle.policy.specs.declared.watcher.Watched.{Watched}
 use Rattle.policy.specs.declared.watcher.Watched.TheVariants.{Clean, Broken}
-use Rattle.policy.proofs.CodeLemmas.{step_keeps}
+use Rattle.policy.proofs.CodeLemmas.{declared_keeps, step_keeps}
 use Rattle.policy.proofs.TellLemmas.{clean_tells, broken_tells}
 use Rattle.policy.proofs.WatchLemmas.{run_one}
 
@@ -67,3 +67,6 @@ pub code_is_kept : CodeIsKept
 code_is_kept image d events w n dd keeps breaks =
     breaks.broken.broken
     (events_keep image d dd n events w breaks.world [] breaks.calls (λ m x ks less step before running. breaks.first m x ks less (record { step = step; before = before; runs = running })) breaks.tries.before keeps)
+
+pub steps_keep_code : StepsKeepCode
+steps_keep_code image d s t q ks dd stays writes calls step keeps = declared_keeps image d dd s t q ks stays writes calls step keeps

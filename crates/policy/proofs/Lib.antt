@@ -6,3 +6,4 @@ pub mod WatchLemmas
 pub mod TellLemmas
 pub mod RunLemmas
 pub mod LawLemmas
+mod DeclaredLemmas

@@ -1,6 +1,6 @@
 //! Laws over the definitions alone. Each is the contract of a function that does nothing.
 
-ghost use Rattle.policy.specs.Laws.{CodeIsKept, RunIsOne, VerdictIsOne};
+ghost use Rattle.policy.specs.Laws.{CodeIsKept, DeclaredEventsAreRuns, RunIsOne, SafeInRunsIsSafe, StepsKeepCode, VerdictIsOne};
 ghost use Rattle.policy.specs.Rules.{UnlistedReadsAreKept};
 
 /// Where a declaration lists no reads, each step keeps the rule on reads.
@@ -14,8 +14,16 @@ pub fn verdicts_are_one()
     ensures told { VerdictIsOne }
 {}
 
-/// The rule on code is never the one that is told of a loaded program: a step that would change
-/// code breaks another rule.
+/// A step that keeps the rules on the body, on writes and on calls changes no code. So the rule on
+/// code is never the one that is told of a loaded program.
 pub fn code_is_kept()
-    ensures { CodeIsKept }
+    ensures steps { StepsKeepCode }
+    ensures told { CodeIsKept }
+{}
+
+/// The events of a declared run that leave the machine running are a declared run of the
+/// instruction table. So a program that is safe in these runs is safe.
+pub fn declared_events_are_runs()
+    ensures runs { DeclaredEventsAreRuns }
+    ensures safe { SafeInRunsIsSafe }
 {}

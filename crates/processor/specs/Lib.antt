@@ -3,3 +3,4 @@ pub mod Machine
 pub mod Runs
 pub mod Steps
 pub mod Mq
+pub mod Laws

@@ -4,8 +4,8 @@
 //! What the table leaves to the devices and the switches it asks of a `Bus`.
 #![tactic(auto)]
 
+pub mod laws;
 mod memory;
-mod mq;
 
 ghost use Rattle.std.specs.Prelude.{ℕ, ◌≡◌, ◌+◌, ◌/◌, ◌%◌, IsSome, true};
 ghost use Rattle.instruct.specs.declared.Instruction.TheVariants.{Operate1, Operate2, Operate3, Memory as IsMemory};
@@ -22,7 +22,6 @@ use instruct::{
     refers_indirectly, skips, target,
 };
 pub use memory::Memory;
-pub use mq::basic_instructions_leave_mq;
 use word12::{Link, Word};
 
 /// The processor of a PDP-8, with its memory.
@@ -301,7 +300,7 @@ impl Cpu {
             (B.answer_to bus.old (word_at_pc self.old)) (B.switch_word bus.old))
             (state_of self.new) }
         ensures profile { self.new.profile ≡ self.old.profile }
-        // The bus is asked at a device word alone.
+        // The bus changes at a device word alone.
         ensures bus { BusAfter (instruction_at_pc self.old)
             (B.goes_on bus.old (word_at_pc self.old) self.old.ac bus.new)
             (bus.new ≡ bus.old) }

@@ -9,7 +9,7 @@ use Rattle.policy.specs.Runs.{IsSafe}
 use Rattle.certificate.specs.Kept as certified
 use Rattle.certificate.specs.Reading.{AreLines}
 use Rattle.certificate.specs.Spelling.{Lines, text}
-use Rattle.judge.specs.Conditions.{IsFirst, IsValid}
+use Rattle.judge.specs.Conditions.{IsValid}
 use Rattle.judge.specs.Judged.{judged}
 use Rattle.declaration.specs.declared.DeclarationFault.TheVariants as declaration_fault
 use Rattle.proposer.specs.Needed.{ReadsAreNeeded}
@@ -19,7 +19,7 @@ use Rattle.proposer.specs.declared.Proposal.{Proposal}
 use Rattle.proposer.specs.declared.Verdict.{Verdict}
 use Rattle.proposer.specs.declared.ProposeFault.{ProposeFault}
 use Rattle.proposer.specs.declared.ProposeFault.TheVariants.{Undeclarable}
-use Rattle.proposer.specs.declared.Verdict.TheVariants.{Safe, Refused, TurnsSpent}
+use Rattle.proposer.specs.declared.Verdict.TheVariants.{Safe, TurnsSpent}
 
 -- The declaration has this start and is for this machine, it keeps the overlap rules, and the text is one of its texts, with
 -- the routines in its order.
@@ -34,11 +34,9 @@ pub record Fits {A : Type 0} (at : ℕ) (machine : Profile) (p : Proposal A) : T
 abbrev pub IsFor : Kept → Lines → Type 0
 IsFor d ls = AreLines ls × (ls.version ≡ version_of (meaning d).profile) × (length (text ls) ≤ 1048576)
 
--- With a certificate the program keeps the declaration in every run, and every condition holds of that certificate; a
--- refusal names the first condition that fails, of the certificate beside it, and where.
+-- With a certificate the program keeps the declaration in every run, and every condition holds of that certificate.
 abbrev pub IsShown : {A : Type 0} → List (Option ℕ) → Kept → Verdict A → Type 0
 IsShown image d (Safe c) = IsSafe (image_of image) (meaning d) × IsFor d (certified.meaning c) × IsValid (judged image d (certified.claims c))
-IsShown image d (Refused c r) = IsFor d (certified.meaning c) × IsFirst (judged image d (certified.claims c)) r.condition r.address
 IsShown image d _ = ⊤
 
 -- A want of memory isn't told as a declaration's fault.
@@ -50,20 +48,12 @@ IsTold _ = ⊤
 abbrev pub IsSpentUp : {A : Type 0} → Count → Verdict A → Type 0
 IsSpentUp turns v = v ≡ TurnsSpent → turns.spent ≡ turns.limit
 
--- Where a certificate is found that the judge accepts, the declaration lists the cells that may be read; where none is found it
--- lists none. (One that the judge refuses may be refused with the list or without it.)
+-- With a certificate the declaration lists the cells that may be read, and without one it lists none.
 abbrev pub IsListed : {A : Type 0} → Kept → Verdict A → Type 0
 IsListed d (Safe c) = is_some (meaning d).reads ≡ true
-IsListed d (Refused c r) = ⊤
 IsListed d _ = (meaning d).reads ≡ None
-
--- It isn't told that the judge refuses what is found.
-abbrev pub IsNoRefusal : {A : Type 0} → Verdict A → Type 0
-IsNoRefusal (Refused c r) = ⊥
-IsNoRefusal _ = ⊤
 
 -- By the facts of the certificate that is found, some word may read each cell of the list of reads.
 abbrev pub AreNeeded : {A : Type 0} → List (Option ℕ) → Kept → Verdict A → Type 0
 AreNeeded image d (Safe c) = ReadsAreNeeded (judged image d (certified.claims c))
-AreNeeded image d (Refused c r) = ReadsAreNeeded (judged image d (certified.claims c))
 AreNeeded image d _ = ⊤

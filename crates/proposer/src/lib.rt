@@ -12,7 +12,7 @@ ghost use Rattle.declaration.specs.Text.{Declares, ListsRoutines};
 ghost use Rattle.judge.specs.Judged.{judged};
 ghost use Rattle.proposer.specs.Needed.{ReadsAreNeeded};
 ghost use Rattle.proposer.specs.declared.Verdict.TheVariants.{TurnsSpent};
-ghost use Rattle.proposer.specs.Proposals.{AreNeeded, Fits, IsListed, IsNoRefusal, IsShown, IsSpentUp, IsTold};
+ghost use Rattle.proposer.specs.Proposals.{AreNeeded, Fits, IsListed, IsShown, IsSpentUp, IsTold};
 
 mod map;
 mod steps;
@@ -29,7 +29,7 @@ use bin_tape::Image;
 use certificate::Certificate;
 use declaration::{Declaration, DeclarationFault};
 use instruct::Profile;
-use judge::{Refusal, judge};
+use judge::judge;
 use std::alloc::Allocator;
 use thiserror::Error;
 use word12::Word;
@@ -44,7 +44,8 @@ pub enum ProposeFault {
     /// What was found can't be declared, as where there are more than 64 routines.
     #[error("Undeclarable {0}")]
     Undeclarable(DeclarationFault),
-    /// What was found has another start, is for another machine than was asked, or lists other cells.
+    /// What was found has another start, is for another machine than was asked, or lists other cells; or
+    /// the judge refuses the certificate once the cells are listed.
     #[error("Mismatch")]
     Mismatch,
     /// A growth was refused.
@@ -57,8 +58,6 @@ pub enum ProposeFault {
 pub enum Verdict<A: Allocator> {
     /// No run of the program breaks it, as this certificate shows, which the judge accepts.
     Safe(Certificate<A>),
-    /// The judge refuses this certificate, which is the one that is found, by the list of reads.
-    Refused(Certificate<A>, Refusal),
     /// No certificate is found: at this address an instruction was met that the judge would refuse.
     Stuck(Word),
     /// No certificate is found with all turns that there were.
@@ -88,7 +87,7 @@ pub struct Proposal<A: Allocator> {
 /// the way. A HLT is a pause where what stands behind it is code, else a stop. A pointer that no
 /// instruction stores in is taken to keep its word; another may hold each word of a table behind which
 /// there is code. The variables are first the cells that instructions store in by name, or all that may
-/// be data; and then, where a certificate is found, those that its facts let the program write.
+/// be data; and then, where a certificate is found, fewer as far as one is found for these too. No clause says how few.
 ///
 /// # Errors
 ///
@@ -104,7 +103,6 @@ pub fn propose<A: Allocator + Copy>(
 ) -> Result<Proposal<A>, ProposeFault>
     ensures fits { IfOk result (Fits start profile) }
     ensures shown { IfOk result (λ p. IsShown image.now p.declaration p.verdict) }
-    ensures accepted { IfOk result (λ p. IsNoRefusal p.verdict) }
     ensures unlisted { IfOk result (λ p. (meaning p.declaration).reads ≡ None) }
     ensures spent { IfOk result (λ p. IsSpentUp turns.new p.verdict) }
     ensures faults { IfErr result IsTold }
@@ -168,7 +166,7 @@ pub fn propose_with_reads<A: Allocator + Copy>(
             if !lists_needed(image, &listing, &certificate) {
                 return Err(ProposeFault::Mismatch);
             }
-            let verdict = tested(image, &listing, certificate);
+            let verdict = accepted(image, &listing, certificate)?;
             Ok(Proposal {
                 declaration: listing,
                 text,
@@ -221,7 +219,6 @@ fn widened<A: Allocator + Copy>(
 ) -> Result<Proposal<A>, ProposeFault>
     ensures fits { IfOk result (Fits map.now.start map.now.profile) }
     ensures shown { IfOk result (λ p. IsShown image.now p.declaration p.verdict) }
-    ensures accepted { IfOk result (λ p. IsNoRefusal p.verdict) }
     ensures unlisted { IfOk result (λ p. (meaning p.declaration).reads ≡ None) }
     ensures spent { IfOk result (λ p. IsSpentUp turns.new p.verdict) }
     ensures faults { IfErr result IsTold }
@@ -255,7 +252,6 @@ fn attempt<A: Allocator + Copy>(
 ) -> Result<Proposal<A>, ProposeFault>
     ensures fits { IfOk result (Fits map.now.start map.now.profile) }
     ensures shown { IfOk result (λ p. IsShown image.now p.declaration p.verdict) }
-    ensures accepted { IfOk result (λ p. IsNoRefusal p.verdict) }
     ensures unlisted { IfOk result (λ p. (meaning p.declaration).reads ≡ None) }
     ensures spent { IfOk result (λ p. IsSpentUp turns.new p.verdict) }
     ensures faults { IfErr result IsTold }
@@ -294,7 +290,6 @@ fn proposed<A: Allocator + Copy>(
     requires routines { ListsRoutines text.items (routines_of declaration) }
     ensures fits { IfOk result (Fits map.now.start map.now.profile) }
     ensures shown { IfOk result (λ p. IsShown image.now p.declaration p.verdict) }
-    ensures accepted { IfOk result (λ p. IsNoRefusal p.verdict) }
     ensures unlisted { IfOk result (λ p. (meaning p.declaration).reads ≡ None) }
     ensures spent { IfOk result (λ p. IsSpentUp turns.new p.verdict) }
     ensures faults { IfErr result IsTold }
@@ -334,7 +329,6 @@ fn judged<A: Allocator + Copy>(
     turns: &mut Turns,
 ) -> Result<Verdict<A>, ProposeFault>
     ensures shown { IfOk result (IsShown image.now declaration.now) }
-    ensures accepted { IfOk result IsNoRefusal }
     ensures spent { IfOk result (IsSpentUp turns.new) }
     ensures faults { IfErr result IsTold }
     ensures limit { turns.new.limit ≡ turns.old.limit }
@@ -347,33 +341,33 @@ fn judged<A: Allocator + Copy>(
     }
 }
 
-/// What the judge says of a certificate.
-fn tested<A: Allocator>(
+/// The verdict with a certificate, where the judge accepts it.
+fn accepted<A: Allocator>(
     image: &Image,
     declaration: &Declaration<A>,
     certificate: Certificate<A>,
-) -> Verdict<A>
+) -> Result<Verdict<A>, ProposeFault>
     requires lines { AreLines (certified.meaning certificate) }
     requires version { (certified.meaning certificate).version ≡
         version_of (meaning declaration.now).profile }
     requires short { length (text (certified.meaning certificate)) ≤ 1048576 }
-    ensures shown { IsShown image.now declaration.now result }
-    ensures listed { (d : Kept) → is_some (meaning d).reads ≡ true → IsListed d result }
+    ensures shown { IfOk result (IsShown image.now declaration.now) }
+    ensures listed { (d : Kept) → is_some (meaning d).reads ≡ true → IfOk result (IsListed d) }
     ensures needed { ReadsAreNeeded
         (judged image.now declaration.now (certified.claims certificate)) →
-        AreNeeded image.now declaration.now result }
-    ensures spent { result ≢ TurnsSpent }
+        IfOk result (AreNeeded image.now declaration.now) }
+    ensures spent { IfOk result (λ v. v ≢ TurnsSpent) }
+    ensures faults { IfErr result IsTold }
 {
     match judge(image, declaration, &certificate) {
-        Ok(()) => Verdict::Safe(certificate),
-        Err(refusal) => Verdict::Refused(certificate, refusal),
+        Ok(()) => Ok(Verdict::Safe(certificate)),
+        Err(_) => Err(ProposeFault::Mismatch),
     }
 }
 
 /// What is known where no certificate is found.
 fn unfound<A: Allocator>(fault: GuessFault) -> Result<Verdict<A>, ProposeFault>
     ensures shown { (image : List (Option ℕ)) → (d : Kept) → IfOk result (IsShown image d) }
-    ensures accepted { IfOk result IsNoRefusal }
     ensures spent { IfOk result (λ v. v ≡ TurnsSpent → fault ≡ guess_fault.TurnsSpent) }
     ensures faults { IfErr result IsTold }
 {

@@ -46,8 +46,8 @@ gap_agrees k f b (gap.Equation e) a h = (h.0, λ k. h.1 (known_agree (agree_sym 
 gap_agrees k f b (gap.Offset o) a h = (h.0, sym (a.offsets o h.0) ∙ h.1, h.2)
 
 -- An exit's offsets aren't looked at.
-pub exit_gap : (k f b : Fact) (g : Gap) → ((o : ℕ) → o < 8 → f.offsets o ≡ true) → with_offsets everything f ≡ b → IsGap k f g → IsGap k b g
-exit_gap k f b g all same h = subst (λ x. IsGap k x g) same (whole g h)
+pub exit_gap : (k f b : Fact) (g : Gap) → ((o : ℕ) → o < 8 → f.offsets o ≡ true) → with_offsets everything f ≡ b → IsGap k f g → IsGap k (with_offsets everything b) g
+exit_gap k f b g all same h = subst (λ x. IsGap k (with_offsets everything x) g) same (whole g h)
   where
     whole : (p : Gap) → IsGap k f p → IsGap k (with_offsets everything f) p
     whole (gap.Accumulator w) q = record { small = q.small; possible = q.possible; excluded = q.excluded }

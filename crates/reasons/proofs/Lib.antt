@@ -3,3 +3,4 @@ pub mod FoundLemmas
 pub mod GapLemmas
 pub mod LineLemmas
 pub mod SetLemmas
+mod RefuteLemmas

@@ -1,6 +1,6 @@
 -- What a possible word breaks at the address of a fact.
 use Rattle.std.specs.Prelude.{◌≡◌, ℕ, ◌+◌, ◌<◌, ◌≤◌, true, false, ◌⊎◌, Some, List, [], ◌∷◌}
-use Rattle.wordset.specs.Words.{plus, one}
+use Rattle.wordset.specs.Words.{everything, plus, one}
 use Rattle.declaration.specs.Declaration.{Routine, Declaration, IsListed}
 use Rattle.policy.specs.Rules.{IsSupported, HaltsDeclared}
 use Rattle.facts.specs.Facts.{Fact, Place, joined}
@@ -50,7 +50,8 @@ CallBreaks c pl f a e call.NoEntry = pl.declaration.entry e ≡ false
 CallBreaks c pl f a e call.NotListed = c.listed e ≡ false
 CallBreaks c pl f a e (call.NotLower rank own) =
     InRoutine pl.routine (λ r. (c.rank e ≡ rank) × (c.rank r ≡ own) × (own ≤ rank))
-CallBreaks c pl f a e (call.Writes b) = InRoutine pl.routine (λ r. (c.writes e b ≡ true) × (c.writes r b ≡ false))
+CallBreaks c pl f a e (call.Writes b) =
+    InRoutine pl.routine (λ r. (b < 4096) × (c.writes e b ≡ true) × (c.writes r b ≡ false))
 CallBreaks c pl f a e call.EntryNotWritten = InRoutine pl.routine (λ r. c.writes r e ≡ false)
 CallBreaks c pl f a e call.WritesCaller = InRoutine pl.routine (λ r. c.writes e r ≡ true)
 CallBreaks c pl f a e call.NoSite = c.sites e a ≡ false
@@ -59,13 +60,13 @@ CallBreaks c pl f a e (call.Enters l) = Misses c pl.declaration (Some e) (plus e
 CallBreaks c pl f a e (call.Returns o l) =
     (o < 8) × (c.has_exit e o ≡ true) × Misses c pl.declaration pl.routine (plus (a + 1) o) (joined f (c.exit e o) (c.writes e)) l
 
--- What a return through e breaks.
+-- What a return through e breaks. What an exit says of offsets isn't asked.
 abbrev pub ReturnBreaks : Certificate → Place → Fact → ℕ → ReturnBreach → Type 0
 ReturnBreaks c pl f e return.OtherRoutine = pl.routine ≡ Some e → ⊥
-ReturnBreaks c pl f e (return.NotDeclared o) = (f.offsets o ≡ true) × (pl.declaration.offset e o ≡ false)
-ReturnBreaks c pl f e (return.NoExit o) = (f.offsets o ≡ true) × (c.has_exit e o ≡ false)
+ReturnBreaks c pl f e (return.NotDeclared o) = (o < 8) × (f.offsets o ≡ true) × (pl.declaration.offset e o ≡ false)
+ReturnBreaks c pl f e (return.NoExit o) = (o < 8) × (f.offsets o ≡ true) × (c.has_exit e o ≡ false)
 ReturnBreaks c pl f e (return.Excluded o g) =
-    (f.offsets o ≡ true) × (c.has_exit e o ≡ true) × IsGap f (c.exit e o) g
+    (o < 8) × (f.offsets o ≡ true) × (c.has_exit e o ≡ true) × IsGap f (with_offsets everything (c.exit e o)) g
 
 -- The outcome goes on at this address, and doesn't land there.
 abbrev pub OutcomeMisses : Certificate → Place → ℕ → Landing → Outcome → Type 0
@@ -95,18 +96,18 @@ condition_of (breach.ReadsUnlisted c) = V15
 abbrev pub Breaks : Certificate → Place → Fact → ℕ → ℕ → Breach → Type 0
 Breaks c pl f a w breach.NotSupported = IsSupported (meaning_at pl a w) → ⊥
 Breaks c pl f a w (breach.WritesUndeclared b) =
-    (may_write pl f (meaning_at pl a w) b ≡ true) × (pl.declaration.variable b ≡ false) × (pl.declaration.entry b ≡ false)
+    (b < 4096) × (may_write pl f (meaning_at pl a w) b ≡ true) × (pl.declaration.variable b ≡ false) × (pl.declaration.entry b ≡ false)
 Breaks c pl f a w (breach.WritesEntry b) =
-    (may_write pl f (meaning_at pl a w) b ≡ true) × (pl.declaration.entry b ≡ true) ×
+    (b < 4096) × (may_write pl f (meaning_at pl a w) b ≡ true) × (pl.declaration.entry b ≡ true) ×
     (EntriesAreKept pl f (meaning_at pl a w) → ⊥)
 Breaks c pl f a w (breach.WritesUnlisted b) =
-    (may_write pl f (meaning_at pl a w) b ≡ true) × (MayWrite (writes_of c pl.routine) pl.routine b → ⊥)
+    (b < 4096) × (may_write pl f (meaning_at pl a w) b ≡ true) × (MayWrite (writes_of c pl.routine) pl.routine b → ⊥)
 Breaks c pl f a w breach.HaltsUndeclared = HaltsDeclared pl.declaration (meaning_at pl a w) a → ⊥
 Breaks c pl f a w breach.CallsThroughIndex = calls_through_index (meaning_at pl a w) ≡ true
 Breaks c pl f a w (breach.Calls e b) =
-    (called pl f (meaning_at pl a w) e ≡ true) × CallBreaks c pl f a e b
+    (e < 4096) × (called pl f (meaning_at pl a w) e ≡ true) × CallBreaks c pl f a e b
 Breaks c pl f a w (breach.Returns e b) =
     (returned_through pl.declaration (meaning_at pl a w) ≡ Some e) × ReturnBreaks c pl f e b
 Breaks c pl f a w (breach.GoesOn b l) = SomeOutcome (OutcomeMisses c pl b l) (outcomes_at pl f a w)
 Breaks c pl f a w (breach.ReadsUnlisted b) =
-    (may_read pl f (meaning_at pl a w) b ≡ true) × (IsListed pl.declaration.reads b ⊎ (pl.routine ≡ Some b) → ⊥)
+    (b < 4096) × (may_read pl f (meaning_at pl a w) b ≡ true) × (IsListed pl.declaration.reads b ⊎ (pl.routine ≡ Some b) → ⊥)

@@ -6,6 +6,7 @@ mod breach;
 mod calls;
 mod gap;
 mod landing;
+pub mod laws;
 mod lines;
 mod reason;
 mod returns;

@@ -200,8 +200,8 @@ fn why_around<A: Allocator, C: Claims>(
     None
 }
 
-/// Why a search is stuck at an address, by a draft of what it found until then: the first condition
-/// that fails there, and why; or, where the address is an entry, a call in its routine's body. That
+/// Why a search is stuck at an address, by a draft of what it found until then: a condition that
+/// fails there, and not for want of a line, and why; or, where the address is an entry, a call in its routine's body. That
 /// lines are missing or too narrow isn't told, since a draft lacks what wasn't come to; but of a call,
 /// that its rank isn't lower, since ranks are given once all facts are found.
 ///

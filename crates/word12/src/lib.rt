@@ -11,6 +11,8 @@ ghost use Rattle.std.specs.Int.RustNames.{bit_and, bit_or};
 ghost use Rattle.word12.specs.Words.{left_word, left_link, right_word, right_link, octal_text};
 ghost use Rattle.word12.specs.Octal.{octal_reading, octal_value, is_octal_digit};
 
+pub mod laws;
+
 use std::fmt;
 use std::marker::Model;
 use thiserror::Error;

@@ -8,6 +8,7 @@ mod program;
 mod words;
 
 pub use commands::{
-    assembling, checking, explaining, guessing, migrating, running, session, status, watching,
+    assembling, checking, declaring, explaining, guessing, migrating, running, session, status,
+    stuck, watching,
 };
 pub use program::exit_status;

@@ -1,6 +1,6 @@
 use Rattle.std.proofs.Common.{◌≡◌, ◌≤◌, None}
 use Rattle.declaration.specs.Kept.{meaning}
-use Rattle.proposer.specs.Proposals.{Fits, IsNoRefusal, IsShown, IsSpentUp}
+use Rattle.proposer.specs.Proposals.{Fits, IsShown, IsSpentUp}
 use Rattle.proposer.proofs.propose.Given as goal
 
 abbrev pub invariant-loop-cut : goal.invariant-loop-cut
@@ -8,7 +8,6 @@ invariant-loop-cut g l = record {
   fits : Fits l.map.start l.map.profile l.proposal;
   unlisted : (meaning l.proposal.declaration).reads ≡ None;
   shown : IsShown l.image l.proposal.declaration l.proposal.verdict;
-  accepted : IsNoRefusal l.proposal.verdict;
   spent : IsSpentUp l.turns l.proposal.verdict;
   limit : l.turns.limit ≡ l.initial.turns.limit;
   rises : l.initial.turns.spent ≤ l.turns.spent;

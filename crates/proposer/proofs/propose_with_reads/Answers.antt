@@ -1,4 +1,4 @@
 use Rattle.proposer.proofs.propose_with_reads.Goals as goal
 
-pub returns-else-not-lists_needed-clause-needed : goal.returns-else-not-lists_needed-clause-needed
-returns-else-not-lists_needed-clause-needed g c = c.tested-verdict.ensures.needed (c.lists_needed.ensures c.if-not-lists_needed.false)
+pub returns-in_ok-verdict-in-Safe-clause-needed : goal.returns-in_ok-verdict-in-Safe-clause-needed
+returns-in_ok-verdict-in-Safe-clause-needed g c = c.in_ok-verdict-in-Safe.ensures.needed (c.lists_needed.ensures c.if-not-lists_needed.false)

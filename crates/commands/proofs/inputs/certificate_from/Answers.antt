@@ -6,7 +6,7 @@ use Rattle.commands.proofs.inputs.certificate_from.Goals as goal
 
 pub returns-in-Ok-clause-claims : goal.returns-in-Ok-clause-claims
 returns-in-Ok-clause-claims g c =
-    has_certificate (g.R.ByteSource.remaining c.args.source.now) (meaning c.in-Ok.certificate) (meaning c.in-Ok.certificate).version
+    has_certificate (g.R.ByteSource.remaining c.args.source.now) c.in-Ok.certificate (meaning c.in-Ok.certificate).version
     c.in-Ok.ensures.lines c.in-Ok.ensures.found c.in-Ok.ensures.text
 
 pub returns-in-Err-clause-faults : goal.returns-in-Err-clause-faults

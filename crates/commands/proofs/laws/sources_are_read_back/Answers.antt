@@ -3,7 +3,7 @@ use Rattle.commands.proofs.laws.sources_are_read_back.Goals as goal
 
 pub returns : goal.returns
 returns c = record {
-  there = tape_is_there;
+  there = tape_is_there c.meant_are_words.ensures;
   empty = empty_has_no_tape c.answers_are_one.ensures.meaning;
   tape = tape_is_one c.answers_are_one.ensures.meaning;
   read = meant_is_read c.answers_are_one.ensures.meaning;

@@ -2,6 +2,7 @@ use Rattle.std.proofs.Common.{◌≡◌, refl}
 use Rattle.declaration.specs.Kept.{meaning}
 use Rattle.certificate.specs.Spelling.{text as spelled}
 use Rattle.certificate.specs.Kept.{meaning as lines_of}
+use Rattle.commands.proofs.CheckLemmas.{kept_sets}
 use Rattle.commands.proofs.StuckLemmas.{writes_stuck, front_of_stuck}
 use Rattle.commands.proofs.stuck.guess_or_explain.Goals as goal
 
@@ -17,14 +18,15 @@ returns-clause-front_of_report g c = λ marked.
 
 pub returns-in-Found-clause-guessed : goal.returns-in-Found-clause-guessed
 returns-in-Found-clause-guessed g c = λ done. record {
-  text = spelled (lines_of c.in-Found.claims);
+  text = spelled (lines_of c.in-Found.certificate);
   is = record {
     image = c.in_ok-image.image;
     tape = c.in_ok-image.ensures.tape;
     declaration = meaning c.in_ok-promised.promised;
     declares = c.in_ok-promised.ensures.declares;
-    lines = lines_of c.in-Found.claims;
+    lines = lines_of c.in-Found.certificate;
     lines_are = rw c.in-Found.is at c.in_ok-attempt.ensures.lines;
+    of_words = kept_sets c.in-Found.certificate;
     version_is = rw c.in-Found.is at c.in_ok-attempt.ensures.version;
     guess_is = refl;
     short = rw c.in-Found.is at c.in_ok-attempt.ensures.short;
@@ -38,14 +40,15 @@ returns-in-Found-clause-guessed g c = λ done. record {
 
 pub returns-in_err-write-in-Found-clause-front : goal.returns-in_err-write-in-Found-clause-front
 returns-in_err-write-in-Found-clause-front g c = λ marked. record {
-  text = spelled (lines_of c.in-Found.claims);
+  text = spelled (lines_of c.in-Found.certificate);
   is = record {
     image = c.in_ok-image.image;
     tape = c.in_ok-image.ensures.tape;
     declaration = meaning c.in_ok-promised.promised;
     declares = c.in_ok-promised.ensures.declares;
-    lines = lines_of c.in-Found.claims;
+    lines = lines_of c.in-Found.certificate;
     lines_are = rw c.in-Found.is at c.in_ok-attempt.ensures.lines;
+    of_words = kept_sets c.in-Found.certificate;
     version_is = rw c.in-Found.is at c.in_ok-attempt.ensures.version;
     guess_is = refl;
     short = rw c.in-Found.is at c.in_ok-attempt.ensures.short;
@@ -56,3 +59,6 @@ returns-in_err-write-in-Found-clause-front g c = λ marked. record {
   };
   front = c.in_err-write-in-Found.ensures.front;
 }
+
+pub report_stuck-requires : goal.report_stuck-requires
+report_stuck-requires g c = record { unmarked = c.requires.reportable; draft = rw c.in-Stuck.is at c.in_ok-attempt.ensures.draft }

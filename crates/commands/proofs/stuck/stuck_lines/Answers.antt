@@ -8,6 +8,7 @@ returns g c =
     let is : c.push_stuck.new.text.items ≡ stuck_text (meaning c.args.declaration.now).profile c.args.image.now c.args.at c.why_stuck-told.result = search rules in
     record {
       at = c.args.at;
+      is_draft = c.requires.draft;
       told = c.why_stuck-told.result;
       why = c.why_stuck-told.ensures.explained;
       place = c.why_stuck-told.ensures.place;

@@ -1,5 +1,5 @@
 use Rattle.std.proofs.Common.{◌≡◌, ◌++◌, ◌+◌, drop}
-use Rattle.pal_asm.specs.Listings.{text_lines}
+use Rattle.pal_asm.specs.Sources.{text_lines}
 use Rattle.pal_asm.specs.Kept.{lines_in}
 use Rattle.pal_asm.proofs.listing.keep_lines.Given as goal
 

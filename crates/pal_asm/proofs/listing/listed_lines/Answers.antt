@@ -8,4 +8,4 @@ use Rattle.pal_asm.proofs.listing.listed_lines.Goals as goal
 pub keep_lines-requires : goal.keep_lines-requires
 keep_lines-requires g c =
     let P : List Line → Type 0 = λ ls. AllByRecursion (IsLineWithin (length c.front-item.result.bytes.now)) ls in
-    subst P (sym (c.deref.ensures.value ∙ c.in_ok-lines.ensures)) (all_lines_within c.front-item.result.bytes.now)
+    subst P (sym (c.deref.ensures.value ∙ c.in_ok-lines.ensures.lines)) (all_lines_within c.front-item.result.bytes.now)

@@ -6,7 +6,7 @@ use Rattle.pal_asm.proofs.reading.keep_statements.Given as goal
 abbrev pub invariant-loop-joins : goal.invariant-loop-joins
 invariant-loop-joins g l = record {
   source : l.reader.source ≡ l.part.source.now;
-  stepped : Stepped l.part l.fn.before l.radix l.fn.acts l.acts l.reader.count;
+  stepped : Stepped l.part l.fn.before l.radix l.fn.acts l.acts l.reader.count l.reader.close;
 }
 
 abbrev pub decreases-loop-joins : goal.decreases-loop-joins

@@ -1,10 +1,6 @@
 use Rattle.pal_asm.specs.Kept.{lines_of_fronts}
-use Rattle.pal_asm.proofs.Turned.{Reached}
-use Rattle.pal_asm.proofs.TurnedLines.{ReachedLines}
+use Rattle.pal_asm.proofs.Turned.{Came}
 use Rattle.pal_asm.proofs.reading.read_source.Given as goal
 
 abbrev pub invariant-loop-at : goal.invariant-loop-at
-invariant-loop-at g l = record {
-  acts : Reached l.parts l.at l.radix l.acts;
-  lines : ReachedLines l.parts l.at (lines_of_fronts l.fronts.items);
-}
+invariant-loop-at g l = Came l.parts l.at l.radix l.acts (lines_of_fronts l.fronts.items)

@@ -8,4 +8,4 @@ use Rattle.pal_asm.proofs.translation.translate_parts.Goals as goal
 pub returns-in-Ok-assemble_acts-clause-listed : goal.returns-in-Ok-assemble_acts-clause-listed
 returns-in-Ok-assemble_acts-clause-listed g c =
     lists_by (permanent_symbols c.args.profile) (symbols_in c.translation_of.result) (texts c.args.parts.now) c.in-Ok.reading.acts (lines_of_fronts c.in-Ok.reading.fronts.items) (text_of c.translation_of.result)
-    c.in-Ok.ensures.acts c.in-Ok.ensures.lines c.translation_of.ensures.listing
+    c.in-Ok.ensures c.translation_of.ensures.listing

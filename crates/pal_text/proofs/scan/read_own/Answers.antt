@@ -2,6 +2,8 @@ use Rattle.std.proofs.Common.{◌∙◌, sym}
 use Rattle.std.specs.Prelude.{reverse}
 use Rattle.std.proofs.lemmas.List.{reverse-reverse}
 use Rattle.pal_text.proofs.Fronts.{reading_nothing, reading_feed, reading_one, stop_end, stop_feed}
+use Rattle.pal_text.proofs.LineCounts.{anyway}
+use Rattle.pal_text.proofs.Spaces.{token_refused}
 use Rattle.pal_text.proofs.scan.read_own.Goals as goal
 
 pub loop-at-preserved-in-Nothing : goal.loop-at-preserved-in-Nothing
@@ -23,4 +25,9 @@ returns-in-End-clause-stop g c =
 pub loop-at-preserved : goal.loop-at-preserved
 loop-at-preserved g c =
     reading_one c.args.source.now c.args.place.now c.loop-at.at c.finish_run-at.result c.loop-at.returned c.loop-at.out.items c.add.new.out.items c.finish_run-at.new.out.items c.in-One.kind c.requires.place c.loop-at-test.true (sym c.brought.ensures ∙ c.in-One.is) c.loop-at.invariant
-    (c.in_ok-add-in-One.ensures (reverse c.loop-at.out.items) (sym (reverse-reverse c.loop-at.out.items))) c.finish_run-at.ensures
+    (c.in_ok-add-in-One.ensures.added (reverse c.loop-at.out.items) (sym (reverse-reverse c.loop-at.out.items))) c.finish_run-at.ensures
+
+pub returns-in_err-add-in-One-clause-refused : goal.returns-in_err-add-in-One-clause-refused
+returns-in_err-add-in-One-clause-refused g c =
+    anyway c.from_residual.result (token_refused c.args.source.now c.args.place.now c.loop-at.at c.loop-at.returned c.loop-at.out.items c.in-One.kind c.requires.place c.loop-at-test.true (sym c.brought.ensures ∙ c.in-One.is) c.loop-at.invariant
+    c.in_err-add-in-One.ensures.refused)

@@ -7,18 +7,21 @@ use Rattle.reasons.proofs.spot.Spot.returns_by.Goals as goal
 
 pub returns-then-not-has_offset : goal.returns-then-not-has_offset
 returns-then-not-has_offset g c = (
+  c.requires,
   ap (λ (s : Words). s c.args.offset) (sym c.offsets.ensures) ∙ sym c.contains.ensures ∙ c.if-not-contains.false,
   sym (rw c.from_index-declared.ensures at c.has_offset.ensures) ∙ c.if-not-has_offset.true,
 )
 
 pub returns-in_default : goal.returns-in_default
 returns-in_default g c = (
+  c.requires,
   ap (λ (s : Words). s c.args.offset) (sym c.offsets.ensures) ∙ sym c.contains.ensures ∙ c.if-not-contains.false,
   sym c.in_default.ensures.there,
 )
 
 pub returns-in-Some-gap_between : goal.returns-in-Some-gap_between
 returns-in-Some-gap_between g c = (
+  c.requires,
   ap (λ (s : Words). s c.args.offset) (sym c.offsets.ensures) ∙ sym c.contains.ensures ∙ c.if-not-contains.false,
   sym c.in-Some.ensures.there,
   exit_gap (fact_of c.args.self.now) (meaning c.in-Some.exit) _ _ c.in-Some.ensures.offsets c.in-Some.ensures.fact

@@ -1,0 +1,217 @@
+-- The values of a source are words, where its numbers and its permanent symbols are.
+use Rattle.std.proofs.Common.{◌≡◌, ◌∙◌, sym, ap, ℕ, ◌+◌, ◌-◌, ◌/◌, ◌%◌, ◌<◌, ◌≤◌, List, [], ◌∷◌, ◌++◌, Bool, true, false, if◌then◌else◌, Option, Some, None, Result, Ok, Err, inl, inr, arith, subst, length, bit_or}
+use Rattle.std.specs.Prelude.{reverse, nat_lt, nat_eq, unwrap_or}
+use Rattle.std.specs.List.{AllByRecursion, list_all}
+use Rattle.std.specs.Option.{option_and_then}
+use Rattle.std.specs.Map.{lookup}
+use Rattle.std.proofs.lemmas.Bool.{cases_Bool, cases_lt, ltb-true, cond_both}
+use Rattle.std.proofs.lemmas.Nat.{or_lt}
+use Rattle.std.proofs.lemmas.Option.{slice_get_past}
+use Rattle.bin_tape.specs.Image.{HoldsWords, word_at}
+use Rattle.pal_text.specs.declared.names.Name.{Name}
+use Rattle.pal_text.proofs.Rises.{all_reverse}
+use Rattle.pal_acts.specs.declared.act.Sign.{Sign}
+use Rattle.pal_acts.specs.declared.act.Sign.TheVariants.{Plus, Minus, Or}
+use Rattle.pal_acts.specs.declared.act.Term.{Term}
+use Rattle.pal_acts.specs.declared.act.Term.TheVariants.{Number, Symbol, Here}
+use Rattle.pal_acts.specs.declared.act.Join.{Join}
+use Rattle.pal_acts.specs.declared.act.Act.{Act}
+use Rattle.pal_acts.specs.declared.act.Act.TheVariants as act
+use Rattle.pal_acts.specs.declared.code.Code.{Code}
+use Rattle.pal_acts.specs.Acts.{PlacedAct}
+use Rattle.pal_acts.specs.Values.{same, Values, in_table, term_value, joined, value_after, value, or_zero}
+use Rattle.pal_acts.specs.Meaning.{location_after, location, Defines}
+use Rattle.pal_acts.specs.Words.{Marked, marked, is_indirect, is_zero, is_reference, after_indirect, after_zero, marks, plain, addressed, referring, base, reference, word_value}
+use Rattle.pal_acts.specs.Faults.{giving_table, assign_table, after}
+use Rattle.pal_acts.specs.Sources.{if_ok, cell_after, image_at, IsImage, IsSource}
+use Rattle.pal_acts.proofs.Unique.{stood, Before, none_left}
+
+-- a word, or nothing
+abbrev pub Below : Option ℕ → Type 0
+Below None = Unit {0}
+Below (Some v) = v < 4096
+
+abbrev BelowOk : Result ℕ Code → Type 0
+BelowOk (Ok v) = v < 4096
+BelowOk (Err c) = Unit {0}
+
+-- a number is a word
+abbrev pub IsWordTerm : Term → Type 0
+IsWordTerm (Number w) = w < 4096
+IsWordTerm _ = Unit {0}
+
+-- the numbers of an expression are words
+abbrev pub Numbers : List Join → Type 0
+Numbers js = AllByRecursion (λ j. IsWordTerm j.term) js
+
+-- and so are those of acts
+abbrev pub HasNumbers : PlacedAct → Type 0
+HasNumbers a = Numbers a.terms
+
+-- the values of a table are words
+abbrev pub Entries : List (Name × ℕ) → Type 0
+Entries t = AllByRecursion (λ e. e.1 < 4096) t
+
+pub entries_of : (t : List (Name × ℕ)) → list_all (λ e. nat_lt e.1 4096) t ≡ true → Entries t
+entries_of [] h = tt
+entries_of (e ∷ t) h = elim (cases_Bool (nat_lt e.1 4096)) [
+  | inl is ↦ (ltb-true e.1 4096 is, entries_of t (rw is at h))
+  | inr not ↦ cc (rw not at h)
+]
+
+entries_append : (t u : List (Name × ℕ)) → Entries t → Entries u → Entries (t ++ u)
+entries_append [] u h k = k
+entries_append (e ∷ t) u h k = (h.0, entries_append t u h.1 k)
+
+table_below : (t : List (Name × ℕ)) → Entries t → (n : Name) → Below (in_table t n)
+table_below [] h n = tt
+table_below (e ∷ t) h n = elim (cases_Bool (same n e.0)) [
+  | inl is ↦ rw is h.0
+  | inr not ↦ rw not (table_below t h.1 n)
+]
+
+-- ---- expressions
+
+or_below : (a b : ℕ) → a < 4096 → b < 4096 → bit_or a b < 4096
+or_below a b h k = or_lt 12 a b h k
+
+joined_below : (s : Sign) (a b : ℕ) → a < 4096 → b < 4096 → joined s a b < 4096
+joined_below Plus a b h k = omega arith
+joined_below Minus a b h k = omega arith
+joined_below Or a b h k = or_below a b h k
+
+module _ (σ : Values) (words : (n : Name) → Below (σ n)) where
+  term_below : (here : ℕ) (t : Term) → here < 4096 → IsWordTerm t → Below (term_value σ here t)
+  term_below here (Number w) h k = k
+  term_below here (Symbol n) h k = words n
+  term_below here Here h k = h
+
+  then_below : (f : ℕ → Option ℕ) (o : Option ℕ) → Below o → ((v : ℕ) → v < 4096 → Below (f v)) → Below (option_and_then f o)
+  then_below f None h k = tt
+  then_below f (Some v) h k = k v h
+
+  value_below : (here a : ℕ) (js : List Join) → here < 4096 → a < 4096 → Numbers js → Below (value_after σ here a js)
+  value_below here a [] h k all = k
+  value_below here a (j ∷ js) h k all =
+      then_below (λ v. value_after σ here (joined j.sign a v) js) (term_value σ here j.term) (term_below here j.term h all.0)
+      (λ v lt. value_below here (joined j.sign a v) js h (joined_below j.sign a v k lt) all.1)
+
+  zero_below : (o : Option ℕ) → Below o → or_zero o < 4096
+  zero_below None h = omega arith
+  zero_below (Some v) h = h
+
+  after_below : (here : ℕ) (e : List Join) (a : Act) → here < 4096 → Numbers e → location_after σ here e a < 4096
+  after_below here e act.Origin h all = zero_below (value σ here e) (value_below here 0 e h (omega arith) all)
+  after_below here e act.Word h all = omega arith
+  after_below here e _ h all = h
+
+  pub location_below : (acts : List PlacedAct) → AllByRecursion HasNumbers acts → location σ acts < 4096
+  location_below [] all = omega arith
+  location_below (a ∷ before) all = after_below (location σ before) a.terms a.act (location_below before all.1) all.0
+
+  -- ---- words
+
+  plain_below : (o : Option ℕ) → Below o → BelowOk (plain o)
+  plain_below None h = tt
+  plain_below (Some v) h = h
+
+  addressed_below : (b : ℕ) (zero : Bool) (here a : ℕ) → b < 4096 → a < 4096 → BelowOk (addressed b zero here a)
+  addressed_below b zero here a h k =
+      cond_both (nat_lt a 128) _ _ BelowOk (λ is. or_below b a h k)
+      (λ not. cond_both zero _ _ BelowOk (λ is. tt)
+      (λ other. cond_both (nat_eq (a / 128) (here / 128)) _ _ BelowOk (λ is. or_below (bit_or b 128) (a % 128) (or_below b 128 h (omega arith)) (omega arith)) (λ is. tt)))
+
+  referring_below : (b : ℕ) (zero : Bool) (here : ℕ) (o : Option ℕ) → b < 4096 → Below o → BelowOk (referring b zero here o)
+  referring_below b zero here None h k = tt
+  referring_below b zero here (Some a) h k = addressed_below b zero here a h k
+
+  base_below : (operation : ℕ) (indirect : Bool) → operation < 4096 → base operation indirect < 4096
+  base_below operation true h = or_below operation 256 h (omega arith)
+  base_below operation false h = h
+
+  reference_below : (here : ℕ) (o : Option ℕ) (m : Marked) → here < 4096 → Below o → Numbers m.address → BelowOk (reference σ here o m)
+  reference_below here None m h k all = tt
+  reference_below here (Some operation) m h k all =
+      referring_below (base operation m.indirect) m.zero here (value σ here m.address) (base_below operation m.indirect k) (value_below here 0 m.address h (omega arith) all)
+
+  abbrev Marks : Marked → Type 0
+  Marks m = Numbers m.address
+
+  indirect_below : (js : List Join) → Numbers js → Marks (after_indirect js)
+  indirect_below [] all = tt
+  indirect_below (j ∷ js) all = cond_both (is_zero j) _ _ Marks (λ is. all.1) (λ not. all)
+
+  zero_marks : (js : List Join) → Numbers js → Marks (after_zero js)
+  zero_marks [] all = tt
+  zero_marks (j ∷ js) all = cond_both (is_indirect j) _ _ Marks (λ is. all.1) (λ not. all)
+
+  marks_below : (js : List Join) → Numbers js → Marks (marks js)
+  marks_below [] all = tt
+  marks_below (j ∷ js) all =
+      cond_both (is_indirect j) _ _ Marks (λ is. indirect_below js all.1) (λ not. cond_both (is_zero j) _ _ Marks (λ is. zero_marks js all.1) (λ other. all))
+
+  word_below : (here : ℕ) (js : List Join) → here < 4096 → Numbers js → BelowOk (word_value σ here js)
+  word_below here [] h all = plain_below (value σ here []) (value_below here 0 [] h (omega arith) all)
+  word_below here (j ∷ js) h all =
+      cond_both (is_reference j) _ _ BelowOk (λ is. reference_below here (term_value σ here j.term) (marks js) h (term_below here j.term h all.0) (marks_below js all.1))
+      (λ not. plain_below (value σ here (j ∷ js)) (value_below here 0 (j ∷ js) h (omega arith) all))
+
+  -- ---- images
+
+  ok_below : (r : Result ℕ Code) → BelowOk r → Below (if_ok r)
+  ok_below (Ok v) h = h
+  ok_below (Err c) h = tt
+
+  cell_below : (here : ℕ) (e : List Join) (a : Act) (at : ℕ) (old : Option ℕ) → here < 4096 → Numbers e → Below old → Below (cell_after σ here e a at old)
+  cell_below here e act.Word at old h all k = cond_both (nat_eq here at) _ _ Below (λ is. ok_below (word_value σ here e) (word_below here e h all)) (λ not. k)
+  cell_below here e _ at old h all k = k
+
+  pub image_below : (acts : List PlacedAct) (at : ℕ) → AllByRecursion HasNumbers acts → Below (image_at σ acts at)
+  image_below [] at all = tt
+  image_below (a ∷ before) at all = cell_below (location σ before) a.terms a.act at (image_at σ before at) (location_below before all.1) all.0 (image_below before at all.1)
+
+-- ---- symbols
+
+given_below : (own : List (Name × ℕ)) (n : Name) (o : Option ℕ) (v : ℕ) → Entries own → v < 4096 → Entries (giving_table own n o v)
+given_below own n None v h k = entries_append own ((n, v) ∷ []) h (k, tt)
+given_below own n (Some w) v h k = h
+
+assigned_below : (perm : List (Name × ℕ)) (limit : ℕ) (own : List (Name × ℕ)) (n : Name) (o : Option ℕ) → Entries own → Below o → Entries (assign_table perm limit own n o)
+assigned_below perm limit own n None h k = h
+assigned_below perm limit own n (Some v) h k = given_below own n (in_table (perm ++ own) n) v h k
+
+symbols_after : (perm : List (Name × ℕ)) (limit : ℕ) (own : List (Name × ℕ)) (here : ℕ) (e : List Join) (a : Act) → Entries perm → Entries own → here < 4096 → Numbers e → Entries (after perm limit own here e a)
+symbols_after perm limit own here e (act.Tag n) p h k all = given_below own n (in_table (perm ++ own) n) here h k
+symbols_after perm limit own here e (act.Assign n) p h k all =
+    assigned_below perm limit own n (value (in_table (perm ++ own)) here e) h (value_below (in_table (perm ++ own)) (table_below (perm ++ own) (entries_append perm own p h)) here 0 e k (omega arith) all)
+symbols_after perm limit own here e _ p h k all = h
+
+-- the symbols of acts are words
+symbols_below : (perm : List (Name × ℕ)) (limit : ℕ) (acts : List PlacedAct) (own : List (Name × ℕ)) → Entries perm → AllByRecursion HasNumbers acts → Defines perm limit acts own → Entries own
+symbols_below perm limit [] own p all d = subst Entries (sym (none_left own perm d.order)) tt
+symbols_below perm limit (next ∷ before) own p all d =
+    let b : Before perm limit before next.terms next.act own = stood perm limit before next own d in
+    let old : Entries b.symbols = symbols_below perm limit before b.symbols p all.1 b.defines in
+    let σ : Values = in_table (perm ++ b.symbols) in
+    let here : location σ before < 4096 = location_below σ (table_below (perm ++ b.symbols) (entries_append perm b.symbols p old)) before all.1 in
+    subst Entries (sym b.new_is) (symbols_after perm limit b.symbols (location σ before) next.terms next.act p old here all.0)
+
+below_some : (o : Option ℕ) (v : ℕ) → Below o → o ≡ Some v → v < 4096
+below_some o v h e = subst Below e h
+
+-- the image of a source holds words
+pub holds_words : (perm : List (Name × ℕ)) (limit : ℕ) (acts : List PlacedAct) (own : List (Name × ℕ)) (image : List (Option ℕ)) → Entries perm → AllByRecursion HasNumbers acts → IsSource perm limit acts own image → HoldsWords image
+holds_words perm limit acts own image p all s =
+    let turned : AllByRecursion HasNumbers (reverse acts) = all_reverse HasNumbers acts all in
+    let entries : Entries (perm ++ own) = entries_append perm own p (symbols_below perm limit (reverse acts) own p turned s.defines) in
+    let cells : (a : ℕ) → a < 4096 → Below (word_at image a) = λ a lt. subst Below (sym (s.image_is.cells a lt)) (image_below (in_table (perm ++ own)) (table_below (perm ++ own) entries) (reverse acts) a turned) in
+    record {
+      size = s.image_is.size;
+      words = λ a v e. elim (cases_lt a 4096) [
+        | inl lt ↦ below_some (word_at image a) v (cells a lt) e
+        | inr past ↦ cc (sym e ∙ beyond image a (rw s.image_is.size past))
+      ];
+    }
+  where
+    beyond : (image : List (Option ℕ)) (a : ℕ) → length image ≤ a → word_at image a ≡ None
+    beyond image a h = ap (λ o. unwrap_or o None) (slice_get_past image a h)

@@ -184,6 +184,15 @@ impl<A: Allocator> Certificate<A> {
         first_routine(self.kept.lines(), self.kept.from(entry.index()))
     }
 
+    /// Whether a routine of this entry is listed, or it is said what holds when it returns.
+    pub fn names(&self, entry: Word) -> bool
+        ensures { result ≡ names_routine (claims self.now) entry }
+    {
+        let routine = entry.index();
+        let exits = FIRST_EXIT + 8 * routine;
+        self.kept.has_between(routine, routine + 1) || self.kept.has_between(exits, exits + 8)
+    }
+
     /// The fact at an address, if there is one.
     pub fn fact(&self, at: Word) -> Option<Fact>
         ensures there { is_some result ≡ (claims self.now).has_fact at }

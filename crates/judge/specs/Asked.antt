@@ -28,10 +28,6 @@ abbrev pub asks_few : Condition → Bool
 asks_few V3 = true
 asks_few _ = false
 
--- A routine or exit line has the address.
-abbrev pub names_routine : Certificate → ℕ → Bool
-names_routine c a = c.listed a || some_below 8 (c.has_exit a)
-
 -- The routine and exit lines at an address are at an entry.
 abbrev pub RoutinesArePlaced : Case → ℕ → Type 0
 RoutinesArePlaced j a = names_routine j.certificate a ≡ true → j.declaration.entry a ≡ true

@@ -70,17 +70,21 @@ listed_between v k e w small false tells =
     let none : from_place e (all_said k) ≡ [] = none_there k e e (e + 1) w.indexed (λ h. false≢true (tells.1 h)) (omega arith) (omega arith) in
     sym (routine_named v k e w small ∙ ap begins_routine none)
 
+-- a line at the place of an exit says that there is one
+exit_at : {A : Type 0} (v : Version) (k : KeptLines A) (e o i : ℕ) → IsWhole v k → e < 4096 → o < 8 → i < length k.places.items →
+    get_or k.places.items i 0 ≡ 8192 + (8 * e + o) → some_below 8 (has_exit_in (exits_of (all_said k)) e) ≡ true
+exit_at v k e o i w small few b it =
+    let there : begins_exit (from_place (8192 + (8 * e + o)) (all_said k)) ≡ true =
+    exit_there v (all_said k) (8192 + (8 * e + o)) i (formed v k w) (omega arith) (omega (arith, small, few)) (rw w.indexed.places at b) (rw w.indexed.places at it) in
+    some_from 8 (has_exit_in (exits_of (all_said k)) e) o few (exit_named v k e o w small few ∙ there)
+
 -- and whether one has an exit
 pub exits_between : {A : Type 0} (v : Version) (k : KeptLines A) (e : ℕ) → IsWhole v k → e < 4096 → (b : Bool) →
     ((b ≡ true) ↔ HasBetween k.places.items (8192 + 8 * e) (8192 + 8 * e + 8)) → b ≡ some_below 8 (has_exit_in (exits_of (all_said k)) e)
 exits_between v k e w small true tells =
     let h : HasBetween k.places.items (8192 + 8 * e) (8192 + 8 * e + 8) = tells.0 refl in
     let o : ℕ = get_or k.places.items h.at 0 - (8192 + 8 * e) in
-    let few : o < 8 = omega (arith, h.reached, h.before) in
-    let it : get_or k.places.items h.at 0 ≡ 8192 + (8 * e + o) = omega (arith, h.reached, h.before) in
-    let there : begins_exit (from_place (8192 + (8 * e + o)) (all_said k)) ≡ true =
-    exit_there v (all_said k) (8192 + (8 * e + o)) h.at (formed v k w) (omega arith) (omega (arith, small, few)) (rw w.indexed.places at h.there) (rw w.indexed.places at it) in
-    sym (some_from 8 (has_exit_in (exits_of (all_said k)) e) o few (exit_named v k e o w small few ∙ there))
+    sym (exit_at v k e o h.at w small (omega (arith, h.reached, h.before)) h.there (omega (arith, h.reached, h.before)))
 exits_between v k e w small false tells =
     sym (some_none_of 8 (has_exit_in (exits_of (all_said k)) e) (λ o few.
     let none : from_place (8192 + (8 * e + o)) (all_said k) ≡ [] =

@@ -14,6 +14,7 @@ ghost use Rattle.facts.specs.Changes.{with_offsets};
 ghost use Rattle.facts.specs.Meaning.{statement_of, meaning as fact_meaning};
 ghost use Rattle.certificate.specs.Spelling.{fact_text_at, text};
 ghost use Rattle.certificate.specs.Reading.{AreLines, statement_in, exit_statement_in};
+ghost use Rattle.certificate.specs.Certificate.{names_routine};
 ghost use Rattle.certificate.specs.Kept.{meaning, claims};
 ghost use Rattle.certificate.specs.Sample.{SampleLaw};
 ghost use Rattle.certificate.specs.Line.{TextLaw};

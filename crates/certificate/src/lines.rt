@@ -1,7 +1,7 @@
 //! The lines of a certificate as they are kept, and what is found in them.
 
 ghost use Rattle.std.specs.Prelude.{ℕ, ◌≡◌, ◌+◌, ◌<◌, ◌≤◌, ◌^◌, List, [], ◌∷◌, ◌++◌, length, map, drop, OnOk, OnErr, Some, IfSome, is_some, true, false};
-ghost use Rattle.std.specs.Prelude.{is_ok, if◌then◌else◌};
+ghost use Rattle.std.specs.Prelude.{is_ok, if◌then◌else◌, ◌↔◌, IsTrue};
 ghost use Rattle.facts.specs.Meaning.{statement_of, offsets_of, tracked_cells, equation_of, meaning as fact_meaning};
 ghost use Rattle.facts.specs.Changes.{with_offsets};
 ghost use Rattle.wordset.specs.Words.{everything};
@@ -13,7 +13,7 @@ ghost use Rattle.certificate.specs.Detail.{said_detail};
 ghost use Rattle.certificate.specs.Adding.{HasRoomUnder};
 ghost use Rattle.certificate.specs.Meaning.{said};
 ghost use Rattle.certificate.specs.Packed.{Begins, said_lines};
-ghost use Rattle.certificate.specs.Found.{from_place, all_said, Keeps, unended, Extends, HasMore, IsIndexed, FitUnderFirst, with_details, IsRoutineOf, begins_routine, begins_fact, begins_exit, first_fact, first_exit, fact_statement, exit_statement, SaysFirst};
+ghost use Rattle.certificate.specs.Found.{from_place, all_said, Keeps, unended, Extends, HasMore, IsIndexed, HasBetween, FitUnderFirst, with_details, IsRoutineOf, begins_routine, begins_fact, begins_exit, first_fact, first_exit, fact_statement, exit_statement, SaysFirst};
 
 use crate::Routine;
 use crate::details::Detail;

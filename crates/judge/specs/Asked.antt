@@ -1,9 +1,9 @@
 -- What the code has asked so far, in the order of the conditions; it serves private contracts.
-use Rattle.std.specs.Prelude.{◌≡◌, ℕ, ◌<◌, ◌≤◌, ◌||◌, Bool, true, false, Some, None}
-use Rattle.wordset.specs.Words.{Words, nothing, some_below}
+use Rattle.std.specs.Prelude.{◌≡◌, ℕ, ◌<◌, ◌≤◌, Bool, true, false, Some, None}
+use Rattle.wordset.specs.Words.{Words, nothing}
 use Rattle.wordset.specs.Lanes.{words}
 use Rattle.declaration.specs.Declaration.{Routine}
-use Rattle.certificate.specs.Certificate.{Certificate, sites_of, writes_of}
+use Rattle.certificate.specs.Certificate.{Certificate, names_routine, sites_of, writes_of}
 use Rattle.facts.specs.Facts.{possible}
 use Rattle.facts.specs.declared.Condition.{Condition}
 use Rattle.facts.specs.declared.Condition.TheVariants.{V3}

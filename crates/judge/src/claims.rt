@@ -6,6 +6,7 @@ ghost use Rattle.wordset.specs.Lanes.{words};
 ghost use Rattle.facts.specs.Changes.{with_offsets};
 ghost use Rattle.facts.specs.Meaning.{meaning};
 ghost use Rattle.certificate.specs.Certificate as said;
+ghost use Rattle.certificate.specs.Certificate.{names_routine};
 ghost use Rattle.certificate.specs.Kept.{claims};
 
 use certificate::{Certificate, Routine};

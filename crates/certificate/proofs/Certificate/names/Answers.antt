@@ -1,4 +1,4 @@
-use Rattle.std.proofs.Common.{◌≡◌, ◌∙◌, true, false, ◌||◌, sym}
+use Rattle.std.proofs.Common.{◌≡◌, ◌∙◌, false, sym}
 use Rattle.wordset.specs.Words.{some_below}
 use Rattle.wordset.proofs.Tests.{or_left}
 use Rattle.certificate.specs.Reading.{has_routine, has_exit_in}

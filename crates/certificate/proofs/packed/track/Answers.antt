@@ -1,6 +1,5 @@
-use Rattle.std.proofs.Common.{◌≡◌, ◌<◌, ◌∙◌, ◌++◌, ◌∷◌, [], ap, subst, sym}
+use Rattle.std.proofs.Common.{◌<◌, ◌∙◌, ◌++◌, ◌∷◌, [], ap, subst, sym}
 use Rattle.wordset.specs.Words.{Words}
-use Rattle.facts.specs.Statements.{Statement}
 use Rattle.facts.specs.Meaning.{statement_of}
 use Rattle.certificate.proofs.DetailAddedLemmas.{row_there}
 use Rattle.certificate.proofs.packed.track.Goals as goal

@@ -5,7 +5,7 @@ use Rattle.std.proofs.Math.Dec.{leb}
 use Rattle.std.proofs.lemmas.Bool.{leb-true, le-leb}
 use Rattle.std.specs.Prelude.{◌==◌, ◌+◌, if◌then◌else◌, Option, Some, None, IfSome}
 use Rattle.std.proofs.lemmas.Bool.{eq-eqb, eqb-true, ne_eqb, cases_eq}
-use Rattle.std.proofs.Common.{inl, inr, ap}
+use Rattle.std.proofs.Common.{false, inl, inr, ap}
 use Rattle.wordset.specs.Words.{Words, SameWords, how_many, one}
 use Rattle.instruct.specs.Instructions.{meaning_of}
 use Rattle.declaration.specs.Declaration.{Routine, IsDeclared}
@@ -71,14 +71,14 @@ unfolding how_many
 count_none zero w le = refl
 count_none (suc n) w le =
     let other : (n == w) ≡ false = ne_eqb n w (λ q. omega arith) in
-    rw other (count_none n w (omega arith))
+    let rest : how_many n (one w) ≡ 0 = count_none n w (omega arith) in rw (other, rest) refl
 
 count_one : (n w : ℕ) → w < n → how_many n (one w) ≡ 1
 unfolding how_many
 count_one zero w lt = absurd (omega arith)
 count_one (suc n) w lt = elim (cases_eq n w) [
   | inl e ↦ (let here : (n == w) ≡ true = eq-eqb n w e in let rest : how_many n (one w) ≡ 0 = count_none n w (omega arith) in rw (here, rest) refl)
-  | inr ne ↦ (let other : (n == w) ≡ false = ne_eqb n w ne in rw other (count_one n w (omega arith)))
+  | inr ne ↦ (let other : (n == w) ≡ false = ne_eqb n w ne in let rest : how_many n (one w) ≡ 1 = count_one n w (omega arith) in rw (other, rest) refl)
 ]
 
 -- a condition of the only word that is possible

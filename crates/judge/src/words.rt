@@ -1,6 +1,7 @@
 //! What the conditions at one address ask of its possible words.
 
 ghost use Rattle.std.specs.Prelude.{◌≡◌, ◌<◌, ◌≤◌, ◌↔◌, IsTrue, IfSome, MatchResult, true};
+ghost use Rattle.peripherals.specs.Loading.{image_of};
 ghost use Rattle.wordset.specs.Words.{SameWords, one};
 ghost use Rattle.wordset.specs.Lanes.{words};
 ghost use Rattle.facts.specs.declared.Condition.TheVariants.{V3, V5, V6, V13, V14, V15};
@@ -10,6 +11,7 @@ ghost use Rattle.judge.specs.Asked.{HoldsBetween, FailsFirst, asks_few, possible
 
 use crate::claims::Claims;
 use crate::spot::{Others, Spot};
+use bin_tape::Image;
 use facts::Condition;
 use std::alloc::Allocator;
 use word12::Word;
@@ -48,6 +50,13 @@ fn asks_few(condition: Condition) -> bool
     matches!(condition, Condition::V3)
 }
 
+/// The word of a tape at an address, if there is one.
+fn word_of(image: &Image, at: Word) -> Option<Word>
+    ensures { result ≡ image_of image.now at }
+{
+    image.get(at)
+}
+
 impl<A: Allocator, C: Claims> Spot<'_, A, C> {
     /// The first condition on words that fails here, if one does.
     pub(crate) fn check(&self, others: &mut Others) -> Result<(), Condition>
@@ -70,7 +79,7 @@ impl<A: Allocator, C: Claims> Spot<'_, A, C> {
         if self.place.declaration.is_variable(self.at) {
             return None;
         }
-        self.place.image.get(self.at)
+        word_of(self.place.image, self.at)
     }
 
     /// The first condition that fails here of the only word that is possible, if one does.

@@ -26,15 +26,15 @@ pub returns-then-not-turn_to-clause-nowhere : goal.returns-then-not-turn_to-clau
 returns-then-not-turn_to-clause-nowhere g c = λ q.
     is_unlisted (case_kept g.C.Claims.claims c.args.self.now) c.args.at c.in-Routine.entry (rw c.in-Routine.is at c.in-Some.ensures.only) (sym c.turn_to.ensures.listed ∙ c.if-not-turn_to.true)
 
-pub returns-in-Routine-clause-found : goal.returns-in-Routine-clause-found
-returns-in-Routine-clause-found g c = λ q.
+pub returns-else-not-turn_to-clause-found : goal.returns-else-not-turn_to-clause-found
+returns-else-not-turn_to-clause-found g c = λ q.
     let j = case_kept g.C.Claims.claims c.args.self.now in
     let counts = c.has_offset-counts.ensures ∙ ap (λ (f : Fact). some_below 8 f.offsets) c.requires.fact in
     let body : j.declaration.body (Some c.in-Routine.entry) c.args.at ≡ true = rw c.in-Routine.is at c.in-Some.ensures.found in
     is_body j c.args.at _ (Some c.in-Routine.entry) c.turn_to.ensures.tells (c.turn_to.ensures.body c.if-not-turn_to.false) body
     (inr (c.in-Routine.entry, body, sym c.turn_to.ensures.listed ∙ c.if-not-turn_to.false, sym counts ∙ q))
 
-pub returns-in-Routine-clause-nowhere : goal.returns-in-Routine-clause-nowhere
-returns-in-Routine-clause-nowhere g c = λ q.
+pub returns-else-not-turn_to-clause-nowhere : goal.returns-else-not-turn_to-clause-nowhere
+returns-else-not-turn_to-clause-nowhere g c = λ q.
     let counts = c.has_offset-counts.ensures ∙ ap (λ (f : Fact). some_below 8 f.offsets) c.requires.fact in
     counts_nowhere (case_kept g.C.Claims.claims c.args.self.now) c.args.at c.in-Routine.entry (rw c.in-Routine.is at c.in-Some.ensures.only) (sym counts ∙ q)

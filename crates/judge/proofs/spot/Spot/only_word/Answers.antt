@@ -8,4 +8,4 @@ pub returns : goal.returns
 returns g c =
     let s = c.args.self.now in
     let j = case_of g.C.Claims.claims s in
-    only_there (place_in j (routine_at s)) (fact_at j s.at) s.at c.get.result (sym c.is_variable.ensures ∙ c.if-is_variable.false) c.get.ensures
+    only_there (place_in j (routine_at s)) (fact_at j s.at) s.at c.word_of.result (sym c.is_variable.ensures ∙ c.if-is_variable.false) c.word_of.ensures

@@ -6,7 +6,7 @@ use Rattle.pal_text.specs.declared.characters.Meaning.TheVariants.{Ignored, Line
 use Rattle.pal_text.specs.declared.tokens.Kind.{Kind}
 use Rattle.pal_text.specs.declared.tokens.Kind.TheVariants.{Symbol, Number, Mixed, Here, Space, Comma, Equals, Plus, Minus, Star, End, Dollar, Other}
 use Rattle.pal_text.specs.declared.tokens.Token.{Token}
-use Rattle.pal_text.specs.Characters.{line, in_comment, meaning_after}
+use Rattle.pal_text.specs.Characters.{char, line, in_comment, meaning_after}
 use Rattle.pal_text.specs.Tokens.{is_space, longer, absorbs, kind_of, token, end_token}
 
 -- Of two neighbours of which one is a space that doesn't count, the other.
@@ -36,7 +36,7 @@ added next (t ∷ ts) = one_or_both next t ts (joined t next)
 abbrev pub grown : ℕ → ℕ → Bool → Meaning → List Token → List Token
 grown at n comment Ignored ts = ts
 grown at n comment LineEnd ts = added (token End n at) ts
-grown at n comment (Character c) ts = if comment || nat_eq c 47 then ts else added (token (kind_of c) n at) ts
+grown at n comment (Character c) ts = if comment || nat_eq c (char "/") then ts else added (token (kind_of c) n at) ts
 
 -- The tokens of these bytes.
 abbrev pub tokens : List ℕ → List Token

@@ -6,28 +6,28 @@ use Rattle.pal_text.specs.declared.characters.Meaning.TheVariants.{Ignored, Line
 use Rattle.pal_text.specs.declared.tokens.Kind.{Kind}
 use Rattle.pal_text.specs.declared.tokens.Kind.TheVariants.{Symbol, Number, Mixed, Here, Space, Comma, Equals, Plus, Minus, Star, End, Dollar, Other}
 use Rattle.pal_text.specs.declared.tokens.Token.{Token}
-use Rattle.pal_text.specs.Characters.{line, in_comment, meaning_after}
+use Rattle.pal_text.specs.Characters.{char, line, in_comment, meaning_after}
 
 abbrev pub is_letter : ℕ → Bool
-is_letter c = nat_le 65 c && nat_le c 90
+is_letter c = nat_le (char "A") c && nat_le c (char "Z")
 
 abbrev pub is_digit : ℕ → Bool
-is_digit c = nat_le 48 c && nat_le c 57
+is_digit c = nat_le (char "0") c && nat_le c (char "9")
 
 -- What a character begins, by its code.
 abbrev pub kind_of : ℕ → Kind
 kind_of c =
     if is_letter c then Symbol else
     if is_digit c then Number else
-    if nat_eq c 46 then Here else
-    if nat_eq c 32 then Space else
-    if nat_eq c 44 then Comma else
-    if nat_eq c 61 then Equals else
-    if nat_eq c 43 then Plus else
-    if nat_eq c 45 then Minus else
-    if nat_eq c 42 then Star else
-    if nat_eq c 59 then End else
-    if nat_eq c 36 then Dollar else Other
+    if nat_eq c (char ".") then Here else
+    if nat_eq c (char " ") then Space else
+    if nat_eq c (char ",") then Comma else
+    if nat_eq c (char "=") then Equals else
+    if nat_eq c (char "+") then Plus else
+    if nat_eq c (char "-") then Minus else
+    if nat_eq c (char "*") then Star else
+    if nat_eq c (char ";") then End else
+    if nat_eq c (char "$") then Dollar else Other
 
 -- A letter or a digit.
 abbrev pub is_run : Kind → Bool
@@ -69,7 +69,7 @@ with_next next (last ∷ ts) = lengthened next last ts (longer last.kind next.ki
 abbrev pub runs_with : ℕ → ℕ → Bool → Meaning → List Token → List Token
 runs_with at n comment Ignored ts = ts
 runs_with at n comment LineEnd ts = with_next (token End n at) ts
-runs_with at n comment (Character c) ts = if comment || nat_eq c 47 then ts else with_next (token (kind_of c) n at) ts
+runs_with at n comment (Character c) ts = if comment || nat_eq c (char "/") then ts else with_next (token (kind_of c) n at) ts
 
 -- The runs of these bytes, each as long as its characters stand together.
 abbrev pub runs : List ℕ → List Token

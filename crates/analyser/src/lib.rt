@@ -188,7 +188,7 @@ fn drafted_by<A: Allocator + Copy, D: Allocator>(
 /// # Errors
 ///
 /// `TurnsSpent` with all turns spent, `Stuck` at an instruction that the judge would refuse or at
-/// an entry whose routine calls itself by way of others (and at the address of a fact or the entry of
+/// an entry whose routine calls itself by way of others or leads to one that does (and at the address of a fact or the entry of
 /// an exit that has no line in a certificate, or where the judge refuses what was found), `TooLong` for
 /// what no checker would read, and `NoMemory`.
 pub fn guess_within<A: Allocator + Copy, D: Allocator>(
@@ -243,7 +243,7 @@ pub fn guess<A: Allocator + Copy, D: Allocator>(
 ///
 /// # Errors
 ///
-/// As `guess_within`, but `Stuck` where there is no draft alone.
+/// As `guess_within`, and `Stuck` where there is no draft, which no clause excludes.
 pub fn guess_or_draft_within<A: Allocator + Copy, D: Allocator>(
     alloc: A,
     image: &Image,

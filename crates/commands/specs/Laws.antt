@@ -168,7 +168,7 @@ GuessIsAccepted =
     (tape declaration guess line : List ℕ) (status : Status) → IsGuess (Some tape) (Some declaration) guess →
     IsCheckedSo (Some tape) (Some declaration) (Some guess) line status → status ≡ Done
 
--- and to what `migrate` writes it says what it says to the certificate that is migrated.
+-- and to what `migrate` writes, where it has a verdict on that, it says what it says to the certificate that is migrated.
 abbrev pub MigratedIsCheckedAlike : Type 0
 MigratedIsCheckedAlike =
     (tape declaration certificate migrated line line' : List ℕ) (status status' : Status) → IsMigrated (Some certificate) migrated →

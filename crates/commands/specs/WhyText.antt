@@ -72,7 +72,7 @@ gap_text (gap.Accumulator w) = codes "AC may be " ++ octal_text w
 gap_text (gap.Mq w) = codes "MQ may be " ++ octal_text w
 gap_text (gap.Link l) = codes "the link may be " ++ link_text l
 gap_text (gap.Cell c w) = (codes "the cell " ++ octal_text c) ++ (codes " may be " ++ octal_text w)
-gap_text (gap.Equation e) = equation_text e ++ codes " may be wrong"
+gap_text (gap.Equation e) = equation_text e ++ codes " may be wrong as far as is known"
 gap_text (gap.Offset o) = around_number (codes "the return word may be up by ") o (codes "")
 
 -- Why a run doesn't land.

@@ -48,7 +48,8 @@ pub fn assemblies_are_exact()
 }
 
 /// The bytes of a tape, a declaration and a certificate have one verdict. To what `guess` writes it is
-/// yes, and to what `migrate` writes it is that of the certificate which was migrated.
+/// yes, and to what `migrate` writes, unless it's longer than what is read, it is that of the certificate
+/// which was migrated.
 pub fn checks_are_one()
     ensures one { ChecksAreOne }
     ensures guessed { GuessIsAccepted }

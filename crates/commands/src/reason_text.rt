@@ -130,7 +130,7 @@ fn push_gap<A: Allocator>(text: &mut Vec<u8, A>, gap: &Gap) -> Result<(), AllocE
         }
         Gap::Equation(equation) => {
             push_equation(text, equation)?;
-            text.extend_from_slice(b" may be wrong")
+            text.extend_from_slice(b" may be wrong as far as is known")
         }
         Gap::Offset(offset) => push_around_number(
             text,

@@ -96,7 +96,8 @@ fn report_stuck<A: Allocator, D: Allocator, C: Allocator, E: ByteSink>(
 ///
 /// # Errors
 ///
-/// As of `guess`; `Guess` tells that the search is stuck only where there is no draft.
+/// As of `guess`; `Guess` tells that the search is stuck where there is no draft, which no clause
+/// excludes.
 #[tactic(auto, using(crate::proofs::InputLemmas::takes_no_text))]
 pub fn guess_or_explain<
     A: Allocator + Copy,

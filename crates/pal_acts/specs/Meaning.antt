@@ -20,7 +20,7 @@ location_after σ here e _ = here
 
 -- The current location after these acts: 0200 before the first.
 abbrev pub location : Values → List PlacedAct → ℕ
-location σ [] = 128
+location σ [] = 0o200
 location σ (a ∷ before) = location_after σ (location σ before) a.terms a.act
 
 -- The name that an act gives a value, with that value.

@@ -83,9 +83,9 @@ plain (Some v) = Ok v
 -- there; no other address can be referred to.
 abbrev pub addressed : ℕ → Bool → ℕ → ℕ → Result ℕ Code
 addressed base zero here a =
-    if nat_lt a 128 then Ok (bit_or base a)
+    if nat_lt a 0o200 then Ok (bit_or base a)
     else if zero then Err IllegalReference
-    else if nat_eq (a / 128) (here / 128) then Ok (bit_or (bit_or base 128) (a % 128))
+    else if nat_eq (a / 0o200) (here / 0o200) then Ok (bit_or (bit_or base 0o200) (a % 0o200))
     else Err IllegalReference
 
 abbrev pub referring : ℕ → Bool → ℕ → Option ℕ → Result ℕ Code
@@ -94,7 +94,7 @@ referring base zero here (Some a) = addressed base zero here a
 
 -- An operation, with 0400 where the reference is indirect.
 abbrev pub base : ℕ → Bool → ℕ
-base operation indirect = if indirect then bit_or operation 256 else operation
+base operation indirect = if indirect then bit_or operation 0o400 else operation
 
 abbrev pub reference : Values → ℕ → Option ℕ → Marked → Result ℕ Code
 reference σ here None m = Err Undefined

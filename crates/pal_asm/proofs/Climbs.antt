@@ -9,9 +9,11 @@ use Rattle.pal_text.specs.declared.tokens.Kind.{Kind}
 use Rattle.pal_text.specs.declared.tokens.Kind.TheVariants.{End}
 use Rattle.pal_text.specs.declared.tokens.Token.{Token}
 use Rattle.pal_text.specs.Characters.{line, line_by, in_comment, meaning_after}
-use Rattle.pal_text.specs.Tokens.{is_space, absorbs, longer, with_kind, without_space, joined, one_or_both, added, token, kind_of, grown, tokens, end_token, ended, all_tokens}
+use Rattle.pal_text.specs.Tokens.{is_space, absorbs, longer, token, kind_of, end_token}
+use Rattle.pal_text.specs.Adding.{with_kind, without_space, joined, one_or_both, added, grown, tokens, ended, all_read}
 use Rattle.pal_text.specs.Names.{named, part_tokens}
 use Rattle.pal_text.specs.Statements.{is_end, Piece, piece, pieces}
+use Rattle.pal_text.proofs.CountedLemmas.{part_are}
 
 -- tokens, the newest first, on lines up to this one
 abbrev Rising : ℕ → List Token → Type 0
@@ -78,8 +80,8 @@ part_climbing : (source : List ℕ) → Climbing 0 (part_tokens source)
 part_climbing source =
     let before : List ℕ = reverse source in
     let P : List Token → Type 0 = λ l. Climbing 0 l in
-    named_climbing source 0 (all_tokens source) (subst P (append-nil (reverse (ended before)))
-    (turned (ended before) [] (line before) (added_rising (line before) (end_token before) (tokens before) (omega arith, tokens_rising before)) tt))
+    subst P (sym (part_are source)) (named_climbing source 0 (all_read source) (subst P (append-nil (reverse (ended before)))
+    (turned (ended before) [] (line before) (added_rising (line before) (end_token before) (tokens before) (omega arith, tokens_rising before)) tt)))
 
 abbrev pub Marks : ℕ → List Piece → Type 0
 Marks n [] = Unit {0}

@@ -2,7 +2,7 @@
 use Rattle.std.specs.Prelude.{◌≡◌, ℕ, Bool, ◌||◌, ◌&&◌, not, if◌then◌else◌, List, [], ◌∷◌, ◌++◌, filter, reverse, nat_eq, codes, Result, Ok, Err}
 use Rattle.word12.specs.Words.{octal_text}
 use Rattle.pal_text.specs.declared.names.Name.{Name}
-use Rattle.pal_text.specs.Characters.{characters, code, is_character}
+use Rattle.pal_text.specs.Characters.{char, tab, characters, code, is_character}
 use Rattle.pal_acts.specs.declared.act.Join.{Join}
 use Rattle.pal_acts.specs.declared.act.Place.{Place}
 use Rattle.pal_acts.specs.declared.act.Act.{Act}
@@ -41,7 +41,7 @@ is_at p w = nat_eq w.place.part p.part && nat_eq w.place.line p.line
 
 -- Spaces and tabs at the front of a line aren't listed.
 abbrev pub is_blank : ℕ → Bool
-is_blank c = nat_eq c 32 || nat_eq c 9
+is_blank c = nat_eq c (char " ") || nat_eq c tab
 
 -- Characters from the first one on that is neither.
 abbrev pub without_front : List ℕ → List ℕ

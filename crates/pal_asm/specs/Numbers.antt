@@ -3,6 +3,7 @@ use Rattle.std.specs.Prelude.{ℕ, ◌+◌, ◌-◌, ◌*◌, ◌^◌, Bool, ◌
 use Rattle.std.specs.List.{list_all}
 use Rattle.pal_acts.specs.declared.code.Code.{Code}
 use Rattle.pal_acts.specs.declared.code.Code.TheVariants.{IllegalCharacter, NumberTooLarge}
+use Rattle.pal_text.specs.Characters.{char}
 use Rattle.pal_text.specs.declared.grammar.Form.{Form}
 use Rattle.pal_text.specs.declared.grammar.Form.TheVariants as form
 use Rattle.pal_asm.specs.declared.number.Radix.{Radix}
@@ -22,11 +23,11 @@ radix_after r _ = r
 -- What digits are worth: each counts the base to the number of digits after it.
 abbrev pub worth : ℕ → List ℕ → ℕ
 worth b [] = 0
-worth b (c ∷ cs) = (c - 48) * b ^ length cs + worth b cs
+worth b (c ∷ cs) = (c - char "0") * b ^ length cs + worth b cs
 
 -- A character is a digit of this base.
 abbrev pub is_digit_of : ℕ → ℕ → Bool
-is_digit_of b c = nat_le 48 c && nat_lt (c - 48) b
+is_digit_of b c = nat_le (char "0") c && nat_lt (c - char "0") b
 
 -- The number that these digits spell. That each is a digit of the base is asked first, and then whether the number is a word.
 abbrev pub number : ℕ → List ℕ → Result ℕ Code

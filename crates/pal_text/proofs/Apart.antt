@@ -8,7 +8,8 @@ use Rattle.pal_text.specs.declared.tokens.Kind.{Kind}
 use Rattle.pal_text.specs.declared.tokens.Kind.TheVariants.{Symbol, Number, Mixed, Space, End, Dollar}
 use Rattle.pal_text.specs.declared.tokens.Token.{Token}
 use Rattle.pal_text.specs.Characters.{line, in_comment, meaning_after}
-use Rattle.pal_text.specs.Tokens.{is_space, absorbs, longer, with_kind, joined, one_or_both, added, token, kind_of, grown, tokens, end_token, ended}
+use Rattle.pal_text.specs.Tokens.{is_space, absorbs, longer, token, kind_of, end_token}
+use Rattle.pal_text.specs.Adding.{with_kind, joined, one_or_both, added, grown, tokens, ended}
 use Rattle.pal_text.specs.Statements.{is_end}
 use Rattle.pal_text.specs.Scan.{IsCut, trimmed}
 
@@ -27,7 +28,7 @@ no_space_end End h = refl
 no_space_end Dollar h = refl
 no_space_end _ h = cc
 
-longer_to_end : (k n : Kind) → is_end n ≡ true → longer k n ≡ None
+pub longer_to_end : (k n : Kind) → is_end n ≡ true → longer k n ≡ None
 longer_to_end Symbol End h = refl
 longer_to_end Number End h = refl
 longer_to_end Mixed End h = refl

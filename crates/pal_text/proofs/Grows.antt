@@ -4,7 +4,7 @@ use Rattle.std.specs.Prelude.{reverse}
 use Rattle.std.proofs.lemmas.List.{reverse-append, take_more}
 use Rattle.std.proofs.Math.Seq.{set-append_seam, get_or-append_seam}
 use Rattle.pal_text.specs.declared.tokens.Token.{Token}
-use Rattle.pal_text.specs.Tokens.{joined, added, one_or_both}
+use Rattle.pal_text.specs.Adding.{joined, added, one_or_both}
 
 pub turned : {X : Type 0} (t : X) (ts : List X) → reverse (t ∷ ts) ≡ reverse ts ++ t ∷ []
 turned t ts = reverse-append (t ∷ []) ts

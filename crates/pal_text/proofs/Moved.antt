@@ -13,11 +13,13 @@ use Rattle.pal_text.specs.declared.tokens.Kind.{Kind}
 use Rattle.pal_text.specs.declared.tokens.Kind.TheVariants.{End}
 use Rattle.pal_text.specs.declared.tokens.Token.{Token}
 use Rattle.pal_text.specs.Characters.{code, is_ignored, returned, returned_by, meaning, meaning_after, in_comment, comment_by, line, line_by, is_character, characters}
-use Rattle.pal_text.specs.Tokens.{is_space, absorbs, longer, with_kind, without_space, joined, one_or_both, added, token, kind_of, grown, tokens, end_token, ended, all_tokens}
+use Rattle.pal_text.specs.Tokens.{is_space, absorbs, longer, token, kind_of, end_token}
+use Rattle.pal_text.specs.Adding.{with_kind, without_space, joined, one_or_both, added, grown, tokens, ended, all_read}
 use Rattle.pal_text.specs.Names.{IsWithin, name, first_six, bytes_of, with_name, named, part_tokens}
 use Rattle.pal_text.specs.Scan.{trimmed}
 use Rattle.pal_text.specs.Laws.{moved, IgnoredAddNothing}
 use Rattle.pal_text.proofs.Apart.{added_end}
+use Rattle.pal_text.proofs.CountedLemmas.{part_are}
 use Rattle.pal_text.proofs.Steps.{Kept, nothing_kept}
 use Rattle.pal_text.proofs.Stays.{range_front, told_alike}
 use Rattle.pal_text.proofs.Rises.{map_reverse, all_tokens_within}
@@ -296,9 +298,11 @@ module _ (before after : List ℕ) (b : ℕ) (ignored : is_ignored (code b) ≡ 
       let s : Same k 1 (reverse after ++ reverse before) (reverse after ++ (b ∷ reverse before)) = same_more k 1 (reverse after) (reverse before) (b ∷ reverse before) same_start in
       let e : ended (reverse long) ≡ map (moved k 1) (ended (reverse short)) =
       ap ended long_turned ∙ ended_moved k 1 (reverse after ++ reverse before) (reverse after ++ (b ∷ reverse before)) s.size s.past s.line_is s.tokens_are ∙ ap (λ bytes. map (moved k 1) (ended bytes)) (sym (reverse-append before after)) in
-      ap (λ ts. map (named long) (reverse ts)) e
+      part_are long
+      ∙ ap (λ ts. map (named long) (reverse ts)) e
       ∙ ap (map (named long)) (sym (map_reverse (moved k 1) (ended (reverse short))))
-      ∙ named_moved (all_tokens short) (all_tokens_within short)
+      ∙ named_moved (all_read short) (all_tokens_within short)
+      ∙ ap (map (moved k 1)) (sym (part_are short))
 
 pub ignored_add_nothing : IgnoredAddNothing
 ignored_add_nothing before after b ignored = moved_all before after b ignored

@@ -1,19 +1,43 @@
 -- The characters and lines of a part. A list of bytes has the newest first here: each byte is judged by what stands before it.
-use Rattle.std.specs.Prelude.{ℕ, ◌+◌, ◌%◌, Bool, true, false, ◌||◌, not, if◌then◌else◌, List, [], ◌∷◌, nat_eq, filter, map}
+use Prim.Native.String.{String}
+use Rattle.std.specs.Prelude.{ℕ, ◌+◌, ◌%◌, Bool, true, false, ◌||◌, not, if◌then◌else◌, List, [], ◌∷◌, nat_eq, filter, map, codes, get_or}
 use Rattle.pal_text.specs.declared.characters.Meaning.{Meaning}
 use Rattle.pal_text.specs.declared.characters.Meaning.TheVariants.{Ignored, LineEnd, Character}
 
+-- The code of a character.
+abbrev pub char : String → ℕ
+char s = get_or (codes s) 0 0
+
+-- The codes of characters that have no sign.
+abbrev pub null : ℕ
+null = 0
+
+abbrev pub tab : ℕ
+tab = 0o11
+
+abbrev pub line_feed : ℕ
+line_feed = 0o12
+
+abbrev pub form_feed : ℕ
+form_feed = 0o14
+
+abbrev pub carriage_return : ℕ
+carriage_return = 0o15
+
+abbrev pub rubout : ℕ
+rubout = 0o177
+
 -- A byte without channel 8.
 abbrev pub code : ℕ → ℕ
-code b = b % 128
+code b = b % 0o200
 
 -- Null, form feed and rubout are ignored wherever they stand.
 abbrev pub is_ignored : ℕ → Bool
-is_ignored c = nat_eq c 0 || nat_eq c 12 || nat_eq c 127
+is_ignored c = nat_eq c null || nat_eq c form_feed || nat_eq c rubout
 
 -- The same after one more byte: a carriage return makes it so, ignored bytes and line feeds leave it, any other ends it.
 abbrev pub returned_by : Bool → ℕ → Bool
-returned_by before b = if nat_eq (code b) 13 then true else if is_ignored (code b) || nat_eq (code b) 10 then before else false
+returned_by before b = if nat_eq (code b) carriage_return then true else if is_ignored (code b) || nat_eq (code b) line_feed then before else false
 
 -- Only ignored bytes and line feeds stand between here and a carriage return.
 abbrev pub returned : List ℕ → Bool
@@ -24,9 +48,9 @@ returned (b ∷ before) = returned_by (returned before) b
 abbrev pub meaning : Bool → ℕ → Meaning
 meaning returned b =
     if is_ignored (code b) then Ignored else
-    if nat_eq (code b) 13 then LineEnd else
-    if nat_eq (code b) 10 then (if returned then Ignored else LineEnd) else
-    if nat_eq (code b) 9 then Character 32 else Character (code b)
+    if nat_eq (code b) carriage_return then LineEnd else
+    if nat_eq (code b) line_feed then (if returned then Ignored else LineEnd) else
+    if nat_eq (code b) tab then Character (char " ") else Character (code b)
 
 abbrev pub meaning_after : List ℕ → ℕ → Meaning
 meaning_after before b = meaning (returned before) b
@@ -34,7 +58,7 @@ meaning_after before b = meaning (returned before) b
 abbrev pub comment_by : Bool → Meaning → Bool
 comment_by comment Ignored = comment
 comment_by comment LineEnd = false
-comment_by comment (Character c) = comment || nat_eq c 47
+comment_by comment (Character c) = comment || nat_eq c (char "/")
 
 -- A comment goes from a slash to the line's end.
 abbrev pub in_comment : List ℕ → Bool
@@ -53,7 +77,7 @@ line (b ∷ before) = line_by (line before) (meaning_after before b)
 
 -- Within a line every line feed is an ignored one, so these codes are no characters there.
 abbrev pub is_character : ℕ → Bool
-is_character c = not (is_ignored c || nat_eq c 10 || nat_eq c 13)
+is_character c = not (is_ignored c || nat_eq c line_feed || nat_eq c carriage_return)
 
 -- The characters of a token or of a line: its bytes in order, without channel 8 and without the ignored ones.
 abbrev pub characters : List ℕ → List ℕ

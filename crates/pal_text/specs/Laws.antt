@@ -8,7 +8,7 @@ use Rattle.pal_text.specs.declared.tokens.Token.{Token}
 use Rattle.pal_text.specs.declared.cut.Statement.{Statement}
 use Rattle.pal_text.specs.declared.cut.Ending.{Ending}
 use Rattle.pal_text.specs.declared.lines.Line.{Line}
-use Rattle.pal_text.specs.Characters.{code, is_ignored, meaning_after, in_comment}
+use Rattle.pal_text.specs.Characters.{char, line_feed, carriage_return, code, is_ignored, meaning_after, in_comment}
 use Rattle.pal_text.specs.Tokens.{is_space, tokens}
 use Rattle.pal_text.specs.Names.{bytes_of, named, part_tokens}
 use Rattle.pal_text.specs.Statements.{is_end, Piece, pieces, Fills}
@@ -44,7 +44,7 @@ IgnoredAddNothing = (before after : List ℕ) (b : ℕ) → is_ignored (code b) 
 
 -- A carriage return or a line feed.
 abbrev pub is_line_byte : ℕ → Bool
-is_line_byte b = nat_eq (code b) 13 || nat_eq (code b) 10
+is_line_byte b = nat_eq (code b) carriage_return || nat_eq (code b) line_feed
 
 -- After some bytes, the newest first, a line ends with the next byte, or because none is left.
 abbrev pub EndsLine : List ℕ → List ℕ → Type 0
@@ -54,7 +54,7 @@ EndsLine before (b ∷ bytes) = meaning_after before b ≡ LineEnd
 -- A comment adds nothing at the end of a line: the tokens are the same with it and without it. A line feed that is ignored
 -- without the comment, since it follows a return, would end a line after it, so that place is left out.
 abbrev pub CommentsAddNothing : Type 0
-CommentsAddNothing = (before text after : List ℕ) (slash : ℕ) → in_comment (reverse before) ≡ false → code slash ≡ 47
+CommentsAddNothing = (before text after : List ℕ) (slash : ℕ) → in_comment (reverse before) ≡ false → code slash ≡ char "/"
     → AllByRecursion (λ b. is_line_byte b ≡ false) text → EndsLine (reverse before) after
     → part_tokens (before ++ ((slash ∷ text) ++ after)) ≡ map (moved (length before) (length (slash ∷ text))) (part_tokens (before ++ after))
 

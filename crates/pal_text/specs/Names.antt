@@ -4,12 +4,12 @@ use Rattle.std.specs.Cmp.Lexicographic.{pointwise}
 use Rattle.pal_text.specs.declared.tokens.Kind.{Kind}
 use Rattle.pal_text.specs.declared.tokens.Kind.TheVariants.{Symbol, Decimal, Octal, Pause}
 use Rattle.pal_text.specs.declared.tokens.Token.{Token}
-use Rattle.pal_text.specs.Characters.{characters}
+use Rattle.pal_text.specs.Characters.{char, characters}
 use Rattle.pal_text.specs.Tokens.{is_letter, all_tokens}
 
 -- The first six of some characters, with spaces after fewer.
 abbrev pub first_six : List ℕ → List ℕ
-first_six cs = take 6 (cs ++ replicate 6 32)
+first_six cs = take 6 (cs ++ replicate 6 (char " "))
 
 -- The name of the symbol with these bytes.
 abbrev pub name : List ℕ → List ℕ
@@ -24,7 +24,7 @@ named_kind letters =
 
 -- A letter that begins none of these names.
 abbrev pub begins_none : ℕ → Bool
-begins_none c = is_letter c && not (nat_eq c 68 || nat_eq c 79 || nat_eq c 80)
+begins_none c = is_letter c && not (nat_eq c (char "D") || nat_eq c (char "O") || nat_eq c (char "P"))
 
 -- A token stands within so many bytes.
 pub record IsWithin (size : ℕ) (t : Token) : Type 0 where

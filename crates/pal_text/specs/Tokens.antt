@@ -1,32 +1,33 @@
--- The tokens of a part. Lists of bytes and of tokens have the newest first here, but for `all_tokens`.
+-- The tokens of a part: its runs of characters, and then these without the spaces that don't count. Lists of bytes and of
+-- tokens have the newest first here, but for `all_tokens`.
 use Rattle.std.specs.Prelude.{ℕ, ◌+◌, Bool, true, false, ◌||◌, ◌&&◌, if◌then◌else◌, List, [], ◌∷◌, length, reverse, Option, Some, None, nat_eq, nat_le}
 use Rattle.pal_text.specs.declared.characters.Meaning.{Meaning}
 use Rattle.pal_text.specs.declared.characters.Meaning.TheVariants.{Ignored, LineEnd, Character}
 use Rattle.pal_text.specs.declared.tokens.Kind.{Kind}
 use Rattle.pal_text.specs.declared.tokens.Kind.TheVariants.{Symbol, Number, Mixed, Here, Space, Comma, Equals, Plus, Minus, Star, End, Dollar, Other}
 use Rattle.pal_text.specs.declared.tokens.Token.{Token}
-use Rattle.pal_text.specs.Characters.{line, in_comment, meaning_after}
+use Rattle.pal_text.specs.Characters.{char, line, in_comment, meaning_after}
 
 abbrev pub is_letter : ℕ → Bool
-is_letter c = nat_le 65 c && nat_le c 90
+is_letter c = nat_le (char "A") c && nat_le c (char "Z")
 
 abbrev pub is_digit : ℕ → Bool
-is_digit c = nat_le 48 c && nat_le c 57
+is_digit c = nat_le (char "0") c && nat_le c (char "9")
 
 -- What a character begins, by its code.
 abbrev pub kind_of : ℕ → Kind
 kind_of c =
     if is_letter c then Symbol else
     if is_digit c then Number else
-    if nat_eq c 46 then Here else
-    if nat_eq c 32 then Space else
-    if nat_eq c 44 then Comma else
-    if nat_eq c 61 then Equals else
-    if nat_eq c 43 then Plus else
-    if nat_eq c 45 then Minus else
-    if nat_eq c 42 then Star else
-    if nat_eq c 59 then End else
-    if nat_eq c 36 then Dollar else Other
+    if nat_eq c (char ".") then Here else
+    if nat_eq c (char " ") then Space else
+    if nat_eq c (char ",") then Comma else
+    if nat_eq c (char "=") then Equals else
+    if nat_eq c (char "+") then Plus else
+    if nat_eq c (char "-") then Minus else
+    if nat_eq c (char "*") then Star else
+    if nat_eq c (char ";") then End else
+    if nat_eq c (char "$") then Dollar else Other
 
 -- A letter or a digit.
 abbrev pub is_run : Kind → Bool
@@ -51,6 +52,30 @@ longer Mixed next = if is_run next then Some Mixed else None
 longer Space next = if is_space next then Some Space else None
 longer _ next = None
 
+-- A token of one byte at a place.
+abbrev pub token : Kind → ℕ → ℕ → Token
+token k n at = record { kind = k; line = n; start = at; end = at + 1 }
+
+-- Runs with one more character: it goes onto the last one, or stands after it.
+abbrev pub lengthened : Token → Token → List Token → Option Kind → List Token
+lengthened next last ts (Some k) = record { kind = k; line = last.line; start = last.start; end = next.end } ∷ ts
+lengthened next last ts None = next ∷ last ∷ ts
+
+abbrev pub with_next : Token → List Token → List Token
+with_next next [] = next ∷ []
+with_next next (last ∷ ts) = lengthened next last ts (longer last.kind next.kind)
+
+-- The runs with what a byte brings: a line's end ends a statement, and a comment brings nothing.
+abbrev pub runs_with : ℕ → ℕ → Bool → Meaning → List Token → List Token
+runs_with at n comment Ignored ts = ts
+runs_with at n comment LineEnd ts = with_next (token End n at) ts
+runs_with at n comment (Character c) ts = if comment || nat_eq c (char "/") then ts else with_next (token (kind_of c) n at) ts
+
+-- The runs of these bytes, each as long as its characters stand together.
+abbrev pub runs : List ℕ → List Token
+runs [] = []
+runs (b ∷ before) = runs_with (length before) (line before) (in_comment before) (meaning_after before b) (runs before)
+
 -- Spaces beside these don't count: , = + - and the ends of a statement.
 abbrev pub absorbs : Kind → Bool
 absorbs Comma = true
@@ -61,51 +86,24 @@ absorbs End = true
 absorbs Dollar = true
 absorbs _ = false
 
--- Of two neighbours of which one is a space that doesn't count, the other.
-abbrev pub without_space : Token → Token → Option Token
-without_space last next =
-    if is_space next.kind && absorbs last.kind then Some last else
-    if is_space last.kind && absorbs next.kind then Some next else None
+-- Nor do those at the front of the part.
+abbrev pub absorbs_after : List Token → Bool
+absorbs_after [] = true
+absorbs_after (t ∷ ts) = absorbs t.kind
 
-abbrev pub with_kind : Token → Token → Option Kind → Option Token
-with_kind last next (Some k) = Some (record { kind = k; line = last.line; start = last.start; end = next.end })
-with_kind last next None = without_space last next
-
--- The one token that two neighbours make; none where both stand.
-abbrev pub joined : Token → Token → Option Token
-joined last next = with_kind last next (longer last.kind next.kind)
-
-abbrev pub one_or_both : Token → Token → List Token → Option Token → List Token
-one_or_both next t ts (Some one) = one ∷ ts
-one_or_both next t ts None = next ∷ t ∷ ts
-
--- The tokens with one more at the end. A space at the front of the first statement doesn't count.
-abbrev pub added : Token → List Token → List Token
-added next [] = if is_space next.kind then [] else next ∷ []
-added next (t ∷ ts) = one_or_both next t ts (joined t next)
-
--- A token of one byte at a place.
-abbrev pub token : Kind → ℕ → ℕ → Token
-token k n at = record { kind = k; line = n; start = at; end = at + 1 }
-
--- The tokens with what a byte brings: a line's end ends a statement, and a comment brings nothing.
-abbrev pub grown : ℕ → ℕ → Bool → Meaning → List Token → List Token
-grown at n comment Ignored ts = ts
-grown at n comment LineEnd ts = added (token End n at) ts
-grown at n comment (Character c) ts = if comment || nat_eq c 47 then ts else added (token (kind_of c) n at) ts
+-- Runs without the spaces that don't count; the first argument says whether what follows them is one of these.
+abbrev pub counted : Bool → List Token → List Token
+counted followed [] = []
+counted followed (t ∷ ts) = if is_space t.kind && (followed || absorbs_after ts) then counted false ts else t ∷ counted (absorbs t.kind) ts
 
 -- The tokens of these bytes.
 abbrev pub tokens : List ℕ → List Token
-tokens [] = []
-tokens (b ∷ before) = grown (length before) (line before) (in_comment before) (meaning_after before b) (tokens before)
+tokens before = counted false (runs before)
 
 -- The end of the part, which ends a statement too.
 abbrev pub end_token : List ℕ → Token
 end_token before = record { kind = End; line = line before; start = length before; end = length before }
 
-abbrev pub ended : List ℕ → List Token
-ended before = added (end_token before) (tokens before)
-
 -- The tokens of a part, whose bytes and tokens are in order, up to its end.
 abbrev pub all_tokens : List ℕ → List Token
-all_tokens source = reverse (ended (reverse source))
+all_tokens source = reverse (counted false (end_token (reverse source) ∷ runs (reverse source)))

@@ -26,7 +26,7 @@ pub enum Gap {
     Link(Link),
     /// The cell may hold this word.
     Cell(Word, Word),
-    /// This equation need not be true.
+    /// This equation isn't known; it may be true all the same.
     Equation(Equation),
     /// The return word may have been counted up by this offset.
     Offset(usize),

@@ -289,7 +289,7 @@ fn declare_command<'a>(alloc: Global) -> Result<Command<'a>, AllocError> {
     Command::new(alloc, "declare")
         .about("Proposes a declaration: what the program of a tape may do")
         .after_help(
-            "OUT is another file: it is emptied before the tape is read. Where no certificate is found the declaration is written all the same, behind comments that say why, and the status is 1.\n\nExample:\n  pdp8 declare hello.bin hello.declaration",
+            "OUT is another file: it is emptied before the tape is read. Where no certificate is found the declaration is written all the same, behind comments that say why if there is room for them, and the status is 1.\n\nExample:\n  pdp8 declare hello.bin hello.declaration",
         )
         .arg(tape_word(alloc))?
         .arg(out)?

@@ -254,11 +254,12 @@ pub between_missed : (xs places : List ℕ) (first end i : ℕ) (r : Result ℕ 
 between_missed xs places first end i r same is found_by rise =
     let m : MatchResult r (λ i. (i < length xs) × (get_or xs i 0 ≡ first)) (λ i. (i ≤ length xs) × ((k : ℕ) → k < i → get_or xs k 0 < first) × ((k : ℕ) → i ≤ k → k < length xs → first < get_or xs k 0)) =
     searched xs first r found_by (rising xs (rw same rise)) in
-    let n : (i ≤ length xs) × ((k : ℕ) → k < i → get_or xs k 0 < first) × ((k : ℕ) → i ≤ k → k < length xs → first < get_or xs k 0) = rw is at m in
-    (λ h. let g : first < get_or places i 0 = rw same at (n.2 i (omega arith) (rw same h.0)) in record { at = i; there = h.0; reached = omega arith; before = h.1 },
-    λ h. let late : i ≤ h.at = elim (cases_lt h.at i) [
-      | inl a ↦ absurd (let z : get_or places h.at 0 < first = rw same at (n.1 h.at a) in let w = h.reached in omega arith)
-      | inr a ↦ a
-    ] in
-    let u : get_or places i 0 ≤ get_or places h.at 0 = rising places rise i h.at late h.there in
-    (let t = h.there in omega arith, let w = h.before in omega arith))
+    let n : (i ≤ length xs) × ((k : ℕ) → k < i → get_or xs k 0 < first) × ((k : ℕ) → i ≤ k → k < length xs → first < get_or xs k 0) = rw is at m in (
+      λ h. let g : first < get_or places i 0 = rw same at (n.2 i (omega arith) (rw same h.0)) in record { at = i; there = h.0; reached = omega arith; before = h.1 },
+      λ h. let late : i ≤ h.at = elim (cases_lt h.at i) [
+        | inl a ↦ absurd (let z : get_or places h.at 0 < first = rw same at (n.1 h.at a) in let w = h.reached in omega arith)
+        | inr a ↦ a
+      ] in
+          let u : get_or places i 0 ≤ get_or places h.at 0 = rising places rise i h.at late h.there in
+          (let t = h.there in omega arith, let w = h.before in omega arith),
+    )

@@ -3,7 +3,7 @@
 
 use bin_tape::Image;
 use declaration::Declaration;
-use facts::{Equation, Fact, Known, Name, Outcome, Place, Room, post};
+use facts::{Equation, Fact, Known, Name, Outcome, OutcomeList, Place, Room, post};
 use std::alloc::Allocator;
 use std::test::Fail;
 use word12::{Link, Word};
@@ -113,15 +113,16 @@ fn counted<'a, A: Allocator>(
         routine: None,
     };
     let mut room = Room::new();
-    match post(fact, word(0o210), word(0o2224), &place, &mut room) {
-        Ok(found) => Some([
-            glimpse(&found.all[0]),
-            glimpse(&found.all[1]),
-            glimpse(&found.all[2]),
-            glimpse(&found.all[3]),
-        ]),
-        Err(_) => None,
-    }
+    let Ok(found) = post(fact, word(0o210), word(0o2224), &place, &mut room) else {
+        return None;
+    };
+    let OutcomeList { all } = found;
+    Some([
+        glimpse(&all[0]),
+        glimpse(&all[1]),
+        glimpse(&all[2]),
+        glimpse(&all[3]),
+    ])
 }
 
 #[test]

@@ -2,7 +2,9 @@
 
 use bin_tape::Image;
 use declaration::Declaration;
-use facts::{Equation, Fact, Known, Name, Offsets, Outcome, Place, Room, Running, outcomes};
+use facts::{
+    Equation, Fact, Known, Name, Offsets, Outcome, OutcomeList, Place, Room, Running, outcomes,
+};
 use std::alloc::Allocator;
 use std::test::Fail;
 use word12::{Link, Word};
@@ -133,12 +135,12 @@ fn glimpses<'a, A: Allocator>(
         },
     };
     let mut room = Room::new();
-    let found = outcomes(fact, stand.at, stand.word, &place, &mut room);
+    let OutcomeList { all } = outcomes(fact, stand.at, stand.word, &place, &mut room);
     [
-        glimpse(&found.all[0]),
-        glimpse(&found.all[1]),
-        glimpse(&found.all[2]),
-        glimpse(&found.all[3]),
+        glimpse(&all[0]),
+        glimpse(&all[1]),
+        glimpse(&all[2]),
+        glimpse(&all[3]),
     ]
 }
 

@@ -2,7 +2,7 @@
 
 use bin_tape::Image;
 use declaration::Declaration;
-use facts::{Equation, Fact, Name, Outcome, Place, Room, outcomes};
+use facts::{Equation, Fact, Name, Outcome, OutcomeList, Place, Room, outcomes};
 use std::alloc::Allocator;
 use word12::{Link, Word};
 use wordset::{Links, WordSet};
@@ -71,14 +71,15 @@ fn hit(outcome: &Option<Outcome<'_>>, fact: &Fact) -> u64 {
 }
 
 /// Whether the first outcome of TAD at an address entails a fact, as a number.
-fn first_hit<A: Allocator>(
-    fact: &Fact,
+fn first_hit<'a, A: Allocator>(
+    fact: &'a Fact,
     at: Word,
     place: &Place<'_, A>,
     next: &Fact,
-    room: &mut Room,
+    room: &'a mut Room,
 ) -> u64 {
-    hit(&outcomes(fact, at, word(TAD), place, room).all[0], next)
+    let OutcomeList { all } = outcomes(fact, at, word(TAD), place, room);
+    hit(&all[0], next)
 }
 
 /// How many of so many outcomes entail a fact.

@@ -59,3 +59,11 @@ pub struct Place {
     pub part: usize,
     pub line: usize,
 }
+
+/// A word that a source puts into memory: where its statement stands, its address and its value.
+#[derive(Clone, Copy, PartialEq, Eq, Debug)]
+pub struct PlacedWord {
+    pub place: Place,
+    pub at: Word,
+    pub word: Word,
+}

@@ -1,7 +1,7 @@
 -- Lines that were read as details.
-use Rattle.std.proofs.Common.{◌≡◌, ℕ, ◌+◌, ◌-◌, ◌<◌, true, false, ◌&&◌, List, [], ◌∷◌, ◌++◌, length, take, refl, ap, ◌∙◌, sym, arith, length-append}
+use Rattle.std.proofs.Common.{◌≡◌, ℕ, ◌+◌, ◌-◌, ◌<◌, ◌≤◌, true, false, ◌&&◌, List, [], ◌∷◌, ◌++◌, length, take, get_or, refl, ap, ◌∙◌, sym, arith, length-append}
 use Rattle.std.specs.Prelude.{slice_range}
-use Rattle.std.proofs.lemmas.List.{take_all, drop_at}
+use Rattle.std.proofs.lemmas.List.{take_all, drop_at, drop_more}
 use Rattle.wordset.specs.Words.{between}
 use Rattle.wordset.proofs.SetLemmas.{equal_words, all_everything}
 use Rattle.certificate.specs.declared.packed.Run.{Run}
@@ -26,10 +26,19 @@ is_no_end (detail.Row a r) = refl
 is_no_end (detail.Equation e) = refl
 
 -- The set of one run.
-one_run : (r : Run) → r.last < 4096 → set_of_runs (r ∷ []) ≡ between r.first r.last
+pub one_run : (r : Run) → r.last < 4096 → set_of_runs (r ∷ []) ≡ between r.first r.last
 unfolding set_of_runs
 one_run r small = equal_words _ _ (runs_past (r ∷ [])) (λ v h. above_between r.first r.last v (omega arith))
     (λ v h. ap (λ b. b && between r.first r.last v) (all_everything v h))
+
+-- The set of the one run that lies at a place.
+pub row_there : (runs : List Run) (i n : ℕ) (d : Run) → n ≡ 1 → i + n ≤ length runs → d ≡ get_or runs i d → d.last < 4096 →
+    set_of_runs (slice_range runs i (i + n)) ≡ between d.first d.last
+row_there runs i n d one within is small =
+    let b : i < length runs = omega (arith, one) in
+    let there : slice_range runs i (i + n) ≡ d ∷ [] =
+    rw one (ap (take (i + 1 - i)) (drop_more runs i d b) ∙ (let k : i + 1 - i ≡ 1 = omega arith in rw (k, ← is) refl)) in
+    ap set_of_runs there ∙ one_run d small
 
 -- The run that was added lies there.
 pub run_laid : (old new : List Run) (r : Run) (s : Span) → r.last < 4096 → new ≡ old ++ r ∷ [] → IsSpan s (length old) (length new) →

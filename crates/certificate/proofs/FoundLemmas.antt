@@ -1,6 +1,6 @@
 -- Lines that are kept, and are found by their places.
 use Rattle.std.proofs.Common.{◌≡◌, ◌≢◌, ℕ, ◌+◌, ◌<◌, ◌≤◌, ◌==◌, Bool, true, false, List, [], ◌∷◌, ◌++◌, length, get_or, drop, Result, Ok, Err, nat_cmp, zero, suc, refl, ap, ◌∙◌, sym, inl, inr, arith, append-nil}
-use Rattle.std.specs.Prelude.{◌*◌, if◌then◌else◌, map, MatchResult}
+use Rattle.std.specs.Prelude.{◌*◌, ◌↔◌, if◌then◌else◌, map, MatchResult}
 use Rattle.std.proofs.lemmas.Bool.{eq-eqb, cases_lt}
 use Rattle.std.proofs.lemmas.Bool.Decides.{eqb_tells}
 use Rattle.std.proofs.lemmas.List.Sorted.{searched}
@@ -11,7 +11,7 @@ use Rattle.certificate.specs.declared.lines.KeptLines.{KeptLines}
 use Rattle.certificate.specs.Reading.{RiseFrom}
 use Rattle.certificate.specs.Line.{Line, RoutineIs, FactIs, ExitIs, CellIs, EquationIs, End}
 use Rattle.certificate.specs.Order.{is_detail, is_end, heads, place, next_place, AreInOrder}
-use Rattle.certificate.specs.Found.{newest_first, starts, from_place, all_said, IsIndexed, Keeps, unended}
+use Rattle.certificate.specs.Found.{newest_first, starts, from_place, all_said, IsIndexed, HasBetween, Keeps, unended}
 use Rattle.certificate.proofs.GatherLemmas.{Follow, follows}
 
 pub reversed_more : (before ls : List Line) (l : Line) → newest_first before (ls ++ l ∷ []) ≡ l ∷ newest_first before ls
@@ -236,3 +236,30 @@ sought_none k xs p i r same is found_by h rise =
       | inl a ↦ (let z : get_or xs j 0 < p = n.1 j a in let w : get_or xs j 0 ≡ p = rw same e in omega arith)
       | inr a ↦ (let z : p < get_or xs j 0 = n.2 j a (rw same b) in let w : get_or xs j 0 ≡ p = rw same e in omega arith)
     ])
+
+-- The place of a search is between two numbers where the first one was found, and is before the other.
+pub between_found : (xs places : List ℕ) (first end i : ℕ) (r : Result ℕ ℕ) → xs ≡ places → r ≡ Ok i →
+    IsBinarySearchResult (λ y. nat_cmp y first) xs r → RiseFrom 0 places → (first < end) ↔ HasBetween places first end
+between_found xs places first end i r same is found_by rise =
+    let m : MatchResult r (λ i. (i < length xs) × (get_or xs i 0 ≡ first)) (λ i. (i ≤ length xs) × ((k : ℕ) → k < i → get_or xs k 0 < first) × ((k : ℕ) → i ≤ k → k < length xs → first < get_or xs k 0)) =
+    searched xs first r found_by (rising xs (rw same rise)) in
+    let n : (i < length xs) × (get_or xs i 0 ≡ first) = rw is at m in
+    let b : i < length places = rw same at n.0 in
+    let e : get_or places i 0 ≡ first = rw same at n.1 in
+    (λ h. record { at = i; there = b; reached = omega arith; before = omega arith }, λ h. (let x = h.reached in let y = h.before in omega arith))
+
+-- Where it wasn't found, the line at which it would stand is before the other.
+pub between_missed : (xs places : List ℕ) (first end i : ℕ) (r : Result ℕ ℕ) → xs ≡ places → r ≡ Err i →
+    IsBinarySearchResult (λ y. nat_cmp y first) xs r → RiseFrom 0 places → ((i < length places) × (get_or places i 0 < end)) ↔ HasBetween places first end
+between_missed xs places first end i r same is found_by rise =
+    let m : MatchResult r (λ i. (i < length xs) × (get_or xs i 0 ≡ first)) (λ i. (i ≤ length xs) × ((k : ℕ) → k < i → get_or xs k 0 < first) × ((k : ℕ) → i ≤ k → k < length xs → first < get_or xs k 0)) =
+    searched xs first r found_by (rising xs (rw same rise)) in
+    let n : (i ≤ length xs) × ((k : ℕ) → k < i → get_or xs k 0 < first) × ((k : ℕ) → i ≤ k → k < length xs → first < get_or xs k 0) = rw is at m in (
+      λ h. let g : first < get_or places i 0 = rw same at (n.2 i (omega arith) (rw same h.0)) in record { at = i; there = h.0; reached = omega arith; before = h.1 },
+      λ h. let late : i ≤ h.at = elim (cases_lt h.at i) [
+        | inl a ↦ absurd (let z : get_or places h.at 0 < first = rw same at (n.1 h.at a) in let w = h.reached in omega arith)
+        | inr a ↦ a
+      ] in
+          let u : get_or places i 0 ≤ get_or places h.at 0 = rising places rise i h.at late h.there in
+          (let t = h.there in omega arith, let w = h.before in omega arith),
+    )

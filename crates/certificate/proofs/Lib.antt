@@ -20,6 +20,7 @@ pub mod PackedLemmas
 pub mod FoundLemmas
 pub mod DetailLemmas
 pub mod ReaderLemmas
+mod NameLemmas
 pub mod SpelledLemmas
 pub mod ApartLemmas
 pub mod MakerLemmas

@@ -1,21 +1,22 @@
 -- Lines packed, and the runs of their sets.
-use Rattle.std.proofs.Common.{◌≡◌, ℕ, zero, suc, ◌+◌, ◌-◌, ◌<◌, ◌≤◌, Bool, true, false, ◌&&◌, ◌||◌, List, [], ◌∷◌, ◌++◌, length, get_or, take, drop, refl, ap, ◌∙◌, sym, inl, inr, arith, append_assoc, append-nil, length-append}
+use Rattle.std.proofs.Common.{◌≡◌, ℕ, zero, suc, ◌+◌, ◌-◌, ◌<◌, ◌≤◌, Bool, true, false, ◌&&◌, ◌||◌, List, [], ◌∷◌, ◌++◌, length, map, get_or, take, drop, refl, ap, ◌∙◌, sym, inl, inr, arith, append_assoc, append-nil, length-append}
 use Rattle.std.specs.Prelude.{not, nat_le, slice_range}
 use Rattle.std.specs.List.{AllByRecursion}
 use Rattle.std.proofs.lemmas.Bool.{true≢false, cases_lt}
 use Rattle.std.proofs.lemmas.Bool.Decides.{nat_tests}
-use Rattle.std.proofs.lemmas.List.{take_all, take_at, take_more, drop_at, drop-append-le, take-append-le, length-drop, length-map}
+use Rattle.std.proofs.lemmas.List.{take_all, take_at, take_more, drop_at, drop-append-le, take-append-le, length-drop, length-map, map_more}
 use native.Mathlib.Numerals.{unary_clauses}
 use Rattle.wordset.specs.Words.{Words, SameWords, all_words, difference, nothing, between, union, IsFirstFrom, HasNoneFrom}
 use Rattle.wordset.specs.Lanes.{words}
 use Rattle.wordset.proofs.SetLemmas.{words_are, all_past, all_everything}
+use Rattle.facts.specs.Statements.{TrackedCell, cell_at}
 use Rattle.facts.specs.Meaning.{offsets_of}
 use Rattle.certificate.specs.declared.packed.Run.{Run}
 use Rattle.certificate.specs.declared.packed.Spans.{Spans}
 use Rattle.certificate.specs.declared.packed.PackedRegisters.{PackedRegisters}
 use Rattle.certificate.specs.declared.packed.PackedLine.{PackedLine}
 use Rattle.certificate.specs.declared.packed.PackedLine.TheVariants as packed
-use Rattle.certificate.specs.Line.{Line, Registers as SaidRegisters, FactIs, ExitIs}
+use Rattle.certificate.specs.Line.{Line, Registers as SaidRegisters, FactIs, ExitIs, CellIs}
 use Rattle.certificate.specs.Spelled.{IsLastOf}
 use Rattle.certificate.specs.Packed.{Begins, joined, set_of_runs, set_at, one_at, other_at, registers_at, said_at, lines_in, AreWithin, LiesWithin, IsPacked}
 
@@ -218,3 +219,9 @@ front_kept runs [] zero = refl
 front_kept runs [] (suc n) = refl
 front_kept runs (l ∷ ls) zero = refl
 front_kept runs (l ∷ ls) (suc n) = ap (λ (x : List Line). said_at runs l ∷ x) (front_kept runs ls n)
+
+-- The line of a cell more.
+pub cell_more : (old now new : List Line) (cells : List TrackedCell) (i : ℕ) (t : TrackedCell) → i < length cells → now ≡ old ++ map CellIs (take i cells) →
+    t ≡ cell_at cells i → new ≡ now ++ CellIs t ∷ [] → new ≡ old ++ map CellIs (take (i + 1) cells)
+cell_more old now new cells i t lt so at e =
+    rw (map_more CellIs cells i (record { address = 0; set = nothing }) lt, e, so, at) (append_assoc old (map CellIs (take i cells)) (CellIs (cell_at cells i) ∷ []))

@@ -179,3 +179,11 @@ pub fits : {A : Type 0} (v : Version) (k : KeptLines A) (p : ℕ) (ls : List Lin
     ls ≡ from_place p (all_said k) → FitUnderFirst ls
 fits v k p ls w at =
     let f = gathered_formed v (all_said k) w.order in rw at (fits_first v (all_said k) p f.facts f.exits)
+
+pub routine_named : {A : Type 0} (v : Version) (k : KeptLines A) (e : ℕ) → IsWhole v k → e < 4096 →
+    has_routine (routines_of (all_said k)) e ≡ begins_routine (from_place e (all_said k))
+routine_named v k e w b = (routines_found v (all_said k) e (formed v k w) b).0
+
+pub exit_named : {A : Type 0} (v : Version) (k : KeptLines A) (e o : ℕ) → IsWhole v k → e < 4096 → o < 8 →
+    has_exit_in (exits_of (all_said k)) e o ≡ begins_exit (from_place (8192 + (8 * e + o)) (all_said k))
+exit_named v k e o w b g = (exits_found v (all_said k) e o (formed v k w) b g).0

@@ -1,6 +1,6 @@
 -- Certificates: what a guesser claims of a program, and a checker tests.
-use Rattle.std.specs.Prelude.{ℕ, Some, None}
-use Rattle.wordset.specs.Words.{Words, nothing}
+use Rattle.std.specs.Prelude.{ℕ, Bool, ◌||◌, Some, None}
+use Rattle.wordset.specs.Words.{Words, nothing, some_below}
 use Rattle.processor.specs.Runs.{Image}
 use Rattle.declaration.specs.Declaration.{Routine, Declaration}
 use Rattle.facts.specs.Facts.{Fact, Place}
@@ -30,3 +30,7 @@ writes_of c (Some e) = c.writes e
 -- The place of the facts in a routine's body.
 abbrev pub place_of : Image → Declaration → Certificate → Routine → Place
 place_of image d c r = record { image = image; declaration = d; routine = r; sites = sites_of c r }
+
+-- A routine of this entry is listed, or it's said what holds when it returns by some offset.
+abbrev pub names_routine : Certificate → ℕ → Bool
+names_routine c e = c.listed e || some_below 8 (c.has_exit e)

@@ -1,5 +1,5 @@
 -- How a line is found by its place, and what stands there; it serves private contracts.
-use Rattle.std.specs.Prelude.{◌≡◌, ℕ, ◌+◌, ◌≤◌, ◌==◌, Bool, true, false, if◌then◌else◌, List, [], ◌∷◌, ◌++◌, length, map, Option, Some, None}
+use Rattle.std.specs.Prelude.{◌≡◌, ℕ, ◌+◌, ◌≤◌, ◌<◌, ◌==◌, get_or, Bool, true, false, if◌then◌else◌, List, [], ◌∷◌, ◌++◌, length, map, Option, Some, None}
 use Rattle.facts.specs.Facts.{Fact, Equation}
 use Rattle.wordset.specs.Words.{everything}
 use Rattle.facts.specs.Statements.{TrackedCell, Statement, fact_of, unknown}
@@ -34,6 +34,13 @@ starts n (l ∷ ls) = if is_detail l then starts (n + 1) ls else n ∷ starts (n
 abbrev pub from_place : ℕ → List Line → List Line
 from_place p [] = []
 from_place p (l ∷ ls) = if is_detail l then from_place p ls else (if place l == p then l ∷ ls else from_place p ls)
+
+-- One of these places is a number from one on and before another.
+pub record HasBetween (places : List ℕ) (first end : ℕ) : Type 0 where
+  pub at : ℕ
+  pub there : at < length places
+  pub reached : first ≤ get_or places at 0
+  pub before : get_or places at 0 < end
 
 -- The lines that are kept.
 abbrev pub all_said : {A : Type 0} → KeptLines A → List Line

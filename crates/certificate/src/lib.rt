@@ -14,6 +14,7 @@ ghost use Rattle.facts.specs.Changes.{with_offsets};
 ghost use Rattle.facts.specs.Meaning.{statement_of, meaning as fact_meaning};
 ghost use Rattle.certificate.specs.Spelling.{fact_text_at, text};
 ghost use Rattle.certificate.specs.Reading.{AreLines, statement_in, exit_statement_in};
+ghost use Rattle.certificate.specs.Certificate.{names_routine};
 ghost use Rattle.certificate.specs.Kept.{meaning, claims};
 ghost use Rattle.certificate.specs.Sample.{SampleLaw};
 ghost use Rattle.certificate.specs.Line.{TextLaw};
@@ -182,6 +183,15 @@ impl<A: Allocator> Certificate<A> {
         ensures writes { IfSome result (λ r. words r.writes ≡ (claims self.now).writes entry) }
     {
         first_routine(self.kept.lines(), self.kept.from(entry.index()))
+    }
+
+    /// Whether a routine of this entry is listed, or it is said what holds when it returns.
+    pub fn names(&self, entry: Word) -> bool
+        ensures { result ≡ names_routine (claims self.now) entry }
+    {
+        let routine = entry.index();
+        let exits = FIRST_EXIT + 8 * routine;
+        self.kept.has_between(routine, routine + 1) || self.kept.has_between(exits, exits + 8)
     }
 
     /// The fact at an address, if there is one.

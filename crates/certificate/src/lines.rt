@@ -1,8 +1,8 @@
 //! The lines of a certificate as they are kept, and what is found in them.
 
 ghost use Rattle.std.specs.Prelude.{ℕ, ◌≡◌, ◌+◌, ◌<◌, ◌≤◌, ◌^◌, List, [], ◌∷◌, ◌++◌, length, map, drop, OnOk, OnErr, Some, IfSome, is_some, true, false};
-ghost use Rattle.std.specs.Prelude.{is_ok, if◌then◌else◌};
-ghost use Rattle.facts.specs.Meaning.{statement_of, offsets_of, tracked_of, equation_of, meaning as fact_meaning};
+ghost use Rattle.std.specs.Prelude.{is_ok, if◌then◌else◌, ◌↔◌, IsTrue};
+ghost use Rattle.facts.specs.Meaning.{statement_of, offsets_of, tracked_cells, equation_of, meaning as fact_meaning};
 ghost use Rattle.facts.specs.Changes.{with_offsets};
 ghost use Rattle.wordset.specs.Words.{everything};
 ghost use Rattle.certificate.specs.Spelling.{RoutineLine as SaidRoutine};
@@ -13,14 +13,14 @@ ghost use Rattle.certificate.specs.Detail.{said_detail};
 ghost use Rattle.certificate.specs.Adding.{HasRoomUnder};
 ghost use Rattle.certificate.specs.Meaning.{said};
 ghost use Rattle.certificate.specs.Packed.{Begins, said_lines};
-ghost use Rattle.certificate.specs.Found.{from_place, all_said, Keeps, unended, Extends, HasMore, IsIndexed, FitUnderFirst, with_details, IsRoutineOf, begins_routine, begins_fact, begins_exit, first_fact, first_exit, fact_statement, exit_statement, SaysFirst};
+ghost use Rattle.certificate.specs.Found.{from_place, all_said, Keeps, unended, Extends, HasMore, IsIndexed, HasBetween, FitUnderFirst, with_details, IsRoutineOf, begins_routine, begins_fact, begins_exit, first_fact, first_exit, fact_statement, exit_statement, SaysFirst};
 
 use crate::Routine;
 use crate::details::Detail;
 use crate::line::Line;
 use crate::packed::PackedLines;
 use crate::progress::{is_detail, is_end, place_of};
-use facts::{Equation, Fact, TrackedCell};
+use facts::{Equation, Fact, TrackedCells};
 use std::alloc::{AllocError, Allocator};
 
 /// Lines in their order. Those that aren't details of another one have rising places, so that they
@@ -82,14 +82,14 @@ impl<A: Allocator> KeptLines<A> {
     pub fn keep_all(
         &mut self,
         head: &Line,
-        cells: &[TrackedCell],
+        cells: &TrackedCells,
         equations: &[Equation],
     ) -> Result<(), AllocError>
         requires head { is_detail (said head.now) ≡ false }
         requires indexed { IsIndexed self.old }
         ensures indexed { IsIndexed self.new }
         ensures lines { all_said self.new ≡ (if is_ok result
-            then all_said self.old ++ (said head.now ∷ (map CellIs (map tracked_of cells.now) ++
+            then all_said self.old ++ (said head.now ∷ (map CellIs (tracked_cells cells.now) ++
             map EquationIs (map equation_of equations.now)))
             else all_said self.old) }
     {
@@ -111,12 +111,12 @@ impl<A: Allocator> KeptLines<A> {
     fn push_lines(
         &mut self,
         head: &Line,
-        cells: &[TrackedCell],
+        cells: &TrackedCells,
         equations: &[Equation],
     ) -> Result<(), AllocError>
         ensures front { Extends self.old self.new }
         ensures whole { OnOk result
-            (HasMore self.old self.new (said head.now) (map tracked_of cells.now)
+            (HasMore self.old self.new (said head.now) (tracked_cells cells.now)
             (map equation_of equations.now)) }
     {
         self.places.push(place_of(head) as u32)?;
@@ -136,17 +136,29 @@ impl<A: Allocator> KeptLines<A> {
             Err(_) => self.lines.len(),
         }
     }
+
+    /// Whether a line has a place from one number on and before another.
+    pub fn has_between(&self, first: usize, end: usize) -> bool
+        requires order { RiseFrom 0 self.now.places.items }
+        requires small { first < 2 ^ 32 }
+        ensures { IsTrue result ↔ HasBetween self.now.places.items first end }
+    {
+        match self.places.binary_search(&(first as u32)) {
+            Ok(_) => first < end,
+            Err(at) => at < self.places.len() && (self.places[at] as usize) < end,
+        }
+    }
 }
 
 /// Adds a line and those of its cells and equations; where that's refused, some of them.
 fn push_all<A: Allocator>(
     lines: &mut PackedLines<A>,
     head: &Line,
-    cells: &[TrackedCell],
+    cells: &TrackedCells,
     equations: &[Equation],
 ) -> Result<(), AllocError>
     ensures whole { OnOk result (said_lines lines.new ≡ said_lines lines.old ++ (said head.now ∷
-        (map CellIs (map tracked_of cells.now) ++ map EquationIs (map equation_of equations.now)))) }
+        (map CellIs (tracked_cells cells.now) ++ map EquationIs (map equation_of equations.now)))) }
     ensures front { Begins (said_lines lines.old) (said_lines lines.new) }
 {
     lines.push(head)?;
@@ -157,14 +169,14 @@ fn push_all<A: Allocator>(
 /// Adds the lines of cells; where that's refused, some of them.
 fn push_cells<A: Allocator>(
     lines: &mut PackedLines<A>,
-    cells: &[TrackedCell],
+    cells: &TrackedCells,
 ) -> Result<(), AllocError>
     ensures whole { OnOk result (said_lines lines.new ≡ said_lines lines.old ++
-        map CellIs (map tracked_of cells.now)) }
+        map CellIs (tracked_cells cells.now)) }
     ensures front { Begins (said_lines lines.old) (said_lines lines.new) }
 {
-    for cell in cells {
-        lines.push(&Line::Cell(*cell))?;
+    for at in 0..cells.len() {
+        lines.push(&Line::Cell(cells.get(at)))?;
     }
     Ok(())
 }

@@ -10,7 +10,7 @@ ghost use Rattle.certificate.specs.Made.{no_lines, routine_at, fact_at, exit_at,
 use crate::line::{Line, Registers, RoutineLine};
 use crate::lines::KeptLines;
 use crate::{Certificate, Routine, Version};
-use facts::Fact;
+use facts::{Fact, TrackedCells};
 use std::alloc::Allocator;
 use thiserror::Error;
 use word12::Word;
@@ -64,7 +64,7 @@ impl<A: Allocator> Certificate<A> {
             sites: routine.sites,
             writes: routine.writes,
         });
-        match self.kept.keep_all(&line, &[], &[]) {
+        match self.kept.keep_all(&line, &TrackedCells::new(), &[]) {
             Ok(()) => Ok(()),
             Err(_) => Err(NoMemory),
         }

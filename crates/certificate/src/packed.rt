@@ -296,7 +296,7 @@ fn set_of_many(runs: &[Run]) -> WordSet
 {
     let mut set = WordSet::empty();
     for run in runs {
-        set = set.union(&WordSet::range(run.first, run.last));
+        set.insert_range(run.first, run.last);
     }
     set
 }
@@ -326,6 +326,62 @@ fn other_in(runs: &[Run], sets: Spans) -> WordSet
     set_in(runs, first, usize::from(sets.other))
 }
 
+/// The lent fact's accumulator may hold the words of so many runs from here on. Most sets have one run.
+fn put_accumulator(runs: &[Run], first: usize, count: usize, fact: &mut Fact)
+    requires { first + count ≤ length runs.now }
+    ensures statement { statement_of fact.new ≡
+        record (statement_of fact.old) { ac = set_at runs.now first count } }
+    ensures offsets { offsets_of fact.new.offsets ≡ offsets_of fact.old.offsets }
+{
+    if count == 1 {
+        let run = runs[first];
+        let last = run.last.index();
+        prove!(last < 4096);
+        fact.set_accumulator_row(run.first, run.last);
+    } else {
+        put_several_in_accumulator(runs, first, count, fact);
+    }
+}
+
+/// The same of any count of runs; the room for their set is made here alone.
+#[inline(never)]
+fn put_several_in_accumulator(runs: &[Run], first: usize, count: usize, fact: &mut Fact)
+    requires { first + count ≤ length runs.now }
+    ensures statement { statement_of fact.new ≡
+        record (statement_of fact.old) { ac = set_at runs.now first count } }
+    ensures offsets { offsets_of fact.new.offsets ≡ offsets_of fact.old.offsets }
+{
+    fact.set_accumulator(set_in(runs, first, count));
+}
+
+/// The lent fact's MQ may hold the words of so many runs from here on. Most sets have one run.
+fn put_mq(runs: &[Run], first: usize, count: usize, fact: &mut Fact)
+    requires { first + count ≤ length runs.now }
+    ensures statement { statement_of fact.new ≡
+        record (statement_of fact.old) { mq = set_at runs.now first count } }
+    ensures offsets { offsets_of fact.new.offsets ≡ offsets_of fact.old.offsets }
+{
+    if count == 1 {
+        let run = runs[first];
+        let last = run.last.index();
+        prove!(last < 4096);
+        fact.set_mq_row(run.first, run.last);
+    } else {
+        put_several_in_mq(runs, first, count, fact);
+    }
+}
+
+/// The same of any count of runs; the room for their set is made here alone.
+#[inline(never)]
+fn put_several_in_mq(runs: &[Run], first: usize, count: usize, fact: &mut Fact)
+    requires { first + count ≤ length runs.now }
+    ensures statement { statement_of fact.new ≡
+        record (statement_of fact.old) { mq = set_at runs.now first count } }
+    ensures offsets { offsets_of fact.new.offsets ≡ offsets_of fact.old.offsets }
+{
+    fact.set_mq(set_in(runs, first, count));
+}
+
 /// The lent fact says what these registers and offsets say, and nothing of any cell.
 #[inline(never)]
 fn begin(runs: &[Run], registers: &PackedRegisters, offsets: Offsets, fact: &mut Fact)
@@ -333,11 +389,51 @@ fn begin(runs: &[Run], registers: &PackedRegisters, offsets: Offsets, fact: &mut
     ensures statement { statement_of fact.new ≡ stated (registers_at runs.now registers.now) [] }
     ensures offsets { offsets_of fact.new.offsets ≡ offsets_of offsets }
 {
+    let first = registers.sets.first as usize;
+    let one = usize::from(registers.sets.one);
     fact.forget();
-    fact.set_accumulator(one_in(runs, registers.sets));
-    fact.set_mq(other_in(runs, registers.sets));
+    put_accumulator(runs, first, one, fact);
+    put_mq(runs, first + one, usize::from(registers.sets.other), fact);
     fact.set_link(registers.link);
     fact.set_offsets(offsets);
+}
+
+/// The lent fact tracks a cell more, whose runs lie here. Most have one.
+fn track(runs: &[Run], cell: Word, span: Span, fact: &mut Fact)
+    requires within { span.first + span.count ≤ length runs.now }
+    requires room { length (statement_of fact.old).cells < 64 }
+    ensures statement { statement_of fact.new ≡ record (statement_of fact.old) {
+      cells = (statement_of fact.old).cells ++
+          record { address = cell; set = set_at runs.now span.first span.count } ∷ [];
+    } }
+    ensures offsets { offsets_of fact.new.offsets ≡ offsets_of fact.old.offsets }
+{
+    let first = span.first as usize;
+    if span.count == 1 {
+        let run = runs[first];
+        let last = run.last.index();
+        prove!(last < 4096);
+        fact.track_row(cell, run.first, run.last);
+    } else {
+        track_several(runs, cell, span, fact);
+    }
+}
+
+/// The same of any count of runs; the room for their set is made here alone.
+#[inline(never)]
+fn track_several(runs: &[Run], cell: Word, span: Span, fact: &mut Fact)
+    requires within { span.first + span.count ≤ length runs.now }
+    requires room { length (statement_of fact.old).cells < 64 }
+    ensures statement { statement_of fact.new ≡ record (statement_of fact.old) {
+      cells = (statement_of fact.old).cells ++
+          record { address = cell; set = set_at runs.now span.first span.count } ∷ [];
+    } }
+    ensures offsets { offsets_of fact.new.offsets ≡ offsets_of fact.old.offsets }
+{
+    fact.track(
+        cell,
+        set_in(runs, span.first as usize, usize::from(span.count)),
+    );
 }
 
 /// Whether a line is a cell or an equation, which the lent fact then says too.
@@ -351,8 +447,7 @@ fn add(runs: &[Run], packed: &PackedLine, fact: &mut Fact) -> bool
 {
     match packed {
         PackedLine::Cell(cell, span) => {
-            let set = set_in(runs, span.first as usize, usize::from(span.count));
-            fact.track(*cell, set);
+            track(runs, *cell, *span, fact);
             true
         }
         PackedLine::Equation(equation) => {

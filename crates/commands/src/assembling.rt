@@ -24,11 +24,11 @@ use std::alloc::Allocator;
 use streams::{ByteSink, ByteSource};
 
 /// What the parts of a source mean.
-fn translation_of<'s, A: Allocator + Copy>(
+fn translation_of<A: Allocator + Copy>(
     alloc: A,
-    parts: &[&'s [u8]],
+    parts: &[&[u8]],
     profile: Profile,
-) -> Result<Translation<'s, A>, Fault>
+) -> Result<Translation<A>, Fault>
     ensures found { IfOk result (λ translation. Means (permanent_symbols profile) (texts parts.now)
         (symbols_in translation) (image_in translation)) }
     ensures faults { IfErr result (IsAssemblyFault profile (texts parts.now)) }

@@ -117,6 +117,12 @@ writes_reference s p t pl f at w n i j r k ei en er ej hs hp ht v lt =
     hs v ∙ ap (λ b. b || (r && t v)) (hp v) ∙ ap (λ b. (b && (v == n)) || (r && t v)) ej ∙ ap (λ b. (steps_pointer i n && (v == n)) || (b && t v)) er
     ∙ ap (λ b. (steps_pointer i n && (v == n)) || (stores (operation_of w) && b)) (ht v lt) ∙ here ∙ ap (λ m. may_write pl f m v) (refers_to pl at w n i k ei en)
 
+-- a direct reference that stores writes the named cell alone
+pub writes_directly : (pl : Place) (f : Fact) (at w n : ℕ) (i r : Bool) → kind_of (meaning_at pl at w) ≡ Memory → i ≡ is_indirect w → n ≡ named_cell w at → r ≡ stores (operation_of w) →
+    i ≡ false → r ≡ true → SameWords (may_write pl f (meaning_at pl at w)) (one n)
+writes_directly pl f at w n i r k ei en er direct storing v lt =
+    sym (writes_reference (one n) (λ a. false) (one n) pl f at w n false false true k (sym direct ∙ ei) en (sym storing ∙ er) refl (λ a. refl) (λ a. refl) (λ a l. refl) v lt)
+
 -- the routine's own entry alone
 none_some : {a : ℕ} → None ≡ Some a → ⊥
 none_some e = cc

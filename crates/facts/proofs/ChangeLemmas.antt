@@ -27,8 +27,8 @@ pub shifted_same : {a b s : Words} (k : ℕ) → SameWords a b → SameWords s (
 shifted_same k e h v lt = h v lt ∙ e (minus v k) (minus_lt v k)
 
 pub joined_agree : (call exit : CodeFact) (written : Words) (k : Known) → ((a : ℕ) → source_words k.base a ≡ (if has_cell written a then cell_words exit a else cell_words call a)) →
-    IsUnchanged k.pointer → IsUnchanged k.target → words k.ac ≡ words exit.ac → words k.mq ≡ words exit.mq → links_of k.link ≡ links_of exit.link → offsets_of k.offsets ≡ offsets_of call.offsets →
-    map equation_of k.equations.items ≡ outside written (map equation_of call.equations.items) ++ map equation_of exit.equations.items →
+    IsUnchanged k.pointer → IsUnchanged k.target → words k.ac.now ≡ words exit.ac → words k.mq.now ≡ words exit.mq → links_of k.link ≡ links_of exit.link → offsets_of k.offsets ≡ offsets_of call.offsets →
+    map equation_of k.equations.now ≡ outside written (map equation_of call.equations.items) ++ map equation_of exit.equations.items →
     Agree (known_of k) (joined (meaning call) (meaning exit) written)
 unfolding joined
 joined_agree call exit written k b p t ac mq link offsets es = record {
@@ -52,8 +52,8 @@ pub map_both : (xs ys : List CodeEquation) (es : List Equation) → map equation
 map_both xs ys es e = map-append equation_of xs ys ∙ ap (λ (z : List Equation). z ++ map equation_of ys) e
 
 pub fact_agrees : (f : CodeFact) (k : Known) → ((a : ℕ) → source_words k.base a ≡ cell_words f a) →
-    IsUnchanged k.pointer → IsUnchanged k.target → words k.ac ≡ words f.ac → words k.mq ≡ words f.mq → links_of k.link ≡ links_of f.link → offsets_of k.offsets ≡ offsets_of f.offsets →
-    map equation_of k.equations.items ≡ map equation_of f.equations.items → Agree (known_of k) (meaning f)
+    IsUnchanged k.pointer → IsUnchanged k.target → words k.ac.now ≡ words f.ac → words k.mq.now ≡ words f.mq → links_of k.link ≡ links_of f.link → offsets_of k.offsets ≡ offsets_of f.offsets →
+    map equation_of k.equations.now ≡ map equation_of f.equations.items → Agree (known_of k) (meaning f)
 fact_agrees f k b p t ac mq link offsets es = record {
   sets = sets;
   mq = λ v lt. ap (λ (s : Words). s v) mq;
@@ -70,10 +70,10 @@ pub changed_same : (c : Change) (a : ℕ) {s t : Words} → SameWords s t → Sa
 changed_same Unchanged a h v lt = h v lt
 changed_same (Replaced c r) a {s} {t} h v lt = go (a == c)
   where
-    go : (b : Bool) → (let x : Words = if b then words r else s in let y : Words = if b then words r else t in x v ≡ y v)
+    go : (b : Bool) → (let x : Words = if b then words r.now else s in let y : Words = if b then words r.now else t in x v ≡ y v)
     go true = refl
     go false = h v lt
-changed_same (Counted p) a {s} {t} h v lt = go (has_cell (words p) a)
+changed_same (Counted p) a {s} {t} h v lt = go (has_cell (words p.now) a)
   where
     more : s (minus v 1) ≡ t (minus v 1)
     more = h (minus v 1) (minus_lt v 1)
@@ -81,9 +81,9 @@ changed_same (Counted p) a {s} {t} h v lt = go (has_cell (words p) a)
     go : (b : Bool) → (let x : Words = if b then union s (shifted s 1) else s in let y : Words = if b then union t (shifted t 1) else t in x v ≡ y v)
     go true = rw (h v lt, more) refl
     go false = h v lt
-changed_same (Stored p r) a {s} {t} h v lt = go (has_cell (words p) a)
+changed_same (Stored p r) a {s} {t} h v lt = go (has_cell (words p.now) a)
   where
-    go : (b : Bool) → (let x : Words = if b then union s (words r) else s in let y : Words = if b then union t (words r) else t in x v ≡ y v)
+    go : (b : Bool) → (let x : Words = if b then union s (words r.now) else s in let y : Words = if b then union t (words r.now) else t in x v ≡ y v)
     go true = rw (h v lt) refl
     go false = h v lt
 

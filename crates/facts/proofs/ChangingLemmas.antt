@@ -3,9 +3,8 @@ use Rattle.std.proofs.Common.{◌≡◌, ℕ, ◌-◌, ◌<◌, ◌==◌, Bool, 
 use Rattle.std.proofs.Math.Path.{fun_ext}
 use Rattle.std.specs.Prelude.{if◌then◌else◌, nat_lt}
 use Rattle.std.proofs.lemmas.Bool.{ltb-true}
-use Rattle.std.proofs.lemmas.List.{map-append}
 use Rattle.wordset.specs.declared.links.Links.{Links as CodeLinks}
-use Rattle.arrayvec.specs.ArrayVec.{ArrayVec}
+use Rattle.std.specs.Borrow.{Bor}
 use Rattle.wordset.specs.Words.{minus, Words, SameWords, SameLinks, one, shifted, union}
 use Rattle.wordset.specs.Lanes.{words}
 use Rattle.wordset.specs.Links.{links_of}
@@ -20,12 +19,12 @@ use Rattle.facts.specs.declared.names.Equation.{Equation as CodeEquation}
 use Rattle.facts.specs.declared.known.Change.TheVariants.{Unchanged, Replaced, Counted, Stored}
 use Rattle.facts.specs.Meaning.{known_of, known_set, equation_of, offsets_of, changed, IsUnchanged, source_words}
 
-pub ac_sets : (k : Known) (set : List ℕ) (new : Words) → SameWords (words set) new → (n : Name) → SameWords (known_set (record k { ac = set }) n) (with_set Ac new (known_set k) n)
+pub ac_sets : (k : Known) (set : Bor (List ℕ)) (new : Words) → SameWords (words set.now) new → (n : Name) → SameWords (known_set (record k { ac = set }) n) (with_set Ac new (known_set k) n)
 ac_sets k set new s Ac v lt = s v lt
 ac_sets k set new s (Cell a) v lt = refl
 
 -- a new word for a cell, where its slot is free
-pub target_sets : (k : Known) (c : ℕ) (set : List ℕ) (new : Words) → IsUnchanged k.target → SameWords (words set) new → (n : Name) →
+pub target_sets : (k : Known) (c : ℕ) (set : Bor (List ℕ)) (new : Words) → IsUnchanged k.target → SameWords (words set.now) new → (n : Name) →
     SameWords (known_set (record k { target = Replaced c set }) n) (with_set (Cell c) new (known_set k) n)
 target_sets k c set new u s Ac v lt = refl
 target_sets k c set new u s (Cell a) v lt = go (a == c)
@@ -33,11 +32,11 @@ target_sets k c set new u s (Cell a) v lt = go (a == c)
     old : Words
     old = changed k.pointer a (source_words k.base a)
 
-    go : (b : Bool) → (let x : Words = if b then words set else old in let y : Words = if b then new else changed k.target a old in x v ≡ y v)
+    go : (b : Bool) → (let x : Words = if b then words set.now else old in let y : Words = if b then new else changed k.target a old in x v ≡ y v)
     go true = s v lt
     go false = rw u refl
 
-pub pointer_sets : (k : Known) (c : ℕ) (set : List ℕ) (new : Words) → IsUnchanged k.pointer → IsUnchanged k.target → SameWords (words set) new → (n : Name) →
+pub pointer_sets : (k : Known) (c : ℕ) (set : Bor (List ℕ)) (new : Words) → IsUnchanged k.pointer → IsUnchanged k.target → SameWords (words set.now) new → (n : Name) →
     SameWords (known_set (record k { pointer = Replaced c set; target = Unchanged }) n) (with_set (Cell c) new (known_set k) n)
 pointer_sets k c set new p u s Ac v lt = refl
 pointer_sets k c set new p u s (Cell a) v lt = go (a == c)
@@ -45,77 +44,77 @@ pointer_sets k c set new p u s (Cell a) v lt = go (a == c)
     old : Words
     old = source_words k.base a
 
-    go : (b : Bool) → (let x : Words = if b then words set else old in let y : Words = if b then new else changed k.target a (changed k.pointer a old) in x v ≡ y v)
+    go : (b : Bool) → (let x : Words = if b then words set.now else old in let y : Words = if b then new else changed k.target a (changed k.pointer a old) in x v ≡ y v)
     go true = s v lt
     go false = rw (u, p) refl
 
-pub assigned_ac : (k : Known) (set : List ℕ) (es : ArrayVec CodeEquation) → map equation_of es.items ≡ free_of (λ m. same m Ac) (map equation_of k.equations.items) →
-    Agree (known_of (record k { ac = set; equations = es })) (assigned Ac (words set) (known_of k))
+pub assigned_ac : (k : Known) (set : Bor (List ℕ)) (es : Bor (List CodeEquation)) → map equation_of es.now ≡ free_of (λ m. same m Ac) (map equation_of k.equations.now) →
+    Agree (known_of (record k { ac = set; equations = es })) (assigned Ac (words set.now) (known_of k))
 unfolding assigned
-assigned_ac k set es e = record { sets = ac_sets k set (words set) (λ v lt. refl); mq = λ v lt. refl; link = λ l lt. refl; equations = e; offsets = λ o lt. refl }
+assigned_ac k set es e = record { sets = ac_sets k set (words set.now) (λ v lt. refl); mq = λ v lt. refl; link = λ l lt. refl; equations = e; offsets = λ o lt. refl }
 
-pub summed_agrees : (k : Known) (first : List Equation) (set : List ℕ) (es : ArrayVec CodeEquation) → map equation_of es.items ≡ first ++ free_of (λ m. same m Ac) (map equation_of k.equations.items) →
-    Agree (known_of (record k { ac = set; equations = es })) (with_equations first (assigned Ac (words set) (known_of k)))
+pub summed_agrees : (k : Known) (first : List Equation) (set : Bor (List ℕ)) (es : Bor (List CodeEquation)) → map equation_of es.now ≡ first ++ free_of (λ m. same m Ac) (map equation_of k.equations.now) →
+    Agree (known_of (record k { ac = set; equations = es })) (with_equations first (assigned Ac (words set.now) (known_of k)))
 unfolding assigned
-summed_agrees k first set es e = record { sets = ac_sets k set (words set) (λ v lt. refl); mq = λ v lt. refl; link = λ l lt. refl; equations = e; offsets = λ o lt. refl }
+summed_agrees k first set es e = record { sets = ac_sets k set (words set.now) (λ v lt. refl); mq = λ v lt. refl; link = λ l lt. refl; equations = e; offsets = λ o lt. refl }
 
-pub assigned_cell : (k : Known) (c : ℕ) (set : List ℕ) (es : ArrayVec CodeEquation) → IsUnchanged k.target → map equation_of es.items ≡ free_of (λ m. same m (Cell c)) (map equation_of k.equations.items) →
-    Agree (known_of (record k { target = Replaced c set; equations = es })) (assigned (Cell c) (words set) (known_of k))
+pub assigned_cell : (k : Known) (c d : ℕ) (set : Bor (List ℕ)) (es : Bor (List CodeEquation)) → d ≡ c → IsUnchanged k.target → map equation_of es.now ≡ free_of (λ m. same m (Cell c)) (map equation_of k.equations.now) →
+    Agree (known_of (record k { target = Replaced d set; equations = es })) (assigned (Cell c) (words set.now) (known_of k))
 unfolding assigned
-assigned_cell k c set es u e = record { sets = target_sets k c set (words set) u (λ v lt. refl); mq = λ v lt. refl; link = λ l lt. refl; equations = e; offsets = λ o lt. refl }
+assigned_cell k c d set es is u e = rw is (record { sets = target_sets k c set (words set.now) u (λ v lt. refl); mq = λ v lt. refl; link = λ l lt. refl; equations = e; offsets = λ o lt. refl })
 
-pub moved_ac : (k : Known) (j : ℕ) (set : List ℕ) (es : ArrayVec CodeEquation) → SameWords (words set) (shifted (narrowed (known_of k) Ac) j) →
-    map equation_of es.items ≡ moved_equations Ac j (map equation_of k.equations.items) → Agree (known_of (record k { ac = set; equations = es })) (moved Ac j (known_of k))
+pub moved_ac : (k : Known) (j : ℕ) (set : Bor (List ℕ)) (es : Bor (List CodeEquation)) → SameWords (words set.now) (shifted (narrowed (known_of k) Ac) j) →
+    map equation_of es.now ≡ moved_equations Ac j (map equation_of k.equations.now) → Agree (known_of (record k { ac = set; equations = es })) (moved Ac j (known_of k))
 unfolding moved
 moved_ac k j set es s e = record { sets = ac_sets k set _ s; mq = λ v lt. refl; link = λ l lt. refl; equations = e; offsets = λ o lt. refl }
 
-pub raised_to_agrees : (k : Known) (j : ℕ) (set : List ℕ) (es : ArrayVec CodeEquation) → map equation_of es.items ≡ moved_equations Ac j (map equation_of k.equations.items) →
-    Agree (known_of (record k { ac = set; equations = es })) (with_name Ac (words set) (moved Ac j (known_of k)))
+pub raised_to_agrees : (k : Known) (j : ℕ) (set : Bor (List ℕ)) (es : Bor (List CodeEquation)) → map equation_of es.now ≡ moved_equations Ac j (map equation_of k.equations.now) →
+    Agree (known_of (record k { ac = set; equations = es })) (with_name Ac (words set.now) (moved Ac j (known_of k)))
 unfolding moved
 raised_to_agrees k j set es e = record { sets = sets; mq = λ v lt. refl; link = λ l lt. refl; equations = e; offsets = λ o lt. refl }
   where
-    sets : (n : Name) → SameWords (known_set (record k { ac = set; equations = es }) n) (with_set Ac (words set) (with_set Ac (shifted (narrowed (known_of k) Ac) j) (known_set k)) n)
+    sets : (n : Name) → SameWords (known_set (record k { ac = set; equations = es }) n) (with_set Ac (words set.now) (with_set Ac (shifted (narrowed (known_of k) Ac) j) (known_set k)) n)
     sets Ac v lt = refl
     sets (Cell a) v lt = refl
 
-pub moved_pointer : (k : Known) (c : ℕ) (set : List ℕ) (es : ArrayVec CodeEquation) → IsUnchanged k.pointer → IsUnchanged k.target → SameWords (words set) (shifted (narrowed (known_of k) (Cell c)) 1) →
-    map equation_of es.items ≡ moved_equations (Cell c) 1 (map equation_of k.equations.items) →
-    Agree (known_of (record k { pointer = Replaced c set; target = Unchanged; equations = es })) (moved (Cell c) 1 (known_of k))
+pub moved_pointer : (k : Known) (c d : ℕ) (set : Bor (List ℕ)) (es : Bor (List CodeEquation)) → d ≡ c → IsUnchanged k.pointer → IsUnchanged k.target → SameWords (words set.now) (shifted (narrowed (known_of k) (Cell c)) 1) →
+    map equation_of es.now ≡ moved_equations (Cell c) 1 (map equation_of k.equations.now) →
+    Agree (known_of (record k { pointer = Replaced d set; target = Unchanged; equations = es })) (moved (Cell c) 1 (known_of k))
 unfolding moved
-moved_pointer k c set es p u s e = record { sets = pointer_sets k c set _ p u s; mq = λ v lt. refl; link = λ l lt. refl; equations = e; offsets = λ o lt. refl }
+moved_pointer k c d set es is p u s e = rw is (record { sets = pointer_sets k c set _ p u s; mq = λ v lt. refl; link = λ l lt. refl; equations = e; offsets = λ o lt. refl })
 
-pub counted_cell : (k : Known) (c : ℕ) (set : List ℕ) (es : ArrayVec CodeEquation) → IsUnchanged k.target → map equation_of es.items ≡ moved_equations (Cell c) 1 (map equation_of k.equations.items) →
-    Agree (known_of (record k { target = Replaced c set; equations = es })) (with_name (Cell c) (words set) (moved (Cell c) 1 (known_of k)))
+pub counted_cell : (k : Known) (c d : ℕ) (set : Bor (List ℕ)) (es : Bor (List CodeEquation)) → d ≡ c → IsUnchanged k.target → map equation_of es.now ≡ moved_equations (Cell c) 1 (map equation_of k.equations.now) →
+    Agree (known_of (record k { target = Replaced d set; equations = es })) (with_name (Cell c) (words set.now) (moved (Cell c) 1 (known_of k)))
 unfolding moved
-counted_cell k c set es u e = record { sets = sets; mq = λ v lt. refl; link = λ l lt. refl; equations = e; offsets = λ o lt. refl }
+counted_cell k c d set es is u e = rw is (record { sets = sets; mq = λ v lt. refl; link = λ l lt. refl; equations = e; offsets = λ o lt. refl })
   where
-    sets : (n : Name) → SameWords (known_set (record k { target = Replaced c set; equations = es }) n) (with_set (Cell c) (words set) (with_set (Cell c) (shifted (narrowed (known_of k) (Cell c)) 1) (known_set k)) n)
+    sets : (n : Name) → SameWords (known_set (record k { target = Replaced c set; equations = es }) n) (with_set (Cell c) (words set.now) (with_set (Cell c) (shifted (narrowed (known_of k) (Cell c)) 1) (known_set k)) n)
     sets Ac v lt = refl
     sets (Cell a) v lt = go (a == c)
       where
         old : Words
         old = changed k.pointer a (source_words k.base a)
 
-        go : (b : Bool) → (let x : Words = if b then words set else old in
-            let y : Words = if b then words set else (if b then shifted (narrowed (known_of k) (Cell c)) 1 else changed k.target a old) in x v ≡ y v)
+        go : (b : Bool) → (let x : Words = if b then words set.now else old in
+            let y : Words = if b then words set.now else (if b then shifted (narrowed (known_of k) (Cell c)) 1 else changed k.target a old) in x v ≡ y v)
         go true = refl
         go false = rw u refl
 
-pub smeared_counted : (k : Known) (cells : List ℕ) (es : ArrayVec CodeEquation) → IsUnchanged k.target → map equation_of es.items ≡ free_of (cells_of (words cells)) (map equation_of k.equations.items) →
-    Agree (known_of (record k { target = Counted cells; equations = es })) (smeared (words cells) (λ y. shifted (known_set k (Cell y)) 1) (known_of k))
+pub smeared_counted : (k : Known) (cells : Bor (List ℕ)) (es : Bor (List CodeEquation)) → IsUnchanged k.target → map equation_of es.now ≡ free_of (cells_of (words cells.now)) (map equation_of k.equations.now) →
+    Agree (known_of (record k { target = Counted cells; equations = es })) (smeared (words cells.now) (λ y. shifted (known_set k (Cell y)) 1) (known_of k))
 unfolding smeared
 smeared_counted k cells es u e = record { sets = sets; mq = λ v lt. refl; link = λ l lt. refl; equations = e; offsets = λ o lt. refl }
   where
-    sets : (n : Name) → SameWords (known_set (record k { target = Counted cells; equations = es }) n) (smeared_set (words cells) (λ y. shifted (known_set k (Cell y)) 1) (known_set k) n)
+    sets : (n : Name) → SameWords (known_set (record k { target = Counted cells; equations = es }) n) (smeared_set (words cells.now) (λ y. shifted (known_set k (Cell y)) 1) (known_set k) n)
     sets Ac v lt = refl
     sets (Cell a) v lt = rw u refl
 
-pub smeared_stored : (k : Known) (cells set : List ℕ) (es : ArrayVec CodeEquation) → IsUnchanged k.target → map equation_of es.items ≡ free_of (cells_of (words cells)) (map equation_of k.equations.items) →
-    Agree (known_of (record k { target = Stored cells set; equations = es })) (smeared (words cells) (λ y. words set) (known_of k))
+pub smeared_stored : (k : Known) (cells set : Bor (List ℕ)) (es : Bor (List CodeEquation)) → IsUnchanged k.target → map equation_of es.now ≡ free_of (cells_of (words cells.now)) (map equation_of k.equations.now) →
+    Agree (known_of (record k { target = Stored cells set; equations = es })) (smeared (words cells.now) (λ y. words set.now) (known_of k))
 unfolding smeared
 smeared_stored k cells set es u e = record { sets = sets; mq = λ v lt. refl; link = λ l lt. refl; equations = e; offsets = λ o lt. refl }
   where
-    sets : (n : Name) → SameWords (known_set (record k { target = Stored cells set; equations = es }) n) (smeared_set (words cells) (λ y. words set) (known_set k) n)
+    sets : (n : Name) → SameWords (known_set (record k { target = Stored cells set; equations = es }) n) (smeared_set (words cells.now) (λ y. words set.now) (known_set k) n)
     sets Ac v lt = refl
     sets (Cell a) v lt = rw u refl
 
@@ -190,15 +189,11 @@ mq_agree h e = record { sets = h.sets; mq = e; link = h.link; equations = h.equa
 pub name_agree : {f g : Fact} {s t : Words} (n : Name) → Agree f g → SameWords s t → Agree (with_name n s f) (with_name n t g)
 name_agree {f} {g} {s} {t} n h e = record { sets = with_set_same f.set g.set s t n h.sets e; mq = h.mq; link = h.link; equations = h.equations; offsets = h.offsets }
 
-pub same_agrees : (k : Known) (es : ArrayVec CodeEquation) → es.items ≡ k.equations.items → Agree (known_of (record k { equations = es })) (known_of k)
-same_agrees k es e = record { sets = sets; mq = λ v lt. refl; link = λ l lt. refl; equations = ap (map equation_of) e; offsets = λ o lt. refl }
-  where
-    sets : (n : Name) → SameWords (known_set (record k { equations = es }) n) (known_set k n)
-    sets Ac v lt = refl
-    sets (Cell a) v lt = refl
+pub same_agrees : (k : Known) → Agree (known_of k) (known_of k)
+same_agrees k = record { sets = λ n v lt. refl; mq = λ v lt. refl; link = λ l lt. refl; equations = refl; offsets = λ o lt. refl }
 
-pub holding_agrees : (k : Known) (set : List ℕ) → Agree (known_of (record k { ac = set })) (with_name Ac (words set) (known_of k))
-holding_agrees k set = record { sets = ac_sets k set (words set) (λ v lt. refl); mq = λ v lt. refl; link = λ l lt. refl; equations = refl; offsets = λ o lt. refl }
+pub holding_agrees : (k : Known) (set : Bor (List ℕ)) → Agree (known_of (record k { ac = set })) (with_name Ac (words set.now) (known_of k))
+holding_agrees k set = record { sets = ac_sets k set (words set.now) (λ v lt. refl); mq = λ v lt. refl; link = λ l lt. refl; equations = refl; offsets = λ o lt. refl }
 
 pub link_agrees : (k : Known) (l : CodeLinks) → Agree (known_of (record k { link = l })) (with_link (links_of l) (known_of k))
 link_agrees k l = record { sets = sets; mq = λ v lt. refl; link = λ n lt. refl; equations = refl; offsets = λ o lt. refl }
@@ -207,7 +202,7 @@ link_agrees k l = record { sets = sets; mq = λ v lt. refl; link = λ n lt. refl
     sets Ac v lt = refl
     sets (Cell a) v lt = refl
 
-pub mq_agrees : (k : Known) (set : List ℕ) → Agree (known_of (record k { mq = set })) (with_mq (words set) (known_of k))
+pub mq_agrees : (k : Known) (set : Bor (List ℕ)) → Agree (known_of (record k { mq = set })) (with_mq (words set.now) (known_of k))
 mq_agrees k set = record { sets = sets; mq = λ v lt. refl; link = λ n lt. refl; equations = refl; offsets = λ o lt. refl }
   where
     sets : (n : Name) → SameWords (known_set (record k { mq = set }) n) (known_set k n)
@@ -225,8 +220,9 @@ pub entered_agrees : {k f g : Fact} {o none : Words} → Agree k (with_offsets o
 entered_agrees h a e q =
     agree_trans h (record { sets = a.sets; mq = a.mq; link = a.link; equations = a.equations; offsets = λ n lt. e n lt ∙ ap (λ b. b || (n == 0)) (q n lt) })
 
-pub told_agrees : (k : Known) (es more : ArrayVec CodeEquation) → es.items ≡ more.items ++ k.equations.items → Agree (known_of (record k { equations = es })) (with_equations (map equation_of more.items) (known_of k))
-told_agrees k es more e = record { sets = sets; mq = λ v lt. refl; link = λ n lt. refl; equations = ap (map equation_of) e ∙ map-append equation_of more.items k.equations.items; offsets = λ o lt. refl }
+pub told_agrees : (k : Known) (es : Bor (List CodeEquation)) (more : List Equation) → map equation_of es.now ≡ more ++ map equation_of k.equations.now →
+    Agree (known_of (record k { equations = es })) (with_equations more (known_of k))
+told_agrees k es more e = record { sets = sets; mq = λ v lt. refl; link = λ n lt. refl; equations = e; offsets = λ o lt. refl }
   where
     sets : (n : Name) → SameWords (known_set (record k { equations = es }) n) (known_set k n)
     sets Ac v lt = refl
@@ -249,11 +245,11 @@ pub stored_words : {f g k r : Fact} {p q s t zero : Words} → Agree f g → Sam
 stored_words h e n put z done =
     agree_trans done (assigned_agree Ac (agree_trans put (smeared_agree h e (λ y. n))) (λ v lt. ap (λ (x : Words). x v) z))
 
-pub later_agrees : (k : Known) (es : ArrayVec CodeEquation) (o : Offsets) → es.items ≡ k.equations.items → ((n : ℕ) → n < 8 → offsets_of o n ≡ (if n == 0 then false else offsets_of k.offsets (n - 1))) →
-    Agree (known_of (record k { equations = es; offsets = o })) (with_offsets (λ n. if n == 0 then false else (known_of k).offsets (n - 1)) (known_of k))
-later_agrees k es o e h = record { sets = sets; mq = λ v lt. refl; link = λ n lt. refl; equations = ap (map equation_of) e; offsets = h }
+pub later_agrees : (k : Known) (o : Offsets) → ((n : ℕ) → n < 8 → offsets_of o n ≡ (if n == 0 then false else offsets_of k.offsets (n - 1))) →
+    Agree (known_of (record k { offsets = o })) (with_offsets (λ n. if n == 0 then false else (known_of k).offsets (n - 1)) (known_of k))
+later_agrees k o h = record { sets = sets; mq = λ v lt. refl; link = λ n lt. refl; equations = refl; offsets = h }
   where
-    sets : (n : Name) → SameWords (known_set (record k { equations = es; offsets = o }) n) (known_set k n)
+    sets : (n : Name) → SameWords (known_set (record k { offsets = o }) n) (known_set k n)
     sets Ac v lt = refl
     sets (Cell a) v lt = refl
 

@@ -7,12 +7,11 @@ use Rattle.wordset.specs.Words.{plus, minus, Words, SameWords, IsWithin, only}
 use Rattle.facts.specs.Facts.{Name, Ac, Cell, same, Equation, Fact, narrowed, met_by, Knows, KnowsAll, Entails, EntailsOffsets}
 use Rattle.facts.proofs.Alike.{only_same}
 use Rattle.wordset.specs.Lanes.{words}
-use Rattle.facts.specs.declared.fact.TrackedCell.{TrackedCell as CodeCell}
 use Rattle.facts.specs.declared.fact.Fact.{Fact as CodeFact}
 use Rattle.facts.specs.declared.names.Equation.{Equation as CodeEquation}
 use Rattle.facts.specs.Statements.{TrackedCell, tracked}
 use Rattle.facts.specs.Showing.{Shows, EachWithin, EntailsRegisters}
-use Rattle.facts.specs.Meaning.{tracked_of, Meets, equation_of, statement_of, meaning}
+use Rattle.facts.specs.Meaning.{Meets, equation_of, statement_of, meaning}
 
 pub back_twice : (v k : ℕ) → v < 4096 → minus v (minus 0 k) ≡ plus v k
 back_twice v k h = omega arith
@@ -88,18 +87,6 @@ shows_right f e b s n = not_true (λ w. none_is (n ∙ only_same b _ s ∙ w.3))
 pub drop_item : {A : Type 0} (xs : List A) (i : ℕ) (x : A) → i < length xs → x ≡ get_or xs i x → drop i xs ≡ x ∷ drop (i + 1) xs
 drop_item xs i x lt e = drop_more xs i x lt ∙ ap (λ y. y ∷ drop (i + 1) xs) (sym e)
 
-pub each_step : (f : Fact) (cells : List CodeCell) (i : ℕ) (t : CodeCell) → i < length cells → t ≡ get_or cells i t → IsWithin (narrowed f (Cell t.cell)) (words t.set) →
-    (EachWithin f (map tracked_of (drop i cells)) ↔ EachWithin f (map tracked_of cells)) → (EachWithin f (map tracked_of (drop (i + 1) cells)) ↔ EachWithin f (map tracked_of cells))
-each_step f cells i t lt e w h = (
-  λ r. h.0 (subst (λ xs. EachWithin f (map tracked_of xs)) (sym (drop_item cells i t lt e)) (w, r)),
-  λ a. (let p : EachWithin f (map tracked_of (t ∷ drop (i + 1) cells)) = subst (λ xs. EachWithin f (map tracked_of xs)) (drop_item cells i t lt e) (h.1 a) in p.1),
-)
-
-pub each_fails : (f : Fact) (cells : List CodeCell) (i : ℕ) (t : CodeCell) → i < length cells → t ≡ get_or cells i t → (IsWithin (narrowed f (Cell t.cell)) (words t.set) → ⊥) →
-    (EachWithin f (map tracked_of (drop i cells)) ↔ EachWithin f (map tracked_of cells)) → IsTrue false ↔ EachWithin f (map tracked_of cells)
-each_fails f cells i t lt e not h =
-    not_true (λ a. (let p : EachWithin f (map tracked_of (t ∷ drop (i + 1) cells)) = subst (λ xs. EachWithin f (map tracked_of xs)) (drop_item cells i t lt e) (h.1 a) in not p.0))
-
 pub knows_step : (f : Fact) (es : List CodeEquation) (i : ℕ) (g : CodeEquation) → i < length es → g ≡ get_or es i g → Knows f (equation_of g) →
     (KnowsAll f (map equation_of (drop i es)) ↔ KnowsAll f (map equation_of es)) → (KnowsAll f (map equation_of (drop (i + 1) es)) ↔ KnowsAll f (map equation_of es))
 knows_step f es i g lt e w h = (
@@ -152,16 +139,3 @@ unspoken f n e old h v lt = go (same e.left n) (same e.right n) h (old v) _ _
     go false true h o x y = absurd (true≢false h)
     go false false h true x y = refl
     go false false h false x y = refl
-
-pub entry_step : (w : Words) (cells : List CodeCell) (i : ℕ) (t : CodeCell) (a : ℕ) → i < length cells → t ≡ get_or cells i t →
-    IsWithin w (tracked a (map tracked_of (drop i cells))) → IsWithin w (tracked a (map tracked_of (drop (i + 1) cells)))
-entry_step w cells i t a lt e h v vl q =
-    let both : tracked a (map tracked_of (t ∷ drop (i + 1) cells)) v ≡ true = subst (λ xs. tracked a (map tracked_of xs) v ≡ true) (drop_item cells i t lt e) (h v vl q) in
-    (and_parts _ _ both).1
-
-pub entry_found : (w s : Words) (cells : List CodeCell) (i : ℕ) (t : CodeCell) (a : ℕ) → i < length cells → t ≡ get_or cells i t → (t.cell == a) ≡ true → IsWithin (words t.set) s →
-    IsWithin w (tracked a (map tracked_of (drop i cells))) → IsWithin w s
-entry_found w s cells i t a lt e same inside h v vl q =
-    let both : tracked a (map tracked_of (t ∷ drop (i + 1) cells)) v ≡ true = subst (λ xs. tracked a (map tracked_of xs) v ≡ true) (drop_item cells i t lt e) (h v vl q) in
-    let r : (if t.cell == a then words t.set v else true) ≡ true = (and_parts _ _ both).0 in
-    inside v vl (rw same at r)

@@ -7,6 +7,7 @@ pub mod Covers
 pub mod Starting
 pub mod Alike
 pub mod EntailLemmas
+pub mod TrackingLemmas
 pub mod ChangeLemmas
 pub mod StartLemmas
 pub mod AgreeLemmas
@@ -16,10 +17,10 @@ pub mod OutcomeLemmas
 pub mod TadLemmas
 pub mod ReachLemmas
 pub mod RegisterLemmas
-mod SingleLemmas
 pub mod SkipLemmas
 pub mod DispatchLemmas
 pub mod EachLemmas
 pub mod AskedLemmas
 pub mod CallLemmas
 mod AccessLemmas
+mod OneTarget

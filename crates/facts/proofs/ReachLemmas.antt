@@ -1,8 +1,9 @@
 -- What a reference reaches.
-use Rattle.std.proofs.Common.{◌≡◌, ℕ, Bool, true, false}
-use Rattle.wordset.specs.Words.{Words, SameWords, one}
+use Rattle.std.proofs.Common.{◌≡◌, ℕ, Bool, true, false, refl}
+use Rattle.std.proofs.lemmas.Bool.{eq-eqb}
+use Rattle.wordset.specs.Words.{Words, SameWords, one, shifted}
 use Rattle.processor.specs.Machine.{steps_pointer}
-use Rattle.facts.specs.Facts.{Cell, Fact, Place, words_in}
+use Rattle.facts.specs.Facts.{Cell, Fact, Place, narrowed, words_in}
 use Rattle.facts.specs.Changes.{moved}
 use Rattle.facts.specs.Outcomes.{stepped, targets}
 use Rattle.facts.specs.Same.{Agree}
@@ -21,3 +22,8 @@ reach_pointer pl i c f e t h = rw (e, t) h
 
 pub reach_named : {s : Words} (pl : Place) (i : Bool) (c : ℕ) (f : Fact) → steps_pointer i c ≡ false → i ≡ false → SameWords s (one c) → SameWords s (targets pl i c f)
 reach_named pl i c f e t h = rw (e, t) h
+
+-- the set of a cell that went up
+pub moved_here : (f : Fact) (c : ℕ) → (moved (Cell c) 1 f).set (Cell c) ≡ shifted (narrowed f (Cell c)) 1
+unfolding moved
+moved_here f c = rw (eq-eqb c c refl) refl

@@ -12,14 +12,14 @@ use Rattle.processor.specs.Runs.{Image}
 use Rattle.bin_tape.specs.Image.{word_at, HoldsWords}
 use Rattle.peripherals.specs.Loading.{image_of}
 use Rattle.facts.specs.Facts.{Ac, Cell, Fact, Place}
-use Rattle.facts.specs.Statements.{TrackedCell, tracked}
+use Rattle.facts.specs.Statements.{TrackedCell, tracked, cell_at}
 use Rattle.facts.specs.Starts.{each_below, has_each, are_always, holds_before, AreTapeWords, HoldsOfStarts}
 use Rattle.facts.specs.Showing.{MayStart, AreCells, allows_all}
 use Rattle.facts.proofs.Starting.{each_from, each_at, start_law}
-use Rattle.facts.proofs.EntailLemmas.{not_true, drop_item}
-use Rattle.facts.specs.declared.fact.TrackedCell.{TrackedCell as CodeCell}
+use Rattle.facts.proofs.EntailLemmas.{not_true}
+use Rattle.facts.proofs.TrackingLemmas.{cell_dropped}
 use Rattle.facts.specs.declared.fact.Fact.{Fact as CodeFact}
-use Rattle.facts.specs.Meaning.{tracked_of, statement_of, meaning}
+use Rattle.facts.specs.Meaning.{statement_of, meaning}
 
 pub both_ways : (a b : Bool) → (a ≡ true → b ≡ true) → (b ≡ true → a ≡ true) → a ≡ b
 both_ways true b h g = sym (h refl)
@@ -63,17 +63,18 @@ start_here image t ts lt h =
 pub start_rest : (image : Image) (t : TrackedCell) (ts : List TrackedCell) → MayStart image (t ∷ ts) → MayStart image ts
 start_rest image t ts h a lt = each_right (image a) (λ v. if t.address == a then t.set v else true) (tracked a ts) (h a lt)
 
-pub start_step : (image : Image) (cells : List CodeCell) (i : ℕ) (t : CodeCell) → i < length cells → t ≡ get_or cells i t → has_each (image t.cell) (words t.set) ≡ true →
-    (MayStart image (map tracked_of (drop i cells)) ↔ MayStart image (map tracked_of cells)) → (MayStart image (map tracked_of (drop (i + 1) cells)) ↔ MayStart image (map tracked_of cells))
-start_step image cells i t lt e w h = (
-  λ r. h.0 (subst (λ xs. MayStart image (map tracked_of xs)) (sym (drop_item cells i t lt e)) (start_more image (tracked_of t) (map tracked_of (drop (i + 1) cells)) w r)),
-  λ a. start_rest image (tracked_of t) (map tracked_of (drop (i + 1) cells)) (subst (λ xs. MayStart image (map tracked_of xs)) (drop_item cells i t lt e) (h.1 a)),
+pub start_step : (image : Image) (cells : List TrackedCell) (i : ℕ) → i < length cells → has_each (image (cell_at cells i).address) (cell_at cells i).set ≡ true →
+    (MayStart image (drop i cells) ↔ MayStart image cells) → (MayStart image (drop (i + 1) cells) ↔ MayStart image cells)
+start_step image cells i lt w h = (
+  λ r. h.0 (subst (MayStart image) (sym (cell_dropped cells i lt)) (start_more image (cell_at cells i) (drop (i + 1) cells) w r)),
+  λ a. start_rest image (cell_at cells i) (drop (i + 1) cells) (subst (MayStart image) (cell_dropped cells i lt) (h.1 a)),
 )
 
-pub start_fails : (image : Image) (cells : List CodeCell) (i : ℕ) (t : CodeCell) → i < length cells → t ≡ get_or cells i t → t.cell < 4096 → has_each (image t.cell) (words t.set) ≡ false →
-    (MayStart image (map tracked_of (drop i cells)) ↔ MayStart image (map tracked_of cells)) → IsTrue false ↔ MayStart image (map tracked_of cells)
-start_fails image cells i t lt e small w h =
-    not_true (λ a. true≢false (sym (start_here image (tracked_of t) (map tracked_of (drop (i + 1) cells)) small (subst (λ xs. MayStart image (map tracked_of xs)) (drop_item cells i t lt e) (h.1 a))) ∙ w))
+pub start_fails : (image : Image) (cells : List TrackedCell) (i : ℕ) → i < length cells → (cell_at cells i).address < 4096 →
+    has_each (image (cell_at cells i).address) (cell_at cells i).set ≡ false →
+    (MayStart image (drop i cells) ↔ MayStart image cells) → IsTrue false ↔ MayStart image cells
+start_fails image cells i lt small w h =
+    not_true (λ a. true≢false (sym (start_here image (cell_at cells i) (drop (i + 1) cells) small (subst (MayStart image) (cell_dropped cells i lt) (h.1 a))) ∙ w))
 
 pub start_none : (image : Image) → MayStart image []
 start_none image a lt = each_everything (image a)
@@ -146,8 +147,8 @@ two_links l = go l.set l.clear
     go true false = refl
     go false b = refl
 
-pub start_end : (image : Image) (cells : List CodeCell) (i : ℕ) → length cells ≤ i →
-    (MayStart image (map tracked_of (drop i cells)) ↔ MayStart image (map tracked_of cells)) → IsTrue true ↔ MayStart image (map tracked_of cells)
+pub start_end : (image : Image) (cells : List TrackedCell) (i : ℕ) → length cells ≤ i →
+    (MayStart image (drop i cells) ↔ MayStart image cells) → IsTrue true ↔ MayStart image cells
 start_end image cells i h inv =
     let e : drop i cells ≡ [] = drop_of_length-le cells h in
-    (λ q. inv.0 (subst (λ xs. MayStart image (map tracked_of xs)) (sym e) (start_none image)), λ a. refl)
+    (λ q. inv.0 (subst (MayStart image) (sym e) (start_none image)), λ a. refl)

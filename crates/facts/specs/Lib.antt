@@ -1,5 +1,6 @@
 pub mod Facts
 pub mod Statements
+pub mod Tracking
 pub mod Changes
 pub mod Outcomes
 pub mod Conditions

@@ -6,12 +6,11 @@ use Rattle.wordset.specs.Links.{links_of}
 use Rattle.facts.specs.Facts.{Ac, Cell, met_by, has_cell}
 use Rattle.facts.specs.Facts as spec
 use Rattle.facts.specs.Statements.{Statement, tracked, fact_of}
-use Rattle.facts.specs.Statements as said
+pub use Rattle.facts.specs.Tracking.{tracked_of, tracked_cells}
 use Rattle.facts.specs.declared.names.Name.{Name}
 use Rattle.facts.specs.declared.names.Name.TheVariants as name
 use Rattle.facts.specs.declared.names.Equation.{Equation}
 use Rattle.facts.specs.declared.offsets.Offsets.{Offsets}
-use Rattle.facts.specs.declared.fact.TrackedCell.{TrackedCell}
 use Rattle.facts.specs.declared.fact.Fact.{Fact}
 use Rattle.facts.specs.declared.known.Change.{Change}
 use Rattle.facts.specs.declared.known.Change.TheVariants.{Unchanged, Replaced, Counted, Stored}
@@ -28,10 +27,6 @@ name_of (name.Cell a) = Cell a
 abbrev pub equation_of : Equation → spec.Equation
 equation_of e = record { left = name_of e.left; right = Cell e.right; more = e.more }
 
--- The tracked cell that is meant.
-abbrev pub tracked_of : TrackedCell → said.TrackedCell
-tracked_of t = record { address = t.cell; set = words t.set }
-
 -- The offsets that are meant, each of them below 8.
 abbrev pub offsets_of : Offsets → Words
 offsets_of o k = slice_index_or o.known k false
@@ -42,7 +37,7 @@ statement_of f = record {
   ac = words f.ac;
   mq = words f.mq;
   link = links_of f.link;
-  cells = map tracked_of f.cells.items;
+  cells = tracked_cells f.cells;
   equations = map equation_of f.equations.items;
 }
 
@@ -52,14 +47,14 @@ meaning f = fact_of (statement_of f) (offsets_of f.offsets)
 
 -- The words of a fact's tracked cells.
 abbrev pub cell_words : Fact → ℕ → Words
-cell_words f a = tracked a (map tracked_of f.cells.items)
+cell_words f a = tracked a (tracked_cells f.cells)
 
 -- What a change makes of the words of a cell.
 abbrev pub changed : Change → ℕ → Words → Words
 changed Unchanged a set = set
-changed (Replaced c s) a set = if a == c then words s else set
-changed (Counted p) a set = if has_cell (words p) a then union set (shifted set 1) else set
-changed (Stored p s) a set = if has_cell (words p) a then union set (words s) else set
+changed (Replaced c s) a set = if a == c then words s.now else set
+changed (Counted p) a set = if has_cell (words p.now) a then union set (shifted set 1) else set
+changed (Stored p s) a set = if has_cell (words p.now) a then union set (words s.now) else set
 
 -- The words of a cell by where they come from: a fact; or after a call the exit's fact for the cells that are written,
 -- and the caller's for the others.
@@ -70,16 +65,16 @@ source_words (Joined call exit written) a =
 
 -- The words of a name: what the two changes make of where they come from.
 abbrev pub known_set : Known → spec.Name → Words
-known_set k Ac = words k.ac
+known_set k Ac = words k.ac.now
 known_set k (Cell a) = changed k.target a (changed k.pointer a (source_words k.base a))
 
 -- The fact that is known.
 abbrev pub known_of : Known → spec.Fact
 known_of k = record {
   set = known_set k;
-  mq = words k.mq;
+  mq = words k.mq.now;
   link = links_of k.link;
-  equations = map equation_of k.equations.items;
+  equations = map equation_of k.equations.now;
   offsets = offsets_of k.offsets;
 }
 

@@ -190,13 +190,6 @@ outcomes_of pl f at Undefined = []
 abbrev pub meaning_at : Place → ℕ → ℕ → Meaning
 meaning_at pl at word = meaning_of pl.declaration.profile at word
 
--- The instruction has one outcome at most: it isn't ISZ, of group 2 or of a device.
-abbrev pub has_one : Meaning → Bool
-has_one (Isz i c) = false
-has_one (Group2 w) = false
-has_one (Device action) = false
-has_one _ = true
-
 -- The outcomes of a word that stands at an address.
 abbrev pub outcomes_at : Place → Fact → ℕ → ℕ → List Outcome
 outcomes_at pl f at word = outcomes_of pl f at (meaning_at pl at word)

@@ -8,8 +8,8 @@ use Rattle.facts.specs.declared.outcome.Outcome.TheVariants.{Goes, Calls, Return
 
 -- The outcome that is meant.
 abbrev pub outcome_of : Outcome → spec.Outcome
-outcome_of (Goes next k) = spec.Goes (words next) (known_of k)
-outcome_of (Calls to k) = spec.CallsTo (words to) (known_of k)
+outcome_of (Goes next k) = spec.Goes (words next.now) (known_of k)
+outcome_of (Calls to k) = spec.CallsTo (words to.now) (known_of k)
 outcome_of (Returns k) = spec.Returns (known_of k)
 
 -- An outcome that may not be there.

@@ -1,6 +1,6 @@
 -- What is said of a fact in so many words: sets for some cells, and equations. Every other cell may hold any word.
-use Rattle.std.specs.Prelude.{ℕ, ◌==◌, true, ◌&&◌, if◌then◌else◌, List, [], ◌∷◌}
-use Rattle.wordset.specs.Words.{Words, everything}
+use Rattle.std.specs.Prelude.{ℕ, ◌==◌, true, ◌&&◌, if◌then◌else◌, List, [], ◌∷◌, get_or}
+use Rattle.wordset.specs.Words.{Words, nothing, everything}
 use Rattle.facts.specs.Facts.{Name, Ac, Cell, Equation, Fact}
 
 -- A tracked cell and its words.
@@ -20,6 +20,10 @@ pub record Statement : Type 0 where
 abbrev pub tracked : ℕ → List TrackedCell → Words
 tracked a [] v = true
 tracked a (c ∷ cs) v = (if c.address == a then c.set v else true) && tracked a cs v
+
+-- The tracked cell at a place of a list.
+abbrev pub cell_at : List TrackedCell → ℕ → TrackedCell
+cell_at cells at = get_or cells at (record { address = 0; set = nothing })
 
 -- The words of each name.
 abbrev pub sets_of : Statement → Name → Words

@@ -1,26 +1,29 @@
 //! What is asked of one word at the address of a fact, each condition by itself.
 
-ghost use Rattle.std.specs.Prelude.{ℕ, ◌≡◌, ◌↔◌, IsTrue, MatchOption, IfOk, OnOk, IfErr};
-ghost use Rattle.wordset.specs.Words.{SameWords};
+ghost use Rattle.std.specs.Prelude.{ℕ, ◌≡◌, ◌<◌, ◌↔◌, ◌⊎◌, true, false, IsTrue, IfSome, MatchOption, IfOk, OnOk, IfErr};
+ghost use Rattle.wordset.specs.Words.{SameWords, one};
 ghost use Rattle.wordset.specs.Lanes.{words};
 ghost use Rattle.instruct.specs.declared.Instruction.TheVariants.{Operate2};
 ghost use Rattle.instruct.specs.Instructions.{kind_of, operation_of};
 ghost use Rattle.policy.specs.Rules.{IsSupported, HaltsDeclared};
+ghost use Rattle.facts.specs.Facts as said;
 ghost use Rattle.facts.specs.Facts.{possible};
 ghost use Rattle.facts.specs.Outcomes.{meaning_at, outcomes_at};
 ghost use Rattle.facts.specs.Same.{AgreeingOutcomes};
-ghost use Rattle.facts.specs.Conditions.{may_write, KeepsConditions, BreaksFirst, WritesAreDeclared, EntriesAreKept, WritesAreListed, ReadsAreListed, calls, is_call, jumps, called, calls_through_index, returned_through};
+ghost use Rattle.facts.specs.Conditions.{may_write, MayWrite, KeepsConditions, BreaksFirst, WritesAreDeclared, EntriesAreKept, WritesAreListed, ReadsAreListed, calls, is_call, jumps, called, calls_through_index, returned_through};
 ghost use Rattle.facts.specs.Meaning.{meaning};
 ghost use Rattle.facts.specs.Places.{place_of, writes_of};
 ghost use Rattle.facts.specs.Slots.{slots};
 
 use crate::Condition;
-use crate::dispatch::{Outcomes, outcomes};
+use crate::conditions::stores;
+use crate::dispatch::{OutcomeList, outcomes};
 use crate::entailment::{narrowed, word_of};
 use crate::fact::Fact;
 use crate::names::Name;
 use crate::place::{Place, tape_words};
 use crate::references::{either, steps_pointer};
+use crate::room::Room;
 use crate::skipping::both;
 use instruct::{Instruction, Operation, decode, halts, refers_indirectly, target};
 use std::alloc::Allocator;
@@ -104,7 +107,41 @@ impl<A: Allocator> Place<'_, A> {
         if !self.is_writing(at, word) {
             return true;
         }
-        self.written_are_declared(fact, at, word)
+        match self.written_directly(at, word) {
+            Some(cell) => self.is_declared(cell),
+            None => self.written_are_declared(fact, at, word),
+        }
+    }
+
+    /// The cell that a word writes whatever is known: the named one of a direct ISZ or DCA.
+    fn written_directly(&self, at: Word, word: Word) -> Option<Word>
+        ensures { (f : said.Fact) → IfSome result (λ cell.
+            SameWords (may_write (place_of self.now) f (meaning_at (place_of self.now) at word))
+            (one cell)) }
+    {
+        if !self.is_reference(word) {
+            return None;
+        }
+        if refers_indirectly(word) {
+            return None;
+        }
+        if !stores(word) {
+            return None;
+        }
+        Some(target(word, at))
+    }
+
+    /// Whether a cell is a variable or an entry.
+    fn is_declared(&self, cell: Word) -> bool
+        ensures { IsTrue result ↔ ((a : ℕ) → a < 4096 → one cell a ≡ true →
+            ((place_of self.now).declaration.variable a ≡ true) ⊎
+            ((place_of self.now).declaration.entry a ≡ true)) }
+    {
+        let _index = cell.index();
+        either(
+            self.declaration.is_variable(cell),
+            self.declaration.is_entry(cell),
+        )
     }
 
     /// Whether each cell that a word may write is a variable or an entry; the room for them is made
@@ -127,7 +164,22 @@ impl<A: Allocator> Place<'_, A> {
         if !self.is_writing(at, word) {
             return true;
         }
+        if self.leaves_entries(at, word) {
+            return true;
+        }
         self.written_are_kept(fact, at, word)
+    }
+
+    /// Whether it is seen whatever is known that a word writes no entry.
+    fn leaves_entries(&self, at: Word, word: Word) -> bool
+        ensures { IsTrue result → (f : said.Fact) (a : ℕ) → a < 4096 →
+            may_write (place_of self.now) f (meaning_at (place_of self.now) at word) a ≡ true →
+            (place_of self.now).declaration.entry a ≡ false }
+    {
+        match self.written_directly(at, word) {
+            None => false,
+            Some(cell) => !self.declaration.is_entry(cell),
+        }
     }
 
     /// Whether no cell that a word may write is an entry, save where ISZ counts the running
@@ -166,7 +218,22 @@ impl<A: Allocator> Place<'_, A> {
         if !self.is_writing(at, word) {
             return true;
         }
-        self.written_are_listed(fact, at, word)
+        match self.written_directly(at, word) {
+            Some(cell) => self.may_write_cell(cell),
+            None => self.written_are_listed(fact, at, word),
+        }
+    }
+
+    /// Whether the running routine may write a cell: one of its written set or its own entry; in main any.
+    fn may_write_cell(&self, cell: Word) -> bool
+        ensures { IsTrue result ↔ ((a : ℕ) → a < 4096 → one cell a ≡ true →
+            MayWrite (writes_of self.now.routine) (place_of self.now).routine a) }
+    {
+        let _index = cell.index();
+        match &self.routine {
+            None => true,
+            Some(running) => either(running.writes.contains(cell), self.is_own(cell)),
+        }
     }
 
     /// Whether each cell that a word may write is one that the running routine may write; the room for
@@ -294,9 +361,10 @@ pub fn post<'a, A: Allocator>(
     at: Word,
     word: Word,
     place: &Place<'_, A>,
-) -> Result<Outcomes<'a>, Condition>
+    room: &'a mut Room,
+) -> Result<OutcomeList<'a>, Condition>
     ensures outcomes { IfOk result (λ given.
-        AgreeingOutcomes (slots given) (outcomes_at (place_of place.now) (meaning fact.now) at
+        AgreeingOutcomes (slots given.all) (outcomes_at (place_of place.now) (meaning fact.now) at
         word)) }
     ensures kept { OnOk result (KeepsConditions (place_of place.now) (writes_of place.now.routine)
         (meaning fact.now) at (meaning_at (place_of place.now) at word)) }
@@ -305,6 +373,6 @@ pub fn post<'a, A: Allocator>(
 {
     match place.first_broken(fact, at, word) {
         Some(condition) => Err(condition),
-        None => Ok(outcomes(fact, at, word, place)),
+        None => Ok(outcomes(fact, at, word, place, room)),
     }
 }

@@ -1,8 +1,7 @@
 //! What happens to what is known: a word that counts up or takes a new value, one of several cells
 //! that changes.
 
-ghost use Rattle.std.specs.Prelude.{ℕ, ◌≡◌, ◌≤◌, ◌+◌, ◌-◌, ◌==◌, ◌∷◌, [], if◌then◌else◌, false, map};
-ghost use Rattle.arrayvec.specs.ArrayVec.{array_vec_len};
+ghost use Rattle.std.specs.Prelude.{ℕ, ◌≡◌, ◌≤◌, ◌+◌, ◌-◌, ◌==◌, ◌∷◌, [], if◌then◌else◌, false, map, length};
 ghost use Rattle.wordset.specs.Words.{one, shifted};
 ghost use Rattle.wordset.specs.Lanes.{words};
 ghost use Rattle.wordset.specs.Links.{links_of};
@@ -11,11 +10,11 @@ ghost use Rattle.facts.specs.Changes.{copied, moved, assigned, smeared, with_equ
 ghost use Rattle.facts.specs.Same.{Agree};
 ghost use Rattle.facts.specs.Meaning.{equation_of, offsets_of, known_of, IsUnchanged};
 
-use crate::equations::{Equations, copies, copy, freed, freed_of_cells, joined, raised};
+use crate::equations::{Equations, add_all, copy_to, free, free_of_cells, raise};
 use crate::known::{Change, Known};
 use crate::names::{Equation, Name};
 use crate::offsets::Offsets;
-use arrayvec::ArrayVec;
+use crate::room::{Step, put};
 use word12::Word;
 use wordset::{Links, WordSet};
 
@@ -29,136 +28,157 @@ fn one() -> Word
 impl<'a> Known<'a> {
     /// After the accumulator's word went up by k.
     #[inline(never)]
-    pub(crate) fn raised_ac(&self, k: Word) -> Known<'a>
+    pub(crate) fn raised_ac(&self, k: Word, step: &'a mut Step) -> Known<'a>
+        requires room { length self.now.equations.now ≤ 32 }
         ensures same { Agree (known_of result) (moved Ac k (known_of self.now)) }
         ensures target { result.target ≡ self.now.target }
-        ensures len { array_vec_len result.equations ≤ array_vec_len self.now.equations }
+        ensures len { length result.equations.now ≤ length self.now.equations.now }
     {
+        raise(&Name::Accumulator, k, self.equations, &mut step.list);
         Known {
             base: self.base,
-            ac: self.narrowed(&Name::Accumulator).shift(k),
+            ac: put(&mut step.set, self.narrowed(&Name::Accumulator).shift(k)),
             mq: self.mq,
             link: self.link,
             pointer: self.pointer,
             target: self.target,
-            equations: raised(&Name::Accumulator, k, &self.equations),
+            equations: step.list.as_slice(),
             offsets: self.offsets,
         }
     }
 
     /// After a cell's word went up by one, where a pointer is stepped.
     #[inline(never)]
-    pub(crate) fn stepped(&self, cell: Word) -> Known<'a>
+    pub(crate) fn stepped(&self, cell: Word, step: &'a mut Step) -> Known<'a>
         requires pointer { IsUnchanged self.now.pointer }
         requires target { IsUnchanged self.now.target }
+        requires room { length self.now.equations.now ≤ 32 }
         ensures same { Agree (known_of result) (moved (Cell cell) 1 (known_of self.now)) }
         ensures target { IsUnchanged result.target }
-        ensures len { array_vec_len result.equations ≤ array_vec_len self.now.equations }
+        ensures len { length result.equations.now ≤ length self.now.equations.now }
     {
+        let set = self.narrowed(&Name::Cell(cell)).shift(one());
+        raise(&Name::Cell(cell), one(), self.equations, &mut step.list);
         Known {
             base: self.base,
             ac: self.ac,
             mq: self.mq,
             link: self.link,
-            pointer: Change::Replaced(cell, self.narrowed(&Name::Cell(cell)).shift(one())),
+            pointer: Change::Replaced(cell.index(), put(&mut step.set, set)),
             target: Change::Unchanged,
-            equations: raised(&Name::Cell(cell), one(), &self.equations),
+            equations: step.list.as_slice(),
             offsets: self.offsets,
         }
     }
 
     /// After the accumulator took some word of a set.
     #[inline(never)]
-    pub(crate) fn with_ac(&self, set: WordSet) -> Known<'a>
+    pub(crate) fn with_ac(&self, set: WordSet, step: &'a mut Step) -> Known<'a>
+        requires room { length self.now.equations.now ≤ 64 }
         ensures same { Agree (known_of result) (assigned Ac (words set) (known_of self.now)) }
         ensures target { result.target ≡ self.now.target }
-        ensures len { array_vec_len result.equations ≤ array_vec_len self.now.equations }
+        ensures len { length result.equations.now ≤ length self.now.equations.now }
     {
+        free(&Name::Accumulator, self.equations, &mut step.list);
         Known {
             base: self.base,
-            ac: set,
+            ac: put(&mut step.set, set),
             mq: self.mq,
             link: self.link,
             pointer: self.pointer,
             target: self.target,
-            equations: freed(&Name::Accumulator, &self.equations),
+            equations: step.list.as_slice(),
             offsets: self.offsets,
         }
     }
 
     /// After a cell took some word of a set.
-    pub(crate) fn with_cell(&self, cell: Word, set: WordSet) -> Known<'a>
-        requires { IsUnchanged self.now.target }
+    pub(crate) fn with_cell(&self, cell: Word, set: WordSet, step: &'a mut Step) -> Known<'a>
+        requires target { IsUnchanged self.now.target }
+        requires room { length self.now.equations.now ≤ 32 }
         ensures same { Agree (known_of result)
             (assigned (Cell cell) (words set) (known_of self.now)) }
-        ensures len { array_vec_len result.equations ≤ array_vec_len self.now.equations }
+        ensures len { length result.equations.now ≤ length self.now.equations.now }
     {
+        free(&Name::Cell(cell), self.equations, &mut step.list);
         Known {
             base: self.base,
             ac: self.ac,
             mq: self.mq,
             link: self.link,
             pointer: self.pointer,
-            target: Change::Replaced(cell, set),
-            equations: freed(&Name::Cell(cell), &self.equations),
+            target: Change::Replaced(cell.index(), put(&mut step.set, set)),
+            equations: step.list.as_slice(),
             offsets: self.offsets,
         }
     }
 
     /// After one of some cells, unknown which, went up by one.
-    pub(crate) fn counted(&self, cells: &WordSet) -> Known<'a>
-        requires { IsUnchanged self.now.target }
+    pub(crate) fn counted(&self, cells: &WordSet, step: &'a mut Step) -> Known<'a>
+        requires target { IsUnchanged self.now.target }
+        requires room { length self.now.equations.now ≤ 32 }
         ensures same { Agree (known_of result)
             (smeared (words cells.now) (λ y. shifted ((known_of self.now).set (Cell y)) 1)
             (known_of self.now)) }
-        ensures len { array_vec_len result.equations ≤ array_vec_len self.now.equations }
+        ensures len { length result.equations.now ≤ length self.now.equations.now }
     {
+        free_of_cells(cells, self.equations, &mut step.list);
         Known {
             base: self.base,
             ac: self.ac,
             mq: self.mq,
             link: self.link,
             pointer: self.pointer,
-            target: Change::Counted(*cells),
-            equations: freed_of_cells(cells, &self.equations),
+            target: Change::Counted(put(&mut step.set, *cells)),
+            equations: step.list.as_slice(),
             offsets: self.offsets,
         }
     }
 
     /// After one of some cells, unknown which, took some word of a set.
-    pub(crate) fn stored(&self, cells: &WordSet, set: WordSet) -> Known<'a>
-        requires { IsUnchanged self.now.target }
+    pub(crate) fn stored(
+        &self,
+        cells: &WordSet,
+        set: WordSet,
+        step: &'a mut Step,
+        spare: &'a mut Step,
+    ) -> Known<'a>
+        requires target { IsUnchanged self.now.target }
+        requires room { length self.now.equations.now ≤ 32 }
         ensures same { Agree (known_of result)
             (smeared (words cells.now) (λ y. words set) (known_of self.now)) }
-        ensures len { array_vec_len result.equations ≤ array_vec_len self.now.equations }
+        ensures len { length result.equations.now ≤ length self.now.equations.now }
     {
+        free_of_cells(cells, self.equations, &mut step.list);
         Known {
             base: self.base,
             ac: self.ac,
             mq: self.mq,
             link: self.link,
             pointer: self.pointer,
-            target: Change::Stored(*cells, set),
-            equations: freed_of_cells(cells, &self.equations),
+            target: Change::Stored(put(&mut spare.set, *cells), put(&mut step.set, set)),
+            equations: step.list.as_slice(),
             offsets: self.offsets,
         }
     }
 
     /// After a cell went up by one, where these words of it are left.
-    pub(crate) fn counted_to(&self, cell: Word, set: WordSet) -> Known<'a>
-        requires { IsUnchanged self.now.target }
+    pub(crate) fn counted_to(&self, cell: Word, set: WordSet, step: &'a mut Step) -> Known<'a>
+        requires target { IsUnchanged self.now.target }
+        requires room { length self.now.equations.now ≤ 32 }
         ensures same { Agree (known_of result)
             (with_name (Cell cell) (words set) (moved (Cell cell) 1 (known_of self.now))) }
-        ensures len { array_vec_len result.equations ≤ array_vec_len self.now.equations }
+        ensures len { length result.equations.now ≤ length self.now.equations.now }
     {
+        raise(&Name::Cell(cell), one(), self.equations, &mut step.list);
         Known {
             base: self.base,
             ac: self.ac,
             mq: self.mq,
             link: self.link,
             pointer: self.pointer,
-            target: Change::Replaced(cell, set),
-            equations: raised(&Name::Cell(cell), one(), &self.equations),
+            target: Change::Replaced(cell.index(), put(&mut step.set, set)),
+            equations: step.list.as_slice(),
             offsets: self.offsets,
         }
     }
@@ -167,7 +187,7 @@ impl<'a> Known<'a> {
     pub(crate) fn same(&self) -> Known<'a>
         ensures same { Agree (known_of result) (known_of self.now) }
         ensures target { result.target ≡ self.now.target }
-        ensures len { array_vec_len result.equations ≤ array_vec_len self.now.equations }
+        ensures len { length result.equations.now ≤ length self.now.equations.now }
     {
         Known {
             base: self.base,
@@ -176,18 +196,18 @@ impl<'a> Known<'a> {
             link: self.link,
             pointer: self.pointer,
             target: self.target,
-            equations: copy(&self.equations),
+            equations: self.equations,
             offsets: self.offsets,
         }
     }
 
     /// With other words of the accumulator; its equations stay.
-    pub(crate) fn holding(self, set: WordSet) -> Known<'a>
+    pub(crate) fn holding(self, set: WordSet, step: &'a mut Step) -> Known<'a>
         ensures { Agree (known_of result) (with_name Ac (words set) (known_of self.entry)) }
     {
         Known {
             base: self.base,
-            ac: set,
+            ac: put(&mut step.set, set),
             mq: self.mq,
             link: self.link,
             pointer: self.pointer,
@@ -221,13 +241,13 @@ impl<'a> Known<'a> {
     }
 
     /// With other words of MQ.
-    pub(crate) fn with_mq(self, set: WordSet) -> Known<'a>
+    pub(crate) fn with_mq(self, set: WordSet, step: &'a mut Step) -> Known<'a>
         ensures { Agree (known_of result) (with_mq (words set) (known_of self.entry)) }
     {
         Known {
             base: self.base,
             ac: self.ac,
-            mq: set,
+            mq: put(&mut step.set, set),
             link: self.link,
             pointer: self.pointer,
             target: self.target,
@@ -266,25 +286,27 @@ impl<'a> Known<'a> {
             link: self.link,
             pointer: self.pointer,
             target: self.target,
-            equations: copy(&self.equations),
+            equations: self.equations,
             offsets: self.offsets.counted(),
         }
     }
 
     /// After the accumulator's word went up by k, where these words of it are left.
     #[inline(never)]
-    pub(crate) fn raised_to(&self, k: Word, set: WordSet) -> Known<'a>
+    pub(crate) fn raised_to(&self, k: Word, set: WordSet, step: &'a mut Step) -> Known<'a>
+        requires room { length self.now.equations.now ≤ 32 }
         ensures { Agree (known_of result) (with_name Ac (words set)
             (moved Ac k (known_of self.now))) }
     {
+        raise(&Name::Accumulator, k, self.equations, &mut step.list);
         Known {
             base: self.base,
-            ac: set,
+            ac: put(&mut step.set, set),
             mq: self.mq,
             link: self.link,
             pointer: self.pointer,
             target: self.target,
-            equations: raised(&Name::Accumulator, k, &self.equations),
+            equations: step.list.as_slice(),
             offsets: self.offsets,
         }
     }
@@ -292,36 +314,49 @@ impl<'a> Known<'a> {
     /// After the accumulator became the sum of a cell's word and another, where these words of it
     /// are left.
     #[inline(never)]
-    pub(crate) fn summed(&self, cell: Word, more: Word, set: WordSet) -> Known<'a>
-        requires { array_vec_len self.now.equations ≤ 32 }
+    pub(crate) fn summed(
+        &self,
+        cell: Word,
+        more: Word,
+        set: WordSet,
+        step: &'a mut Step,
+        spare: &mut Equations,
+    ) -> Known<'a>
+        requires room { length self.now.equations.now ≤ 32 }
         ensures { Agree (known_of result) (with_equations
             (record { left = Ac; right = Cell cell; more = more } ∷ [])
             (assigned Ac (words set) (known_of self.now))) }
     {
-        let mut first = ArrayVec::new();
-        first.push(Equation {
+        free(&Name::Accumulator, self.equations, spare);
+        step.list.clear();
+        step.list.push(Equation {
             left: Name::Accumulator,
             right: cell,
             more,
         });
+        add_all(&mut step.list, spare.as_slice());
         Known {
             base: self.base,
-            ac: set,
+            ac: put(&mut step.set, set),
             mq: self.mq,
             link: self.link,
             pointer: self.pointer,
             target: self.target,
-            equations: joined(first, &freed(&Name::Accumulator, &self.equations)),
+            equations: step.list.as_slice(),
             offsets: self.offsets,
         }
     }
 
-    /// With further equations.
-    fn told(&self, more: Equations) -> Known<'a>
-        requires { array_vec_len more + array_vec_len self.now.equations ≤ 64 }
-        ensures { Agree (known_of result) (with_equations (map equation_of more.items)
-            (known_of self.now)) }
+    /// With what the equations of another say of the accumulator, said of a cell, before its own.
+    fn told(&self, cell: Word, equations: &[Equation], list: &'a mut Equations) -> Known<'a>
+        requires { length equations.now + length self.now.equations.now ≤ 64 }
+        ensures same { Agree (known_of result) (with_equations
+            (copied cell (map equation_of equations.now)) (known_of self.now)) }
+        ensures len { length result.equations.now ≤ length equations.now +
+            length self.now.equations.now }
     {
+        copy_to(cell, equations, list);
+        add_all(list, self.equations);
         Known {
             base: self.base,
             ac: self.ac,
@@ -329,21 +364,28 @@ impl<'a> Known<'a> {
             link: self.link,
             pointer: self.pointer,
             target: self.target,
-            equations: joined(more, &self.equations),
+            equations: list.as_slice(),
             offsets: self.offsets,
         }
     }
 
     /// After the accumulator's words were put into a cell, and it was cleared.
-    pub(crate) fn deposited(&self, cell: Word, set: WordSet) -> Known<'a>
+    pub(crate) fn deposited(
+        &self,
+        cell: Word,
+        set: WordSet,
+        first: &'a mut Step,
+        second: &'a mut Step,
+        third: &'a mut Step,
+    ) -> Known<'a>
         requires target { IsUnchanged self.now.target }
-        requires room { array_vec_len self.now.equations ≤ 32 }
+        requires room { length self.now.equations.now ≤ 32 }
         ensures { Agree (known_of result) (assigned Ac (one 0)
             (with_equations (copied cell (known_of self.now).equations)
             (assigned (Cell cell) (words set) (known_of self.now)))) }
     {
-        let put = self.with_cell(cell, set);
-        let told = put.told(copies(cell, &self.equations));
-        told.with_ac(WordSet::one(Word::ZERO))
+        let put = self.with_cell(cell, set, first);
+        let told = put.told(cell, self.equations, &mut second.list);
+        told.with_ac(WordSet::one(Word::ZERO), third)
     }
 }

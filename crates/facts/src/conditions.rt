@@ -35,7 +35,7 @@ fn reads_operand(word: Word) -> bool
 }
 
 /// Whether a memory reference stores where it refers to: ISZ and DCA.
-fn stores(word: Word) -> bool
+pub(crate) fn stores(word: Word) -> bool
     ensures { result ≡ stores (operation_of word) }
 {
     match Operation::of(word) {

@@ -1,9 +1,8 @@
 //! What may come of a word, whatever it is.
 
-ghost use Rattle.std.specs.Prelude.{◌≡◌, ◌≤◌, ◌++◌, List, []};
-ghost use Rattle.arrayvec.specs.ArrayVec.{array_vec_len};
+ghost use Rattle.std.specs.Prelude.{false, ◌≡◌, ◌≤◌, ◌++◌, List, [], length};
 ghost use Rattle.instruct.specs.declared.Instruction.TheVariants.{Iot};
-ghost use Rattle.wordset.specs.Words.{SameWords};
+ghost use Rattle.wordset.specs.Words.{SameWords, only, one};
 ghost use Rattle.wordset.specs.Lanes.{words};
 ghost use Rattle.instruct.specs.Bits.{is_indirect, named_cell};
 ghost use Rattle.instruct.specs.Instructions.{kind_of, meaning_of, operation_of, reference_at, Group2};
@@ -21,6 +20,7 @@ use crate::outcome::Outcome;
 use crate::place::Place;
 use crate::references::{call, deposit, steps_pointer};
 use crate::registers::{exchange, operate, transfer};
+use crate::room::{Room, Way, put};
 use crate::skipping::{both, branch};
 use instruct::{DeviceOperation, Instruction, Operation, decode, halts, refers_indirectly, target};
 use std::alloc::Allocator;
@@ -28,64 +28,112 @@ use word12::{Link, Word};
 use wordset::WordSet;
 
 /// The outcomes of a word: at most four.
-pub type Outcomes<'a> = [Option<Outcome<'a>>; 4];
+#[derive(Drop)]
+pub struct OutcomeList<'a> {
+    /// In their order, each of which may not be there.
+    pub all: [Option<Outcome<'a>>; 4],
+}
 
 /// No outcome.
-fn nowhere<'a>() -> Outcomes<'a>
-    ensures { slots result ≡ [] }
+fn nowhere<'a>() -> OutcomeList<'a>
+    ensures { slots result.all ≡ [] }
 {
-    [None, None, None, None]
+    OutcomeList {
+        all: [None, None, None, None],
+    }
 }
 
 /// One outcome, if it is there.
-fn one<'a>(outcome: Option<Outcome<'a>>) -> Outcomes<'a>
+fn one<'a>(outcome: Option<Outcome<'a>>) -> OutcomeList<'a>
     ensures { (given : List told.Outcome) → AgreeingOutcomes (slot outcome.entry) given →
-        AgreeingOutcomes (slots result) given }
+        AgreeingOutcomes (slots result.all) given }
 {
-    [outcome, None, None, None]
+    OutcomeList {
+        all: [outcome, None, None, None],
+    }
 }
 
 /// Two outcomes, so far as they are there.
-fn two<'a>(outcomes: (Option<Outcome<'a>>, Option<Outcome<'a>>)) -> Outcomes<'a>
+fn two<'a>(outcomes: (Option<Outcome<'a>>, Option<Outcome<'a>>)) -> OutcomeList<'a>
     ensures { (given : List told.Outcome) → AgreeingOutcomes
         (slot outcomes.entry.0 ++ slot outcomes.entry.1) given →
-        AgreeingOutcomes (slots result) given }
+        AgreeingOutcomes (slots result.all) given }
 {
     let (first, second) = outcomes;
-    [first, second, None, None]
+    OutcomeList {
+        all: [first, second, None, None],
+    }
 }
 
 /// The outcomes of a word of group 2: each link by itself, with and without a skip.
 #[inline(never)]
-fn branches<'a>(at: Word, word: Word, known: &Known<'a>) -> Outcomes<'a>
+fn branches<'a>(at: Word, word: Word, known: &Known<'a>, room: &'a mut Room) -> OutcomeList<'a>
+    requires room { length known.now.equations.now ≤ 32 }
     ensures { (f : said.Fact) → Agree (known_of known.now) f →
-        AgreeingOutcomes (slots result) (all_operated2 at word f) }
+        AgreeingOutcomes (slots result.all) (all_operated2 at word f) }
 {
-    [
-        branch(at, word, known, Link::CLEAR, true),
-        branch(at, word, known, Link::CLEAR, false),
-        branch(at, word, known, Link::SET, true),
-        branch(at, word, known, Link::SET, false),
-    ]
+    let first = branch(at, word, known, Link::CLEAR, true, &mut room.one);
+    let second = branch(at, word, known, Link::CLEAR, false, &mut room.two);
+    let third = branch(at, word, known, Link::SET, true, &mut room.three);
+    let fourth = branch(at, word, known, Link::SET, false, &mut room.four);
+    OutcomeList {
+        all: [first, second, third, fourth],
+    }
+}
+
+/// The one target of a reference, where it has one and no other: the named cell of a direct one.
+fn single_target(indirect: bool, named: Word, targets: &WordSet) -> Option<Word>
+    requires { indirect ≡ false → SameWords (words targets.now) (one named) }
+    ensures { result ≡ only (words targets.now) }
+{
+    if indirect {
+        return targets.only();
+    }
+    let _index = named.index();
+    Some(named)
 }
 
 impl<A: Allocator> Place<'_, A> {
     /// The outcomes of a memory reference: a stepped pointer counts up first.
-    fn refer<'a>(&self, at: Word, word: Word, known: &Known<'a>) -> Outcomes<'a>
+    fn refer<'a>(
+        &self,
+        at: Word,
+        word: Word,
+        known: &Known<'a>,
+        room: &'a mut Room,
+    ) -> OutcomeList<'a>
         requires pointer { IsUnchanged known.now.pointer }
         requires target { IsUnchanged known.now.target }
-        requires room { array_vec_len known.now.equations ≤ 32 }
+        requires room { length known.now.equations.now ≤ 32 }
         ensures { (f : said.Fact) → Agree (known_of known.now) f →
-            AgreeingOutcomes (slots result) (outcomes_of (place_of self.now) f at
+            AgreeingOutcomes (slots result.all) (outcomes_of (place_of self.now) f at
             (reference_at (operation_of word) word at)) }
     {
         let indirect = refers_indirectly(word);
         let named = target(word, at);
-        let targets = self.reached(indirect, named, known);
+        let targets = put(&mut room.targets, self.reached(indirect, named, known));
+        let single = single_target(indirect, named, targets);
         if steps_pointer(indirect, named) {
-            return self.refer_to(at, word, &known.stepped(named), &targets);
+            let seen = known.stepped(named, &mut room.pointer);
+            return self.refer_to(
+                at,
+                word,
+                &seen,
+                targets,
+                &single,
+                &mut room.one,
+                &mut room.two,
+            );
         }
-        self.refer_to(at, word, known, &targets)
+        self.refer_to(
+            at,
+            word,
+            known,
+            targets,
+            &single,
+            &mut room.one,
+            &mut room.two,
+        )
     }
 
     /// The outcomes of a memory reference to some targets.
@@ -94,66 +142,90 @@ impl<A: Allocator> Place<'_, A> {
         at: Word,
         word: Word,
         seen: &Known<'a>,
-        reached: &WordSet,
-    ) -> Outcomes<'a>
+        reached: &'a WordSet,
+        single: &Option<Word>,
+        way: &'a mut Way,
+        other: &'a mut Way,
+    ) -> OutcomeList<'a>
+        requires single { single.now ≡ only (words reached.now) }
         requires target { IsUnchanged seen.now.target }
-        requires room { array_vec_len seen.now.equations ≤ 32 }
+        requires room { length seen.now.equations.now ≤ 32 }
         ensures { (f : said.Fact) →
             Agree (known_of seen.now) (stepped (is_indirect word) (named_cell word at) f) →
             SameWords (words reached.now)
             (targets (place_of self.now) (is_indirect word) (named_cell word at) f) →
-            AgreeingOutcomes (slots result) (outcomes_of (place_of self.now) f at
+            AgreeingOutcomes (slots result.all) (outcomes_of (place_of self.now) f at
             (reference_at (operation_of word) word at)) }
     {
         let indirect = refers_indirectly(word);
         let named = target(word, at);
         match Operation::of(word) {
-            Operation::And => return one(self.combine(at, seen, reached)),
-            Operation::Tad => return one(self.add(at, seen, reached)),
-            Operation::Isz => return two(self.count(at, seen, reached)),
-            Operation::Dca => return one(deposit(at, seen, reached)),
+            Operation::And => return one(self.combine(at, seen, reached, single, way)),
+            Operation::Tad => return one(self.add(at, seen, reached, single, way)),
+            Operation::Isz => return two(self.count(at, seen, reached, single, way, other)),
+            Operation::Dca => return one(deposit(at, seen, reached, single, way)),
             Operation::Jms => return one(call(seen, reached)),
             Operation::Jmp => return one(self.jump(indirect, named, seen, reached)),
         }
     }
 
     /// The outcomes of a word of group 2. A HLT at a stop has none.
-    fn skip<'a>(&self, at: Word, word: Word, known: &Known<'a>) -> Outcomes<'a>
+    fn skip<'a>(
+        &self,
+        at: Word,
+        word: Word,
+        known: &Known<'a>,
+        room: &'a mut Room,
+    ) -> OutcomeList<'a>
+        requires room { length known.now.equations.now ≤ 32 }
         ensures { (f : said.Fact) → Agree (known_of known.now) f →
-            AgreeingOutcomes (slots result) (outcomes_of (place_of self.now) f at (Group2 word)) }
+            AgreeingOutcomes (slots result.all) (outcomes_of (place_of self.now) f at (Group2 word)) }
     {
         if both(halts(word), self.declaration.is_stop(at)) {
             return nowhere();
         }
-        branches(at, word, known)
+        branches(at, word, known, room)
     }
 
     /// The outcomes of a device word.
-    fn transfer<'a>(&self, at: Word, word: Word, known: &Known<'a>) -> Outcomes<'a>
-        requires { kind_of (meaning_of (place_of self.now).declaration.profile at word) ≡ Iot }
+    fn transfer<'a>(
+        &self,
+        at: Word,
+        word: Word,
+        known: &Known<'a>,
+        room: &'a mut Room,
+    ) -> OutcomeList<'a>
+        requires kind { kind_of (meaning_of (place_of self.now).declaration.profile at word) ≡ Iot }
+        requires room { length known.now.equations.now ≤ 32 }
         ensures { (f : said.Fact) → Agree (known_of known.now) f →
-            AgreeingOutcomes (slots result) (outcomes_at (place_of self.now) f at word) }
+            AgreeingOutcomes (slots result.all) (outcomes_at (place_of self.now) f at word) }
     {
         match DeviceOperation::of(word, self.declaration.profile()) {
-            Some(operation) => two(transfer(at, operation, known)),
+            Some(operation) => two(transfer(at, operation, known, &mut room.one, &mut room.two)),
             None => nowhere(),
         }
     }
 
     /// The outcomes of a word.
-    fn outcomes<'a>(&self, at: Word, word: Word, known: &Known<'a>) -> Outcomes<'a>
+    fn outcomes<'a>(
+        &self,
+        at: Word,
+        word: Word,
+        known: &Known<'a>,
+        room: &'a mut Room,
+    ) -> OutcomeList<'a>
         requires pointer { IsUnchanged known.now.pointer }
         requires target { IsUnchanged known.now.target }
-        requires room { array_vec_len known.now.equations ≤ 32 }
+        requires room { length known.now.equations.now ≤ 32 }
         ensures { (f : said.Fact) → Agree (known_of known.now) f →
-            AgreeingOutcomes (slots result) (outcomes_at (place_of self.now) f at word) }
+            AgreeingOutcomes (slots result.all) (outcomes_at (place_of self.now) f at word) }
     {
         match decode(word, self.declaration.profile()) {
-            Instruction::Memory => return self.refer(at, word, known),
-            Instruction::Operate1 => return one(operate(at, word, known)),
-            Instruction::Operate2 => return self.skip(at, word, known),
-            Instruction::Operate3 => return one(exchange(at, word, known)),
-            Instruction::Iot => return self.transfer(at, word, known),
+            Instruction::Memory => return self.refer(at, word, known, room),
+            Instruction::Operate1 => return one(operate(at, word, known, &mut room.one)),
+            Instruction::Operate2 => return self.skip(at, word, known, room),
+            Instruction::Operate3 => return one(exchange(at, word, known, &mut room.one)),
+            Instruction::Iot => return self.transfer(at, word, known, room),
             Instruction::Unsupported => return nowhere(),
         }
     }
@@ -163,15 +235,17 @@ impl<A: Allocator> Place<'_, A> {
 /// the fact, where its writes are declared and change no entry but for an ISZ of the routine's own
 /// (`step_law` says so). A HLT at a stop has none. They come in the order of the definition, and
 /// those that can't come about are left out: where the word has no meaning there are none.
+/// What is new in them stands in the room that is lent.
 pub fn outcomes<'a, A: Allocator>(
     fact: &'a Fact,
     at: Word,
     word: Word,
     place: &Place<'_, A>,
-) -> Outcomes<'a>
-    ensures { AgreeingOutcomes (slots result)
+    room: &'a mut Room,
+) -> OutcomeList<'a>
+    ensures { AgreeingOutcomes (slots result.all)
         (outcomes_at (place_of place.now) (meaning fact.now) at word) }
 {
     let known = Known::of(fact);
-    place.outcomes(at, word, &known)
+    place.outcomes(at, word, &known, room)
 }

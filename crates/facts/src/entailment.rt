@@ -8,13 +8,16 @@ ghost use Rattle.bin_tape.specs.Image.{HoldsWords};
 ghost use Rattle.peripherals.specs.Loading.{image_of};
 ghost use Rattle.facts.specs.Facts.{narrowed, joined, Entails, EntailsOffsets};
 ghost use Rattle.facts.specs.Starts.{HoldsOfStarts, each_below, has_each, is_always, are_always, holds_before};
-ghost use Rattle.facts.specs.Meaning.{name_of, equation_of, tracked_of, meaning};
+ghost use Rattle.facts.specs.Meaning.{name_of, equation_of, tracked_cells, meaning};
 ghost use Rattle.facts.specs.Places.{main_of};
 ghost use Rattle.facts.specs.Showing.{MayStart, AreCells, allows_all};
 
-use crate::fact::{Fact, TrackedCell};
+use crate::equations::Equations;
+use crate::fact::Fact;
 use crate::known::Known;
 use crate::names::{Equation, Name};
+use crate::tracking::TrackedCells;
+use arrayvec::ArrayVec;
 use bin_tape::Image;
 use declaration::Declaration;
 use std::alloc::Allocator;
@@ -45,7 +48,24 @@ pub fn entails_return(call: &Fact, exit: &Fact, written: &WordSet, after: &Fact)
         (meaning after.now) ×
         EntailsOffsets (meaning call.now) (meaning after.now)) }
 {
-    Known::after_call(call, exit, written).entails(after)
+    let mut list = ArrayVec::new();
+    returned_entails(call, exit, written, &mut list, after)
+}
+
+/// The same, where room for equations is lent for as long as the others.
+fn returned_entails<'a>(
+    call: &'a Fact,
+    exit: &'a Fact,
+    written: &'a WordSet,
+    list: &'a mut Equations,
+    after: &Fact,
+) -> bool
+    ensures { IsTrue result ↔
+        (Entails (joined (meaning call.now) (meaning exit.now) (words written.now))
+        (meaning after.now) ×
+        EntailsOffsets (meaning call.now) (meaning after.now)) }
+{
+    Known::returned(call, exit, written, list).entails(after)
 }
 
 /// Whether a fact holds of every start of a declared tape, with no call open: whatever the
@@ -75,11 +95,11 @@ fn passes(fact: &Fact, image: &Image) -> bool
 }
 
 /// The proof needs each tracked cell to be looked at, since each is a word.
-fn look_at(cells: &[TrackedCell])
-    ensures { AreCells (map tracked_of cells.now) }
+fn look_at(cells: &TrackedCells)
+    ensures { AreCells (tracked_cells cells.now) }
 {
-    for entry in cells {
-        let _index = entry.cell.index();
+    for at in 0..cells.len() {
+        let _cell = cells.address(at);
     }
 }
 
@@ -124,11 +144,12 @@ pub(crate) fn word_of(image: &Image, at: Word) -> Option<Word>
 }
 
 /// Whether each tracked cell may hold what the tape lets it hold.
-fn may_each_start(cells: &[TrackedCell], image: &Image) -> bool
-    ensures { IsTrue result ↔ MayStart (image_of image.now) (map tracked_of cells.now) }
+fn may_each_start(cells: &TrackedCells, image: &Image) -> bool
+    ensures { IsTrue result ↔ MayStart (image_of image.now) (tracked_cells cells.now) }
 {
-    for entry in cells {
-        if !may_start(&entry.set, word_of(image, entry.cell)) {
+    for at in 0..cells.len() {
+        let tracked = cells.get(at);
+        if !may_start(&tracked.set, word_of(image, tracked.cell)) {
             return false;
         }
     }

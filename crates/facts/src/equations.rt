@@ -43,27 +43,14 @@ fn is_beside(written: &WordSet, name: &Name) -> bool
     }
 }
 
-/// The same equations.
-pub(crate) fn copy(equations: &[Equation]) -> Equations
+/// Lists the equations after the word of a name went up by k.
+pub(crate) fn raise(name: &Name, k: Word, equations: &[Equation], list: &mut Equations)
     requires { length equations.now ≤ 64 }
-    ensures list { result.items ≡ equations.now }
-    ensures len { array_vec_len result ≤ length equations.now }
-{
-    let mut list = ArrayVec::new();
-    for e in equations {
-        list.push(*e);
-    }
-    list
-}
-
-/// The equations after the word of a name went up by k.
-pub(crate) fn raised(name: &Name, k: Word, equations: &[Equation]) -> Equations
-    requires { length equations.now ≤ 64 }
-    ensures list { map equation_of result.items ≡
+    ensures list { map equation_of list.new.items ≡
         moved_equations (name_of name.now) k (map equation_of equations.now) }
-    ensures len { array_vec_len result ≤ length equations.now }
+    ensures len { array_vec_len list.new ≤ length equations.now }
 {
-    let mut list = ArrayVec::new();
+    list.clear();
     for e in equations {
         let up = if is_same_name(&e.left, name) {
             e.more.add(k)
@@ -81,64 +68,60 @@ pub(crate) fn raised(name: &Name, k: Word, equations: &[Equation]) -> Equations
             more: up.add(down),
         });
     }
-    list
 }
 
-/// The equations that don't speak of a name.
-pub(crate) fn freed(name: &Name, equations: &[Equation]) -> Equations
+/// Lists the equations that don't speak of a name.
+pub(crate) fn free(name: &Name, equations: &[Equation], list: &mut Equations)
     requires { length equations.now ≤ 64 }
-    ensures list { map equation_of result.items ≡
+    ensures list { map equation_of list.new.items ≡
         free_of (λ m. same m (name_of name.now)) (map equation_of equations.now) }
-    ensures len { array_vec_len result ≤ length equations.now }
+    ensures len { array_vec_len list.new ≤ length equations.now }
 {
-    let mut list = ArrayVec::new();
+    list.clear();
     for e in equations {
         if !is_same_name(&e.left, name) && !is_same_name(&Name::Cell(e.right), name) {
             list.push(*e);
         }
     }
-    list
 }
 
-/// The equations that don't speak of the cells of a set.
-pub(crate) fn freed_of_cells(cells: &WordSet, equations: &[Equation]) -> Equations
+/// Lists the equations that don't speak of the cells of a set.
+pub(crate) fn free_of_cells(cells: &WordSet, equations: &[Equation], list: &mut Equations)
     requires { length equations.now ≤ 64 }
-    ensures list { map equation_of result.items ≡
+    ensures list { map equation_of list.new.items ≡
         free_of (cells_of (words cells.now)) (map equation_of equations.now) }
-    ensures len { array_vec_len result ≤ length equations.now }
+    ensures len { array_vec_len list.new ≤ length equations.now }
 {
-    let mut list = ArrayVec::new();
+    list.clear();
     for e in equations {
         if !is_among(cells, &e.left) && !is_among(cells, &Name::Cell(e.right)) {
             list.push(*e);
         }
     }
-    list
 }
 
-/// The equations between cells outside a set.
-pub(crate) fn outside(written: &WordSet, equations: &[Equation]) -> Equations
+/// Lists the equations between cells outside a set.
+pub(crate) fn keep_outside(written: &WordSet, equations: &[Equation], list: &mut Equations)
     requires { length equations.now ≤ 64 }
-    ensures list { map equation_of result.items ≡
+    ensures list { map equation_of list.new.items ≡
         outside (words written.now) (map equation_of equations.now) }
-    ensures len { array_vec_len result ≤ length equations.now }
+    ensures len { array_vec_len list.new ≤ length equations.now }
 {
-    let mut list = ArrayVec::new();
+    list.clear();
     for e in equations {
         if is_beside(written, &e.left) && is_beside(written, &Name::Cell(e.right)) {
             list.push(*e);
         }
     }
-    list
 }
 
-/// What the equations say of the accumulator, said of the cell y.
-pub(crate) fn copies(y: Word, equations: &[Equation]) -> Equations
+/// Lists what the equations say of the accumulator, said of the cell y.
+pub(crate) fn copy_to(y: Word, equations: &[Equation], list: &mut Equations)
     requires { length equations.now ≤ 64 }
-    ensures list { map equation_of result.items ≡ copied y (map equation_of equations.now) }
-    ensures len { array_vec_len result ≤ length equations.now }
+    ensures list { map equation_of list.new.items ≡ copied y (map equation_of equations.now) }
+    ensures len { array_vec_len list.new ≤ length equations.now }
 {
-    let mut list = ArrayVec::new();
+    list.clear();
     for e in equations {
         if let Name::Accumulator = e.left {
             if e.right != y {
@@ -146,17 +129,14 @@ pub(crate) fn copies(y: Word, equations: &[Equation]) -> Equations
             }
         }
     }
-    list
 }
 
-/// Some equations, then others.
-pub(crate) fn joined(first: Equations, rest: &[Equation]) -> Equations
-    requires { array_vec_len first + length rest.now ≤ 64 }
-    ensures list { result.items ≡ first.items ++ rest.now }
+/// Lists others after those of a list.
+pub(crate) fn add_all(list: &mut Equations, rest: &[Equation])
+    requires { array_vec_len list.old + length rest.now ≤ 64 }
+    ensures { list.new.items ≡ list.old.items ++ rest.now }
 {
-    let mut list = first;
     for e in rest {
         list.push(*e);
     }
-    list
 }

@@ -1,44 +1,21 @@
 //! Facts: what is known of the machine whenever the program counter is at an address.
 
 ghost use Rattle.std.specs.Prelude.{ℕ, ◌≡◌, ◌<◌, ◌≤◌, ◌↔◌, ◌∷◌, [], ◌++◌, length, map, IsTrue, false};
-ghost use Rattle.arrayvec.specs.ArrayVec.{array_vec_len};
-ghost use Rattle.wordset.specs.Words.{SameWords, IsWithin, nothing};
+ghost use Rattle.wordset.specs.Words.{SameWords, between, nothing};
 ghost use Rattle.wordset.specs.Lanes.{words};
 ghost use Rattle.wordset.specs.Links.{links_of};
 ghost use Rattle.facts.specs.Facts.{narrowed};
 ghost use Rattle.facts.specs.Changes.{with_offsets};
-ghost use Rattle.facts.specs.Statements.{unknown, tracked};
+ghost use Rattle.facts.specs.Statements.{unknown};
 ghost use Rattle.facts.specs.Same.{SameFact};
-ghost use Rattle.facts.specs.Meaning.{name_of, equation_of, tracked_of, offsets_of, statement_of, cell_words, meaning};
+ghost use Rattle.facts.specs.Meaning.{name_of, equation_of, tracked_cells, offsets_of, statement_of, cell_words, meaning};
 
 use crate::names::{Equation, Name};
 use crate::offsets::Offsets;
+use crate::tracking::TrackedCells;
 use arrayvec::ArrayVec;
 use word12::Word;
 use wordset::{Links, WordSet};
-
-/// A tracked cell and the words that it may hold.
-///
-/// Contracts see it as `tracked_of` gives it.
-#[derive(Clone, Copy, PartialEq, Eq, Debug)]
-pub struct TrackedCell {
-    /// The cell's address.
-    pub cell: Word,
-    /// The words that it may hold.
-    pub set: WordSet,
-}
-
-impl Default for TrackedCell {
-    // The cell 0000, which may hold no word.
-    ghost is_default = { λ it. tracked_of it ≡ record { address = 0; set = nothing } };
-
-    fn default() -> Self {
-        TrackedCell {
-            cell: Word::ZERO,
-            set: WordSet::empty(),
-        }
-    }
-}
 
 /// What is known of the machine whenever the program counter is at an address: the words that the
 /// accumulator, MQ and at most 64 tracked cells may hold, the links, at most 32 equations, and how
@@ -51,7 +28,7 @@ pub struct Fact {
     ac: WordSet,
     mq: WordSet,
     link: Links,
-    cells: ArrayVec<TrackedCell, 64>,
+    cells: TrackedCells,
     equations: ArrayVec<Equation, 32>,
     offsets: Offsets,
 }
@@ -67,7 +44,7 @@ impl Fact {
             ac: WordSet::all(),
             mq: WordSet::all(),
             link: Links::both(),
-            cells: ArrayVec::new(),
+            cells: TrackedCells::new(),
             equations: ArrayVec::new(),
             offsets: Offsets::none(),
         }
@@ -105,11 +82,10 @@ impl Fact {
     }
 
     /// The tracked cells.
-    pub fn cells(&self) -> &[TrackedCell]
-        ensures cells { map tracked_of result.now ≡ (statement_of self.now).cells }
-        ensures few { length result.now ≤ 64 }
+    pub fn cells(&self) -> &TrackedCells
+        ensures { tracked_cells result.now ≡ (statement_of self.now).cells }
     {
-        self.cells.as_slice()
+        &self.cells
     }
 
     /// The equations.
@@ -141,7 +117,7 @@ impl Fact {
     pub(crate) fn set_of_cell(&self, cell: Word) -> WordSet
         ensures { SameWords (words result) (cell_words self.now cell) }
     {
-        cell_set(&self.cells, cell)
+        self.cells.set_of(cell)
     }
 
     /// Lets the accumulator hold these words.
@@ -151,6 +127,24 @@ impl Fact {
         ensures offsets { offsets_of self.new.offsets ≡ offsets_of self.old.offsets }
     {
         self.ac = set;
+    }
+
+    /// Lets the accumulator hold the words from one up to another.
+    pub fn set_accumulator_row(&mut self, first: Word, last: Word)
+        ensures statement { statement_of self.new ≡
+            record (statement_of self.old) { ac = between first last } }
+        ensures offsets { offsets_of self.new.offsets ≡ offsets_of self.old.offsets }
+    {
+        self.ac = WordSet::range(first, last);
+    }
+
+    /// Lets MQ hold the words from one up to another.
+    pub fn set_mq_row(&mut self, first: Word, last: Word)
+        ensures statement { statement_of self.new ≡
+            record (statement_of self.old) { mq = between first last } }
+        ensures offsets { offsets_of self.new.offsets ≡ offsets_of self.old.offsets }
+    {
+        self.mq = WordSet::range(first, last);
     }
 
     /// Lets MQ hold these words.
@@ -196,7 +190,19 @@ impl Fact {
         } }
         ensures offsets { offsets_of self.new.offsets ≡ offsets_of self.old.offsets }
     {
-        self.cells.push(TrackedCell { cell, set });
+        self.cells.push(cell, set);
+    }
+
+    /// Tracks one more cell, which may hold the words from one up to another.
+    pub fn track_row(&mut self, cell: Word, first: Word, last: Word)
+        requires { length (statement_of self.old).cells < 64 }
+        ensures statement { statement_of self.new ≡ record (statement_of self.old) {
+          cells = (statement_of self.old).cells ++
+              record { address = cell; set = between first last } ∷ [];
+        } }
+        ensures offsets { offsets_of self.new.offsets ≡ offsets_of self.old.offsets }
+    {
+        self.cells.push_row(cell, first, last);
     }
 
     /// Whether there are 32 equations.
@@ -221,30 +227,4 @@ impl Fact {
             more: equation.more,
         });
     }
-}
-
-/// Whether some entry of a cell leaves it no word outside a set.
-pub(crate) fn has_entry_within(cells: &[TrackedCell], cell: Word, set: &WordSet) -> bool
-    ensures { IsTrue result →
-        IsWithin (tracked cell (map tracked_of cells.now)) (words set.now) }
-{
-    for entry in cells {
-        if entry.cell == cell && entry.set.is_subset(set) {
-            return true;
-        }
-    }
-    false
-}
-
-/// The words of a cell: those that all its entries allow, or all words where it has none.
-fn cell_set(cells: &[TrackedCell], cell: Word) -> WordSet
-    ensures { SameWords (words result) (tracked cell (map tracked_of cells.now)) }
-{
-    let mut set = WordSet::all();
-    for entry in cells {
-        if entry.cell == cell {
-            set = set.meet(&entry.set);
-        }
-    }
-    set
 }

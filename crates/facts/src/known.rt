@@ -1,37 +1,40 @@
 //! What is known after a step: a fact, or what a caller and an exit know, and what changed.
 //!
-//! A fact has up to 64 tracked cells of 512 bytes. What is known after a step is seen through the
-//! fact that it came from: at most two cells changed, or one of several unknown ones did.
+//! What is known after a step is seen through the fact that it came from, whose sets it borrows: at
+//! most two cells changed, or one of several unknown ones did. What is new stands in room that the
+//! asker lends.
 
-ghost use Rattle.std.specs.Prelude.{ℕ, ◌≡◌, ◌<◌, ◌≤◌, ◌↔◌, ◌+◌, ◌||◌, length, map, IsTrue};
-ghost use Rattle.arrayvec.specs.ArrayVec.{array_vec_len};
+ghost use Rattle.std.specs.Prelude.{ℕ, false, ◌≡◌, ◌<◌, ◌≤◌, ◌↔◌, ◌+◌, ◌||◌, length, map, IsTrue};
 ghost use Rattle.wordset.specs.Words.{Words, SameWords, IsWithin, one, plus, shifted};
 ghost use Rattle.wordset.specs.Lanes.{words};
 ghost use Rattle.wordset.specs.Links.{links_of};
 ghost use Rattle.facts.specs.Facts.{Ac, Cell, same, narrowed, Among, Knows, KnowsAll, Entails, EntailsOffsets, joined};
 ghost use Rattle.facts.specs.Changes.{moved, assigned, smeared, with_equations, with_name, with_mq, with_link, with_offsets};
+ghost use Rattle.facts.specs.Statements.{cell_at};
 ghost use Rattle.facts.specs.Same.{Agree};
-ghost use Rattle.facts.specs.Meaning.{name_of, equation_of, offsets_of, meaning, cell_words, source_words, changed, known_of, tracked_of, Meets, IsUnchanged};
+ghost use Rattle.facts.specs.Meaning.{name_of, equation_of, tracked_cells, offsets_of, meaning, cell_words, source_words, changed, known_of, Meets, IsUnchanged};
 ghost use Rattle.facts.specs.Showing.{Shows, EachWithin, EntailsRegisters};
 
-use crate::equations::{Equations, copy, freed, freed_of_cells, has_cell, joined, outside, raised};
-use crate::fact::{Fact, TrackedCell, has_entry_within};
+use crate::equations::{Equations, add_all, has_cell, keep_outside};
+use crate::fact::Fact;
 use crate::names::{Equation, Name, is_same_equation, is_same_name, negated};
 use crate::offsets::Offsets;
+use crate::room::Room;
+use crate::tracking::TrackedCells;
 use word12::Word;
 use wordset::{Links, WordSet};
 
 /// What became of the words of cells.
 #[derive(Clone, Copy)]
-pub(crate) enum Change {
+pub(crate) enum Change<'a> {
     /// They are as they were.
     Unchanged,
-    /// The cell has these words now.
-    Replaced(Word, WordSet),
+    /// The cell of this address has these words now.
+    Replaced(usize, &'a WordSet),
     /// One of the cells, unknown which, went up by one.
-    Counted(WordSet),
+    Counted(&'a WordSet),
     /// One of the cells, unknown which, took one of the words.
-    Stored(WordSet, WordSet),
+    Stored(&'a WordSet, &'a WordSet),
 }
 
 /// Where the words of cells come from.
@@ -49,12 +52,12 @@ pub(crate) enum Source<'a> {
 #[derive(Drop)]
 pub struct Known<'a> {
     pub(crate) base: Source<'a>,
-    pub(crate) ac: WordSet,
-    pub(crate) mq: WordSet,
+    pub(crate) ac: &'a WordSet,
+    pub(crate) mq: &'a WordSet,
     pub(crate) link: Links,
-    pub(crate) pointer: Change,
-    pub(crate) target: Change,
-    pub(crate) equations: Equations,
+    pub(crate) pointer: Change<'a>,
+    pub(crate) target: Change<'a>,
+    pub(crate) equations: &'a [Equation],
     pub(crate) offsets: Offsets,
 }
 
@@ -75,13 +78,31 @@ fn source_set(source: &Source<'_>, cell: Word) -> WordSet
     teller(source, cell).set_of_cell(cell)
 }
 
+/// Makes of the words of a cell what a change makes of them.
+fn apply(change: &Change<'_>, cell: Word, set: &mut WordSet)
+    ensures { SameWords (words set.new) (changed change.now cell (words set.old)) }
+{
+    if let Change::Unchanged = change {
+        return;
+    }
+    apply_new(change, cell, set);
+}
+
+/// The same, whatever the change; the room for the words is made here alone.
+#[inline(never)]
+fn apply_new(change: &Change<'_>, cell: Word, set: &mut WordSet)
+    ensures { SameWords (words set.new) (changed change.now cell (words set.old)) }
+{
+    *set = change_set(change, cell, *set);
+}
+
 /// What a change makes of the words of a cell.
-fn change_set(change: &Change, cell: Word, set: WordSet) -> WordSet
+fn change_set(change: &Change<'_>, cell: Word, set: WordSet) -> WordSet
     ensures { SameWords (words result) (changed change.now cell (words set)) }
 {
     match change {
         Change::Unchanged => set,
-        Change::Replaced(at, other) => if cell == *at { *other } else { set },
+        Change::Replaced(at, other) => if cell.index() == *at { **other } else { set },
         Change::Counted(cells) => {
             if has_cell(cells, cell) {
                 let more = set.shift(Word::ZERO.increment());
@@ -100,30 +121,51 @@ fn change_set(change: &Change, cell: Word, set: WordSet) -> WordSet
     }
 }
 
-/// Whether an entry shows that the words of a cell are within a set.
-fn is_source_within(source: &Source<'_>, cell: Word, set: &WordSet) -> bool
-    ensures { IsTrue result → IsWithin (source_words source.now cell) (words set.now) }
+/// Whether an entry shows that the cell at a place of others has no word that it may not hold there.
+fn is_source_within(source: &Source<'_>, cells: &TrackedCells, at: usize) -> bool
+    requires { at < length (tracked_cells cells.now) }
+    ensures { IsTrue result → IsWithin (source_words source.now (cell_at (tracked_cells cells.now) at).address)
+        (cell_at (tracked_cells cells.now) at).set }
 {
-    has_entry_within(teller(source, cell).cells(), cell, set)
+    teller(source, cells.address(at))
+        .cells()
+        .has_within(cells, at)
 }
 
-/// Whether a change is seen to leave a cell no word outside a set, where its words before are known
-/// to be within it or not.
-fn is_change_within(change: &Change, cell: Word, set: &WordSet, before: bool) -> bool
-    ensures { (old : Words) → (IsTrue before → IsWithin old (words set.now)) →
-        IsTrue result → IsWithin (changed change.now cell old) (words set.now) }
+/// Whether a change is seen to leave the cell at a place of others no word that it may not hold
+/// there, where its words before are known to be such words or not.
+fn is_change_within(change: &Change<'_>, cells: &TrackedCells, at: usize, before: bool) -> bool
+    requires { at < length (tracked_cells cells.now) }
+    ensures { (old : Words) → (IsTrue before → IsWithin old (cell_at (tracked_cells cells.now) at).set) →
+        IsTrue result → IsWithin (changed change.now (cell_at (tracked_cells cells.now) at).address old)
+        (cell_at (tracked_cells cells.now) at).set }
 {
+    if let Change::Unchanged = change {
+        return before;
+    }
+    is_new_within(change, cells, at, before)
+}
+
+/// The same, whatever the change.
+#[inline(never)]
+fn is_new_within(change: &Change<'_>, cells: &TrackedCells, at: usize, before: bool) -> bool
+    requires { at < length (tracked_cells cells.now) }
+    ensures { (old : Words) → (IsTrue before → IsWithin old (cell_at (tracked_cells cells.now) at).set) →
+        IsTrue result → IsWithin (changed change.now (cell_at (tracked_cells cells.now) at).address old)
+        (cell_at (tracked_cells cells.now) at).set }
+{
+    let cell = cells.address(at);
     match change {
         Change::Unchanged => before,
-        Change::Replaced(at, other) => {
-            if cell == *at {
-                other.is_subset(set)
+        Change::Replaced(changed, other) => {
+            if cell.index() == *changed {
+                cells.has_all(at, other)
             } else {
                 before
             }
         }
-        Change::Counted(cells) => before && !has_cell(cells, cell),
-        Change::Stored(cells, _) => before && !has_cell(cells, cell),
+        Change::Counted(several) => before && !has_cell(several, cell),
+        Change::Stored(several, _) => before && !has_cell(several, cell),
     }
 }
 
@@ -140,14 +182,14 @@ impl Known<'_> {
     pub fn accumulator(&self) -> &WordSet
         ensures { words result.now ≡ (known_of self.now).set Ac }
     {
-        &self.ac
+        self.ac
     }
 
     /// The words that MQ may hold.
     pub fn mq(&self) -> &WordSet
         ensures { words result.now ≡ (known_of self.now).mq }
     {
-        &self.mq
+        self.mq
     }
 
     /// What the link may be.
@@ -161,7 +203,7 @@ impl Known<'_> {
     pub fn equations(&self) -> &[Equation]
         ensures { map equation_of result.now ≡ (known_of self.now).equations }
     {
-        self.equations.as_slice()
+        self.equations
     }
 
     /// How far the running routine's return word may have been counted up.
@@ -176,34 +218,29 @@ impl Known<'_> {
         ensures { SameWords (words result) ((known_of self.now).set (name_of name.now)) }
     {
         match name {
-            Name::Accumulator => self.ac,
+            Name::Accumulator => *self.ac,
             Name::Cell(cell) => {
-                let old = source_set(&self.base, *cell);
-                let seen = change_set(&self.pointer, *cell, old);
-                change_set(&self.target, *cell, seen)
+                let mut set = source_set(&self.base, *cell);
+                apply(&self.pointer, *cell, &mut set);
+                apply(&self.target, *cell, &mut set);
+                set
             }
         }
     }
 
-    /// The words of a set that an equation leaves to a name.
+    /// Leaves in a set the words that an equation leaves to a name.
     #[tactic(auto, using(crate::proofs::EntailLemmas::back_twice))]
-    fn met(&self, name: &Name, equation: &Equation, set: &WordSet) -> WordSet
+    fn keep_met(&self, name: &Name, equation: &Equation, set: &mut WordSet)
         ensures { Meets (known_of self.now) (name_of name.now) (equation_of equation.now)
-            (words set.now) (words result) }
+            (words set.old) (words set.new) }
     {
-        let left = if is_same_name(&equation.left, name) {
-            self.set(&Name::Cell(equation.right))
-                .shift(equation.more)
-                .meet(set)
-        } else {
-            *set
-        };
+        if is_same_name(&equation.left, name) {
+            let partner = self.set(&Name::Cell(equation.right));
+            set.keep_shifted(&partner, equation.more);
+        }
         if is_same_name(&Name::Cell(equation.right), name) {
-            self.set(&equation.left)
-                .shift(negated(equation.more))
-                .meet(&left)
-        } else {
-            left
+            let partner = self.set(&equation.left);
+            set.keep_shifted(&partner, negated(equation.more));
         }
     }
 
@@ -213,13 +250,36 @@ impl Known<'_> {
     pub fn narrowed(&self, name: &Name) -> WordSet
         ensures { SameWords (words result) (narrowed (known_of self.now) (name_of name.now)) }
     {
+        if !self.speaks_of(name) {
+            return self.set(name);
+        }
+        self.narrowed_by_equations(name)
+    }
+
+    /// Whether an equation speaks of a name; where none does nothing narrows it.
+    pub(crate) fn speaks_of(&self, name: &Name) -> bool
+        ensures { result ≡ false → SameWords ((known_of self.now).set (name_of name.now))
+            (narrowed (known_of self.now) (name_of name.now)) }
+    {
+        for e in self.equations {
+            if speaks_of(e, name) {
+                return true;
+            }
+        }
+        false
+    }
+
+    /// The same, whatever the equations.
+    #[inline(never)]
+    fn narrowed_by_equations(&self, name: &Name) -> WordSet
+        ensures { SameWords (words result) (narrowed (known_of self.now) (name_of name.now)) }
+    {
         let mut set = self.set(name);
-        let equations = self.equations.as_slice();
-        for e in equations {
+        for e in self.equations {
             if !speaks_of(e, name) {
                 continue;
             }
-            set = self.met(name, e, &set);
+            self.keep_met(name, e, &mut set);
         }
         set
     }
@@ -228,8 +288,7 @@ impl Known<'_> {
     fn lists(&self, equation: &Equation) -> bool
         ensures { IsTrue result ↔ Among (equation_of equation.now) (known_of self.now).equations }
     {
-        let equations = self.equations.as_slice();
-        for e in equations {
+        for e in self.equations {
             if is_same_equation(e, equation) {
                 return true;
             }
@@ -275,34 +334,50 @@ impl Known<'_> {
         true
     }
 
-    /// Whether a cell is seen to hold no word outside a set before its set is narrowed.
-    fn is_plainly_within(&self, cell: Word, set: &WordSet) -> bool
+    /// Whether the cell at a place of others is seen to hold no word that it may not hold there,
+    /// before its set is narrowed.
+    fn is_plainly_within(&self, cells: &TrackedCells, at: usize) -> bool
+        requires { at < length (tracked_cells cells.now) }
         ensures { IsTrue result →
-            IsWithin ((known_of self.now).set (Cell cell)) (words set.now) }
+            IsWithin ((known_of self.now).set (Cell (cell_at (tracked_cells cells.now) at).address))
+            (cell_at (tracked_cells cells.now) at).set }
     {
-        let before = is_source_within(&self.base, cell, set);
-        let seen = is_change_within(&self.pointer, cell, set, before);
-        is_change_within(&self.target, cell, set, seen)
+        let before = is_source_within(&self.base, cells, at);
+        let seen = is_change_within(&self.pointer, cells, at, before);
+        is_change_within(&self.target, cells, at, seen)
     }
 
-    /// Whether the equations leave a cell no word outside a set; a set that isn't narrowed is tried
-    /// first.
-    fn is_within(&self, cell: Word, set: &WordSet) -> bool
+    /// Whether the equations leave the cell at a place of others no word that it may not hold there;
+    /// a set that isn't narrowed is tried first.
+    fn is_within(&self, cells: &TrackedCells, at: usize) -> bool
+        requires { at < length (tracked_cells cells.now) }
         ensures { IsTrue result ↔
-            IsWithin (narrowed (known_of self.now) (Cell cell)) (words set.now) }
+            IsWithin (narrowed (known_of self.now) (Cell (cell_at (tracked_cells cells.now) at).address))
+            (cell_at (tracked_cells cells.now) at).set }
     {
-        if self.is_plainly_within(cell, set) {
+        if self.is_plainly_within(cells, at) {
             return true;
         }
-        self.narrowed(&Name::Cell(cell)).is_subset(set)
+        self.is_narrowed_within(cells, at)
+    }
+
+    /// The same, of the narrowed set; the room for it is made here alone.
+    #[inline(never)]
+    fn is_narrowed_within(&self, cells: &TrackedCells, at: usize) -> bool
+        requires { at < length (tracked_cells cells.now) }
+        ensures { IsTrue result ↔
+            IsWithin (narrowed (known_of self.now) (Cell (cell_at (tracked_cells cells.now) at).address))
+            (cell_at (tracked_cells cells.now) at).set }
+    {
+        cells.has_all(at, &self.narrowed(&Name::Cell(cells.address(at))))
     }
 
     /// Whether each of these cells has its narrowed set within what is tracked.
-    fn is_each_within(&self, cells: &[TrackedCell]) -> bool
-        ensures { IsTrue result ↔ EachWithin (known_of self.now) (map tracked_of cells.now) }
+    fn is_each_within(&self, cells: &TrackedCells) -> bool
+        ensures { IsTrue result ↔ EachWithin (known_of self.now) (tracked_cells cells.now) }
     {
-        for t in cells {
-            if !self.is_within(t.cell, &t.set) {
+        for at in 0..cells.len() {
+            if !self.is_within(cells, at) {
                 return false;
             }
         }
@@ -352,16 +427,16 @@ impl<'a> Known<'a> {
         ensures same { Agree (known_of result) (meaning fact.now) }
         ensures pointer { IsUnchanged result.pointer }
         ensures target { IsUnchanged result.target }
-        ensures len { array_vec_len result.equations ≤ 32 }
+        ensures len { length result.equations.now ≤ 32 }
     {
         Known {
             base: Source::One(fact),
-            ac: *fact.accumulator(),
-            mq: *fact.mq(),
+            ac: fact.accumulator(),
+            mq: fact.mq(),
             link: fact.link(),
             pointer: Change::Unchanged,
             target: Change::Unchanged,
-            equations: copy(fact.equations()),
+            equations: fact.equations(),
             offsets: fact.offsets(),
         }
     }
@@ -378,18 +453,38 @@ impl<'a> Known<'a> {
 
     /// What is known after a call: of the cells that the routine writes what its exit says, and of
     /// the others what the caller knew.
-    pub fn after_call(call: &'a Fact, exit: &'a Fact, written: &'a WordSet) -> Known<'a>
+    pub fn after_call(
+        call: &'a Fact,
+        exit: &'a Fact,
+        written: &'a WordSet,
+        room: &'a mut Room,
+    ) -> Known<'a>
         ensures { Agree (known_of result) (joined (meaning call.now) (meaning exit.now)
             (words written.now)) }
     {
+        Known::returned(call, exit, written, &mut room.pointer.list)
+    }
+
+    /// The same, where room for the equations alone is lent.
+    pub(crate) fn returned(
+        call: &'a Fact,
+        exit: &'a Fact,
+        written: &'a WordSet,
+        list: &'a mut Equations,
+    ) -> Known<'a>
+        ensures { Agree (known_of result) (joined (meaning call.now) (meaning exit.now)
+            (words written.now)) }
+    {
+        keep_outside(written, call.equations(), list);
+        add_all(list, exit.equations());
         Known {
             base: Source::Joined(call, exit, written),
-            ac: *exit.accumulator(),
-            mq: *exit.mq(),
+            ac: exit.accumulator(),
+            mq: exit.mq(),
             link: exit.link(),
             pointer: Change::Unchanged,
             target: Change::Unchanged,
-            equations: joined(outside(written, call.equations()), exit.equations()),
+            equations: list.as_slice(),
             offsets: call.offsets(),
         }
     }

@@ -20,20 +20,22 @@ mod outcome;
 mod place;
 mod references;
 mod registers;
-mod single;
+mod room;
 mod skipping;
+mod tracking;
 
 pub use asked::post;
 pub use conditions::{reads, writes};
-pub use dispatch::{Outcomes, outcomes};
+pub use dispatch::{OutcomeList, outcomes};
 pub use entailment::{entails, entails_return, holds_before, is_always, narrowed};
-pub use fact::{Fact, TrackedCell};
+pub use fact::Fact;
 pub use known::Known;
 pub use names::{Equation, Name};
 pub use offsets::Offsets;
 pub use outcome::Outcome;
 pub use place::{Place, Running};
-pub use single::single_outcome;
+pub use room::Room;
+pub use tracking::{TrackedCell, TrackedCells};
 
 /// The conditions that a certificate must meet.
 #[derive(Clone, Copy, PartialEq, Eq, Debug)]

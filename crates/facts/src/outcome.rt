@@ -12,6 +12,7 @@ ghost use Rattle.facts.specs.Slots.{slot};
 
 use crate::known::Known;
 use crate::names::Name;
+use crate::room::put;
 use word12::Word;
 use wordset::{Links, WordSet};
 
@@ -21,9 +22,9 @@ use wordset::{Links, WordSet};
 #[derive(Drop)]
 pub enum Outcome<'a> {
     /// The run goes on at one of these addresses.
-    Goes(WordSet, Known<'a>),
+    Goes(&'a WordSet, Known<'a>),
     /// One of these entries is called.
-    Calls(WordSet, Known<'a>),
+    Calls(&'a WordSet, Known<'a>),
     /// The running routine returns.
     Returns(Known<'a>),
 }
@@ -46,6 +47,17 @@ fn has_link(links: Links) -> bool
 fn has_accumulator(known: &Known<'_>) -> bool
     ensures { result ≡ has_some (narrowed (known_of known.now) Ac) }
 {
+    if !known.speaks_of(&Name::Accumulator) {
+        return has_word(known.ac);
+    }
+    has_narrowed_accumulator(known)
+}
+
+/// The same, where equations may speak of it; the room for the narrowed set is made here alone.
+#[inline(never)]
+fn has_narrowed_accumulator(known: &Known<'_>) -> bool
+    ensures { result ≡ has_some (narrowed (known_of known.now) Ac) }
+{
     has_word(&known.narrowed(&Name::Accumulator))
 }
 
@@ -65,8 +77,8 @@ fn is_alive(targets: &WordSet, before: &Known<'_>, changed: &WordSet, after: &Kn
 {
     let targeted = has_word(targets);
     let held = has_accumulator(before);
-    let left = has_word(&after.ac);
-    let moved = has_word(&after.mq);
+    let left = has_word(after.ac);
+    let moved = has_word(after.mq);
     let linked = has_link(after.link);
     let written = has_word(changed);
     are_all(targeted, held, left, moved, linked, written)
@@ -77,7 +89,7 @@ pub(crate) fn going<'a>(
     targets: &WordSet,
     before: &Known<'_>,
     changed: &WordSet,
-    next: &WordSet,
+    next: &'a WordSet,
     after: Known<'a>,
 ) -> Option<Outcome<'a>>
     ensures { (p changes nexts : Words) (f h : Fact) → SameWords (words targets.now) p →
@@ -89,7 +101,7 @@ pub(crate) fn going<'a>(
     if !is_alive(targets, before, changed, &after) {
         return None;
     }
-    Some(Outcome::Goes(*next, after))
+    Some(Outcome::Goes(next, after))
 }
 
 /// The outcome that goes on at some addresses, where it is chosen and can come about.
@@ -98,7 +110,7 @@ pub(crate) fn going_if<'a>(
     targets: &WordSet,
     before: &Known<'_>,
     changed: &WordSet,
-    next: &WordSet,
+    next: &'a WordSet,
     after: Known<'a>,
 ) -> Option<Outcome<'a>>
     ensures { (p changes nexts : Words) (f h : Fact) → SameWords (words targets.now) p →
@@ -115,7 +127,7 @@ pub(crate) fn going_if<'a>(
 
 /// The outcome that calls the targets, where it can come about.
 pub(crate) fn calling<'a>(
-    targets: &WordSet,
+    targets: &'a WordSet,
     before: &Known<'_>,
     after: Known<'a>,
 ) -> Option<Outcome<'a>>
@@ -124,7 +136,7 @@ pub(crate) fn calling<'a>(
         AgreeingOutcomes (slot result) (given (alive p f everything h) (CallsTo p h)) }
 {
     if is_alive(targets, before, &WordSet::all(), &after) {
-        Some(Outcome::Calls(*targets, after))
+        Some(Outcome::Calls(targets, after))
     } else {
         None
     }
@@ -147,16 +159,16 @@ pub(crate) fn returning<'a>(
     }
 }
 
-/// The address so many words after another.
-pub(crate) fn address_after(at: Word) -> WordSet
-    ensures { SameWords (words result) (one (plus at 1)) }
+/// The address after another, in its place.
+pub(crate) fn address_after(at: Word, place: &mut WordSet) -> &WordSet
+    ensures { SameWords (words result.now) (one (plus at 1)) }
 {
-    WordSet::one(at.increment())
+    put(place, WordSet::one(at.increment()))
 }
 
-/// The address that a skip goes to.
-pub(crate) fn address_skipped_to(at: Word) -> WordSet
-    ensures { SameWords (words result) (one (plus at 2)) }
+/// The address that a skip goes to, in its place.
+pub(crate) fn address_skipped_to(at: Word, place: &mut WordSet) -> &WordSet
+    ensures { SameWords (words result.now) (one (plus at 2)) }
 {
-    WordSet::one(at.increment().increment())
+    put(place, WordSet::one(at.increment().increment()))
 }

@@ -1,7 +1,7 @@
 //! Where a fact stands: the tape, the declaration and the running routine.
 
 ghost use Rattle.std.specs.Prelude.{ℕ, ◌≡◌, ◌||◌, ◌&&◌};
-ghost use Rattle.wordset.specs.Words.{SameWords};
+ghost use Rattle.wordset.specs.Words.{SameWords, only};
 ghost use Rattle.wordset.specs.Lanes.{words};
 ghost use Rattle.facts.specs.Facts.{is_routine, own_words, words_in, tape_word};
 ghost use Rattle.facts.specs.Outcomes.{words_at};
@@ -115,9 +115,26 @@ impl<A: Allocator> Place<'_, A> {
         tape_words(word_of(self.image, cell))
     }
 
+    /// The words that some cells may hold, of which the one is given that has no other beside it.
+    pub(crate) fn words_at(
+        &self,
+        known: &Known<'_>,
+        cells: &WordSet,
+        single: &Option<Word>,
+    ) -> WordSet
+        requires { single.now ≡ only (words cells.now) }
+        ensures { SameWords (words result)
+            (words_at (place_of self.now) (known_of known.now) (words cells.now)) }
+    {
+        match single {
+            Some(cell) => self.words_in(known, *cell),
+            None => self.words_at_each(known, cells),
+        }
+    }
+
     /// The words that some cells may hold.
     #[inline(never)]
-    pub(crate) fn words_at(&self, known: &Known<'_>, cells: &WordSet) -> WordSet
+    fn words_at_each(&self, known: &Known<'_>, cells: &WordSet) -> WordSet
         ensures { SameWords (words result)
             (words_at (place_of self.now) (known_of known.now) (words cells.now)) }
     {

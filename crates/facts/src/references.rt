@@ -1,7 +1,6 @@
 //! The outcomes of the words that refer to memory.
 
-ghost use Rattle.std.specs.Prelude.{ℕ, ◌≡◌, ◌≤◌, ◌++◌, ◌||◌, ◌&&◌, true, false, Some, None};
-ghost use Rattle.arrayvec.specs.ArrayVec.{array_vec_len};
+ghost use Rattle.std.specs.Prelude.{ℕ, ◌≡◌, ◌≤◌, ◌++◌, ◌||◌, ◌&&◌, true, false, length, Some, None};
 ghost use Rattle.wordset.specs.Words.{Words, SameWords, everything, only, sums, some_below, has_some, without};
 ghost use Rattle.wordset.specs.Lanes.{words};
 ghost use Rattle.processor.specs.Machine.{steps_pointer};
@@ -19,6 +18,7 @@ use crate::outcome::{
     Outcome, address_after, address_skipped_to, calling, going, going_if, returning,
 };
 use crate::place::Place;
+use crate::room::{Step, Way};
 use processor::is_auto_index;
 use std::alloc::Allocator;
 use word12::Word;
@@ -34,23 +34,37 @@ pub(crate) fn steps_pointer(indirect: bool, named: Word) -> bool
 /// DCA: the one target takes the accumulator's words and equations, or an unknown one of several
 /// its words; then the accumulator is 0.
 #[inline(never)]
-pub(crate) fn deposit<'a>(at: Word, known: &Known<'a>, targets: &WordSet) -> Option<Outcome<'a>>
+pub(crate) fn deposit<'a>(
+    at: Word,
+    known: &Known<'a>,
+    targets: &WordSet,
+    single: &Option<Word>,
+    way: &'a mut Way,
+) -> Option<Outcome<'a>>
+    requires single { single.now ≡ only (words targets.now) }
     requires target { IsUnchanged known.now.target }
-    requires room { array_vec_len known.now.equations ≤ 32 }
+    requires room { length known.now.equations.now ≤ 32 }
     ensures { (place : said.Place) (f : said.Fact) (p : Words) → Agree (known_of known.now) f →
         SameWords (words targets.now) p →
         AgreeingOutcomes (slot result) (dca_case place at f p (only p)) }
 {
     let ac = known.narrowed(&Name::Accumulator);
-    let next = address_after(at);
-    match targets.only() {
+    match single {
         Some(cell) => {
-            let after = known.deposited(cell, ac);
-            going(targets, known, &ac, &next, after)
+            let after = known.deposited(*cell, ac, &mut way.first, &mut way.second, &mut way.third);
+            going(targets, known, &ac, address_after(at, &mut way.next), after)
         }
         None => {
-            let after = known.stored(targets, ac).with_ac(WordSet::one(Word::ZERO));
-            going(targets, known, &WordSet::all(), &next, after)
+            let after = known
+                .stored(targets, ac, &mut way.first, &mut way.third)
+                .with_ac(WordSet::one(Word::ZERO), &mut way.second);
+            going(
+                targets,
+                known,
+                &WordSet::all(),
+                address_after(at, &mut way.next),
+                after,
+            )
         }
     }
 }
@@ -62,8 +76,11 @@ pub(crate) fn count_one<'a>(
     known: &Known<'a>,
     targets: &WordSet,
     cell: Word,
+    way: &'a mut Way,
+    other: &'a mut Way,
 ) -> (Option<Outcome<'a>>, Option<Outcome<'a>>)
-    requires { IsUnchanged known.now.target }
+    requires target { IsUnchanged known.now.target }
+    requires room { length known.now.equations.now ≤ 32 }
     ensures { (place : said.Place) (f : said.Fact) (p : Words) → place.declaration.variable cell ≡
         true →
         Agree (known_of known.now) f → SameWords (words targets.now) p →
@@ -78,15 +95,15 @@ pub(crate) fn count_one<'a>(
         targets,
         known,
         &zero,
-        &address_skipped_to(at),
-        known.counted_to(cell, zero),
+        address_skipped_to(at, &mut way.next),
+        known.counted_to(cell, zero, &mut way.first),
     );
     let goes_on = going(
         targets,
         known,
         &more,
-        &address_after(at),
-        known.counted_to(cell, more),
+        address_after(at, &mut other.next),
+        known.counted_to(cell, more, &mut other.first),
     );
     (skips, goes_on)
 }
@@ -98,6 +115,7 @@ pub(crate) fn count_own<'a>(
     known: &Known<'a>,
     targets: &WordSet,
     cell: Word,
+    next: &'a mut WordSet,
 ) -> Option<Outcome<'a>>
     ensures { (place : said.Place) (f : said.Fact) (p : Words) → place.declaration.variable cell ≡
         false →
@@ -108,7 +126,7 @@ pub(crate) fn count_own<'a>(
         targets,
         known,
         &WordSet::all(),
-        &address_after(at),
+        address_after(at, next),
         known.returning_later(),
     )
 }
@@ -173,8 +191,11 @@ pub(crate) fn count_several<'a>(
     at: Word,
     known: &Known<'a>,
     targets: &WordSet,
+    way: &'a mut Way,
+    other: &'a mut Way,
 ) -> (Option<Outcome<'a>>, Option<Outcome<'a>>)
-    requires { IsUnchanged known.now.target }
+    requires target { IsUnchanged known.now.target }
+    requires room { length known.now.equations.now ≤ 32 }
     ensures { (place : said.Place) (f : said.Fact) (p : Words) → Agree (known_of known.now) f →
         SameWords (words targets.now) p →
         AgreeingOutcomes (slot result.0 ++ slot result.1) (isz_case place at f p None) }
@@ -187,36 +208,42 @@ pub(crate) fn count_several<'a>(
         targets,
         known,
         &all,
-        &address_skipped_to(at),
-        known.counted(targets),
+        address_skipped_to(at, &mut way.next),
+        known.counted(targets, &mut way.first),
     );
     let goes_on = going_if(
         stays,
         targets,
         known,
         &all,
-        &address_after(at),
-        known.counted(targets),
+        address_after(at, &mut other.next),
+        known.counted(targets, &mut other.first),
     );
     (skips, goes_on)
 }
 
 /// What is known after a sum: with one word added the accumulator's equations move by it, and
 /// otherwise they are dropped.
-fn after_sum<'a>(known: &Known<'a>, added: &Option<Word>, set: WordSet) -> Known<'a>
+fn after_sum<'a>(
+    known: &Known<'a>,
+    added: &Option<Word>,
+    set: WordSet,
+    step: &'a mut Step,
+) -> Known<'a>
+    requires room { length known.now.equations.now ≤ 32 }
     ensures { (f : said.Fact) (v : Words) → Agree (known_of known.now) f →
         SameWords (words set) (sums (narrowed f Ac) v) →
         Agree (known_of result) (tad_word f v added.now) }
 {
     match added {
-        Some(word) => return known.raised_to(*word, set),
-        None => return known.with_ac(set),
+        Some(word) => return known.raised_to(*word, set, step),
+        None => return known.with_ac(set, step),
     }
 }
 
 /// JMS calls each target.
 #[inline(never)]
-pub(crate) fn call<'a>(known: &Known<'a>, targets: &WordSet) -> Option<Outcome<'a>>
+pub(crate) fn call<'a>(known: &Known<'a>, targets: &'a WordSet) -> Option<Outcome<'a>>
     ensures { (f : said.Fact) (p : Words) → Agree (known_of known.now) f →
         SameWords (words targets.now) p →
         AgreeingOutcomes (slot result) (given (alive p f everything f) (CallsTo p f)) }
@@ -235,7 +262,8 @@ impl<A: Allocator> Place<'_, A> {
             SameWords (words result) (targets (place_of self.now) indirect named f) }
     {
         if steps_pointer(indirect, named) {
-            return known.stepped(named).set(&Name::Cell(named));
+            let one = Word::ZERO.increment();
+            return known.narrowed(&Name::Cell(named)).shift(one);
         }
         if indirect {
             return self.words_in(known, named);
@@ -250,15 +278,25 @@ impl<A: Allocator> Place<'_, A> {
         at: Word,
         known: &Known<'a>,
         targets: &WordSet,
+        single: &Option<Word>,
+        way: &'a mut Way,
     ) -> Option<Outcome<'a>>
+        requires single { single.now ≡ only (words targets.now) }
+        requires room { length known.now.equations.now ≤ 32 }
         ensures { (f : said.Fact) (p : Words) → Agree (known_of known.now) f →
             SameWords (words targets.now) p →
             AgreeingOutcomes (slot result) (anded (place_of self.now) at f p) }
     {
         let ac = known.narrowed(&Name::Accumulator);
-        let seen = self.words_at(known, targets);
-        let after = known.with_ac(ac.ands(&seen));
-        going(targets, known, &WordSet::all(), &address_after(at), after)
+        let seen = self.words_at(known, targets, single);
+        let after = known.with_ac(ac.ands(&seen), &mut way.first);
+        going(
+            targets,
+            known,
+            &WordSet::all(),
+            address_after(at, &mut way.next),
+            after,
+        )
     }
 
     /// What is known of the accumulator after TAD: of one variable to one word it is their sum.
@@ -270,8 +308,10 @@ impl<A: Allocator> Place<'_, A> {
         ac: &Option<Word>,
         added: &Option<Word>,
         set: WordSet,
+        first: &'a mut Step,
+        second: &'a mut Step,
     ) -> Known<'a>
-        requires { array_vec_len known.now.equations ≤ 32 }
+        requires room { length known.now.equations.now ≤ 32 }
         ensures { (f : said.Fact) (v : Words) → Agree (known_of known.now) f →
             SameWords (words set) (sums (narrowed f Ac) v) →
             Agree (known_of result) (tad_case (place_of self.now) f v target.now ac.now added.now) }
@@ -279,11 +319,11 @@ impl<A: Allocator> Place<'_, A> {
         if let Some(cell) = target {
             if let Some(word) = ac {
                 if self.declaration.is_variable(*cell) {
-                    return known.summed(*cell, *word, set);
+                    return known.summed(*cell, *word, set, first, &mut second.list);
                 }
             }
         }
-        after_sum(known, added, set)
+        after_sum(known, added, set, first)
     }
 
     /// TAD: all sums, and the link complemented by the carries that occur.
@@ -293,19 +333,36 @@ impl<A: Allocator> Place<'_, A> {
         at: Word,
         known: &Known<'a>,
         targets: &WordSet,
+        single: &Option<Word>,
+        way: &'a mut Way,
     ) -> Option<Outcome<'a>>
-        requires { array_vec_len known.now.equations ≤ 32 }
+        requires single { single.now ≡ only (words targets.now) }
+        requires room { length known.now.equations.now ≤ 32 }
         ensures { (f : said.Fact) (p : Words) → Agree (known_of known.now) f →
             SameWords (words targets.now) p →
             AgreeingOutcomes (slot result) (tad (place_of self.now) at f p) }
     {
         let ac = known.narrowed(&Name::Accumulator);
-        let seen = self.words_at(known, targets);
+        let seen = self.words_at(known, targets, single);
         let (sums, carries) = ac.sums(&seen);
         let links = known.link.toggled(carries);
-        let mut sum = self.after_tad(known, &targets.only(), &ac.only(), &seen.only(), sums);
+        let mut sum = self.after_tad(
+            known,
+            single,
+            &ac.only(),
+            &seen.only(),
+            sums,
+            &mut way.first,
+            &mut way.second,
+        );
         sum.set_link(links);
-        going(targets, known, &WordSet::all(), &address_after(at), sum)
+        going(
+            targets,
+            known,
+            &WordSet::all(),
+            address_after(at, &mut way.next),
+            sum,
+        )
     }
 
     /// JMP goes to each target; JMP I through the running routine's own entry returns.
@@ -315,7 +372,7 @@ impl<A: Allocator> Place<'_, A> {
         indirect: bool,
         named: Word,
         known: &Known<'a>,
-        targets: &WordSet,
+        targets: &'a WordSet,
     ) -> Option<Outcome<'a>>
         ensures { (f : said.Fact) (p : Words) → Agree (known_of known.now) f →
             SameWords (words targets.now) p →
@@ -333,20 +390,25 @@ impl<A: Allocator> Place<'_, A> {
         at: Word,
         known: &Known<'a>,
         targets: &WordSet,
+        single: &Option<Word>,
+        way: &'a mut Way,
+        other: &'a mut Way,
     ) -> (Option<Outcome<'a>>, Option<Outcome<'a>>)
-        requires { IsUnchanged known.now.target }
+        requires single { single.now ≡ only (words targets.now) }
+        requires target { IsUnchanged known.now.target }
+        requires room { length known.now.equations.now ≤ 32 }
         ensures { (f : said.Fact) (p : Words) → Agree (known_of known.now) f →
             SameWords (words targets.now) p →
             AgreeingOutcomes (slot result.0 ++ slot result.1)
             (isz_case (place_of self.now) at f p (only p)) }
     {
-        match targets.only() {
-            None => count_several(at, known, targets),
+        match single {
+            None => count_several(at, known, targets, way, other),
             Some(cell) => {
-                if self.declaration.is_variable(cell) {
-                    return count_one(at, known, targets, cell);
+                if self.declaration.is_variable(*cell) {
+                    return count_one(at, known, targets, *cell, way, other);
                 }
-                (count_own(at, known, targets, cell), None)
+                (count_own(at, known, targets, *cell, &mut way.next), None)
             }
         }
     }

@@ -1,6 +1,6 @@
 //! The outcomes of the words of group 2, which skip by the accumulator and the link.
 
-ghost use Rattle.std.specs.Prelude.{ℕ, ◌≡◌, ◌<◌, ◌==◌, ◌&&◌, not, true, if◌then◌else◌};
+ghost use Rattle.std.specs.Prelude.{ℕ, ◌≡◌, ◌<◌, ◌≤◌, length, ◌==◌, ◌&&◌, not, true, if◌then◌else◌};
 ghost use Rattle.wordset.specs.Words.{Words, SameWords, one};
 ghost use Rattle.wordset.specs.Lanes.{words};
 ghost use Rattle.instruct.specs.Bits.{has_bit};
@@ -16,6 +16,7 @@ use crate::known::Known;
 use crate::names::Name;
 use crate::outcome::{Outcome, address_after, address_skipped_to, going_if, has_word};
 use crate::place::union_if;
+use crate::room::{Step, Way};
 use word12::{Link, Word};
 use wordset::{Links, WordSet};
 
@@ -103,29 +104,30 @@ fn kept(word: Word, part: WordSet) -> WordSet
 }
 
 /// What is known after the test: CLA, then OSR, by which any bits may come in.
-fn after_test<'a>(word: Word, known: &Known<'a>, part: WordSet) -> Known<'a>
+fn after_test<'a>(word: Word, known: &Known<'a>, part: WordSet, step: &'a mut Step) -> Known<'a>
+    requires room { length known.now.equations.now ≤ 32 }
     ensures { (f : said.Fact) (p : Words) → Agree (known_of known.now) f →
         SameWords (words part) p →
         Agree (known_of result) (related2 word p f) }
 {
     if reads_switches(word) {
         let left = kept(word, part);
-        return known.with_ac(left.or_any(Word::from_index(0o7777)));
+        return known.with_ac(left.or_any(Word::from_index(0o7777)), step);
     }
     if clears(word) {
-        return known.with_ac(WordSet::one(Word::ZERO));
+        return known.with_ac(WordSet::one(Word::ZERO), step);
     }
-    known.same().holding(part)
+    known.same().holding(part, step)
 }
 
 /// The next address, or the one after it.
-fn next_address(at: Word, skip: bool) -> WordSet
-    ensures { SameWords (words result) (one (next_pc at skip)) }
+fn next_address(at: Word, skip: bool, place: &mut WordSet) -> &WordSet
+    ensures { SameWords (words result.now) (one (next_pc at skip)) }
 {
     if skip {
-        return address_skipped_to(at);
+        return address_skipped_to(at, place);
     }
-    address_after(at)
+    address_after(at, place)
 }
 
 /// Whether both are true.
@@ -142,8 +144,10 @@ pub(crate) fn branch<'a>(
     known: &Known<'a>,
     link: Link,
     skip: bool,
+    way: &'a mut Way,
 ) -> Option<Outcome<'a>>
-    requires { link < 2 }
+    requires link { link < 2 }
+    requires room { length known.now.equations.now ≤ 32 }
     ensures { (f : said.Fact) → Agree (known_of known.now) f →
         AgreeingOutcomes (slot result) (operated2 at word f link skip) }
 {
@@ -157,7 +161,7 @@ pub(crate) fn branch<'a>(
         &all,
         known,
         &all,
-        &next_address(at, skip),
-        after_test(word, known, part).with_link(Links::one(link)),
+        next_address(at, skip, &mut way.next),
+        after_test(word, known, part, &mut way.first).with_link(Links::one(link)),
     )
 }

@@ -8,7 +8,11 @@ use Rattle.facts.specs.Starts.{HoldsOfStarts}
 use Rattle.facts.specs.declared.Condition.{Condition}
 use Rattle.declaration.specs.Declaration.{Routine}
 use Rattle.judge.specs.Conditions.{Case, fact_at, place_in, StartsWell, LinesArePlaced, IsPlaced, IsLine}
-use Rattle.judge.specs.Asked.{RoutinesArePlaced, HoldsBetween, FailsFirst, FailsAtLine}
+use Rattle.certificate.specs.Certificate.{Certificate, sites_of, writes_of}
+use Rattle.judge.specs.declared.lines.Body.{Body}
+use Rattle.judge.specs.declared.lines.Body.TheVariants.{Main, Of}
+use Rattle.judge.specs.Pages.{Tells}
+use Rattle.judge.specs.Asked.{RoutinesArePlaced, HoldsBetween, FailsFirst, FailsAtLine, IsBody, routine_with, sites_with, writes_with}
 use Rattle.judge.proofs.OrderLemmas.{after_lines}
 
 -- the start
@@ -77,3 +81,32 @@ with_lines {T} i j b a (Err v) e q two there h =
       line = fact_line j a there;
       first = record { past = omega (arith, f.past); fails = f.fails; before = after_lines j _ a two f.before };
     }
+
+-- the body that stands there
+pub listed_there : (c : Certificate) (b : Body) (e : ℕ) → Tells c b → routine_with b ≡ Some e → c.listed e ≡ true
+listed_there c Main e t q = absurd (let z : None ≡ Some e = q in cc)
+listed_there c (Of o r) e t q = let z : o ≡ e = cc in subst (λ k. c.listed k ≡ true) z t.0
+
+sites_there : (c : Certificate) (b : Body) → Tells c b → sites_with b ≡ sites_of c (routine_with b)
+sites_there c Main t = refl
+sites_there c (Of o r) t = t.1
+
+writes_there : (c : Certificate) (b : Body) → Tells c b → writes_with b ≡ writes_of c (routine_with b)
+writes_there c Main t = refl
+writes_there c (Of o r) t = t.2
+
+pub is_body : (j : Case) (a : ℕ) (b : Body) (r : Routine) → Tells j.certificate b → routine_with b ≡ r → j.declaration.body r a ≡ true → IsPlaced j a → IsBody j a b
+is_body j a b r t q body placed = record {
+  placed = placed;
+  body = subst (λ k. j.declaration.body k a ≡ true) (sym q) body;
+  sites = sites_there j.certificate b t;
+  writes = writes_there j.certificate b t;
+}
+
+pub not_true : (b : Bool) → not b ≡ true → b ≡ false
+not_true false q = refl
+not_true true q = absurd (true_false (sym q))
+
+pub not_false : (b : Bool) → not b ≡ false → b ≡ true
+not_false true q = refl
+not_false false q = absurd (true_false q)

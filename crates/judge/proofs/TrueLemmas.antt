@@ -1,5 +1,5 @@
 -- The facts of a valid certificate hold wherever a declared run may go on.
-use Rattle.std.proofs.Common.{◌≡◌, ℕ, ◌<◌, Some, None, Option, List, [], ◌∷◌, sym, subst}
+use Rattle.std.proofs.Common.{◌≡◌, ℕ, ◌<◌, Some, List, [], ◌∷◌, sym, subst}
 use Rattle.processor.specs.Cells.{Cells}
 use Rattle.processor.specs.Machine.{State, Answer}
 use Rattle.processor.specs.Runs.{IsStart}

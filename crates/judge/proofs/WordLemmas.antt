@@ -3,12 +3,16 @@ use Rattle.std.proofs.Common.{◌≡◌, ℕ, ◌<◌, ◌≤◌, Bool, true, re
 use Rattle.std.specs.Prelude.{IsTrue, ◌↔◌}
 use Rattle.std.proofs.Math.Dec.{leb}
 use Rattle.std.proofs.lemmas.Bool.{leb-true, le-leb}
-use Rattle.wordset.specs.Words.{Words, SameWords, how_many}
+use Rattle.std.specs.Prelude.{◌==◌, Option, Some, None, IfSome}
+use Rattle.std.proofs.lemmas.Bool.{eq-eqb, eqb-true, ne_eqb, cases_eq}
+use Rattle.std.proofs.Common.{false, inl, inr}
+use Rattle.wordset.specs.Words.{Words, SameWords, how_many, one}
+use Rattle.instruct.specs.Instructions.{meaning_of}
 use Rattle.declaration.specs.Declaration.{Routine, IsDeclared}
-use Rattle.facts.specs.Facts.{possible}
+use Rattle.facts.specs.Facts.{Fact, Place, possible}
 use Rattle.facts.specs.declared.Condition.{Condition}
 use Rattle.facts.specs.declared.Condition.TheVariants.{V1, V2, V3}
-use Rattle.judge.specs.Conditions.{Case, HoldsAt, HoldsForEach, HasFewWords, IsIn, fact_at, place_in, place_among}
+use Rattle.judge.specs.Conditions.{Case, HoldsAt, HoldsFor, HoldsForEach, HasFewWords, IsIn, fact_at, place_in, place_among}
 use Rattle.judge.specs.Asked.{asks_few}
 
 -- a fact stands in one body alone
@@ -54,3 +58,39 @@ holds_each j _ a le h = h
 
 pub holds_iff : (j : Case) (v : Condition) (a : ℕ) (b : Bool) → 2 ≤ place_among v → (asks_few v ≡ true → HasFewWords j a) → (IsTrue b ↔ HoldsForEach j v a) → IsTrue b ↔ HoldsAt j v a
 holds_iff j v a b le few h = (λ t. holds_from j v a le few (h.0 t), λ holds. h.1 (holds_each j v a le holds))
+
+-- the tape's word, where it's no variable
+pub only_there : (pl : Place) (f : Fact) (a : ℕ) (o : Option ℕ) → pl.declaration.variable a ≡ false → o ≡ pl.image a → IfSome o (λ w. SameWords (possible pl f a) (one w))
+unfolding possible
+only_there pl f a None v e = tt
+only_there pl f a (Some w) v e = λ x lt. rw (v, ← e) refl
+
+-- one word alone is one word
+count_none : (n w : ℕ) → n ≤ w → how_many n (one w) ≡ 0
+unfolding how_many
+count_none zero w le = refl
+count_none (suc n) w le =
+    let other : (n == w) ≡ false = ne_eqb n w (λ q. omega arith) in
+    let rest : how_many n (one w) ≡ 0 = count_none n w (omega arith) in rw (other, rest) refl
+
+count_one : (n w : ℕ) → w < n → how_many n (one w) ≡ 1
+unfolding how_many
+count_one zero w lt = absurd (omega arith)
+count_one (suc n) w lt = elim (cases_eq n w) [
+  | inl e ↦ (let here : (n == w) ≡ true = eq-eqb n w e in let rest : how_many n (one w) ≡ 0 = count_none n w (omega arith) in rw (here, rest) refl)
+  | inr ne ↦ (let other : (n == w) ≡ false = ne_eqb n w ne in let rest : how_many n (one w) ≡ 1 = count_one n w (omega arith) in rw (other, rest) refl)
+]
+
+-- a condition of the only word that is possible
+pub holds_only : (j : Case) (v : Condition) (a : ℕ) (r : Routine) (w : ℕ) (b : Bool) → 2 ≤ place_among v → IsDeclared j.declaration → IsIn j r a →
+    SameWords (possible (place_in j r) (fact_at j a) a) (one w) → w < 4096 → (IsTrue b ↔ HoldsFor j v r a (meaning_of j.declaration.profile a w)) → IsTrue b ↔ HoldsAt j v a
+holds_only j v a r w b le d here same small told = holds_iff j v a b le few (each, λ all. told.1 (all r w here small (same w small ∙ eq-eqb w w refl)))
+  where
+    few : asks_few v ≡ true → HasFewWords j a
+    few asked = (few_iff j a r (one w) true 1 d here (λ x lt. sym (same x lt)) (sym (count_one 4096 w small)) (λ t. omega arith, λ le. refl)).0 refl
+
+    each : IsTrue b → HoldsForEach j v a
+    each t q x there lt is =
+        let e : x ≡ w = eqb-true x w (sym (same x lt) ∙ subst (λ k. possible (place_in j k) (fact_at j a) a x ≡ true) (sym (same_body j a r q d here there)) is) in
+        subst (λ k. HoldsFor j v k a (meaning_of j.declaration.profile a x)) (same_body j a r q d here there)
+        (subst (λ y. HoldsFor j v r a (meaning_of j.declaration.profile a y)) (sym e) (told.0 t))

@@ -1,9 +1,9 @@
 -- What the code has asked so far, in the order of the conditions; it serves private contracts.
-use Rattle.std.specs.Prelude.{◌≡◌, ℕ, ◌<◌, ◌≤◌, ◌||◌, Bool, true, false, Some, None}
-use Rattle.wordset.specs.Words.{Words, nothing, some_below}
+use Rattle.std.specs.Prelude.{◌≡◌, ℕ, ◌<◌, ◌≤◌, Bool, true, false, Some, None}
+use Rattle.wordset.specs.Words.{Words, nothing}
 use Rattle.wordset.specs.Lanes.{words}
 use Rattle.declaration.specs.Declaration.{Routine}
-use Rattle.certificate.specs.Certificate.{Certificate, sites_of, writes_of}
+use Rattle.certificate.specs.Certificate.{Certificate, names_routine, sites_of, writes_of}
 use Rattle.facts.specs.Facts.{possible}
 use Rattle.facts.specs.declared.Condition.{Condition}
 use Rattle.facts.specs.declared.Condition.TheVariants.{V3}
@@ -27,10 +27,6 @@ possible_at claims s = possible (place_in (case_of claims s) (routine_at s)) (fa
 abbrev pub asks_few : Condition → Bool
 asks_few V3 = true
 asks_few _ = false
-
--- A routine or exit line has the address.
-abbrev pub names_routine : Certificate → ℕ → Bool
-names_routine c a = c.listed a || some_below 8 (c.has_exit a)
 
 -- The routine and exit lines at an address are at an entry.
 abbrev pub RoutinesArePlaced : Case → ℕ → Type 0

@@ -1,15 +1,24 @@
 -- Facts that claims were read into, as the code keeps them; it serves private contracts.
 use Rattle.std.specs.Prelude.{◌≡◌, ℕ, true, Some}
+use Rattle.wordset.specs.Lanes.{words}
 use Rattle.facts.specs.Meaning.{meaning}
 use Rattle.certificate.specs.Certificate.{Certificate}
 use Rattle.judge.specs.declared.spot.Page.{Page}
 use Rattle.judge.specs.declared.spot.Desk.{Desk}
+use Rattle.judge.specs.declared.lines.Body.{Body}
+use Rattle.judge.specs.declared.lines.Body.TheVariants.{Main, Of}
 
 -- If the fact is that of an address, there is one at the address, and it is this.
 abbrev pub Shows : Certificate → Page → Type 0
 Shows c p = (a : ℕ) → p.address ≡ Some a → (c.has_fact a ≡ true) × (meaning p.fact ≡ c.fact a)
 
--- Both facts at addresses are those that are claimed.
+-- The body is main's, or that of a listed routine with what is claimed of it.
+abbrev pub Tells : Certificate → Body → Type 0
+Tells c Main = Unit {0}
+Tells c (Of e r) = (c.listed e ≡ true) × (words r.sites ≡ c.sites e) × (words r.writes ≡ c.writes e)
+
+-- Both facts at addresses are those that are claimed, and the body's routine is what is claimed of it.
 pub record IsDesk (c : Certificate) (d : Desk) : Type 0 where
   pub even : Shows c d.even
   pub odd : Shows c d.odd
+  pub body : Tells c d.body

@@ -14,7 +14,7 @@ ghost use Rattle.judge.specs.Spots.{IsSpot, case_of, routine_at, HoldsHere};
 use crate::claims::Claims;
 use crate::spot::{Others, Spot};
 use certificate::Routine;
-use facts::{Condition, Fact, Known, entails};
+use facts::{Condition, Fact, Known, Room, entails};
 use std::alloc::Allocator;
 use word12::Word;
 use wordset::WordSet;
@@ -245,13 +245,26 @@ impl<A: Allocator, C: Claims> Spot<'_, A, C> {
         if !self.claims.exit_into(entry, offset, &mut others.exit) {
             return true;
         }
-        self.lands_with(entry, offset, &others.exit, &mut others.next)
+        self.lands_with(
+            entry,
+            offset,
+            &others.exit,
+            &mut others.next,
+            &mut others.room,
+        )
     }
 
     /// Whether the run lands after a return by an offset with what an exit says; the room for what is
     /// known then is made here alone.
     #[inline(never)]
-    fn lands_with(&self, entry: Word, offset: usize, exit: &Fact, next: &mut Fact) -> bool
+    fn lands_with(
+        &self,
+        entry: Word,
+        offset: usize,
+        exit: &Fact,
+        next: &mut Fact,
+        room: &mut Room,
+    ) -> bool
         requires spot { IsSpot C.claims self.now }
         requires offset { offset < 8 }
         requires there { (case_of C.claims self.now).certificate.has_exit entry offset ≡ true }
@@ -261,7 +274,7 @@ impl<A: Allocator, C: Claims> Spot<'_, A, C> {
             LandsBy (case_of C.claims self.now) (routine_at self.now) self.now.at entry offset }
     {
         let written = self.claimed(entry).writes;
-        let known = Known::after_call(self.fact, exit, &written);
+        let known = Known::after_call(self.fact, exit, &written, room);
         let at = self.at.increment().add(Word::from_index(offset));
         self.lands(&self.owner(), at, &known, next)
     }

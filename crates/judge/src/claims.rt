@@ -6,6 +6,7 @@ ghost use Rattle.wordset.specs.Lanes.{words};
 ghost use Rattle.facts.specs.Changes.{with_offsets};
 ghost use Rattle.facts.specs.Meaning.{meaning};
 ghost use Rattle.certificate.specs.Certificate as said;
+ghost use Rattle.certificate.specs.Certificate.{names_routine};
 ghost use Rattle.certificate.specs.Kept.{claims};
 
 use certificate::{Certificate, Routine};
@@ -29,6 +30,10 @@ pub trait Claims {
         ensures no_sites { IfNone result ((claims self.now).sites entry ≡ nothing) }
         ensures no_writes { IfNone result ((claims self.now).writes entry ≡ nothing) };
 
+    /// Whether a routine of this entry is listed, or it is claimed what holds when it returns.
+    fn names(&self, entry: Word) -> bool
+        ensures { result ≡ names_routine (claims self.now) entry };
+
     /// Whether there is a fact at an address, which the lent one then says; else it's left as it is. A
     /// fact has some 34,000 bytes, so none is made for each question.
     fn fact_into(&self, at: Word, fact: &mut Fact) -> bool
@@ -51,6 +56,10 @@ impl<A: Allocator> Claims for Certificate<A> {
 
     fn routine(&self, entry: Word) -> Option<Routine> {
         self.routine(entry)
+    }
+
+    fn names(&self, entry: Word) -> bool {
+        self.names(entry)
     }
 
     fn fact_into(&self, at: Word, fact: &mut Fact) -> bool {

@@ -5,8 +5,6 @@ ghost use Rattle.wordset.specs.Lanes.{words};
 ghost use Rattle.facts.specs.Facts as said;
 ghost use Rattle.facts.specs.Same.{Agree};
 ghost use Rattle.facts.specs.Meaning.{known_of};
-ghost use Rattle.facts.specs.Outcomes.{has_one, meaning_at};
-ghost use Rattle.facts.specs.Places.{place_of};
 ghost use Rattle.facts.specs.Slots.{outcome_of, slot, slots};
 ghost use Rattle.facts.specs.declared.Condition.TheVariants.{V4};
 ghost use Rattle.judge.specs.Conditions.{LandsAt, OutcomeLands, EachOutcome};
@@ -14,8 +12,8 @@ ghost use Rattle.judge.specs.Pages.{Shows};
 ghost use Rattle.judge.specs.Spots.{IsSpot, case_of, routine_at, HoldsHere};
 
 use crate::claims::Claims;
-use crate::spot::Spot;
-use facts::{Fact, Known, Outcome, outcomes, single_outcome};
+use crate::spot::{Others, Spot};
+use facts::{Fact, Known, Outcome, outcomes};
 use std::alloc::Allocator;
 use word12::Word;
 use wordset::WordSet;
@@ -90,7 +88,7 @@ impl<A: Allocator, C: Claims> Spot<'_, A, C> {
             (outcome_of outcome.now) }
     {
         match outcome {
-            Outcome::Goes(addresses, known) => self.lands_at_each(addresses, known, next),
+            Outcome::Goes(addresses, known) => self.lands_at_each(*addresses, known, next),
             Outcome::Calls(_, _) | Outcome::Returns(_) => true,
         }
     }
@@ -124,33 +122,11 @@ impl<A: Allocator, C: Claims> Spot<'_, A, C> {
     }
 
     /// Whether each outcome of a word that goes on lands wherever it goes.
-    pub(crate) fn outcomes_land(&self, word: Word, next: &mut Fact) -> bool
+    pub(crate) fn outcomes_land(&self, word: Word, others: &mut Others) -> bool
         requires { IsSpot C.claims self.now }
         ensures { IsTrue result ↔ HoldsHere C.claims self.now V4 word }
     {
-        if !self.place.has_one_outcome(word) {
-            return self.all_land(word, next);
-        }
-        self.one_lands(word, next)
-    }
-
-    /// Whether the outcome of a word that has one at most lands; the room for it is made here alone.
-    #[inline(never)]
-    fn one_lands(&self, word: Word, next: &mut Fact) -> bool
-        requires spot { IsSpot C.claims self.now }
-        requires once { has_one (meaning_at (place_of self.now.place) self.now.at word) ≡ true }
-        ensures { IsTrue result ↔ HoldsHere C.claims self.now V4 word }
-    {
-        self.slot_lands(&single_outcome(self.fact, self.at, word, &self.place), next)
-    }
-
-    /// Whether each outcome of a word that may have several lands; the room for them is made here
-    /// alone.
-    #[inline(never)]
-    fn all_land(&self, word: Word, next: &mut Fact) -> bool
-        requires { IsSpot C.claims self.now }
-        ensures { IsTrue result ↔ HoldsHere C.claims self.now V4 word }
-    {
-        self.each_lands(&outcomes(self.fact, self.at, word, &self.place), next)
+        let given = outcomes(self.fact, self.at, word, &self.place, &mut others.room);
+        self.each_lands(&given.all, &mut others.next)
     }
 }

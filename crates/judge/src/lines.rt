@@ -1,12 +1,12 @@
 //! The lines of a certificate at an address, and whether they are where they may be.
 
-ghost use Rattle.std.specs.Prelude.{◌≡◌, ◌↔◌, true, IsTrue, MatchOption, MatchResult};
+ghost use Rattle.std.specs.Prelude.{◌≡◌, ◌↔◌, Some, true, false, IsTrue, MatchResult};
 ghost use Rattle.wordset.specs.Words.{some_below};
 ghost use Rattle.facts.specs.Meaning.{meaning};
 ghost use Rattle.facts.specs.Places.{routine_of, sites_of, writes_of};
 ghost use Rattle.judge.specs.Conditions.{StartsWell, IsPlaced, fact_at};
-ghost use Rattle.judge.specs.Pages.{Shows, IsDesk};
-ghost use Rattle.judge.specs.Asked.{case_kept, names_routine, RoutinesArePlaced, routine_with, sites_with, writes_with, IsBody, HoldsBetween, FailsAtLine};
+ghost use Rattle.judge.specs.Pages.{Shows, Tells, IsDesk};
+ghost use Rattle.judge.specs.Asked.{case_kept, RoutinesArePlaced, routine_with, sites_with, writes_with, IsBody, HoldsBetween, FailsAtLine};
 
 use crate::claims::Claims;
 use crate::spot::{Desk, Others, Page, Spot};
@@ -36,6 +36,47 @@ pub(crate) enum Body {
 }
 
 impl Body {
+    /// Whether it is that of the routine of an entry.
+    fn is_of(&self, entry: Word) -> bool
+        ensures { IsTrue result → routine_with self.now ≡ Some entry }
+    {
+        match self {
+            Body::Main => false,
+            Body::Of(own, _) => *own == entry,
+        }
+    }
+
+    /// Whether the routine of an entry is listed, whose body then stands here, with what is claimed of
+    /// it. One that stands here already isn't read again.
+    fn turn_to<C: Claims>(&mut self, claims: &C, entry: Word) -> bool
+        requires { Tells (C.claims claims.now) self.old }
+        ensures listed { result ≡ (C.claims claims.now).listed entry }
+        ensures body { result ≡ true → routine_with self.new ≡ Some entry }
+        ensures tells { Tells (C.claims claims.now) self.new }
+    {
+        if self.is_of(entry) {
+            return true;
+        }
+        self.read(claims, entry)
+    }
+
+    /// The same, where it is read; the room for it is made here alone.
+    #[inline(never)]
+    fn read<C: Claims>(&mut self, claims: &C, entry: Word) -> bool
+        requires { Tells (C.claims claims.now) self.old }
+        ensures listed { result ≡ (C.claims claims.now).listed entry }
+        ensures body { result ≡ true → routine_with self.new ≡ Some entry }
+        ensures tells { Tells (C.claims claims.now) self.new }
+    {
+        match claims.routine(entry) {
+            None => false,
+            Some(routine) => {
+                *self = Body::Of(entry, routine);
+                true
+            }
+        }
+    }
+
     /// The routine, if it isn't main's.
     pub(crate) fn running(&self) -> Option<Running<'_>>
         ensures routine { routine_of result ≡ routine_with self.now }
@@ -74,65 +115,39 @@ impl<A: Allocator, C: Claims> Case<'_, A, C> {
         holds_before(desk.even.fact(), self.image, self.declaration)
     }
 
-    /// Whether an exit line has an address.
-    fn has_exit(&self, at: Word, exit: &mut Fact) -> bool
-        ensures { result ≡ some_below 8 ((case_kept C.claims self.now).certificate.has_exit at) }
-    {
-        for offset in 0..8usize {
-            if self.claims.exit_into(at, offset, exit) {
-                return true;
-            }
-        }
-        false
-    }
-
     /// Whether the routine and exit lines at an address are where they may be: at an entry.
-    fn routines_are_placed(&self, at: Word, exit: &mut Fact) -> bool
+    fn routines_are_placed(&self, at: Word) -> bool
         ensures { IsTrue result ↔ RoutinesArePlaced (case_kept C.claims self.now) at }
     {
-        if !self.names_routine(at, exit) {
+        if !self.claims.names(at) {
             return true;
         }
         self.declaration.is_entry(at)
     }
 
-    /// Whether a routine or exit line has an address.
-    fn names_routine(&self, at: Word, exit: &mut Fact) -> bool
-        ensures { result ≡ names_routine (case_kept C.claims self.now).certificate at }
+    /// Whether the fact at an address is where it may be: in main's body with no offset, or in a listed
+    /// routine's with one. That body then stands in the place of the one that is lent.
+    fn finds_body(&self, at: Word, fact: &Fact, body: &mut Body) -> bool
+        requires fact { meaning fact.now ≡ fact_at (case_kept C.claims self.now) at }
+        requires body { Tells (C.claims self.now.claims.now) body.old }
+        ensures found { result ≡ true → IsBody (case_kept C.claims self.now) at body.new }
+        ensures nowhere { result ≡ false → IsPlaced (case_kept C.claims self.now) at → ⊥ }
+        ensures body { Tells (C.claims self.now.claims.now) body.new }
     {
-        if self.lists_routine(at) {
-            return true;
-        }
-        self.has_exit(at, exit)
-    }
-
-    /// Whether a routine line has an address; the room for the routine is made here alone.
-    #[inline(never)]
-    fn lists_routine(&self, at: Word) -> bool
-        ensures { result ≡ (case_kept C.claims self.now).certificate.listed at }
-    {
-        self.claims.routine(at).is_some()
-    }
-
-    /// The body that has the address of a fact, if that is where the fact may be: in main's with no
-    /// offset, or in a listed routine's with one.
-    fn body_of(&self, at: Word, fact: &Fact) -> Option<Body>
-        requires { meaning fact.now ≡ fact_at (case_kept C.claims self.now) at }
-        ensures { MatchOption result
-            (IsPlaced (case_kept C.claims self.now) at → ⊥)
-            (λ body. IsBody (case_kept C.claims self.now) at body) }
-    {
-        let owner = self.declaration.owner_of(at)?;
         let counts = has_offset(fact);
+        let Some(owner) = self.declaration.owner_of(at) else {
+            return false;
+        };
         match owner {
-            Owner::Main => if counts { None } else { Some(Body::Main) },
+            Owner::Main => {
+                *body = Body::Main;
+                !counts
+            }
             Owner::Routine(entry) => {
-                let routine = self.claims.routine(entry)?;
-                if counts {
-                    Some(Body::Of(entry, routine))
-                } else {
-                    None
+                if !body.turn_to(self.claims, entry) {
+                    return false;
                 }
+                counts
             }
         }
     }
@@ -146,9 +161,21 @@ impl<A: Allocator, C: Claims> Case<'_, A, C> {
         ensures desk { IsDesk (C.claims self.now.claims.now) desk.new }
     {
         if at.index() % 2 == 0 {
-            self.check_page(at, &mut desk.even, &mut desk.odd, &mut desk.others)
+            self.check_page(
+                at,
+                &mut desk.even,
+                &mut desk.odd,
+                &mut desk.body,
+                &mut desk.others,
+            )
         } else {
-            self.check_page(at, &mut desk.odd, &mut desk.even, &mut desk.others)
+            self.check_page(
+                at,
+                &mut desk.odd,
+                &mut desk.even,
+                &mut desk.body,
+                &mut desk.others,
+            )
         }
     }
 
@@ -159,52 +186,56 @@ impl<A: Allocator, C: Claims> Case<'_, A, C> {
         at: Word,
         here: &mut Page,
         following: &mut Page,
+        body: &mut Body,
         others: &mut Others,
     ) -> Result<(), Condition>
         requires here { Shows (C.claims self.now.claims.now) here.old }
         requires following { Shows (C.claims self.now.claims.now) following.old }
+        requires body { Tells (C.claims self.now.claims.now) body.old }
         ensures checked { MatchResult result
             (λ _. HoldsBetween (case_kept C.claims self.now) 1 15 at)
             (λ v. FailsAtLine (case_kept C.claims self.now) at v) }
         ensures here { Shows (C.claims self.now.claims.now) here.new }
         ensures following { Shows (C.claims self.now.claims.now) following.new }
+        ensures body { Tells (C.claims self.now.claims.now) body.new }
     {
-        if !self.routines_are_placed(at, &mut others.exit) {
+        if !self.routines_are_placed(at) {
             return Err(Condition::V2);
         }
         if !here.turn_to(self.claims, at) {
             return Ok(());
         }
         let _is_followed = following.turn_to(self.claims, at.increment());
-        self.check_fact(at, here.fact(), following, others)
+        self.check_fact(at, here.fact(), following, body, others)
     }
 
-    /// The first condition that fails of the fact at an address, if one does; the room for what is
-    /// claimed of its routine is made here alone.
-    #[inline(never)]
+    /// The first condition that fails of the fact at an address, if one does.
     fn check_fact(
         &self,
         at: Word,
         fact: &Fact,
         following: &Page,
+        body: &mut Body,
         others: &mut Others,
     ) -> Result<(), Condition>
         requires placed { RoutinesArePlaced (case_kept C.claims self.now) at }
         requires there { (case_kept C.claims self.now).certificate.has_fact at ≡ true }
         requires fact { meaning fact.now ≡ fact_at (case_kept C.claims self.now) at }
         requires following { Shows (C.claims self.now.claims.now) following.now }
-        ensures { MatchResult result
+        requires body { Tells (C.claims self.now.claims.now) body.old }
+        ensures checked { MatchResult result
             (λ _. HoldsBetween (case_kept C.claims self.now) 1 15 at)
             (λ v. FailsAtLine (case_kept C.claims self.now) at v) }
+        ensures body { Tells (C.claims self.now.claims.now) body.new }
     {
-        let Some(body) = self.body_of(at, fact) else {
+        if !self.finds_body(at, fact, body) {
             return Err(Condition::V2);
-        };
+        }
         Spot::of(
             self.image,
             self.declaration,
             self.claims,
-            &body,
+            body,
             at,
             fact,
             following,

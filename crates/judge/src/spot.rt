@@ -12,7 +12,7 @@ use crate::claims::Claims;
 use crate::lines::Body;
 use bin_tape::Image;
 use declaration::Declaration;
-use facts::{Fact, Place};
+use facts::{Fact, Place, Room};
 use std::alloc::Allocator;
 use word12::Word;
 
@@ -77,15 +77,17 @@ impl Page {
 pub(crate) struct Desk {
     pub(crate) even: Page,
     pub(crate) odd: Page,
+    pub(crate) body: Body,
     pub(crate) others: Others,
 }
 
 /// Further facts that the one at an address is compared with: where the run goes on elsewhere, and
-/// at a return.
+/// at a return; and room for what comes of a word.
 #[derive(Drop)]
 pub(crate) struct Others {
     pub(crate) next: Fact,
     pub(crate) exit: Fact,
+    pub(crate) room: Room,
 }
 
 impl Desk {
@@ -96,9 +98,11 @@ impl Desk {
         Desk {
             even: Page::new(),
             odd: Page::new(),
+            body: Body::Main,
             others: Others {
                 next: Fact::any(),
                 exit: Fact::any(),
+                room: Room::new(),
             },
         }
     }

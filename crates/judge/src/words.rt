@@ -1,7 +1,8 @@
 //! What the conditions at one address ask of its possible words.
 
-ghost use Rattle.std.specs.Prelude.{◌≡◌, ◌<◌, ◌≤◌, ◌↔◌, IsTrue, MatchResult, true};
-ghost use Rattle.wordset.specs.Words.{SameWords};
+ghost use Rattle.std.specs.Prelude.{◌≡◌, ◌<◌, ◌≤◌, ◌↔◌, IsTrue, IfSome, MatchResult, true};
+ghost use Rattle.peripherals.specs.Loading.{image_of};
+ghost use Rattle.wordset.specs.Words.{SameWords, one};
 ghost use Rattle.wordset.specs.Lanes.{words};
 ghost use Rattle.facts.specs.declared.Condition.TheVariants.{V3, V5, V6, V13, V14, V15};
 ghost use Rattle.judge.specs.Conditions.{HoldsAt, HoldsForEach, HasFewWords, place_among};
@@ -10,6 +11,7 @@ ghost use Rattle.judge.specs.Asked.{HoldsBetween, FailsFirst, asks_few, possible
 
 use crate::claims::Claims;
 use crate::spot::{Others, Spot};
+use bin_tape::Image;
 use facts::Condition;
 use std::alloc::Allocator;
 use word12::Word;
@@ -48,10 +50,71 @@ fn asks_few(condition: Condition) -> bool
     matches!(condition, Condition::V3)
 }
 
+/// The word of a tape at an address, if there is one.
+fn word_of(image: &Image, at: Word) -> Option<Word>
+    ensures { result ≡ image_of image.now at }
+{
+    image.get(at)
+}
+
 impl<A: Allocator, C: Claims> Spot<'_, A, C> {
     /// The first condition on words that fails here, if one does.
-    #[inline(never)]
     pub(crate) fn check(&self, others: &mut Others) -> Result<(), Condition>
+        requires { IsSpot C.claims self.now }
+        ensures { MatchResult result
+            (λ _. HoldsBetween (case_of C.claims self.now) 2 15 self.now.at)
+            (λ v. FailsFirst (case_of C.claims self.now) 2 self.now.at v) }
+    {
+        match self.only_word() {
+            Some(word) => self.check_word(word, others),
+            None => self.check_words(others),
+        }
+    }
+
+    /// The tape's word here, where no other one is possible.
+    fn only_word(&self) -> Option<Word>
+        requires { IsSpot C.claims self.now }
+        ensures { IfSome result (λ w. SameWords (possible_at C.claims self.now) (one w)) }
+    {
+        if self.place.declaration.is_variable(self.at) {
+            return None;
+        }
+        word_of(self.place.image, self.at)
+    }
+
+    /// The first condition that fails here of the only word that is possible, if one does.
+    fn check_word(&self, word: Word, others: &mut Others) -> Result<(), Condition>
+        requires spot { IsSpot C.claims self.now }
+        requires only { SameWords (possible_at C.claims self.now) (one word) }
+        ensures { MatchResult result
+            (λ _. HoldsBetween (case_of C.claims self.now) 2 15 self.now.at)
+            (λ v. FailsFirst (case_of C.claims self.now) 2 self.now.at v) }
+    {
+        for place in 2..15usize {
+            let condition = nth(place);
+            if !self.holds_for_only(condition, word, others) {
+                return Err(condition);
+            }
+        }
+        Ok(())
+    }
+
+    /// Whether a condition holds here, where a word is the only one that is possible.
+    fn holds_for_only(&self, condition: Condition, word: Word, others: &mut Others) -> bool
+        requires spot { IsSpot C.claims self.now }
+        requires only { SameWords (possible_at C.claims self.now) (one word) }
+        requires past { 2 ≤ place_among condition }
+        ensures { IsTrue result ↔ HoldsAt (case_of C.claims self.now) condition self.now.at }
+    {
+        self.place.declaration.is_declared();
+        let _index = word.index();
+        self.holds_for(condition, word, others)
+    }
+
+    /// The first condition on words that fails here, if one does, whichever words are possible; the room
+    /// for them is made here alone.
+    #[inline(never)]
+    fn check_words(&self, others: &mut Others) -> Result<(), Condition>
         requires { IsSpot C.claims self.now }
         ensures { MatchResult result
             (λ _. HoldsBetween (case_of C.claims self.now) 2 15 self.now.at)
@@ -127,7 +190,7 @@ impl<A: Allocator, C: Claims> Spot<'_, A, C> {
         match condition {
             Condition::V1 | Condition::V2 => true,
             Condition::V3 => self.is_supported(word),
-            Condition::V4 => self.outcomes_land(word, &mut others.next),
+            Condition::V4 => self.outcomes_land(word, others),
             Condition::V5 => self.writes_are_declared(word),
             Condition::V6 => self.writes_are_listed(word),
             Condition::V7 => self.may_call(word, others),

@@ -227,6 +227,48 @@ fn symbols_are_defined_in_order(rt: HostRuntime) -> Result<(), Fail> {
     Ok(())
 }
 
+/// A word of part 1 on a line.
+fn placed(line: usize, at: usize, word: usize) -> PlacedWord {
+    PlacedWord {
+        place: Place { part: 1, line },
+        at: Word::from_index(at % 4096),
+        word: Word::from_index(word % 4096),
+    }
+}
+
+#[test]
+fn words_stand_at_their_places(rt: HostRuntime) -> Result<(), Fail> {
+    let here = [number(Sign::Or, 0o200)];
+    let (five, six) = ([number(Sign::Or, 5)], [number(Sign::Or, 6)]);
+    let acts = acts_of(
+        rt.alloc(),
+        &[
+            (Act::Word, five.as_slice()),
+            (Act::Word, six.as_slice()),
+            (Act::Origin, here.as_slice()),
+            (Act::Word, six.as_slice()),
+        ],
+    );
+    let Some(acts) = acts else {
+        panic!(rt; "no memory");
+    };
+    let Some(permanent) = permanent(rt.alloc()) else {
+        panic!(rt; "no memory");
+    };
+    let Ok(found) = assemble_with_words(rt.alloc(), &permanent, &acts) else {
+        panic!(rt; "refused");
+    };
+    assert_eq!(rt; found.words.len(), 3);
+    assert_eq!(rt; found.words.get(0).copied(), Some(placed(1, 0o200, 5)));
+    assert_eq!(rt; found.words.get(1).copied(), Some(placed(2, 0o201, 6)));
+    assert_eq!(rt; found.words.get(2).copied(), Some(placed(4, 0o200, 6)));
+    assert_eq!(rt;
+        found.image.get(Word::from_index(0o200)),
+        Some(Word::from_index(6))
+    );
+    Ok(())
+}
+
 /// Symbols, and their permanent values on the 8/I and on the 8/E.
 const SYMBOLS: [(&[u8], Option<usize>, Option<usize>); 6] = [
     (b"TAD", Some(0o1000), Some(0o1000)),

@@ -1,5 +1,5 @@
 -- What the acts mean stays as it is where names get values that had none.
-use Rattle.std.proofs.Common.{◌≡◌, ◌∙◌, sym, ap, refl, ℕ, ◌+◌, ◌%◌, ◌≤◌, List, [], ◌∷◌, ◌++◌, length, arith, rules, append_assoc, length-append, true, false, Some, None, Option, inl, inr, subst}
+use Rattle.std.proofs.Common.{◌≡◌, ◌∙◌, sym, ap, refl, ℕ, ◌≤◌, List, [], ◌∷◌, ◌++◌, length, arith, rules, append_assoc, length-append, true, false, Some, None, Option, inl, inr, subst}
 use Rattle.std.specs.Prelude.{nat_eq}
 use Rattle.std.specs.List.{AllByRecursion}
 use Rattle.std.specs.Option.{option_and_then}

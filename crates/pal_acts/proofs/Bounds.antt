@@ -1,9 +1,8 @@
 -- The values of a source are words, where its numbers and its permanent symbols are.
-use Rattle.std.proofs.Common.{◌≡◌, ◌∙◌, sym, ap, ℕ, ◌+◌, ◌-◌, ◌/◌, ◌%◌, ◌<◌, ◌≤◌, List, [], ◌∷◌, ◌++◌, Bool, true, false, if◌then◌else◌, Option, Some, None, Result, Ok, Err, inl, inr, arith, subst, length, bit_or}
+use Rattle.std.proofs.Common.{◌≡◌, ◌∙◌, sym, ap, ℕ, ◌/◌, ◌%◌, ◌<◌, ◌≤◌, List, [], ◌∷◌, ◌++◌, Bool, true, false, Option, Some, None, Result, Ok, Err, inl, inr, arith, subst, length, bit_or}
 use Rattle.std.specs.Prelude.{reverse, nat_lt, nat_eq, unwrap_or}
 use Rattle.std.specs.List.{AllByRecursion, list_all}
 use Rattle.std.specs.Option.{option_and_then}
-use Rattle.std.specs.Map.{lookup}
 use Rattle.std.proofs.lemmas.Bool.{cases_Bool, cases_lt, ltb-true, cond_both}
 use Rattle.std.proofs.lemmas.Nat.{or_lt}
 use Rattle.std.proofs.lemmas.Option.{slice_get_past}
@@ -17,13 +16,15 @@ use Rattle.pal_acts.specs.declared.act.Term.TheVariants.{Number, Symbol, Here}
 use Rattle.pal_acts.specs.declared.act.Join.{Join}
 use Rattle.pal_acts.specs.declared.act.Act.{Act}
 use Rattle.pal_acts.specs.declared.act.Act.TheVariants as act
+use Rattle.pal_acts.specs.declared.act.Place.{Place}
+use Rattle.pal_acts.specs.declared.act.PlacedWord.{PlacedWord}
 use Rattle.pal_acts.specs.declared.code.Code.{Code}
 use Rattle.pal_acts.specs.Acts.{PlacedAct}
 use Rattle.pal_acts.specs.Values.{same, Values, in_table, term_value, joined, value_after, value, or_zero}
 use Rattle.pal_acts.specs.Meaning.{location_after, location, Defines}
-use Rattle.pal_acts.specs.Words.{Marked, marked, is_indirect, is_zero, is_reference, after_indirect, after_zero, marks, plain, addressed, referring, base, reference, word_value}
+use Rattle.pal_acts.specs.Words.{Marked, is_indirect, is_zero, is_reference, after_indirect, after_zero, marks, plain, addressed, referring, base, reference, word_value}
 use Rattle.pal_acts.specs.Faults.{giving_table, assign_table, after}
-use Rattle.pal_acts.specs.Sources.{if_ok, cell_after, image_at, IsImage, IsSource}
+use Rattle.pal_acts.specs.Sources.{word_at_place, and_word, words, last_at, IsSource}
 use Rattle.pal_acts.proofs.Unique.{stood, Before, none_left}
 
 -- a word, or nothing
@@ -80,10 +81,10 @@ joined_below Plus a b h k = omega arith
 joined_below Minus a b h k = omega arith
 joined_below Or a b h k = or_below a b h k
 
-module _ (σ : Values) (words : (n : Name) → Below (σ n)) where
+module _ (σ : Values) (given : (n : Name) → Below (σ n)) where
   term_below : (here : ℕ) (t : Term) → here < 4096 → IsWordTerm t → Below (term_value σ here t)
   term_below here (Number w) h k = k
-  term_below here (Symbol n) h k = words n
+  term_below here (Symbol n) h k = given n
   term_below here Here h k = h
 
   then_below : (f : ℕ → Option ℕ) (o : Option ℕ) → Below o → ((v : ℕ) → v < 4096 → Below (f v)) → Below (option_and_then f o)
@@ -158,17 +159,25 @@ module _ (σ : Values) (words : (n : Name) → Below (σ n)) where
 
   -- ---- images
 
-  ok_below : (r : Result ℕ Code) → BelowOk r → Below (if_ok r)
-  ok_below (Ok v) h = h
-  ok_below (Err c) h = tt
+  abbrev AllBelow : List PlacedWord → Type 0
+  AllBelow ws = AllByRecursion (λ w. w.word < 4096) ws
 
-  cell_below : (here : ℕ) (e : List Join) (a : Act) (at : ℕ) (old : Option ℕ) → here < 4096 → Numbers e → Below old → Below (cell_after σ here e a at old)
-  cell_below here e act.Word at old h all k = cond_both (nat_eq here at) _ _ Below (λ is. ok_below (word_value σ here e) (word_below here e h all)) (λ not. k)
-  cell_below here e _ at old h all k = k
+  placed_below : (p : Place) (at : ℕ) (r : Result ℕ Code) (before : List PlacedWord) → BelowOk r → AllBelow before → AllBelow (word_at_place p at r before)
+  placed_below p at (Ok v) before h all = (h, all)
+  placed_below p at (Err c) before h all = all
 
-  pub image_below : (acts : List PlacedAct) (at : ℕ) → AllByRecursion HasNumbers acts → Below (image_at σ acts at)
-  image_below [] at all = tt
-  image_below (a ∷ before) at all = cell_below (location σ before) a.terms a.act at (image_at σ before at) (location_below before all.1) all.0 (image_below before at all.1)
+  act_below : (here : ℕ) (p : Place) (e : List Join) (a : Act) (before : List PlacedWord) → here < 4096 → Numbers e → AllBelow before → AllBelow (and_word σ here p e a before)
+  act_below here p e act.Word before h all k = placed_below p here (word_value σ here e) before (word_below here e h all) k
+  act_below here p e _ before h all k = k
+
+  pub words_below : (acts : List PlacedAct) → AllByRecursion HasNumbers acts → AllBelow (words σ acts)
+  words_below [] all = tt
+  words_below (a ∷ before) all = act_below (location σ before) a.place a.terms a.act (words σ before) (location_below before all.1) all.0 (words_below before all.1)
+
+-- what goes to an address is a word
+pub last_below : (ws : List PlacedWord) (at : ℕ) → AllByRecursion (λ w. w.word < 4096) ws → Below (last_at at ws)
+last_below [] at all = tt
+last_below (w ∷ before) at all = cond_both (nat_eq w.at at) _ _ Below (λ is. all.0) (λ not. last_below before at all.1)
 
 -- ---- symbols
 
@@ -204,7 +213,7 @@ pub holds_words : (perm : List (Name × ℕ)) (limit : ℕ) (acts : List PlacedA
 holds_words perm limit acts own image p all s =
     let turned : AllByRecursion HasNumbers (reverse acts) = all_reverse HasNumbers acts all in
     let entries : Entries (perm ++ own) = entries_append perm own p (symbols_below perm limit (reverse acts) own p turned s.defines) in
-    let cells : (a : ℕ) → a < 4096 → Below (word_at image a) = λ a lt. subst Below (sym (s.image_is.cells a lt)) (image_below (in_table (perm ++ own)) (table_below (perm ++ own) entries) (reverse acts) a turned) in
+    let cells : (a : ℕ) → a < 4096 → Below (word_at image a) = λ a lt. subst Below (sym (s.image_is.cells a lt)) (last_below (words (in_table (perm ++ own)) (reverse acts)) a (words_below (in_table (perm ++ own)) (table_below (perm ++ own) entries) (reverse acts) turned)) in
     record {
       size = s.image_is.size;
       words = λ a v e. elim (cases_lt a 4096) [

@@ -1,5 +1,5 @@
 -- A source has one meaning or one fault.
-use Rattle.std.proofs.Common.{◌≡◌, ◌∙◌, sym, ap, refl, ℕ, List, [], ◌∷◌, ◌++◌, length, append_assoc, Some, None, inl, inr, subst, ◌⊎◌}
+use Rattle.std.proofs.Common.{◌≡◌, ◌∙◌, sym, ap, refl, ℕ, List, [], ◌∷◌, ◌++◌, append_assoc, Some, None, inl, inr, subst, ◌⊎◌}
 use Rattle.std.specs.Prelude.{reverse, Ok, Err, Result, IsOk}
 use Rattle.std.proofs.lemmas.List.{reverse-append, reverse-reverse}
 use Rattle.pal_text.specs.declared.names.Name.{Name}
@@ -11,7 +11,7 @@ use Rattle.pal_acts.specs.declared.code.Code.{Code}
 use Rattle.pal_acts.specs.Acts.{PlacedAct}
 use Rattle.pal_acts.specs.Values.{Values, in_table}
 use Rattle.pal_acts.specs.Meaning.{location, Defines}
-use Rattle.pal_acts.specs.Sources.{HasWord, Encodes, IsImage}
+use Rattle.pal_acts.specs.Sources.{HasWord, Encodes, words, IsImage}
 use Rattle.pal_acts.specs.Faults.{next_fault, Stops, WordBreaks, Finds}
 use Rattle.pal_acts.specs.Laws.{OneSource, NotBoth, OneFault}
 use Rattle.pal_acts.proofs.Unique.{stood, unique, Before}
@@ -128,7 +128,7 @@ module _ (σ : Values) where
 pub one_source : OneSource
 one_source perm limit acts s u i j h k =
     let e : s ≡ u = unique perm limit (reverse acts) s u h.defines k.defines in
-    (e, one_image (in_table (perm ++ u)) (reverse acts) i j (subst (λ s. IsImage (in_table (perm ++ s)) (reverse acts) i) e h.image_is) k.image_is)
+    (e, one_image (words (in_table (perm ++ u)) (reverse acts)) i j (subst (λ s. IsImage (words (in_table (perm ++ s)) (reverse acts)) i) e h.image_is) k.image_is)
 
 pub not_both : NotBoth
 not_both perm limit acts s i at c h (inl k) = stops_never perm limit acts at c s h.defines k

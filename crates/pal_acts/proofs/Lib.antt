@@ -3,6 +3,7 @@ pub mod Flat
 pub mod Agree
 pub mod Places
 pub mod Images
+pub mod Coded
 pub mod Unique
 pub mod First
 pub mod Bounds

@@ -115,12 +115,7 @@ abbrev pub Refuses : List (Name × ℕ) → ℕ → List PlacedAct → Refused �
 Refuses permanent limit acts (Fault place code) = IsRefused permanent limit acts place code
 Refuses permanent limit acts NoMemory = AsksForMemory permanent limit acts
 
--- A refusal that tells no fault.
-abbrev pub IsSilent : Refused → Type 0
-IsSilent (Fault place code) = ⊥
-IsSilent NoMemory = Unit {0}
-
--- A refusal that tells no other fault than this.
-abbrev pub TellsOnly : Place → Code → Refused → Type 0
-TellsOnly place code (Fault there told) = (there ≡ place) × (told ≡ code)
-TellsOnly place code NoMemory = Unit {0}
+-- The same where words are kept: once all symbols have their values, memory may be refused for a word.
+abbrev pub RefusesKeeping : List (Name × ℕ) → ℕ → List PlacedAct → Refused → Type 0
+RefusesKeeping permanent limit acts (Fault place code) = IsRefused permanent limit acts place code
+RefusesKeeping permanent limit acts NoMemory = AsksForMemory permanent limit acts ⊎ ((own : List (Name × ℕ)) × Defines permanent limit (reverse acts) own)

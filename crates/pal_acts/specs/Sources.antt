@@ -1,11 +1,13 @@
--- What a source means: its own symbols and its image. Lists of acts have the newest first, but where a source is named
--- they stand in order.
+-- What a source means: its own symbols and its image. Lists of acts and of words have the newest first, but where a source is
+-- named they stand in order.
 use Rattle.std.specs.Prelude.{◌≡◌, ℕ, ◌<◌, if◌then◌else◌, List, [], ◌∷◌, length, Option, Some, None, Result, Ok, Err, IsOk, nat_eq, reverse}
 use Rattle.bin_tape.specs.Image.{word_at}
 use Rattle.pal_text.specs.declared.names.Name.{Name}
 use Rattle.pal_acts.specs.declared.act.Join.{Join}
 use Rattle.pal_acts.specs.declared.act.Act.{Act}
 use Rattle.pal_acts.specs.declared.act.Act.TheVariants as act
+use Rattle.pal_acts.specs.declared.act.Place.{Place}
+use Rattle.pal_acts.specs.declared.act.PlacedWord.{PlacedWord}
 use Rattle.pal_acts.specs.declared.code.Code.{Code}
 use Rattle.pal_acts.specs.Acts.{PlacedAct}
 use Rattle.pal_acts.specs.Values.{Values, known}
@@ -22,27 +24,37 @@ abbrev pub Encodes : Values → List PlacedAct → Type 0
 Encodes σ [] = Unit {0}
 Encodes σ (a ∷ before) = HasWord σ (location σ before) a.terms a.act × Encodes σ before
 
-abbrev pub if_ok : Result ℕ Code → Option ℕ
-if_ok (Ok v) = Some v
-if_ok (Err c) = None
+-- A word with its place and its address, before others; an expression that is no word brings none.
+abbrev pub word_at_place : Place → ℕ → Result ℕ Code → List PlacedWord → List PlacedWord
+word_at_place p at (Ok w) before = record { place = p; at = at; word = w } ∷ before
+word_at_place p at (Err c) before = before
 
--- The word at an address after an act at this location, where this one was there before.
-abbrev pub cell_after : Values → ℕ → List Join → Act → ℕ → Option ℕ → Option ℕ
-cell_after σ here e act.Word a old = if nat_eq here a then if_ok (word_value σ here e) else old
-cell_after σ here e _ a old = old
+-- The word of an act at this location, with its place, before others; an act that isn't a word brings none.
+abbrev pub and_word : Values → ℕ → Place → List Join → Act → List PlacedWord → List PlacedWord
+and_word σ here p e act.Word before = word_at_place p here (word_value σ here e) before
+and_word σ here p e _ before = before
 
--- The last word that goes to this address.
-abbrev pub image_at : Values → List PlacedAct → ℕ → Option ℕ
-image_at σ [] a = None
-image_at σ (next ∷ before) a = cell_after σ (location σ before) next.terms next.act a (image_at σ before a)
+-- The words of acts, each with its place in the source and its address. Both lists have the newest first.
+abbrev pub words : Values → List PlacedAct → List PlacedWord
+words σ [] = []
+words σ (a ∷ before) = and_word σ (location σ before) a.place a.terms a.act (words σ before)
 
--- The image of these acts: a cell for each of the 4096 addresses, with the last word that goes there.
-pub record IsImage (σ : Values) (acts : List PlacedAct) (image : List (Option ℕ)) : Type 0 where
+-- The words of acts that are in order, in order.
+abbrev pub all_words : Values → List PlacedAct → List PlacedWord
+all_words σ acts = reverse (words σ (reverse acts))
+
+-- The last of these words that goes to this address.
+abbrev pub last_at : ℕ → List PlacedWord → Option ℕ
+last_at a [] = None
+last_at a (w ∷ before) = if nat_eq w.at a then Some w.word else last_at a before
+
+-- The image of these words: a cell for each of the 4096 addresses, with the last word that goes there.
+pub record IsImage (ws : List PlacedWord) (image : List (Option ℕ)) : Type 0 where
   pub size : length image ≡ 4096
-  pub cells : (a : ℕ) → a < 4096 → word_at image a ≡ image_at σ acts a
+  pub cells : (a : ℕ) → a < 4096 → word_at image a ≡ last_at a ws
 
 -- A source of these acts has no fault, these own symbols, of at most so many, and this image.
 pub record IsSource (permanent : List (Name × ℕ)) (limit : ℕ) (acts : List PlacedAct) (own : List (Name × ℕ)) (image : List (Option ℕ)) : Type 0 where
   pub defines : Defines permanent limit (reverse acts) own
   pub encodes : Encodes (known permanent own) (reverse acts)
-  pub image_is : IsImage (known permanent own) (reverse acts) image
+  pub image_is : IsImage (words (known permanent own) (reverse acts)) image

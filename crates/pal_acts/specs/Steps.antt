@@ -1,8 +1,7 @@
 -- One act after another: the private contracts of the calls below `assemble`.
-use Rattle.std.specs.Prelude.{◌≡◌, ℕ, ◌+◌, List, ◌∷◌, length, Option, Some, None}
+use Rattle.std.specs.Prelude.{◌≡◌, ℕ, ◌+◌, List, ◌∷◌, length, reverse, Option, Some, None}
 use Rattle.pal_text.specs.declared.names.Name.{Name}
-use Rattle.pal_acts.specs.declared.act.Join.{Join}
-use Rattle.pal_acts.specs.declared.act.Act.{Act}
+use Rattle.pal_acts.specs.declared.act.PlacedWord.{PlacedWord}
 use Rattle.pal_acts.specs.declared.code.Code.{Code}
 use Rattle.pal_acts.specs.declared.symbols.Refusal.{Refusal}
 use Rattle.pal_acts.specs.declared.symbols.Refusal.TheVariants as refusal
@@ -10,9 +9,9 @@ use Rattle.pal_acts.specs.declared.assembly.Refused.{Refused}
 use Rattle.pal_acts.specs.declared.assembly.Refused.TheVariants.{Fault, NoMemory}
 use Rattle.pal_acts.specs.Acts.{PlacedAct}
 use Rattle.pal_acts.specs.Values.{Values}
-use Rattle.pal_acts.specs.Meaning.{location, location_after}
-use Rattle.pal_acts.specs.Sources.{IsImage, Encodes}
-use Rattle.pal_acts.specs.Faults.{Stops, AsksForMemory, Finds}
+use Rattle.pal_acts.specs.Meaning.{location}
+use Rattle.pal_acts.specs.Sources.{Encodes, and_word, words, IsImage}
+use Rattle.pal_acts.specs.Faults.{Stops, AsksForMemory, WordBreaks, Finds}
 
 -- A refusal by this fault; or memory was refused where there is no fault and the symbols become one more.
 abbrev pub IsFault : ℕ → Option Code → List (Name × ℕ) → Refusal → Type 0
@@ -29,7 +28,31 @@ abbrev pub FindsBy : Values → List PlacedAct → Refused → Type 0
 FindsBy σ acts (Fault place code) = Finds σ acts place code
 FindsBy σ acts NoMemory = ⊥
 
+-- The acts are refused for a word, or memory was refused for one.
+abbrev pub FindsKeeping : Values → List PlacedAct → Refused → Type 0
+FindsKeeping σ acts (Fault place code) = Finds σ acts place code
+FindsKeeping σ acts NoMemory = Unit {0}
+
+-- A word that was found, before others.
+abbrev pub with_found : Option PlacedWord → List PlacedWord → List PlacedWord
+with_found None before = before
+with_found (Some w) before = w ∷ before
+
+-- This is the word of an act at this location, or it has none.
+abbrev pub Codes : Values → ℕ → PlacedAct → Option PlacedWord → Type 0
+Codes σ here next found = (before : List PlacedWord) → with_found found before ≡ and_word σ here next.place next.terms next.act before
+
 -- The word of an act is put into the image of those before it.
 abbrev pub Puts : Values → PlacedAct → List (Option ℕ) → ℕ → List (Option ℕ) → ℕ → Type 0
-Puts σ next image here image' here' = (before : List PlacedAct) → here ≡ location σ before → IsImage σ before image → Encodes σ before
-    → IsImage σ (next ∷ before) image' × Encodes σ (next ∷ before) × (here' ≡ location_after σ here next.terms next.act)
+Puts σ next image here image' here' = (before : List PlacedAct) → here ≡ location σ before → IsImage (words σ before) image → Encodes σ before
+    → IsImage (words σ (next ∷ before)) image' × Encodes σ (next ∷ before) × (here' ≡ location σ (next ∷ before))
+
+-- The word of an act is kept after those before it, which are in order.
+abbrev pub Keeps : Values → PlacedAct → List PlacedWord → ℕ → List PlacedWord → ℕ → Type 0
+Keeps σ next kept here kept' here' = (before : List PlacedAct) → here ≡ location σ before → kept ≡ reverse (words σ before) → Encodes σ before
+    → (kept' ≡ reverse (words σ (next ∷ before))) × Encodes σ (next ∷ before) × (here' ≡ location σ (next ∷ before))
+
+-- An act at this location isn't kept: it is to be a word and is none, or memory was refused for it.
+abbrev pub BreaksKeeping : Values → ℕ → PlacedAct → Refused → Type 0
+BreaksKeeping σ here next (Fault place code) = (place ≡ next.place) × WordBreaks σ here next.terms next.act code
+BreaksKeeping σ here next NoMemory = Unit {0}

@@ -36,7 +36,7 @@ pub struct Join {
 /// One thing that a source does. The terms of its expression stand beside it.
 #[derive(Clone, Copy, PartialEq, Eq, Debug)]
 pub enum Act {
-    /// It is wrong by itself: a form, a digit or a number.
+    /// It is wrong by itself: a form, a digit, a number, or a tag that DECIMAL, OCTAL or PAUSE is.
     Wrong(Code),
     /// `symbol,`: the symbol gets the current location.
     Tag(Name),
@@ -58,4 +58,12 @@ pub enum Act {
 pub struct Place {
     pub part: usize,
     pub line: usize,
+}
+
+/// A word that a source puts into memory: where its statement stands, its address and its value.
+#[derive(Clone, Copy, PartialEq, Eq, Debug)]
+pub struct PlacedWord {
+    pub place: Place,
+    pub at: Word,
+    pub word: Word,
 }

@@ -1,18 +1,18 @@
 //! The meaning of a source, or its first fault.
 
-ghost use Rattle.std.specs.Prelude.{◌≡◌, reverse, IfOk, IfErr, OnOk, MatchResult, ℕ, List, Option};
+ghost use Rattle.std.specs.Prelude.{◌≡◌, ◌⊎◌, reverse, IfOk, IfErr, OnOk, MatchResult, ℕ, List, Option};
 ghost use Rattle.pal_text.specs.declared.names.Name.{Name as Named};
 ghost use Rattle.pal_acts.specs.declared.act.Place.{Place as Placing};
 ghost use Rattle.pal_acts.specs.declared.code.Code.{Code as Coded};
-ghost use Rattle.pal_acts.specs.Acts.{placed};
+ghost use Rattle.pal_acts.specs.Acts.{shown};
 ghost use Rattle.pal_acts.specs.Values.{known};
-ghost use Rattle.pal_acts.specs.Meaning.{Defines};
-ghost use Rattle.pal_acts.specs.Sources.{IsSource, IsImage, Encodes};
-ghost use Rattle.pal_acts.specs.Faults.{Refuses, IsRefused, IsSilent, TellsOnly, WordBreaks};
-ghost use Rattle.pal_acts.specs.Steps.{StopsBy, FindsBy, Puts};
+ghost use Rattle.pal_acts.specs.Meaning.{location_after, Defines};
+ghost use Rattle.pal_acts.specs.Sources.{IsSource, IsImage, Encodes, HasWord, words, all_words};
+ghost use Rattle.pal_acts.specs.Faults.{Refuses, RefusesKeeping, IsRefused, WordBreaks};
+ghost use Rattle.pal_acts.specs.Steps.{StopsBy, FindsBy, FindsKeeping, BreaksKeeping, Codes, Puts, Keeps};
 
-use crate::act::{Act, Join, Place};
-use crate::acts::Acts;
+use crate::act::{Act, Place, PlacedWord};
+use crate::acts::{Acts, Placed};
 use crate::code::Code;
 use crate::symbols::{Refusal, SymbolTable, Symbols};
 use bin_tape::Image;
@@ -33,6 +33,14 @@ pub enum Refused {
 pub struct Assembled<'p, A: Allocator + Copy> {
     pub symbols: Symbols<'p, A>,
     pub image: Image,
+}
+
+/// The same with each of these words at its place in the source, in order.
+#[derive(Drop)]
+pub struct AssembledWords<'p, A: Allocator + Copy> {
+    pub symbols: Symbols<'p, A>,
+    pub image: Image,
+    pub words: Vec<PlacedWord, A>,
 }
 
 /// The symbols of a source.
@@ -59,47 +67,95 @@ fn define<'p, A: Allocator + Copy>(
     Ok(symbols)
 }
 
-/// Puts the word of an act, if it has one, into the image.
-fn put<'p, A: Allocator + Copy>(
-    symbols: &Symbols<'p, A>,
-    act: Act,
-    terms: &[Join],
-    image: &mut Image,
+/// The word of an act at this location, if it has one. The location becomes that of the next act.
+#[inline(always)]
+fn code<A: Allocator + Copy>(
+    symbols: &Symbols<'_, A>,
+    next: Placed<'_>,
     here: &mut Word,
-) -> Result<(), Code>
-    ensures puts { OnOk result ((place : Placing) → Puts (known symbols.now.permanent.now.entries
-        symbols.now.own.entries) (placed place terms.now act) image.old here.old image.new
-        here.new) }
+) -> Result<Option<PlacedWord>, Code>
+    ensures codes { IfOk result (Codes (known symbols.now.permanent.now.entries
+        symbols.now.own.entries) here.old (shown next.entry)) }
+    ensures sound { OnOk result (HasWord (known symbols.now.permanent.now.entries
+        symbols.now.own.entries) here.old next.entry.terms.now next.entry.act) }
+    ensures moves { OnOk result (here.new ≡ location_after
+        (known symbols.now.permanent.now.entries symbols.now.own.entries) here.old
+        next.entry.terms.now next.entry.act) }
     ensures refused { IfErr result (WordBreaks (known symbols.now.permanent.now.entries
-        symbols.now.own.entries) here.old terms.now act) }
+        symbols.now.own.entries) here.old next.entry.terms.now next.entry.act) }
 {
-    match act {
+    match next.act {
         Act::Word => {
-            let word = symbols.word(*here, terms)?;
-            image.set(*here, word);
-            *here = here.increment();
-            Ok(())
+            let at = *here;
+            let word = symbols.word(at, next.terms)?;
+            *here = at.increment();
+            Ok(Some(PlacedWord {
+                place: next.place,
+                at,
+                word,
+            }))
         }
         Act::Origin => {
-            *here = match symbols.value(*here, terms) {
+            *here = match symbols.value(*here, next.terms) {
                 Some(origin) => origin,
                 None => Word::ZERO,
             };
+            Ok(None)
+        }
+        _ => Ok(None),
+    }
+}
+
+/// Puts the word of an act, if it has one, into the image.
+fn put<A: Allocator + Copy>(
+    symbols: &Symbols<'_, A>,
+    next: Placed<'_>,
+    image: &mut Image,
+    here: &mut Word,
+) -> Result<(), Code>
+    ensures puts { OnOk result (Puts (known symbols.now.permanent.now.entries
+        symbols.now.own.entries) (shown next.entry) image.old here.old image.new here.new) }
+    ensures refused { IfErr result (WordBreaks (known symbols.now.permanent.now.entries
+        symbols.now.own.entries) here.old next.entry.terms.now next.entry.act) }
+{
+    match code(symbols, next, here)? {
+        Some(found) => {
+            image.set(found.at, found.word);
             Ok(())
         }
-        _ => Ok(()),
+        None => Ok(()),
+    }
+}
+
+/// Keeps the word of an act, if it has one, after others.
+fn keep<A: Allocator + Copy>(
+    symbols: &Symbols<'_, A>,
+    next: Placed<'_>,
+    kept: &mut Vec<PlacedWord, A>,
+    here: &mut Word,
+) -> Result<(), Refused>
+    ensures keeps { OnOk result (Keeps (known symbols.now.permanent.now.entries
+        symbols.now.own.entries) (shown next.entry) kept.old.items here.old kept.new.items
+        here.new) }
+    ensures refused { IfErr result (BreaksKeeping (known symbols.now.permanent.now.entries
+        symbols.now.own.entries) here.old (shown next.entry)) }
+{
+    match code(symbols, next, here) {
+        Ok(Some(found)) => match kept.push(found) {
+            Ok(()) => Ok(()),
+            Err(_) => Err(Refused::NoMemory),
+        },
+        Ok(None) => Ok(()),
+        Err(code) => Err(Refused::Fault(next.place, code)),
     }
 }
 
 /// The image of acts whose symbols these are, or the first fault of a word.
-fn encode<'p, A: Allocator + Copy>(
-    symbols: &Symbols<'p, A>,
-    acts: &Acts<A>,
-) -> Result<Image, Refused>
+fn encode<A: Allocator + Copy>(symbols: &Symbols<'_, A>, acts: &Acts<A>) -> Result<Image, Refused>
     ensures encodes { OnOk result (Encodes (known symbols.now.permanent.now.entries
         symbols.now.own.entries) (reverse acts.now)) }
-    ensures image { IfOk result (IsImage (known symbols.now.permanent.now.entries
-        symbols.now.own.entries) (reverse acts.now)) }
+    ensures image { IfOk result (IsImage (words (known symbols.now.permanent.now.entries
+        symbols.now.own.entries) (reverse acts.now))) }
     ensures refused { IfErr result (FindsBy (known symbols.now.permanent.now.entries
         symbols.now.own.entries) acts.now) }
 {
@@ -107,11 +163,43 @@ fn encode<'p, A: Allocator + Copy>(
     let mut here = Word::from_index(0o200);
     for at in 0..acts.len() {
         let next = acts.get(at);
-        if let Err(code) = put(symbols, next.act, next.terms, &mut image, &mut here) {
+        if let Err(code) = put(symbols, next, &mut image, &mut here) {
             return Err(Refused::Fault(next.place, code));
         }
     }
     Ok(image)
+}
+
+/// The words of acts whose symbols these are, or the first fault of a word.
+fn keep_words<A: Allocator + Copy>(
+    alloc: A,
+    symbols: &Symbols<'_, A>,
+    acts: &Acts<A>,
+) -> Result<Vec<PlacedWord, A>, Refused>
+    ensures encodes { OnOk result (Encodes (known symbols.now.permanent.now.entries
+        symbols.now.own.entries) (reverse acts.now)) }
+    ensures words { IfOk result (λ kept. kept.items ≡
+        all_words (known symbols.now.permanent.now.entries symbols.now.own.entries) acts.now) }
+    ensures refused { IfErr result (FindsKeeping (known symbols.now.permanent.now.entries
+        symbols.now.own.entries) acts.now) }
+{
+    let mut kept = Vec::new(alloc);
+    let mut here = Word::from_index(0o200);
+    for at in 0..acts.len() {
+        keep(symbols, acts.get(at), &mut kept, &mut here)?;
+    }
+    Ok(kept)
+}
+
+/// The image of words that are in order.
+fn image_of(found: &[PlacedWord]) -> Image
+    ensures { IsImage (reverse found.now) result }
+{
+    let mut image = Image::empty();
+    for word in found {
+        image.set(word.at, word.word);
+    }
+    image
 }
 
 /// The meaning of a source, or its first fault.
@@ -129,6 +217,30 @@ fn assemble_acts<'p, A: Allocator + Copy>(
     let symbols = define(alloc, permanent, acts)?;
     let image = encode(&symbols, acts)?;
     Ok(Assembled { symbols, image })
+}
+
+/// The meaning of a source with its words, or its first fault.
+fn assemble_words<'p, A: Allocator + Copy>(
+    alloc: A,
+    permanent: &'p SymbolTable<A>,
+    acts: &Acts<A>,
+) -> Result<AssembledWords<'p, A>, Refused>
+    ensures permanent { IfOk result (λ found. found.symbols.permanent.now.entries ≡
+        permanent.now.entries) }
+    ensures found { IfOk result (λ found. IsSource permanent.now.entries 1024 acts.now
+        found.symbols.own.entries found.image) }
+    ensures words { IfOk result (λ found. found.words.items ≡
+        all_words (known permanent.now.entries found.symbols.own.entries) acts.now) }
+    ensures refused { IfErr result (RefusesKeeping permanent.now.entries 1024 acts.now) }
+{
+    let symbols = define(alloc, permanent, acts)?;
+    let words = keep_words(alloc, &symbols, acts)?;
+    let image = image_of(&words);
+    Ok(AssembledWords {
+        symbols,
+        image,
+        words,
+    })
 }
 
 /// The symbols and the image of a source whose permanent symbols these are.
@@ -152,11 +264,45 @@ pub fn assemble<'p, A: Allocator + Copy>(
     ensures meant { (own : List (Named × ℕ)) (image : List (Option ℕ)) →
         IsSource permanent.now.entries 1024 acts.now own image →
         MatchResult result (λ found. (found.symbols.own.entries ≡ own) × (found.image ≡ image))
-        IsSilent }
+        (λ refused. refused ≡ Refused.NoMemory) }
     // A source that has a fault is answered by no other, and by no meaning.
     ensures faulty { (place : Placing) (code : Coded) →
         IsRefused permanent.now.entries 1024 acts.now place code →
-        MatchResult result (λ found. ⊥) (TellsOnly place code) }
+        MatchResult result (λ found. ⊥) (λ refused. (refused ≡ Refused.Fault place code) ⊎
+        (refused ≡ Refused.NoMemory)) }
 {
     assemble_acts(alloc, permanent, acts)
+}
+
+/// The symbols, the image and the words of a source whose permanent symbols these are. The words
+/// are those of the image and those that later ones replace, each at its place in the source.
+///
+/// # Errors
+///
+/// `Fault` as of [`assemble`]. `NoMemory` where `assemble` has it, and where memory was refused for a
+/// word, which is asked for once all symbols have their values.
+pub fn assemble_with_words<'p, A: Allocator + Copy>(
+    alloc: A,
+    permanent: &'p SymbolTable<A>,
+    acts: &Acts<A>,
+) -> Result<AssembledWords<'p, A>, Refused>
+    ensures permanent { IfOk result (λ found. found.symbols.permanent.now.entries ≡
+        permanent.now.entries) }
+    ensures found { IfOk result (λ found. IsSource permanent.now.entries 1024 acts.now
+        found.symbols.own.entries found.image) }
+    ensures words { IfOk result (λ found. found.words.items ≡
+        all_words (known permanent.now.entries found.symbols.own.entries) acts.now) }
+    ensures refused { IfErr result (RefusesKeeping permanent.now.entries 1024 acts.now) }
+    // A source that has a meaning is answered by no fault.
+    ensures meant { (own : List (Named × ℕ)) (image : List (Option ℕ)) →
+        IsSource permanent.now.entries 1024 acts.now own image →
+        MatchResult result (λ found. (found.symbols.own.entries ≡ own) × (found.image ≡ image))
+        (λ refused. refused ≡ Refused.NoMemory) }
+    // A source that has a fault is answered by no other, and by no meaning.
+    ensures faulty { (place : Placing) (code : Coded) →
+        IsRefused permanent.now.entries 1024 acts.now place code →
+        MatchResult result (λ found. ⊥) (λ refused. (refused ≡ Refused.Fault place code) ⊎
+        (refused ≡ Refused.NoMemory)) }
+{
+    assemble_words(alloc, permanent, acts)
 }

@@ -1,5 +1,5 @@
 -- What a source means holds words.
-use Rattle.std.proofs.Common.{refl, ℕ, ◌+◌, ◌<◌, List, [], ◌∷◌, ◌++◌, Bool, true, Result, Ok, Err, inl, inr}
+use Rattle.std.proofs.Common.{refl, ℕ, ◌+◌, ◌<◌, List, [], ◌∷◌, Bool, Result, Ok, Err}
 use Rattle.std.specs.Prelude.{map, nat_lt}
 use Rattle.std.specs.List.{AllByRecursion, list_all}
 use Rattle.std.proofs.lemmas.Bool.{cond_both, ltb-true}

@@ -1,5 +1,5 @@
 -- What holds of each act that a statement can do holds of all that it does.
-use Rattle.std.proofs.Common.{◌≡◌, refl, ℕ, List, [], ◌∷◌, ◌++◌, Bool, Result, Ok, Err}
+use Rattle.std.proofs.Common.{◌≡◌, refl, ℕ, List, [], ◌∷◌, Bool, Result, Ok, Err}
 use Rattle.std.specs.Prelude.{map}
 use Rattle.std.specs.List.{AllByRecursion}
 use Rattle.std.proofs.lemmas.Bool.{cond_both}
@@ -7,7 +7,7 @@ use Rattle.pal_text.specs.declared.tokens.Kind.{Kind}
 use Rattle.pal_text.specs.declared.tokens.Kind.TheVariants as kind
 use Rattle.pal_text.specs.declared.tokens.Token.{Token}
 use Rattle.pal_text.specs.declared.grammar.Form.TheVariants as form
-use Rattle.pal_text.specs.Grammar.{Said, Nothing, Origin, Assign, AssignDirection, Decimal, Octal, Pause, Word, form_of}
+use Rattle.pal_text.specs.Grammar.{Said, Origin, Assign, AssignDirection, Pause, Word, form_of}
 use Rattle.pal_text.proofs.Rises.{all_append}
 use Rattle.pal_acts.specs.declared.act.Join.{Join}
 use Rattle.pal_acts.specs.declared.act.Act.{Act}

@@ -6,7 +6,7 @@ use Rattle.std.proofs.lemmas.List.{take_all, drop_more}
 use Rattle.std.proofs.lemmas.Option.{slice_get_within, slice_get-get_or}
 use Rattle.pal_text.specs.declared.names.Name.{Name}
 use Rattle.pal_acts.specs.declared.act.Place.{Place}
-use Rattle.pal_asm.specs.declared.listing.ListedWord.{ListedWord}
+use Rattle.pal_acts.specs.declared.act.PlacedWord.{PlacedWord}
 use Rattle.pal_asm.specs.Listings.{is_at, line_text, words_text, word_text, symbols_text, symbol_text}
 use Rattle.pal_asm.specs.Kept.{next_at, after_those}
 
@@ -20,18 +20,18 @@ some_is x y e = cc
 
 -- a word taken off the front
 module _ (p : Place) where
-  pub word_off : (xs : List ListedWord) (d : ListedWord) → 1 ≤ length xs → is_at p (get_or xs 0 d) ≡ true
+  pub word_off : (xs : List PlacedWord) (d : PlacedWord) → 1 ≤ length xs → is_at p (get_or xs 0 d) ≡ true
       → (after_those p (take (length xs - 1) (drop 1 xs)) ≡ after_those p xs) × (next_at p xs ≡ get_or xs 0 d ∷ next_at p (take (length xs - 1) (drop 1 xs)))
   word_off [] d h is = absurd (omega arith)
   word_off (x ∷ xs) d h is =
       let all : take (length (x ∷ xs) - 1) xs ≡ xs = take_all (length (x ∷ xs) - 1) xs (omega arith) in
       (ap (after_those p) all ∙ sym (cond-true (is_at p x) (after_those p xs) (x ∷ xs) is), cond-true (is_at p x) (x ∷ next_at p xs) [] is ∙ ap (λ l. x ∷ next_at p l) (sym all))
 
-  pub words_on : (xs : List ListedWord) (d : ListedWord) (text with_word new : List ℕ) → 1 ≤ length xs → d ≡ get_or xs 0 d → is_at p d ≡ true
+  pub words_on : (xs : List PlacedWord) (d : PlacedWord) (text with_word new : List ℕ) → 1 ≤ length xs → d ≡ get_or xs 0 d → is_at p d ≡ true
       → with_word ≡ text ++ word_text d → new ≡ with_word ++ codes "\n"
       → (after_those p (take (length xs - 1) (drop 1 xs)) ≡ after_those p xs) × (new ++ words_text (next_at p (take (length xs - 1) (drop 1 xs))) ≡ text ++ words_text (next_at p xs))
   words_on xs d text with_word new h is on e f =
-      let rest : List ListedWord = next_at p (take (length xs - 1) (drop 1 xs)) in
+      let rest : List PlacedWord = next_at p (take (length xs - 1) (drop 1 xs)) in
       let off = word_off xs d h (ap (is_at p) (sym is) ∙ on) in (
         off.0,
         ap (λ l. l ++ words_text rest) (f ∙ ap (λ l. l ++ codes "\n") e ∙ append_assoc text (word_text d) (codes "\n")) ∙ append_assoc text (word_text d ++ codes "\n") (words_text rest)

@@ -1,6 +1,6 @@
 -- A source has one meaning or one fault, and not both.
-use Rattle.std.proofs.Common.{◌≡◌, ◌∙◌, sym, ap, refl, subst, ℕ, ◌+◌, List, [], ◌∷◌, ◌++◌, Bool, Option, Some, None, Result, Ok, Err, inl, inr, length}
-use Rattle.std.specs.Prelude.{IfOk, IfErr, MatchResult}
+use Rattle.std.proofs.Common.{◌≡◌, ◌∙◌, sym, ap, refl, subst, ℕ, ◌+◌, List, [], ◌∷◌, ◌++◌, Bool, Option, Some, None, Result, Ok, Err, inl, inr, ◌⊎◌, length}
+use Rattle.std.specs.Prelude.{IfOk, IfErr, MatchResult, codes}
 use Rattle.pal_text.specs.declared.tokens.Token.{Token}
 use Rattle.pal_text.specs.declared.cut.Statement.{Statement}
 use Rattle.pal_text.specs.declared.cut.Close.{Close}
@@ -13,7 +13,12 @@ use Rattle.pal_text.proofs.Readings.{one_said}
 use Rattle.pal_text.proofs.Unique.{one_line}
 use Rattle.pal_acts.specs.declared.act.Act.TheVariants as act
 use Rattle.pal_acts.specs.declared.code.Code.TheVariants.{IllegalCharacter}
-use Rattle.pal_acts.specs.Sources.{IsSource}
+use Rattle.pal_acts.specs.Sources.{IsSource, all_words}
+use Rattle.pal_acts.specs.Values.{known}
+use Rattle.pal_acts.specs.declared.act.PlacedWord.{PlacedWord}
+use Rattle.pal_acts.specs.declared.assembly.Refused.{Refused}
+use Rattle.pal_acts.specs.declared.assembly.Refused.TheVariants as refused
+use Rattle.pal_acts.proofs.Told.{Has}
 use Rattle.pal_acts.proofs.First.{one_source, not_both, one_fault}
 use Rattle.pal_asm.specs.declared.number.Radix.{Radix}
 use Rattle.pal_asm.specs.declared.number.Radix.TheVariants.{Octal}
@@ -24,7 +29,10 @@ use Rattle.pal_acts.specs.declared.act.Place.{Place}
 use Rattle.pal_acts.specs.Acts.{PlacedAct, placed, place}
 use Rattle.pal_asm.specs.Numbers.{base, radix_after}
 use Rattle.pal_asm.specs.Acts.{statement_acts, Does, ends, goes_on}
-use Rattle.pal_asm.specs.Sources.{size_fault, is_empty, TextLine, part_lines, Reads, no_part, broken, last_part, next_part, Means, IsFaultOf, IsFault, Refuses, IsSilent, TellsOnly}
+use Rattle.pal_asm.specs.Sources.{size_fault, is_empty, TextLine, part_lines, Reads, no_part, broken, last_part, next_part, Means, IsFaultOf, IsFault, Refuses}
+use Rattle.pal_asm.specs.Listings.{symbols_text, Lists}
+use Rattle.pal_asm.specs.Kept.{fault_of, RefusesActs, turns_text}
+use Rattle.pal_asm.proofs.Ordered.{lists_by}
 
 none_some : {X : Type 0} (o : Option X) (x : X) → o ≡ None → o ≡ Some x → ⊥
 none_some o x e f = let both : None ≡ Some x = sym e ∙ f in cc
@@ -131,14 +139,14 @@ module _ (perm : List (Name × ℕ)) (parts : List (List ℕ)) where
       one_fault_of k.acts f g (subst P e h.is_fault) k.is_fault
 
   -- a source with a meaning is refused for want of memory alone
-  pub silent : (s : List (Name × ℕ)) (i : List (Option ℕ)) → Means perm parts s i → (e : AssembleFault) → Refuses perm parts e → IsSilent e
-  silent s i h (Source fault) k = means_sound s i fault h k
-  silent s i h NoMemory k = tt
+  pub silent : (s : List (Name × ℕ)) (i : List (Option ℕ)) → Means perm parts s i → (e : AssembleFault) → Refuses perm parts e → e ≡ NoMemory
+  silent s i h (Source fault) k = absurd (means_sound s i fault h k)
+  silent s i h NoMemory k = refl
 
   -- one with a fault tells no other
-  pub tells_only : (fault : PalFault) → IsFault perm parts fault → (e : AssembleFault) → Refuses perm parts e → TellsOnly fault e
-  tells_only fault h (Source told) k = faults_one told fault k h
-  tells_only fault h NoMemory k = tt
+  pub tells_only : (fault : PalFault) → IsFault perm parts fault → (e : AssembleFault) → Refuses perm parts e → (e ≡ Source fault) ⊎ (e ≡ NoMemory)
+  tells_only fault h (Source told) k = inl (ap Source (faults_one told fault k h))
+  tells_only fault h NoMemory k = inr refl
 
   pub same_meaning : (s u : List (Name × ℕ)) (i j : List (Option ℕ)) → Means perm parts s i → Means perm parts u j → (s ≡ u) × (i ≡ j)
   same_meaning s u i j h k = means_one s u i j h k
@@ -149,3 +157,22 @@ module _ (perm : List (Name × ℕ)) (parts : List (List ℕ)) where
 pub matched : {X : Type 0} (r : Result X AssembleFault) (P Q : X → Type 0) (F G : AssembleFault → Type 0) → IfOk r P → IfErr r F → ((x : X) → P x → Q x) → ((e : AssembleFault) → F e → G e) → MatchResult r Q G
 matched (Ok x) P Q F G ok err p f = p x ok
 matched (Err e) P Q F G ok err p f = f e err
+
+-- a refusal of acts is that of their source
+pub told_so : (perm : List (Name × ℕ)) (acts : List PlacedAct) (r : Refused) → Has perm 1024 acts r → RefusesActs perm acts (fault_of r)
+told_so perm acts (refused.Fault place code) h = h
+told_so perm acts refused.NoMemory h = tt
+
+-- a refusal for want of memory is one of every source
+pub silent_refuses : {X : Type 0} (perm : List (Name × ℕ)) (parts : List (List ℕ)) (r : Result X AssembleFault) → IfErr r (λ e. e ≡ NoMemory) → IfErr r (Refuses perm parts)
+silent_refuses perm parts (Ok x) h = tt
+silent_refuses perm parts (Err e) h = subst (Refuses perm parts) (sym h) tt
+
+-- what is true of the words that were found is true of all words
+pub by_words : {X : Type 0} (perm : List (Name × ℕ)) (parts : List (List ℕ)) (r : Result X AssembleFault) (symbols : X → List (Name × ℕ)) (text : X → List ℕ) (permanent own : List (Name × ℕ)) (acts : List PlacedAct) (lines : List TextLine) (ws : List PlacedWord)
+    → permanent ≡ perm → Reads 1 Octal parts acts lines → ws ≡ all_words (known permanent own) acts → IfOk r (λ p. symbols p ≡ own) → IfOk r (λ p. text p ≡ turns_text lines ws ++ codes "\n" ++ symbols_text own)
+    → IfOk r (λ p. Lists perm parts (symbols p) (text p))
+by_words perm parts (Ok p) symbols text permanent own acts lines ws same reads words own_is text_is =
+    subst (λ s. Lists perm parts s (text p)) (sym own_is)
+    (lists_by perm own parts acts lines (text p) reads (text_is ∙ ap (λ l. turns_text lines l ++ codes "\n" ++ symbols_text own) (words ∙ ap (λ s. all_words (known s own) acts) same)))
+by_words perm parts (Err e) symbols text permanent own acts lines ws same reads words own_is text_is = tt

@@ -2,10 +2,9 @@
 use Rattle.std.proofs.Common.{◌≡◌, ◌∙◌, sym, ℕ, List}
 use Rattle.pal_text.specs.declared.names.Name.{Name}
 use Rattle.pal_acts.specs.Values.{known}
-use Rattle.pal_acts.specs.Acts.{PlacedAct}
 use Rattle.pal_asm.specs.declared.number.Radix.TheVariants.{Octal}
-use Rattle.pal_asm.specs.Sources.{TextLine}
-use Rattle.pal_asm.specs.Listings.{all_words, listing, Lists}
+use Rattle.pal_acts.specs.Sources.{all_words}
+use Rattle.pal_asm.specs.Listings.{listing, Lists}
 use Rattle.pal_asm.proofs.One.{reads_one}
 
 pub lists_one : (perm : List (Name × ℕ)) (parts : List (List ℕ)) (own : List (Name × ℕ)) (text other : List ℕ) → Lists perm parts own text → Lists perm parts own other → text ≡ other

@@ -21,11 +21,12 @@ use Rattle.pal_acts.specs.Meaning.{location}
 use Rattle.pal_acts.specs.Words.{word_value}
 use Rattle.pal_asm.specs.declared.number.Radix.{Radix}
 use Rattle.pal_asm.specs.declared.number.Radix.TheVariants.{Octal}
-use Rattle.pal_asm.specs.declared.listing.ListedWord.{ListedWord}
+use Rattle.pal_acts.specs.declared.act.PlacedWord.{PlacedWord}
 use Rattle.pal_asm.specs.Numbers.{base, radix_after}
 use Rattle.pal_asm.specs.Acts.{statement_acts, Does, ends, goes_on}
 use Rattle.pal_asm.specs.Sources.{is_empty, TextLine, text_lines, part_lines, Reads, no_part, broken, last_part, next_part}
-use Rattle.pal_asm.specs.Listings.{word_at_place, and_word, words, all_words, symbols_text, listing, Lists}
+use Rattle.pal_acts.specs.Sources.{word_at_place, and_word, words, all_words}
+use Rattle.pal_asm.specs.Listings.{symbols_text, listing, Lists}
 use Rattle.pal_asm.specs.Kept.{turns_text}
 use Rattle.pal_asm.proofs.EachAct.{statement_holds}
 use Rattle.pal_asm.proofs.Climbs.{Marks, part_marks}
@@ -92,19 +93,19 @@ acts_turned p (x ∷ xs) before a b =
     subst P (sym (ap (λ l. l ++ before) (reverse-append (x ∷ []) xs) ∙ append_assoc (reverse xs) (x ∷ []) before))
     (acts_turned x.place xs (x ∷ before) a.1 (upto_refl x.place, acts_higher p x.place before a.0 b))
 
-abbrev WordsUpto : Place → List ListedWord → Type 0
+abbrev WordsUpto : Place → List PlacedWord → Type 0
 WordsUpto p [] = Unit {0}
 WordsUpto p (w ∷ ws) = Upto w.place p × WordsUpto w.place ws
 
-words_higher : (p q : Place) (ws : List ListedWord) → Upto p q → WordsUpto p ws → WordsUpto q ws
+words_higher : (p q : Place) (ws : List PlacedWord) → Upto p q → WordsUpto p ws → WordsUpto q ws
 words_higher p q [] h a = tt
 words_higher p q (w ∷ ws) h a = (upto_trans w.place p q a.0 h, a.1)
 
-word_upto : (p q : Place) (at : ℕ) (value : Result ℕ Code) (ws : List ListedWord) → Upto q p → WordsUpto q ws → WordsUpto p (word_at_place q at value ws)
+word_upto : (p q : Place) (at : ℕ) (value : Result ℕ Code) (ws : List PlacedWord) → Upto q p → WordsUpto q ws → WordsUpto p (word_at_place q at value ws)
 word_upto p q at (Ok w) ws h a = (h, a)
 word_upto p q at (Err c) ws h a = words_higher q p ws h a
 
-and_word_upto : (σ : Values) (here : ℕ) (p q : Place) (e : List Join) (a : Act) (ws : List ListedWord) → Upto q p → WordsUpto q ws → WordsUpto p (and_word σ here q e a ws)
+and_word_upto : (σ : Values) (here : ℕ) (p q : Place) (e : List Join) (a : Act) (ws : List PlacedWord) → Upto q p → WordsUpto q ws → WordsUpto p (and_word σ here q e a ws)
 and_word_upto σ here p q e act.Word ws h w = word_upto p q here (word_value σ here e) ws h w
 and_word_upto σ here p q e _ ws h w = words_higher q p ws h w
 
@@ -112,14 +113,14 @@ words_upto : (σ : Values) (p : Place) (before : List PlacedAct) → ActsUpto p 
 words_upto σ p [] a = tt
 words_upto σ p (x ∷ before) a = and_word_upto σ (location σ before) p x.place x.terms x.act (words σ before) a.0 (words_upto σ x.place before a.1)
 
-words_lower : (p q : Place) (ws : List ListedWord) → Upto p q → After q ws → After p ws
+words_lower : (p q : Place) (ws : List PlacedWord) → Upto p q → After q ws → After p ws
 words_lower p q [] h a = tt
 words_lower p q (w ∷ ws) h a = (upto_trans p q w.place h a.0, a.1)
 
-words_turned : (p : Place) (ws later : List ListedWord) → WordsUpto p ws → After p later → (q : Place) × After q (reverse ws ++ later)
+words_turned : (p : Place) (ws later : List PlacedWord) → WordsUpto p ws → After p later → (q : Place) × After q (reverse ws ++ later)
 words_turned p [] later a b = (p, b)
 words_turned p (w ∷ ws) later a b =
-    let P : List ListedWord → Type 0 = λ l. (q : Place) × After q l in
+    let P : List PlacedWord → Type 0 = λ l. (q : Place) × After q l in
     subst P (sym (ap (λ l. l ++ later) (reverse-append (w ∷ []) ws) ∙ append_assoc (reverse ws) (w ∷ []) later))
     (words_turned w.place ws (w ∷ later) a.1 (upto_refl w.place, words_lower w.place p later a.0 b))
 
@@ -129,7 +130,7 @@ words_after σ parts acts lines reads =
     let P : List PlacedAct → Type 0 = λ l. ActsUpto turned.0 l in
     let upto : WordsUpto turned.0 (words σ (reverse acts)) = words_upto σ turned.0 (reverse acts) (subst P (append-nil (reverse acts)) turned.1) in
     let found : (q : Place) × After q (all_words σ acts ++ []) = words_turned turned.0 (words σ (reverse acts)) [] upto tt in
-    let Q : List ListedWord → Type 0 = λ l. After found.0 l in
+    let Q : List PlacedWord → Type 0 = λ l. After found.0 l in
     (found.0, subst Q (append-nil (all_words σ acts)) found.1)
 
 text_after : (n m k : ℕ) (source : List ℕ) (ls : List Line) (later : List TextLine) → m < k → ((i : ℕ) → LinesAfter (place n i) later) → LinesAfter (place n m) (text_lines n k source ls ++ later)

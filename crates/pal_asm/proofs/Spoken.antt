@@ -1,5 +1,5 @@
 -- The tags of a statement and what stands after them, by how many tags there are.
-use Rattle.std.proofs.Common.{◌≡◌, ◌∙◌, sym, ap, refl, subst, ℕ, ◌-◌, ◌≤◌, List, [], ◌∷◌, ◌++◌, append_assoc, Bool, true, false, if◌then◌else◌, arith, length, take, drop, get_or, Result, Ok, Err}
+use Rattle.std.proofs.Common.{◌≡◌, ◌∙◌, sym, ap, refl, ℕ, ◌-◌, ◌≤◌, List, [], ◌∷◌, ◌++◌, append_assoc, Bool, true, false, if◌then◌else◌, arith, length, take, drop, get_or, Result, Ok, Err}
 use Rattle.std.specs.Prelude.{nat_eq, map, OnOk}
 use Rattle.std.specs.List.{AllByRecursion}
 use Rattle.std.proofs.lemmas.Bool.{ne_eqb}
@@ -7,21 +7,18 @@ use Rattle.std.proofs.lemmas.List.{take_all}
 use Rattle.pal_text.specs.declared.tokens.Kind.{Kind}
 use Rattle.pal_text.specs.declared.tokens.Kind.TheVariants as kind
 use Rattle.pal_text.specs.declared.tokens.Token.{Token}
-use Rattle.pal_text.specs.declared.grammar.Form.{Form}
 use Rattle.pal_text.specs.declared.cut.Statement.{Statement}
-use Rattle.pal_text.specs.Grammar.{is_direction, is_expression, Said, form_of, IsStatement, nothing, origin, assign, assign_direction, decimal, octal, pause, word, tagged}
+use Rattle.pal_text.specs.Grammar.{is_direction, Said, form_of, IsStatement, nothing, origin, assign, assign_direction, decimal, octal, pause, word, tagged}
 use Rattle.pal_text.proofs.Rises.{all_take, all_drop}
 use Rattle.pal_acts.specs.declared.act.Join.{Join}
 use Rattle.pal_acts.specs.declared.act.Act.{Act}
 use Rattle.pal_acts.specs.declared.act.Act.TheVariants as act
 use Rattle.pal_acts.specs.declared.act.Place.{Place}
 use Rattle.pal_acts.specs.declared.code.Code.{Code}
-use Rattle.pal_acts.specs.Acts.{PlacedAct, placed, place}
-use Rattle.pal_asm.specs.declared.number.Radix.{Radix}
-use Rattle.pal_asm.specs.Numbers.{base}
+use Rattle.pal_acts.specs.Acts.{PlacedAct, placed}
 use Rattle.pal_asm.specs.Expressions.{expression}
 use Rattle.pal_asm.specs.Acts.{tag_by, tag_act, operand, said_acts, acts_with, statement_acts}
-use Rattle.pal_asm.specs.Kept.{Says, names_in, after_tags, operand_by, assign_by, body_by, read_of}
+use Rattle.pal_asm.specs.Kept.{Says, names_in, after_tags, operand_by, assign_by, body_by}
 
 record Apart (ts names : List Token) (said : Said) : Type 0 where
   names_are : names_in (length names) ts ≡ names

@@ -1,5 +1,5 @@
 -- The statements of a part, read one after another.
-use Rattle.std.proofs.Common.{◌≡◌, ◌∙◌, sym, ap, refl, subst, ℕ, ◌+◌, List, [], ◌∷◌, ◌++◌, append_assoc, length, Some, None, Option}
+use Rattle.std.proofs.Common.{◌≡◌, ◌∙◌, sym, ap, subst, ℕ, ◌+◌, List, [], ◌∷◌, ◌++◌, append_assoc, length, Some, None, Option}
 use Rattle.std.proofs.lemmas.List.{append-nil}
 use Rattle.pal_text.specs.declared.tokens.Token.{Token}
 use Rattle.pal_text.specs.declared.cut.Statement.{Statement}
@@ -7,11 +7,11 @@ use Rattle.pal_text.specs.declared.cut.Close.{Close}
 use Rattle.pal_text.specs.declared.reader.Found.{Found}
 use Rattle.pal_text.specs.declared.fault.StatementFault.{StatementFault}
 use Rattle.pal_text.specs.declared.fault.StatementFault.TheVariants.{Illegal, NoMemory}
-use Rattle.pal_text.specs.Grammar.{Said, form_of, IsStatement}
+use Rattle.pal_text.specs.Grammar.{form_of, IsStatement}
 use Rattle.pal_text.specs.Names.{part_tokens}
 use Rattle.pal_text.specs.Parts.{IsIllegal}
 use Rattle.pal_text.specs.Progress.{Progress}
-use Rattle.pal_text.specs.Readers.{rest, IsNext, IsBroken, StopsAt, BreaksNext}
+use Rattle.pal_text.specs.Readers.{rest, IsNext, StopsAt, BreaksNext}
 use Rattle.pal_text.specs.Statements.{Piece, piece, own, Fills, closing, Breaks, here, later}
 use Rattle.pal_acts.specs.Acts.{PlacedAct, place}
 use Rattle.pal_asm.specs.declared.number.Radix.{Radix}

@@ -1,5 +1,5 @@
 -- What a source does as it is kept in memory, for the private contracts below `assemble`.
-use Rattle.std.specs.Prelude.{◌≡◌, ℕ, ◌+◌, ◌-◌, Bool, ◌||◌, ◌&&◌, nat_eq, nat_lt, if◌then◌else◌, List, [], ◌∷◌, ◌++◌, length, map, drop, reverse, Result, Ok, Err}
+use Rattle.std.specs.Prelude.{◌≡◌, ℕ, ◌+◌, ◌-◌, Bool, ◌||◌, ◌&&◌, nat_eq, nat_lt, if◌then◌else◌, List, [], ◌∷◌, ◌++◌, length, map, drop, Result, Ok, Err}
 use Rattle.pal_text.specs.declared.tokens.Kind.{Kind}
 use Rattle.pal_text.specs.declared.tokens.Kind.TheVariants as kind
 use Rattle.pal_text.specs.declared.tokens.Token.{Token}
@@ -16,10 +16,11 @@ use Rattle.pal_text.specs.Parts.{IsIllegal}
 use Rattle.pal_acts.specs.declared.act.Join.{Join}
 use Rattle.pal_acts.specs.declared.act.Act.TheVariants as act
 use Rattle.pal_acts.specs.declared.act.Place.{Place}
+use Rattle.pal_acts.specs.declared.act.PlacedWord.{PlacedWord}
 use Rattle.pal_acts.specs.declared.code.Code.{Code}
+use Rattle.pal_acts.specs.declared.assembly.Refused.{Refused}
+use Rattle.pal_acts.specs.declared.assembly.Refused.TheVariants as refused
 use Rattle.pal_acts.specs.Acts.{PlacedAct, placed}
-use Rattle.pal_acts.specs.Meaning.{location}
-use Rattle.pal_acts.specs.Values.{Values}
 use Rattle.pal_asm.specs.declared.number.Radix.{Radix}
 use Rattle.pal_asm.specs.declared.reading.Turn.{Turn}
 use Rattle.pal_asm.specs.declared.reading.Turn.TheVariants.{On, Ends}
@@ -27,12 +28,11 @@ use Rattle.pal_asm.specs.declared.reading.Reached.{Reached}
 use Rattle.pal_asm.specs.declared.statement.NumberedPart.{NumberedPart}
 use Rattle.pal_asm.specs.declared.front.Front.{Front}
 use Rattle.pal_asm.specs.declared.listing.ListedLine.{ListedLine}
-use Rattle.pal_asm.specs.declared.listing.ListedWord.{ListedWord}
 use Rattle.pal_asm.specs.declared.fault.AssembleFault.{AssembleFault}
 use Rattle.pal_asm.specs.declared.fault.AssembleFault.TheVariants.{Source, NoMemory}
 use Rattle.pal_asm.specs.Expressions.{name_of}
-use Rattle.pal_asm.specs.Sources.{TextLine, text_line, text_lines, is_empty, PartDoes, Reads, IsFaultOf}
-use Rattle.pal_asm.specs.Listings.{words, is_at, line_text, without_front}
+use Rattle.pal_asm.specs.Sources.{fault_at, TextLine, text_line, text_lines, is_empty, PartDoes, Reads, IsFaultOf}
+use Rattle.pal_asm.specs.Listings.{is_at, line_text, without_front}
 
 -- An expression that was read into these terms, or what is wrong with it.
 abbrev pub read_of : List Join → Result (Unit {0}) Code → Result (List Join) Code
@@ -120,36 +120,36 @@ abbrev pub lines_of_fronts : List Front → List TextLine
 lines_of_fronts [] = []
 lines_of_fronts (f ∷ fs) = text_lines f.number 1 f.bytes.now (all_lines f.bytes.now) ++ lines_of_fronts fs
 
+-- A refusal of acts as that of their source.
+abbrev pub fault_of : Refused → AssembleFault
+fault_of (refused.Fault place code) = Source (fault_at code place.part place.line)
+fault_of refused.NoMemory = NoMemory
+
 -- Kept acts are refused so: by their fault, or memory was refused.
 abbrev pub RefusesActs : List (Name × ℕ) → List PlacedAct → AssembleFault → Type 0
 RefusesActs permanent acts (Source fault) = IsFaultOf permanent acts fault
 RefusesActs permanent acts NoMemory = Unit {0}
 
--- An act was looked at for its word: from this location and these words of the acts before it to those.
-abbrev pub Adds : Values → PlacedAct → ℕ → ℕ → List ListedWord → List ListedWord → Type 0
-Adds σ next here here' found found' = (before : List PlacedAct) → here ≡ location σ before → found ≡ reverse (words σ before)
-    → (here' ≡ location σ (next ∷ before)) × (found' ≡ reverse (words σ (next ∷ before)))
-
 -- A word stands before this place.
-abbrev pub is_before : Place → ListedWord → Bool
+abbrev pub is_before : Place → PlacedWord → Bool
 is_before p w = nat_lt w.place.part p.part || (nat_eq w.place.part p.part && nat_lt w.place.line p.line)
 
 -- Words from the first one on that isn't before this place.
-abbrev pub skip : Place → List ListedWord → List ListedWord
+abbrev pub skip : Place → List PlacedWord → List PlacedWord
 skip p [] = []
 skip p (w ∷ ws) = if is_before p w then skip p ws else w ∷ ws
 
 -- The words at the front that stand at this place.
-abbrev pub next_at : Place → List ListedWord → List ListedWord
+abbrev pub next_at : Place → List PlacedWord → List PlacedWord
 next_at p [] = []
 next_at p (w ∷ ws) = if is_at p w then w ∷ next_at p ws else []
 
 -- Words after those at the front that stand at this place.
-abbrev pub after_those : Place → List ListedWord → List ListedWord
+abbrev pub after_those : Place → List PlacedWord → List PlacedWord
 after_those p [] = []
 after_those p (w ∷ ws) = if is_at p w then after_those p ws else w ∷ ws
 
 -- Lines that are given their words in one pass over words that are in order.
-abbrev pub turns_text : List TextLine → List ListedWord → List ℕ
+abbrev pub turns_text : List TextLine → List PlacedWord → List ℕ
 turns_text [] ws = []
 turns_text (l ∷ ls) ws = line_text (next_at l.place (skip l.place ws)) (without_front (characters l.bytes)) ++ turns_text ls (after_those l.place (skip l.place ws))

@@ -9,7 +9,8 @@ use Rattle.pal_asm.specs.declared.fault.PalFault.{PalFault}
 use Rattle.pal_asm.specs.Sources.{TextLine, Means, IsFault}
 use Rattle.pal_acts.specs.declared.act.Place.{Place}
 use Rattle.pal_acts.specs.Values.{known}
-use Rattle.pal_asm.specs.Listings.{all_words, Lists}
+use Rattle.pal_acts.specs.Sources.{all_words}
+use Rattle.pal_asm.specs.Listings.{Lists}
 
 -- A source means no other symbols and no other image.
 abbrev pub MeaningIsOne : Type 0

@@ -1,42 +1,18 @@
 -- The listing of a source: its lines with their words, and its symbols.
-use Rattle.std.specs.Prelude.{◌≡◌, ℕ, Bool, ◌||◌, ◌&&◌, not, if◌then◌else◌, List, [], ◌∷◌, ◌++◌, filter, reverse, nat_eq, codes, Result, Ok, Err}
+use Rattle.std.specs.Prelude.{◌≡◌, ℕ, Bool, ◌||◌, ◌&&◌, not, if◌then◌else◌, List, [], ◌∷◌, ◌++◌, filter, nat_eq, codes}
 use Rattle.word12.specs.Words.{octal_text}
 use Rattle.pal_text.specs.declared.names.Name.{Name}
 use Rattle.pal_text.specs.Characters.{char, tab, characters, code, is_character}
-use Rattle.pal_acts.specs.declared.act.Join.{Join}
 use Rattle.pal_acts.specs.declared.act.Place.{Place}
-use Rattle.pal_acts.specs.declared.act.Act.{Act}
-use Rattle.pal_acts.specs.declared.act.Act.TheVariants as act
-use Rattle.pal_acts.specs.declared.code.Code.{Code}
+use Rattle.pal_acts.specs.declared.act.PlacedWord.{PlacedWord}
 use Rattle.pal_acts.specs.Acts.{PlacedAct}
-use Rattle.pal_acts.specs.Values.{Values, known}
-use Rattle.pal_acts.specs.Meaning.{location}
-use Rattle.pal_acts.specs.Words.{word_value}
+use Rattle.pal_acts.specs.Values.{known}
+use Rattle.pal_acts.specs.Sources.{all_words}
 use Rattle.pal_asm.specs.declared.number.Radix.TheVariants.{Octal}
-use Rattle.pal_asm.specs.declared.listing.ListedWord.{ListedWord}
 use Rattle.pal_asm.specs.Sources.{TextLine, Reads}
 
--- A word with its place and its address, before others; an expression that is no word brings none.
-abbrev pub word_at_place : Place → ℕ → Result ℕ Code → List ListedWord → List ListedWord
-word_at_place p at (Ok w) before = record { place = p; at = at; word = w } ∷ before
-word_at_place p at (Err c) before = before
-
--- The word of an act at this location, with its place, before others; an act that isn't a word brings none.
-abbrev pub and_word : Values → ℕ → Place → List Join → Act → List ListedWord → List ListedWord
-and_word σ here p e act.Word before = word_at_place p here (word_value σ here e) before
-and_word σ here p e _ before = before
-
--- The words of acts, each with its place in the source and its address. Both lists have the newest first.
-abbrev pub words : Values → List PlacedAct → List ListedWord
-words σ [] = []
-words σ (a ∷ before) = and_word σ (location σ before) a.place a.terms a.act (words σ before)
-
--- The words of acts that are in order, in order.
-abbrev pub all_words : Values → List PlacedAct → List ListedWord
-all_words σ acts = reverse (words σ (reverse acts))
-
 -- A word stands at this place.
-abbrev pub is_at : Place → ListedWord → Bool
+abbrev pub is_at : Place → PlacedWord → Bool
 is_at p w = nat_eq w.place.part p.part && nat_eq w.place.line p.line
 
 -- Spaces and tabs at the front of a line aren't listed.
@@ -53,23 +29,23 @@ abbrev pub is_no_text : ℕ → Bool
 is_no_text b = not (is_character (code b)) || is_blank (code b)
 
 -- The address and the word, in octal.
-abbrev pub word_text : ListedWord → List ℕ
+abbrev pub word_text : PlacedWord → List ℕ
 word_text w = octal_text w.at ++ codes "  " ++ octal_text w.word
 
 -- Words on lines of their own.
-abbrev pub words_text : List ListedWord → List ℕ
+abbrev pub words_text : List PlacedWord → List ℕ
 words_text [] = []
 words_text (w ∷ ws) = word_text w ++ codes "\n" ++ words_text ws
 
 -- A line with these words and this text: beside the text its first word or as many spaces, and then its further words. Where
 -- there is neither word nor text, an empty line.
-abbrev pub line_text : List ListedWord → List ℕ → List ℕ
+abbrev pub line_text : List PlacedWord → List ℕ → List ℕ
 line_text [] [] = codes "\n"
 line_text [] (c ∷ cs) = codes "            " ++ (c ∷ cs) ++ codes "\n"
 line_text (w ∷ ws) cs = word_text w ++ codes "  " ++ cs ++ codes "\n" ++ words_text ws
 
 -- Lines, each with those of the words that stand on it.
-abbrev pub lines_text : List TextLine → List ListedWord → List ℕ
+abbrev pub lines_text : List TextLine → List PlacedWord → List ℕ
 lines_text [] ws = []
 lines_text (l ∷ ls) ws = line_text (filter (is_at l.place) ws) (without_front (characters l.bytes)) ++ lines_text ls ws
 
@@ -83,7 +59,7 @@ symbols_text [] = []
 symbols_text (s ∷ ss) = symbol_text s.0 s.1 ++ symbols_text ss
 
 -- The listing of lines, words and symbols: an empty line stands before the symbols.
-abbrev pub listing : List TextLine → List ListedWord → List (Name × ℕ) → List ℕ
+abbrev pub listing : List TextLine → List PlacedWord → List (Name × ℕ) → List ℕ
 listing lines ws own = lines_text lines ws ++ codes "\n" ++ symbols_text own
 
 -- The text is the listing of the source of these parts, whose own symbols these are.

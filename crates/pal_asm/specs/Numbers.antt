@@ -9,7 +9,7 @@ use Rattle.pal_text.specs.declared.grammar.Form.TheVariants as form
 use Rattle.pal_asm.specs.declared.number.Radix.{Radix}
 use Rattle.pal_asm.specs.declared.number.Radix.TheVariants.{Octal, Decimal}
 
--- In how many digits numbers are written.
+-- The base in which numbers are written.
 abbrev pub base : Radix → ℕ
 base Octal = 8
 base Decimal = 10

@@ -1,12 +1,8 @@
 -- What a program and a translation are, as their calls show it.
-use Rattle.std.specs.Prelude.{ℕ, List, ◌++◌, Option, codes}
+use Rattle.std.specs.Prelude.{ℕ, List, Option}
 use Rattle.pal_text.specs.declared.names.Name.{Name}
-use Rattle.pal_acts.specs.Permanent.{permanent_symbols}
-use Rattle.pal_acts.specs.Values.{known}
 use Rattle.pal_asm.specs.declared.program.Program.{Program}
 use Rattle.pal_asm.specs.declared.translation.Translation.{Translation}
-use Rattle.pal_asm.specs.Listings.{all_words, symbols_text}
-use Rattle.pal_asm.specs.Kept.{lines_of_fronts, turns_text}
 
 -- The own symbols of a program with their values, in the order of their definition.
 abbrev pub symbols_of : {A : Type 0} → Program A → List (Name × ℕ)
@@ -27,9 +23,3 @@ symbols_in t = t.own.entries
 -- The image of a translation.
 abbrev pub image_in : {A : Type 0} → Translation A → List (Option ℕ)
 image_in t = t.image
-
--- The text of the listing that is made of a translation, for private contracts.
-abbrev pub text_of : {A : Type 0} → Translation A → List ℕ
-text_of t =
-    turns_text (lines_of_fronts t.fronts.items) (all_words (known (permanent_symbols t.profile) t.own.entries) t.acts)
-    ++ codes "\n" ++ symbols_text t.own.entries

@@ -108,16 +108,6 @@ abbrev pub Refuses : List (Name × ℕ) → List (List ℕ) → AssembleFault �
 Refuses permanent parts (Source fault) = IsFault permanent parts fault
 Refuses permanent parts NoMemory = Unit {0}
 
--- A refusal that tells no fault.
-abbrev pub IsSilent : AssembleFault → Type 0
-IsSilent (Source fault) = ⊥
-IsSilent NoMemory = Unit {0}
-
--- A refusal that tells no other fault than this.
-abbrev pub TellsOnly : PalFault → AssembleFault → Type 0
-TellsOnly fault (Source told) = told ≡ fault
-TellsOnly fault NoMemory = Unit {0}
-
 -- The bytes behind a reference.
 abbrev pub now_of : Bor (List ℕ) → List ℕ
 now_of p = p.now

@@ -4,14 +4,12 @@ ghost use Rattle.std.specs.Prelude.{◌≡◌, ◌<◌, ◌++◌, [], codes, len
 ghost use Rattle.std.specs.List.{AllByRecursion};
 ghost use Rattle.pal_text.specs.Characters.{characters};
 ghost use Rattle.pal_text.specs.Order.{IsLineWithin};
-ghost use Rattle.pal_acts.specs.Acts.{shown};
-ghost use Rattle.pal_acts.specs.Values.{known};
-ghost use Rattle.pal_asm.specs.Listings.{all_words, is_no_text, is_at, without_front, word_text, words_text, line_text, symbol_text, symbols_text};
+ghost use Rattle.pal_asm.specs.Listings.{is_no_text, is_at, without_front, word_text, words_text, line_text, symbol_text, symbols_text};
 ghost use Rattle.pal_asm.specs.Sources.{text_lines};
-ghost use Rattle.pal_asm.specs.Kept.{lines_in, lines_of_fronts, Adds, is_before, skip, next_at, after_those, turns_text};
+ghost use Rattle.pal_asm.specs.Kept.{lines_in, lines_of_fronts, is_before, skip, next_at, after_those, turns_text};
 
 use crate::front::Front;
-use pal_acts::{Act, Acts, Name, Place, Placed, SymbolTable, Symbols};
+use pal_acts::{Name, Place, PlacedWord, SymbolTable};
 use pal_text::characters::is_character_code;
 use pal_text::{Line, lines_of};
 use std::alloc::{AllocError, Allocator};
@@ -22,14 +20,6 @@ use word12::Word;
 pub(crate) struct ListedLine<'s> {
     pub(crate) place: Place,
     pub(crate) bytes: &'s [u8],
-}
-
-/// A word: where its statement stands, its address and its value.
-#[derive(Clone, Copy, PartialEq, Eq, Debug)]
-pub(crate) struct ListedWord {
-    pub(crate) place: Place,
-    pub(crate) at: Word,
-    pub(crate) word: Word,
 }
 
 /// Keeps the lines of a part.
@@ -69,57 +59,8 @@ fn listed_lines<'s, A: Allocator + Copy>(
     Ok(kept)
 }
 
-/// Adds the word of what a source does next, if it is one.
-fn add_word<A: Allocator + Copy>(
-    symbols: &Symbols<'_, A>,
-    item: Placed<'_>,
-    here: &mut Word,
-    found: &mut Vec<ListedWord, A>,
-) -> Result<(), AllocError>
-    ensures { OnOk result (Adds (known symbols.now.permanent.now.entries symbols.now.own.entries)
-        (shown item.entry) here.old here.new found.old.items found.new.items) }
-{
-    match item.act {
-        Act::Word => {
-            if let Ok(word) = symbols.word(*here, item.terms) {
-                found.push(ListedWord {
-                    place: item.place,
-                    at: *here,
-                    word,
-                })?;
-            }
-            *here = here.increment();
-        }
-        Act::Origin => {
-            *here = match symbols.value(*here, item.terms) {
-                Some(origin) => origin,
-                None => Word::ZERO,
-            };
-        }
-        _ => {}
-    }
-    Ok(())
-}
-
-/// The words of what a source does.
-pub(crate) fn words_of<A: Allocator + Copy>(
-    alloc: A,
-    symbols: &Symbols<'_, A>,
-    acts: &Acts<A>,
-) -> Result<Vec<ListedWord, A>, AllocError>
-    ensures { IfOk result (λ found. found.items ≡
-        all_words (known symbols.now.permanent.now.entries symbols.now.own.entries) acts.now) }
-{
-    let mut found = Vec::new(alloc);
-    let mut here = Word::from_index(0o200);
-    for at in 0..acts.len() {
-        add_word(symbols, acts.get(at), &mut here, &mut found)?;
-    }
-    Ok(found)
-}
-
 /// Adds an address and its word.
-fn push_word<A: Allocator>(text: &mut Vec<u8, A>, word: ListedWord) -> Result<(), AllocError>
+fn push_word<A: Allocator>(text: &mut Vec<u8, A>, word: PlacedWord) -> Result<(), AllocError>
     ensures { OnOk result (text.new.items ≡ text.old.items ++ word_text word) }
 {
     text.extend_from_slice(&word.at.to_octal())?;
@@ -127,20 +68,20 @@ fn push_word<A: Allocator>(text: &mut Vec<u8, A>, word: ListedWord) -> Result<()
     text.extend_from_slice(&word.word.to_octal())
 }
 
-fn stands_at(place: Place, word: ListedWord) -> bool
+fn stands_at(place: Place, word: PlacedWord) -> bool
     ensures { result ≡ is_at place word }
 {
     word.place == place
 }
 
-fn stands_before(place: Place, word: ListedWord) -> bool
+fn stands_before(place: Place, word: PlacedWord) -> bool
     ensures { result ≡ is_before place word }
 {
     word.place.part < place.part || (word.place.part == place.part && word.place.line < place.line)
 }
 
 /// The words from the first one on that isn't before this place.
-fn from_place(place: Place, words: &[ListedWord]) -> &[ListedWord]
+fn from_place(place: Place, words: &[PlacedWord]) -> &[PlacedWord]
     ensures { result.now ≡ skip place words.now }
 {
     let mut rest = words;
@@ -157,8 +98,8 @@ fn from_place(place: Place, words: &[ListedWord]) -> &[ListedWord]
 fn push_words<'w, A: Allocator>(
     text: &mut Vec<u8, A>,
     place: Place,
-    words: &'w [ListedWord],
-) -> Result<&'w [ListedWord], AllocError>
+    words: &'w [PlacedWord],
+) -> Result<&'w [PlacedWord], AllocError>
     ensures rest { IfOk result (λ rest. rest.now ≡ after_those place words.now) }
     ensures text { OnOk result (text.new.items ≡ text.old.items ++
         words_text (next_at place words.now)) }
@@ -228,8 +169,8 @@ fn push_text<A: Allocator>(text: &mut Vec<u8, A>, shown: &[u8]) -> Result<(), Al
 fn push_line<'w, A: Allocator>(
     text: &mut Vec<u8, A>,
     line: ListedLine<'_>,
-    words: &'w [ListedWord],
-) -> Result<&'w [ListedWord], AllocError>
+    words: &'w [PlacedWord],
+) -> Result<&'w [PlacedWord], AllocError>
     ensures rest { IfOk result (λ rest. rest.now ≡ after_those line.entry.place words.now) }
     ensures text { OnOk result (text.new.items ≡ text.old.items ++
         line_text (next_at line.entry.place words.now)
@@ -255,7 +196,7 @@ fn push_line<'w, A: Allocator>(
 fn push_lines<A: Allocator>(
     text: &mut Vec<u8, A>,
     lines: &[ListedLine<'_>],
-    words: &[ListedWord],
+    words: &[PlacedWord],
 ) -> Result<(), AllocError>
     ensures { OnOk result (text.new.items ≡ text.old.items ++
         turns_text (lines_in lines.now) words.now) }
@@ -296,23 +237,21 @@ fn push_symbols<A: Allocator + Copy>(
     Ok(())
 }
 
-/// The listing of these parts and acts, whose symbols these are.
+/// The listing of these parts, whose words and whose own symbols these are.
 pub(crate) fn make_listing<A: Allocator + Copy>(
     alloc: A,
     fronts: &[Front<'_>],
-    acts: &Acts<A>,
-    symbols: &Symbols<'_, A>,
+    words: &[PlacedWord],
+    own: &SymbolTable<A>,
 ) -> Result<Vec<u8, A>, AllocError>
     ensures { IfOk result (λ text. text.items ≡
-        turns_text (lines_of_fronts fronts.now)
-        (all_words (known symbols.now.permanent.now.entries symbols.now.own.entries) acts.now) ++
-        codes "\n" ++ symbols_text symbols.now.own.entries) }
+        turns_text (lines_of_fronts fronts.now) words.now ++ codes "\n" ++
+        symbols_text own.now.entries) }
 {
     let lines = listed_lines(alloc, fronts)?;
-    let words = words_of(alloc, symbols, acts)?;
     let mut text = Vec::new(alloc);
-    push_lines(&mut text, &lines, &words)?;
+    push_lines(&mut text, &lines, words)?;
     text.extend_from_slice(b"\n")?;
-    push_symbols(&mut text, &symbols.own)?;
+    push_symbols(&mut text, own)?;
     Ok(text)
 }

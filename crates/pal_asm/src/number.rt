@@ -12,9 +12,9 @@ use word12::Word;
 /// How numbers are written.
 #[derive(Clone, Copy, PartialEq, Eq, Debug)]
 pub enum Radix {
-    /// With eight digits, as at first and after OCTAL.
+    /// In base eight, as at first and after OCTAL.
     Octal,
-    /// With ten digits, as after DECIMAL.
+    /// In base ten, as after DECIMAL.
     Decimal,
 }
 

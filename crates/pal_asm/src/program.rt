@@ -1,22 +1,28 @@
 //! The image, the symbols and the listing of a source.
 
-ghost use Rattle.std.specs.Prelude.{◌≡◌, false, is_err, IfOk, IfErr, OnOk, OnErr, MatchResult, ℕ, List, Option, Some, Err};
+ghost use Rattle.std.specs.Prelude.{◌≡◌, ◌++◌, ◌⊎◌, codes, false, is_err, IfOk, IfErr, OnOk, OnErr, MatchResult, ℕ, List, Option, Some, None, Err};
 ghost use Rattle.pal_text.specs.declared.names.Name.{Name as Named};
 ghost use Rattle.std.specs.Io.KnownBytes.{Appends};
 ghost use Rattle.streams.specs.Bytes.{AppendsFront};
-ghost use Rattle.pal_asm.specs.declared.fault.PalFault.{PalFault as Faulty};
 ghost use Rattle.pal_acts.specs.Permanent.{permanent_symbols};
-ghost use Rattle.pal_asm.specs.Sources.{texts, size_fault, Means, IsFault, Refuses, IsSilent, TellsOnly};
-ghost use Rattle.pal_asm.specs.Listings.{Lists};
-ghost use Rattle.pal_asm.specs.Programs.{symbols_of, image_of, listing_of, symbols_in, image_in, text_of};
+ghost use Rattle.pal_acts.specs.Values.{known};
+ghost use Rattle.pal_acts.specs.Sources.{IsSource, all_words};
+ghost use Rattle.pal_asm.specs.declared.fault.PalFault.{PalFault as Faulty};
+ghost use Rattle.pal_asm.specs.Sources.{texts, size_fault, Means, IsFault, Refuses};
+ghost use Rattle.pal_asm.specs.Listings.{symbols_text, Lists};
+ghost use Rattle.pal_asm.specs.Programs.{symbols_of, image_of, listing_of};
+ghost use Rattle.pal_asm.specs.Kept.{RefusesActs, lines_of_fronts, turns_text};
 
 use crate::fault::{AssembleFault, WriteFault};
+use crate::front::Front;
 use crate::listing::make_listing;
-use crate::translation::{Translation, translate_for};
+use crate::reading::read_source;
+use crate::sizes::fault_of_sizes;
+use crate::translation::fault_of;
 use bin_tape::Image;
 use instruct::Profile;
-use pal_acts::{SymbolTable, Symbols, permanent_table};
-use std::alloc::{AllocError, Allocator};
+use pal_acts::{Acts, AssembledWords, SymbolTable, Symbols, assemble_with_words, permanent_table};
+use std::alloc::Allocator;
 use streams::{ByteSink, put};
 
 /// What a source means: its image, its own symbols and its listing.
@@ -65,34 +71,77 @@ impl<A: Allocator + Copy> Program<A> {
     }
 }
 
-/// A program with its listing.
-fn with_listing<A: Allocator + Copy>(
+/// What acts mean with their words, or their fault at its place.
+fn assemble_words<'p, A: Allocator + Copy>(
     alloc: A,
-    translation: Translation<'_, A>,
-) -> Result<Program<A>, AllocError>
-    ensures image { IfOk result (λ program. image_of program ≡ image_in translation.entry) }
-    ensures symbols { IfOk result (λ program. symbols_of program ≡ symbols_in translation.entry) }
-    ensures listing { IfOk result (λ program. listing_of program ≡ text_of translation.entry) }
+    permanent: &'p SymbolTable<A>,
+    acts: &Acts<A>,
+) -> Result<AssembledWords<'p, A>, AssembleFault>
+    ensures found { IfOk result (λ found. IsSource permanent.now.entries 1024 acts.now
+        found.symbols.own.entries found.image) }
+    ensures words { IfOk result (λ found. found.words.items ≡
+        all_words (known permanent.now.entries found.symbols.own.entries) acts.now) }
+    ensures refused { IfErr result (RefusesActs permanent.now.entries acts.now) }
 {
-    let Translation {
-        profile,
+    match assemble_with_words(alloc, permanent, acts) {
+        Ok(found) => Ok(found),
+        Err(refused) => Err(fault_of(refused)),
+    }
+}
+
+/// A program, by what was assembled and the bytes of the parts that were read.
+fn program_of<A: Allocator + Copy>(
+    alloc: A,
+    found: AssembledWords<'_, A>,
+    fronts: &[Front<'_>],
+) -> Result<Program<A>, AssembleFault>
+    ensures image { IfOk result (λ program. image_of program ≡ found.entry.image) }
+    ensures symbols { IfOk result (λ program. symbols_of program ≡
+        found.entry.symbols.own.entries) }
+    ensures listing { IfOk result (λ program. listing_of program ≡
+        turns_text (lines_of_fronts fronts.now) found.entry.words.items ++ codes "\n" ++
+        symbols_text found.entry.symbols.own.entries) }
+    ensures memory { IfErr result (λ fault. fault ≡ AssembleFault.NoMemory) }
+{
+    let AssembledWords {
+        symbols,
         image,
-        own,
-        acts,
-        fronts,
-    } = translation;
-    let permanent = permanent_table(alloc, profile)?;
-    let symbols = Symbols {
-        permanent: &permanent,
-        own,
-    };
-    let listing = make_listing(alloc, &fronts, &acts, &symbols)?;
+        words,
+    } = found;
     let Symbols { own, .. } = symbols;
+    let Ok(listing) = make_listing(alloc, fronts, &words, &own) else {
+        return Err(AssembleFault::NoMemory);
+    };
     Ok(Program {
         image,
         own,
         listing,
     })
+}
+
+/// What a source means whose parts aren't too many or too long, with its listing, or its fault.
+fn assemble_parts<A: Allocator + Copy>(
+    alloc: A,
+    parts: &[&[u8]],
+    profile: Profile,
+) -> Result<Program<A>, AssembleFault>
+    requires { size_fault (texts parts.now) ≡ None }
+    ensures meaning { IfOk result (λ program. Means (permanent_symbols profile) (texts parts.now)
+        (symbols_of program) (image_of program)) }
+    ensures listed { IfOk result (λ program. Lists (permanent_symbols profile) (texts parts.now)
+        (symbols_of program) (listing_of program)) }
+    ensures refused { IfErr result (Refuses (permanent_symbols profile) (texts parts.now)) }
+{
+    let Ok(reading) = read_source(alloc, parts) else {
+        return Err(AssembleFault::NoMemory);
+    };
+    let Ok(permanent) = permanent_table(alloc, profile) else {
+        return Err(AssembleFault::NoMemory);
+    };
+    match assemble_words(alloc, &permanent, &reading.acts) {
+        Ok(found) => program_of(alloc, found, &reading.fronts),
+        Err(fault) => Err(fault),
+    }
 }
 
 /// What a source means under the permanent symbols of a profile, with its listing.
@@ -109,12 +158,9 @@ fn assemble_for<A: Allocator + Copy>(
     ensures sized { (fault : Faulty) → size_fault (texts parts.now) ≡ Some fault → result ≡
         Err (AssembleFault.Source fault) }
 {
-    match translate_for(alloc, parts, profile) {
-        Ok(translation) => match with_listing(alloc, translation) {
-            Ok(program) => Ok(program),
-            Err(_) => Err(AssembleFault::NoMemory),
-        },
-        Err(fault) => Err(fault),
+    match fault_of_sizes(parts) {
+        Some(fault) => Err(AssembleFault::Source(fault)),
+        None => assemble_parts(alloc, parts, profile),
     }
 }
 
@@ -139,10 +185,11 @@ pub fn assemble<A: Allocator + Copy>(
     ensures meant { (own : List (Named × ℕ)) (image : List (Option ℕ)) →
         Means (permanent_symbols profile) (texts parts.now) own image →
         MatchResult result (λ program. (symbols_of program ≡ own) × (image_of program ≡ image))
-        IsSilent }
+        (λ refused. refused ≡ AssembleFault.NoMemory) }
     // A source that has a fault is answered by no other, and by no meaning.
     ensures faulty { (fault : Faulty) → IsFault (permanent_symbols profile) (texts parts.now)
-        fault → MatchResult result (λ program. ⊥) (TellsOnly fault) }
+        fault → MatchResult result (λ program. ⊥) (λ refused.
+        (refused ≡ AssembleFault.Source fault) ⊎ (refused ≡ AssembleFault.NoMemory)) }
     // What is wrong with the sizes is told without memory.
     ensures sized { (fault : Faulty) → size_fault (texts parts.now) ≡ Some fault → result ≡
         Err (AssembleFault.Source fault) }

@@ -1,24 +1,35 @@
 //! What a source means, without its listing.
 
-ghost use Rattle.std.specs.Prelude.{◌≡◌, ◌++◌, codes, IfOk, IfErr, MatchResult, ℕ, List, Option, Some, None, Err};
+ghost use Rattle.std.specs.Prelude.{◌≡◌, ◌⊎◌, IfOk, IfErr, MatchResult, ℕ, List, Option, Some, None, Err};
 ghost use Rattle.pal_text.specs.declared.names.Name.{Name as Named};
-ghost use Rattle.pal_acts.specs.Values.{known};
 ghost use Rattle.pal_acts.specs.Sources.{IsSource};
 ghost use Rattle.pal_asm.specs.declared.fault.PalFault.{PalFault as Faulty};
 ghost use Rattle.pal_acts.specs.Permanent.{permanent_symbols};
-ghost use Rattle.pal_asm.specs.Sources.{texts, size_fault, Means, IsFault, Refuses, IsSilent, TellsOnly};
-ghost use Rattle.pal_asm.specs.Listings.{all_words, symbols_text, Lists};
-ghost use Rattle.pal_asm.specs.Programs.{symbols_in, image_in, text_of};
-ghost use Rattle.pal_asm.specs.Kept.{RefusesActs, lines_of_fronts, turns_text};
+ghost use Rattle.pal_asm.specs.Sources.{texts, size_fault, Means, IsFault, Refuses};
+ghost use Rattle.pal_asm.specs.Programs.{symbols_in, image_in};
+ghost use Rattle.pal_asm.specs.Kept.{fault_of, RefusesActs};
 
 use crate::fault::{AssembleFault, PalFault};
-use crate::front::Front;
-use crate::reading::{Reading, read_source};
+use crate::reading::read_source;
 use crate::sizes::fault_of_sizes;
 use bin_tape::Image;
 use instruct::Profile;
 use pal_acts::{Acts, Assembled, Refused, SymbolTable, Symbols, permanent_table};
 use std::alloc::Allocator;
+
+/// A refusal of acts as that of their source.
+pub(crate) fn fault_of(refused: Refused) -> AssembleFault
+    ensures { result ≡ fault_of refused }
+{
+    match refused {
+        Refused::Fault(place, code) => AssembleFault::Source(PalFault {
+            code,
+            part: place.part,
+            line: place.line,
+        }),
+        Refused::NoMemory => AssembleFault::NoMemory,
+    }
+}
 
 /// What acts mean, or their fault at its place.
 fn assemble_acts<'p, A: Allocator + Copy>(
@@ -32,26 +43,18 @@ fn assemble_acts<'p, A: Allocator + Copy>(
 {
     match pal_acts::assemble(alloc, permanent, acts) {
         Ok(found) => Ok(found),
-        Err(Refused::Fault(place, code)) => Err(AssembleFault::Source(PalFault {
-            code,
-            part: place.part,
-            line: place.line,
-        })),
-        Err(Refused::NoMemory) => Err(AssembleFault::NoMemory),
+        Err(refused) => Err(fault_of(refused)),
     }
 }
 
-/// What a source means: its image and its own symbols, and what its listing is made of.
+/// What a source means: its image and its own symbols.
 #[derive(Drop)]
-pub struct Translation<'s, A: Allocator + Copy> {
-    pub(crate) profile: Profile,
-    pub(crate) image: Image,
-    pub(crate) own: SymbolTable<A>,
-    pub(crate) acts: Acts<A>,
-    pub(crate) fronts: Vec<Front<'s>, A>,
+pub struct Translation<A: Allocator + Copy> {
+    image: Image,
+    own: SymbolTable<A>,
 }
 
-impl<'s, A: Allocator + Copy> Translation<'s, A> {
+impl<A: Allocator + Copy> Translation<A> {
     /// The words of the program, each at its address.
     pub fn image(&self) -> &Image
         ensures { result.now ≡ image_in self.now }
@@ -67,40 +70,25 @@ impl<'s, A: Allocator + Copy> Translation<'s, A> {
     }
 }
 
-/// A translation, by what was assembled and read.
-fn translation_of<'s, A: Allocator + Copy>(
-    profile: Profile,
-    found: Assembled<'_, A>,
-    reading: Reading<'s, A>,
-) -> Translation<'s, A>
+/// A translation, by what was assembled.
+fn translation_of<A: Allocator + Copy>(found: Assembled<'_, A>) -> Translation<A>
     ensures image { image_in result ≡ found.entry.image }
     ensures symbols { symbols_in result ≡ found.entry.symbols.own.entries }
-    ensures listing { text_of result ≡ turns_text (lines_of_fronts reading.entry.fronts.items)
-        (all_words (known (permanent_symbols profile) (symbols_in result)) reading.entry.acts) ++
-        codes "\n" ++ symbols_text (symbols_in result) }
 {
     let Assembled { symbols, image } = found;
     let Symbols { own, .. } = symbols;
-    Translation {
-        profile,
-        image,
-        own,
-        acts: reading.acts,
-        fronts: reading.fronts,
-    }
+    Translation { image, own }
 }
 
 /// What a source means whose parts aren't too many or too long, or its fault.
-fn translate_parts<'s, A: Allocator + Copy>(
+fn translate_parts<A: Allocator + Copy>(
     alloc: A,
-    parts: &[&'s [u8]],
+    parts: &[&[u8]],
     profile: Profile,
-) -> Result<Translation<'s, A>, AssembleFault>
+) -> Result<Translation<A>, AssembleFault>
     requires { size_fault (texts parts.now) ≡ None }
     ensures meaning { IfOk result (λ translation. Means (permanent_symbols profile)
         (texts parts.now) (symbols_in translation) (image_in translation)) }
-    ensures listed { IfOk result (λ translation. Lists (permanent_symbols profile)
-        (texts parts.now) (symbols_in translation) (text_of translation)) }
     ensures refused { IfErr result (Refuses (permanent_symbols profile) (texts parts.now)) }
 {
     let Ok(reading) = read_source(alloc, parts) else {
@@ -110,21 +98,19 @@ fn translate_parts<'s, A: Allocator + Copy>(
         return Err(AssembleFault::NoMemory);
     };
     match assemble_acts(alloc, &permanent, &reading.acts) {
-        Ok(found) => Ok(translation_of(profile, found, reading)),
+        Ok(found) => Ok(translation_of(found)),
         Err(fault) => Err(fault),
     }
 }
 
 /// What a source means under the permanent symbols of a profile.
-pub(crate) fn translate_for<'s, A: Allocator + Copy>(
+fn translate_for<A: Allocator + Copy>(
     alloc: A,
-    parts: &[&'s [u8]],
+    parts: &[&[u8]],
     profile: Profile,
-) -> Result<Translation<'s, A>, AssembleFault>
+) -> Result<Translation<A>, AssembleFault>
     ensures meaning { IfOk result (λ translation. Means (permanent_symbols profile)
         (texts parts.now) (symbols_in translation) (image_in translation)) }
-    ensures listed { IfOk result (λ translation. Lists (permanent_symbols profile)
-        (texts parts.now) (symbols_in translation) (text_of translation)) }
     ensures refused { IfErr result (Refuses (permanent_symbols profile) (texts parts.now)) }
     ensures sized { (fault : Faulty) → size_fault (texts parts.now) ≡ Some fault → result ≡
         Err (AssembleFault.Source fault) }
@@ -143,11 +129,11 @@ pub(crate) fn translate_for<'s, A: Allocator + Copy>(
 /// `Source` with the one fault of the source, at its part and its line. That there are no parts or
 /// more than 16, or that a part has more than 65,536 bytes, is told before anything else.
 /// `NoMemory` where memory was refused.
-pub fn translate<'s, A: Allocator + Copy>(
+pub fn translate<A: Allocator + Copy>(
     alloc: A,
-    parts: &[&'s [u8]],
+    parts: &[&[u8]],
     profile: Profile,
-) -> Result<Translation<'s, A>, AssembleFault>
+) -> Result<Translation<A>, AssembleFault>
     ensures meaning { IfOk result (λ translation. Means (permanent_symbols profile)
         (texts parts.now) (symbols_in translation) (image_in translation)) }
     ensures refused { IfErr result (Refuses (permanent_symbols profile) (texts parts.now)) }
@@ -155,10 +141,11 @@ pub fn translate<'s, A: Allocator + Copy>(
     ensures meant { (own : List (Named × ℕ)) (image : List (Option ℕ)) →
         Means (permanent_symbols profile) (texts parts.now) own image →
         MatchResult result (λ translation. (symbols_in translation ≡ own) ×
-        (image_in translation ≡ image)) IsSilent }
+        (image_in translation ≡ image)) (λ refused. refused ≡ AssembleFault.NoMemory) }
     // A source that has a fault is answered by no other, and by no meaning.
     ensures faulty { (fault : Faulty) → IsFault (permanent_symbols profile) (texts parts.now)
-        fault → MatchResult result (λ translation. ⊥) (TellsOnly fault) }
+        fault → MatchResult result (λ translation. ⊥) (λ refused.
+        (refused ≡ AssembleFault.Source fault) ⊎ (refused ≡ AssembleFault.NoMemory)) }
     // What is wrong with the sizes is told without memory.
     ensures sized { (fault : Faulty) → size_fault (texts parts.now) ≡ Some fault → result ≡
         Err (AssembleFault.Source fault) }

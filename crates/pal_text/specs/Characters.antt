@@ -35,11 +35,12 @@ code b = b % 0o200
 abbrev pub is_ignored : ℕ → Bool
 is_ignored c = nat_eq c null || nat_eq c form_feed || nat_eq c rubout
 
--- The same after one more byte: a carriage return makes it so, ignored bytes and line feeds leave it, any other ends it.
+-- Whether only ignored bytes and line feeds stand between here and a carriage return, after one more byte: a carriage
+-- return makes it so, ignored bytes and line feeds leave it, any other ends it.
 abbrev pub returned_by : Bool → ℕ → Bool
 returned_by before b = if nat_eq (code b) carriage_return then true else if is_ignored (code b) || nat_eq (code b) line_feed then before else false
 
--- Only ignored bytes and line feeds stand between here and a carriage return.
+-- The same after these bytes.
 abbrev pub returned : List ℕ → Bool
 returned [] = false
 returned (b ∷ before) = returned_by (returned before) b

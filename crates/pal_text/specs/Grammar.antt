@@ -31,7 +31,7 @@ is_direction kind.Octal = true
 is_direction kind.Pause = true
 is_direction _ = false
 
--- What may be a tag or be assigned by its form, though DECIMAL, OCTAL and PAUSE never have a value to give.
+-- What may be a tag or be assigned by its form, though DECIMAL, OCTAL and PAUSE can't be given a value.
 abbrev pub is_name : Kind → Bool
 is_name kind.Symbol = true
 is_name k = is_direction k

@@ -3,7 +3,7 @@
 
 use bin_tape::Image;
 use declaration::Declaration;
-use facts::{Condition, Fact, Offsets, Place, Running, post, reads};
+use facts::{Condition, Fact, Offsets, Place, Room, Running, post, reads};
 use std::alloc::Allocator;
 use std::test::Fail;
 use word12::Word;
@@ -82,6 +82,7 @@ fn ask<'a, A: Allocator>(
         },
     };
     let (at, word) = (stand.at, stand.word);
+    let mut room = Room::new();
     Asked {
         possible: place.possible_words(fact, at),
         supported: place.is_supported(word),
@@ -95,7 +96,7 @@ fn ask<'a, A: Allocator>(
         calls: place.calls(fact, at, word),
         indexed: place.steps_call_pointer(at, word),
         returned: place.returned_entry(at, word),
-        refused: match post(fact, at, word, &place) {
+        refused: match post(fact, at, word, &place, &mut room) {
             Ok(_) => None,
             Err(condition) => Some(condition),
         },

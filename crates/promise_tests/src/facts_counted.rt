@@ -3,7 +3,7 @@
 
 use bin_tape::Image;
 use declaration::Declaration;
-use facts::{Equation, Fact, Known, Name, Outcome, Place, post};
+use facts::{Equation, Fact, Known, Name, Outcome, OutcomeList, Place, Room, post};
 use std::alloc::Allocator;
 use std::test::Fail;
 use word12::{Link, Word};
@@ -95,7 +95,7 @@ fn described(next: WordSet, known: &Known<'_>) -> Seen {
 fn glimpse(outcome: &Option<Outcome<'_>>) -> Option<Seen> {
     match outcome {
         None => None,
-        Some(Outcome::Goes(next, after)) => Some(described(*next, after)),
+        Some(Outcome::Goes(next, after)) => Some(described(**next, after)),
         Some(Outcome::Calls(_, after)) => Some(described(WordSet::empty(), after)),
         Some(Outcome::Returns(after)) => Some(described(WordSet::empty(), after)),
     }
@@ -112,15 +112,17 @@ fn counted<'a, A: Allocator>(
         declaration,
         routine: None,
     };
-    match post(fact, word(0o210), word(0o2224), &place) {
-        Ok(found) => Some([
-            glimpse(&found[0]),
-            glimpse(&found[1]),
-            glimpse(&found[2]),
-            glimpse(&found[3]),
-        ]),
-        Err(_) => None,
-    }
+    let mut room = Room::new();
+    let Ok(found) = post(fact, word(0o210), word(0o2224), &place, &mut room) else {
+        return None;
+    };
+    let OutcomeList { all } = found;
+    Some([
+        glimpse(&all[0]),
+        glimpse(&all[1]),
+        glimpse(&all[2]),
+        glimpse(&all[3]),
+    ])
 }
 
 #[test]

@@ -3,7 +3,7 @@
 use bin_tape::Image;
 use declaration::Declaration;
 use facts::{
-    Equation, Fact, Known, Name, Offsets, Outcome, Place, Running, outcomes, single_outcome,
+    Equation, Fact, Known, Name, Offsets, Outcome, OutcomeList, Place, Room, Running, outcomes,
 };
 use std::alloc::Allocator;
 use std::test::Fail;
@@ -100,8 +100,8 @@ fn described(way: Way, next: WordSet, known: &Known<'_>) -> Seen {
 fn glimpse(outcome: &Option<Outcome<'_>>) -> Option<Seen> {
     match outcome {
         None => None,
-        Some(Outcome::Goes(next, after)) => Some(described(Way::Goes, *next, after)),
-        Some(Outcome::Calls(next, after)) => Some(described(Way::Calls, *next, after)),
+        Some(Outcome::Goes(next, after)) => Some(described(Way::Goes, **next, after)),
+        Some(Outcome::Calls(next, after)) => Some(described(Way::Calls, **next, after)),
         Some(Outcome::Returns(after)) => Some(described(Way::Returns, WordSet::empty(), after)),
     }
 }
@@ -134,12 +134,13 @@ fn glimpses<'a, A: Allocator>(
             }),
         },
     };
-    let found = outcomes(fact, stand.at, stand.word, &place);
+    let mut room = Room::new();
+    let OutcomeList { all } = outcomes(fact, stand.at, stand.word, &place, &mut room);
     [
-        glimpse(&found[0]),
-        glimpse(&found[1]),
-        glimpse(&found[2]),
-        glimpse(&found[3]),
+        glimpse(&all[0]),
+        glimpse(&all[1]),
+        glimpse(&all[2]),
+        glimpse(&all[3]),
     ]
 }
 
@@ -189,31 +190,6 @@ fn in_routine(rt: &HostRuntime, fact: &Fact, number: usize) -> Result<[Option<Se
         word: word(number),
     };
     outcomes_of(rt, ON_8I, fact, stand)
-}
-
-/// The outcome of a word at 0200 of main that has one at most; none where the word may have more.
-fn single_glimpse<'a, A: Allocator>(
-    image: &'a Image,
-    declaration: &'a Declaration<A>,
-    fact: &'a Fact,
-    word: Word,
-) -> Option<Seen> {
-    let place = Place {
-        image,
-        declaration,
-        routine: None,
-    };
-    if !place.has_one_outcome(word) {
-        return None;
-    }
-    glimpse(&single_outcome(fact, Word::from_index(0o200), word, &place))
-}
-
-/// The same on the 8/I.
-fn single_of(rt: &HostRuntime, fact: &Fact, number: usize) -> Result<Option<Seen>, Fail> {
-    let declared = Declaration::parse(rt.alloc(), ON_8I)?;
-    let image = tape();
-    Ok(single_glimpse(&image, &declared, fact, word(number)))
 }
 
 /// One outcome alone.
@@ -376,22 +352,6 @@ fn tad_of_one_word_moves_equations(rt: HostRuntime) -> Result<(), Fail> {
         in_main(&rt, ON_8I, &fact(last), 0o200, 0o1301)?,
         alone(&carried.linked(Links::one(Link::SET)))
     );
-    Ok(())
-}
-
-#[test]
-fn a_word_of_one_outcome_is_asked_alone(rt: HostRuntime) -> Result<(), Fail> {
-    let five = one(5);
-    let sum = same(five).moved(range(6, 0o10), 4);
-    assert_eq!(rt; single_of(&rt, &fact(five), 0o1301)?, Some(sum));
-    let jump = same(five).to(one(0o204));
-    assert_eq!(rt; single_of(&rt, &fact(five), 0o5204)?, Some(jump));
-    let still = same(five).moved(range(1, 3), 0o7777);
-    assert_eq!(rt; single_of(&rt, &fact(five), 0o7000)?, Some(still));
-    // ISZ, SZA, HLT and KSF may have more.
-    for number in [0o2301, 0o7440, 0o7402, 0o6031] {
-        assert_eq!(rt; single_of(&rt, &fact(five), number)?, None);
-    }
     Ok(())
 }
 

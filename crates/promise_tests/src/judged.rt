@@ -62,6 +62,10 @@ impl Claims for OneFact {
         None
     }
 
+    fn names(&self, _entry: Word) -> bool {
+        false
+    }
+
     fn fact_into(&self, at: Word, fact: &mut Fact) -> bool {
         if at == self.at {
             *fact = known(self.links, self.offsets);

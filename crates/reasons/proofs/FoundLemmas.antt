@@ -1,5 +1,5 @@
 -- That a reason is found where a condition fails.
-use Rattle.std.proofs.Common.{◌≡◌, ℕ, ◌<◌, ◌≤◌, ◌+◌, ◌*◌, true, false, ◌⊎◌, Option, Some, None, inl, inr, refl, sym, ap, ◌∙◌, subst, arith, lit≤}
+use Rattle.std.proofs.Common.{◌≡◌, ℕ, ◌<◌, ◌≤◌, true, false, ◌⊎◌, Option, Some, None, inl, inr, refl, sym, ap, ◌∙◌, subst, arith, lit≤}
 use Rattle.std.specs.Prelude.{IfNone, is_some}
 use Rattle.std.proofs.lemmas.Bool.{true≢false}
 use Rattle.instruct.specs.Instructions.{Meaning, Jms, meaning_of}
@@ -11,11 +11,11 @@ use Rattle.facts.specs.declared.Condition.{Condition}
 use Rattle.facts.specs.declared.Condition.TheVariants.{V1, V2, V3, V4, V5, V6, V7, V8, V9, V10, V11, V12, V13, V14, V15}
 use Rattle.certificate.specs.Certificate.{Certificate, writes_of}
 use Rattle.judge.specs.Asked.{asks_few}
-use Rattle.judge.specs.Conditions.{Case, Covers, CoversCallee, EachTarget, HasFewWords, HoldsAt, HoldsFor, HoldsForEach, IsAskedAs, IsFirst, IsIn, IsPlaced, KeepsPointer, LinesArePlaced, fact_at, order, place_among, place_in}
+use Rattle.judge.specs.Conditions.{Case, Covers, CoversCallee, EachTarget, HoldsFor, IsAskedAs, IsFirst, IsIn, IsPlaced, KeepsPointer, LinesArePlaced, fact_at, order, place_among, place_in}
 use Rattle.judge.proofs.OrderLemmas.{IsLater, order_of, start_or_later}
 use Rattle.judge.proofs.WordLemmas.{holds_from}
 use Rattle.reasons.specs.Always.{is_always_explained}
-use Rattle.reasons.specs.Keeping.{HoldsIfAsked, IsUnowned, Keeps, KeepsCall, KeepsCalls, WordsKeep}
+use Rattle.reasons.specs.Keeping.{HoldsIfAsked, IsUnowned, Keeps, WordsKeep}
 use Rattle.reasons.specs.declared.reason.Reason.{Reason}
 
 -- What holds where nothing is found.

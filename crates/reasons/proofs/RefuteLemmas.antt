@@ -5,7 +5,7 @@ use Rattle.instruct.specs.Instructions.{Meaning, Jms, Jmp, meaning_of}
 use Rattle.wordset.specs.Words.{Words, everything, how_many, one, plus, some_below}
 use Rattle.wordset.proofs.Tests.{some_to}
 use Rattle.processor.specs.Runs.{Image}
-use Rattle.declaration.specs.Declaration.{Routine, Declaration, IsDeclared}
+use Rattle.declaration.specs.Declaration.{Routine, IsDeclared}
 use Rattle.facts.specs.Changes.{with_offsets}
 use Rattle.facts.specs.Conditions.{called, calls_through_index, returned_through}
 use Rattle.facts.specs.Facts.{Ac, Cell, Equation, Fact, Among, Entails, EntailsOffsets, Knows, KnowsAll, joined, possible, tape_word}

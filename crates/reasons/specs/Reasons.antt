@@ -1,21 +1,17 @@
 -- Why a condition fails at an address.
-use Rattle.std.specs.Prelude.{◌≡◌, ℕ, ◌<◌, ◌||◌, true, false, ◌⊎◌, None, Some}
-use Rattle.wordset.specs.Words.{some_below, how_many}
+use Rattle.std.specs.Prelude.{◌≡◌, ℕ, ◌<◌, true, false, ◌⊎◌, None, Some}
+use Rattle.wordset.specs.Words.{how_many}
 use Rattle.processor.specs.Runs.{Image}
 use Rattle.declaration.specs.Declaration.{Routine, Declaration}
 use Rattle.facts.specs.Facts.{Fact, Place, possible}
 use Rattle.facts.specs.declared.Condition.{Condition}
 use Rattle.facts.specs.declared.Condition.TheVariants.{V1, V2, V3}
-use Rattle.certificate.specs.Certificate.{Certificate}
+use Rattle.certificate.specs.Certificate.{Certificate, names_routine}
 use Rattle.judge.specs.Conditions.{Case, IsIn, fact_at, place_in}
 use Rattle.reasons.specs.Gaps.{IsStartGap}
 use Rattle.reasons.specs.Breaches.{Breaks, condition_of}
 use Rattle.reasons.specs.declared.reason.Reason.{Reason}
 use Rattle.reasons.specs.declared.reason.Reason.TheVariants as why
-
--- A routine or exit line has the address.
-abbrev pub NamesRoutine : Certificate → ℕ → Type 0
-NamesRoutine c a = (c.listed a || some_below 8 (c.has_exit a)) ≡ true
 
 -- No fact has the address of the start, or the one that has it excludes what is possible at a start.
 abbrev pub IsWrongStart : Image → Certificate → ℕ → Reason → Type 0
@@ -25,7 +21,7 @@ IsWrongStart image c a _ = ⊥
 
 -- A line at the address isn't where it may be.
 abbrev pub IsMisplaced : Declaration → Certificate → ℕ → Reason → Type 0
-IsMisplaced d c a why.LineAtNoEntry = NamesRoutine c a × (d.entry a ≡ false)
+IsMisplaced d c a why.LineAtNoEntry = (names_routine c a ≡ true) × (d.entry a ≡ false)
 IsMisplaced d c a why.InNoBody = (c.has_fact a ≡ true) × ((r : Routine) → d.body r a ≡ false)
 IsMisplaced d c a (why.OffsetInMain o) =
     (c.has_fact a ≡ true) × (d.body None a ≡ true) × (o < 8) × ((c.fact a).offsets o ≡ true)

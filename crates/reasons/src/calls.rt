@@ -10,7 +10,7 @@ ghost use Rattle.reasons.specs.Spots.{BreaksHere, CallBreaksHere, claimed_by, fa
 use crate::breach::{Breach, CallBreach};
 use crate::spot::Spot;
 use crate::told::claimed_exit;
-use facts::{Condition, Known};
+use facts::{Condition, Known, Room};
 use judge::Claims;
 use std::alloc::Allocator;
 use word12::Word;
@@ -146,7 +146,8 @@ impl<A: Allocator, C: Claims> Spot<'_, A, C> {
     {
         let exit = claimed_exit(self.claims, entry, offset)?;
         let written = self.claimed(entry).writes;
-        let known = Known::after_call(self.fact, &exit, &written);
+        let mut room = Room::new();
+        let known = Known::after_call(self.fact, &exit, &written, &mut room);
         let next = self.at.increment().add(Word::from_index(offset));
         match self.misses(&self.owner(), next, &known) {
             None => None,

@@ -84,7 +84,9 @@ fn offset_gap(known: &Known<'_>, fact: &Fact) -> Option<Gap>
 fn cell_gap(known: &Known<'_>, fact: &Fact) -> Option<Gap>
     ensures { IfSome result (IsGap (known_of known.now) (meaning fact.now)) }
 {
-    for tracked in fact.cells() {
+    let cells = fact.cells();
+    for at in 0..cells.len() {
+        let tracked = cells.get(at);
         let name = Name::Cell(tracked.cell);
         if let Some(word) = word_beyond(&known.narrowed(&name), &fact.set(&name)) {
             return Some(Gap::Cell(tracked.cell, word));
@@ -153,7 +155,9 @@ fn words_at_start(image: &Image, cell: Word) -> WordSet
 fn cell_gap_at_start(fact: &Fact, image: &Image) -> Option<Gap>
     ensures { IfSome result (IsStartGap (image_of image.now) (meaning fact.now)) }
 {
-    for tracked in fact.cells() {
+    let cells = fact.cells();
+    for at in 0..cells.len() {
+        let tracked = cells.get(at);
         let held = words_at_start(image, tracked.cell);
         if let Some(word) = word_beyond(&held, &fact.set(&Name::Cell(tracked.cell))) {
             return Some(Gap::Cell(tracked.cell, word));

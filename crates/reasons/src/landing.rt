@@ -12,7 +12,7 @@ use crate::breach::{Breach, Landing};
 use crate::gap::gap_between;
 use crate::spot::Spot;
 use crate::told::claimed_fact;
-use facts::{Known, Outcome, outcomes};
+use facts::{Known, Outcome, Room, outcomes};
 use judge::Claims;
 use std::alloc::Allocator;
 use word12::Word;
@@ -74,7 +74,7 @@ impl<A: Allocator, C: Claims> Spot<'_, A, C> {
             (here self.now) found.0 found.1 (outcome_of outcome.now)) }
     {
         match outcome {
-            Outcome::Goes(addresses, known) => self.misses_at(addresses, known),
+            Outcome::Goes(addresses, known) => self.misses_at(*addresses, known),
             Outcome::Calls(_, _) | Outcome::Returns(_) => None,
         }
     }
@@ -107,8 +107,9 @@ impl<A: Allocator, C: Claims> Spot<'_, A, C> {
     pub(crate) fn goes_on(&self, word: Word) -> Option<Breach>
         ensures { IfSome result (BreaksHere C.claims self.now V4 word) }
     {
-        let given = outcomes(self.fact, self.at, word, &self.place);
-        match self.some_misses(&given) {
+        let mut room = Room::new();
+        let given = outcomes(self.fact, self.at, word, &self.place, &mut room);
+        match self.some_misses(&given.all) {
             None => None,
             Some((at, landing)) => Some(Breach::GoesOn(at, landing)),
         }

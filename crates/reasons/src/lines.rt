@@ -6,11 +6,12 @@ ghost use Rattle.declaration.specs.Kept as declared;
 ghost use Rattle.facts.specs.Meaning.{meaning};
 ghost use Rattle.judge.specs.Conditions.{IsPlaced, LinesArePlaced};
 ghost use Rattle.judge.specs.Judged.{judged};
-ghost use Rattle.reasons.specs.Reasons.{IsMisplaced, IsWrongStart, NamesRoutine};
+ghost use Rattle.reasons.specs.Reasons.{IsMisplaced, IsWrongStart};
+ghost use Rattle.certificate.specs.Certificate.{names_routine};
 
 use crate::gap::gap_at_start;
 use crate::reason::Reason;
-use crate::told::{claimed_exit, claimed_fact};
+use crate::told::claimed_fact;
 use bin_tape::Image;
 use declaration::{Declaration, Owner};
 use facts::Fact;
@@ -31,34 +32,18 @@ pub(crate) fn why_start<C: Claims>(image: &Image, claims: &C, at: Word) -> Optio
     }
 }
 
-/// Whether a routine or exit line has an address.
-fn names_routine<C: Claims>(claims: &C, at: Word) -> bool
-    ensures yes { result ≡ true → NamesRoutine (C.claims claims.now) at }
-    ensures no { result ≡ false → NamesRoutine (C.claims claims.now) at → ⊥ }
-{
-    if claims.routine(at).is_some() {
-        return true;
-    }
-    for offset in 0..8usize {
-        if claimed_exit(claims, at, offset).is_some() {
-            return true;
-        }
-    }
-    false
-}
-
 /// Whether the routine and exit lines at an address are where they may be: at an entry.
 fn routines_are_placed<A: Allocator, C: Claims>(
     declaration: &Declaration<A>,
     claims: &C,
     at: Word,
 ) -> bool
-    ensures yes { result ≡ true → NamesRoutine (C.claims claims.now) at →
+    ensures yes { result ≡ true → names_routine (C.claims claims.now) at ≡ true →
         (declared.meaning declaration.now).entry at ≡ true }
-    ensures no { result ≡ false → NamesRoutine (C.claims claims.now) at ×
+    ensures no { result ≡ false → (names_routine (C.claims claims.now) at ≡ true) ×
         ((declared.meaning declaration.now).entry at ≡ false) }
 {
-    if !names_routine(claims, at) {
+    if !claims.names(at) {
         return true;
     }
     declaration.is_entry(at)

@@ -2,7 +2,7 @@
 
 use bin_tape::Image;
 use declaration::Declaration;
-use facts::{Equation, Fact, Name, Outcome, Place, outcomes, single_outcome};
+use facts::{Equation, Fact, Name, Outcome, OutcomeList, Place, Room, outcomes};
 use std::alloc::Allocator;
 use word12::{Link, Word};
 use wordset::{Links, WordSet};
@@ -71,12 +71,15 @@ fn hit(outcome: &Option<Outcome<'_>>, fact: &Fact) -> u64 {
 }
 
 /// Whether the first outcome of TAD at an address entails a fact, as a number.
-fn first_hit<A: Allocator>(fact: &Fact, at: Word, place: &Place<'_, A>, next: &Fact) -> u64 {
-    let tad = word(TAD);
-    if place.has_one_outcome(tad) {
-        return hit(&single_outcome(fact, at, tad, place), next);
-    }
-    hit(&outcomes(fact, at, tad, place)[0], next)
+fn first_hit<'a, A: Allocator>(
+    fact: &'a Fact,
+    at: Word,
+    place: &Place<'_, A>,
+    next: &Fact,
+    room: &'a mut Room,
+) -> u64 {
+    let OutcomeList { all } = outcomes(fact, at, word(TAD), place, room);
+    hit(&all[0], next)
 }
 
 /// How many of so many outcomes entail a fact.
@@ -93,10 +96,11 @@ pub fn entailed<'a, A: Allocator>(
         declaration,
         routine: None,
     };
+    let mut room = Room::new();
     let mut hits = 0u64;
     let mut at = word(0o200);
     for _ in 0..times {
-        hits = hits.wrapping_add(first_hit(fact, at, &place, next));
+        hits = hits.wrapping_add(first_hit(fact, at, &place, next, &mut room));
         at = at.increment();
     }
     hits

@@ -134,81 +134,6 @@ first_is (Some w) a is = sym (first-some 4096 a w is.small is.within (λ v h. is
 
 -- ---- one word and no other
 
-one_of : (n : ℕ) (a : ℕ → Bool) (v : ℕ) → v < n → a v ≡ true → 0 < how_many n a
-unfolding how_many
-one_of zero a v h e = absurd (omega arith)
-one_of (suc n) a v h e = elim (cases_eq v n) [
-  | inl q ↦ (let t : a n ≡ true = ap a (sym q) ∙ e in rw t (omega arith))
-  | inr m ↦ (let ih : 0 < how_many n a = one_of n a v (omega arith) e in omega arith)
-]
-
-two_of : (n : ℕ) (a : ℕ → Bool) (v w : ℕ) → v < w → w < n → a v ≡ true → a w ≡ true → 1 < how_many n a
-unfolding how_many
-two_of zero a v w l h e f = absurd (omega arith)
-two_of (suc n) a v w l h e f = elim (cases_eq w n) [
-  | inl q ↦ (let t : a n ≡ true = ap a (sym q) ∙ f in let one : 0 < how_many n a = one_of n a v (omega arith) e in rw t (omega arith))
-  | inr m ↦ (let ih : 1 < how_many n a = two_of n a v w l (omega arith) e f in omega arith)
-]
-
-absent : (n w : ℕ) → n ≤ w → how_many n (λ v. v == w) ≡ 0
-unfolding how_many
-absent zero w h = refl
-absent (suc n) w h = let t : (n == w) ≡ false = ne_eqb n w (λ e. omega arith) in rw (t, absent n w (omega arith)) refl
-
-alone : (n w : ℕ) → w < n → how_many n (λ v. v == w) ≡ 1
-unfolding how_many
-alone zero w h = absurd (omega arith)
-alone (suc n) w h = elim (cases_eq n w) [
-  | inl q ↦ (let t : (n == w) ≡ true = eq-eqb n w q in rw (t, absent n w (omega arith)) refl)
-  | inr m ↦ (let t : (n == w) ≡ false = ne_eqb n w m in rw (t, alone n w (omega arith)) refl)
-]
-
-none_of : (n : ℕ) (a : ℕ → Bool) → ((v : ℕ) → v < n → a v ≡ false) → how_many n a ≡ 0
-unfolding how_many
-none_of zero a none = refl
-none_of (suc n) a none = let here : a n ≡ false = none n (omega arith) in rw (here, none_of n a (λ v h. none v (omega arith))) refl
-
--- what a set without w has, and what it has beside w
-left_out : (p q : Bool) → (if q then false else p) ≡ true → (p ≡ true) × (q ≡ false)
-left_out p true e = absurd (true_false (sym e))
-left_out p false e = (e, refl)
-
--- a set of one word has no word beside it
-none_beside : (a : Words) (w : ℕ) → how_many 4096 a ≡ 1 → w < 4096 → a w ≡ true → some_below 4096 (without w a) ≡ false
-none_beside a w one small here = some_none_of 4096 (without w a) (λ v h. go v h (without w a v) refl)
-  where
-    go : (v : ℕ) → v < 4096 → (p : Bool) → without w a v ≡ p → without w a v ≡ false
-    go v h false e = e
-    go v h true e =
-        let parts : (a v ≡ true) × ((v == w) ≡ false) = left_out (a v) (v == w) e in
-        elim (cases_eq v w) [
-          | inl q ↦ absurd (true_false (sym (eq-eqb v w q) ∙ parts.1))
-          | inr m ↦ elim (cases_lt v w) [
-            | inl l ↦ (let two : 1 < how_many 4096 a = two_of 4096 a v w l small parts.0 here in absurd (omega arith))
-            | inr g ↦ (let two : 1 < how_many 4096 a = two_of 4096 a w v (omega arith) h here parts.0 in absurd (omega arith))
-          ]
-        ]
-
--- a set that has no word beside one has one word
-one_alone : (a : Words) (w : ℕ) → w < 4096 → a w ≡ true → some_below 4096 (without w a) ≡ false → how_many 4096 a ≡ 1
-one_alone a w small here none = how_many_same 4096 a (λ v. v == w) (λ v h. both_ways (a v) (v == w) (there v h (v == w) refl) (λ e. ap a (eqb-true v w e) ∙ here)) ∙ alone 4096 w small
-  where
-    there : (v : ℕ) → v < 4096 → (q : Bool) → (v == w) ≡ q → a v ≡ true → q ≡ true
-    there v h true e t = refl
-    there v h false e t = absurd (true_false (sym (ap (λ q. if q then false else a v) e ∙ t) ∙ none_of_some 4096 (without w a) none v h))
-
-only_some : (o : Option ℕ) (a : Words) → how_many 4096 a ≡ 1 → MatchOption o (HasNoneFrom 0 a) (λ w. IsFirstFrom 0 a w) → o ≡ only_of a o
-only_some None a one none = refl
-only_some (Some w) a one is = let e : some_below 4096 (without w a) ≡ false = none_beside a w one is.small is.within in rw e refl
-
-only_none : (o : Option ℕ) (a : Words) → how_many 4096 a ≢ 1 → MatchOption o (HasNoneFrom 0 a) (λ w. IsFirstFrom 0 a w) → only_of a o ≡ None
-only_none None a many none = refl
-only_none (Some w) a many is = go (some_below 4096 (without w a)) refl
-  where
-    go : (p : Bool) → some_below 4096 (without w a) ≡ p → (if some_below 4096 (without w a) then (let n : Option ℕ = None in n) else Some w) ≡ None
-    go true e = rw e refl
-    go false e = absurd (many (one_alone a w is.small is.within e))
-
 -- the least of all is some number or none
 least_of : (n : ℕ) (a : Words) → n ≤ 4096 → MatchOption (first_below n a) ((v : ℕ) → v < n → a v ≡ false) (λ w. IsFirstFrom 0 a w)
 unfolding first_below
@@ -233,10 +158,65 @@ from_zero (Some w) a is = is
 pub first_of : (a : Words) → MatchOption (first_below 4096 a) (HasNoneFrom 0 a) (λ w. IsFirstFrom 0 a w)
 first_of a = from_zero (first_below 4096 a) a (least_of 4096 a (omega arith))
 
-pub only-one : (a : Words) → how_many 4096 a ≡ 1 → first_below 4096 a ≡ only a
+-- the least word is the only one where none comes after it
+pub only_next : (a : Words) (w : ℕ) → IsFirstFrom 0 a w → HasNoneFrom (w + 1) a → Some w ≡ only a
 unfolding only
-only-one a one = only_some (first_below 4096 a) a one (from_zero (first_below 4096 a) a (least_of 4096 a (omega arith)))
+only_next a w is none =
+    let first : Some w ≡ first_below 4096 a = first_is (Some w) a is in
+    let alone : some_below 4096 (without w a) ≡ false = some_none_of 4096 (without w a) (λ v h. lone v h (v == w) refl) in
+    rw (← first, alone) refl
+  where
+    lone : (v : ℕ) → v < 4096 → (q : Bool) → (v == w) ≡ q → without w a v ≡ false
+    lone v h true e = rw e refl
+    lone v h false e = rw e (elim (cases_lt v w) [ inl l ↦ is.before v (omega arith) l | inr g ↦ none v (later v e g) h ])
+      where
+        later : (v : ℕ) → (v == w) ≡ false → w ≤ v → w + 1 ≤ v
+        later v e g = let other : v ≢ w = λ same. true_false (sym (eq-eqb v w same) ∙ e) in omega arith
 
-pub only-other : (a : Words) → how_many 4096 a ≢ 1 → None ≡ only a
+pub only_two : (a : Words) (w u : ℕ) → IsFirstFrom 0 a w → IsFirstFrom (w + 1) a u → None ≡ only a
 unfolding only
-only-other a many = sym (only_none (first_below 4096 a) a many (from_zero (first_below 4096 a) a (least_of 4096 a (omega arith))))
+only_two a w u is next =
+    let first : Some w ≡ first_below 4096 a = first_is (Some w) a is in
+    let apart : (u == w) ≡ false = ne_eqb u w (λ e. omega (arith, next.reached)) in
+    let left : without w a u ≡ true = rw apart next.within in
+    let beside : some_below 4096 (without w a) ≡ true = some_from 4096 (without w a) u next.small left in
+    rw (← first, beside) refl
+
+pub only_nothing : (a : Words) → HasNoneFrom 0 a → None ≡ only a
+unfolding only
+only_nothing a none = let first : None ≡ first_below 4096 a = first_is None a none in rw (← first) refl
+
+-- the only word of a set
+pub record IsOnly (a : Words) (w : ℕ) : Type 0 where
+  pub small : w < 4096
+  pub within : a w ≡ true
+  pub lone : (v : ℕ) → v < 4096 → a v ≡ true → v ≡ w
+
+pub only_word : (a : Words) (w : ℕ) → only a ≡ Some w → IsOnly a w
+unfolding only
+only_word a w e = go (first_below 4096 a) refl (from_zero (first_below 4096 a) a (least_of 4096 a (omega arith)))
+  where
+    go : (o : Option ℕ) → first_below 4096 a ≡ o → MatchOption o (HasNoneFrom 0 a) (λ k. IsFirstFrom 0 a k) → IsOnly a w
+    go None f none = let same : only_of a None ≡ Some w = ap (only_of a) (sym f) ∙ e in cc
+    go (Some k) f is = beside (some_below 4096 (without k a)) refl
+      where
+        some_out : (i j : ℕ) → Some i ≡ Some j → i ≡ j
+        some_out i j s = cc
+
+        alone_at : (v : ℕ) → v < 4096 → a v ≡ true → some_below 4096 (without k a) ≡ false → k ≡ w → v ≡ w
+        alone_at v h t q it = elim (cases_eq v k) [
+          | inl same ↦ same ∙ it
+          | inr apart ↦ (let out : (v == k) ≡ false = ne_eqb v k apart in let left : without k a v ≡ true = rw out t in absurd (true_false (sym left ∙ none_of_some 4096 (without k a) q v h)))
+        ]
+
+        beside : (p : Bool) → some_below 4096 (without k a) ≡ p → IsOnly a w
+        beside true q = let same : only_of a (Some k) ≡ Some w = ap (only_of a) (sym f) ∙ e in let none : None ≡ Some w = rw q at same in cc
+        beside false q =
+            let same : only_of a (Some k) ≡ Some w = ap (only_of a) (sym f) ∙ e in
+            let there : Some k ≡ Some w = rw q at same in
+            let it : k ≡ w = some_out k w there in
+            record {
+              small = rw (← it) is.small;
+              within = rw (← it) is.within;
+              lone = λ v h t. alone_at v h t q it;
+            }

@@ -11,3 +11,5 @@ pub mod Ors
 pub mod Complements
 pub mod SumLemmas
 pub mod Halves
+pub mod Cleared
+pub mod Pairs

@@ -1,14 +1,14 @@
-use Rattle.std.proofs.Common.{◌≡◌, ℕ, ◌+◌, ◌-◌, ◌*◌, ◌/◌, ◌%◌, ◌^◌, ◌<◌, ◌≤◌, ◌==◌, Bool, true, false, not, ◌&&◌, inl, inr, arith, nat_lt, ap, sym, ◌∙◌, ◌⊎◌, lit<, List, get_or, w64}
+use Rattle.std.proofs.Common.{◌≡◌, ℕ, ◌+◌, ◌-◌, ◌*◌, ◌/◌, ◌%◌, ◌^◌, ◌<◌, ◌≤◌, ◌==◌, Bool, true, false, not, ◌&&◌, ◌||◌, refl, inl, inr, arith, nat_lt, ap, sym, ◌∙◌, ◌⊎◌, lit<, List, get_or, w64}
 use Rattle.std.specs.Prelude.{nat_le, bit_and}
 use Rattle.std.specs.Int.{bit_at, bit_not}
 use Rattle.std.proofs.lemmas.Bool.Decides.{nat_tests}
 use Rattle.std.proofs.lemmas.Bool.{cases_lt}
 use Rattle.std.proofs.lemmas.Nat.{shr-shr}
 use Rattle.std.proofs.lemmas.Nat.Bits.{bit_at_ones, bit_at_cat_high, bit_at-zero}
-use Rattle.wordset.specs.Words.{between}
+use Rattle.wordset.specs.Words.{between, union, all_words}
 use Rattle.wordset.specs.Lanes.{words}
-use Rattle.wordset.proofs.SetLemmas.{words_bit}
-use Rattle.wordset.proofs.LaneBits.{and_bit, not_bit}
+use Rattle.wordset.proofs.SetLemmas.{words_bit, words_past, equal_words, all_past, all_everything}
+use Rattle.wordset.proofs.LaneBits.{and_bit, not_bit, or_false}
 use Rattle.wordset.proofs.Tests.{both_ways, and_both, and_first, and_second, true_false}
 
 to_le : (a b : ℕ) → nat_le a b ≡ true → a ≤ b
@@ -75,6 +75,21 @@ lane_outside low high v x j z out = ap (λ n. bit_at n j == 1) z ∙ ap (λ n. n
     no (inl a) b c = omega arith
     no (inr a) b c = omega arith
 
+-- no word of a range: it adds none
+pub lane_beside : (low high v : ℕ) (p : Bool) → (v < low) ⊎ (high < v) → p ≡ (p || between low high v)
+lane_beside low high v p out = sym (or_false p) ∙ ap (λ q. p || q) (sym (not_between low high v out))
+  where
+    not_between : (low high v : ℕ) → (v < low) ⊎ (high < v) → between low high v ≡ false
+    not_between low high v out = sym (lane_outside low high v 0 0 refl out)
+
+-- every word of the lanes to which a range was added
+pub words_of_bits : (lanes old : List ℕ) (low high : ℕ) → ((i j : ℕ) → i < 64 → j < 64 → (bit_at (get_or lanes i 0) j == 1) ≡ ((bit_at (get_or old i 0) j == 1) || between low high (64 * i + j)))
+    → (v : ℕ) → v < 4096 → words lanes v ≡ union (words old) (between low high) v
+words_of_bits lanes old low high all v h =
+    let back : 64 * (v / 64) + v % 64 ≡ v = omega arith in
+    words_bit lanes v h ∙ all (v / 64) (v % 64) (omega arith) (omega arith) ∙ ap (λ n. (bit_at (get_or old (v / 64) 0) (v % 64) == 1) || between low high n) back
+    ∙ ap (λ p. p || between low high v) (sym (words_bit old v h))
+
 -- every word of the lanes
 pub words_of_lanes : (lanes : List ℕ) (low high : ℕ) → ((i j : ℕ) → i < 64 → j < 64 → (bit_at (get_or lanes i 0) j == 1) ≡ between low high (64 * i + j))
     → (v : ℕ) → v < 4096 → words lanes v ≡ between low high v
@@ -87,3 +102,11 @@ pub range_past : (low high v : ℕ) → high < 4096 → 4096 ≤ v → (nat_le l
 range_past low high v h g = both_ways (nat_le low v && nat_le v high) false
     (λ e. let b : v ≤ high = to_le v high (and_second (nat_le low v) (nat_le v high) e) in absurd (omega arith))
     (λ e. absurd (let z : ⊥ = cc in z))
+
+pub union_past : (old : List ℕ) (low high : ℕ) → high < 4096 → (v : ℕ) → 4096 ≤ v → union (words old) (between low high) v ≡ false
+union_past old low high h v g = ap (λ p. p || between low high v) (words_past old v g) ∙ range_past low high v h g
+
+-- all words, from the first one to the last one
+pub all_between : (low high : ℕ) → low ≡ 0 → high ≡ 4095 → all_words ≡ between low high
+all_between low high z e = equal_words all_words (between low high) all_past (λ v g. range_past low high v (omega arith) g)
+    (λ v h. all_everything v h ∙ sym (and_both (nat_le low v) (nat_le v high) (le_to low v (omega arith)) (le_to v high (omega arith))))

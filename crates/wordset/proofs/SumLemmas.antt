@@ -1,6 +1,8 @@
 -- Sums of two sets: either may be gone through, and all words plus a word are all words.
 use Rattle.std.proofs.Common.{◌≡◌, ℕ, ◌<◌, Bool, true, false, ◌&&◌, refl, sym, ◌∙◌, ap, arith, not}
-use Rattle.wordset.specs.Words.{Words, SameWords, sums, minus, everything, has_some}
+use Rattle.std.specs.Prelude.{Some}
+use Rattle.wordset.specs.Words.{Words, SameWords, sums, shifted, only, minus, everything, has_some}
+use Rattle.wordset.proofs.Firsts.{IsOnly, only_word}
 use Rattle.wordset.proofs.Tests.{both_ways, some_from, some_to, IsSome, and_both, and_first, and_second}
 
 half : (a b : Words) (v : ℕ) → v < 4096 → sums a b v ≡ true → sums b a v ≡ true
@@ -31,3 +33,19 @@ has_some_from a p is e = go (has_some a) (sym is ∙ e)
     go : (q : Bool) → not q ≡ false → q ≡ true
     go true e = refl
     go false e = cc
+
+-- the sums with the only word of a set are one shift
+pub sums_one : (a b : Words) (w : ℕ) → only a ≡ Some w → SameWords (shifted b w) (sums a b)
+sums_one a b w e v h = both_ways (b (minus v w)) (sums a b v) forth back
+  where
+    is : IsOnly a w
+    is = only_word a w e
+
+    forth : b (minus v w) ≡ true → sums a b v ≡ true
+    forth t = some_from 4096 (λ x. a x && b (minus v x)) w is.small (and_both (a w) (b (minus v w)) is.within t)
+
+    back : sums a b v ≡ true → b (minus v w) ≡ true
+    back t =
+        let s : IsSome 4096 (λ x. a x && b (minus v x)) = some_to 4096 (λ x. a x && b (minus v x)) t in
+        let it : s.at ≡ w = is.lone s.at s.small (and_first (a s.at) (b (minus v s.at)) s.holds) in
+        ap (λ x. b (minus v x)) (sym it) ∙ and_second (a s.at) (b (minus v s.at)) s.holds

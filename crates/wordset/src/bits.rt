@@ -3,14 +3,17 @@
 //! To set a bit in a word that lacks it is to add its weight. So a bit is put into each word of a
 //! set by one shift of those that lack it.
 
-ghost use Rattle.std.specs.Prelude.{◌≡◌, ◌<◌, ◌+◌, ◌*◌, ◌^◌, ◌==◌, ℕ};
+ghost use Rattle.std.specs.Prelude.{◌≡◌, ◌<◌, ◌+◌, ◌*◌, ◌^◌, ◌==◌, ◌&&◌, ◌||◌, bit_and, ℕ};
 ghost use Rattle.std.specs.Int.{bit_at};
-ghost use Rattle.wordset.specs.Words.{SameWords, ands, ors, or_any, everything};
+ghost use Rattle.wordset.specs.Words.{SameWords, some_below, ands, ors, or_any, everything};
 ghost use Rattle.wordset.specs.Lanes.{words};
 ghost use Rattle.wordset.specs.Bits.{has_bit, doubled, halved, put_bit, ors_with};
 
 use crate::WordSet;
 use word12::Word;
+
+/// Sets of so many words are small enough to go through all pairs of their words.
+const FEW: usize = 40;
 
 impl WordSet {
     /// The words a or m, for the words a of the set and all parts m of the mask: the words with
@@ -50,7 +53,43 @@ impl WordSet {
         if self.is_all() {
             return other.ands_with_all();
         }
+        if self.count() <= FEW && other.count() <= FEW {
+            return self.ands_of_few(other);
+        }
+        self.ands_by_complements(other)
+    }
+
+    /// The words a and b, by the complements of both sets.
+    #[inline(never)]
+    fn ands_by_complements(&self, other: &WordSet) -> WordSet
+        ensures { SameWords (words result) (ands (words self.now) (words other.now)) }
+    {
         self.complements().ors(&other.complements()).complements()
+    }
+
+    /// The words a and b, pair by pair; quick where there are few.
+    fn ands_of_few(&self, other: &WordSet) -> WordSet
+        ensures { SameWords (words result) (ands (words self.now) (words other.now)) }
+    {
+        let mut found = WordSet::empty();
+        let mut next = 0usize;
+        while let Some(word) = self.first_from(next) {
+            other.put_ands_with(word, &mut found);
+            next = word.index() + 1;
+        }
+        found
+    }
+
+    /// Puts the words a and b into a set, for one word a and each word b of this set.
+    fn put_ands_with(&self, word: Word, found: &mut WordSet)
+        ensures { (v : ℕ) → v < 4096 → words found.new v ≡
+            (words found.old v || some_below 4096 (λ y. words self.now y && (bit_and word y == v))) }
+    {
+        let mut next = 0usize;
+        while let Some(other) = self.first_from(next) {
+            found.insert(word.and(other));
+            next = other.index() + 1;
+        }
     }
 
     /// The words a and b, for the words a of the set and all words b.

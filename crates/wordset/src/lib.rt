@@ -70,12 +70,32 @@ impl WordSet {
     pub fn range(low: Word, high: Word) -> WordSet
         ensures { words result ≡ between low high }
     {
+        if low.index() == 0 && high.index() == 4095 {
+            return WordSet::all();
+        }
+        WordSet::short_range(low, high)
+    }
+
+    /// The same, lane by lane.
+    fn short_range(low: Word, high: Word) -> WordSet
+        ensures { words result ≡ between low high }
+    {
         let end = high.index() + 1;
         let mut lanes = [0u64; 64];
         for i in low.index() / 64..high.index() / 64 + 1 {
             lanes[i] = lane_below(end, i) & !lane_below(low.index(), i);
         }
         WordSet { lanes }
+    }
+
+    /// Puts in the words from `low` to `high`, both of them; none where `high` is the lesser.
+    pub fn insert_range(&mut self, low: Word, high: Word)
+        ensures { words self.new ≡ union (words self.old) (between low high) }
+    {
+        let end = high.index() + 1;
+        for i in low.index() / 64..high.index() / 64 + 1 {
+            self.lanes[i] |= lane_below(end, i) & !lane_below(low.index(), i);
+        }
     }
 
     /// The lanes of the set: bit j of lane i, the least bit being bit 0, is set exactly where the
@@ -193,10 +213,12 @@ impl WordSet {
     pub fn only(&self) -> Option<Word>
         ensures { result ≡ only (words self.now) }
     {
-        if self.count() == 1 {
-            self.least()
-        } else {
-            None
+        let Some(word) = self.first_from(0) else {
+            return None;
+        };
+        match self.first_from(word.index() + 1) {
+            None => Some(word),
+            Some(_) => None,
         }
     }
 
@@ -242,7 +264,19 @@ impl WordSet {
     pub fn shift(&self, k: Word) -> WordSet
         ensures { SameWords (words result) (shifted (words self.now) k) }
     {
+        if k.index() == 0 {
+            return *self;
+        }
         self.shift_from(&self.lanes_twice(), k)
+    }
+
+    /// Keeps the words that are a + k, modulo 4096, for a word a of another set.
+    pub fn keep_shifted(&mut self, other: &WordSet, k: Word)
+        ensures { SameWords (words self.new) (meet (words self.old) (shifted (words other.now) k)) }
+    {
+        let shifted = other.shift(k);
+        let both = u64x64::from_array(self.lanes) & u64x64::from_array(shifted.lanes);
+        self.lanes = both.to_array();
     }
 
     /// The lanes stored twice in a row, from which every shift of the set is taken.

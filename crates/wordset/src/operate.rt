@@ -3,6 +3,7 @@
 ghost use Rattle.std.specs.Prelude.{◌≡◌, ◌<◌, ◌==◌, ◌&&◌, ℕ};
 ghost use Rattle.instruct.specs.declared.Profile.TheVariants.{Pdp8E};
 ghost use Rattle.instruct.specs.declared.Instruction.TheVariants.{Operate1};
+ghost use Rattle.instruct.specs.Bits.{has_bit};
 ghost use Rattle.instruct.specs.Instructions.{instruction_of};
 ghost use Rattle.wordset.specs.Words.{SameWords, SameLinks, images, images_at};
 ghost use Rattle.wordset.specs.Lanes.{words};
@@ -13,10 +14,31 @@ use crate::{Links, WordSet};
 use instruct::operate1;
 use word12::{Link, Word};
 
+/// Whether a word of group 1 has CLA: what it makes of an accumulator is then the same for all of them.
+fn clears(word: Word) -> bool
+    ensures { result ≡ has_bit 7 word }
+{
+    word.value() >> 7 & 1 == 1
+}
+
 impl WordSet {
     /// What a word of group 1, with a rotate or BSW or none, makes of each accumulator in the set
     /// with each link of `links`: the accumulators and the links afterwards.
     pub fn map_operate(&self, word: Word, links: Links) -> (WordSet, Links)
+        requires { instruction_of Pdp8E word ≡ Operate1 }
+        ensures words { SameWords (words result.0)
+            (images (accumulator_after word) (words self.now) (links_of links)) }
+        ensures links { SameLinks (links_of result.1)
+            (images (link_after word) (words self.now) (links_of links)) }
+    {
+        if clears(word) && !self.is_empty() {
+            return WordSet::one(Word::ZERO).map_each(word, links);
+        }
+        self.map_each(word, links)
+    }
+
+    /// The same, word by word.
+    fn map_each(&self, word: Word, links: Links) -> (WordSet, Links)
         requires { instruction_of Pdp8E word ≡ Operate1 }
         ensures words { SameWords (words result.0)
             (images (accumulator_after word) (words self.now) (links_of links)) }

@@ -19,16 +19,29 @@ impl WordSet {
             absent: self.has_sum_without_carry(other),
             present: self.has_sum_with_carry(other),
         };
-        let sums = if self.count() <= other.count() {
+        (self.all_sums(other), carries)
+    }
+
+    /// The sums; quick where one of the sets has one word.
+    fn all_sums(&self, other: &WordSet) -> WordSet
+        ensures { SameWords (words result) (sums (words self.now) (words other.now)) }
+    {
+        if let Some(word) = self.only() {
+            return other.shift(word);
+        }
+        if let Some(word) = other.only() {
+            return self.shift(word);
+        }
+        if self.count() <= other.count() {
             self.sums_by_word(other)
         } else {
             other.sums_by_word(self)
-        };
-        (sums, carries)
+        }
     }
 
     /// The sums, by a shift of the other set for each word of this one; quick where the other set
     /// is all words.
+    #[inline(never)]
     fn sums_by_word(&self, other: &WordSet) -> WordSet
         ensures { SameWords (words result) (sums (words self.now) (words other.now)) }
     {

@@ -3,6 +3,6 @@ use Rattle.facts.proofs.dispatch.branches.Goals as goal
 
 pub returns : goal.returns
 returns c = λ f h.
-    append_agree _ _ _ _ (c.branch-at.ensures f h)
-    (append_agree _ _ _ _ (c.branch-at-2.ensures f h)
-    (append_agree _ _ _ _ (c.branch-at-3.ensures f h) (keeps_agreeing _ _ (c.branch-at-4.ensures f h))))
+    append_agree _ _ _ _ (c.branch-first.ensures f h)
+    (append_agree _ _ _ _ (c.branch-second.ensures f h)
+    (append_agree _ _ _ _ (c.branch-third.ensures f h) (keeps_agreeing _ _ (c.branch-fourth.ensures f h))))

@@ -1,16 +1,19 @@
-use Rattle.std.proofs.Common.{◌∙◌, sym, ap}
+use Rattle.std.proofs.Common.{◌∙◌, sym, ap, arith}
+use Rattle.peripherals.specs.Loading.{image_of}
+use Rattle.facts.specs.Meaning.{tracked_cells}
 use Rattle.facts.specs.Starts.{has_each}
 use Rattle.wordset.specs.Lanes.{words}
 use Rattle.facts.proofs.StartLemmas.{start_step, start_fails, start_end}
 use Rattle.facts.proofs.entailment.may_each_start.Goals as goal
 
 pub returns-then-not-may_start : goal.returns-then-not-may_start
-returns-then-not-may_start c = start_fails _ _ _ _ c.loop-entry-test.true c.entry-item.is c.word_of.ensures.small
-    (ap (λ o. has_each o (words c.entry-item.result.set)) (sym c.word_of.ensures.word) ∙ (sym c.may_start.ensures ∙ c.if-not-may_start.true)) c.loop-entry.invariant
+returns-then-not-may_start c = start_fails (image_of c.args.image.now) (tracked_cells c.args.cells.now) c.loop-at.at (omega (arith, c.loop-at-test.true, c.len-at-end.ensures.count))
+    (rw (← c.get-tracked.ensures) c.word_of.ensures.small)
+    (rw (← c.get-tracked.ensures) (ap (λ o. has_each o (words c.get-tracked.result.set)) (sym c.word_of.ensures.word) ∙ (sym c.may_start.ensures ∙ c.if-not-may_start.true))) c.loop-at.invariant
 
-pub loop-entry-preserved : goal.loop-entry-preserved
-loop-entry-preserved c = start_step _ _ _ _ c.loop-entry-test.true c.entry-item.is
-    (ap (λ o. has_each o (words c.entry-item.result.set)) (sym c.word_of.ensures.word) ∙ (sym c.may_start.ensures ∙ c.if-not-may_start.false)) c.loop-entry.invariant
+pub loop-at-preserved : goal.loop-at-preserved
+loop-at-preserved c = start_step (image_of c.args.image.now) (tracked_cells c.args.cells.now) c.loop-at.at (omega (arith, c.loop-at-test.true, c.len-at-end.ensures.count))
+    (rw (← c.get-tracked.ensures) (ap (λ o. has_each o (words c.get-tracked.result.set)) (sym c.word_of.ensures.word) ∙ (sym c.may_start.ensures ∙ c.if-not-may_start.false))) c.loop-at.invariant
 
 pub returns : goal.returns
-returns c = start_end _ _ _ c.loop-entry-test.false c.loop-entry.invariant
+returns c = start_end (image_of c.args.image.now) (tracked_cells c.args.cells.now) c.loop-at.at (omega (arith, c.loop-at-test.false, c.len-at-end.ensures.count)) c.loop-at.invariant

@@ -7,4 +7,4 @@ use Rattle.facts.proofs.ChangingLemmas.{assigned_agree}
 use Rattle.facts.proofs.registers.clear.Goals as goal
 
 pub returns : goal.returns
-returns c = λ f h. c.go_on.ensures f (assigned Ac (one 0) f) h (agree_trans c.with_ac.ensures.same (assigned_agree Ac h (λ v lt. ap (λ (x : Words). x v) c.one.ensures)))
+returns c = λ f h. c.go_on.ensures f (assigned Ac (one 0) f) h (agree_trans c.with_ac-after.ensures.same (assigned_agree Ac h (λ v lt. ap (λ (x : Words). x v) c.one.ensures)))

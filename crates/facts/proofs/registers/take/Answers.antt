@@ -6,4 +6,4 @@ use Rattle.facts.proofs.registers.take.Goals as goal
 
 pub returns : goal.returns
 returns c = λ f s t h a m. c.go_on.ensures f (with_mq t (assigned Ac s f)) h
-    (agree_trans c.with_mq.ensures (mq_agree (agree_trans c.with_ac.ensures.same (assigned_agree Ac h a)) m))
+    (agree_trans c.with_mq-after.ensures (mq_agree (agree_trans c.with_ac.ensures.same (assigned_agree Ac h a)) m))

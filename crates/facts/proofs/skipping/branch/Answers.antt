@@ -24,6 +24,6 @@ returns c = λ f h.
     let after : Agree (known_of c.with_link.result) (with_link (one c.args.link) (related2 c.args.word (part2 c.args.word f c.args.link c.args.skip) f)) =
     agree_trans c.with_link.ensures (link_agree (c.after_test.ensures f (part2 c.args.word f c.args.link c.args.skip) h part) c.one.ensures) in
     let chosen : c.both.result ≡ (f.link c.args.link && has_some (part2 c.args.word f c.args.link c.args.skip)) =
-    c.both.ensures ∙ and_both (c.contains-linked.ensures ∙ h.link c.args.link c.requires) (c.has_word-held.ensures ∙ has_same part) in
+    c.both.ensures ∙ and_both (c.contains-linked.ensures ∙ h.link c.args.link c.requires.link) (c.has_word-held.ensures ∙ has_same part) in
     chosen_agrees _ c.both.result (f.link c.args.link) (has_some (part2 c.args.word f c.args.link c.args.skip)) _ _ chosen
     (c.going_if.ensures everything everything (one (next_pc c.args.at c.args.skip)) f _ (all_same c.all-all.ensures) h (all_same c.all-all.ensures) c.next_address.ensures after)

@@ -2,7 +2,7 @@ use Rattle.std.proofs.lemmas.Result.{MatchResult-from_both, MatchResult-weaker}
 use Rattle.pal_acts.specs.Sources.{IsSource}
 use Rattle.pal_acts.specs.Faults.{Refuses}
 use Rattle.pal_acts.proofs.First.{one_source, not_both}
-use Rattle.pal_acts.proofs.Told.{silent, tells_only}
+use Rattle.pal_acts.proofs.Told.{from_refusal, silent, tells_only}
 use Rattle.pal_acts.proofs.assembly.assemble.Goals as goal
 
 pub returns-clause-meant : goal.returns-clause-meant
@@ -12,7 +12,7 @@ returns-clause-meant g c own image k =
     c.assemble_acts.ensures.found c.assemble_acts.ensures.refused in
     MatchResult-weaker r told
     (λ found h. one_source c.args.permanent.now.entries 1024 c.args.acts.now found.symbols.own.entries own found.image image h k)
-    (silent c.args.permanent.now.entries 1024 c.args.acts.now own image k)
+    (λ refused h. silent c.args.permanent.now.entries 1024 c.args.acts.now own image k refused (from_refusal c.args.permanent.now.entries 1024 c.args.acts.now refused h))
 
 pub returns-clause-faulty : goal.returns-clause-faulty
 returns-clause-faulty g c at code k =
@@ -21,4 +21,4 @@ returns-clause-faulty g c at code k =
     c.assemble_acts.ensures.found c.assemble_acts.ensures.refused in
     MatchResult-weaker r told
     (λ found h. not_both c.args.permanent.now.entries 1024 c.args.acts.now found.symbols.own.entries found.image at code h k)
-    (tells_only c.args.permanent.now.entries 1024 c.args.acts.now at code k)
+    (λ refused h. tells_only c.args.permanent.now.entries 1024 c.args.acts.now at code k refused (from_refusal c.args.permanent.now.entries 1024 c.args.acts.now refused h))

@@ -1,15 +1,14 @@
-use Rattle.std.proofs.Common.{◌≡◌, ◌+◌, ◌<◌, ◌∙◌, sym, ap, refl, subst, arith, take, drop, length, List, ◌++◌}
+use Rattle.std.proofs.Common.{◌+◌, ◌<◌, refl, subst, arith, take, drop, length, List, ◌++◌}
 use Rattle.std.specs.Prelude.{reverse}
 use Rattle.pal_acts.specs.Acts.{PlacedAct, shown}
 use Rattle.pal_acts.specs.Values.{Values, in_table}
-use Rattle.pal_acts.specs.Meaning.{location_after}
 use Rattle.pal_acts.specs.Faults.{WordBreaks}
 use Rattle.pal_acts.proofs.Images.{blank_image}
 use Rattle.pal_acts.proofs.Places.{split_at, turned_more}
 use Rattle.pal_acts.proofs.assembly.encode.Goals as goal
 
 pub loop-at-init : goal.loop-at-init
-loop-at-init g c = (rw c.empty-image.ensures.cells (blank_image _), tt, c.from_index-here.ensures)
+loop-at-init g c = (rw c.empty-image.ensures.cells blank_image, tt, c.from_index-here.ensures)
 
 pub loop-at-preserved : goal.loop-at-preserved
 loop-at-preserved g c =
@@ -18,8 +17,7 @@ loop-at-preserved g c =
     let next : PlacedAct = shown c.get-next.result in
     let σ : Values = in_table (c.args.symbols.now.permanent.now.entries ++ c.args.symbols.now.own.entries) in
     let more = turned_more acts c.loop-at.at next within c.get-next.ensures in
-    let step = c.in_default.ensures.puts next.place (reverse (take c.loop-at.at acts)) c.loop-at.invariant.2 c.loop-at.invariant.0 c.loop-at.invariant.1 in
-    rw more (step.0, step.1, step.2 ∙ ap (λ l. location_after σ l next.terms next.act) c.loop-at.invariant.2)
+    rw more (c.in_default.ensures.puts (reverse (take c.loop-at.at acts)) c.loop-at.invariant.2 c.loop-at.invariant.0 c.loop-at.invariant.1)
 
 pub returns-in-Err-clause-refused : goal.returns-in-Err-clause-refused
 returns-in-Err-clause-refused g c =

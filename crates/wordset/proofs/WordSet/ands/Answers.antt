@@ -1,14 +1,10 @@
-use Rattle.std.proofs.Common.{◌∙◌, ◌-◌, arith}
+use Rattle.std.proofs.Common.{◌∙◌}
 use Rattle.wordset.specs.Lanes.{words}
 use Rattle.wordset.proofs.WordSet.ands.Goals as goal
-use Rattle.wordset.proofs.Complements.{ands-complements, ands_all, all_ands}
+use Rattle.wordset.proofs.Complements.{ands_all, all_ands}
 
 pub returns-then-is_all : goal.returns-then-is_all
 returns-then-is_all c = λ v h. c.ands_with_all.ensures v h ∙ ands_all (words c.args.self.now) (words c.args.other.now) (c.is_all.ensures.0 c.if-is_all.true) v h
 
 pub returns-then-is_all-2 : goal.returns-then-is_all-2
 returns-then-is_all-2 c = λ v h. c.ands_with_all-then-is_all-2.ensures v h ∙ all_ands (words c.args.other.now) (words c.args.self.now) (c.is_all-2.ensures.0 c.if-is_all-2.true) v h
-
-pub returns : goal.returns
-returns c = λ v h. c.complements-3.ensures v h ∙ c.ors.ensures (4095 - v) (omega arith)
-    ∙ ands-complements (words c.args.self.now) (words c.args.other.now) (words c.complements.result) (words c.complements-2.result) c.complements.ensures c.complements-2.ensures v h

@@ -1,25 +1,19 @@
-use Rattle.std.proofs.Common.{◌≡◌, ℕ, ◌∙◌, sym, ap, Bool, ◌&&◌, ◌||◌}
-use Rattle.instruct.specs.Operates.{operate1_of}
-use Rattle.wordset.specs.Words.{images_at}
-use Rattle.wordset.specs.Links.{links_of}
+use Rattle.std.proofs.Common.{◌≡◌, ℕ, ◌∙◌, sym, ap, true, not}
+use Rattle.wordset.specs.Words.{Words, has_some}
 use Rattle.wordset.specs.Lanes.{words}
+use Rattle.wordset.specs.Links.{links_of}
+use Rattle.wordset.specs.Operate.{accumulator_after, link_after}
+use Rattle.wordset.proofs.Cleared.{cleared_same, images_same, one_some, not_none}
 use Rattle.wordset.proofs.WordSet.map_operate.Goals as goal
-use Rattle.wordset.proofs.Tests.{some_of_two}
-use Rattle.wordset.proofs.SetLemmas.{same_words}
 
-both : (p q f g r s : Bool) → r ≡ (p && f) → s ≡ (q && g) → (r || s) ≡ ((p && f) || (q && g))
-both p q f g r s a b = ap (λ x. x || s) a ∙ ap (λ x. (p && f) || x) b
+pub returns-then-not-is_empty-clause-words : goal.returns-then-not-is_empty-clause-words
+returns-then-not-is_empty-clause-words c = λ v h.
+    c.map_each.ensures.words v h ∙ images_same (accumulator_after c.args.word) (words c.one.result) (words c.args.self.now) (links_of c.args.links)
+    (λ x l. ap (λ s. s.0) (cleared_same c.args.word x l (sym c.clears.ensures ∙ c.if-clears.true)))
+    (ap has_some c.one.ensures ∙ one_some) (not_none (has_some (words c.args.self.now)) (sym c.is_empty.ensures ∙ c.if-not-is_empty.true)) v
 
-pub returns-clause-words : goal.returns-clause-words
-returns-clause-words c =
-    let image = λ (l v : ℕ). images_at (λ ac. (operate1_of c.args.word (ac, l)).0) (words c.args.self.now) v in
-    λ v h. same_words c.union.ensures v h
-    ∙ both c.args.links.clear c.args.links.set (image 0 v) (image 1 v) (words c.operate_if-low.result.0 v) (words c.operate_if-high.result.0 v) (c.operate_if-low.ensures.words v h) (c.operate_if-high.ensures.words v h)
-    ∙ sym (some_of_two (λ l. links_of c.args.links l && image l v))
-
-pub returns-clause-links : goal.returns-clause-links
-returns-clause-links c =
-    let image = λ (l k : ℕ). images_at (λ ac. (operate1_of c.args.word (ac, l)).1) (words c.args.self.now) k in
-    λ k h. c.union-2.ensures k h
-    ∙ both c.args.links.clear c.args.links.set (image 0 k) (image 1 k) (links_of c.operate_if-low.result.1 k) (links_of c.operate_if-high.result.1 k) (c.operate_if-low.ensures.links k h) (c.operate_if-high.ensures.links k h)
-    ∙ sym (some_of_two (λ l. links_of c.args.links l && image l k))
+pub returns-then-not-is_empty-clause-links : goal.returns-then-not-is_empty-clause-links
+returns-then-not-is_empty-clause-links c = λ v h.
+    c.map_each.ensures.links v h ∙ images_same (link_after c.args.word) (words c.one.result) (words c.args.self.now) (links_of c.args.links)
+    (λ x l. ap (λ s. s.1) (cleared_same c.args.word x l (sym c.clears.ensures ∙ c.if-clears.true)))
+    (ap has_some c.one.ensures ∙ one_some) (not_none (has_some (words c.args.self.now)) (sym c.is_empty.ensures ∙ c.if-not-is_empty.true)) v

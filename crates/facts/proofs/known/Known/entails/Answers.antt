@@ -17,10 +17,10 @@ returns-then-not-is_subset c = not_true (λ en. not_both _ c.if-not-is_subset.tr
 
 pub returns-then-not-is_each_within : goal.returns-then-not-is_each_within
 returns-then-not-is_each_within c = not_true (λ en. not_both _ c.if-not-is_each_within.true c.is_each_within.ensures.1
-    (subst (EachWithin (known_of c.args.self.now)) (sym c.cells.ensures.cells) (tracked_each _ _ (λ a. en.0.sets (Cell a)))))
+    (subst (EachWithin (known_of c.args.self.now)) (sym c.cells.ensures) (tracked_each _ _ (λ a. en.0.sets (Cell a)))))
 
 pub returns : goal.returns
 returns c = entails_iff _ c.args.fact.now _ (c.entails_registers.ensures.0 c.if-not-entails_registers.false)
     (λ o lt q. ap (λ (s : Words). s o) (sym c.offsets.ensures) ∙ c.is_subset.ensures.0 c.if-not-is_subset.false o lt q)
-    (subst (EachWithin (known_of c.args.self.now)) c.cells.ensures.cells (c.is_each_within.ensures.0 c.if-not-is_each_within.false))
+    (subst (EachWithin (known_of c.args.self.now)) c.cells.ensures (c.is_each_within.ensures.0 c.if-not-is_each_within.false))
     (subst (λ es. IsTrue c.knows_all.result ↔ KnowsAll (known_of c.args.self.now) es) c.equations.ensures.equations c.knows_all.ensures)

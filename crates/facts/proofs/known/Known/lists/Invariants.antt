@@ -5,4 +5,4 @@ use Rattle.facts.specs.Meaning.{equation_of}
 use Rattle.facts.proofs.known.Known.lists.Given as goal
 
 abbrev pub invariant-loop-e : goal.invariant-loop-e
-invariant-loop-e l = Among (equation_of l.equation) (map equation_of (drop l.e-index l.equations)) ↔ Among (equation_of l.equation) (map equation_of l.self.equations.items)
+invariant-loop-e l = Among (equation_of l.equation) (map equation_of (drop l.e-index l.self.equations.now)) ↔ Among (equation_of l.equation) (map equation_of l.self.equations.now)

@@ -1,8 +1,7 @@
-use Rattle.std.proofs.Common.{◌∙◌, ap, refl, map}
+use Rattle.std.proofs.Common.{refl}
 use Rattle.facts.specs.declared.known.Known.{Known}
 use Rattle.facts.specs.declared.known.Source.TheVariants.{One}
 use Rattle.facts.specs.declared.known.Change.TheVariants.{Unchanged}
-use Rattle.facts.specs.Meaning.{equation_of}
 use Rattle.facts.proofs.ChangeLemmas.{fact_agrees}
 use Rattle.facts.proofs.known.Known.of.Goals as goal
 
@@ -10,13 +9,12 @@ pub returns-clause-same : goal.returns-clause-same
 returns-clause-same c =
     let k : Known = record {
       base = One c.args.fact;
-      ac = c.accumulator.result.now;
-      mq = c.mq.result.now;
+      ac = c.accumulator.result;
+      mq = c.mq.result;
       link = c.link.result;
       pointer = Unchanged;
       target = Unchanged;
-      equations = c.copy.result;
+      equations = c.equations.result;
       offsets = c.offsets.result;
     } in
-    fact_agrees c.args.fact.now k (λ a. refl) refl refl c.accumulator.ensures c.mq.ensures c.link.ensures c.offsets.ensures
-    (ap (map equation_of) c.copy.ensures.list ∙ c.equations.ensures.equations)
+    fact_agrees c.args.fact.now k (λ a. refl) refl refl c.accumulator.ensures c.mq.ensures c.link.ensures c.offsets.ensures c.equations.ensures.equations

@@ -1,6 +1,5 @@
-use Rattle.std.proofs.Common.{◌∙◌}
 use Rattle.facts.proofs.ChangingLemmas.{later_agrees}
 use Rattle.facts.proofs.known.Known.returning_later.Goals as goal
 
 pub returns : goal.returns
-returns c = later_agrees c.args.self.now c.copy.result c.counted.result (c.copy.ensures.list ∙ c.deref.ensures.0) c.counted.ensures
+returns c = later_agrees c.args.self.now c.counted.result c.counted.ensures

@@ -1,6 +1,5 @@
-use Rattle.std.proofs.Common.{◌∙◌}
 use Rattle.facts.proofs.ChangingLemmas.{same_agrees}
 use Rattle.facts.proofs.known.Known.same.Goals as goal
 
 pub returns-clause-same : goal.returns-clause-same
-returns-clause-same c = same_agrees c.args.self.now c.copy.result (c.copy.ensures.list ∙ c.deref.ensures.0)
+returns-clause-same c = same_agrees c.args.self.now

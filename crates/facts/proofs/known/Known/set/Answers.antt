@@ -2,4 +2,4 @@ use Rattle.facts.proofs.ChangeLemmas.{set_same}
 use Rattle.facts.proofs.known.Known.set.Goals as goal
 
 pub returns-in-Cell : goal.returns-in-Cell
-returns-in-Cell c = rw c.in-Cell.is (set_same c.args.self.now c.in-Cell.cell c.source_set-old.ensures c.change_set-seen.ensures c.change_set.ensures)
+returns-in-Cell c = rw c.in-Cell.is (set_same c.args.self.now c.in-Cell.cell c.source_set-set.ensures c.apply.ensures c.apply-in-Cell.ensures)

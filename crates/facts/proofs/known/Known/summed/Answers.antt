@@ -12,7 +12,7 @@ pub returns : goal.returns
 returns c =
     let first : List Equation = record { left = Ac; right = Cell c.args.cell; more = c.args.more } ∷ [] in
     let code : CodeEquation = record { left = Accumulator; right = c.args.cell; more = c.args.more } in
-    let list : map equation_of c.push.new.self.items ≡ first = ap (map equation_of) (c.push.ensures.items ∙ ap (λ (xs : List CodeEquation). xs ++ code ∷ []) c.new-first.ensures) in
-    let rest : map equation_of c.freed.result.items ≡ free_of (λ m. same m Ac) (map equation_of c.args.self.now.equations.items) = c.freed.ensures.list ∙ ap (λ es. free_of (λ m. same m Ac) (map equation_of es)) c.deref.ensures.0 in
-    summed_agrees c.args.self.now first c.args.set c.joined.result
-    (ap (map equation_of) (c.joined.ensures.list ∙ ap (λ (ys : List CodeEquation). c.push.new.self.items ++ ys) c.deref-2.ensures.0) ∙ map_both c.push.new.self.items c.freed.result.items first list ∙ ap (λ (es : List Equation). first ++ es) rest)
+    let list : map equation_of c.push.new.self.items ≡ first = ap (map equation_of) (c.push.ensures.items ∙ ap (λ (xs : List CodeEquation). xs ++ code ∷ []) c.clear.ensures) in
+    let rest : map equation_of c.free.new.list.items ≡ free_of (λ m. same m Ac) (map equation_of c.args.self.now.equations.now) = c.free.ensures.list in
+    rw (← c.put.ensures) (summed_agrees c.args.self.now first c.put.result c.as_slice-2.result
+    (ap (map equation_of) (c.as_slice-2.ensures.value ∙ (c.add_all.ensures ∙ ap (λ (ys : List CodeEquation). c.push.new.self.items ++ ys) c.as_slice.ensures.value)) ∙ map_both c.push.new.self.items c.free.new.list.items first list ∙ ap (λ (es : List Equation). first ++ es) rest))

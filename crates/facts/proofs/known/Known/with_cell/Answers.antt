@@ -6,4 +6,4 @@ use Rattle.facts.proofs.ChangingLemmas.{assigned_cell}
 use Rattle.facts.proofs.known.Known.with_cell.Goals as goal
 
 pub returns-clause-same : goal.returns-clause-same
-returns-clause-same c = assigned_cell c.args.self.now c.args.cell c.args.set c.freed.result c.requires (c.freed.ensures.list ∙ ap (λ es. free_of (λ m. same m (Cell c.args.cell)) (map equation_of es)) c.deref.ensures.0)
+returns-clause-same c = rw (← c.put.ensures) (assigned_cell c.args.self.now c.args.cell c.index.result c.put.result c.as_slice.result c.index.ensures.same c.requires.target (ap (map equation_of) c.as_slice.ensures.value ∙ c.free.ensures.list))

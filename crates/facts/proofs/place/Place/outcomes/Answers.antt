@@ -3,11 +3,11 @@ use Rattle.facts.specs.Places.{place_of}
 use Rattle.facts.proofs.DispatchLemmas.{by_reference, by_group1, by_group2, by_group3, by_nothing, first_group_8e, kind_here}
 use Rattle.facts.proofs.place.Place.outcomes.Goals as goal
 
-pub operate-requires : goal.operate-requires
-operate-requires g c = first_group_8e _ _ (sym c.decode.ensures.kind ∙ c.in-Operate1.is)
+pub operate-requires-clause-word : goal.operate-requires-clause-word
+operate-requires-clause-word g c = first_group_8e _ _ (sym c.decode.ensures.kind ∙ c.in-Operate1.is)
 
-pub transfer-requires : goal.transfer-requires
-transfer-requires g c = kind_here c.args.at c.args.word c.profile.ensures (c.decode.ensures.meaning c.args.at) c.in-Iot.is
+pub transfer-requires-clause-kind : goal.transfer-requires-clause-kind
+transfer-requires-clause-kind g c = kind_here c.args.at c.args.word c.profile.ensures (c.decode.ensures.meaning c.args.at) c.in-Iot.is
 
 pub returns-in-Memory : goal.returns-in-Memory
 returns-in-Memory g c = λ f h. by_reference _ (place_of c.args.self.now) f c.args.at c.args.word

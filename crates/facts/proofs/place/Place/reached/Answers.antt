@@ -1,15 +1,18 @@
-use Rattle.std.proofs.Common.{◌∙◌, sym}
+use Rattle.std.proofs.Common.{◌∙◌, ap, sym, subst}
+use Rattle.wordset.specs.Words.{Words, SameWords, shifted}
+use Rattle.wordset.specs.Lanes.{words}
 use Rattle.facts.specs.Facts.{Cell}
 use Rattle.facts.specs.Places.{place_of}
-use Rattle.facts.proofs.AgreeLemmas.{agree_trans}
-use Rattle.facts.proofs.ChangingLemmas.{moved_agree}
+use Rattle.facts.proofs.AgreeLemmas.{narrowed_agree}
+use Rattle.facts.proofs.ChangeLemmas.{shifted_same}
 use Rattle.facts.proofs.PlaceLemmas.{in_agree}
-use Rattle.facts.proofs.ReachLemmas.{reach_stepped, reach_pointer}
+use Rattle.facts.proofs.ReachLemmas.{reach_stepped, reach_pointer, moved_here}
 use Rattle.facts.proofs.place.Place.reached.Goals as goal
 
 pub returns-then-steps_pointer : goal.returns-then-steps_pointer
 returns-then-steps_pointer g c = λ f h. reach_stepped (place_of c.args.self.now) c.args.indirect c.args.named f (sym c.steps_pointer.ensures ∙ c.if-steps_pointer.true)
-    (λ v lt. c.set.ensures v lt ∙ (agree_trans c.stepped.ensures.same (moved_agree (Cell c.args.named) 1 h)).sets (Cell c.args.named) v lt)
+    (λ v lt. shifted_same 1 (λ w l. c.narrowed.ensures w l ∙ narrowed_agree h (Cell c.args.named) w l)
+    (subst (λ k. SameWords (words c.shift.result) (shifted (words c.narrowed.result) k)) c.increment-one.ensures c.shift.ensures) v lt ∙ ap (λ (s : Words). s v) (sym (moved_here f c.args.named)))
 
 pub returns-then-indirect : goal.returns-then-indirect
 returns-then-indirect g c = λ f h. reach_pointer (place_of c.args.self.now) c.args.indirect c.args.named f (sym c.steps_pointer.ensures ∙ c.if-steps_pointer.false) c.if-indirect.true

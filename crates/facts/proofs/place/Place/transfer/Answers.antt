@@ -8,11 +8,11 @@ pub returns-in-Some : goal.returns-in-Some
 returns-in-Some g c = λ f h.
     let of : Some c.in-Some.operation ≡ device_operation (place_of c.args.self.now).declaration.profile c.args.word =
     c.in-Some.ensures.exact ∙ ap (λ p. device_operation p c.args.word) c.profile.ensures in
-    by_device _ (place_of c.args.self.now) f c.args.at c.args.word c.in-Some.operation c.requires of
+    by_device _ (place_of c.args.self.now) f c.args.at c.args.word c.in-Some.operation c.requires.kind of
     (c.two.ensures _ (c.transfer.ensures f h))
 
 pub returns-in-None : goal.returns-in-None
 returns-in-None g c = λ f h.
     let of : None ≡ device_operation (place_of c.args.self.now).declaration.profile c.args.word =
     c.in-None.ensures.exact ∙ ap (λ p. device_operation p c.args.word) c.profile.ensures in
-    by_no_device _ (place_of c.args.self.now) f c.args.at c.args.word c.requires of
+    by_no_device _ (place_of c.args.self.now) f c.args.at c.args.word c.requires.kind of

@@ -1,5 +1,6 @@
-use Rattle.std.proofs.Common.{sym, ◌∙◌}
+use Rattle.facts.specs.Slots.{slots}
+use Rattle.judge.proofs.SpotLemmas.{all_land}
 use Rattle.judge.proofs.spot.Spot.outcomes_land.Goals as goal
 
-pub one_lands-requires-clause-once : goal.one_lands-requires-clause-once
-one_lands-requires-clause-once g c = sym (c.has_one_outcome.ensures c.args.self.now.at) ∙ c.if-not-has_one_outcome.false
+pub returns : goal.returns
+returns g c = all_land g.C.Claims.claims c.args.self.now c.args.word (slots c.outcomes-given.result.all) _ c.requires c.outcomes-given.ensures c.each_lands.ensures

@@ -1,4 +1,4 @@
-use Rattle.std.proofs.Common.{◌∙◌, ap, [], ◌∷◌, ◌++◌, arith, length-append}
+use Rattle.std.proofs.Common.{◌∙◌, ap, [], ◌∷◌, ◌++◌}
 use Rattle.pal_acts.specs.declared.acts.Kept.{Kept}
 use Rattle.pal_acts.specs.Acts.{placed, acts_in}
 use Rattle.pal_acts.proofs.Flat.{added, kept_longer, within_longer, within_added, anyway}

@@ -1,4 +1,4 @@
-use Rattle.std.proofs.Common.{ℕ, ◌≡◌, true, sym, ◌∙◌}
+use Rattle.std.proofs.Common.{◌≡◌, true, sym, ◌∙◌}
 use Rattle.wordset.specs.Lanes.{words}
 use Rattle.facts.proofs.EachLemmas.{one_more, all_pass}
 use Rattle.reasons.specs.Spots.{here}

@@ -9,5 +9,5 @@ pub returns-in-Some : goal.returns-in-Some
 returns-in-Some g c =
     let s = c.args.self.now in (
       refl,
-      outcomes_agree (claimed_by g.C.Claims.claims s) (here s) _ _ (slots c.outcomes-given.result) (outcomes_at (here s) (fact_of s) s.at c.args.word) c.outcomes-given.ensures c.in-Some.ensures,
+      outcomes_agree (claimed_by g.C.Claims.claims s) (here s) _ _ (slots c.outcomes-given.result.all) (outcomes_at (here s) (fact_of s) s.at c.args.word) c.outcomes-given.ensures c.in-Some.ensures,
     )

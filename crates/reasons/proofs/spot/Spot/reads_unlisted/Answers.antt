@@ -1,6 +1,6 @@
-use Rattle.std.proofs.Common.{Some, ap, inl, inr, sym, subst, ◌∙◌}
+use Rattle.std.proofs.Common.{Some, ap, inl, inr, sym, ◌∙◌}
 use Rattle.std.proofs.lemmas.Bool.{eqb-true}
-use Rattle.wordset.specs.Words.{Words, HasNoneFrom}
+use Rattle.wordset.specs.Words.{Words}
 use Rattle.wordset.specs.Lanes.{words}
 use Rattle.declaration.specs.Kept.{meaning}
 use Rattle.facts.specs.Places.{routine_of}

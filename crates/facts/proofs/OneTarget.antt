@@ -1,0 +1,154 @@
+-- A set of one word alone, and the one target of a reference.
+use Rattle.std.proofs.Common.{◌≡◌, ℕ, ◌<◌, ◌≤◌, ◌==◌, zero, suc, Bool, true, false, not, ◌&&◌, ◌||◌, ◌⊎◌, Option, Some, None, refl, sym, ap, ◌∙◌, subst, inl, inr, arith}
+use Rattle.std.specs.Prelude.{IsTrue, ◌↔◌, if◌then◌else◌}
+use Rattle.std.proofs.lemmas.Bool.{eq-eqb, eqb-true, ne_eqb, cases_eq, true≢false}
+use Rattle.wordset.specs.Words.{Words, SameWords, one, only, only_of, first_below, some_below, without}
+use Rattle.wordset.proofs.Tests.{both_ways, some_from, some_none_of}
+use Rattle.facts.specs.Facts.{Place, Fact, words_in}
+use Rattle.facts.specs.Outcomes.{words_at, targets}
+use Rattle.wordset.specs.Lanes.{words}
+use Rattle.facts.specs.Facts.{is_routine}
+use Rattle.facts.specs.Conditions.{MayWrite}
+use Rattle.facts.specs.Places.{routine_of, writes_of}
+use Rattle.facts.specs.declared.place.Running.{Running}
+use Rattle.facts.proofs.Alike.{only_same}
+use Rattle.facts.proofs.Numbers.{only_tells}
+
+-- the least number that passes a test does pass it
+first_has : (n : ℕ) (t : ℕ → Bool) (k : ℕ) → first_below n t ≡ Some k → (k < n) × (t k ≡ true)
+unfolding first_below
+first_has zero t k e = absurd (let z : None ≡ Some k = e in cc)
+first_has (suc n) t k e = go (first_has n t k) (some_below n t) (t n) refl e
+  where
+    go : (first_below n t ≡ Some k → (k < n) × (t k ≡ true)) → (a b : Bool) → t n ≡ b → (if a then first_below n t else (if b then Some n else None)) ≡ Some k → (k < suc n) × (t k ≡ true)
+    go before true b h q = let r : (k < n) × (t k ≡ true) = before q in (omega (arith, r.0), r.1)
+    go before false true h q = let z : n ≡ k = cc in (omega arith, ap t (sym z) ∙ h)
+    go before false false h q = absurd (let z : None ≡ Some k = q in cc)
+
+-- the one word of a set is in it
+pub only_has : (s : Words) (y : ℕ) → only s ≡ Some y → (y < 4096) × (s y ≡ true)
+unfolding only
+only_has s y e = go (first_below 4096 s) refl e
+  where
+    go : (o : Option ℕ) → first_below 4096 s ≡ o → only_of s o ≡ Some y → (y < 4096) × (s y ≡ true)
+    go None h q = absurd (let z : None ≡ Some y = q in cc)
+    go (Some k) h q = pick (some_below 4096 (without k s)) q
+      where
+        pick : (b : Bool) → (if b then None else Some k) ≡ Some y → (y < 4096) × (s y ≡ true)
+        pick true r = absurd (let z : None ≡ Some y = r in cc)
+        pick false r = let z : k ≡ y = cc in first_has 4096 s y (h ∙ ap Some z)
+
+-- and no other is
+pub only_is : (s : Words) (y : ℕ) → only s ≡ Some y → SameWords s (one y)
+only_is s y e v lt = both_ways (s v) (v == y)
+    (λ h. eq-eqb v y (only_tells s y v e lt h))
+    (λ h. subst (λ n. s n ≡ true) (sym (eqb-true v y h)) (only_has s y e).1)
+
+-- the least number of a test that one number alone passes
+first_one : (n y : ℕ) → y < n → first_below n (one y) ≡ Some y
+unfolding first_below
+first_one zero y lt = absurd (omega arith)
+first_one (suc n) y lt = elim (cases_eq y n) [
+  | inl e ↦ (let none : some_below n (one y) ≡ false = some_none_of n (one y) (λ v h. ne_eqb v y (λ q. omega arith)) in
+      let here : (n == y) ≡ true = eq-eqb n y (sym e) in
+      rw (none, here) (ap Some (sym e)))
+  | inr ne ↦ (let some : some_below n (one y) ≡ true = some_from n (one y) y (omega arith) (eq-eqb y y refl) in rw some (first_one n y (omega arith)))
+]
+
+-- one word alone is the only one
+pub one_only : (y : ℕ) → y < 4096 → Some y ≡ only (one y)
+unfolding only
+one_only y lt =
+    let first : first_below 4096 (one y) ≡ Some y = first_one 4096 y lt in
+    let rest : some_below 4096 (without y (one y)) ≡ false = some_none_of 4096 (without y (one y)) (λ v h. pick v (v == y) refl) in
+    rw (first, rest) refl
+  where
+    pick : (v : ℕ) (b : Bool) → (v == y) ≡ b → (if v == y then false else (v == y)) ≡ false
+    pick v true e = rw e refl
+    pick v false e = rw e refl
+
+-- what is said of one word is said of each word of a set of it alone
+pub one_each : (n : ℕ) (p : ℕ → Type 0) (b : Bool) → n < 4096 → (IsTrue b ↔ p n) → IsTrue b ↔ ((a : ℕ) → a < 4096 → one n a ≡ true → p a)
+one_each n p b lt h = (
+  λ t a l e. subst p (sym (eqb-true a n e)) (h.0 t),
+  λ each. h.1 (each n lt (eq-eqb n n refl)),
+)
+
+-- some word of one word alone
+pub some_one : (y : ℕ) (t : Words) → y < 4096 → some_below 4096 (λ a. one y a && t a) ≡ t y
+some_one y t lt = go (t y) refl
+  where
+    go : (b : Bool) → t y ≡ b → some_below 4096 (λ a. one y a && t a) ≡ b
+    go true e = some_from 4096 (λ a. one y a && t a) y lt (let h : (y == y) ≡ true = eq-eqb y y refl in rw h e)
+    go false e = some_none_of 4096 (λ a. one y a && t a) (λ v h. pick v (v == y) refl)
+      where
+        pick : (v : ℕ) (q : Bool) → (v == y) ≡ q → ((v == y) && t v) ≡ false
+        pick v true k = rw k (ap t (eqb-true v y k) ∙ e)
+        pick v false k = rw k refl
+
+-- some word of one set with a property, and of another with the same words
+some_alike : (n : ℕ) (a b t : Words) → ((v : ℕ) → v < n → a v ≡ b v) → some_below n (λ x. a x && t x) ≡ some_below n (λ x. b x && t x)
+unfolding some_below
+some_alike zero a b t h = refl
+some_alike (suc n) a b t h =
+    ap (λ q. (q && t n) || some_below n (λ x. a x && t x)) (h n (omega arith))
+    ∙ ap (λ q. (b n && t n) || q) (some_alike n a b t (λ v l. h v (omega arith)))
+
+-- the words that the one target may hold
+pub words_of_only : (pl : Place) (f : Fact) (p : Words) (y : ℕ) (s : Words) → only p ≡ Some y → SameWords s (words_in pl f y) → SameWords s (words_at pl f p)
+words_of_only pl f p y s e h v lt =
+    h v lt ∙ sym (some_one y (λ a. words_in pl f a v) (only_has p y e).0)
+    ∙ sym (some_alike 4096 p (one y) (λ a. words_in pl f a v) (λ a l. only_is p y e a l))
+
+-- a direct reference's one target
+pub direct_only : (t : Words) (n : ℕ) → n < 4096 → SameWords t (one n) → Some n ≡ only t
+direct_only t n lt same = one_only n lt ∙ sym (only_same t (one n) same)
+
+-- one of two that tests tell
+pub either_iff : {p q : Bool} (r a b : Bool) → r ≡ (a || b) → a ≡ p → b ≡ q → IsTrue r ↔ ((p ≡ true) ⊎ (q ≡ true))
+either_iff {p} {q} r a b e ea eb = (
+  λ t. cases a refl (sym e ∙ t),
+  λ x. e ∙ back x,
+)
+  where
+    cases : (k : Bool) → a ≡ k → (a || b) ≡ true → (p ≡ true) ⊎ (q ≡ true)
+    cases true h t = inl (sym ea ∙ h)
+    cases false h t = inr (sym eb ∙ (ap (λ k. k || b) (sym h) ∙ t))
+
+    or_true : (k : Bool) → (k || true) ≡ true
+    or_true true = refl
+    or_true false = refl
+
+    back : (p ≡ true) ⊎ (q ≡ true) → (a || b) ≡ true
+    back (inl h) = ap (λ k. k || b) (ea ∙ h)
+    back (inr h) = ap (λ k. a || k) (eb ∙ h) ∙ or_true a
+
+-- a word that writes one cell alone, which is no entry
+pub leaves : (entry p : Words) (n : ℕ) (r : Bool) → SameWords p (one n) → r ≡ entry n → IsTrue (not r) → (a : ℕ) → a < 4096 → p a ≡ true → entry a ≡ false
+leaves entry p n r same e t a lt w = ap entry (eqb-true a n (sym (same a lt) ∙ w)) ∙ sym e ∙ none r t
+  where
+    none : (b : Bool) → IsTrue (not b) → b ≡ false
+    none true q = absurd (true≢false (sym q))
+    none false q = refl
+
+-- a direct reference refers to the named cell
+pub direct_target : (pl : Place) (f : Fact) (i : Bool) (n : ℕ) (s : Words) → i ≡ false → SameWords s (targets pl i n f) → SameWords s (one n)
+direct_target pl f i n s e same v lt = same v lt ∙ ap (λ (b : Bool). targets pl b n f v) e
+
+-- a cell that the running routine may write
+pub may_cell : (o : Option Running) (run : Running) (n : ℕ) (r a b : Bool) → o ≡ Some run → n < 4096 → r ≡ (a || b) → a ≡ words run.writes.now n → b ≡ is_routine (routine_of o) n →
+    IsTrue r ↔ ((x : ℕ) → x < 4096 → one n x ≡ true → MayWrite (writes_of o) (routine_of o) x)
+may_cell o run n r a b is lt e ea eb =
+    subst (λ (q : Option Running). IsTrue r ↔ ((x : ℕ) → x < 4096 → one n x ≡ true → MayWrite (writes_of q) (routine_of q) x)) (sym is)
+    (one_each n (λ x. MayWrite (words run.writes.now) (Some run.entry) x) r lt (λ t. own (tells.0 t), λ m. tells.1 (test m)))
+  where
+    tells : IsTrue r ↔ ((words run.writes.now n ≡ true) ⊎ ((n == run.entry) ≡ true))
+    tells = either_iff r a b e ea (eb ∙ ap (λ (q : Option Running). is_routine (routine_of q) n) is)
+
+    own : (words run.writes.now n ≡ true) ⊎ ((n == run.entry) ≡ true) → (words run.writes.now n ≡ true) ⊎ (n ≡ run.entry)
+    own (inl h) = inl h
+    own (inr h) = inr (eqb-true n run.entry h)
+
+    test : (words run.writes.now n ≡ true) ⊎ (n ≡ run.entry) → (words run.writes.now n ≡ true) ⊎ ((n == run.entry) ≡ true)
+    test (inl h) = inl h
+    test (inr h) = inr (eq-eqb n run.entry h)

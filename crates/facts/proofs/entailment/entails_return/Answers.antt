@@ -1,7 +1,0 @@
-use Rattle.facts.specs.Facts.{joined}
-use Rattle.facts.proofs.AgreeLemmas.{entails_agree}
-use Rattle.facts.proofs.entailment.entails_return.Goals as goal
-
-pub returns : goal.returns
-unfolding joined
-returns c = entails_agree _ c.after_call.ensures c.entails.ensures

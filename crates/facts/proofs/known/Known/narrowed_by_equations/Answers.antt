@@ -1,0 +1,19 @@
+use Rattle.std.proofs.Common.{◌∙◌, sym}
+use Rattle.facts.specs.Facts.{narrowed}
+use Rattle.wordset.specs.Lanes.{words}
+use Rattle.facts.specs.Meaning.{known_of, name_of, equation_of}
+use Rattle.facts.proofs.EntailLemmas.{narrowed_step, narrowed_end, unspoken}
+use Rattle.facts.proofs.known.Known.narrowed_by_equations.Goals as goal
+
+pub loop-e-preserved : goal.loop-e-preserved
+loop-e-preserved c = λ v lt.
+    narrowed_step (known_of c.args.self.now) (name_of c.args.name.now) c.args.self.now.equations.now c.loop-e.e-index c.e-item.result (words c.loop-e.set) (words c.keep_met.new.set) c.loop-e-test.true c.e-item.is c.keep_met.ensures v lt ∙ c.loop-e.invariant v lt
+
+pub loop-e-preserved-then-not-speaks_of : goal.loop-e-preserved-then-not-speaks_of
+loop-e-preserved-then-not-speaks_of c = λ v lt.
+    narrowed_step (known_of c.args.self.now) (name_of c.args.name.now) c.args.self.now.equations.now c.loop-e.e-index c.e-item.result (words c.loop-e.set) (words c.loop-e.set) c.loop-e-test.true c.e-item.is
+    (unspoken (known_of c.args.self.now) (name_of c.args.name.now) (equation_of c.e-item.result) (words c.loop-e.set) (sym c.speaks_of.ensures ∙ c.if-not-speaks_of.true)) v lt ∙ c.loop-e.invariant v lt
+
+pub returns : goal.returns
+unfolding narrowed
+returns c = narrowed_end (known_of c.args.self.now) (name_of c.args.name.now) c.args.self.now.equations.now c.loop-e.e-index _ _ c.loop-e-test.false c.loop-e.invariant

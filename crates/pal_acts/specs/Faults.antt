@@ -1,5 +1,5 @@
 -- The first fault of a source, at the place of its act.
-use Rattle.std.specs.Prelude.{◌≡◌, ℕ, ◌+◌, nat_lt, nat_eq, if◌then◌else◌, List, [], ◌∷◌, ◌++◌, length, reverse, Option, Some, None, Err, ◌⊎◌}
+use Rattle.std.specs.Prelude.{◌≡◌, ℕ, ◌+◌, nat_lt, nat_eq, if◌then◌else◌, List, [], ◌∷◌, ◌++◌, length, reverse, Option, Some, None, Ok, Err, ◌⊎◌}
 use Rattle.pal_text.specs.declared.names.Name.{Name}
 use Rattle.pal_acts.specs.declared.act.Join.{Join}
 use Rattle.pal_acts.specs.declared.act.Act.{Act}
@@ -100,7 +100,11 @@ abbrev pub Refuses : List (Name × ℕ) → ℕ → List PlacedAct → Refused �
 Refuses permanent limit acts (Fault place code) = IsRefused permanent limit acts place code
 Refuses permanent limit acts NoMemory = AsksForMemory permanent limit acts
 
--- The same where words are kept: once all symbols have their values, memory may be refused for a word.
+-- Memory is asked for an act's word, and the words before it have no fault.
+abbrev pub AsksForWord : Values → List PlacedAct → Type 0
+AsksForWord σ acts = Meets acts (λ before next. Encodes σ before × ((w : ℕ) × (word_of σ (location σ before) next.terms next.act ≡ Some (Ok w))))
+
+-- The same where words are kept: once all symbols have their values, memory is asked for each word.
 abbrev pub RefusesKeeping : List (Name × ℕ) → ℕ → List PlacedAct → Refused → Type 0
 RefusesKeeping permanent limit acts (Fault place code) = IsRefused permanent limit acts place code
-RefusesKeeping permanent limit acts NoMemory = AsksForMemory permanent limit acts ⊎ ((own : List (Name × ℕ)) × Defines permanent limit (reverse acts) own)
+RefusesKeeping permanent limit acts NoMemory = AsksForMemory permanent limit acts ⊎ ((own : List (Name × ℕ)) × Defines permanent limit (reverse acts) own × AsksForWord (known permanent own) acts)

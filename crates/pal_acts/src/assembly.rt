@@ -1,6 +1,6 @@
 //! The meaning of a source, or its first fault.
 
-ghost use Rattle.std.specs.Prelude.{◌≡◌, ◌≢◌, ◌⊎◌, Some, Err, reverse, IfOk, IfErr, OnOk, MatchResult, ℕ, List, Option};
+ghost use Rattle.std.specs.Prelude.{◌≡◌, ◌⊎◌, Some, Err, reverse, IfOk, IfErr, OnOk, MatchResult, ℕ, List, Option};
 ghost use Rattle.pal_text.specs.declared.names.Name.{Name as Named};
 ghost use Rattle.pal_acts.specs.declared.act.Place.{Place as Placing};
 ghost use Rattle.pal_acts.specs.declared.code.Code.{Code as Coded};
@@ -77,9 +77,6 @@ fn code<A: Allocator + Copy>(
 ) -> Result<Option<PlacedWord>, Code>
     ensures codes { IfOk result (Codes (known symbols.now.permanent.now.entries
         symbols.now.own.entries) here.old (shown next.entry)) }
-    ensures sound { OnOk result ((code : Coded) →
-        word_of (known symbols.now.permanent.now.entries symbols.now.own.entries) here.old
-        next.entry.terms.now next.entry.act ≢ Some (Err code)) }
     ensures moves { OnOk result (here.new ≡ location_after
         (known symbols.now.permanent.now.entries symbols.now.own.entries) here.old
         next.entry.terms.now next.entry.act) }
@@ -284,7 +281,7 @@ pub fn assemble<'p, A: Allocator + Copy>(
 /// # Errors
 ///
 /// `Fault` as of [`assemble`]. `NoMemory` where `assemble` has it, and where memory was refused for a
-/// word, which is asked for once all symbols have their values.
+/// word, which is asked for once all symbols have their values, before later words are looked at.
 pub fn assemble_with_words<'p, A: Allocator + Copy>(
     alloc: A,
     permanent: &'p SymbolTable<A>,

@@ -41,11 +41,14 @@ returns-in-Err-Fault-clause-refused g c =
       next = next;
       later = drop (c.loop-at.at + 1) acts;
       parts = split_at acts c.loop-at.at next within c.get-next.ensures;
-      such = (refl, (
-        c.loop-at.symbols.own.entries,
-        c.loop-at.invariant.0,
-        ap (λ l. fault c.loop-at.symbols.permanent.now.entries 1024 c.loop-at.symbols.own.entries l next.terms next.act) (sym c.loop-at.invariant.1) ∙ e,
-      ));
+      such = (
+        refl,
+        (
+          c.loop-at.symbols.own.entries,
+          c.loop-at.invariant.0,
+          ap (λ l. fault c.loop-at.symbols.permanent.now.entries 1024 c.loop-at.symbols.own.entries l next.terms next.act) (sym c.loop-at.invariant.1) ∙ e,
+        ),
+      );
     }))
 
 pub returns-in-Err-NoMemory-clause-refused : goal.returns-in-Err-NoMemory-clause-refused

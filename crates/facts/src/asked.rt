@@ -17,7 +17,7 @@ ghost use Rattle.facts.specs.Slots.{slots};
 
 use crate::Condition;
 use crate::conditions::stores;
-use crate::dispatch::{OutcomeList, outcomes};
+use crate::dispatch::{Outcomes, outcomes};
 use crate::entailment::{narrowed, word_of};
 use crate::fact::Fact;
 use crate::names::Name;
@@ -355,14 +355,15 @@ impl<A: Allocator> Place<'_, A> {
 }
 
 /// The outcomes of a word at the address of a fact, or the first condition on one word that it
-/// breaks: V3, V5, V14, V6 and V13, in this order.
+/// breaks: V3, V5, V14, V6 and V13, in this order. What is new in the outcomes stands in the room that
+/// is lent.
 pub fn post<'a, A: Allocator>(
     fact: &'a Fact,
     at: Word,
     word: Word,
     place: &Place<'_, A>,
     room: &'a mut Room,
-) -> Result<OutcomeList<'a>, Condition>
+) -> Result<Outcomes<'a>, Condition>
     ensures outcomes { IfOk result (λ given.
         AgreeingOutcomes (slots given.all) (outcomes_at (place_of place.now) (meaning fact.now) at
         word)) }

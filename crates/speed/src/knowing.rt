@@ -2,7 +2,7 @@
 
 use bin_tape::Image;
 use declaration::Declaration;
-use facts::{Equation, Fact, Name, Outcome, OutcomeList, Place, Room, outcomes};
+use facts::{Equation, Fact, Name, Outcome, Outcomes, Place, Room, outcomes};
 use std::alloc::Allocator;
 use word12::{Link, Word};
 use wordset::{Links, WordSet};
@@ -18,10 +18,7 @@ fn word(number: usize) -> Word {
 /// Tracks five words of a cell, where there is room.
 fn track(fact: &mut Fact, cell: usize, low: usize) {
     if !fact.is_full_of_cells() {
-        fact.track(
-            word(cell),
-            WordSet::range(word(low), word(low).add(word(4))),
-        );
+        fact.track_row(word(cell), word(low), word(low).add(word(4)));
     }
 }
 
@@ -78,7 +75,7 @@ fn first_hit<'a, A: Allocator>(
     next: &Fact,
     room: &'a mut Room,
 ) -> u64 {
-    let OutcomeList { all } = outcomes(fact, at, word(TAD), place, room);
+    let Outcomes { all } = outcomes(fact, at, word(TAD), place, room);
     hit(&all[0], next)
 }
 

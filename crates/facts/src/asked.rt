@@ -17,7 +17,7 @@ ghost use Rattle.facts.specs.Slots.{slots};
 
 use crate::Condition;
 use crate::conditions::stores;
-use crate::dispatch::{Outcomes, outcomes};
+use crate::dispatch::{OutcomeList, outcomes};
 use crate::entailment::{narrowed, word_of};
 use crate::fact::Fact;
 use crate::names::Name;
@@ -363,7 +363,7 @@ pub fn post<'a, A: Allocator>(
     word: Word,
     place: &Place<'_, A>,
     room: &'a mut Room,
-) -> Result<Outcomes<'a>, Condition>
+) -> Result<OutcomeList<'a>, Condition>
     ensures outcomes { IfOk result (λ given.
         AgreeingOutcomes (slots given.all) (outcomes_at (place_of place.now) (meaning fact.now) at
         word)) }

@@ -26,7 +26,7 @@ mod tracking;
 
 pub use asked::post;
 pub use conditions::{reads, writes};
-pub use dispatch::{Outcomes, outcomes};
+pub use dispatch::{OutcomeList, outcomes};
 pub use entailment::{entails, entails_return, holds_before, is_always, narrowed};
 pub use fact::Fact;
 pub use known::Known;

@@ -3,7 +3,7 @@
 
 use bin_tape::Image;
 use declaration::Declaration;
-use facts::{Equation, Fact, Known, Name, Outcome, Outcomes, Place, Room, post};
+use facts::{Equation, Fact, Known, Name, Outcome, OutcomeList, Place, Room, post};
 use std::alloc::Allocator;
 use std::test::Fail;
 use word12::{Link, Word};
@@ -116,7 +116,7 @@ fn counted<'a, A: Allocator>(
     let Ok(found) = post(fact, word(0o210), word(0o2224), &place, &mut room) else {
         return None;
     };
-    let Outcomes { all } = found;
+    let OutcomeList { all } = found;
     Some([
         glimpse(&all[0]),
         glimpse(&all[1]),

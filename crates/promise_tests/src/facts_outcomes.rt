@@ -3,7 +3,7 @@
 use bin_tape::Image;
 use declaration::Declaration;
 use facts::{
-    Equation, Fact, Known, Name, Offsets, Outcome, Outcomes, Place, Room, Running, outcomes,
+    Equation, Fact, Known, Name, Offsets, Outcome, OutcomeList, Place, Room, Running, outcomes,
 };
 use std::alloc::Allocator;
 use std::test::Fail;
@@ -135,7 +135,7 @@ fn glimpses<'a, A: Allocator>(
         },
     };
     let mut room = Room::new();
-    let Outcomes { all } = outcomes(fact, stand.at, stand.word, &place, &mut room);
+    let OutcomeList { all } = outcomes(fact, stand.at, stand.word, &place, &mut room);
     [
         glimpse(&all[0]),
         glimpse(&all[1]),

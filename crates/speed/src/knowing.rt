@@ -1,8 +1,8 @@
-//! Outcomes of a word and whether they entail a fact, over and over.
+//! OutcomeList of a word and whether they entail a fact, over and over.
 
 use bin_tape::Image;
 use declaration::Declaration;
-use facts::{Equation, Fact, Name, Outcome, Outcomes, Place, Room, outcomes};
+use facts::{Equation, Fact, Name, Outcome, OutcomeList, Place, Room, outcomes};
 use std::alloc::Allocator;
 use word12::{Link, Word};
 use wordset::{Links, WordSet};
@@ -75,7 +75,7 @@ fn first_hit<'a, A: Allocator>(
     next: &Fact,
     room: &'a mut Room,
 ) -> u64 {
-    let Outcomes { all } = outcomes(fact, at, word(TAD), place, room);
+    let OutcomeList { all } = outcomes(fact, at, word(TAD), place, room);
     hit(&all[0], next)
 }
 

@@ -185,7 +185,8 @@ impl<A: Allocator> Certificate<A> {
         first_routine(self.kept.lines(), self.kept.from(entry.index()))
     }
 
-    /// Whether a routine of this entry is listed, or it is said what holds when it returns.
+    /// Whether a routine of this entry is listed, or it is said what holds when it returns by some
+    /// offset.
     pub fn names(&self, entry: Word) -> bool
         ensures { result ≡ names_routine (claims self.now) entry }
     {
@@ -211,7 +212,7 @@ impl<A: Allocator> Certificate<A> {
     }
 
     /// Whether there is a fact at an address, which the lent one then says; else it's left as it is. So
-    /// the same one can be asked for many, each of some 34,000 bytes.
+    /// the same one can be asked for many, each of some 35,000 bytes.
     pub fn fact_into(&self, at: Word, fact: &mut Fact) -> bool
         ensures there { result ≡ (claims self.now).has_fact at }
         ensures fact { result ≡ true → fact_meaning fact.new ≡ (claims self.now).fact at }

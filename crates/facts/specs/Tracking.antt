@@ -18,7 +18,7 @@ abbrev pub held_words : List TrackedCell → Held → Words
 held_words whole (Row first last) = between first last
 held_words whole (Whole place) = words (get_or whole place (record { cell = 0; set = [] })).set
 
--- The tracked cell that is meant in brief.
+-- The tracked cell that an entry in brief means.
 abbrev pub entry_of : List TrackedCell → Entry → said.TrackedCell
 entry_of whole e = record { address = e.cell; set = held_words whole e.held }
 

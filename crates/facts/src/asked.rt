@@ -355,7 +355,8 @@ impl<A: Allocator> Place<'_, A> {
 }
 
 /// The outcomes of a word at the address of a fact, or the first condition on one word that it
-/// breaks: V3, V5, V14, V6 and V13, in this order.
+/// breaks: V3, V5, V14, V6 and V13, in this order. What is new in the outcomes stands in the room that
+/// is lent.
 pub fn post<'a, A: Allocator>(
     fact: &'a Fact,
     at: Word,

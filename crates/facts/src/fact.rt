@@ -129,7 +129,8 @@ impl Fact {
         self.ac = set;
     }
 
-    /// Lets the accumulator hold the words from one up to another.
+    /// Lets the accumulator hold the words from one to another, both of them; none where the second is
+    /// the lesser.
     pub fn set_accumulator_row(&mut self, first: Word, last: Word)
         ensures statement { statement_of self.new ≡
             record (statement_of self.old) { ac = between first last } }
@@ -138,7 +139,7 @@ impl Fact {
         self.ac = WordSet::range(first, last);
     }
 
-    /// Lets MQ hold the words from one up to another.
+    /// Lets MQ hold the words from one to another, both of them; none where the second is the lesser.
     pub fn set_mq_row(&mut self, first: Word, last: Word)
         ensures statement { statement_of self.new ≡
             record (statement_of self.old) { mq = between first last } }
@@ -193,7 +194,8 @@ impl Fact {
         self.cells.push(cell, set);
     }
 
-    /// Tracks one more cell, which may hold the words from one up to another.
+    /// Tracks one more cell, which may hold the words from one to another, both of them; none where the
+    /// second is the lesser.
     pub fn track_row(&mut self, cell: Word, first: Word, last: Word)
         requires { length (statement_of self.old).cells < 64 }
         ensures statement { statement_of self.new ≡ record (statement_of self.old) {

@@ -4,7 +4,6 @@
 //! a set has 512 bytes, and making places for them anew for each word took nearly all of the time.
 
 ghost use Rattle.std.specs.Prelude.{◌≡◌};
-ghost use Rattle.wordset.specs.Lanes.{words};
 
 use crate::equations::Equations;
 use arrayvec::ArrayVec;
@@ -48,8 +47,8 @@ impl Way {
     }
 }
 
-/// Room for all that may come of a word. It's lent to `outcomes` and `post`, and what stands in it
-/// doesn't matter: the same serves for one word after another.
+/// Room for all that may come of a word. It's lent to `outcomes`, `post` and `Known::after_call`, and
+/// what stands in it doesn't matter: the same serves for one word after another.
 #[derive(Drop)]
 pub struct Room {
     pub(crate) pointer: Step,

@@ -194,7 +194,7 @@ impl TrackedCells {
     }
 
     /// Whether the one at a place here is the cell of the one at a place there, and is seen to hold
-    /// no word that this one may not.
+    /// no word that the one there may not.
     fn is_within_at(&self, place: usize, others: &TrackedCells, at: usize) -> bool
         requires { at < length (tracked_cells others.now) }
         ensures { IsTrue result →

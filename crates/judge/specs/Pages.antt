@@ -12,7 +12,7 @@ use Rattle.judge.specs.declared.lines.Body.TheVariants.{Main, Of}
 abbrev pub Shows : Certificate → Page → Type 0
 Shows c p = (a : ℕ) → p.address ≡ Some a → (c.has_fact a ≡ true) × (meaning p.fact ≡ c.fact a)
 
--- The body is main's, or that of a listed routine with what is claimed of it.
+-- The body is main's, or that of a listed routine with the sites and the writes that are claimed of it.
 abbrev pub Tells : Certificate → Body → Type 0
 Tells c Main = Unit {0}
 Tells c (Of e r) = (c.listed e ≡ true) × (words r.sites ≡ c.sites e) × (words r.writes ≡ c.writes e)

@@ -30,12 +30,13 @@ pub trait Claims {
         ensures no_sites { IfNone result ((claims self.now).sites entry ≡ nothing) }
         ensures no_writes { IfNone result ((claims self.now).writes entry ≡ nothing) };
 
-    /// Whether a routine of this entry is listed, or it is claimed what holds when it returns.
+    /// Whether a routine of this entry is listed, or it is claimed what holds when it returns
+    /// by some offset.
     fn names(&self, entry: Word) -> bool
         ensures { result ≡ names_routine (claims self.now) entry };
 
     /// Whether there is a fact at an address, which the lent one then says; else it's left as it is. A
-    /// fact has some 34,000 bytes, so none is made for each question.
+    /// fact has some 35,000 bytes, so none is made for each question.
     fn fact_into(&self, at: Word, fact: &mut Fact) -> bool
         ensures there { result ≡ (claims self.now).has_fact at }
         ensures fact { result ≡ true → meaning fact.new ≡ (claims self.now).fact at }

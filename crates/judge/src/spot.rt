@@ -70,7 +70,7 @@ impl Page {
     }
 }
 
-/// Facts to read claims into, each of some 34,000 bytes, so they are made once: those at two
+/// Facts to read claims into, each of some 35,000 bytes, so they are made once: those at two
 /// addresses, one after the other, and others that the one at an address is compared with. The
 /// fact that a run mostly goes on to is then the one that is looked at next, and is read once.
 #[derive(Drop)]

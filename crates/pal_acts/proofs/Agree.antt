@@ -1,6 +1,6 @@
 -- What the acts mean stays as it is where names get values that had none.
 use Rattle.std.proofs.Common.{◌≡◌, ◌∙◌, sym, ap, refl, ℕ, ◌≤◌, List, [], ◌∷◌, ◌++◌, length, arith, rules, append_assoc, length-append, true, false, Some, None, Option, inl, inr, subst}
-use Rattle.std.specs.Prelude.{nat_eq}
+use Rattle.std.specs.Prelude.{nat_eq, unwrap_or}
 use Rattle.std.specs.List.{AllByRecursion}
 use Rattle.std.specs.Option.{option_and_then}
 use Rattle.std.specs.Map.{keys_of}
@@ -14,7 +14,7 @@ use Rattle.pal_acts.specs.declared.act.Act.{Act}
 use Rattle.pal_acts.specs.declared.act.Act.TheVariants as act
 use Rattle.pal_acts.specs.declared.code.Code.{Code}
 use Rattle.pal_acts.specs.Acts.{PlacedAct}
-use Rattle.pal_acts.specs.Values.{same, Values, in_table, term_value, joined, value_after, value, or_zero}
+use Rattle.pal_acts.specs.Values.{same, Values, in_table, term_value, joined, value_after, value}
 use Rattle.pal_acts.specs.Meaning.{location_after, location, giving, givings, has, with_name, names_after, names, IsTermOf, Names, IsLawfulAct, IsLawful, IsGiven, Defines}
 use Rattle.pal_acts.specs.Faults.{giving_fault, giving_table, fault, after, origin_fault, assign_fault, assign_table, next_fault, next_table}
 use Rattle.pal_acts.proofs.Table.{lookup-left, lookup-right, has_lookup}
@@ -79,7 +79,7 @@ weaker ns a σ τ e m h = e m (has-after ns m a h)
 
 -- an act moves the location to the same place
 moved_agree : (ns : List Name) (σ τ : Values) (here : ℕ) (e : List Join) (a : Act) → IsLawfulAct ns e a → Agrees ns σ τ → location_after σ here e a ≡ location_after τ here e a
-moved_agree ns σ τ here e act.Origin h g = ap or_zero (value_agree ns σ τ here 0 e h g)
+moved_agree ns σ τ here e act.Origin h g = ap (λ o. unwrap_or o 0) (value_agree ns σ τ here 0 e h g)
 moved_agree ns σ τ here e _ h g = refl
 
 pub location_agree : (perm : List Name) (σ τ : Values) (before : List PlacedAct) → IsLawful perm before → Agrees (names perm before) σ τ → location σ before ≡ location τ before
@@ -90,7 +90,7 @@ location_agree perm σ τ (a ∷ before) h g =
 
 -- and gives the same value
 giving_agree : (ns : List Name) (σ τ : Values) (here : ℕ) (e : List Join) (a : Act) → IsLawfulAct ns e a → Agrees ns σ τ → giving σ here e a ≡ giving τ here e a
-giving_agree ns σ τ here e (act.Assign n) h g = ap (λ v. (n, or_zero v) ∷ []) (value_agree ns σ τ here 0 e h g)
+giving_agree ns σ τ here e (act.Assign n) h g = ap (λ v. (n, unwrap_or v 0) ∷ []) (value_agree ns σ τ here 0 e h g)
 giving_agree ns σ τ here e _ h g = refl
 
 pub givings_agree : (perm : List Name) (σ τ : Values) (before : List PlacedAct) → IsLawful perm before → Agrees (names perm before) σ τ → givings σ before ≡ givings τ before
@@ -188,7 +188,7 @@ pub record Moves (perm : List (Name × ℕ)) (limit : ℕ) (before : List Placed
 assign_on : (perm : List (Name × ℕ)) (limit : ℕ) (before : List PlacedAct) (symbols : List (Name × ℕ)) (n : Name) (e : List Join) (o : Option ℕ)
     → Defines perm limit before symbols → value (in_table (perm ++ symbols)) (location (in_table (perm ++ symbols)) before) e ≡ o
     → assign_fault perm limit symbols n o ≡ None
-    → Gives perm limit before symbols (assign_table perm limit symbols n o) n (or_zero o) × Names (names (keys_of perm) before) e
+    → Gives perm limit before symbols (assign_table perm limit symbols n o) n (unwrap_or o 0) × Names (names (keys_of perm) before) e
 assign_on perm limit before symbols n e None d is none = cc
 assign_on perm limit before symbols n e (Some v) d is none = (
   give_on perm limit before symbols n v _ (in_table (perm ++ symbols) n) d refl none,
@@ -227,12 +227,12 @@ moves_by perm limit before e (act.Assign n) symbols d none =
     let σ : Values = in_table (perm ++ symbols) in
     let v : Option ℕ = value σ (location σ before) e in
     let new : List (Name × ℕ) = assign_table perm limit symbols n v in
-    let h : Gives perm limit before symbols new n (or_zero v) × Names (names (keys_of perm) before) e = assign_on perm limit before symbols n e v d refl none in
-    let g : Gives perm limit before symbols new n (or_zero v) = h.0 in
+    let h : Gives perm limit before symbols new n (unwrap_or v 0) × Names (names (keys_of perm) before) e = assign_on perm limit before symbols n e v d refl none in
+    let g : Gives perm limit before symbols new n (unwrap_or v 0) = h.0 in
     let τ : Values = in_table (perm ++ new) in
     let same_here : location σ before ≡ location τ before = location_agree (keys_of perm) σ τ before d.lawful g.given.agrees in
     let same_value : v ≡ value τ (location τ before) e = ap (λ l. value σ l e) same_here ∙ value_agree (names (keys_of perm) before) σ τ (location τ before) 0 e h.1 g.given.agrees in
-    record { order = g.given.order; one_value = (g.given.value_is ∙ ap (λ o. Some (or_zero o)) same_value, g.given.others); lawful = h.1; room = g.room; here = same_here }
+    record { order = g.given.order; one_value = (g.given.value_is ∙ ap (λ o. Some (unwrap_or o 0)) same_value, g.given.others); lawful = h.1; room = g.room; here = same_here }
 
 -- where an act has no fault, the symbols after it are those of the acts with it, and the location is what it was
 pub moves : (perm : List (Name × ℕ)) (limit : ℕ) (before : List PlacedAct) (next : PlacedAct) (symbols : List (Name × ℕ))

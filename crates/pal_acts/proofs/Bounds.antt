@@ -1,6 +1,6 @@
 -- The values of a source are words, where its numbers and its permanent symbols are.
 use Rattle.std.proofs.Common.{◌≡◌, ◌∙◌, sym, ap, ℕ, ◌/◌, ◌%◌, ◌<◌, ◌≤◌, List, [], ◌∷◌, ◌++◌, Bool, true, false, Option, Some, None, Result, Ok, Err, inl, inr, arith, subst, length, bit_or}
-use Rattle.std.specs.Prelude.{reverse, nat_lt, nat_eq, unwrap_or}
+use Rattle.std.specs.Prelude.{reverse, nat_lt, nat_eq, unwrap_or, ok_or}
 use Rattle.std.specs.List.{AllByRecursion, list_all}
 use Rattle.std.specs.Option.{option_and_then}
 use Rattle.std.proofs.lemmas.Bool.{cases_Bool, cases_lt, ltb-true, cond_both}
@@ -19,12 +19,13 @@ use Rattle.pal_acts.specs.declared.act.Act.TheVariants as act
 use Rattle.pal_acts.specs.declared.act.Place.{Place}
 use Rattle.pal_acts.specs.declared.act.PlacedWord.{PlacedWord}
 use Rattle.pal_acts.specs.declared.code.Code.{Code}
+use Rattle.pal_acts.specs.declared.code.Code.TheVariants.{Undefined}
 use Rattle.pal_acts.specs.Acts.{PlacedAct}
-use Rattle.pal_acts.specs.Values.{same, Values, in_table, term_value, joined, value_after, value, or_zero}
+use Rattle.pal_acts.specs.Values.{same, Values, in_table, term_value, joined, value_after, value}
 use Rattle.pal_acts.specs.Meaning.{location_after, location, Defines}
-use Rattle.pal_acts.specs.Words.{Marked, is_indirect, is_zero, is_reference, after_indirect, after_zero, marks, plain, addressed, referring, base, reference, word_value}
+use Rattle.pal_acts.specs.Words.{Marked, is_indirect, is_zero, is_reference, after_indirect, after_zero, marks, addressed, referring, base, reference, word_value, word_of}
 use Rattle.pal_acts.specs.Faults.{giving_table, assign_table, after}
-use Rattle.pal_acts.specs.Sources.{word_at_place, and_word, words, last_at, IsSource}
+use Rattle.pal_acts.specs.Sources.{with_word, words, last_at, IsSource}
 use Rattle.pal_acts.proofs.Unique.{stood, Before, none_left}
 
 -- a word, or nothing
@@ -97,7 +98,7 @@ module _ (σ : Values) (given : (n : Name) → Below (σ n)) where
       then_below (λ v. value_after σ here (joined j.sign a v) js) (term_value σ here j.term) (term_below here j.term h all.0)
       (λ v lt. value_below here (joined j.sign a v) js h (joined_below j.sign a v k lt) all.1)
 
-  zero_below : (o : Option ℕ) → Below o → or_zero o < 4096
+  zero_below : (o : Option ℕ) → Below o → unwrap_or o 0 < 4096
   zero_below None h = omega arith
   zero_below (Some v) h = h
 
@@ -112,7 +113,7 @@ module _ (σ : Values) (given : (n : Name) → Below (σ n)) where
 
   -- ---- words
 
-  plain_below : (o : Option ℕ) → Below o → BelowOk (plain o)
+  plain_below : (o : Option ℕ) → Below o → BelowOk (ok_or o Undefined)
   plain_below None h = tt
   plain_below (Some v) h = h
 
@@ -162,17 +163,24 @@ module _ (σ : Values) (given : (n : Name) → Below (σ n)) where
   abbrev AllBelow : List PlacedWord → Type 0
   AllBelow ws = AllByRecursion (λ w. w.word < 4096) ws
 
-  placed_below : (p : Place) (at : ℕ) (r : Result ℕ Code) (before : List PlacedWord) → BelowOk r → AllBelow before → AllBelow (word_at_place p at r before)
-  placed_below p at (Ok v) before h all = (h, all)
-  placed_below p at (Err c) before h all = all
+  abbrev BelowFound : Option (Result ℕ Code) → Type 0
+  BelowFound None = Unit {0}
+  BelowFound (Some r) = BelowOk r
 
-  act_below : (here : ℕ) (p : Place) (e : List Join) (a : Act) (before : List PlacedWord) → here < 4096 → Numbers e → AllBelow before → AllBelow (and_word σ here p e a before)
-  act_below here p e act.Word before h all k = placed_below p here (word_value σ here e) before (word_below here e h all) k
-  act_below here p e _ before h all k = k
+  found_below : (here : ℕ) (e : List Join) (a : Act) → here < 4096 → Numbers e → BelowFound (word_of σ here e a)
+  found_below here e act.Word h all = word_below here e h all
+  found_below here e _ h all = tt
+
+  placed_below : (p : Place) (at : ℕ) (o : Option (Result ℕ Code)) (before : List PlacedWord) → BelowFound o → AllBelow before → AllBelow (with_word p at o before)
+  placed_below p at None before h all = all
+  placed_below p at (Some (Ok v)) before h all = (h, all)
+  placed_below p at (Some (Err c)) before h all = all
 
   pub words_below : (acts : List PlacedAct) → AllByRecursion HasNumbers acts → AllBelow (words σ acts)
   words_below [] all = tt
-  words_below (a ∷ before) all = act_below (location σ before) a.place a.terms a.act (words σ before) (location_below before all.1) all.0 (words_below before all.1)
+  words_below (a ∷ before) all =
+      let here : location σ before < 4096 = location_below before all.1 in
+      placed_below a.place (location σ before) (word_of σ (location σ before) a.terms a.act) (words σ before) (found_below (location σ before) a.terms a.act here all.0) (words_below before all.1)
 
 -- what goes to an address is a word
 pub last_below : (ws : List PlacedWord) (at : ℕ) → AllByRecursion (λ w. w.word < 4096) ws → Below (last_at at ws)

@@ -1,25 +1,42 @@
 -- One word after another.
-use Rattle.std.proofs.Common.{◌≡◌, ◌∙◌, sym, ap, subst, ℕ, ◌+◌, ◌<◌, List, [], ◌∷◌, ◌++◌, append-nil, length, take, drop, slice_get, Option, Some, None}
+use Rattle.std.proofs.Common.{◌≡◌, ◌≢◌, ◌∙◌, sym, ap, refl, subst, ℕ, ◌+◌, ◌<◌, List, [], ◌∷◌, ◌++◌, append-nil, length, take, drop, slice_get, Option, Some, None, Result, Ok, Err}
 use Rattle.std.specs.Prelude.{reverse}
 use Rattle.std.proofs.lemmas.List.{reverse-append}
 use Rattle.pal_acts.specs.declared.act.PlacedWord.{PlacedWord}
 use Rattle.pal_acts.specs.Acts.{PlacedAct}
 use Rattle.pal_acts.specs.Values.{Values}
 use Rattle.pal_acts.specs.Meaning.{location_after, location}
-use Rattle.pal_acts.specs.Sources.{HasWord, Encodes, and_word, words}
+use Rattle.pal_acts.specs.Sources.{Encodes, with_word, words}
 use Rattle.pal_acts.specs.declared.assembly.Refused.{Refused}
 use Rattle.pal_acts.specs.declared.assembly.Refused.TheVariants.{Fault, NoMemory}
-use Rattle.pal_acts.specs.Faults.{WordBreaks}
-use Rattle.pal_acts.specs.Steps.{Codes, with_found, BreaksKeeping, FindsKeeping}
+use Rattle.pal_acts.specs.declared.code.Code.{Code}
+use Rattle.pal_acts.specs.Words.{word_of}
+use Rattle.pal_acts.specs.Steps.{Codes, BreaksKeeping, FindsKeeping}
 use Rattle.pal_acts.proofs.Places.{split_at}
 
+-- words, and one more
+abbrev pub with_found : Option PlacedWord → List PlacedWord → List PlacedWord
+with_found None before = before
+with_found (Some w) before = w ∷ before
+
 module _ (σ : Values) (here : ℕ) (next : PlacedAct) (before : List PlacedAct) (at : here ≡ location σ before) where
+  abbrev found_at : ℕ → Option (Result ℕ Code)
+  found_at l = word_of σ l next.terms next.act
+
   -- the words with that of one act more
   pub words_are : (found : Option PlacedWord) → Codes σ here next found → words σ (next ∷ before) ≡ with_found found (words σ before)
-  words_are found h = ap (λ l. and_word σ l next.place next.terms next.act (words σ before)) (sym at) ∙ sym (h (words σ before))
+  words_are None h = ap (λ l. with_word next.place l (found_at l) (words σ before)) (sym at) ∙ ap (λ o. with_word next.place here o (words σ before)) h
+  words_are (Some w) h =
+      ap (λ l. with_word next.place l (found_at l) (words σ before)) (sym at) ∙ ap (λ o. with_word next.place here o (words σ before)) h.2
+      ∙ (λ i. record { place = sym h.0 i; at = sym h.1 i; word = w.word } ∷ words σ before)
 
-  pub encodes_more : HasWord σ here next.terms next.act → Encodes σ before → Encodes σ (next ∷ before)
-  encodes_more h k = (subst (λ l. HasWord σ l next.terms next.act) at h, k)
+  -- an act with a word, or without one, has no fault
+  fine : (o : Option (Result ℕ Code)) (found : Option PlacedWord) (code : Code) → Codes σ here next found → found_at here ≡ o → o ≡ Some (Err code) → ⊥
+  fine o None code h e f = let both : None ≡ Some (Err code) = sym h ∙ e ∙ f in cc
+  fine o (Some w) code h e f = let both : Some (Ok w.word) ≡ Some (Err code) = sym h.2 ∙ e ∙ f in cc
+
+  pub encodes_more : (found : Option PlacedWord) → Codes σ here next found → Encodes σ before → Encodes σ (next ∷ before)
+  encodes_more found h k = (subst (λ l. (code : Code) → found_at l ≢ Some (Err code)) at (λ code e. fine (found_at here) found code h refl e), k)
 
   pub moves_on : (here' : ℕ) → here' ≡ location_after σ here next.terms next.act → here' ≡ location σ (next ∷ before)
   moves_on here' h = h ∙ ap (λ l. location_after σ l next.terms next.act) at
@@ -41,8 +58,12 @@ stops_keeping σ acts at next here within stands is fine (Fault place code) h = 
   next = next;
   later = drop (at + 1) acts;
   parts = split_at acts at next within stands;
-  place_is = h.0;
-  encodes = fine;
-  breaks = subst (λ l. WordBreaks σ l next.terms next.act code) is h.1;
+  such = (h.0, fine, subst (λ l. word_of σ l next.terms next.act ≡ Some (Err code)) is h.1);
 }
-stops_keeping σ acts at next here within stands is fine NoMemory h = tt
+stops_keeping σ acts at next here within stands is fine NoMemory h = record {
+  earlier = reverse (take at acts);
+  next = next;
+  later = drop (at + 1) acts;
+  parts = split_at acts at next within stands;
+  such = (fine, (h.0, subst (λ l. word_of σ l next.terms next.act ≡ Some (Ok h.0)) is h.1));
+}

@@ -1,18 +1,16 @@
 -- A source has one meaning or one fault.
 use Rattle.std.proofs.Common.{◌≡◌, ◌∙◌, sym, ap, refl, ℕ, List, [], ◌∷◌, ◌++◌, append_assoc, Some, None, inl, inr, subst, ◌⊎◌}
-use Rattle.std.specs.Prelude.{reverse, Ok, Err, Result, IsOk}
+use Rattle.std.specs.Prelude.{reverse, Err}
 use Rattle.std.proofs.lemmas.List.{reverse-append, reverse-reverse}
 use Rattle.pal_text.specs.declared.names.Name.{Name}
-use Rattle.pal_acts.specs.declared.act.Act.{Act}
-use Rattle.pal_acts.specs.declared.act.Join.{Join}
 use Rattle.pal_acts.specs.declared.act.Place.{Place}
-use Rattle.pal_acts.specs.declared.act.Act.TheVariants as act
 use Rattle.pal_acts.specs.declared.code.Code.{Code}
 use Rattle.pal_acts.specs.Acts.{PlacedAct}
 use Rattle.pal_acts.specs.Values.{Values, in_table}
 use Rattle.pal_acts.specs.Meaning.{location, Defines}
-use Rattle.pal_acts.specs.Sources.{HasWord, Encodes, words, IsImage}
-use Rattle.pal_acts.specs.Faults.{next_fault, Stops, WordBreaks, Finds}
+use Rattle.pal_acts.specs.Words.{word_of}
+use Rattle.pal_acts.specs.Sources.{Encodes, words, IsImage}
+use Rattle.pal_acts.specs.Faults.{next_fault, Stops, Finds}
 use Rattle.pal_acts.specs.Laws.{OneSource, NotBoth, OneFault}
 use Rattle.pal_acts.proofs.Unique.{stood, unique, Before}
 use Rattle.pal_acts.proofs.Images.{one_image}
@@ -81,12 +79,12 @@ module _ (perm : List (Name × ℕ)) (limit : ℕ) where
   fails_one e n c d (s, k, h) (u, l, f) = let both : Some c ≡ Some d = sym h ∙ ap (λ s. next_fault perm limit s e n) (unique perm limit e s u k l) ∙ f in cc
 
   stops_never : (acts : List PlacedAct) (at : Place) (c : Code) (s : List (Name × ℕ)) → Defines perm limit (reverse acts) s → Stops perm limit acts at c → ⊥
-  stops_never acts at c s d h = never Defined Fits Fails fits_back fits_apart fails_one acts h.earlier h.later h.next c (s, d) h.parts (h.own, h.defines, h.breaks)
+  stops_never acts at c s d h = never Defined Fits Fails fits_back fits_apart fails_one acts h.earlier h.later h.next c (s, d) h.parts h.such.1
 
   stops_one : (acts : List PlacedAct) (at au : Place) (c d : Code) → Stops perm limit acts at c → Stops perm limit acts au d → (at ≡ au) × (c ≡ d)
   stops_one acts at au c d h k =
-      let r = first Defined Fits Fails fits_back fits_apart fails_one acts h.earlier k.earlier h.later k.later h.next k.next c d (h.own, h.defines) (k.own, k.defines) h.parts k.parts (h.own, h.defines, h.breaks) (k.own, k.defines, k.breaks) in
-      (h.place_is ∙ ap (λ a. a.place) r.0 ∙ sym k.place_is, r.1)
+      let r = first Defined Fits Fails fits_back fits_apart fails_one acts h.earlier k.earlier h.later k.later h.next k.next c d (h.such.1.0, h.such.1.1) (k.such.1.0, k.such.1.1) h.parts k.parts h.such.1 k.such.1 in
+      (h.such.0 ∙ ap (λ a. a.place) r.0 ∙ sym k.such.0, r.1)
 
 module _ (σ : Values) where
   abbrev IsWordFine : List PlacedAct → PlacedAct → Type 0
@@ -96,34 +94,22 @@ module _ (σ : Values) where
   words_back [] e n h = h
   words_back (x ∷ m) e n h = words_back m e n h.1
 
-  no_err : (r : Result ℕ Code) (c : Code) → IsOk r → r ≡ Err c → ⊥
-  no_err (Ok v) c h e = cc
-  no_err (Err d) c h e = cc
-
-  word_apart : (here : ℕ) (x : List Join) (a : Act) (c : Code) → HasWord σ here x a → WordBreaks σ here x a c → ⊥
-  word_apart here x act.Word c h k = no_err _ c h k
-  word_apart here x _ c h k = k
-
-  word_one : (here : ℕ) (x : List Join) (a : Act) (c d : Code) → WordBreaks σ here x a c → WordBreaks σ here x a d → c ≡ d
-  word_one here x act.Word c d h k = let both = sym h ∙ k in cc
-  word_one here x _ c d h k = absurd h
-
   abbrev Breaks : List PlacedAct → PlacedAct → Code → Type 0
-  Breaks e n c = WordBreaks σ (location σ e) n.terms n.act c
+  Breaks e n c = word_of σ (location σ e) n.terms n.act ≡ Some (Err c)
 
   words_apart : (e : List PlacedAct) (n : PlacedAct) (c : Code) → IsWordFine e n → Breaks e n c → ⊥
-  words_apart e n c h k = word_apart (location σ e) n.terms n.act c h.0 k
+  words_apart e n c h k = h.0 c k
 
   words_one : (e : List PlacedAct) (n : PlacedAct) (c d : Code) → Breaks e n c → Breaks e n d → c ≡ d
-  words_one e n c d h k = word_one (location σ e) n.terms n.act c d h k
+  words_one e n c d h k = let both = sym h ∙ k in cc
 
   finds_never : (acts : List PlacedAct) (at : Place) (c : Code) → Encodes σ (reverse acts) → Finds σ acts at c → ⊥
-  finds_never acts at c g h = never (Encodes σ) IsWordFine Breaks words_back words_apart words_one acts h.earlier h.later h.next c g h.parts h.breaks
+  finds_never acts at c g h = never (Encodes σ) IsWordFine Breaks words_back words_apart words_one acts h.earlier h.later h.next c g h.parts h.such.2
 
   finds_one : (acts : List PlacedAct) (at au : Place) (c d : Code) → Finds σ acts at c → Finds σ acts au d → (at ≡ au) × (c ≡ d)
   finds_one acts at au c d h k =
-      let r = first (Encodes σ) IsWordFine Breaks words_back words_apart words_one acts h.earlier k.earlier h.later k.later h.next k.next c d h.encodes k.encodes h.parts k.parts h.breaks k.breaks in
-      (h.place_is ∙ ap (λ a. a.place) r.0 ∙ sym k.place_is, r.1)
+      let r = first (Encodes σ) IsWordFine Breaks words_back words_apart words_one acts h.earlier k.earlier h.later k.later h.next k.next c d h.such.1 k.such.1 h.parts k.parts h.such.2 k.such.2 in
+      (h.such.0 ∙ ap (λ a. a.place) r.0 ∙ sym k.such.0, r.1)
 
 pub one_source : OneSource
 one_source perm limit acts s u i j h k =

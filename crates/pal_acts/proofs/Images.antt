@@ -18,9 +18,9 @@ pub blank_image : IsImage [] (replicate 4096 none_yet)
 blank_image = record { size = length-replicate 4096 none_yet; cells = λ a h. blank 4096 a h }
 
 -- a word is put into the image of those before it
-pub with_word : (ws : List PlacedWord) (w : PlacedWord) (image new : List (Option ℕ)) → new ≡ slice_set image w.at (Some w.word) → word_at new w.at ≡ Some w.word
+pub put_word : (ws : List PlacedWord) (w : PlacedWord) (image new : List (Option ℕ)) → new ≡ slice_set image w.at (Some w.word) → word_at new w.at ≡ Some w.word
     → ((a : ℕ) → a ≢ w.at → word_at new a ≡ word_at image a) → IsImage ws image → IsImage (w ∷ ws) new
-with_word ws w image new is here others h = record {
+put_word ws w image new is here others h = record {
   size = ap length is ∙ length-set image w.at (Some w.word) ∙ h.size;
   cells = λ a lt. cond_both (nat_eq w.at a) (Some w.word) (last_at a ws) (λ o. word_at new a ≡ o)
       (λ same. ap (word_at new) (sym (eqb-true w.at a same)) ∙ here)

@@ -1,5 +1,6 @@
 -- The symbols of acts are those of the acts before the last, and then that one's: so acts have one list of symbols.
 use Rattle.std.proofs.Common.{◌≡◌, ◌∙◌, sym, ap, refl, ℕ, ◌≤◌, ◌<◌, List, [], ◌∷◌, ◌++◌, length, arith, append_assoc, append-nil, length-append, true, false, Some, None, Option, inl, inr, subst}
+use Rattle.std.specs.Prelude.{unwrap_or}
 use Rattle.std.specs.List.{AllByRecursion}
 use Rattle.std.specs.Option.{option_and_then}
 use Rattle.std.specs.Map.{keys_of}
@@ -13,7 +14,7 @@ use Rattle.pal_acts.specs.declared.act.Act.TheVariants as act
 use Rattle.pal_acts.specs.declared.code.Code.{Code}
 use Rattle.pal_acts.specs.declared.code.Code.TheVariants.{Redefined, DuplicateTag}
 use Rattle.pal_acts.specs.Acts.{PlacedAct}
-use Rattle.pal_acts.specs.Values.{same, Values, in_table, term_value, joined, value_after, value, or_zero}
+use Rattle.pal_acts.specs.Values.{same, Values, in_table, term_value, joined, value_after, value}
 use Rattle.pal_acts.specs.Meaning.{location, giving, givings, has, with_name, names_after, names, IsTermOf, Names, IsLawfulAct, IsLawful, IsGiven, Defines}
 use Rattle.pal_acts.specs.Faults.{giving_fault, giving_table, fault, after, origin_fault, assign_fault, assign_table, next_table}
 use Rattle.pal_acts.proofs.Table.{lookup-right, has_lookup}
@@ -209,13 +210,13 @@ stood_by perm limit before e (act.Tag n) new order given law lawful room =
     }
 stood_by perm limit before e (act.Assign n) new order given law lawful room =
     let τ : Values = in_table (perm ++ new) in
-    let v : ℕ = or_zero (value τ (location τ before) e) in
+    let v : ℕ = unwrap_or (value τ (location τ before) e) 0 in
     let u : Ungiven perm limit before new n v Redefined = ungive perm limit before new n v Redefined order given.0 given.1 lawful room in
     let σ : Values = in_table (perm ++ u.symbols) in
     let here : location σ before ≡ location τ before = location_agree (keys_of perm) σ τ before lawful u.agrees in
     let same_value : value σ (location σ before) e ≡ value τ (location τ before) e = ap (λ l. value σ l e) here ∙ value_agree (names (keys_of perm) before) σ τ (location τ before) 0 e law u.agrees in
     let k = value_known (perm ++ u.symbols) (location σ before) 0 e (subst (λ ns. Names ns e) (sym u.defines.order) law) in
-    let is : k.0 ≡ v = ap or_zero (sym k.1 ∙ same_value) in
+    let is : k.0 ≡ v = ap (λ o. unwrap_or o 0) (sym k.1 ∙ same_value) in
     record {
       symbols = u.symbols;
       defines = u.defines;

@@ -1,5 +1,5 @@
 -- The first fault of a source, at the place of its act.
-use Rattle.std.specs.Prelude.{◌≡◌, ℕ, ◌+◌, nat_lt, nat_eq, if◌then◌else◌, List, [], ◌∷◌, ◌++◌, length, reverse, Option, Some, None, Err, ◌⊎◌}
+use Rattle.std.specs.Prelude.{◌≡◌, ℕ, ◌+◌, nat_lt, nat_eq, if◌then◌else◌, List, [], ◌∷◌, ◌++◌, length, reverse, Option, Some, None, Ok, Err, ◌⊎◌}
 use Rattle.pal_text.specs.declared.names.Name.{Name}
 use Rattle.pal_acts.specs.declared.act.Join.{Join}
 use Rattle.pal_acts.specs.declared.act.Act.{Act}
@@ -12,7 +12,7 @@ use Rattle.pal_acts.specs.declared.assembly.Refused.TheVariants.{Fault, NoMemory
 use Rattle.pal_acts.specs.Acts.{PlacedAct}
 use Rattle.pal_acts.specs.Values.{Values, known, value}
 use Rattle.pal_acts.specs.Meaning.{location, Defines}
-use Rattle.pal_acts.specs.Words.{word_value}
+use Rattle.pal_acts.specs.Words.{word_of}
 use Rattle.pal_acts.specs.Sources.{Encodes}
 
 -- The fault of giving a value to a name that has this one or none, where so many symbols are defined: another value has
@@ -67,31 +67,22 @@ module _ (permanent : List (Name × ℕ)) (limit : ℕ) (own : List (Name × ℕ
   abbrev pub next_table : List PlacedAct → PlacedAct → List (Name × ℕ)
   next_table before next = after (location (known permanent own) before) next.terms next.act
 
--- The first fault that isn't a word's: it is that of an act at this place, and the acts before it have these symbols.
-pub record Stops (permanent : List (Name × ℕ)) (limit : ℕ) (acts : List PlacedAct) (place : Place) (code : Code) : Type 0 where
+-- One of these acts is such after those before it, which have the newest first.
+pub record Meets (acts : List PlacedAct) (Such : List PlacedAct → PlacedAct → Type 0) : Type 0 where
   pub earlier : List PlacedAct
   pub next : PlacedAct
   pub later : List PlacedAct
-  pub own : List (Name × ℕ)
   pub parts : acts ≡ reverse earlier ++ next ∷ later
-  pub place_is : place ≡ next.place
-  pub defines : Defines permanent limit earlier own
-  pub breaks : next_fault permanent limit own earlier next ≡ Some code
+  pub such : Such earlier next
 
--- An act at this location is to be a word and is none, and why.
-abbrev pub WordBreaks : Values → ℕ → List Join → Act → Code → Type 0
-WordBreaks σ here e act.Word code = word_value σ here e ≡ Err code
-WordBreaks σ here e _ code = ⊥
+-- The first fault that isn't a word's: it is that of an act at this place, and the acts before it have these symbols.
+abbrev pub Stops : List (Name × ℕ) → ℕ → List PlacedAct → Place → Code → Type 0
+Stops permanent limit acts place code = Meets acts (λ before next. (place ≡ next.place)
+    × ((own : List (Name × ℕ)) × Defines permanent limit before own × (next_fault permanent limit own before next ≡ Some code)))
 
 -- The first fault of a word: it is that of an act at this place, and the words before it have none.
-pub record Finds (σ : Values) (acts : List PlacedAct) (place : Place) (code : Code) : Type 0 where
-  pub earlier : List PlacedAct
-  pub next : PlacedAct
-  pub later : List PlacedAct
-  pub parts : acts ≡ reverse earlier ++ next ∷ later
-  pub place_is : place ≡ next.place
-  pub encodes : Encodes σ earlier
-  pub breaks : WordBreaks σ (location σ earlier) next.terms next.act code
+abbrev pub Finds : Values → List PlacedAct → Place → Code → Type 0
+Finds σ acts place code = Meets acts (λ before next. (place ≡ next.place) × Encodes σ before × (word_of σ (location σ before) next.terms next.act ≡ Some (Err code)))
 
 -- The fault of a source is the first one that isn't a word's. Where there is none, it is the first of a word, with the
 -- symbols of the whole source.
@@ -100,22 +91,20 @@ IsRefused permanent limit acts place code = Stops permanent limit acts place cod
     ⊎ ((own : List (Name × ℕ)) × Defines permanent limit (reverse acts) own × Finds (known permanent own) acts place code)
 
 -- An act asks for memory: those before it have no fault, and it has none and defines a symbol that had no value.
-pub record AsksForMemory (permanent : List (Name × ℕ)) (limit : ℕ) (acts : List PlacedAct) : Type 0 where
-  pub earlier : List PlacedAct
-  pub next : PlacedAct
-  pub later : List PlacedAct
-  pub own : List (Name × ℕ)
-  pub parts : acts ≡ reverse earlier ++ next ∷ later
-  pub defines : Defines permanent limit earlier own
-  pub sound : next_fault permanent limit own earlier next ≡ None
-  pub grows : length (next_table permanent limit own earlier next) ≡ length own + 1
+abbrev pub AsksForMemory : List (Name × ℕ) → ℕ → List PlacedAct → Type 0
+AsksForMemory permanent limit acts = Meets acts (λ before next. (own : List (Name × ℕ)) × Defines permanent limit before own
+    × (next_fault permanent limit own before next ≡ None) × (length (next_table permanent limit own before next) ≡ length own + 1))
 
 -- A source is refused so: by its fault, or where memory is refused at an act that asks for some.
 abbrev pub Refuses : List (Name × ℕ) → ℕ → List PlacedAct → Refused → Type 0
 Refuses permanent limit acts (Fault place code) = IsRefused permanent limit acts place code
 Refuses permanent limit acts NoMemory = AsksForMemory permanent limit acts
 
--- The same where words are kept: once all symbols have their values, memory may be refused for a word.
+-- Memory is asked for an act's word, and the words before it have no fault.
+abbrev pub AsksForWord : Values → List PlacedAct → Type 0
+AsksForWord σ acts = Meets acts (λ before next. Encodes σ before × ((w : ℕ) × (word_of σ (location σ before) next.terms next.act ≡ Some (Ok w))))
+
+-- The same where words are kept: once all symbols have their values, memory is asked for each word.
 abbrev pub RefusesKeeping : List (Name × ℕ) → ℕ → List PlacedAct → Refused → Type 0
 RefusesKeeping permanent limit acts (Fault place code) = IsRefused permanent limit acts place code
-RefusesKeeping permanent limit acts NoMemory = AsksForMemory permanent limit acts ⊎ ((own : List (Name × ℕ)) × Defines permanent limit (reverse acts) own)
+RefusesKeeping permanent limit acts NoMemory = AsksForMemory permanent limit acts ⊎ ((own : List (Name × ℕ)) × Defines permanent limit (reverse acts) own × AsksForWord (known permanent own) acts)

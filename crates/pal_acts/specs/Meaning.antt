@@ -1,6 +1,6 @@
 -- What a source's symbols are. A list of acts has the newest first: what an act means depends on those before it. A name
 -- has one value in the whole source: `σ`.
-use Rattle.std.specs.Prelude.{◌≡◌, ℕ, ◌+◌, ◌%◌, ◌≤◌, Bool, true, if◌then◌else◌, List, [], ◌∷◌, ◌++◌, length, Some}
+use Rattle.std.specs.Prelude.{◌≡◌, ℕ, ◌+◌, ◌%◌, ◌≤◌, Bool, true, if◌then◌else◌, List, [], ◌∷◌, ◌++◌, length, Some, unwrap_or}
 use Rattle.std.specs.List.{AllByRecursion, list_any}
 use Rattle.std.specs.Map.{keys_of}
 use Rattle.pal_text.specs.declared.names.Name.{Name}
@@ -10,11 +10,11 @@ use Rattle.pal_acts.specs.declared.act.Join.{Join}
 use Rattle.pal_acts.specs.declared.act.Act.{Act}
 use Rattle.pal_acts.specs.declared.act.Act.TheVariants as act
 use Rattle.pal_acts.specs.Acts.{PlacedAct}
-use Rattle.pal_acts.specs.Values.{Values, same, known, value, or_zero}
+use Rattle.pal_acts.specs.Values.{Values, same, known, value}
 
 -- The current location after an act at this location: an origin sets it, and a word makes it one more.
 abbrev pub location_after : Values → ℕ → List Join → Act → ℕ
-location_after σ here e act.Origin = or_zero (value σ here e)
+location_after σ here e act.Origin = unwrap_or (value σ here e) 0
 location_after σ here e act.Word = (here + 1) % 4096
 location_after σ here e _ = here
 
@@ -26,7 +26,7 @@ location σ (a ∷ before) = location_after σ (location σ before) a.terms a.ac
 -- The name that an act gives a value, with that value.
 abbrev pub giving : Values → ℕ → List Join → Act → List (Name × ℕ)
 giving σ here e (act.Tag n) = (n, here) ∷ []
-giving σ here e (act.Assign n) = (n, or_zero (value σ here e)) ∷ []
+giving σ here e (act.Assign n) = (n, unwrap_or (value σ here e) 0) ∷ []
 giving σ here e _ = []
 
 -- The names that tags and assignments give a value, each time with that value.

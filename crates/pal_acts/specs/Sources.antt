@@ -1,43 +1,30 @@
 -- What a source means: its own symbols and its image. Lists of acts and of words have the newest first, but where a source is
 -- named they stand in order.
-use Rattle.std.specs.Prelude.{◌≡◌, ℕ, ◌<◌, if◌then◌else◌, List, [], ◌∷◌, length, Option, Some, None, Result, Ok, Err, IsOk, nat_eq, reverse}
+use Rattle.std.specs.Prelude.{◌≡◌, ◌≢◌, ℕ, ◌<◌, if◌then◌else◌, List, [], ◌∷◌, length, Option, Some, None, Result, Ok, Err, nat_eq, reverse}
 use Rattle.bin_tape.specs.Image.{word_at}
 use Rattle.pal_text.specs.declared.names.Name.{Name}
-use Rattle.pal_acts.specs.declared.act.Join.{Join}
-use Rattle.pal_acts.specs.declared.act.Act.{Act}
-use Rattle.pal_acts.specs.declared.act.Act.TheVariants as act
 use Rattle.pal_acts.specs.declared.act.Place.{Place}
 use Rattle.pal_acts.specs.declared.act.PlacedWord.{PlacedWord}
 use Rattle.pal_acts.specs.declared.code.Code.{Code}
 use Rattle.pal_acts.specs.Acts.{PlacedAct}
 use Rattle.pal_acts.specs.Values.{Values, known}
 use Rattle.pal_acts.specs.Meaning.{location, Defines}
-use Rattle.pal_acts.specs.Words.{word_value}
+use Rattle.pal_acts.specs.Words.{word_of}
 
--- The expression of an act that is to be a word is one.
-abbrev pub HasWord : Values → ℕ → List Join → Act → Type 0
-HasWord σ here e act.Word = IsOk (word_value σ here e)
-HasWord σ here e _ = Unit {0}
-
--- Each expression that is to be a word is one.
+-- No act is to be a word and is none.
 abbrev pub Encodes : Values → List PlacedAct → Type 0
 Encodes σ [] = Unit {0}
-Encodes σ (a ∷ before) = HasWord σ (location σ before) a.terms a.act × Encodes σ before
+Encodes σ (a ∷ before) = ((code : Code) → word_of σ (location σ before) a.terms a.act ≢ Some (Err code)) × Encodes σ before
 
--- A word with its place and its address, before others; an expression that is no word brings none.
-abbrev pub word_at_place : Place → ℕ → Result ℕ Code → List PlacedWord → List PlacedWord
-word_at_place p at (Ok w) before = record { place = p; at = at; word = w } ∷ before
-word_at_place p at (Err c) before = before
-
--- The word of an act at this location, with its place, before others; an act that isn't a word brings none.
-abbrev pub and_word : Values → ℕ → Place → List Join → Act → List PlacedWord → List PlacedWord
-and_word σ here p e act.Word before = word_at_place p here (word_value σ here e) before
-and_word σ here p e _ before = before
+-- A word with its place and its address, before others; where there is none, these alone.
+abbrev pub with_word : Place → ℕ → Option (Result ℕ Code) → List PlacedWord → List PlacedWord
+with_word p at (Some (Ok w)) before = record { place = p; at = at; word = w } ∷ before
+with_word p at _ before = before
 
 -- The words of acts, each with its place in the source and its address. Both lists have the newest first.
 abbrev pub words : Values → List PlacedAct → List PlacedWord
 words σ [] = []
-words σ (a ∷ before) = and_word σ (location σ before) a.place a.terms a.act (words σ before)
+words σ (a ∷ before) = with_word a.place (location σ before) (word_of σ (location σ before) a.terms a.act) (words σ before)
 
 -- The words of acts that are in order, in order.
 abbrev pub all_words : Values → List PlacedAct → List PlacedWord

@@ -1,5 +1,5 @@
 -- One act after another: the private contracts of the calls below `assemble`.
-use Rattle.std.specs.Prelude.{◌≡◌, ℕ, ◌+◌, List, ◌∷◌, length, reverse, Option, Some, None}
+use Rattle.std.specs.Prelude.{◌≡◌, ℕ, ◌+◌, List, ◌∷◌, length, reverse, Option, Some, None, Ok, Err}
 use Rattle.pal_text.specs.declared.names.Name.{Name}
 use Rattle.pal_acts.specs.declared.act.PlacedWord.{PlacedWord}
 use Rattle.pal_acts.specs.declared.code.Code.{Code}
@@ -10,8 +10,9 @@ use Rattle.pal_acts.specs.declared.assembly.Refused.TheVariants.{Fault, NoMemory
 use Rattle.pal_acts.specs.Acts.{PlacedAct}
 use Rattle.pal_acts.specs.Values.{Values}
 use Rattle.pal_acts.specs.Meaning.{location}
-use Rattle.pal_acts.specs.Sources.{Encodes, and_word, words, IsImage}
-use Rattle.pal_acts.specs.Faults.{Stops, AsksForMemory, WordBreaks, Finds}
+use Rattle.pal_acts.specs.Words.{word_of}
+use Rattle.pal_acts.specs.Sources.{Encodes, words, IsImage}
+use Rattle.pal_acts.specs.Faults.{Stops, AsksForMemory, Finds, AsksForWord}
 
 -- A refusal by this fault; or memory was refused where there is no fault and the symbols become one more.
 abbrev pub IsFault : ℕ → Option Code → List (Name × ℕ) → Refusal → Type 0
@@ -31,16 +32,12 @@ FindsBy σ acts NoMemory = ⊥
 -- The acts are refused for a word, or memory was refused for one.
 abbrev pub FindsKeeping : Values → List PlacedAct → Refused → Type 0
 FindsKeeping σ acts (Fault place code) = Finds σ acts place code
-FindsKeeping σ acts NoMemory = Unit {0}
-
--- A word that was found, before others.
-abbrev pub with_found : Option PlacedWord → List PlacedWord → List PlacedWord
-with_found None before = before
-with_found (Some w) before = w ∷ before
+FindsKeeping σ acts NoMemory = AsksForWord σ acts
 
 -- This is the word of an act at this location, or it has none.
 abbrev pub Codes : Values → ℕ → PlacedAct → Option PlacedWord → Type 0
-Codes σ here next found = (before : List PlacedWord) → with_found found before ≡ and_word σ here next.place next.terms next.act before
+Codes σ here next None = word_of σ here next.terms next.act ≡ None
+Codes σ here next (Some w) = (w.place ≡ next.place) × (w.at ≡ here) × (word_of σ here next.terms next.act ≡ Some (Ok w.word))
 
 -- The word of an act is put into the image of those before it.
 abbrev pub Puts : Values → PlacedAct → List (Option ℕ) → ℕ → List (Option ℕ) → ℕ → Type 0
@@ -54,5 +51,5 @@ Keeps σ next kept here kept' here' = (before : List PlacedAct) → here ≡ loc
 
 -- An act at this location isn't kept: it is to be a word and is none, or memory was refused for it.
 abbrev pub BreaksKeeping : Values → ℕ → PlacedAct → Refused → Type 0
-BreaksKeeping σ here next (Fault place code) = (place ≡ next.place) × WordBreaks σ here next.terms next.act code
-BreaksKeeping σ here next NoMemory = Unit {0}
+BreaksKeeping σ here next (Fault place code) = (place ≡ next.place) × (word_of σ here next.terms next.act ≡ Some (Err code))
+BreaksKeeping σ here next NoMemory = (w : ℕ) × (word_of σ here next.terms next.act ≡ Some (Ok w))

@@ -46,8 +46,3 @@ value_after σ here a (j ∷ js) = option_and_then (λ v. value_after σ here (j
 -- The value of an expression at a location: its terms joined to 0.
 abbrev pub value : Values → ℕ → List Join → Option ℕ
 value σ here js = value_after σ here 0 js
-
--- A value, with 0 where there is none.
-abbrev pub or_zero : Option ℕ → ℕ
-or_zero None = 0
-or_zero (Some v) = v

@@ -1,5 +1,5 @@
 -- The word that an expression is.
-use Rattle.std.specs.Prelude.{ℕ, ◌/◌, ◌%◌, Bool, true, false, ◌&&◌, if◌then◌else◌, List, [], ◌∷◌, Option, Some, None, Result, Ok, Err, nat_eq, nat_lt, bit_or, codes}
+use Rattle.std.specs.Prelude.{ℕ, ◌/◌, ◌%◌, Bool, true, false, ◌&&◌, if◌then◌else◌, List, [], ◌∷◌, Option, Some, None, Result, Ok, Err, ok_or, nat_eq, nat_lt, bit_or, codes}
 use Rattle.std.specs.List.{list_any}
 use Rattle.pal_text.specs.declared.names.Name.{Name}
 use Rattle.pal_acts.specs.declared.act.Sign.{Sign}
@@ -7,6 +7,8 @@ use Rattle.pal_acts.specs.declared.act.Sign.TheVariants.{Plus, Minus, Or}
 use Rattle.pal_acts.specs.declared.act.Term.{Term}
 use Rattle.pal_acts.specs.declared.act.Term.TheVariants.{Number, Symbol, Here}
 use Rattle.pal_acts.specs.declared.act.Join.{Join}
+use Rattle.pal_acts.specs.declared.act.Act.{Act}
+use Rattle.pal_acts.specs.declared.act.Act.TheVariants as act
 use Rattle.pal_acts.specs.declared.code.Code.{Code}
 use Rattle.pal_acts.specs.declared.code.Code.TheVariants.{Undefined, IllegalReference}
 use Rattle.pal_acts.specs.Values.{Values, same, term_value, value}
@@ -74,11 +76,6 @@ abbrev pub marks : List Join → Marked
 marks [] = marked false false []
 marks (j ∷ js) = if is_indirect j then after_indirect js else if is_zero j then after_zero js else marked false false (j ∷ js)
 
--- An expression that names a symbol without a value is no word.
-abbrev pub plain : Option ℕ → Result ℕ Code
-plain None = Err Undefined
-plain (Some v) = Ok v
-
 -- A reference to an address: below 0200 it is coded on page zero; in the page of the location with 0200, unless Z stands
 -- there; no other address can be referred to.
 abbrev pub addressed : ℕ → Bool → ℕ → ℕ → Result ℕ Code
@@ -101,7 +98,12 @@ reference σ here None m = Err Undefined
 reference σ here (Some operation) m = referring (base operation m.indirect) m.zero here (value σ here m.address)
 
 -- The word that an expression is at a location, or why it is none: a reference where it begins with an operation that
--- takes an address, and its value otherwise.
+-- takes an address, and its value otherwise. With a symbol that has no value it is none.
 abbrev pub word_value : Values → ℕ → List Join → Result ℕ Code
-word_value σ here [] = plain (value σ here [])
-word_value σ here (j ∷ js) = if is_reference j then reference σ here (term_value σ here j.term) (marks js) else plain (value σ here (j ∷ js))
+word_value σ here [] = ok_or (value σ here []) Undefined
+word_value σ here (j ∷ js) = if is_reference j then reference σ here (term_value σ here j.term) (marks js) else ok_or (value σ here (j ∷ js)) Undefined
+
+-- The word of an act at this location, or why it is none; an act that isn't to be a word has neither.
+abbrev pub word_of : Values → ℕ → List Join → Act → Option (Result ℕ Code)
+word_of σ here e act.Word = Some (word_value σ here e)
+word_of σ here e _ = None

@@ -36,7 +36,7 @@ pub struct Join {
 /// One thing that a source does. The terms of its expression stand beside it.
 #[derive(Clone, Copy, PartialEq, Eq, Debug)]
 pub enum Act {
-    /// It is wrong by itself: a form, a digit, a number, or a tag that DECIMAL, OCTAL or PAUSE is.
+    /// It is wrong by itself: a form, a digit, a number, or DECIMAL, OCTAL or PAUSE as a tag.
     Wrong(Code),
     /// `symbol,`: the symbol gets the current location.
     Tag(Name),

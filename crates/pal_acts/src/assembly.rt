@@ -1,14 +1,15 @@
 //! The meaning of a source, or its first fault.
 
-ghost use Rattle.std.specs.Prelude.{◌≡◌, ◌⊎◌, reverse, IfOk, IfErr, OnOk, MatchResult, ℕ, List, Option};
+ghost use Rattle.std.specs.Prelude.{◌≡◌, ◌⊎◌, Some, Err, reverse, IfOk, IfErr, OnOk, MatchResult, ℕ, List, Option};
 ghost use Rattle.pal_text.specs.declared.names.Name.{Name as Named};
 ghost use Rattle.pal_acts.specs.declared.act.Place.{Place as Placing};
 ghost use Rattle.pal_acts.specs.declared.code.Code.{Code as Coded};
 ghost use Rattle.pal_acts.specs.Acts.{shown};
 ghost use Rattle.pal_acts.specs.Values.{known};
 ghost use Rattle.pal_acts.specs.Meaning.{location_after, Defines};
-ghost use Rattle.pal_acts.specs.Sources.{IsSource, IsImage, Encodes, HasWord, words, all_words};
-ghost use Rattle.pal_acts.specs.Faults.{Refuses, RefusesKeeping, IsRefused, WordBreaks};
+ghost use Rattle.pal_acts.specs.Words.{word_of};
+ghost use Rattle.pal_acts.specs.Sources.{IsSource, IsImage, Encodes, words, all_words};
+ghost use Rattle.pal_acts.specs.Faults.{Refuses, RefusesKeeping, IsRefused};
 ghost use Rattle.pal_acts.specs.Steps.{StopsBy, FindsBy, FindsKeeping, BreaksKeeping, Codes, Puts, Keeps};
 
 use crate::act::{Act, Place, PlacedWord};
@@ -76,13 +77,12 @@ fn code<A: Allocator + Copy>(
 ) -> Result<Option<PlacedWord>, Code>
     ensures codes { IfOk result (Codes (known symbols.now.permanent.now.entries
         symbols.now.own.entries) here.old (shown next.entry)) }
-    ensures sound { OnOk result (HasWord (known symbols.now.permanent.now.entries
-        symbols.now.own.entries) here.old next.entry.terms.now next.entry.act) }
     ensures moves { OnOk result (here.new ≡ location_after
         (known symbols.now.permanent.now.entries symbols.now.own.entries) here.old
         next.entry.terms.now next.entry.act) }
-    ensures refused { IfErr result (WordBreaks (known symbols.now.permanent.now.entries
-        symbols.now.own.entries) here.old next.entry.terms.now next.entry.act) }
+    ensures refused { IfErr result (λ code.
+        word_of (known symbols.now.permanent.now.entries symbols.now.own.entries) here.old
+        next.entry.terms.now next.entry.act ≡ Some (Err code)) }
 {
     match next.act {
         Act::Word => {
@@ -115,8 +115,9 @@ fn put<A: Allocator + Copy>(
 ) -> Result<(), Code>
     ensures puts { OnOk result (Puts (known symbols.now.permanent.now.entries
         symbols.now.own.entries) (shown next.entry) image.old here.old image.new here.new) }
-    ensures refused { IfErr result (WordBreaks (known symbols.now.permanent.now.entries
-        symbols.now.own.entries) here.old next.entry.terms.now next.entry.act) }
+    ensures refused { IfErr result (λ code.
+        word_of (known symbols.now.permanent.now.entries symbols.now.own.entries) here.old
+        next.entry.terms.now next.entry.act ≡ Some (Err code)) }
 {
     match code(symbols, next, here)? {
         Some(found) => {
@@ -280,7 +281,7 @@ pub fn assemble<'p, A: Allocator + Copy>(
 /// # Errors
 ///
 /// `Fault` as of [`assemble`]. `NoMemory` where `assemble` has it, and where memory was refused for a
-/// word, which is asked for once all symbols have their values.
+/// word, which is asked for once all symbols have their values, before later words are looked at.
 pub fn assemble_with_words<'p, A: Allocator + Copy>(
     alloc: A,
     permanent: &'p SymbolTable<A>,

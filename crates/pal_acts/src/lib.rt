@@ -2,7 +2,8 @@
 //!
 //! A source is a list of acts, each with its place, in the order in which faults are looked for:
 //! tags, origins, assignments, words, and what is wrong by itself. [`assemble`] gives the one
-//! meaning of such a list, or its one fault. How a text becomes acts is not looked at here.
+//! meaning of such a list, or its one fault; [`assemble_with_words`] gives its words with their places
+//! too. How a text becomes acts is not looked at here.
 #![tactic(auto)]
 
 pub mod act;

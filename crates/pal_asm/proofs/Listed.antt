@@ -1,5 +1,5 @@
 -- The words of a listing stand on its lines.
-use Rattle.std.proofs.Common.{◌≡◌, ap, refl, ℕ, ◌+◌, ◌<◌, ◌≤◌, List, [], ◌∷◌, ◌++◌, arith, Bool, Result, Ok, Err, inl, inr, length, take}
+use Rattle.std.proofs.Common.{◌≡◌, ap, refl, ℕ, ◌+◌, ◌<◌, ◌≤◌, List, [], ◌∷◌, ◌++◌, arith, Bool, Some, Result, Ok, Err, inl, inr, length, take}
 use Rattle.std.specs.Prelude.{reverse}
 use Rattle.std.specs.List.{AllByRecursion}
 use Rattle.std.proofs.lemmas.Bool.{cases_eq}
@@ -19,14 +19,14 @@ use Rattle.pal_acts.specs.declared.code.Code.{Code}
 use Rattle.pal_acts.specs.Acts.{PlacedAct, placed, place}
 use Rattle.pal_acts.specs.Values.{Values, known}
 use Rattle.pal_acts.specs.Meaning.{location}
-use Rattle.pal_acts.specs.Words.{word_value}
+use Rattle.pal_acts.specs.Words.{word_value, word_of}
 use Rattle.pal_asm.specs.declared.number.Radix.{Radix}
 use Rattle.pal_asm.specs.declared.number.Radix.TheVariants.{Octal}
 use Rattle.pal_acts.specs.declared.act.PlacedWord.{PlacedWord}
 use Rattle.pal_asm.specs.Numbers.{base, radix_after}
 use Rattle.pal_asm.specs.Acts.{statement_acts, Does, ends, goes_on}
 use Rattle.pal_asm.specs.Sources.{is_empty, TextLine, text_lines, part_lines, PartDoes, Reads, no_part, broken, last_part, next_part}
-use Rattle.pal_acts.specs.Sources.{word_at_place, and_word, words, all_words}
+use Rattle.pal_acts.specs.Sources.{with_word, words, all_words}
 use Rattle.pal_asm.specs.Listings.{Lists}
 use Rattle.pal_asm.specs.Laws.{IsListed}
 use Rattle.pal_asm.proofs.Climbs.{Marks, part_marks}
@@ -109,11 +109,11 @@ reads_stand n r parts acts lines (next_part m q q' p ps mine more ls c does e h)
 abbrev AllListed : List TextLine → List PlacedWord → Type 0
 AllListed lines ws = AllByRecursion (λ w. IsListed w.place lines) ws
 
-word_listed : (lines : List TextLine) (p : Place) (at : ℕ) (value : Result ℕ Code) (ws : List PlacedWord) → IsListed p lines → AllListed lines ws → AllListed lines (word_at_place p at value ws)
+word_listed : (lines : List TextLine) (p : Place) (at : ℕ) (value : Result ℕ Code) (ws : List PlacedWord) → IsListed p lines → AllListed lines ws → AllListed lines (with_word p at (Some value) ws)
 word_listed lines p at (Ok w) ws h all = (h, all)
 word_listed lines p at (Err c) ws h all = all
 
-and_word_listed : (lines : List TextLine) (σ : Values) (here : ℕ) (p : Place) (e : List Join) (a : Act) (ws : List PlacedWord) → StandsBy lines p a → AllListed lines ws → AllListed lines (and_word σ here p e a ws)
+and_word_listed : (lines : List TextLine) (σ : Values) (here : ℕ) (p : Place) (e : List Join) (a : Act) (ws : List PlacedWord) → StandsBy lines p a → AllListed lines ws → AllListed lines (with_word p here (word_of σ here e a) ws)
 and_word_listed lines σ here p e act.Word ws h all = word_listed lines p here (word_value σ here e) ws h all
 and_word_listed lines σ here p e _ ws h all = all
 

@@ -1,5 +1,5 @@
 -- The words and the lines of parts are in order, so one pass gives each line its words.
-use Rattle.std.proofs.Common.{◌≡◌, ◌∙◌, sym, ap, refl, subst, ℕ, ◌+◌, ◌<◌, List, [], ◌∷◌, ◌++◌, append_assoc, Bool, arith, inl, inr, take, Result, Ok, Err}
+use Rattle.std.proofs.Common.{◌≡◌, ◌∙◌, sym, ap, refl, subst, ℕ, ◌+◌, ◌<◌, List, [], ◌∷◌, ◌++◌, append_assoc, Bool, arith, inl, inr, take, Some, Result, Ok, Err}
 use Rattle.std.specs.Prelude.{reverse, codes}
 use Rattle.std.specs.List.{AllByRecursion}
 use Rattle.std.proofs.lemmas.List.{reverse-append, append-nil}
@@ -18,14 +18,14 @@ use Rattle.pal_acts.specs.declared.code.Code.{Code}
 use Rattle.pal_acts.specs.Acts.{PlacedAct, place}
 use Rattle.pal_acts.specs.Values.{Values, known}
 use Rattle.pal_acts.specs.Meaning.{location}
-use Rattle.pal_acts.specs.Words.{word_value}
+use Rattle.pal_acts.specs.Words.{word_value, word_of}
 use Rattle.pal_asm.specs.declared.number.Radix.{Radix}
 use Rattle.pal_asm.specs.declared.number.Radix.TheVariants.{Octal}
 use Rattle.pal_acts.specs.declared.act.PlacedWord.{PlacedWord}
 use Rattle.pal_asm.specs.Numbers.{base, radix_after}
 use Rattle.pal_asm.specs.Acts.{statement_acts, Does, ends, goes_on}
 use Rattle.pal_asm.specs.Sources.{is_empty, TextLine, text_lines, part_lines, Reads, no_part, broken, last_part, next_part}
-use Rattle.pal_acts.specs.Sources.{word_at_place, and_word, words, all_words}
+use Rattle.pal_acts.specs.Sources.{with_word, words, all_words}
 use Rattle.pal_asm.specs.Listings.{symbols_text, listing, Lists}
 use Rattle.pal_asm.specs.Kept.{turns_text}
 use Rattle.pal_asm.proofs.EachAct.{statement_holds}
@@ -101,11 +101,11 @@ words_higher : (p q : Place) (ws : List PlacedWord) → Upto p q → WordsUpto p
 words_higher p q [] h a = tt
 words_higher p q (w ∷ ws) h a = (upto_trans w.place p q a.0 h, a.1)
 
-word_upto : (p q : Place) (at : ℕ) (value : Result ℕ Code) (ws : List PlacedWord) → Upto q p → WordsUpto q ws → WordsUpto p (word_at_place q at value ws)
+word_upto : (p q : Place) (at : ℕ) (value : Result ℕ Code) (ws : List PlacedWord) → Upto q p → WordsUpto q ws → WordsUpto p (with_word q at (Some value) ws)
 word_upto p q at (Ok w) ws h a = (h, a)
 word_upto p q at (Err c) ws h a = words_higher q p ws h a
 
-and_word_upto : (σ : Values) (here : ℕ) (p q : Place) (e : List Join) (a : Act) (ws : List PlacedWord) → Upto q p → WordsUpto q ws → WordsUpto p (and_word σ here q e a ws)
+and_word_upto : (σ : Values) (here : ℕ) (p q : Place) (e : List Join) (a : Act) (ws : List PlacedWord) → Upto q p → WordsUpto q ws → WordsUpto p (with_word q here (word_of σ here e a) ws)
 and_word_upto σ here p q e act.Word ws h w = word_upto p q here (word_value σ here e) ws h w
 and_word_upto σ here p q e _ ws h w = words_higher q p ws h w
 

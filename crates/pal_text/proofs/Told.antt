@@ -1,5 +1,5 @@
 -- What is said of each outcome of a reading follows from what is known of it.
-use Rattle.std.proofs.Common.{◌≡◌, ◌∙◌, sym, ap, subst, Result, Ok, Err, List, [], ◌∷◌, ◌++◌, ℕ, length, take, drop, arith}
+use Rattle.std.proofs.Common.{◌≡◌, ◌∙◌, sym, ap, refl, subst, inl, inr, ◌⊎◌, Result, Ok, Err, List, [], ◌∷◌, ◌++◌, ℕ, length, take, drop, arith}
 use Rattle.std.proofs.lemmas.List.{take-append-drop, reverse-append}
 use Rattle.std.specs.Prelude.{IfOk, IfErr, MatchResult, reverse}
 use Rattle.std.specs.List.{AllByRecursion}
@@ -11,7 +11,7 @@ use Rattle.pal_text.specs.declared.fault.TextFault.{TextFault}
 use Rattle.pal_text.specs.declared.fault.TextFault.TheVariants.{Illegal, TooLong, NoMemory}
 use Rattle.pal_text.specs.Names.{IsWithin, part_tokens}
 use Rattle.pal_text.specs.Order.{IsOrdered}
-use Rattle.pal_text.specs.Parts.{IsPart, IsIllegal, IsFault, IsSilent, TellsOnly}
+use Rattle.pal_text.specs.Parts.{IsPart, IsIllegal, IsFault}
 use Rattle.pal_text.proofs.Unique.{no_fault, one_line}
 use Rattle.pal_text.proofs.Rises.{later, all_take, part_tokens_within, part_tokens_ordered}
 
@@ -20,16 +20,16 @@ matched (Ok x) P Q F G ok err p f = p x ok
 matched (Err e) P Q F G ok err p f = f e err
 
 -- a part with a reading is refused for its length or for want of memory alone
-pub silent : (source : List ℕ) (tokens : List Token) (ss : List Statement) (lines : List Line) (end : Ending) → IsPart source tokens ss lines end → (e : TextFault) → IsFault source e → IsSilent e
-silent source tokens ss lines end h (Illegal n) f = no_fault source tokens ss lines end n h f
-silent source tokens ss lines end h TooLong f = tt
-silent source tokens ss lines end h NoMemory f = tt
+pub silent : (source : List ℕ) (tokens : List Token) (ss : List Statement) (lines : List Line) (end : Ending) → IsPart source tokens ss lines end → (e : TextFault) → IsFault source e → (e ≡ TooLong) ⊎ (e ≡ NoMemory)
+silent source tokens ss lines end h (Illegal n) f = absurd (no_fault source tokens ss lines end n h f)
+silent source tokens ss lines end h TooLong f = inl refl
+silent source tokens ss lines end h NoMemory f = inr refl
 
 -- and one with a fault names no other line
-pub tells_only : (source : List ℕ) (line : ℕ) → IsIllegal source line → (e : TextFault) → IsFault source e → TellsOnly line e
-tells_only source line h (Illegal n) f = one_line source n line f h
-tells_only source line h TooLong f = tt
-tells_only source line h NoMemory f = tt
+pub tells_only : (source : List ℕ) (line : ℕ) → IsIllegal source line → (e : TextFault) → IsFault source e → (e ≡ Illegal line) ⊎ ((e ≡ TooLong) ⊎ (e ≡ NoMemory))
+tells_only source line h (Illegal n) f = inl (ap Illegal (one_line source n line f h))
+tells_only source line h TooLong f = inr (inl refl)
+tells_only source line h NoMemory f = inr (inr refl)
 
 pub ok_also : {X E : Type 0} (r : Result X E) (P Q : X → Type 0) → IfOk r P → ((x : X) → P x → Q x) → IfOk r Q
 ok_also (Ok x) P Q h f = f x h

@@ -8,7 +8,7 @@ use Rattle.pal_text.specs.declared.lines.Line.{Line}
 use Rattle.pal_text.specs.Grammar.{form_of}
 use Rattle.pal_text.specs.Lines.{all_lines}
 use Rattle.pal_text.specs.Names.{part_tokens}
-use Rattle.pal_text.specs.Parts.{IsPart, IsIllegal, Agrees}
+use Rattle.pal_text.specs.Parts.{IsPart, IsIllegal}
 use Rattle.pal_text.specs.Statements.{Piece, own, Fills, closing, closed, pieces, Stand, ends, goes_on, Breaks, here, later}
 use Rattle.pal_text.proofs.Readings.{one_said}
 
@@ -61,19 +61,14 @@ module _ (tokens : List Token) (size : ℕ) where
   not_both ps ss c n (goes_on p qs s rs c' f e q) (later p' qs' t n' g h r) = not_both qs rs c' n' q r
 
 -- a reading is the only one
-pub agrees : (source : List ℕ) (tokens tokens' : List Token) (ss ss' : List Statement) (lines lines' : List Line) (e e' : Ending) → IsPart source tokens ss lines e → IsPart source tokens' ss' lines' e' → Agrees tokens ss lines e tokens' ss' lines' e'
+pub agrees : (source : List ℕ) (tokens tokens' : List Token) (ss ss' : List Statement) (lines lines' : List Line) (e e' : Ending) → IsPart source tokens ss lines e → IsPart source tokens' ss' lines' e' → (tokens ≡ tokens') × (ss ≡ ss') × (lines ≡ lines') × (e ≡ e')
 agrees source tokens tokens' ss ss' lines lines' e e' h k =
     let same : tokens' ≡ tokens = k.tokens_are ∙ sym h.tokens_are in
     let P : List Token → Type 0 = λ ts. Stand ts (length source) (pieces 0 0 ts) ss' (closed e' k.stop) in
     let r : (ss ≡ ss') × (closed e h.stop ≡ closed e' k.stop) = one_reading tokens (length source) (pieces 0 0 tokens) ss ss' (closed e h.stop) (closed e' k.stop) h.statements_are (subst P same k.statements_are) in
     let stop_in : Close → ℕ = λ c. c.stop in
     let ending_in : Close → Ending = λ c. c.ending in
-    record {
-      tokens_are = sym same;
-      statements_are = r.0;
-      lines_are = h.lines_are ∙ ap (λ n. all_lines (take n source)) (ap stop_in r.1) ∙ sym k.lines_are;
-      ending_is = ap ending_in r.1;
-    }
+    (sym same, r.0, h.lines_are ∙ ap (λ n. all_lines (take n source)) (ap stop_in r.1) ∙ sym k.lines_are, ap ending_in r.1)
 
 -- a part that has a reading has no fault
 pub no_fault : (source : List ℕ) (tokens : List Token) (ss : List Statement) (lines : List Line) (e : Ending) (n : ℕ) → IsPart source tokens ss lines e → IsIllegal source n → ⊥

@@ -12,7 +12,7 @@ use Rattle.pal_text.specs.Characters.{char, line_feed, carriage_return, code, is
 use Rattle.pal_text.specs.Tokens.{is_space, tokens}
 use Rattle.pal_text.specs.Names.{bytes_of, named, part_tokens}
 use Rattle.pal_text.specs.Statements.{is_end, Piece, pieces, Fills}
-use Rattle.pal_text.specs.Parts.{IsPart, IsIllegal, Agrees}
+use Rattle.pal_text.specs.Parts.{IsPart, IsIllegal}
 
 -- A token that stands for itself: no space, whose place counts, and no end of a statement.
 abbrev pub stands_alone : Kind → Bool
@@ -85,7 +85,7 @@ StatementsStay = (front after : List ℕ) → EndsStatement (tokens (reverse fro
 -- Any two readings of a part are the same.
 abbrev pub ReadingIsOne : Type 0
 ReadingIsOne = (source : List ℕ) (tokens tokens' : List Token) (statements statements' : List Statement) (lines lines' : List Line) (ending ending' : Ending)
-    → IsPart source tokens statements lines ending → IsPart source tokens' statements' lines' ending' → Agrees tokens statements lines ending tokens' statements' lines' ending'
+    → IsPart source tokens statements lines ending → IsPart source tokens' statements' lines' ending' → (tokens ≡ tokens') × (statements ≡ statements') × (lines ≡ lines') × (ending ≡ ending')
 
 -- No other line is the first that has a statement without a form.
 abbrev pub IllegalIsOne : Type 0

@@ -28,25 +28,6 @@ abbrev pub past : ℕ → List Statement → ℕ
 past n [] = n
 past n (s ∷ ss) = past (s.last + 1) ss
 
--- Two readings are the same.
-pub record Agrees (tokens : List Token) (statements : List Statement) (lines : List Line) (ending : Ending) (tokens' : List Token) (statements' : List Statement) (lines' : List Line) (ending' : Ending) : Type 0 where
-  pub tokens_are : tokens ≡ tokens'
-  pub statements_are : statements ≡ statements'
-  pub lines_are : lines ≡ lines'
-  pub ending_is : ending ≡ ending'
-
--- A refusal that says nothing of the statements' form.
-abbrev pub IsSilent : TextFault → Type 0
-IsSilent (Illegal n) = ⊥
-IsSilent TooLong = Unit {0}
-IsSilent NoMemory = Unit {0}
-
--- A refusal that names no other line than this.
-abbrev pub TellsOnly : ℕ → TextFault → Type 0
-TellsOnly line (Illegal n) = n ≡ line
-TellsOnly line TooLong = Unit {0}
-TellsOnly line NoMemory = Unit {0}
-
 -- What a refusal of a part that isn't too long says of it.
 abbrev pub IsFault : List ℕ → TextFault → Type 0
 IsFault source (Illegal n) = IsIllegal source n

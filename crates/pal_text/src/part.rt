@@ -1,12 +1,12 @@
 //! A part of a source, read.
 
-ghost use Rattle.std.specs.Prelude.{◌≡◌, ◌≢◌, ◌↔◌, ◌≤◌, ◌<◌, ◌+◌, ◌++◌, ◌∷◌, [], length, reverse, take, slice_range, IfOk, OnOk, OnErr, IfErr, MatchResult, Err, ℕ, List};
+ghost use Rattle.std.specs.Prelude.{◌≡◌, ◌⊎◌, ◌≢◌, ◌↔◌, ◌≤◌, ◌<◌, ◌+◌, ◌++◌, ◌∷◌, [], length, reverse, take, slice_range, IfOk, OnOk, OnErr, IfErr, MatchResult, Err, ℕ, List};
 ghost use Rattle.std.specs.List.{AllByRecursion};
 ghost use Rattle.pal_text.specs.Order.{IsOrdered, IsPlaced, IsLineWithin};
 ghost use Rattle.pal_text.specs.Names.{IsWithin, bytes_of, part_tokens};
 ghost use Rattle.pal_text.specs.ReadParts.{tokens_in, lines_in};
 ghost use Rattle.pal_text.specs.Statements.{closed, pieces, Stand};
-ghost use Rattle.pal_text.specs.Parts.{IsPart, IsIllegal, IsFault, Agrees, IsSilent, TellsOnly, past};
+ghost use Rattle.pal_text.specs.Parts.{IsPart, IsIllegal, IsFault, past};
 ghost use Rattle.pal_text.specs.declared.tokens.Token.{Token as Tokened};
 ghost use Rattle.pal_text.specs.declared.cut.Statement.{Statement as Stated};
 ghost use Rattle.pal_text.specs.declared.cut.Ending.{Ending as Ended};
@@ -166,10 +166,12 @@ pub fn statements<'s, A: Allocator + Copy>(
     ensures too_long { (result ≡ Err TextFault.TooLong) ↔ (65536 < length source.now) }
     ensures part_told { (tokens : List Tokened) (told : List Stated) (lines : List Lined)
         (ending : Ended) → IsPart source.now tokens told lines ending →
-        MatchResult result (λ part. Agrees (tokens_in part) part.statements.items (lines_in part)
-        part.ending tokens told lines ending) IsSilent }
+        MatchResult result (λ part. (tokens_in part ≡ tokens) × (part.statements.items ≡ told) ×
+        (lines_in part ≡ lines) × (part.ending ≡ ending)) (λ fault. (fault ≡ TextFault.TooLong) ⊎
+        (fault ≡ TextFault.NoMemory)) }
     ensures illegal_told { (line : ℕ) → IsIllegal source.now line →
-        MatchResult result (λ _. ⊥) (TellsOnly line) }
+        MatchResult result (λ _. ⊥) (λ fault. (fault ≡ TextFault.Illegal line) ⊎
+        ((fault ≡ TextFault.TooLong) ⊎ (fault ≡ TextFault.NoMemory))) }
     ensures illegal { (line : ℕ) → result ≡ Err (TextFault.Illegal line) →
         IsIllegal source.now line }
 {

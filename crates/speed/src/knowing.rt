@@ -1,4 +1,4 @@
-//! Outcomes of a word and whether they entail a fact, over and over.
+//! OutcomeList of a word and whether they entail a fact, over and over.
 
 use bin_tape::Image;
 use declaration::Declaration;
@@ -18,10 +18,7 @@ fn word(number: usize) -> Word {
 /// Tracks five words of a cell, where there is room.
 fn track(fact: &mut Fact, cell: usize, low: usize) {
     if !fact.is_full_of_cells() {
-        fact.track(
-            word(cell),
-            WordSet::range(word(low), word(low).add(word(4))),
-        );
+        fact.track_row(word(cell), word(low), word(low).add(word(4)));
     }
 }
 

@@ -3,11 +3,14 @@
 //! `speed cpu ROUNDS` runs a loop of ISZ and JMP on the processor alone, `world ROUNDS` runs
 //! it by events, a round being 33,558,529 instructions; `tapes TIMES` writes the fullest image and
 //! reads it back; `facts TIMES` works out the outcome of a TAD a thousand times so often, and asks whether
-//! it entails a fact, with two tracked cells, and `facts64 TIMES` with 64 and 32 equations; these print
-//! what came out, and no times. `tape` writes the tape of that image to standard output. Without words
+//! it entails a fact, with two tracked cells, and `facts64 TIMES` with 64 and 32 equations; `judge TIMES
+//! TAPE DECLARATION` reads a tape and a declaration of so many bytes and a certificate, one after
+//! another from standard input, and judges them so often; these print what came out, and no times.
+//! `tape` writes the tape of that image to standard output. Without words
 //! it does a little of the first three.
 #![tactic(auto)]
 
+mod judging;
 mod knowing;
 
 use bin_tape::{Image, read_tape, write_tape};
@@ -17,7 +20,8 @@ use peripherals::{Event, Panel, Seen, Start, World};
 use processor::{Cpu, Outcome};
 use std::alloc::Allocator;
 use std::{env, io};
-use streams::standard::Writes;
+use streams::read_at_most;
+use streams::standard::{Reads, Writes};
 use testing::memory::MemorySink;
 use word12::Word;
 
@@ -163,6 +167,29 @@ fn time_facts<R: Print + AllocGlobal>(rt: &R, pairs: usize, times: u16) -> anyho
     Ok(())
 }
 
+/// More bytes than a tape, a declaration and a certificate have.
+const MOST_INPUT: usize = 2_000_000;
+
+/// A number among the words of the program; 0 where there is none.
+fn number_at(words: &[String], at: usize) -> anyhow::Result<usize> {
+    match words.get(at) {
+        Some(number) => Ok(number.parse::<usize>()?),
+        None => Ok(0),
+    }
+}
+
+/// Judges what stands on standard input so many times, and prints how often the answer is yes.
+fn time_judge(rt: &HostRuntime, times: u16, words: &[String]) -> anyhow::Result<()> {
+    let mut source = Reads::new(rt.reader());
+    let bytes = read_at_most(rt.alloc(), &mut source, MOST_INPUT)?;
+    let (tape, declaration) = (number_at(words, 3)?, number_at(words, 4)?);
+    match judging::accepted_of(rt.alloc(), &bytes, tape, declaration, times)? {
+        Some(accepted) => println!(rt; "judge times {times} accepted {accepted}")?,
+        None => println!(rt; "judge without so many bytes")?,
+    }
+    Ok(())
+}
+
 fn main(rt: HostRuntime) -> anyhow::Result<()> {
     let words = env::args(&rt)?.collect::<Vec<String>>(rt.alloc())?;
     let number = match words.get(2) {
@@ -175,6 +202,7 @@ fn main(rt: HostRuntime) -> anyhow::Result<()> {
         Some("tapes") => time_tapes(&rt, number),
         Some("facts") => time_facts(&rt, 1, number),
         Some("facts64") => time_facts(&rt, 32, number),
+        Some("judge") => time_judge(&rt, number, &words),
         Some("tape") => put_tape(&rt),
         _ => {
             time_processor(&rt, number)?;

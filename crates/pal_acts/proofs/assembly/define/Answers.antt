@@ -40,11 +40,15 @@ returns-in-Err-Fault-clause-refused g c =
       earlier = reverse (take c.loop-at.at acts);
       next = next;
       later = drop (c.loop-at.at + 1) acts;
-      own = c.loop-at.symbols.own.entries;
       parts = split_at acts c.loop-at.at next within c.get-next.ensures;
-      place_is = refl;
-      defines = c.loop-at.invariant.0;
-      breaks = ap (λ l. fault c.loop-at.symbols.permanent.now.entries 1024 c.loop-at.symbols.own.entries l next.terms next.act) (sym c.loop-at.invariant.1) ∙ e;
+      such = (
+        refl,
+        (
+          c.loop-at.symbols.own.entries,
+          c.loop-at.invariant.0,
+          ap (λ l. fault c.loop-at.symbols.permanent.now.entries 1024 c.loop-at.symbols.own.entries l next.terms next.act) (sym c.loop-at.invariant.1) ∙ e,
+        ),
+      );
     }))
 
 pub returns-in-Err-NoMemory-clause-refused : goal.returns-in-Err-NoMemory-clause-refused
@@ -58,9 +62,11 @@ returns-in-Err-NoMemory-clause-refused g c =
       earlier = reverse (take c.loop-at.at acts);
       next = next;
       later = drop (c.loop-at.at + 1) acts;
-      own = c.loop-at.symbols.own.entries;
       parts = split_at acts c.loop-at.at next within c.get-next.ensures;
-      defines = c.loop-at.invariant.0;
-      sound = ap (λ l. fault c.loop-at.symbols.permanent.now.entries 1024 c.loop-at.symbols.own.entries l next.terms next.act) (sym c.loop-at.invariant.1) ∙ asks.0;
-      grows = ap (λ l. length (after c.loop-at.symbols.permanent.now.entries 1024 c.loop-at.symbols.own.entries l next.terms next.act)) (sym c.loop-at.invariant.1) ∙ asks.1;
+      such = (
+        c.loop-at.symbols.own.entries,
+        c.loop-at.invariant.0,
+        ap (λ l. fault c.loop-at.symbols.permanent.now.entries 1024 c.loop-at.symbols.own.entries l next.terms next.act) (sym c.loop-at.invariant.1) ∙ asks.0,
+        ap (λ l. length (after c.loop-at.symbols.permanent.now.entries 1024 c.loop-at.symbols.own.entries l next.terms next.act)) (sym c.loop-at.invariant.1) ∙ asks.1,
+      );
     })

@@ -1,8 +1,8 @@
-use Rattle.std.proofs.Common.{◌+◌, ◌<◌, refl, subst, arith, take, drop, length, List, ◌++◌}
+use Rattle.std.proofs.Common.{◌≡◌, ◌+◌, ◌<◌, refl, subst, arith, take, drop, length, List, ◌++◌, Some, Err}
 use Rattle.std.specs.Prelude.{reverse}
 use Rattle.pal_acts.specs.Acts.{PlacedAct, shown}
 use Rattle.pal_acts.specs.Values.{Values, in_table}
-use Rattle.pal_acts.specs.Faults.{WordBreaks}
+use Rattle.pal_acts.specs.Words.{word_of}
 use Rattle.pal_acts.proofs.Images.{blank_image}
 use Rattle.pal_acts.proofs.Places.{split_at, turned_more}
 use Rattle.pal_acts.proofs.assembly.encode.Goals as goal
@@ -30,7 +30,5 @@ returns-in-Err-clause-refused g c =
       next = next;
       later = drop (c.loop-at.at + 1) acts;
       parts = split_at acts c.loop-at.at next within c.get-next.ensures;
-      place_is = refl;
-      encodes = c.loop-at.invariant.1;
-      breaks = subst (λ l. WordBreaks σ l next.terms next.act c.in-Err.code) c.loop-at.invariant.2 c.in-Err.ensures.refused;
+      such = (refl, c.loop-at.invariant.1, subst (λ l. word_of σ l next.terms next.act ≡ Some (Err c.in-Err.code)) c.loop-at.invariant.2 c.in-Err.ensures.refused);
     }

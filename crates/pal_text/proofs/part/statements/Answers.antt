@@ -1,12 +1,13 @@
-use Rattle.std.proofs.Common.{◌≡◌, ◌∙◌, ap, ℕ, List, Result, Ok, Err}
+use Rattle.std.proofs.Common.{◌≡◌, ◌⊎◌, ◌∙◌, ap, ℕ, List, Result, Ok, Err}
 use Rattle.std.specs.Prelude.{length, reverse, take, IfOk}
 use Rattle.pal_text.specs.declared.part.Part.{Part}
+use Rattle.pal_text.specs.declared.fault.TextFault.TheVariants.{Illegal, TooLong, NoMemory}
 use Rattle.pal_text.specs.ReadParts.{tokens_in, lines_in}
 use Rattle.std.specs.List.{AllByRecursion}
 use Rattle.pal_text.specs.Names.{IsWithin, part_tokens}
 use Rattle.pal_text.specs.Order.{IsOrdered, IsLineWithin}
 use Rattle.pal_text.proofs.Placed.{lines_within_by}
-use Rattle.pal_text.specs.Parts.{past, IsPart, IsFault, Agrees, IsSilent, TellsOnly}
+use Rattle.pal_text.specs.Parts.{past, IsPart, IsFault}
 use Rattle.pal_text.proofs.Unique.{agrees, no_fault}
 use Rattle.pal_text.proofs.Told.{matched, ok_also, silent, tells_only, within_by, ordered_by}
 use Rattle.pal_text.proofs.part.statements.Goals as goal
@@ -30,14 +31,14 @@ returns-clause-within g c =
 pub returns-clause-part_told : goal.returns-clause-part_told
 returns-clause-part_told g c tokens told lines end k =
     matched c.read_part.result (λ part. IsPart c.args.source.now (tokens_in part) part.statements.items (lines_in part) part.ending)
-    (λ part. Agrees (tokens_in part) part.statements.items (lines_in part) part.ending tokens told lines end) (IsFault c.args.source.now) IsSilent
+    (λ part. (tokens_in part ≡ tokens) × (part.statements.items ≡ told) × (lines_in part ≡ lines) × (part.ending ≡ end)) (IsFault c.args.source.now) (λ e. (e ≡ TooLong) ⊎ (e ≡ NoMemory))
     c.read_part.ensures.part c.read_part.ensures.fault (λ part h. agrees c.args.source.now (tokens_in part) tokens part.statements.items told (lines_in part) lines part.ending end h k)
     (silent c.args.source.now tokens told lines end k)
 
 pub returns-clause-illegal_told : goal.returns-clause-illegal_told
 returns-clause-illegal_told g c line k =
     matched c.read_part.result (λ part. IsPart c.args.source.now (tokens_in part) part.statements.items (lines_in part) part.ending)
-    (λ part. ⊥) (IsFault c.args.source.now) (TellsOnly line)
+    (λ part. ⊥) (IsFault c.args.source.now) (λ e. (e ≡ Illegal line) ⊎ ((e ≡ TooLong) ⊎ (e ≡ NoMemory)))
     c.read_part.ensures.part c.read_part.ensures.fault (λ part h. no_fault c.args.source.now (tokens_in part) part.statements.items (lines_in part) part.ending line h k)
     (tells_only c.args.source.now line k)
 

@@ -11,7 +11,7 @@ use Rattle.certificate.specs.declared.lines.KeptLines.{KeptLines}
 use Rattle.certificate.specs.Reading.{RiseFrom}
 use Rattle.certificate.specs.Line.{Line, RoutineIs, FactIs, ExitIs, CellIs, EquationIs, End}
 use Rattle.certificate.specs.Order.{is_detail, is_end, heads, place, next_place, AreInOrder}
-use Rattle.certificate.specs.Found.{newest_first, starts, from_place, all_said, IsIndexed, HasBetween, Keeps, unended}
+use Rattle.certificate.specs.Found.{newest_first, starts, from_place, all_said, IsIndexed, HasBetween, IsNextPlace, Keeps, unended}
 use Rattle.certificate.proofs.GatherLemmas.{Follow, follows}
 
 pub reversed_more : (before ls : List Line) (l : Line) → newest_first before (ls ++ l ∷ []) ≡ l ∷ newest_first before ls
@@ -262,4 +262,44 @@ between_missed xs places first end i r same is found_by rise =
       ] in
           let u : get_or places i 0 ≤ get_or places h.at 0 = rising places rise i h.at late h.there in
           (let t = h.there in omega arith, let w = h.before in omega arith),
+    )
+
+-- A place that was found is the next one from itself on.
+pub next_found : (xs places : List ℕ) (from i : ℕ) (r : Result ℕ ℕ) → xs ≡ places → r ≡ Ok i →
+    IsBinarySearchResult (λ y. nat_cmp y from) xs r → RiseFrom 0 places → IsNextPlace places from from
+next_found xs places from i r same is found_by rise =
+    let m : MatchResult r (λ i. (i < length xs) × (get_or xs i 0 ≡ from)) (λ i. (i ≤ length xs) × ((k : ℕ) → k < i → get_or xs k 0 < from) × ((k : ℕ) → i ≤ k → k < length xs → from < get_or xs k 0)) =
+    searched xs from r found_by (rising xs (rw same rise)) in
+    let n : (i < length xs) × (get_or xs i 0 ≡ from) = rw is at m in
+    let b : i < length places = rw same at n.0 in
+    let e : get_or places i 0 ≡ from = rw same at n.1 in
+    record {
+      reached = omega arith;
+      there = λ l. record { at = i; there = b; reached = omega arith; before = omega arith };
+      before = λ h. (let x = h.reached in let y = h.before in omega arith);
+    }
+
+-- Where it wasn't found, that of the line at which it would stand is.
+pub next_missed : (xs places : List ℕ) (from i : ℕ) (r : Result ℕ ℕ) → xs ≡ places → r ≡ Err i →
+    IsBinarySearchResult (λ y. nat_cmp y from) xs r → RiseFrom 0 places → from ≤ 40960 →
+    (i < length places → IsNextPlace places from (get_or places i 0)) × (length places ≤ i → IsNextPlace places from 40960)
+next_missed xs places from i r same is found_by rise small =
+    let m : MatchResult r (λ i. (i < length xs) × (get_or xs i 0 ≡ from)) (λ i. (i ≤ length xs) × ((k : ℕ) → k < i → get_or xs k 0 < from) × ((k : ℕ) → i ≤ k → k < length xs → from < get_or xs k 0)) =
+    searched xs from r found_by (rising xs (rw same rise)) in
+    let n : (i ≤ length xs) × ((k : ℕ) → k < i → get_or xs k 0 < from) × ((k : ℕ) → i ≤ k → k < length xs → from < get_or xs k 0) = rw is at m in
+    let late : (k : ℕ) → from ≤ get_or places k 0 → k < length places → i ≤ k = λ k h b. elim (cases_lt k i) [
+      | inl a ↦ absurd (let z : get_or places k 0 < from = rw same at (n.1 k a) in omega arith)
+      | inr a ↦ a
+    ] in (
+      λ b. record {
+        reached = (let z : from < get_or places i 0 = rw same at (n.2 i (omega arith) (rw same b)) in omega arith);
+        there = λ l. record { at = i; there = b; reached = omega arith; before = omega arith };
+        before = λ h. (let z : get_or places i 0 ≤ get_or places h.at 0 = rising places rise i h.at (late h.at h.reached h.there) h.there in
+            let y = h.before in omega arith);
+      },
+      λ b. record {
+        reached = small;
+        there = λ l. absurd (omega arith);
+        before = λ h. (let z = late h.at h.reached h.there in let y = h.there in omega arith);
+      },
     )

@@ -34,3 +34,7 @@ place_of image d c r = record { image = image; declaration = d; routine = r; sit
 -- A routine of this entry is listed, or it's said what holds when it returns by some offset.
 abbrev pub names_routine : Certificate → ℕ → Bool
 names_routine c e = c.listed e || some_below 8 (c.has_exit e)
+
+-- The addresses at which something is claimed: those of facts, and the entries of the routines that are named.
+abbrev pub claimed : Certificate → Words
+claimed c a = c.listed a || (c.has_fact a || some_below 8 (c.has_exit a))

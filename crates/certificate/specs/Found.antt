@@ -42,6 +42,12 @@ pub record HasBetween (places : List ℕ) (first end : ℕ) : Type 0 where
   pub reached : first ≤ get_or places at 0
   pub before : get_or places at 0 < end
 
+-- The number is the least of these places from another one on, or past all places of lines where there is none.
+pub record IsNextPlace (places : List ℕ) (from next : ℕ) : Type 0 where
+  pub reached : from ≤ next
+  pub there : next < 40960 → HasBetween places next (next + 1)
+  pub before : HasBetween places from next → ⊥
+
 -- The lines that are kept.
 abbrev pub all_said : {A : Type 0} → KeptLines A → List Line
 all_said k = said_lines k.lines

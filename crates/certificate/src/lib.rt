@@ -1,20 +1,20 @@
 //! Certificates: the claims about a program that a checker tests, and their spelling as text.
 #![tactic(auto)]
 
-ghost use Rattle.std.specs.Prelude.{ℕ, ◌≡◌, ◌<◌, ◌⊎◌, true, false, is_some, is_err, Err, Some, IfSome, IfOk, IfErr, IsErrAnd, OnOk, OnErr};
+ghost use Rattle.std.specs.Prelude.{ℕ, ◌≡◌, ◌<◌, ◌⊎◌, true, false, is_some, is_err, Err, Some, IfSome, IfOk, IfErr, IsErrAnd, OnOk, OnErr, MatchOption};
 ghost use Rattle.std.specs.Io.KnownBytes.{Appends};
 ghost use Rattle.streams.specs.Bytes.{AppendsFront};
 ghost use Rattle.certificate.specs.declared.Version.{Version as Spelled};
 ghost use Rattle.certificate.specs.declared.CertificateFault.{CertificateFault as Fault};
 ghost use Rattle.certificate.specs.declared.CertificateFault.TheVariants as faults;
 ghost use Rattle.certificate.specs.Faults.{IsText, HasFault, AsksForMemory};
-ghost use Rattle.wordset.specs.Words.{everything};
+ghost use Rattle.wordset.specs.Words.{everything, HasNoneFrom, IsFirstFrom};
 ghost use Rattle.wordset.specs.Lanes.{words};
 ghost use Rattle.facts.specs.Changes.{with_offsets};
 ghost use Rattle.facts.specs.Meaning.{statement_of, meaning as fact_meaning};
 ghost use Rattle.certificate.specs.Spelling.{fact_text_at, text};
 ghost use Rattle.certificate.specs.Reading.{AreLines, statement_in, exit_statement_in};
-ghost use Rattle.certificate.specs.Certificate.{names_routine};
+ghost use Rattle.certificate.specs.Certificate.{names_routine, claimed};
 ghost use Rattle.certificate.specs.Kept.{meaning, claims};
 ghost use Rattle.certificate.specs.Sample.{SampleLaw};
 ghost use Rattle.certificate.specs.Line.{TextLaw};
@@ -193,6 +193,27 @@ impl<A: Allocator> Certificate<A> {
         let routine = entry.index();
         let exits = FIRST_EXIT + 8 * routine;
         self.kept.has_between(routine, routine + 1) || self.kept.has_between(exits, exits + 8)
+    }
+
+    /// The least address from a number on at which something is claimed: that of a fact, or the entry
+    /// of a routine that is named.
+    pub fn next_claimed(&self, from: usize) -> Option<Word>
+        ensures { MatchOption result
+            (HasNoneFrom from (claimed (claims self.now)))
+            (λ w. IsFirstFrom from (claimed (claims self.now)) w) }
+    {
+        if from >= 4096 {
+            return None;
+        }
+        let routine = self.kept.next_place(from);
+        let fact = self.kept.next_place(FIRST_FACT + from) - FIRST_FACT;
+        let exit = (self.kept.next_place(FIRST_EXIT + 8 * from) - FIRST_EXIT) / 8;
+        let least = routine.min(fact).min(exit);
+        if least < 4096 {
+            Some(Word::from_index(least))
+        } else {
+            None
+        }
     }
 
     /// The fact at an address, if there is one.

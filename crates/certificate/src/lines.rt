@@ -13,13 +13,13 @@ ghost use Rattle.certificate.specs.Detail.{said_detail};
 ghost use Rattle.certificate.specs.Adding.{HasRoomUnder};
 ghost use Rattle.certificate.specs.Meaning.{said};
 ghost use Rattle.certificate.specs.Packed.{Begins, said_lines};
-ghost use Rattle.certificate.specs.Found.{from_place, all_said, Keeps, unended, Extends, HasMore, IsIndexed, HasBetween, FitUnderFirst, with_details, IsRoutineOf, begins_routine, begins_fact, begins_exit, first_fact, first_exit, fact_statement, exit_statement, SaysFirst};
+ghost use Rattle.certificate.specs.Found.{from_place, all_said, Keeps, unended, Extends, HasMore, IsIndexed, HasBetween, IsNextPlace, FitUnderFirst, with_details, IsRoutineOf, begins_routine, begins_fact, begins_exit, first_fact, first_exit, fact_statement, exit_statement, SaysFirst};
 
 use crate::Routine;
 use crate::details::Detail;
 use crate::line::Line;
 use crate::packed::PackedLines;
-use crate::progress::{is_detail, is_end, place_of};
+use crate::progress::{LAST_PLACE, is_detail, is_end, place_of};
 use facts::{Equation, Fact, TrackedCells};
 use std::alloc::{AllocError, Allocator};
 
@@ -146,6 +146,24 @@ impl<A: Allocator> KeptLines<A> {
         match self.places.binary_search(&(first as u32)) {
             Ok(_) => first < end,
             Err(at) => at < self.places.len() && (self.places[at] as usize) < end,
+        }
+    }
+
+    /// The least place of a line from a number on, or that of the end, which isn't kept.
+    pub fn next_place(&self, from: usize) -> usize
+        requires order { RiseFrom 0 self.now.places.items }
+        requires small { from ≤ 40960 }
+        ensures { IsNextPlace self.now.places.items from result }
+    {
+        match self.places.binary_search(&(from as u32)) {
+            Ok(_) => from,
+            Err(at) => {
+                if at < self.places.len() {
+                    self.places[at] as usize
+                } else {
+                    LAST_PLACE
+                }
+            }
         }
     }
 }

@@ -20,6 +20,9 @@ pub const FIRST_FACT: usize = 4096;
 /// The place of an exit of 0000 by the offset 0.
 pub const FIRST_EXIT: usize = 8192;
 
+/// The place of the end.
+pub const LAST_PLACE: usize = 40960;
+
 /// What is kept of the lines that were read.
 #[derive(Clone, Copy)]
 pub struct Progress {
@@ -57,7 +60,7 @@ pub fn place_of(line: &Line) -> usize
         Line::Exit(entry, offset, _) => { FIRST_EXIT + 8 * entry.index() + usize::from(*offset) }
         Line::Cell(tracked) => tracked.cell.index(),
         Line::Equation(equation) => 4096 + place_of_equation(equation),
-        Line::End => 40960,
+        Line::End => LAST_PLACE,
     }
 }
 

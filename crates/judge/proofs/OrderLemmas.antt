@@ -1,7 +1,9 @@
 -- The order of the conditions, and what holds when those at all addresses do.
-use Rattle.std.proofs.Common.{◌≡◌, ℕ, ◌+◌, ◌*◌, ◌<◌, ◌≤◌, false, ◌⊎◌, refl, sym, ap, subst, inl, inr, arith, lit≤, lit<}
+use Rattle.std.proofs.Common.{◌≡◌, ℕ, ◌+◌, ◌*◌, ◌<◌, ◌≤◌, false, ◌⊎◌, refl, sym, ap, ◌∙◌, subst, inl, inr, arith, lit≤, lit<}
 use Rattle.std.specs.Prelude.{if◌then◌else◌}
-use Rattle.std.proofs.lemmas.Bool.{cases_order}
+use Rattle.std.proofs.lemmas.Bool.{cases_order, cases_lt, true≢false}
+use Rattle.wordset.specs.Words.{IsFirstFrom, HasNoneFrom}
+use Rattle.certificate.specs.Certificate.{claimed}
 use Rattle.facts.specs.declared.Condition.{Condition}
 use Rattle.facts.specs.declared.Condition.TheVariants.{V1, V2}
 use Rattle.judge.specs.Conditions.{Case, HoldsAt, StartsWell, IsLine, IsAsked, IsAskedAs, IsValid, IsFirst, is_first_condition, place_among, order}
@@ -42,24 +44,24 @@ at_line : (j : Case) (v : Condition) (a : ℕ) → IsLater v → IsAsked j v a �
 at_line j v a l asked = subst (λ b. IsAskedAs b j a) l.later asked
 
 -- all conditions hold
-pub is_valid : (j : Case) → StartsWell j j.declaration.start → ((a : ℕ) → a < 4096 → HoldsBetween j 1 15 a) → IsValid j
+pub is_valid : (j : Case) → StartsWell j j.declaration.start → ((a : ℕ) → a < 4096 → IsLine j a → HoldsBetween j 1 15 a) → IsValid j
 is_valid j s h v a asked = elim (start_or_later v) [
   | inl e ↦ at_start j v a s e asked
-  | inr l ↦ h a (at_line j v a l asked).0 v l.low l.high
+  | inr l ↦ (let line = at_line j v a l asked in h a line.0 line.1 v l.low l.high)
 ]
 
 pub order_of : (v : Condition) (a : ℕ) → IsLater v → order v a ≡ 16 * a + place_among v
 order_of v a l = ap (λ b. if b then 0 else 16 * a + place_among v) l.later
 
 -- the first that fails, at an address of a line
-earlier : (j : Case) (a b : ℕ) (v u : Condition) → ((c : ℕ) → c < a → HoldsBetween j 1 15 c) → FailsFirst j 1 a v → IsLater u → place_among v < 15 →
-    16 * b + place_among u < 16 * a + place_among v → HoldsAt j u b
-earlier j a b v u h f l high lt = elim (cases_order b a) [
+earlier : (j : Case) (a b : ℕ) (v u : Condition) → ((c : ℕ) → c < a → IsLine j c → HoldsBetween j 1 15 c) → FailsFirst j 1 a v → IsLater u → place_among v < 15 →
+    IsLine j b → 16 * b + place_among u < 16 * a + place_among v → HoldsAt j u b
+earlier j a b v u h f l high line lt = elim (cases_order b a) [
   | inl e ↦ (let q : place_among u < place_among v = omega arith in subst (λ c. HoldsAt j u c) (sym e) (f.before u l.low q))
-  | inr o ↦ elim o [ inl less ↦ h b less u l.low l.high | inr more ↦ absurd (let low : 1 ≤ place_among u = l.low in omega arith) ]
+  | inr o ↦ elim o [ inl less ↦ h b less line u l.low l.high | inr more ↦ absurd (let low : 1 ≤ place_among u = l.low in omega arith) ]
 ]
 
-pub first_at : (j : Case) (v : Condition) (a : ℕ) → StartsWell j j.declaration.start → a < 4096 → ((b : ℕ) → b < a → HoldsBetween j 1 15 b) → FailsAtLine j a v → IsFirst j v a
+pub first_at : (j : Case) (v : Condition) (a : ℕ) → StartsWell j j.declaration.start → a < 4096 → ((b : ℕ) → b < a → IsLine j b → HoldsBetween j 1 15 b) → FailsAtLine j a v → IsFirst j v a
 first_at j v a s lt h f =
     let l : IsLater v = is_later v f.first.past in
     record {
@@ -68,7 +70,7 @@ first_at j v a s lt h f =
       before = λ u b asked less. elim (start_or_later u) [
         | inl e ↦ at_start j u b s e asked
         | inr k ↦ (let q : 16 * b + place_among u < 16 * a + place_among v = subst (λ n. n < 16 * a + place_among v) (order_of u b k) (subst (λ n. order u b < n) (order_of v a l) less) in
-            earlier j a b v u h f.first k l.high q)
+            earlier j a b v u h f.first k l.high (at_line j u b k asked).1 q)
       ];
     }
 
@@ -79,3 +81,19 @@ first_at_start j h = record {
   fails = h;
   before = λ u b asked less. absurd (omega arith);
 }
+
+-- addresses up to the next at which something is claimed, where those before a number are known
+pub before : (j : Case) (n w : ℕ) → IsFirstFrom n (claimed j.certificate) w → ((a : ℕ) → a < n → IsLine j a → HoldsBetween j 1 15 a) →
+    (a : ℕ) → a < w → IsLine j a → HoldsBetween j 1 15 a
+before j n w first h a under line = elim (cases_lt a n) [
+  | inl l ↦ h a l line
+  | inr g ↦ absurd (true≢false (sym line ∙ first.before a g under))
+]
+
+-- and all addresses, where nothing is claimed any more
+pub all_hold : (j : Case) (n : ℕ) → HasNoneFrom n (claimed j.certificate) → ((a : ℕ) → a < n → IsLine j a → HoldsBetween j 1 15 a) →
+    (a : ℕ) → a < 4096 → IsLine j a → HoldsBetween j 1 15 a
+all_hold j n none h a small line = elim (cases_lt a n) [
+  | inl l ↦ h a l line
+  | inr g ↦ absurd (true≢false (sym line ∙ none a g small))
+]

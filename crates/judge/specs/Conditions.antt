@@ -11,7 +11,7 @@ use Rattle.facts.specs.Changes.{with_offsets}
 use Rattle.facts.specs.Outcomes.{Outcome, Goes, CallsTo, Returns, outcomes_of, targets}
 use Rattle.facts.specs.Conditions.{WritesAreDeclared, EntriesAreKept, WritesAreListed, ReadsAreListed}
 use Rattle.facts.specs.Starts.{HoldsOfStarts}
-use Rattle.certificate.specs.Certificate.{Certificate, writes_of, place_of}
+use Rattle.certificate.specs.Certificate.{Certificate, writes_of, place_of, claimed}
 use Rattle.facts.specs.declared.Condition.{Condition}
 use Rattle.facts.specs.declared.Condition.TheVariants.{V1, V2, V3, V4, V5, V6, V7, V8, V9, V10, V11, V12, V13, V14, V15}
 
@@ -170,8 +170,7 @@ HoldsAt j V15 a = HoldsForEach j V15 a
 
 -- A routine, fact or exit line of the certificate has the address.
 abbrev pub IsLine : Case → ℕ → Type 0
-IsLine j a =
-    (j.certificate.listed a || (j.certificate.has_fact a || some_below 8 (j.certificate.has_exit a))) ≡ true
+IsLine j a = claimed j.certificate a ≡ true
 
 -- The condition on the start.
 abbrev pub is_first_condition : Condition → Bool

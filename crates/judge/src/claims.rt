@@ -1,12 +1,12 @@
 //! What the checker asks of a certificate.
 
-ghost use Rattle.std.specs.Prelude.{ℕ, ◌≡◌, ◌<◌, true, false, is_some, IfSome, IfNone};
-ghost use Rattle.wordset.specs.Words.{everything, nothing};
+ghost use Rattle.std.specs.Prelude.{ℕ, ◌≡◌, ◌<◌, true, false, is_some, IfSome, IfNone, MatchOption};
+ghost use Rattle.wordset.specs.Words.{everything, nothing, HasNoneFrom, IsFirstFrom};
 ghost use Rattle.wordset.specs.Lanes.{words};
 ghost use Rattle.facts.specs.Changes.{with_offsets};
 ghost use Rattle.facts.specs.Meaning.{meaning};
 ghost use Rattle.certificate.specs.Certificate as said;
-ghost use Rattle.certificate.specs.Certificate.{names_routine};
+ghost use Rattle.certificate.specs.Certificate.{names_routine, claimed};
 ghost use Rattle.certificate.specs.Kept.{claims};
 
 use certificate::{Certificate, Routine};
@@ -35,6 +35,13 @@ pub trait Claims {
     fn names(&self, entry: Word) -> bool
         ensures { result ≡ names_routine (claims self.now) entry };
 
+    /// The least address from a number on at which something is claimed: that of a fact, or the entry
+    /// of a routine that is named.
+    fn next_claimed(&self, from: usize) -> Option<Word>
+        ensures { MatchOption result
+            (HasNoneFrom from (claimed (claims self.now)))
+            (λ w. IsFirstFrom from (claimed (claims self.now)) w) };
+
     /// Whether there is a fact at an address, which the lent one then says; else it's left as it is. A
     /// fact has some 35,000 bytes, so none is made for each question.
     fn fact_into(&self, at: Word, fact: &mut Fact) -> bool
@@ -61,6 +68,10 @@ impl<A: Allocator> Claims for Certificate<A> {
 
     fn names(&self, entry: Word) -> bool {
         self.names(entry)
+    }
+
+    fn next_claimed(&self, from: usize) -> Option<Word> {
+        self.next_claimed(from)
     }
 
     fn fact_into(&self, at: Word, fact: &mut Fact) -> bool {

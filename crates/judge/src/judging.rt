@@ -60,11 +60,12 @@ pub fn judge<A: Allocator, C: Claims>(
             address: declaration.start(),
         });
     }
-    for at in 0..4096usize {
-        let address = Word::from_index(at);
+    let mut next = 0usize;
+    while let Some(address) = claims.next_claimed(next) {
         if let Err(condition) = case.check_at(address, &mut desk) {
             return Err(Refusal { condition, address });
         }
+        next = address.index() + 1;
     }
     Ok(())
 }

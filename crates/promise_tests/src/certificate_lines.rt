@@ -57,6 +57,18 @@ fn facts_are_read(rt: HostRuntime) -> Result<(), Fail> {
 }
 
 #[test]
+fn claims_are_found(rt: HostRuntime) -> Result<(), Fail> {
+    let certificate = Certificate::parse(rt.alloc(), TEXT)?;
+    assert!(rt; certificate.names(word(0o214)?));
+    assert!(rt; !certificate.names(word(0o206)?));
+    assert_eq!(rt; certificate.next_claimed(0), Some(word(0o206)?));
+    assert_eq!(rt; certificate.next_claimed(0o207), Some(word(0o214)?));
+    assert_eq!(rt; certificate.next_claimed(0o215), Some(word(0o215)?));
+    assert!(rt; certificate.next_claimed(0o216).is_none());
+    Ok(())
+}
+
+#[test]
 fn exits_are_read(rt: HostRuntime) -> Result<(), Fail> {
     let certificate = Certificate::parse(rt.alloc(), TEXT)?;
     let first = certificate.exit(word(0o214)?, 1).ok_or("no exit")?;

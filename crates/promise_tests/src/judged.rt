@@ -66,6 +66,14 @@ impl Claims for OneFact {
         false
     }
 
+    fn next_claimed(&self, from: usize) -> Option<Word> {
+        if from <= self.at.index() {
+            Some(self.at)
+        } else {
+            None
+        }
+    }
+
     fn fact_into(&self, at: Word, fact: &mut Fact) -> bool {
         if at == self.at {
             *fact = known(self.links, self.offsets);

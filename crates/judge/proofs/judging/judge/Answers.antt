@@ -17,24 +17,24 @@ returns-then-not-starts_well-clause-exact g c =
 pub returns-in-Err-clause-exact : goal.returns-in-Err-clause-exact
 returns-in-Err-clause-exact g c =
     let j : Case = judged c.args.image.now c.args.declaration.now (g.C.Claims.claims c.args.claims.now) in
-    subst (λ a. IsFirst j c.in-Err.condition a) (sym c.from_index-address.ensures)
-    (first_at j c.in-Err.condition c.loop-at.at (c.starts_well.ensures.starts.0 c.if-not-starts_well.false) c.loop-at-test.true c.loop-at.invariant.0
-    (subst (λ a. FailsAtLine j a c.in-Err.condition) c.from_index-address.ensures c.in-Err.ensures.checked))
+    first_at j c.in-Err.condition c.in-Some.address (c.starts_well.ensures.starts.0 c.if-not-starts_well.false) c.in-Some.ensures.small
+    (λ b under line. before j c.loop-address.next c.in-Some.address c.in-Some.ensures c.loop-address.invariant.0 b under line)
+    c.in-Err.ensures.checked
 
-pub loop-at-preserved : goal.loop-at-preserved
-loop-at-preserved g c =
+pub loop-address-preserved : goal.loop-address-preserved
+loop-address-preserved g c =
     let j : Case = judged c.args.image.now c.args.declaration.now (g.C.Claims.claims c.args.claims.now) in
-    (below_more (λ a. HoldsBetween j 1 15 a) _ c.loop-at.invariant.0 (subst (λ a. HoldsBetween j 1 15 a) c.from_index-address.ensures c.in_default.ensures.checked), c.check_at.ensures.desk)
+    (one_more (λ a. HoldsBetween j 1 15 a) (claimed j.certificate) _ c.in-Some.ensures c.index-next.ensures.same c.in_default.ensures.checked c.loop-address.invariant.0, c.check_at.ensures.desk)
 
 pub returns-clause-exact : goal.returns-clause-exact
 returns-clause-exact g c =
     let j : Case = judged c.args.image.now c.args.declaration.now (g.C.Claims.claims c.args.claims.now) in
-    is_valid j (c.starts_well.ensures.starts.0 c.if-not-starts_well.false) (λ a lt. c.loop-at.invariant.0 a (omega arith))
+    is_valid j (c.starts_well.ensures.starts.0 c.if-not-starts_well.false) (all_hold j c.loop-address.next c.in-None.ensures c.loop-address.invariant.0)
 
 pub returns-clause-safe : goal.returns-clause-safe
 returns-clause-safe g c =
     let j : Case = judged c.args.image.now c.args.declaration.now (g.C.Claims.claims c.args.claims.now) in
-    let valid : IsValid j = is_valid j (c.starts_well.ensures.starts.0 c.if-not-starts_well.false) (λ a lt. c.loop-at.invariant.0 a (omega arith)) in
+    let valid : IsValid j = is_valid j (c.starts_well.ensures.starts.0 c.if-not-starts_well.false) (all_hold j c.loop-address.next c.in-None.ensures c.loop-address.invariant.0) in
     record { runs = runs_are_safe j c.is_declared.ensures valid; events = events_are_safe j c.is_declared.ensures valid }
 
 pub starts_well-requires : goal.starts_well-requires

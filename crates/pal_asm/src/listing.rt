@@ -120,7 +120,7 @@ fn push_words<'w, A: Allocator>(
 fn is_dropped(byte: u8) -> bool
     ensures { result ≡ is_no_text byte }
 {
-    let code = byte % 128;
+    let code = byte % 0o200;
     !is_character_code(code) || code == b' ' || code == b'\t'
 }
 
@@ -144,7 +144,7 @@ fn push_characters<A: Allocator>(text: &mut Vec<u8, A>, bytes: &[u8]) -> Result<
     ensures { OnOk result (text.new.items ≡ text.old.items ++ characters bytes.now) }
 {
     for byte in bytes {
-        let code = *byte % 128;
+        let code = *byte % 0o200;
         if is_character_code(code) {
             text.push(code)?;
         }

@@ -1,7 +1,7 @@
 //! Numbers as they are written.
 
 ghost use Rattle.std.specs.Prelude.{◌≡◌, ◌≤◌, ◌<◌, ◌+◌, ◌-◌, ◌*◌, if◌then◌else◌, nat_lt, Some, None, IfSome};
-ghost use Rattle.pal_text.specs.Characters.{characters};
+ghost use Rattle.pal_text.specs.Characters.{char, characters};
 ghost use Rattle.pal_asm.specs.Numbers.{base, radix_after, is_digit_of, number};
 
 use pal_acts::Code;
@@ -57,7 +57,7 @@ fn with_digit(base: u16, value: u16, digit: u16) -> u16
 
 /// What a character is worth as a digit of this base; nothing where it is none.
 fn digit_of(base: u16, code: u8) -> Option<u16>
-    ensures digit { result ≡ (if is_digit_of base code then Some (code - 48) else None) }
+    ensures digit { result ≡ (if is_digit_of base code then Some (code - char "0") else None) }
     ensures small { IfSome result (λ digit. digit < base) }
 {
     if code < b'0' {
@@ -79,7 +79,7 @@ pub(crate) fn number_of(radix: Radix, bytes: &[u8]) -> Result<Word, Code>
     let base = radix.base();
     let mut value = 0;
     for byte in bytes {
-        let code = *byte % 128;
+        let code = *byte % 0o200;
         if is_character_code(code) {
             match digit_of(base, code) {
                 Some(digit) => value = with_digit(base, value, digit),

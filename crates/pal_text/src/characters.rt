@@ -3,6 +3,13 @@
 ghost use Rattle.std.specs.Prelude.{◌≡◌};
 ghost use Rattle.pal_text.specs.Characters.{meaning, returned_by, is_character};
 
+/// The ignored codes that have no sign of their own.
+pub(crate) const NULL: u8 = 0;
+
+pub(crate) const FORM_FEED: u8 = 0o14;
+
+pub(crate) const RUBOUT: u8 = 0o177;
+
 /// What a byte is, after those before it.
 #[derive(Clone, Copy, PartialEq, Eq, Debug)]
 pub enum Meaning {
@@ -19,15 +26,15 @@ pub enum Meaning {
 pub(crate) fn meaning_of(returned: bool, byte: u8) -> Meaning
     ensures { result ≡ meaning returned byte }
 {
-    match byte % 128 {
-        0 | 12 | 127 => Meaning::Ignored,
-        13 => Meaning::LineEnd,
-        10 => if returned {
+    match byte % 0o200 {
+        NULL | FORM_FEED | RUBOUT => Meaning::Ignored,
+        b'\r' => Meaning::LineEnd,
+        b'\n' => if returned {
             Meaning::Ignored
         } else {
             Meaning::LineEnd
         },
-        9 => Meaning::Character(32),
+        b'\t' => Meaning::Character(b' '),
         code => Meaning::Character(code),
     }
 }
@@ -37,9 +44,9 @@ pub(crate) fn meaning_of(returned: bool, byte: u8) -> Meaning
 pub(crate) fn returned_after(returned: bool, byte: u8) -> bool
     ensures { result ≡ returned_by returned byte }
 {
-    match byte % 128 {
-        13 => true,
-        0 | 10 | 12 | 127 => returned,
+    match byte % 0o200 {
+        b'\r' => true,
+        NULL | b'\n' | FORM_FEED | RUBOUT => returned,
         _ => false,
     }
 }
@@ -48,5 +55,5 @@ pub(crate) fn returned_after(returned: bool, byte: u8) -> bool
 pub fn is_character_code(code: u8) -> bool
     ensures { result ≡ is_character code }
 {
-    !matches!(code, 0 | 10 | 12 | 13 | 127)
+    !matches!(code, NULL | b'\n' | FORM_FEED | b'\r' | RUBOUT)
 }

@@ -49,7 +49,7 @@ impl Name {
         let mut letters = [b' '; 6];
         let mut count = 0;
         for byte in bytes {
-            let code = *byte % 128;
+            let code = *byte % 0o200;
             if count < 6 && is_character_code(code) {
                 letters[count] = code;
                 count += 1;
@@ -86,7 +86,7 @@ fn symbol_kind(bytes: &[u8]) -> Kind
     ensures { result ≡ named_kind (name bytes.now) }
 {
     match bytes {
-        [first, ..] if begins_no_direction(*first % 128) => Kind::Symbol,
+        [first, ..] if begins_no_direction(*first % 0o200) => Kind::Symbol,
         _ => Name::new(bytes).kind(),
     }
 }

@@ -9,6 +9,7 @@ ghost use Rattle.pal_text.specs.Characters.{code, line, returned, in_comment};
 ghost use Rattle.pal_text.specs.Readers.{HasToken};
 ghost use Rattle.pal_text.specs.Scan.{trimmed, mark, next_place, brings, is_line_code, mark_kind, line_past, front, IsStop, IsQuiet, IsOutside, IsPlaceIn, IsOwn, is_word, IsRun, IsOnward};
 
+use crate::characters::{FORM_FEED, NULL, RUBOUT};
 use crate::tokens::{Kind, Token, add, is_a_space, kind_for};
 use std::alloc::{AllocError, Allocator};
 
@@ -61,12 +62,12 @@ fn brought(code: u8) -> Brings
         return Brings::One(Kind::Symbol);
     }
     match code {
-        0 | 12 | 127 => Brings::Nothing,
-        13 | b';' | b'$' => Brings::End,
-        10 => Brings::Feed,
+        NULL | FORM_FEED | RUBOUT => Brings::Nothing,
+        b'\r' | b';' | b'$' => Brings::End,
+        b'\n' => Brings::Feed,
         b'/' => Brings::Comment,
         b'0'..=b'9' => Brings::One(Kind::Number),
-        9 | b' ' => Brings::One(Kind::Space),
+        b'\t' | b' ' => Brings::One(Kind::Space),
         b'.' => Brings::One(Kind::Here),
         b',' => Brings::One(Kind::Comma),
         b'=' => Brings::One(Kind::Equals),
@@ -81,7 +82,7 @@ fn brought(code: u8) -> Brings
 fn is_line_end(code: u8) -> bool
     ensures { result ≡ is_line_code code }
 {
-    matches!(code, 10 | 13)
+    matches!(code, b'\r' | b'\n')
 }
 
 /// Where a comment ends: the next line end, or the end of the part.
@@ -93,7 +94,7 @@ fn comment_end(source: &[u8], from: usize) -> usize
     ensures stop { IsStop source.now result }
 {
     let mut at = from;
-    while at < source.len() && !is_line_end(source[at] % 128) {
+    while at < source.len() && !is_line_end(source[at] % 0o200) {
         at += 1;
     }
     at
@@ -129,7 +130,7 @@ fn run_on(source: &[u8], kind: Kind, end: usize, from: usize) -> Run
         at: from,
     };
     while run.at < source.len() {
-        match brought(source[run.at] % 128) {
+        match brought(source[run.at] % 0o200) {
             Brings::One(Kind::Symbol) => {
                 run.kind = with_letter(run.kind);
                 run.end = run.at + 1;
@@ -183,7 +184,7 @@ pub(crate) fn read_own<A: Allocator>(
     let mut returned = place.returned;
     let mut at = place.at;
     while at < source.len() {
-        match brought(source[at] % 128) {
+        match brought(source[at] % 0o200) {
             Brings::Nothing => at += 1,
             Brings::Feed => {
                 if !returned {
@@ -232,7 +233,7 @@ pub(crate) fn mark_at(source: &[u8], line: usize, at: usize) -> Token
             end: at,
         };
     }
-    let code = source[at] % 128;
+    let code = source[at] % 0o200;
     let kind = if is_line_end(code) {
         Kind::End
     } else {
@@ -252,10 +253,10 @@ pub(crate) fn place_after(source: &[u8], line: usize, at: usize) -> Place
     requires small { line ≤ 65536 + 1 }
     ensures { result ≡ next_place source.now line at }
 {
-    let code = source[at] % 128;
+    let code = source[at] % 0o200;
     Place {
         at: at + 1,
         line: if is_line_end(code) { line + 1 } else { line },
-        returned: code == 13,
+        returned: code == b'\r',
     }
 }

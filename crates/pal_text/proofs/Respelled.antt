@@ -1,6 +1,6 @@
 -- The bytes of a token, read as a part of their own, are that token again. Lists have the newest first.
 use Rattle.std.proofs.Common.{◌≡◌, ◌∙◌, sym, ap, refl, subst, ℕ, ◌+◌, ◌-◌, List, [], ◌∷◌, ◌++◌, Bool, true, false, ◌||◌, ◌&&◌, if◌then◌else◌, Option, Some, None, inl, inr, arith, length, take, append_assoc, length-append}
-use Rattle.std.specs.Prelude.{map, reverse, slice_range, nat_eq}
+use Rattle.std.specs.Prelude.{map, reverse, slice_range, nat_eq, not, ◌⊎◌}
 use Rattle.std.specs.List.{AllByRecursion}
 use Rattle.std.proofs.lemmas.Bool.{cases_Bool, cond_both, cond-true, cond-false}
 use Rattle.std.proofs.lemmas.List.{reverse-append, reverse-reverse, length-reverse, take_all, take_at, drop_at}
@@ -9,13 +9,13 @@ use Rattle.pal_text.specs.declared.characters.Meaning.TheVariants.{Ignored, Line
 use Rattle.pal_text.specs.declared.tokens.Kind.{Kind}
 use Rattle.pal_text.specs.declared.tokens.Kind.TheVariants.{Symbol, Number, Mixed, Space, End}
 use Rattle.pal_text.specs.declared.tokens.Token.{Token}
-use Rattle.pal_text.specs.Characters.{code, is_ignored, returned, returned_by, meaning, meaning_after, in_comment, comment_by, line, line_by}
+use Rattle.pal_text.specs.Characters.{code, is_ignored, returned, returned_by, meaning, meaning_after, in_comment, comment_by, line, line_by, characters}
 use Rattle.pal_text.specs.Tokens.{is_space, absorbs, longer, token, kind_of, end_token}
 use Rattle.pal_text.specs.Adding.{with_kind, without_space, one_or_both, added, grown, tokens, ended, all_read}
 use Rattle.pal_text.specs.Names.{name, bytes_of, with_name, named, part_tokens}
 use Rattle.pal_text.specs.Statements.{is_end}
 use Rattle.pal_text.specs.Scan.{trimmed}
-use Rattle.pal_text.specs.Laws.{stands_alone, SpellsAgain, TokensSpellAgain}
+use Rattle.pal_text.specs.Laws.{alone, SpellsAgain, TokensSpellAgain}
 use Rattle.pal_text.proofs.Apart.{added_end}
 use Rattle.pal_text.proofs.CountedLemmas.{part_are}
 use Rattle.pal_text.proofs.Stays.{told_alike}
@@ -44,8 +44,19 @@ record Live (f : List ℕ) (t : Token) : Type 0 where
   comment_is : in_comment (spelled.later ++ spelled.bytes) ≡ in_comment f
   returned_is : returned (spelled.later ++ spelled.bytes) ≡ returned f
 
+-- or they have no character, as those of a line's end
+record Silent (f : List ℕ) (t : Token) : Type 0 where
+  bytes : List ℕ
+  later : List ℕ
+  earlier : List ℕ
+  is : f ≡ later ++ (bytes ++ earlier)
+  before : length earlier ≡ t.start
+  size : t.start + length bytes ≡ t.end
+  silent : characters (reverse bytes) ≡ []
+  ends : is_end t.kind ≡ true
+
 abbrev Final : List ℕ → Token → Type 0
-Final f t = stands_alone t.kind ≡ true → Spelled f t
+Final f t = is_space t.kind ≡ false → Spelled f t ⊎ Silent f t
 
 abbrev AllFinal : List ℕ → List Token → Type 0
 AllFinal f ts = AllByRecursion (Final f) ts
@@ -53,18 +64,29 @@ AllFinal f ts = AllByRecursion (Final f) ts
 -- the newest token may go on, the others are as they stay
 abbrev Spell : List ℕ → List Token → Type 0
 Spell f [] = Unit {0}
-Spell f (t ∷ ts) = (stands_alone t.kind ≡ true → Live f t) × AllFinal f ts
+Spell f (t ∷ ts) = (is_space t.kind ≡ false → Live f t ⊎ Silent f t) × AllFinal f ts
 
 abbrev spelled_on : (f : List ℕ) (b : ℕ) (t : Token) → Spelled f t → Spelled (b ∷ f) t
 spelled_on f b t s = record { bytes = s.bytes; later = b ∷ s.later; earlier = s.earlier; is = ap (λ l. b ∷ l) s.is; before = s.before; size = s.size; tokens_are = s.tokens_are; line_is = s.line_is }
 
+abbrev silent_on : (f : List ℕ) (b : ℕ) (t : Token) → Silent f t → Silent (b ∷ f) t
+silent_on f b t s = record { bytes = s.bytes; later = b ∷ s.later; earlier = s.earlier; is = ap (λ l. b ∷ l) s.is; before = s.before; size = s.size; silent = s.silent; ends = s.ends }
+
+final_on : (f : List ℕ) (b : ℕ) (t : Token) → Spelled f t ⊎ Silent f t → Spelled (b ∷ f) t ⊎ Silent (b ∷ f) t
+final_on f b t (inl s) = inl (spelled_on f b t s)
+final_on f b t (inr s) = inr (silent_on f b t s)
+
+stays : (f : List ℕ) (t : Token) → Live f t ⊎ Silent f t → Spelled f t ⊎ Silent f t
+stays f t (inl l) = inl l.spelled
+stays f t (inr s) = inr s
+
 all_on : (f : List ℕ) (b : ℕ) (ts : List Token) → AllFinal f ts → AllFinal (b ∷ f) ts
 all_on f b [] h = tt
-all_on f b (t ∷ ts) h = ((λ a. spelled_on f b t (h.0 a)), all_on f b ts h.1)
+all_on f b (t ∷ ts) h = ((λ a. final_on f b t (h.0 a)), all_on f b ts h.1)
 
 all_final : (f : List ℕ) (ts : List Token) → Spell f ts → AllFinal f ts
 all_final f [] h = tt
-all_final f (t ∷ ts) h = ((λ a. (h.0 a).spelled), h.1)
+all_final f (t ∷ ts) h = ((λ a. stays f t (h.0 a)), h.1)
 
 -- what a character means doesn't depend on what stands before it
 abbrev by_tests : Bool → Bool → Bool → Bool → Bool → ℕ → Meaning
@@ -90,19 +112,20 @@ character_any r r' b x h = character_by (is_ignored (code b)) (nat_eq (code b) 1
 unreturned : (r r' : Bool) (b x : ℕ) → meaning r b ≡ Character x → returned_by r' b ≡ false
 unreturned r r' b x h = returned_none (is_ignored (code b)) (nat_eq (code b) 13) (nat_eq (code b) 10) (nat_eq (code b) 9) r r' (code b) x h
 
-alone_no_space : (k : Kind) → stands_alone k ≡ true → is_space k ≡ false
-alone_no_space Space h = cc
-alone_no_space _ h = refl
-
-longer_alone : (k j k' : Kind) → longer k j ≡ Some k' → stands_alone k' ≡ true → stands_alone k ≡ true
-longer_alone Symbol j k' e h = refl
-longer_alone Number j k' e h = refl
-longer_alone Mixed j k' e h = refl
-longer_alone Space j k' e h = elim (cases_Bool (is_space j)) [
-  | inl is ↦ (let same : Some Space ≡ Some k' = sym (ap (λ b. if b then Some Space else None) is) ∙ e in let f : Space ≡ k' = cc in ap stands_alone f ∙ h)
+longer_no_space : (k j k' : Kind) → longer k j ≡ Some k' → is_space k' ≡ false → is_space k ≡ false
+longer_no_space Space j k' e h = elim (cases_Bool (is_space j)) [
+  | inl is ↦ (let same : Some Space ≡ Some k' = sym (ap (λ b. if b then Some Space else None) is) ∙ e in let f : Space ≡ k' = cc in ap is_space f ∙ h)
   | inr other ↦ cc (sym (ap (λ b. if b then Some Space else None) other) ∙ e)
 ]
-longer_alone _ j k' e h = cc
+longer_no_space _ j k' e h = refl
+
+-- what goes on ends no statement
+longer_open : (k j k' : Kind) → longer k j ≡ Some k' → is_end k ≡ true → ⊥
+longer_open Symbol j k' e h = cc
+longer_open Number j k' e h = cc
+longer_open Mixed j k' e h = cc
+longer_open Space j k' e h = cc
+longer_open _ j k' e h = cc
 
 -- one more byte, which leaves the tokens as they are
 module _ (f : List ℕ) (b : ℕ) (t : Token) (l : Live f t) where
@@ -170,7 +193,7 @@ module _ (f : List ℕ) (b : ℕ) (t : Token) (l : Live f t) where
       ∙ ap (λ c. one_or_both next old [] (if c then Some old else (if is_space t.kind && absorbs (kind_of x) then Some next else None))) absorbed) refl
 
 -- a token begins
-fresh : (f : List ℕ) (b x : ℕ) → meaning_after f b ≡ Character x → (in_comment f || nat_eq x 47) ≡ false → stands_alone (kind_of x) ≡ true → Live (b ∷ f) (token (kind_of x) (line f) (length f))
+fresh : (f : List ℕ) (b x : ℕ) → meaning_after f b ≡ Character x → (in_comment f || nat_eq x 47) ≡ false → is_space (kind_of x) ≡ false → Live (b ∷ f) (token (kind_of x) (line f) (length f))
 fresh f b x e plain a =
     let here : meaning_after [] b ≡ Character x = character_any (returned f) false b x e in
     let outside : in_comment f ≡ false = or_left (in_comment f) (nat_eq x 47) plain in
@@ -178,7 +201,7 @@ fresh f b x e plain a =
     let tokens_are : tokens (b ∷ []) ≡ sole (kind_of x) 1 ∷ [] =
     ap (λ m. grown 0 1 false m []) here
     ∙ ap (λ c. if c then [] else added (token (kind_of x) 1 0) []) slash
-    ∙ ap (λ c. if c then [] else token (kind_of x) 1 0 ∷ []) (alone_no_space (kind_of x) a) in
+    ∙ ap (λ c. if c then [] else token (kind_of x) 1 0 ∷ []) a in
     let line_is : line (b ∷ []) ≡ 1 = ap (line_by 1) here in
     record {
       spelled = record { bytes = b ∷ []; later = []; earlier = f; is = refl; before = refl; size = refl; tokens_are = tokens_are; line_is = line_is };
@@ -196,38 +219,63 @@ fresh f b x e plain a =
     or_right true q h = cc
     or_right false q h = h
 
+-- a byte that ends a line is no character
+line_end_by : (ig cr lf ta r : Bool) (c : ℕ) → by_tests ig cr lf ta r c ≡ LineEnd → (ig || lf || cr) ≡ true
+line_end_by true cr lf ta r c h = cc
+line_end_by false true true ta r c h = refl
+line_end_by false true false ta r c h = refl
+line_end_by false false true ta r c h = refl
+line_end_by false false false true r c h = cc
+line_end_by false false false false r c h = cc
+
+no_character : (r : Bool) (b : ℕ) → meaning r b ≡ LineEnd → characters (b ∷ []) ≡ []
+no_character r b h =
+    ap (λ d. if not d then code b ∷ [] else []) (line_end_by (is_ignored (code b)) (nat_eq (code b) 13) (nat_eq (code b) 10) (nat_eq (code b) 9) r (code b) h)
+
 -- what one more byte leaves
 module _ (f : List ℕ) (b : ℕ) where
   spell_kept : (m : Meaning) (ts : List Token) → meaning_after f b ≡ m → ((at l : ℕ) (us : List Token) → grown at l (in_comment f) m us ≡ us) → line_by 1 m ≡ 1 → Spell f ts → Spell (b ∷ f) ts
   spell_kept m [] e same one h = tt
-  spell_kept m (t ∷ ts) e same one h = ((λ a. let l : Live f t = h.0 a in live_on f b t l m e (same (length (l.spelled.later ++ l.spelled.bytes)) 1 (sole t.kind (length l.spelled.bytes) ∷ [])) one), all_on f b ts h.1)
+  spell_kept m (t ∷ ts) e same one h = (
+    (λ a. elim (h.0 a) [
+      | inl l ↦ inl (live_on f b t l m e (same (length (l.spelled.later ++ l.spelled.bytes)) 1 (sole t.kind (length l.spelled.bytes) ∷ [])) one)
+      | inr s ↦ inr (silent_on f b t s)
+    ]),
+    all_on f b ts h.1,
+  )
 
   trimmed_final : (g : List ℕ) (ts : List Token) → AllFinal g ts → AllFinal g (trimmed ts)
   trimmed_final g [] h = tt
   trimmed_final g (t ∷ ts) h = cond_both (is_space t.kind) ts (t ∷ ts) (λ us. AllFinal g us) (λ is. h.1) (λ is. h)
 
-  spell_ended : (mark : Token) (ts : List Token) → is_end mark.kind ≡ true → stands_alone mark.kind ≡ false → Spell f ts → Spell (b ∷ f) (added mark ts)
-  spell_ended mark ts ends lone h =
-      subst (λ us. Spell (b ∷ f) us) (sym (added_end mark ts ends)) ((λ a. cc (sym lone ∙ a)), trimmed_final (b ∷ f) ts (all_on f b ts (all_final f ts h)))
+  spell_ended : (mark : Token) (ts : List Token) → Silent (b ∷ f) mark → Spell f ts → Spell (b ∷ f) (added mark ts)
+  spell_ended mark ts silent h =
+      subst (λ us. Spell (b ∷ f) us) (sym (added_end mark ts silent.ends)) ((λ a. inr silent), trimmed_final (b ∷ f) ts (all_on f b ts (all_final f ts h)))
 
   module _ (x : ℕ) (e : meaning_after f b ≡ Character x) (plain : (in_comment f || nat_eq x 47) ≡ false) where
     abbrev next : Token
     next = token (kind_of x) (line f) (length f)
 
-    starts : stands_alone (kind_of x) ≡ true → Live (b ∷ f) next
-    starts a = fresh f b x e plain a
+    starts : is_space (kind_of x) ≡ false → Live (b ∷ f) next ⊎ Silent (b ∷ f) next
+    starts a = inl (fresh f b x e plain a)
 
     spell_without : (t : Token) (ts : List Token) → longer t.kind (kind_of x) ≡ None → Spell f (t ∷ ts) → Spell (b ∷ f) (one_or_both next t ts (without_space t next))
     spell_without t ts none h =
         cond_both (is_space (kind_of x) && absorbs t.kind) (Some t) (if is_space t.kind && absorbs (kind_of x) then Some next else None) (λ o. Spell (b ∷ f) (one_or_both next t ts o))
-        (λ is. ((λ a. live_absorbs f b t (h.0 a) x e plain none is), all_on f b ts h.1))
+        (λ is. ((λ a. elim (h.0 a) [ inl l ↦ inl (live_absorbs f b t l x e plain none is) | inr s ↦ inr (silent_on f b t s) ]), all_on f b ts h.1))
         (λ is. cond_both (is_space t.kind && absorbs (kind_of x)) (Some next) None (λ o. Spell (b ∷ f) (one_or_both next t ts o))
         (λ too. (starts, all_on f b ts h.1))
-        (λ too. (starts, ((λ a. spelled_on f b t (h.0 a).spelled), all_on f b ts h.1))))
+        (λ too. (starts, ((λ a. final_on f b t (stays f t (h.0 a))), all_on f b ts h.1))))
 
     spell_kind : (t : Token) (ts : List Token) (o : Option Kind) → longer t.kind (kind_of x) ≡ o → Spell f (t ∷ ts) → Spell (b ∷ f) (one_or_both next t ts (with_kind t next o))
     spell_kind t ts None is h = spell_without t ts is h
-    spell_kind t ts (Some k') is h = ((λ a. live_grows f b t (h.0 (longer_alone t.kind (kind_of x) k' is a)) x k' e plain is), all_on f b ts h.1)
+    spell_kind t ts (Some k') is h = (
+      (λ a. elim (h.0 (longer_no_space t.kind (kind_of x) k' is a)) [
+        | inl l ↦ inl (live_grows f b t l x k' e plain is)
+        | inr s ↦ absurd (longer_open t.kind (kind_of x) k' is s.ends)
+      ]),
+      all_on f b ts h.1,
+    )
 
     spell_added : (ts : List Token) → Spell f ts → Spell (b ∷ f) (added next ts)
     spell_added [] h = cond_both (is_space (kind_of x)) [] (next ∷ []) (λ us. Spell (b ∷ f) us) (λ is. tt) (λ is. (starts, tt))
@@ -235,7 +283,10 @@ module _ (f : List ℕ) (b : ℕ) where
 
   spell_grown : (m : Meaning) (ts : List Token) → meaning_after f b ≡ m → Spell f ts → Spell (b ∷ f) (grown (length f) (line f) (in_comment f) m ts)
   spell_grown Ignored ts e h = spell_kept Ignored ts e (λ at l us. refl) refl h
-  spell_grown LineEnd ts e h = spell_ended (token End (line f) (length f)) ts refl refl h
+  spell_grown LineEnd ts e h = spell_ended (token End (line f) (length f)) ts (line_silent e) h
+    where
+      line_silent : meaning_after f b ≡ LineEnd → Silent (b ∷ f) (token End (line f) (length f))
+      line_silent q = record { bytes = b ∷ []; later = []; earlier = f; is = refl; before = refl; size = refl; silent = no_character (returned f) b q; ends = refl }
   spell_grown (Character x) ts e h = elim (cases_Bool (in_comment f || nat_eq x 47)) [
     | inl inside ↦ (let P : Bool → Type 0 = λ c. Spell (b ∷ f) (if c then ts else added (token (kind_of x) (line f) (length f)) ts) in
         subst P (sym inside) (spell_kept (Character x) ts e (λ at l us. cond-true (in_comment f || nat_eq x 47) us (added (token (kind_of x) l at) us) inside) refl h))
@@ -248,40 +299,56 @@ tokens_spell (b ∷ f) = spell_grown f b (meaning_after f b) (tokens f) refl (to
 
 ended_spell : (f : List ℕ) → AllFinal f (ended f)
 ended_spell f =
-    subst (λ us. AllFinal f us) (sym (added_end (end_token f) (tokens f) refl)) ((λ a. cc a), trimmed_final f 0 f (tokens f) (all_final f (tokens f) (tokens_spell f)))
+    subst (λ us. AllFinal f us) (sym (added_end (end_token f) (tokens f) refl)) (
+      (λ a. inr (record { bytes = []; later = []; earlier = f; is = refl; before = refl; size = omega arith; silent = refl; ends = refl })),
+      trimmed_final f 0 f (tokens f) (all_final f (tokens f) (tokens_spell f)),
+    )
 
 -- a range in the middle
 range_middle : (xs ys zs : List ℕ) (first last : ℕ) → length xs ≡ first → first + length ys ≡ last → slice_range (xs ++ (ys ++ zs)) first last ≡ ys
 range_middle xs ys zs first last h k =
     ap (take (last - first)) (drop_at xs (ys ++ zs) first h) ∙ take_at ys zs (last - first) (omega (arith, k))
 
-told_alone : (source : List ℕ) (t : Token) (k : Kind) → stands_alone (with_name source t k) ≡ true → stands_alone k ≡ true
+told_alone : (source : List ℕ) (t : Token) (k : Kind) → is_space (with_name source t k) ≡ false → is_space k ≡ false
 told_alone source t Symbol h = refl
 told_alone source t _ h = h
 
+-- where the bytes of a token stand in the part
+slice_is : (source : List ℕ) (t : Token) (bytes later earlier : List ℕ) → reverse source ≡ later ++ (bytes ++ earlier) → length earlier ≡ t.start → t.start + length bytes ≡ t.end →
+    bytes_of source t ≡ reverse bytes
+slice_is source t bytes later earlier is before size =
+    let y : List ℕ = reverse bytes in
+    let sizes : length y ≡ length bytes = length-reverse bytes in
+    let turned : source ≡ reverse earlier ++ (y ++ reverse later) =
+    sym (reverse-reverse source) ∙ ap reverse is ∙ reverse-append later (bytes ++ earlier) ∙ ap (λ l. l ++ reverse later) (reverse-append bytes earlier)
+    ∙ append_assoc (reverse earlier) y (reverse later) in
+    ap (λ l. slice_range l t.start t.end) turned ∙ range_middle (reverse earlier) y (reverse later) t.start t.end (length-reverse earlier ∙ before) (ap (λ i. t.start + i) sizes ∙ size)
+
 spells_again : (source : List ℕ) (t : Token) → Final (reverse source) t → SpellsAgain source (named source t)
-spells_again source t final a =
-    let p : stands_alone t.kind ≡ true = told_alone source t t.kind a in
-    let s : Spelled (reverse source) t = final p in
-    let n : ℕ = length s.bytes in
-    let y : List ℕ = reverse s.bytes in
-    let sizes : length y ≡ n = length-reverse s.bytes in
-    let turned : source ≡ reverse s.earlier ++ (y ++ reverse s.later) =
-    sym (reverse-reverse source) ∙ ap reverse s.is ∙ reverse-append s.later (s.bytes ++ s.earlier) ∙ ap (λ l. l ++ reverse s.later) (reverse-append s.bytes s.earlier)
-    ∙ append_assoc (reverse s.earlier) y (reverse s.later) in
-    let slice : bytes_of source t ≡ y =
-    ap (λ l. slice_range l t.start t.end) turned ∙ range_middle (reverse s.earlier) y (reverse s.later) t.start t.end (length-reverse s.earlier ∙ s.before) (ap (λ i. t.start + i) sizes ∙ s.size) in
-    let whole : bytes_of y (sole t.kind n) ≡ y = take_all (n - 0) y (omega (arith, sizes)) in
-    let kind_is : with_name y (sole t.kind n) t.kind ≡ with_name source t t.kind = told_alike y source (sole t.kind n) t t.kind (ap name (whole ∙ sym slice)) in
-    let size_is : n ≡ t.end - t.start = omega (arith, s.size) in
-    let ended_is : ended s.bytes ≡ end_token s.bytes ∷ sole t.kind n ∷ [] =
-    added_end (end_token s.bytes) (tokens s.bytes) refl ∙ ap (λ ts. end_token s.bytes ∷ trimmed ts) s.tokens_are
-    ∙ ap (λ ts. end_token s.bytes ∷ ts) (cond-false (is_space t.kind) [] (sole t.kind n ∷ []) (alone_no_space t.kind p)) in
-    ap part_tokens slice
-    ∙ part_are y
-    ∙ ap (λ bytes. map (named y) (reverse (ended bytes))) (reverse-reverse s.bytes)
-    ∙ ap (λ ts. map (named y) (reverse ts)) ended_is
-    ∙ (λ i. record { kind = kind_is i; line = 1; start = 0; end = size_is i } ∷ record { kind = End; line = s.line_is i; start = size_is i; end = size_is i } ∷ [])
+spells_again source t final a some =
+    let p : is_space t.kind ≡ false = told_alone source t t.kind a in
+    elim (final p) [
+      | inl s ↦ spelled p s
+      | inr s ↦ absurd (some (ap characters (slice_is source t s.bytes s.later s.earlier s.is s.before s.size) ∙ s.silent))
+    ]
+  where
+    spelled : is_space t.kind ≡ false → Spelled (reverse source) t → part_tokens (bytes_of source t) ≡ alone (with_name source t t.kind) (t.end - t.start)
+    spelled p s =
+        let n : ℕ = length s.bytes in
+        let y : List ℕ = reverse s.bytes in
+        let sizes : length y ≡ n = length-reverse s.bytes in
+        let slice : bytes_of source t ≡ y = slice_is source t s.bytes s.later s.earlier s.is s.before s.size in
+        let whole : bytes_of y (sole t.kind n) ≡ y = take_all (n - 0) y (omega (arith, sizes)) in
+        let kind_is : with_name y (sole t.kind n) t.kind ≡ with_name source t t.kind = told_alike y source (sole t.kind n) t t.kind (ap name (whole ∙ sym slice)) in
+        let size_is : n ≡ t.end - t.start = omega (arith, s.size) in
+        let ended_is : ended s.bytes ≡ end_token s.bytes ∷ sole t.kind n ∷ [] =
+        added_end (end_token s.bytes) (tokens s.bytes) refl ∙ ap (λ ts. end_token s.bytes ∷ trimmed ts) s.tokens_are
+        ∙ ap (λ ts. end_token s.bytes ∷ ts) (cond-false (is_space t.kind) [] (sole t.kind n ∷ []) p) in
+        ap part_tokens slice
+        ∙ part_are y
+        ∙ ap (λ bytes. map (named y) (reverse (ended bytes))) (reverse-reverse s.bytes)
+        ∙ ap (λ ts. map (named y) (reverse ts)) ended_is
+        ∙ (λ i. record { kind = kind_is i; line = 1; start = 0; end = size_is i } ∷ record { kind = End; line = s.line_is i; start = size_is i; end = size_is i } ∷ [])
 
 all_again : (source : List ℕ) (ts : List Token) → AllFinal (reverse source) ts → AllByRecursion (SpellsAgain source) (map (named source) ts)
 all_again source [] h = tt

@@ -1,5 +1,5 @@
 -- What the manual says of tokens and statements: it follows from their definitions.
-use Rattle.std.specs.Prelude.{◌≡◌, ℕ, ◌+◌, ◌-◌, Bool, true, false, ◌||◌, ◌&&◌, not, if◌then◌else◌, List, [], ◌∷◌, ◌++◌, length, map, reverse, nat_lt, nat_le, nat_eq}
+use Rattle.std.specs.Prelude.{◌≡◌, ◌≢◌, ℕ, ◌+◌, ◌-◌, Bool, true, false, ◌||◌, ◌&&◌, if◌then◌else◌, List, [], ◌∷◌, ◌++◌, length, map, reverse, nat_lt, nat_le, nat_eq}
 use Rattle.std.specs.List.{AllByRecursion}
 use Rattle.pal_text.specs.declared.characters.Meaning.TheVariants.{LineEnd}
 use Rattle.pal_text.specs.declared.tokens.Kind.{Kind}
@@ -8,23 +8,20 @@ use Rattle.pal_text.specs.declared.tokens.Token.{Token}
 use Rattle.pal_text.specs.declared.cut.Statement.{Statement}
 use Rattle.pal_text.specs.declared.cut.Ending.{Ending}
 use Rattle.pal_text.specs.declared.lines.Line.{Line}
-use Rattle.pal_text.specs.Characters.{char, line_feed, carriage_return, code, is_ignored, meaning_after, in_comment}
+use Rattle.pal_text.specs.Characters.{char, line_feed, carriage_return, code, is_ignored, meaning_after, in_comment, characters}
 use Rattle.pal_text.specs.Tokens.{is_space, tokens}
 use Rattle.pal_text.specs.Names.{bytes_of, named, part_tokens}
 use Rattle.pal_text.specs.Statements.{is_end, Piece, pieces, Fills}
 use Rattle.pal_text.specs.Parts.{IsPart, IsIllegal}
 
--- A token that stands for itself: no space, whose place counts, and no end of a statement.
-abbrev pub stands_alone : Kind → Bool
-stands_alone k = not (is_space k || is_end k)
-
 -- The tokens of a part that is one token of so many bytes: that token, and the part's end.
 abbrev pub alone : Kind → ℕ → List Token
 alone k size = record { kind = k; line = 1; start = 0; end = size } ∷ record { kind = End; line = 1; start = size; end = size } ∷ []
 
--- The bytes of a token, read as a part of their own, are that token again.
+-- The bytes of a token, read as a part of their own, are that token again, save for a space, whose place counts, and for the
+-- end of a line or of the part, which has no character.
 abbrev pub SpellsAgain : List ℕ → Token → Type 0
-SpellsAgain source t = stands_alone t.kind ≡ true → part_tokens (bytes_of source t) ≡ alone t.kind (t.end - t.start)
+SpellsAgain source t = is_space t.kind ≡ false → characters (bytes_of source t) ≢ [] → part_tokens (bytes_of source t) ≡ alone t.kind (t.end - t.start)
 
 -- The slice of each token of a part, spelled again, is that token.
 abbrev pub TokensSpellAgain : Type 0

@@ -21,6 +21,7 @@ mod place;
 mod references;
 mod registers;
 mod room;
+mod seen;
 mod skipping;
 mod tracking;
 

@@ -47,10 +47,10 @@ fn has_link(links: Links) -> bool
 fn has_accumulator(known: &Known<'_>) -> bool
     ensures { result ≡ has_some (narrowed (known_of known.now) Ac) }
 {
-    if !known.speaks_of(&Name::Accumulator) {
-        return has_word(known.ac);
+    match known.narrowed_row(&Name::Accumulator) {
+        Some(_) => true,
+        None => has_narrowed_accumulator(known),
     }
-    has_narrowed_accumulator(known)
 }
 
 /// The same, where equations may speak of it; the room for the narrowed set is made here alone.
@@ -77,8 +77,8 @@ fn is_alive(targets: &WordSet, before: &Known<'_>, changed: &WordSet, after: &Kn
 {
     let targeted = has_word(targets);
     let held = has_accumulator(before);
-    let left = has_word(after.ac);
-    let moved = has_word(after.mq);
+    let left = !after.ac.is_empty();
+    let moved = !after.mq.is_empty();
     let linked = has_link(after.link);
     let written = has_word(changed);
     are_all(targeted, held, left, moved, linked, written)

@@ -19,6 +19,7 @@ use crate::outcome::{
 };
 use crate::place::Place;
 use crate::room::{Step, Way};
+use crate::seen::Seen;
 use processor::is_auto_index;
 use std::alloc::Allocator;
 use word12::Word;
@@ -48,16 +49,23 @@ pub(crate) fn deposit<'a>(
         SameWords (words targets.now) p →
         AgreeingOutcomes (slot result) (dca_case place at f p (only p)) }
 {
-    let ac = known.narrowed(&Name::Accumulator);
+    let ac = known.left_to(&Name::Accumulator);
     match single {
         Some(cell) => {
+            let written = *ac.set();
             let after = known.deposited(*cell, ac, &mut way.first, &mut way.second, &mut way.third);
-            going(targets, known, &ac, address_after(at, &mut way.next), after)
+            going(
+                targets,
+                known,
+                &written,
+                address_after(at, &mut way.next),
+                after,
+            )
         }
         None => {
             let after = known
                 .stored(targets, ac, &mut way.first, &mut way.third)
-                .with_ac(WordSet::one(Word::ZERO), &mut way.second);
+                .with_ac(Seen::one(Word::ZERO), &mut way.second);
             going(
                 targets,
                 known,
@@ -96,14 +104,14 @@ pub(crate) fn count_one<'a>(
         known,
         &zero,
         address_skipped_to(at, &mut way.next),
-        known.counted_to(cell, zero, &mut way.first),
+        known.counted_to(cell, Seen::one(Word::ZERO), &mut way.first),
     );
     let goes_on = going(
         targets,
         known,
         &more,
         address_after(at, &mut other.next),
-        known.counted_to(cell, more, &mut other.first),
+        known.counted_to(cell, Seen::of(more), &mut other.first),
     );
     (skips, goes_on)
 }
@@ -227,7 +235,7 @@ pub(crate) fn count_several<'a>(
 fn after_sum<'a>(
     known: &Known<'a>,
     added: &Option<Word>,
-    set: WordSet,
+    set: Seen,
     step: &'a mut Step,
 ) -> Known<'a>
     requires room { length known.now.equations.now ≤ 32 }
@@ -266,7 +274,7 @@ impl<A: Allocator> Place<'_, A> {
             return known.narrowed(&Name::Cell(named)).shift(one);
         }
         if indirect {
-            return self.words_in(known, named);
+            return *self.words_in(known, named).set();
         }
         WordSet::one(named)
     }
@@ -287,9 +295,10 @@ impl<A: Allocator> Place<'_, A> {
             SameWords (words targets.now) p →
             AgreeingOutcomes (slot result) (anded (place_of self.now) at f p) }
     {
-        let ac = known.narrowed(&Name::Accumulator);
+        let ac = known.left_to(&Name::Accumulator);
         let seen = self.words_at(known, targets, single);
-        let after = known.with_ac(ac.ands(&seen), &mut way.first);
+        let both = Seen::of(ac.set().ands(seen.set()));
+        let after = known.with_ac(both, &mut way.first);
         going(
             targets,
             known,
@@ -307,7 +316,7 @@ impl<A: Allocator> Place<'_, A> {
         target: &Option<Word>,
         ac: &Option<Word>,
         added: &Option<Word>,
-        set: WordSet,
+        set: Seen,
         first: &'a mut Step,
         second: &'a mut Step,
     ) -> Known<'a>
@@ -342,7 +351,7 @@ impl<A: Allocator> Place<'_, A> {
             SameWords (words targets.now) p →
             AgreeingOutcomes (slot result) (tad (place_of self.now) at f p) }
     {
-        let ac = known.narrowed(&Name::Accumulator);
+        let ac = known.left_to(&Name::Accumulator);
         let seen = self.words_at(known, targets, single);
         let (sums, carries) = ac.sums(&seen);
         let links = known.link.toggled(carries);

@@ -6,13 +6,14 @@
 ghost use Rattle.std.specs.Prelude.{◌≡◌};
 
 use crate::equations::Equations;
+use crate::seen::Seen;
 use arrayvec::ArrayVec;
 use wordset::WordSet;
 
 /// Room for one change of what is known: a set and a list of equations.
 #[derive(Drop)]
 pub(crate) struct Step {
-    pub(crate) set: WordSet,
+    pub(crate) set: Seen,
     pub(crate) list: Equations,
 }
 
@@ -20,7 +21,7 @@ impl Step {
     /// Room that nothing stands in.
     fn new() -> Step {
         Step {
-            set: WordSet::empty(),
+            set: Seen::of(WordSet::empty()),
             list: ArrayVec::new(),
         }
     }

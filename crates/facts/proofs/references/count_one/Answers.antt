@@ -1,4 +1,4 @@
-use Rattle.std.proofs.Common.{◌≡◌, ◌∙◌, ap, subst, lit<}
+use Rattle.std.proofs.Common.{◌≡◌, ◌∙◌, ap, subst, lit<, List, ℕ}
 use Rattle.std.specs.Prelude.{◌&&◌}
 use Rattle.wordset.specs.Words.{Words, SameWords, one, plus, without, shifted}
 use Rattle.wordset.specs.Lanes.{words}
@@ -23,6 +23,6 @@ returns c = λ pl f p var h e.
     isz_variable pl c.args.at f p c.args.cell (slot c.going_if-skips.result) (slot c.going-goes_on.result) var
     (subst (λ b. AgreeingOutcomes (slot c.going_if-skips.result) (given (b && alive p f (one 0) (with_name (Cell c.args.cell) (one 0) (moved (Cell c.args.cell) 1 f))) (Goes (one (plus c.args.at 2)) (with_name (Cell c.args.cell) (one 0) (moved (Cell c.args.cell) 1 f))))) full
     (c.going_if-skips.ensures p (one 0) (one (plus c.args.at 2)) f (with_name (Cell c.args.cell) (one 0) (moved (Cell c.args.cell) 1 f)) e h zero c.address_skipped_to.ensures
-    (agree_trans c.counted_to.ensures.same (name_agree (Cell c.args.cell) (moved_agree (Cell c.args.cell) 1 h) zero))))
+    (agree_trans c.counted_to.ensures.same (name_agree (Cell c.args.cell) (moved_agree (Cell c.args.cell) 1 h) (λ v lt. ap (λ (x : Words). x v) c.one.ensures)))))
     (c.going-goes_on.ensures p (without 0 (shifted (narrowed f (Cell c.args.cell)) 1)) (one (plus c.args.at 1)) f (with_name (Cell c.args.cell) (without 0 (shifted (narrowed f (Cell c.args.cell)) 1)) (moved (Cell c.args.cell) 1 f)) e h more c.address_after.ensures
-    (agree_trans c.counted_to-2.ensures.same (name_agree (Cell c.args.cell) (moved_agree (Cell c.args.cell) 1 h) more)))
+    (agree_trans c.counted_to-2.ensures.same (name_agree (Cell c.args.cell) (moved_agree (Cell c.args.cell) 1 h) (λ v lt. ap (λ (s : List ℕ). words s v) c.of.ensures ∙ more v lt))))

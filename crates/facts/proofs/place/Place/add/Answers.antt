@@ -15,7 +15,7 @@ use Rattle.facts.proofs.place.Place.add.Goals as goal
 
 pub returns : goal.returns
 returns g c = λ f p h e.
-    let ac : SameWords (words c.narrowed-ac.result) (narrowed f Ac) = λ v lt. c.narrowed-ac.ensures v lt ∙ narrowed_agree h Ac v lt in
+    let ac : SameWords (words c.left_to-ac.result) (narrowed f Ac) = λ v lt. c.left_to-ac.ensures v lt ∙ narrowed_agree h Ac v lt in
     let seen : SameWords (words c.words_at-seen.result) (words_at (place_of c.args.self.now) f p) = λ v lt. c.words_at-seen.ensures v lt ∙ at_agree (place_of c.args.self.now) h e v lt in
     let set : SameWords (words c.sums-sums.result.0) (sums (narrowed f Ac) (words_at (place_of c.args.self.now) f p)) = λ v lt. c.sums-sums.ensures.words v lt ∙ sums_same ac seen v lt in
     let t : c.args.single.now ≡ only p = c.requires.single ∙ only_same _ _ e in

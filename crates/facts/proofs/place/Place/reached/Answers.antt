@@ -1,4 +1,4 @@
-use Rattle.std.proofs.Common.{◌∙◌, ap, sym, subst}
+use Rattle.std.proofs.Common.{◌∙◌, ap, sym, subst, List, ℕ}
 use Rattle.wordset.specs.Words.{Words, SameWords, shifted}
 use Rattle.wordset.specs.Lanes.{words}
 use Rattle.facts.specs.Facts.{Cell}
@@ -16,4 +16,4 @@ returns-then-steps_pointer g c = λ f h. reach_stepped (place_of c.args.self.now
 
 pub returns-then-indirect : goal.returns-then-indirect
 returns-then-indirect g c = λ f h. reach_pointer (place_of c.args.self.now) c.args.indirect c.args.named f (sym c.steps_pointer.ensures ∙ c.if-steps_pointer.false) c.if-indirect.true
-    (λ v lt. c.words_in.ensures v lt ∙ in_agree (place_of c.args.self.now) c.args.named h v lt)
+    (λ v lt. ap (λ (s : List ℕ). words s v) c.set.ensures ∙ c.words_in.ensures v lt ∙ in_agree (place_of c.args.self.now) c.args.named h v lt)

@@ -117,7 +117,7 @@ impl<'a> Known<'a> {
     }
 
     /// After one of some cells, unknown which, went up by one.
-    pub(crate) fn counted(&self, cells: &WordSet, step: &'a mut Step) -> Known<'a>
+    pub(crate) fn counted(&self, cells: &Seen, step: &'a mut Step) -> Known<'a>
         requires target { IsUnchanged self.now.target }
         requires room { length self.now.equations.now ≤ 32 }
         ensures same { Agree (known_of result)
@@ -125,14 +125,14 @@ impl<'a> Known<'a> {
             (known_of self.now)) }
         ensures len { length result.equations.now ≤ length self.now.equations.now }
     {
-        free_of_cells(cells, self.equations, &mut step.list);
+        free_of_cells(cells.set(), self.equations, &mut step.list);
         Known {
             base: self.base,
             ac: self.ac,
             mq: self.mq,
             link: self.link,
             pointer: self.pointer,
-            target: Change::Counted(step.set.put(Seen::of(*cells)).set()),
+            target: Change::Counted(step.set.put(Seen::of(*cells.set())).set()),
             equations: step.list.as_slice(),
             offsets: self.offsets,
         }
@@ -141,7 +141,7 @@ impl<'a> Known<'a> {
     /// After one of some cells, unknown which, took some word of a set.
     pub(crate) fn stored(
         &self,
-        cells: &WordSet,
+        cells: &Seen,
         set: Seen,
         step: &'a mut Step,
         spare: &'a mut Step,
@@ -152,14 +152,17 @@ impl<'a> Known<'a> {
             (smeared (words cells.now) (λ y. words set) (known_of self.now)) }
         ensures len { length result.equations.now ≤ length self.now.equations.now }
     {
-        free_of_cells(cells, self.equations, &mut step.list);
+        free_of_cells(cells.set(), self.equations, &mut step.list);
         Known {
             base: self.base,
             ac: self.ac,
             mq: self.mq,
             link: self.link,
             pointer: self.pointer,
-            target: Change::Stored(spare.set.put(Seen::of(*cells)).set(), step.set.put(set)),
+            target: Change::Stored(
+                spare.set.put(Seen::of(*cells.set())).set(),
+                step.set.put(set),
+            ),
             equations: step.list.as_slice(),
             offsets: self.offsets,
         }

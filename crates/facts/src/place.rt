@@ -117,7 +117,7 @@ impl<A: Allocator> Place<'_, A> {
     }
 
     /// The words that some cells may hold, of which the one is given that has no other beside it.
-    pub(crate) fn words_at(&self, known: &Known<'_>, cells: &WordSet, single: &Option<Word>) -> Seen
+    pub(crate) fn words_at(&self, known: &Known<'_>, cells: &Seen, single: &Option<Word>) -> Seen
         requires { single.now ≡ only (words cells.now) }
         ensures { SameWords (words result)
             (words_at (place_of self.now) (known_of known.now) (words cells.now)) }
@@ -130,7 +130,7 @@ impl<A: Allocator> Place<'_, A> {
 
     /// The words that some cells may hold.
     #[inline(never)]
-    fn words_at_each(&self, known: &Known<'_>, cells: &WordSet) -> WordSet
+    fn words_at_each(&self, known: &Known<'_>, cells: &Seen) -> WordSet
         ensures { SameWords (words result)
             (words_at (place_of self.now) (known_of known.now) (words cells.now)) }
     {

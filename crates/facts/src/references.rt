@@ -38,7 +38,7 @@ pub(crate) fn steps_pointer(indirect: bool, named: Word) -> bool
 pub(crate) fn deposit<'a>(
     at: Word,
     known: &Known<'a>,
-    targets: &WordSet,
+    targets: &Seen,
     single: &Option<Word>,
     way: &'a mut Way,
 ) -> Option<Outcome<'a>>
@@ -52,7 +52,7 @@ pub(crate) fn deposit<'a>(
     let ac = known.left_to(&Name::Accumulator);
     match single {
         Some(cell) => {
-            let written = *ac.set();
+            let written = Seen::of(*ac.set());
             let after = known.deposited(*cell, ac, &mut way.first, &mut way.second, &mut way.third);
             going(
                 targets,
@@ -69,7 +69,7 @@ pub(crate) fn deposit<'a>(
             going(
                 targets,
                 known,
-                &WordSet::all(),
+                &Seen::all(),
                 address_after(at, &mut way.next),
                 after,
             )
@@ -82,7 +82,7 @@ pub(crate) fn deposit<'a>(
 pub(crate) fn count_one<'a>(
     at: Word,
     known: &Known<'a>,
-    targets: &WordSet,
+    targets: &Seen,
     cell: Word,
     way: &'a mut Way,
     other: &'a mut Way,
@@ -95,8 +95,8 @@ pub(crate) fn count_one<'a>(
         AgreeingOutcomes (slot result.0 ++ slot result.1) (isz_case place at f p (Some cell)) }
 {
     let old = known.narrowed(&Name::Cell(cell));
-    let zero = WordSet::one(Word::ZERO);
-    let more = old.shift(Word::ZERO.increment()).minus(&zero);
+    let zero = Seen::one(Word::ZERO);
+    let more = Seen::of(old.shift(Word::ZERO.increment()).minus(zero.set()));
     let last = Word::ZERO.complement();
     let skips = going_if(
         old.contains(last),
@@ -111,7 +111,7 @@ pub(crate) fn count_one<'a>(
         known,
         &more,
         address_after(at, &mut other.next),
-        known.counted_to(cell, Seen::of(more), &mut other.first),
+        known.counted_to(cell, Seen::of(*more.set()), &mut other.first),
     );
     (skips, goes_on)
 }
@@ -121,9 +121,9 @@ pub(crate) fn count_one<'a>(
 pub(crate) fn count_own<'a>(
     at: Word,
     known: &Known<'a>,
-    targets: &WordSet,
+    targets: &Seen,
     cell: Word,
-    next: &'a mut WordSet,
+    next: &'a mut Seen,
 ) -> Option<Outcome<'a>>
     ensures { (place : said.Place) (f : said.Fact) (p : Words) → place.declaration.variable cell ≡
         false →
@@ -133,7 +133,7 @@ pub(crate) fn count_own<'a>(
     going(
         targets,
         known,
-        &WordSet::all(),
+        &Seen::all(),
         address_after(at, next),
         known.returning_later(),
     )
@@ -165,7 +165,7 @@ fn may_stay(known: &Known<'_>, cell: Word) -> bool
 }
 
 /// Whether some of the cells may hold 7777.
-fn may_some_wrap(known: &Known<'_>, cells: &WordSet) -> bool
+fn may_some_wrap(known: &Known<'_>, cells: &Seen) -> bool
     ensures { result ≡ some_below 4096 (λ y. words cells.now y &&
         narrowed (known_of known.now) (Cell y) 4095) }
 {
@@ -179,7 +179,7 @@ fn may_some_wrap(known: &Known<'_>, cells: &WordSet) -> bool
 }
 
 /// Whether some of the cells may hold another word than 7777.
-fn may_some_stay(known: &Known<'_>, cells: &WordSet) -> bool
+fn may_some_stay(known: &Known<'_>, cells: &Seen) -> bool
     ensures { result ≡ some_below 4096
         (λ y. words cells.now y && has_some (without 4095
         (narrowed (known_of known.now) (Cell y)))) }
@@ -198,7 +198,7 @@ fn may_some_stay(known: &Known<'_>, cells: &WordSet) -> bool
 pub(crate) fn count_several<'a>(
     at: Word,
     known: &Known<'a>,
-    targets: &WordSet,
+    targets: &Seen,
     way: &'a mut Way,
     other: &'a mut Way,
 ) -> (Option<Outcome<'a>>, Option<Outcome<'a>>)
@@ -208,7 +208,7 @@ pub(crate) fn count_several<'a>(
         SameWords (words targets.now) p →
         AgreeingOutcomes (slot result.0 ++ slot result.1) (isz_case place at f p None) }
 {
-    let all = WordSet::all();
+    let all = Seen::all();
     let wraps = may_some_wrap(known, targets);
     let stays = may_some_stay(known, targets);
     let skips = going_if(
@@ -251,7 +251,7 @@ fn after_sum<'a>(
 
 /// JMS calls each target.
 #[inline(never)]
-pub(crate) fn call<'a>(known: &Known<'a>, targets: &'a WordSet) -> Option<Outcome<'a>>
+pub(crate) fn call<'a>(known: &Known<'a>, targets: &'a Seen) -> Option<Outcome<'a>>
     ensures { (f : said.Fact) (p : Words) → Agree (known_of known.now) f →
         SameWords (words targets.now) p →
         AgreeingOutcomes (slot result) (given (alive p f everything f) (CallsTo p f)) }
@@ -263,7 +263,7 @@ impl<A: Allocator> Place<'_, A> {
     /// The targets of a reference: the named cell, or the words that the pointer in it may be, which
     /// counts up first where it is stepped.
     #[inline(never)]
-    pub(crate) fn reached(&self, indirect: bool, named: Word, known: &Known<'_>) -> WordSet
+    pub(crate) fn reached(&self, indirect: bool, named: Word, known: &Known<'_>) -> Seen
         requires pointer { IsUnchanged known.now.pointer }
         requires target { IsUnchanged known.now.target }
         ensures { (f : said.Fact) → Agree (known_of known.now) f →
@@ -271,12 +271,12 @@ impl<A: Allocator> Place<'_, A> {
     {
         if steps_pointer(indirect, named) {
             let one = Word::ZERO.increment();
-            return known.narrowed(&Name::Cell(named)).shift(one);
+            return Seen::of(known.narrowed(&Name::Cell(named)).shift(one));
         }
         if indirect {
-            return *self.words_in(known, named).set();
+            return self.words_in(known, named);
         }
-        WordSet::one(named)
+        Seen::one(named)
     }
 
     /// AND: all a and v, for the words a of the accumulator and v of the targets.
@@ -285,7 +285,7 @@ impl<A: Allocator> Place<'_, A> {
         &self,
         at: Word,
         known: &Known<'a>,
-        targets: &WordSet,
+        targets: &Seen,
         single: &Option<Word>,
         way: &'a mut Way,
     ) -> Option<Outcome<'a>>
@@ -302,7 +302,7 @@ impl<A: Allocator> Place<'_, A> {
         going(
             targets,
             known,
-            &WordSet::all(),
+            &Seen::all(),
             address_after(at, &mut way.next),
             after,
         )
@@ -341,7 +341,7 @@ impl<A: Allocator> Place<'_, A> {
         &self,
         at: Word,
         known: &Known<'a>,
-        targets: &WordSet,
+        targets: &Seen,
         single: &Option<Word>,
         way: &'a mut Way,
     ) -> Option<Outcome<'a>>
@@ -368,7 +368,7 @@ impl<A: Allocator> Place<'_, A> {
         going(
             targets,
             known,
-            &WordSet::all(),
+            &Seen::all(),
             address_after(at, &mut way.next),
             sum,
         )
@@ -381,7 +381,7 @@ impl<A: Allocator> Place<'_, A> {
         indirect: bool,
         named: Word,
         known: &Known<'a>,
-        targets: &'a WordSet,
+        targets: &'a Seen,
     ) -> Option<Outcome<'a>>
         ensures { (f : said.Fact) (p : Words) → Agree (known_of known.now) f →
             SameWords (words targets.now) p →
@@ -390,7 +390,7 @@ impl<A: Allocator> Place<'_, A> {
         if indirect && self.is_own(named) {
             return returning(targets, known, known.same());
         }
-        going(targets, known, &WordSet::all(), targets, known.same())
+        going(targets, known, &Seen::all(), targets, known.same())
     }
 
     /// ISZ: of one variable, of the running routine's own entry, or of one of several variables.
@@ -398,7 +398,7 @@ impl<A: Allocator> Place<'_, A> {
         &self,
         at: Word,
         known: &Known<'a>,
-        targets: &WordSet,
+        targets: &Seen,
         single: &Option<Word>,
         way: &'a mut Way,
         other: &'a mut Way,

@@ -30,12 +30,12 @@ pub(crate) fn go_on<'a>(
     at: Word,
     known: &Known<'_>,
     after: Known<'a>,
-    next: &'a mut WordSet,
+    next: &'a mut Seen,
 ) -> Option<Outcome<'a>>
     ensures { (f h : said.Fact) → Agree (known_of known.now) f → Agree (known_of after.entry) h →
         AgreeingOutcomes (slot result) (goes everything f everything (one (plus at 1)) h) }
 {
-    let all = WordSet::all();
+    let all = Seen::all();
     going(&all, known, &all, address_after(at, next), after)
 }
 
@@ -101,13 +101,13 @@ pub(crate) fn operate<'a>(
 pub(crate) fn test_flag<'a>(
     at: Word,
     known: &Known<'a>,
-    stay: &'a mut WordSet,
-    skip: &'a mut WordSet,
+    stay: &'a mut Seen,
+    skip: &'a mut Seen,
 ) -> (Option<Outcome<'a>>, Option<Outcome<'a>>)
     ensures { (f : said.Fact) → Agree (known_of known.now) f →
         AgreeingOutcomes (slot result.0 ++ slot result.1) (device_outcomes at f Skips) }
 {
-    let all = WordSet::all();
+    let all = Seen::all();
     let stays = go_on(at, known, known.same(), stay);
     let skips = going(
         &all,
@@ -153,7 +153,7 @@ pub(crate) fn take_byte<'a>(at: Word, known: &Known<'a>, way: &'a mut Way) -> Op
 }
 
 /// Nothing changes.
-pub(crate) fn leave<'a>(at: Word, known: &Known<'a>, next: &'a mut WordSet) -> Option<Outcome<'a>>
+pub(crate) fn leave<'a>(at: Word, known: &Known<'a>, next: &'a mut Seen) -> Option<Outcome<'a>>
     ensures { (f : said.Fact) → Agree (known_of known.now) f →
         AgreeingOutcomes (slot result) (device_outcomes at f Leaves) }
 {

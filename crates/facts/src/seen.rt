@@ -1,7 +1,7 @@
 //! Sets of words, with the row that they are where that's known.
 
-ghost use Rattle.std.specs.Prelude.{◌≡◌, ◌≤◌, ◌↔◌, Some, IfSome, IsTrue, not, max, min};
-ghost use Rattle.wordset.specs.Words.{Words, SameWords, SameLinks, IsWithin, between, one, all_words, has_some, only, meet, shifted, sums, carries};
+ghost use Rattle.std.specs.Prelude.{◌≡◌, ◌≤◌, ◌↔◌, Some, IfSome, IsTrue, not, max, min, MatchOption};
+ghost use Rattle.wordset.specs.Words.{Words, SameWords, SameLinks, IsWithin, IsFirstFrom, HasNoneFrom, between, one, all_words, has_some, only, meet, shifted, sums, carries};
 ghost use Rattle.wordset.specs.Lanes.{words};
 ghost use Rattle.wordset.specs.Links.{carries_of};
 ghost use Rattle.facts.specs.Rows.{row_words, IsRow, IsRowOf};
@@ -89,6 +89,22 @@ impl Row {
         Row::of(self.first.add(k), self.last.add(k))
     }
 
+    /// The least of the words from a number on.
+    fn first_from(self, from: usize) -> Option<Word>
+        requires { self.first ≤ self.last }
+        ensures { MatchOption result
+            (HasNoneFrom from (row_words self))
+            (λ w. IsFirstFrom from (row_words self) w) }
+    {
+        if from <= self.first.index() {
+            return Some(self.first);
+        }
+        if from <= self.last.index() {
+            return Some(Word::from_index(from));
+        }
+        None
+    }
+
     /// The sums a + b, modulo 4096, of the words a of this row and b of another, and the carries with
     /// which they come, where all or none come with one.
     fn sums(self, other: Row) -> Option<(Row, Carries)>
@@ -119,7 +135,7 @@ impl Row {
 ///
 /// Contracts see the set.
 #[derive(Clone, Drop)]
-pub(crate) struct Seen {
+pub struct Seen {
     set: WordSet,
     row: Option<Row>,
 }
@@ -175,7 +191,7 @@ impl Seen {
     }
 
     /// The set.
-    pub(crate) fn set(&self) -> &WordSet
+    pub fn set(&self) -> &WordSet
         ensures { result.now ≡ self.now }
     {
         &self.set
@@ -186,6 +202,28 @@ impl Seen {
         ensures { IfSome result (λ r. IsRow r (words self.now)) }
     {
         self.row
+    }
+
+    /// The least of the words from a number on.
+    pub fn first_from(&self, from: usize) -> Option<Word>
+        ensures { MatchOption result
+            (HasNoneFrom from (words self.now))
+            (λ w. IsFirstFrom from (words self.now) w) }
+    {
+        match self.row {
+            Some(row) => row.first_from(from),
+            None => self.set.first_from(from),
+        }
+    }
+
+    /// Puts one word here, and lends it.
+    pub(crate) fn put_one(&mut self, word: Word) -> &Seen
+        ensures { words result.now ≡ one word }
+    {
+        self.set = WordSet::empty();
+        self.set.insert(word);
+        self.row = Row::of(word, word);
+        self
     }
 
     /// Puts other words here, and lends them.

@@ -122,7 +122,7 @@ fn after_test<'a>(word: Word, known: &Known<'a>, part: WordSet, step: &'a mut St
 }
 
 /// The next address, or the one after it.
-fn next_address(at: Word, skip: bool, place: &mut WordSet) -> &WordSet
+fn next_address(at: Word, skip: bool, place: &mut Seen) -> &Seen
     ensures { SameWords (words result.now) (one (next_pc at skip)) }
 {
     if skip {
@@ -152,7 +152,7 @@ pub(crate) fn branch<'a>(
     ensures { (f : said.Fact) → Agree (known_of known.now) f →
         AgreeingOutcomes (slot result) (operated2 at word f link skip) }
 {
-    let all = WordSet::all();
+    let all = Seen::all();
     let ac = known.narrowed(&Name::Accumulator);
     let part = part(word, link, skip, &ac);
     let linked = known.link.contains(link);

@@ -14,10 +14,9 @@ pub loop-entry-preserved : goal.loop-entry-preserved
 loop-entry-preserved c =
     let k : Kept = c.args.self.now in
     let cells : c.as_slice-entry-items.result.now ≡ k.entries = c.as_slice-entry-items.ensures.value ∙ ap (λ (x : Kept). x.entries) c.self.view_is in
-    let less = c.in-Some.ensures k.whole in
-    (
+    let less = c.in-Some.ensures k.whole in (
       (λ v lt. entry_met k.whole k.entries c.loop-entry.entry-index c.args.cell c.entry-item.result (row_words c.loop-entry.row) (row_words c.in-Some.less)
-      (rw cells at c.loop-entry-test.true) (rw cells at c.entry-item.is) (same_cells c.entry-item.result.cell c.args.cell c.if-ne.ensures) less.same v lt ∙ c.loop-entry.invariant.0 v lt),
+          (rw cells at c.loop-entry-test.true) (rw cells at c.entry-item.is) (same_cells c.entry-item.result.cell c.args.cell c.if-ne.ensures) less.same v lt ∙ c.loop-entry.invariant.0 v lt),
       less.some,
       less.small,
     )
@@ -25,10 +24,9 @@ loop-entry-preserved c =
 pub loop-entry-preserved-then-ne : goal.loop-entry-preserved-then-ne
 loop-entry-preserved-then-ne c =
     let k : Kept = c.args.self.now in
-    let cells : c.as_slice-entry-items.result.now ≡ k.entries = c.as_slice-entry-items.ensures.value ∙ ap (λ (x : Kept). x.entries) c.self.view_is in
-    (
+    let cells : c.as_slice-entry-items.result.now ≡ k.entries = c.as_slice-entry-items.ensures.value ∙ ap (λ (x : Kept). x.entries) c.self.view_is in (
       (λ v lt. entry_passed k.whole k.entries c.loop-entry.entry-index c.args.cell c.entry-item.result (row_words c.loop-entry.row)
-      (rw cells at c.loop-entry-test.true) (rw cells at c.entry-item.is) (other _ c.if-ne.ensures) v ∙ c.loop-entry.invariant.0 v lt),
+          (rw cells at c.loop-entry-test.true) (rw cells at c.entry-item.is) (other _ c.if-ne.ensures) v ∙ c.loop-entry.invariant.0 v lt),
       c.loop-entry.invariant.1,
       c.loop-entry.invariant.2,
     )

@@ -1,16 +1,22 @@
 -- Rows of words.
-use Rattle.std.proofs.Common.{◌≡◌, ◌∙◌, sym, ap, refl, ℕ, zero, suc, ◌+◌, ◌-◌, ◌*◌, ◌/◌, ◌%◌, ◌<◌, ◌≤◌, ◌==◌, Bool, true, false, not, ◌&&◌, ◌⊎◌, Option, Some, None, List, inl, inr, arith, max, min}
+use Rattle.std.proofs.Common.{◌≡◌, ◌∙◌, sym, ap, refl, ℕ, zero, suc, ◌+◌, ◌-◌, ◌*◌, ◌/◌, ◌%◌, ◌<◌, ◌≤◌, ◌==◌, Bool, true, false, not, ◌&&◌, ◌⊎◌, Option, Some, None, List, inl, inr, arith, max, min, get_or, ◌^◌, [], ◌∷◌}
 use Rattle.std.specs.Prelude.{IfSome, IsTrue, ◌↔◌, nat_lt, nat_le, if◌then◌else◌}
-use Rattle.std.proofs.lemmas.Bool.{cases_lt, eq-eqb, true≢false, false≢true}
+use Rattle.std.specs.Int.{bit_at}
+use Rattle.std.proofs.Math.Path.{fun_ext}
+use Rattle.std.proofs.lemmas.Nat.{shr-shr}
+use Rattle.std.proofs.lemmas.Bool.{cases_lt, eq-eqb, eqb-true, true≢false, false≢true}
 use Rattle.std.proofs.lemmas.Bool.Decides.{nat_tests, eqb_tells}
-use Rattle.wordset.specs.Words.{Words, SameWords, SameLinks, IsWithin, IsFirstFrom, HasNoneFrom, between, meet, minus, plus, shifted, sums, carries, some_below, has_some, only}
+use Rattle.wordset.specs.Words.{Words, SameWords, SameLinks, IsWithin, IsFirstFrom, HasNoneFrom, between, meet, minus, plus, shifted, sums, carries, some_below, has_some, only, one, all_words}
 use Rattle.wordset.specs.Lanes.{words}
 use Rattle.wordset.specs.Links.{carries_of}
 use Rattle.wordset.specs.declared.links.Carries.{Carries}
 use Rattle.wordset.proofs.Tests.{both_ways, some_from, some_none_of, some_to, IsSome, and_both, and_first, and_second}
 use Rattle.wordset.proofs.Firsts.{only_next, only_two}
+use Rattle.wordset.proofs.SetLemmas.{words_bit, words_are, equal_words, all_past}
 use Rattle.facts.specs.declared.seen.Row.{Row}
-use Rattle.facts.specs.Rows.{row_words, IsRow}
+use Rattle.facts.specs.declared.seen.Kept.{Kept}
+use Rattle.facts.specs.declared.seen.Kept.TheVariants as kept
+use Rattle.facts.specs.Rows.{row_words, IsRow, IsKept, lane_with, lanes_with, lanes_of, kept_lanes}
 
 inside : (f l v : ℕ) → f ≤ v → v ≤ l → between f l v ≡ true
 inside f l v a b = grind (arith, nat_tests)
@@ -169,3 +175,63 @@ within_rows a b c d s t small le one other = (
     up_to_last c d b (other b small ∙ w b small (sym (one b small) ∙ inside a b b le (omega arith))),
   ),
 )
+
+-- the bit of a lane
+lane_bit : (n j : ℕ) (t : ℕ → Bool) → j < n → (bit_at (lane_with n t) j == 1) ≡ t j
+unfolding lane_with
+lane_bit zero j t h = absurd (omega arith)
+lane_bit (suc n) zero t h = go (t 0) (lane_with n (λ k. t (k + 1)))
+  where
+    go : (b : Bool) (y : ℕ) → (bit_at ((if b then 1 else 0) + 2 * y) 0 == 1) ≡ b
+    go true y = eq-eqb (((1 + 2 * y) / 1) % 2) 1 (omega arith)
+    go false y = let z : ((0 + 2 * y) / 1) % 2 ≡ 0 = omega arith in ap (λ n. n == 1) z
+lane_bit (suc n) (suc j) t h =
+    let y : ℕ = lane_with n (λ k. t (k + 1)) in
+    let x : ℕ = (if t 0 then 1 else 0) + 2 * y in
+    let same : suc j ≡ 1 + j = omega arith in
+    let halved : x / 2 ^ suc j ≡ y / 2 ^ j = ap (λ m. x / 2 ^ m) same ∙ sym (shr-shr x 1 j) ∙ ap (λ m. m / 2 ^ j) (half (t 0) y) in
+    ap (λ m. m % 2 == 1) halved ∙ lane_bit n j (λ k. t (k + 1)) (omega arith) ∙ ap t (let z : j + 1 ≡ suc j = omega arith in z)
+  where
+    half : (b : Bool) (y : ℕ) → ((if b then 1 else 0) + 2 * y) / 2 ^ 1 ≡ y
+    half true y = omega arith
+    half false y = omega arith
+
+lane_at : (n i k : ℕ) (s : Words) → k < n → get_or (lanes_with n i s) k 0 ≡ lane_with 64 (λ j. s (64 * (i + k) + j))
+unfolding lanes_with
+lane_at zero i k s h = absurd (omega arith)
+lane_at (suc n) i zero s h = ap (λ m. lane_with 64 (λ j. s (64 * m + j))) (let z : i ≡ i + 0 = omega arith in z)
+lane_at (suc n) i (suc k) s h = lane_at n (i + 1) k s (omega arith) ∙ ap (λ m. lane_with 64 (λ j. s (64 * m + j))) (let z : i + 1 + k ≡ i + suc k = omega arith in z)
+
+-- the lanes of a set have its words
+pub lanes_same : (s : Words) → SameWords (words (lanes_of s)) s
+unfolding lanes_of
+lanes_same s v lt =
+    words_bit (lanes_of s) v lt
+    ∙ ap (λ x. bit_at x (v % 64) == 1) (lane_at 64 0 (v / 64) s (omega arith))
+    ∙ lane_bit 64 (v % 64) (λ j. s (64 * (0 + v / 64) + j)) (omega arith)
+    ∙ ap s (let z : 64 * (0 + v / 64) + v % 64 ≡ v = omega arith in z)
+
+past_row : (r : Row) → r.last < 4096 → (v : ℕ) → 4096 ≤ v → row_words r v ≡ false
+past_row r small v ge = after r.first r.last v (omega arith)
+
+pub row_lanes : (r : Row) → r.last < 4096 → words (lanes_of (row_words r)) ≡ row_words r
+row_lanes r small = words_are (lanes_of (row_words r)) (row_words r) (past_row r small) (lanes_same (row_words r))
+
+-- a set that is kept as a row is one
+pub kept_row : (k : Kept) (r : Row) → k ≡ kept.Row r → IsKept k → IsRow r (words (kept_lanes k))
+kept_row k r e h =
+    let g : (r.first ≤ r.last) × (r.last < 4096) = rw e at h in
+    rw e (record { some = g.0; small = g.1; same = λ v lt. sym (lanes_same (row_words r) v lt) })
+
+pub kept_words : (k : Kept) (r : Row) → k ≡ kept.Row r → IsKept k → words (kept_lanes k) ≡ row_words r
+kept_words k r e h = let g : (r.first ≤ r.last) × (r.last < 4096) = rw e at h in rw e (row_lanes r g.1)
+
+-- one word is a row
+pub one_row : (w : ℕ) → between w w ≡ one w
+one_row w = fun_ext (λ v. both_ways (between w w v) (v == w)
+    (λ e. let a : w ≤ v = from_first w w v e in let b : v ≤ w = up_to_last w w v e in eq-eqb v w (omega arith))
+    (λ e. let a : v ≡ w = eqb-true v w e in inside w w v (omega arith) (omega arith)))
+
+-- and so are all
+pub all_row : (r : Row) → IsRow r all_words → row_words r ≡ all_words
+all_row r h = equal_words (row_words r) all_words (past_row r h.small) all_past h.same

@@ -111,7 +111,7 @@ impl<A: Allocator> Place<'_, A> {
     {
         let indirect = refers_indirectly(word);
         let named = target(word, at);
-        let targets = room.targets.put(self.reached(indirect, named, known));
+        let targets = room.targets.put(&self.reached(indirect, named, known));
         let single = single_target(indirect, named, targets);
         if steps_pointer(indirect, named) {
             let seen = known.stepped(named, &mut room.pointer);

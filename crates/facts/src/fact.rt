@@ -62,8 +62,8 @@ impl Fact {
     }
 
     /// The words that the accumulator may hold.
-    pub fn accumulator(&self) -> &WordSet
-        ensures { words result.now ≡ (statement_of self.now).ac }
+    pub fn accumulator(&self) -> WordSet
+        ensures { words result ≡ (statement_of self.now).ac }
     {
         self.ac.set()
     }
@@ -76,8 +76,8 @@ impl Fact {
     }
 
     /// The words that MQ may hold.
-    pub fn mq(&self) -> &WordSet
-        ensures { words result.now ≡ (statement_of self.now).mq }
+    pub fn mq(&self) -> WordSet
+        ensures { words result ≡ (statement_of self.now).mq }
     {
         self.mq.set()
     }
@@ -123,7 +123,7 @@ impl Fact {
         ensures { SameWords (words result) ((meaning self.now).set (name_of name.now)) }
     {
         match name {
-            Name::Accumulator => *self.ac.set(),
+            Name::Accumulator => self.ac.set(),
             Name::Cell(cell) => self.set_of_cell(*cell),
         }
     }

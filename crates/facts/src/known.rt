@@ -34,9 +34,9 @@ pub(crate) enum Change<'a> {
     /// The cell of this address has these words now.
     Replaced(usize, &'a Seen),
     /// One of the cells, unknown which, went up by one.
-    Counted(&'a WordSet),
+    Counted(&'a Seen),
     /// One of the cells, unknown which, took one of the words.
-    Stored(&'a WordSet, &'a Seen),
+    Stored(&'a Seen, &'a Seen),
 }
 
 /// Where the words of cells come from.
@@ -105,12 +105,12 @@ fn change_set(change: &Change<'_>, cell: Word, set: WordSet) -> WordSet
     match change {
         Change::Unchanged => set,
         Change::Replaced(at, other) => if cell.index() == *at {
-            *other.set()
+            other.set()
         } else {
             set
         },
         Change::Counted(cells) => {
-            if has_cell(cells, cell) {
+            if has_cell(&cells.set(), cell) {
                 let more = set.shift(Word::ZERO.increment());
                 set.union(&more)
             } else {
@@ -118,8 +118,8 @@ fn change_set(change: &Change<'_>, cell: Word, set: WordSet) -> WordSet
             }
         }
         Change::Stored(cells, other) => {
-            if has_cell(cells, cell) {
-                set.union(other.set())
+            if has_cell(&cells.set(), cell) {
+                set.union(&other.set())
             } else {
                 set
             }
@@ -141,12 +141,12 @@ fn changed_row(change: &Change<'_>, cell: Word, row: Row) -> Option<Row>
                 Some(row)
             }
         }
-        Change::Counted(cells) => if has_cell(cells, cell) {
+        Change::Counted(cells) => if has_cell(&cells.set(), cell) {
             None
         } else {
             Some(row)
         },
-        Change::Stored(cells, _) => if has_cell(cells, cell) {
+        Change::Stored(cells, _) => if has_cell(&cells.set(), cell) {
             None
         } else {
             Some(row)
@@ -192,13 +192,13 @@ fn is_new_within(change: &Change<'_>, cells: &TrackedCells, at: usize, before: b
         Change::Unchanged => before,
         Change::Replaced(changed, other) => {
             if cell.index() == *changed {
-                cells.has_all(at, other.set())
+                cells.has_all(at, &other.set())
             } else {
                 before
             }
         }
-        Change::Counted(several) => before && !has_cell(several, cell),
-        Change::Stored(several, _) => before && !has_cell(several, cell),
+        Change::Counted(several) => before && !has_cell(&several.set(), cell),
+        Change::Stored(several, _) => before && !has_cell(&several.set(), cell),
     }
 }
 
@@ -212,15 +212,15 @@ fn speaks_of(equation: &Equation, name: &Name) -> bool
 
 impl Known<'_> {
     /// The words that the accumulator may hold.
-    pub fn accumulator(&self) -> &WordSet
-        ensures { words result.now ≡ (known_of self.now).set Ac }
+    pub fn accumulator(&self) -> WordSet
+        ensures { words result ≡ (known_of self.now).set Ac }
     {
         self.ac.set()
     }
 
     /// The words that MQ may hold.
-    pub fn mq(&self) -> &WordSet
-        ensures { words result.now ≡ (known_of self.now).mq }
+    pub fn mq(&self) -> WordSet
+        ensures { words result ≡ (known_of self.now).mq }
     {
         self.mq.set()
     }
@@ -251,7 +251,7 @@ impl Known<'_> {
         ensures { SameWords (words result) ((known_of self.now).set (name_of name.now)) }
     {
         match name {
-            Name::Accumulator => *self.ac.set(),
+            Name::Accumulator => self.ac.set(),
             Name::Cell(cell) => {
                 let mut set = source_set(&self.base, *cell);
                 apply(&self.pointer, *cell, &mut set);
@@ -337,7 +337,7 @@ impl Known<'_> {
         ensures { SameWords (words result) (narrowed (known_of self.now) (name_of name.now)) }
     {
         match self.narrowed_row(name) {
-            Some(row) => Seen::between(row.first, row.last),
+            Some(row) => Seen::of_row(row),
             None => Seen::of(self.narrowed_any(name)),
         }
     }
@@ -363,7 +363,7 @@ impl Known<'_> {
     pub fn narrowed(&self, name: &Name) -> WordSet
         ensures { SameWords (words result) (narrowed (known_of self.now) (name_of name.now)) }
     {
-        *self.left_to(name).set()
+        self.left_to(name).set()
     }
 
     /// The same, where they aren't seen to be a row.
@@ -536,8 +536,8 @@ impl Known<'_> {
         if self.ac.is_within(fact.accumulator_seen()) {
             return true;
         }
-        self.narrowed(&Name::Accumulator)
-            .is_subset(fact.accumulator())
+        self.left_to(&Name::Accumulator)
+            .is_within(fact.accumulator_seen())
     }
 }
 

@@ -137,7 +137,7 @@ impl<A: Allocator> Place<'_, A> {
         let mut set = WordSet::empty();
         let mut next = 0usize;
         while let Some(cell) = cells.first_from(next) {
-            set = set.union(self.words_in(known, cell).set());
+            set = set.union(&self.words_in(known, cell).set());
             next = cell.index() + 1;
         }
         set

@@ -52,20 +52,19 @@ pub(crate) fn deposit<'a>(
     let ac = known.left_to(&Name::Accumulator);
     match single {
         Some(cell) => {
-            let written = Seen::of(*ac.set());
-            let after = known.deposited(*cell, ac, &mut way.first, &mut way.second, &mut way.third);
-            going(
-                targets,
-                known,
-                &written,
-                address_after(at, &mut way.next),
-                after,
-            )
+            let after = known.deposited(
+                *cell,
+                &ac,
+                &mut way.first,
+                &mut way.second,
+                &mut way.third,
+            );
+            going(targets, known, &ac, address_after(at, &mut way.next), after)
         }
         None => {
             let after = known
-                .stored(targets, ac, &mut way.first, &mut way.third)
-                .with_ac(Seen::one(Word::ZERO), &mut way.second);
+                .stored(targets, &ac, &mut way.first, &mut way.third)
+                .with_ac(&Seen::one(Word::ZERO), &mut way.second);
             going(
                 targets,
                 known,
@@ -96,7 +95,7 @@ pub(crate) fn count_one<'a>(
 {
     let old = known.narrowed(&Name::Cell(cell));
     let zero = Seen::one(Word::ZERO);
-    let more = Seen::of(old.shift(Word::ZERO.increment()).minus(zero.set()));
+    let more = Seen::of(old.shift(Word::ZERO.increment()).minus(&zero.set()));
     let last = Word::ZERO.complement();
     let skips = going_if(
         old.contains(last),
@@ -104,14 +103,14 @@ pub(crate) fn count_one<'a>(
         known,
         &zero,
         address_skipped_to(at, &mut way.next),
-        known.counted_to(cell, Seen::one(Word::ZERO), &mut way.first),
+        known.counted_to(cell, &zero, &mut way.first),
     );
     let goes_on = going(
         targets,
         known,
         &more,
         address_after(at, &mut other.next),
-        known.counted_to(cell, Seen::of(*more.set()), &mut other.first),
+        known.counted_to(cell, &more, &mut other.first),
     );
     (skips, goes_on)
 }
@@ -235,12 +234,12 @@ pub(crate) fn count_several<'a>(
 fn after_sum<'a>(
     known: &Known<'a>,
     added: &Option<Word>,
-    set: Seen,
+    set: &Seen,
     step: &'a mut Step,
 ) -> Known<'a>
     requires room { length known.now.equations.now ≤ 32 }
     ensures { (f : said.Fact) (v : Words) → Agree (known_of known.now) f →
-        SameWords (words set) (sums (narrowed f Ac) v) →
+        SameWords (words set.now) (sums (narrowed f Ac) v) →
         Agree (known_of result) (tad_word f v added.now) }
 {
     match added {
@@ -297,8 +296,8 @@ impl<A: Allocator> Place<'_, A> {
     {
         let ac = known.left_to(&Name::Accumulator);
         let seen = self.words_at(known, targets, single);
-        let both = Seen::of(ac.set().ands(seen.set()));
-        let after = known.with_ac(both, &mut way.first);
+        let both = Seen::of(ac.set().ands(&seen.set()));
+        let after = known.with_ac(&both, &mut way.first);
         going(
             targets,
             known,
@@ -316,13 +315,13 @@ impl<A: Allocator> Place<'_, A> {
         target: &Option<Word>,
         ac: &Option<Word>,
         added: &Option<Word>,
-        set: Seen,
+        set: &Seen,
         first: &'a mut Step,
         second: &'a mut Step,
     ) -> Known<'a>
         requires room { length known.now.equations.now ≤ 32 }
         ensures { (f : said.Fact) (v : Words) → Agree (known_of known.now) f →
-            SameWords (words set) (sums (narrowed f Ac) v) →
+            SameWords (words set.now) (sums (narrowed f Ac) v) →
             Agree (known_of result) (tad_case (place_of self.now) f v target.now ac.now added.now) }
     {
         if let Some(cell) = target {
@@ -353,14 +352,15 @@ impl<A: Allocator> Place<'_, A> {
     {
         let ac = known.left_to(&Name::Accumulator);
         let seen = self.words_at(known, targets, single);
-        let (sums, carries) = ac.sums(&seen);
+        let mut sums = Seen::all();
+        let carries = sums.put_sums(&ac, &seen);
         let links = known.link.toggled(carries);
         let mut sum = self.after_tad(
             known,
             single,
             &ac.only(),
             &seen.only(),
-            sums,
+            &sums,
             &mut way.first,
             &mut way.second,
         );

@@ -67,7 +67,7 @@ fn related<'a>(word: Word, known: &Known<'a>, step: &'a mut Step) -> Known<'a>
         Agree (known_of result) (related1 word f) }
 {
     if changes_accumulator(word) {
-        return known.with_ac(Seen::all(), step);
+        return known.with_ac(&Seen::all(), step);
     }
     if increments(word) {
         return known.raised_ac(Word::ZERO.increment(), step);
@@ -92,7 +92,7 @@ pub(crate) fn operate<'a>(
     let ac = known.narrowed(&Name::Accumulator);
     let (images, links) = ac.map_operate(word, known.link);
     let after = related(word, known, &mut way.first)
-        .holding(Seen::of(images), &mut way.second)
+        .holding(&Seen::of(images), &mut way.second)
         .with_link(links);
     go_on(at, known, after, &mut way.next)
 }
@@ -127,7 +127,7 @@ pub(crate) fn or_byte<'a>(at: Word, known: &Known<'a>, way: &'a mut Way) -> Opti
 {
     let ac = known.narrowed(&Name::Accumulator);
     let byte = ac.or_any(Word::from_byte(0o377));
-    let after = known.with_ac(Seen::of(byte), &mut way.first);
+    let after = known.with_ac(&Seen::of(byte), &mut way.first);
     go_on(at, known, after, &mut way.next)
 }
 
@@ -137,7 +137,7 @@ pub(crate) fn clear<'a>(at: Word, known: &Known<'a>, way: &'a mut Way) -> Option
     ensures { (f : said.Fact) → Agree (known_of known.now) f →
         AgreeingOutcomes (slot result) (device_outcomes at f Clears) }
 {
-    let after = known.with_ac(Seen::one(Word::ZERO), &mut way.first);
+    let after = known.with_ac(&Seen::one(Word::ZERO), &mut way.first);
     go_on(at, known, after, &mut way.next)
 }
 
@@ -148,7 +148,7 @@ pub(crate) fn take_byte<'a>(at: Word, known: &Known<'a>, way: &'a mut Way) -> Op
         AgreeingOutcomes (slot result) (device_outcomes at f Takes) }
 {
     let bytes = Seen::between(Word::ZERO, Word::from_byte(0o377));
-    let after = known.with_ac(bytes, &mut way.first);
+    let after = known.with_ac(&bytes, &mut way.first);
     go_on(at, known, after, &mut way.next)
 }
 
@@ -175,8 +175,8 @@ fn take<'a>(
         (with_mq t (assigned Ac s f))) }
 {
     let after = known
-        .with_ac(Seen::of(ac), &mut way.first)
-        .with_mq(Seen::of(mq), &mut way.second);
+        .with_ac(&Seen::of(ac), &mut way.first)
+        .with_mq(&Seen::of(mq), &mut way.second);
     go_on(at, known, after, &mut way.next)
 }
 
@@ -195,7 +195,7 @@ pub(crate) fn exchange<'a>(
         (operated3 o f)) }
 {
     let ac = known.narrowed(&Name::Accumulator);
-    let mq = *known.mq.set();
+    let mq = known.mq.set();
     let zero = WordSet::one(Word::ZERO);
     match word.value() {
         0o7421 => take(at, known, zero, ac, way),

@@ -4,7 +4,7 @@ ghost use Rattle.std.specs.Prelude.{◌≡◌, ◌≤◌, ◌↔◌, Some, IfSom
 ghost use Rattle.wordset.specs.Words.{Words, SameWords, SameLinks, IsWithin, IsFirstFrom, HasNoneFrom, between, one, all_words, has_some, only, meet, shifted, sums, carries};
 ghost use Rattle.wordset.specs.Lanes.{words};
 ghost use Rattle.wordset.specs.Links.{carries_of};
-ghost use Rattle.facts.specs.Rows.{row_words, IsRow, IsRowOf};
+ghost use Rattle.facts.specs.Rows.{row_words, IsRow};
 
 use std::marker::Model;
 use word12::Word;
@@ -130,43 +130,62 @@ impl Row {
     }
 }
 
-/// The words that something may hold: a set, and beside it the row that it is, where that's known.
-/// Most are rows, and of two rows a comparison tells what otherwise all lanes of two sets do.
+/// How a set is kept.
+#[derive(Clone, Copy)]
+enum Kept {
+    /// As a row, which has a word.
+    Row(Row),
+    /// With its lanes.
+    Set(WordSet),
+}
+
+/// The words that something may hold: those of a row, or those of any set. Most are rows, and of two
+/// rows a comparison tells what otherwise all lanes of two sets do.
 ///
-/// Contracts see the set.
+/// Contracts see the lanes of the set.
 #[derive(Clone, Drop)]
 pub struct Seen {
-    set: WordSet,
-    row: Option<Row>,
+    kept: Kept,
 }
 
 impl Model for Seen {
     ghost use Rattle.std.specs.Prelude.{ℕ, List};
-    ghost use Rattle.facts.specs.Rows.{IsRowOf};
+    ghost use Rattle.facts.specs.Rows.{kept_lanes, IsKept};
 
     ghost Value = { List ℕ };
 
-    ghost view = { λ s. s.set };
+    ghost view = { λ s. kept_lanes s.kept };
 
-    // The row is that of the set.
-    ghost invariant = { λ s. IsRowOf s.row s.set };
+    ghost invariant = { λ s. IsKept s.kept };
 }
 
 impl Seen {
-    /// A set of which no row is known.
+    /// The words of a set.
     pub(crate) fn of(set: WordSet) -> Seen
         ensures { result ≡ set }
     {
-        Seen { set, row: None }
+        Seen {
+            kept: Kept::Set(set),
+        }
+    }
+
+    /// The words of a row.
+    pub(crate) fn of_row(row: Row) -> Seen
+        requires { IsRow row (row_words row) }
+        ensures { words result ≡ row_words row }
+    {
+        Seen {
+            kept: Kept::Row(row),
+        }
     }
 
     /// The words from one to another, both of them; none where the second is the lesser.
     pub(crate) fn between(first: Word, last: Word) -> Seen
         ensures { words result ≡ between first last }
     {
-        Seen {
-            set: WordSet::range(first, last),
-            row: Row::of(first, last),
+        match Row::of(first, last) {
+            Some(row) => Seen::of_row(row),
+            None => Seen::of(WordSet::range(first, last)),
         }
     }
 
@@ -174,34 +193,39 @@ impl Seen {
     pub(crate) fn one(word: Word) -> Seen
         ensures { words result ≡ one word }
     {
-        Seen {
-            set: WordSet::one(word),
-            row: Row::of(word, word),
-        }
+        let index = word.index();
+        prove!(index < 4096);
+        Seen::of_row(Row {
+            first: word,
+            last: word,
+        })
     }
 
     /// All words.
     pub(crate) fn all() -> Seen
         ensures { words result ≡ all_words }
     {
-        Seen {
-            set: WordSet::all(),
-            row: Some(Row::all()),
-        }
+        Seen::of_row(Row::all())
     }
 
     /// The set.
-    pub fn set(&self) -> &WordSet
-        ensures { result.now ≡ self.now }
+    pub fn set(&self) -> WordSet
+        ensures { words result ≡ words self.now }
     {
-        &self.set
+        match &self.kept {
+            Kept::Row(row) => WordSet::range(row.first, row.last),
+            Kept::Set(set) => *set,
+        }
     }
 
-    /// The row that it is, where that's known.
+    /// The row that it is, where it's kept as one.
     pub(crate) fn row(&self) -> Option<Row>
         ensures { IfSome result (λ r. IsRow r (words self.now)) }
     {
-        self.row
+        match &self.kept {
+            Kept::Row(row) => Some(*row),
+            Kept::Set(_) => None,
+        }
     }
 
     /// The least of the words from a number on.
@@ -210,9 +234,9 @@ impl Seen {
             (HasNoneFrom from (words self.now))
             (λ w. IsFirstFrom from (words self.now) w) }
     {
-        match self.row {
-            Some(row) => row.first_from(from),
-            None => self.set.first_from(from),
+        match &self.kept {
+            Kept::Row(row) => row.first_from(from),
+            Kept::Set(set) => set.first_from(from),
         }
     }
 
@@ -220,17 +244,18 @@ impl Seen {
     pub(crate) fn put_one(&mut self, word: Word) -> &Seen
         ensures { words result.now ≡ one word }
     {
-        self.set = WordSet::empty();
-        self.set.insert(word);
-        self.row = Row::of(word, word);
+        *self = Seen::one(word);
         self
     }
 
     /// Puts other words here, and lends them.
-    pub(crate) fn put(&mut self, other: Seen) -> &Seen
-        ensures { result.now ≡ other }
+    pub(crate) fn put(&mut self, other: &Seen) -> &Seen
+        ensures { result.now ≡ other.now }
     {
-        *self = other;
+        match &other.kept {
+            Kept::Row(row) => self.kept = Kept::Row(*row),
+            Kept::Set(set) => self.kept = Kept::Set(*set),
+        }
         self
     }
 
@@ -238,9 +263,9 @@ impl Seen {
     pub(crate) fn is_empty(&self) -> bool
         ensures { result ≡ not (has_some (words self.now)) }
     {
-        match self.row {
-            Some(_) => false,
-            None => self.set.is_empty(),
+        match &self.kept {
+            Kept::Row(_) => false,
+            Kept::Set(set) => set.is_empty(),
         }
     }
 
@@ -248,13 +273,13 @@ impl Seen {
     pub(crate) fn only(&self) -> Option<Word>
         ensures { result ≡ only (words self.now) }
     {
-        match self.row {
-            Some(row) => if row.first == row.last {
+        match &self.kept {
+            Kept::Row(row) => if row.first == row.last {
                 Some(row.first)
             } else {
                 None
             },
-            None => self.set.only(),
+            Kept::Set(set) => set.only(),
         }
     }
 
@@ -262,29 +287,30 @@ impl Seen {
     pub(crate) fn is_within(&self, other: &Seen) -> bool
         ensures { IsTrue result ↔ IsWithin (words self.now) (words other.now) }
     {
-        if let Some(row) = self.row {
-            if let Some(wider) = other.row {
+        if let Some(row) = self.row() {
+            if let Some(wider) = other.row() {
                 return row.is_within(&wider);
             }
         }
-        self.set.is_subset(&other.set)
+        self.set().is_subset(&other.set())
     }
 
-    /// The sums a + b, modulo 4096, of the words a of this set and b of another, and the carries with
-    /// which they come.
-    pub(crate) fn sums(&self, other: &Seen) -> (Seen, Carries)
-        ensures words { SameWords (words result.0) (sums (words self.now) (words other.now)) }
-        ensures carries { SameLinks (carries_of result.1)
-            (carries (words self.now) (words other.now)) }
+    /// Puts here the sums a + b, modulo 4096, of the words a of one set and b of another, and tells
+    /// the carries with which they come.
+    pub(crate) fn put_sums(&mut self, one: &Seen, other: &Seen) -> Carries
+        ensures words { SameWords (words self.new) (sums (words one.now) (words other.now)) }
+        ensures carries { SameLinks (carries_of result) (carries (words one.now) (words other.now)) }
     {
-        if let Some(row) = self.row {
-            if let Some(more) = other.row {
+        if let Some(row) = one.row() {
+            if let Some(more) = other.row() {
                 if let Some((row, carries)) = row.sums(more) {
-                    return (Seen::between(row.first, row.last), carries);
+                    self.kept = Kept::Row(row);
+                    return carries;
                 }
             }
         }
-        let (sums, carries) = self.set.sums(&other.set);
-        (Seen::of(sums), carries)
+        let (sums, carries) = one.set().sums(&other.set());
+        self.kept = Kept::Set(sums);
+        carries
     }
 }

@@ -113,12 +113,12 @@ fn after_test<'a>(word: Word, known: &Known<'a>, part: WordSet, step: &'a mut St
 {
     if reads_switches(word) {
         let left = kept(word, part);
-        return known.with_ac(Seen::of(left.or_any(Word::from_index(0o7777))), step);
+        return known.with_ac(&Seen::of(left.or_any(Word::from_index(0o7777))), step);
     }
     if clears(word) {
-        return known.with_ac(Seen::one(Word::ZERO), step);
+        return known.with_ac(&Seen::one(Word::ZERO), step);
     }
-    known.same().holding(Seen::of(part), step)
+    known.same().holding(&Seen::of(part), step)
 }
 
 /// The next address, or the one after it.

@@ -17,13 +17,13 @@ pub returns : goal.returns
 returns c = λ pl f p var h e.
     let old : SameWords (words c.narrowed-old.result) (narrowed f (Cell c.args.cell)) = λ v lt. c.narrowed-old.ensures v lt ∙ narrowed_agree h (Cell c.args.cell) v lt in
     let zero : SameWords (words c.one-zero.result) (one 0) = λ v lt. ap (λ (x : Words). x v) c.one-zero.ensures in
-    let less : words c.set.result.now ≡ one 0 = ap words c.set.ensures ∙ c.one-zero.ensures in
+    let less : words c.set.result ≡ one 0 = c.set.ensures ∙ c.one-zero.ensures in
     let more : SameWords (words c.of-more.result) (without 0 (shifted (narrowed f (Cell c.args.cell)) 1)) =
     λ v lt. ap (λ (s : List ℕ). words s v) c.of-more.ensures ∙ left_over (narrowed f (Cell c.args.cell)) c.increment.result c.increment.ensures (shifted_same c.increment.result old c.shift.ensures) less c.minus.ensures v lt in
     let full : c.contains.result ≡ narrowed f (Cell c.args.cell) 4095 = c.contains.ensures ∙ ap (λ n. words c.narrowed-old.result n) c.complement-last.ensures ∙ old 4095 (lit< tt) in
     isz_variable pl c.args.at f p c.args.cell (slot c.going_if-skips.result) (slot c.going-goes_on.result) var
     (subst (λ b. AgreeingOutcomes (slot c.going_if-skips.result) (given (b && alive p f (one 0) (with_name (Cell c.args.cell) (one 0) (moved (Cell c.args.cell) 1 f))) (Goes (one (plus c.args.at 2)) (with_name (Cell c.args.cell) (one 0) (moved (Cell c.args.cell) 1 f))))) full
     (c.going_if-skips.ensures p (one 0) (one (plus c.args.at 2)) f (with_name (Cell c.args.cell) (one 0) (moved (Cell c.args.cell) 1 f)) e h zero c.address_skipped_to.ensures
-    (agree_trans c.counted_to.ensures.same (name_agree (Cell c.args.cell) (moved_agree (Cell c.args.cell) 1 h) (λ v lt. ap (λ (x : Words). x v) c.one.ensures)))))
+    (agree_trans c.counted_to.ensures.same (name_agree (Cell c.args.cell) (moved_agree (Cell c.args.cell) 1 h) zero))))
     (c.going-goes_on.ensures p (without 0 (shifted (narrowed f (Cell c.args.cell)) 1)) (one (plus c.args.at 1)) f (with_name (Cell c.args.cell) (without 0 (shifted (narrowed f (Cell c.args.cell)) 1)) (moved (Cell c.args.cell) 1 f)) e h more c.address_after.ensures
-    (agree_trans c.counted_to-2.ensures.same (name_agree (Cell c.args.cell) (moved_agree (Cell c.args.cell) 1 h) (λ v lt. ap (λ (s : List ℕ). words s v) (c.of.ensures ∙ c.set-2.ensures) ∙ more v lt))))
+    (agree_trans c.counted_to-2.ensures.same (name_agree (Cell c.args.cell) (moved_agree (Cell c.args.cell) 1 h) more)))

@@ -13,7 +13,7 @@ returns-in-Some c = λ pl f p h e.
     let same : only p ≡ only (words c.args.targets.now) = sym (only_same _ _ e) in
     let ac : SameWords (words c.left_to-ac.result) (narrowed f Ac) = λ v lt. c.left_to-ac.ensures v lt ∙ narrowed_agree h Ac v lt in
     let some : only (words c.args.targets.now) ≡ Some c.in-Some.cell = sym c.requires.single ∙ c.in-Some.is in
-    rw (same, some) (c.going.ensures p (narrowed f Ac) (one (plus c.args.at 1)) f _ e h (λ v lt. ap (λ (s : List ℕ). words s v) (c.of-written.ensures ∙ c.set.ensures) ∙ ac v lt) c.address_after.ensures
+    rw (same, some) (c.going.ensures p (narrowed f Ac) (one (plus c.args.at 1)) f _ e h ac c.address_after.ensures
     (agree_trans c.deposited-after.ensures (deposited_words h c.in-Some.cell ac)))
 
 pub returns-in-None : goal.returns-in-None

@@ -74,7 +74,7 @@ impl<A: Allocator, C: Claims> Spot<'_, A, C> {
             (here self.now) found.0 found.1 (outcome_of outcome.now)) }
     {
         match outcome {
-            Outcome::Goes(addresses, known) => self.misses_at(addresses.set(), known),
+            Outcome::Goes(addresses, known) => self.misses_at(&addresses.set(), known),
             Outcome::Calls(_, _) | Outcome::Returns(_) => None,
         }
     }

@@ -151,7 +151,7 @@ impl Fact {
             record (statement_of self.old) { ac = between first last } }
         ensures offsets { offsets_of self.new.offsets ≡ offsets_of self.old.offsets }
     {
-        self.ac = Seen::between(first, last);
+        self.ac.put_between(first, last);
     }
 
     /// Lets MQ hold the words from one to another, both of them; none where the second is the lesser.
@@ -160,7 +160,7 @@ impl Fact {
             record (statement_of self.old) { mq = between first last } }
         ensures offsets { offsets_of self.new.offsets ≡ offsets_of self.old.offsets }
     {
-        self.mq = Seen::between(first, last);
+        self.mq.put_between(first, last);
     }
 
     /// Lets MQ hold these words.

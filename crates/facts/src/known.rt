@@ -338,8 +338,16 @@ impl Known<'_> {
     {
         match self.narrowed_row(name) {
             Some(row) => Seen::of_row(row),
-            None => Seen::of(self.narrowed_any(name)),
+            None => self.left_by_sets(name),
         }
+    }
+
+    /// The same, where they aren't seen to be a row; the room for their set is made here alone.
+    #[inline(never)]
+    fn left_by_sets(&self, name: &Name) -> Seen
+        ensures { SameWords (words result) (narrowed (known_of self.now) (name_of name.now)) }
+    {
+        Seen::of(self.narrowed_any(name))
     }
 
     /// Leaves in a set the words that an equation leaves to a name.

@@ -244,8 +244,34 @@ impl Seen {
     pub(crate) fn put_one(&mut self, word: Word) -> &Seen
         ensures { words result.now ≡ one word }
     {
-        *self = Seen::one(word);
+        let index = word.index();
+        prove!(index < 4096);
+        self.kept = Kept::Row(Row {
+            first: word,
+            last: word,
+        });
         self
+    }
+
+    /// Puts the words from one to another here, both of them; none where the second is the lesser.
+    pub(crate) fn put_between(&mut self, first: Word, last: Word)
+        ensures { words self.new ≡ between first last }
+    {
+        let most = last.index();
+        if most < first.index() {
+            self.put_range(first, last);
+            return;
+        }
+        prove!(most < 4096);
+        self.kept = Kept::Row(Row { first, last });
+    }
+
+    /// The same, with its lanes; the room for them is made here alone.
+    #[inline(never)]
+    fn put_range(&mut self, first: Word, last: Word)
+        ensures { words self.new ≡ between first last }
+    {
+        self.kept = Kept::Set(WordSet::range(first, last));
     }
 
     /// Puts other words here, and lends them.

@@ -1,4 +1,4 @@
--- Rows of words, and sets that are kept as rows where they are; it serves private contracts.
+-- Rows of words, and sets that are kept as rows where they are.
 use Rattle.std.specs.Prelude.{ℕ, ◌+◌, ◌*◌, ◌<◌, ◌≤◌, Bool, if◌then◌else◌, List, [], ◌∷◌}
 use Rattle.std.proofs.Common.{zero, suc}
 use Rattle.wordset.specs.Words.{Words, SameWords, between}

@@ -12,4 +12,5 @@ pub mod Showing
 pub mod Places
 pub mod Slots
 pub mod Rows
+pub mod Sums
 pub mod Access

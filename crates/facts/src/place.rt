@@ -1,17 +1,18 @@
 //! Where a fact stands: the tape, the declaration and the running routine.
 
-ghost use Rattle.std.specs.Prelude.{ℕ, ◌≡◌, ◌||◌, ◌&&◌};
+ghost use Rattle.std.specs.Prelude.{ℕ, ◌≡◌, ◌||◌, ◌&&◌, IfSome};
 ghost use Rattle.wordset.specs.Words.{SameWords, only};
 ghost use Rattle.wordset.specs.Lanes.{words};
 ghost use Rattle.facts.specs.Facts.{is_routine, own_words, words_in, tape_word};
 ghost use Rattle.facts.specs.Outcomes.{words_at};
+ghost use Rattle.facts.specs.Rows.{IsRow};
 ghost use Rattle.facts.specs.Meaning.{known_of};
 ghost use Rattle.facts.specs.Places.{place_of};
 
 use crate::entailment::word_of;
 use crate::known::Known;
 use crate::names::Name;
-use crate::seen::Seen;
+use crate::seen::{Row, Seen};
 use bin_tape::Image;
 use declaration::Declaration;
 use std::alloc::Allocator;
@@ -114,6 +115,44 @@ impl<A: Allocator> Place<'_, A> {
             return Seen::all();
         }
         tape_words(word_of(self.image, cell))
+    }
+
+    /// The words that a cell may hold, where they are seen to be a row.
+    fn row_in(&self, known: &Known<'_>, cell: Word) -> Option<Row>
+        ensures { IfSome result (λ r.
+            IsRow r (words_in (place_of self.now) (known_of known.now) cell)) }
+    {
+        if self.declaration.is_variable(cell) {
+            return known.narrowed_row(&Name::Cell(cell));
+        }
+        if self.is_own(cell) {
+            return None;
+        }
+        if self.declaration.is_entry(cell) {
+            return Some(Row::all());
+        }
+        match word_of(self.image, cell) {
+            Some(word) => Some(Row::one(word)),
+            None => Some(Row::all()),
+        }
+    }
+
+    /// The words that the one of some cells may hold that has no other beside it, where they are seen
+    /// to be a row.
+    pub(crate) fn row_at(
+        &self,
+        known: &Known<'_>,
+        cells: &Seen,
+        single: &Option<Word>,
+    ) -> Option<Row>
+        requires { single.now ≡ only (words cells.now) }
+        ensures { IfSome result (λ r.
+            IsRow r (words_at (place_of self.now) (known_of known.now) (words cells.now))) }
+    {
+        match single {
+            Some(cell) => self.row_in(known, *cell),
+            None => None,
+        }
     }
 
     /// The words that some cells may hold, of which the one is given that has no other beside it.

@@ -1,16 +1,17 @@
 //! The outcomes of the words that refer to memory.
 
-ghost use Rattle.std.specs.Prelude.{ℕ, ◌≡◌, ◌≤◌, ◌++◌, ◌||◌, ◌&&◌, true, false, length, Some, None};
+ghost use Rattle.std.specs.Prelude.{ℕ, ◌≡◌, ◌≤◌, ◌++◌, ◌||◌, ◌&&◌, true, false, length, Some, None, IfSome};
 ghost use Rattle.wordset.specs.Words.{Words, SameWords, everything, only, sums, some_below, has_some, without};
 ghost use Rattle.wordset.specs.Lanes.{words};
 ghost use Rattle.processor.specs.Machine.{steps_pointer};
 ghost use Rattle.facts.specs.Facts as said;
 ghost use Rattle.facts.specs.Facts.{Ac, Cell, narrowed};
-ghost use Rattle.facts.specs.Outcomes.{targets, alive, given, anded, tad_word, tad_case, tad, dca_case, isz_case, jmp, CallsTo};
+ghost use Rattle.facts.specs.Outcomes.{targets, words_at, alive, given, anded, tad_word, tad_case, tad, dca_case, isz_case, jmp, CallsTo};
 ghost use Rattle.facts.specs.Same.{Agree, AgreeingOutcomes};
 ghost use Rattle.facts.specs.Meaning.{known_of, IsUnchanged};
 ghost use Rattle.facts.specs.Places.{place_of};
 ghost use Rattle.facts.specs.Slots.{slot};
+ghost use Rattle.facts.specs.Sums.{IsSumOf};
 
 use crate::known::Known;
 use crate::names::Name;
@@ -19,7 +20,7 @@ use crate::outcome::{
 };
 use crate::place::Place;
 use crate::room::{Step, Way};
-use crate::seen::Seen;
+use crate::seen::{RowSum, Seen};
 use processor::is_auto_index;
 use std::alloc::Allocator;
 use word12::Word;
@@ -337,6 +338,91 @@ impl<A: Allocator> Place<'_, A> {
     /// TAD: all sums, and the link complemented by the carries that occur.
     #[inline(never)]
     pub(crate) fn add<'a>(
+        &self,
+        at: Word,
+        known: &Known<'a>,
+        targets: &Seen,
+        single: &Option<Word>,
+        way: &'a mut Way,
+    ) -> Option<Outcome<'a>>
+        requires single { single.now ≡ only (words targets.now) }
+        requires room { length known.now.equations.now ≤ 32 }
+        ensures { (f : said.Fact) (p : Words) → Agree (known_of known.now) f →
+            SameWords (words targets.now) p →
+            AgreeingOutcomes (slot result) (tad (place_of self.now) at f p) }
+    {
+        let Some(sum) = self.sum_rows(known, targets, single) else {
+            return self.add_sets(at, known, targets, single, way);
+        };
+        self.add_rows(at, known, targets, single, &sum, way)
+    }
+
+    /// The words that are added where they are seen to be rows, with the sums and the carries, where
+    /// all or none come with one.
+    fn sum_rows(&self, known: &Known<'_>, targets: &Seen, single: &Option<Word>) -> Option<RowSum>
+        requires { single.now ≡ only (words targets.now) }
+        ensures { IfSome result (IsSumOf (narrowed (known_of known.now) Ac)
+            (words_at (place_of self.now) (known_of known.now) (words targets.now))) }
+    {
+        let Some(one) = known.narrowed_row(&Name::Accumulator) else {
+            return None;
+        };
+        let Some(other) = self.row_at(known, targets, single) else {
+            return None;
+        };
+        match one.sums(other) {
+            Some((sums, carries)) => Some(RowSum {
+                one,
+                other,
+                sums,
+                carries,
+            }),
+            None => None,
+        }
+    }
+
+    /// TAD of rows; no set but one stands among the places here.
+    #[inline(never)]
+    fn add_rows<'a>(
+        &self,
+        at: Word,
+        known: &Known<'a>,
+        targets: &Seen,
+        single: &Option<Word>,
+        sum: &RowSum,
+        way: &'a mut Way,
+    ) -> Option<Outcome<'a>>
+        requires single { single.now ≡ only (words targets.now) }
+        requires room { length known.now.equations.now ≤ 32 }
+        requires sum { IsSumOf (narrowed (known_of known.now) Ac)
+            (words_at (place_of self.now) (known_of known.now) (words targets.now)) sum.now }
+        ensures { (f : said.Fact) (p : Words) → Agree (known_of known.now) f →
+            SameWords (words targets.now) p →
+            AgreeingOutcomes (slot result) (tad (place_of self.now) at f p) }
+    {
+        let links = known.link.toggled(sum.carries);
+        let mut after = self.after_tad(
+            known,
+            single,
+            &sum.one.only(),
+            &sum.other.only(),
+            &Seen::of_row(sum.sums),
+            &mut way.first,
+            &mut way.second,
+        );
+        after.set_link(links);
+        going(
+            targets,
+            known,
+            &Seen::all(),
+            address_after(at, &mut way.next),
+            after,
+        )
+    }
+
+    /// TAD of sets that aren't seen to be rows, or of which some sums carry and others don't.
+    #[inline(never)]
+    fn add_sets<'a>(
         &self,
         at: Word,
         known: &Known<'a>,

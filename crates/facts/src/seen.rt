@@ -17,6 +17,15 @@ pub(crate) struct Row {
     pub(crate) last: Word,
 }
 
+/// Two rows, their sums and the carries with which these come.
+#[derive(Clone, Copy)]
+pub(crate) struct RowSum {
+    pub(crate) one: Row,
+    pub(crate) other: Row,
+    pub(crate) sums: Row,
+    pub(crate) carries: Carries,
+}
+
 /// The greater one of two words.
 fn greater(a: Word, b: Word) -> Word
     ensures { result ≡ max a b }
@@ -89,6 +98,30 @@ impl Row {
         Row::of(self.first.add(k), self.last.add(k))
     }
 
+    /// One word.
+    pub(crate) fn one(word: Word) -> Row
+        ensures { IsRow result (one word) }
+    {
+        let index = word.index();
+        prove!(index < 4096);
+        Row {
+            first: word,
+            last: word,
+        }
+    }
+
+    /// The word, where there is no other.
+    pub(crate) fn only(self) -> Option<Word>
+        requires { IsRow self (row_words self) }
+        ensures { result ≡ only (row_words self) }
+    {
+        if self.first == self.last {
+            Some(self.first)
+        } else {
+            None
+        }
+    }
+
     /// The least of the words from a number on.
     fn first_from(self, from: usize) -> Option<Word>
         requires { self.first ≤ self.last }
@@ -107,7 +140,7 @@ impl Row {
 
     /// The sums a + b, modulo 4096, of the words a of this row and b of another, and the carries with
     /// which they come, where all or none come with one.
-    fn sums(self, other: Row) -> Option<(Row, Carries)>
+    pub(crate) fn sums(self, other: Row) -> Option<(Row, Carries)>
         requires some { self.first ≤ self.last }
         requires others { other.first ≤ other.last }
         ensures { IfSome result (λ s. IsRow s.0 (sums (row_words self) (row_words other)) ×

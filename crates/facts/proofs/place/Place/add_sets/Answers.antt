@@ -11,7 +11,7 @@ use Rattle.facts.proofs.Alike.{only_same}
 use Rattle.facts.proofs.PlaceLemmas.{all_same, at_agree, sums_same, carries_same, toggled_same}
 use Rattle.facts.proofs.AgreeLemmas.{narrowed_agree}
 use Rattle.facts.proofs.TadLemmas.{tad_agrees}
-use Rattle.facts.proofs.place.Place.add.Goals as goal
+use Rattle.facts.proofs.place.Place.add_sets.Goals as goal
 
 pub returns : goal.returns
 returns g c = λ f p h e.

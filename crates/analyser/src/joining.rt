@@ -217,7 +217,7 @@ impl<A: Allocator> Kept<A> {
         moved: &mut Vec<Moved, A>,
     ) -> Result<bool, Halt> {
         let grew = !self.covers_registers(known);
-        self.mq = self.mq.union(known.mq());
+        self.mq = self.mq.union(&known.mq());
         self.link = self.link.union(known.link());
         self.offsets = joined_offsets(self.offsets, known.offsets());
         if self.covers_accumulator(known) {

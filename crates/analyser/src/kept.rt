@@ -97,7 +97,7 @@ impl<A: Allocator + Copy> Kept<A> {
     pub(crate) fn bare(alloc: A, known: &Known<'_>) -> Kept<A> {
         Kept {
             ac: left_to(known, &Name::Accumulator),
-            mq: *known.mq(),
+            mq: known.mq(),
             link: known.link(),
             offsets: known.offsets(),
             growths: 0,

@@ -25,8 +25,8 @@ fn registers_of(fact: &Fact) -> Registers
     ensures { registers_said result ≡ registers_in (statement_of fact.now) }
 {
     Registers {
-        accumulator: *fact.accumulator(),
-        mq: *fact.mq(),
+        accumulator: fact.accumulator(),
+        mq: fact.mq(),
         link: fact.link(),
     }
 }

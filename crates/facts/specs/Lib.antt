@@ -11,4 +11,5 @@ pub mod Meaning
 pub mod Showing
 pub mod Places
 pub mod Slots
+pub mod Rows
 pub mod Access

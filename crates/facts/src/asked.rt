@@ -59,7 +59,7 @@ impl<A: Allocator> Place<'_, A> {
         if self.declaration.is_variable(at) {
             return narrowed(fact, &Name::Cell(at));
         }
-        tape_words(word_of(self.image, at))
+        tape_words(word_of(self.image, at)).set()
     }
 
     /// Whether a word has a meaning on the machine that is declared.

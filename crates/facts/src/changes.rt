@@ -14,7 +14,8 @@ use crate::equations::{Equations, add_all, copy_to, free, free_of_cells, raise};
 use crate::known::{Change, Known};
 use crate::names::{Equation, Name};
 use crate::offsets::Offsets;
-use crate::room::{Step, put};
+use crate::room::Step;
+use crate::seen::Seen;
 use word12::Word;
 use wordset::{Links, WordSet};
 
@@ -37,7 +38,9 @@ impl<'a> Known<'a> {
         raise(&Name::Accumulator, k, self.equations, &mut step.list);
         Known {
             base: self.base,
-            ac: put(&mut step.set, self.narrowed(&Name::Accumulator).shift(k)),
+            ac: step
+                .set
+                .put(&Seen::of(self.narrowed(&Name::Accumulator).shift(k))),
             mq: self.mq,
             link: self.link,
             pointer: self.pointer,
@@ -64,7 +67,7 @@ impl<'a> Known<'a> {
             ac: self.ac,
             mq: self.mq,
             link: self.link,
-            pointer: Change::Replaced(cell.index(), put(&mut step.set, set)),
+            pointer: Change::Replaced(cell.index(), step.set.put(&Seen::of(set))),
             target: Change::Unchanged,
             equations: step.list.as_slice(),
             offsets: self.offsets,
@@ -73,16 +76,16 @@ impl<'a> Known<'a> {
 
     /// After the accumulator took some word of a set.
     #[inline(never)]
-    pub(crate) fn with_ac(&self, set: WordSet, step: &'a mut Step) -> Known<'a>
+    pub(crate) fn with_ac(&self, set: &Seen, step: &'a mut Step) -> Known<'a>
         requires room { length self.now.equations.now ≤ 64 }
-        ensures same { Agree (known_of result) (assigned Ac (words set) (known_of self.now)) }
+        ensures same { Agree (known_of result) (assigned Ac (words set.now) (known_of self.now)) }
         ensures target { result.target ≡ self.now.target }
         ensures len { length result.equations.now ≤ length self.now.equations.now }
     {
         free(&Name::Accumulator, self.equations, &mut step.list);
         Known {
             base: self.base,
-            ac: put(&mut step.set, set),
+            ac: step.set.put(set),
             mq: self.mq,
             link: self.link,
             pointer: self.pointer,
@@ -93,11 +96,11 @@ impl<'a> Known<'a> {
     }
 
     /// After a cell took some word of a set.
-    pub(crate) fn with_cell(&self, cell: Word, set: WordSet, step: &'a mut Step) -> Known<'a>
+    pub(crate) fn with_cell(&self, cell: Word, set: &Seen, step: &'a mut Step) -> Known<'a>
         requires target { IsUnchanged self.now.target }
         requires room { length self.now.equations.now ≤ 32 }
         ensures same { Agree (known_of result)
-            (assigned (Cell cell) (words set) (known_of self.now)) }
+            (assigned (Cell cell) (words set.now) (known_of self.now)) }
         ensures len { length result.equations.now ≤ length self.now.equations.now }
     {
         free(&Name::Cell(cell), self.equations, &mut step.list);
@@ -107,14 +110,14 @@ impl<'a> Known<'a> {
             mq: self.mq,
             link: self.link,
             pointer: self.pointer,
-            target: Change::Replaced(cell.index(), put(&mut step.set, set)),
+            target: Change::Replaced(cell.index(), step.set.put(set)),
             equations: step.list.as_slice(),
             offsets: self.offsets,
         }
     }
 
     /// After one of some cells, unknown which, went up by one.
-    pub(crate) fn counted(&self, cells: &WordSet, step: &'a mut Step) -> Known<'a>
+    pub(crate) fn counted(&self, cells: &Seen, step: &'a mut Step) -> Known<'a>
         requires target { IsUnchanged self.now.target }
         requires room { length self.now.equations.now ≤ 32 }
         ensures same { Agree (known_of result)
@@ -122,14 +125,14 @@ impl<'a> Known<'a> {
             (known_of self.now)) }
         ensures len { length result.equations.now ≤ length self.now.equations.now }
     {
-        free_of_cells(cells, self.equations, &mut step.list);
+        free_of_cells(&cells.set(), self.equations, &mut step.list);
         Known {
             base: self.base,
             ac: self.ac,
             mq: self.mq,
             link: self.link,
             pointer: self.pointer,
-            target: Change::Counted(put(&mut step.set, *cells)),
+            target: Change::Counted(step.set.put(cells)),
             equations: step.list.as_slice(),
             offsets: self.offsets,
         }
@@ -138,36 +141,36 @@ impl<'a> Known<'a> {
     /// After one of some cells, unknown which, took some word of a set.
     pub(crate) fn stored(
         &self,
-        cells: &WordSet,
-        set: WordSet,
+        cells: &Seen,
+        set: &Seen,
         step: &'a mut Step,
         spare: &'a mut Step,
     ) -> Known<'a>
         requires target { IsUnchanged self.now.target }
         requires room { length self.now.equations.now ≤ 32 }
         ensures same { Agree (known_of result)
-            (smeared (words cells.now) (λ y. words set) (known_of self.now)) }
+            (smeared (words cells.now) (λ y. words set.now) (known_of self.now)) }
         ensures len { length result.equations.now ≤ length self.now.equations.now }
     {
-        free_of_cells(cells, self.equations, &mut step.list);
+        free_of_cells(&cells.set(), self.equations, &mut step.list);
         Known {
             base: self.base,
             ac: self.ac,
             mq: self.mq,
             link: self.link,
             pointer: self.pointer,
-            target: Change::Stored(put(&mut spare.set, *cells), put(&mut step.set, set)),
+            target: Change::Stored(spare.set.put(cells), step.set.put(set)),
             equations: step.list.as_slice(),
             offsets: self.offsets,
         }
     }
 
     /// After a cell went up by one, where these words of it are left.
-    pub(crate) fn counted_to(&self, cell: Word, set: WordSet, step: &'a mut Step) -> Known<'a>
+    pub(crate) fn counted_to(&self, cell: Word, set: &Seen, step: &'a mut Step) -> Known<'a>
         requires target { IsUnchanged self.now.target }
         requires room { length self.now.equations.now ≤ 32 }
         ensures same { Agree (known_of result)
-            (with_name (Cell cell) (words set) (moved (Cell cell) 1 (known_of self.now))) }
+            (with_name (Cell cell) (words set.now) (moved (Cell cell) 1 (known_of self.now))) }
         ensures len { length result.equations.now ≤ length self.now.equations.now }
     {
         raise(&Name::Cell(cell), one(), self.equations, &mut step.list);
@@ -177,7 +180,7 @@ impl<'a> Known<'a> {
             mq: self.mq,
             link: self.link,
             pointer: self.pointer,
-            target: Change::Replaced(cell.index(), put(&mut step.set, set)),
+            target: Change::Replaced(cell.index(), step.set.put(set)),
             equations: step.list.as_slice(),
             offsets: self.offsets,
         }
@@ -202,12 +205,12 @@ impl<'a> Known<'a> {
     }
 
     /// With other words of the accumulator; its equations stay.
-    pub(crate) fn holding(self, set: WordSet, step: &'a mut Step) -> Known<'a>
-        ensures { Agree (known_of result) (with_name Ac (words set) (known_of self.entry)) }
+    pub(crate) fn holding(self, set: &Seen, step: &'a mut Step) -> Known<'a>
+        ensures { Agree (known_of result) (with_name Ac (words set.now) (known_of self.entry)) }
     {
         Known {
             base: self.base,
-            ac: put(&mut step.set, set),
+            ac: step.set.put(set),
             mq: self.mq,
             link: self.link,
             pointer: self.pointer,
@@ -241,13 +244,13 @@ impl<'a> Known<'a> {
     }
 
     /// With other words of MQ.
-    pub(crate) fn with_mq(self, set: WordSet, step: &'a mut Step) -> Known<'a>
-        ensures { Agree (known_of result) (with_mq (words set) (known_of self.entry)) }
+    pub(crate) fn with_mq(self, set: &Seen, step: &'a mut Step) -> Known<'a>
+        ensures { Agree (known_of result) (with_mq (words set.now) (known_of self.entry)) }
     {
         Known {
             base: self.base,
             ac: self.ac,
-            mq: put(&mut step.set, set),
+            mq: step.set.put(set),
             link: self.link,
             pointer: self.pointer,
             target: self.target,
@@ -293,15 +296,15 @@ impl<'a> Known<'a> {
 
     /// After the accumulator's word went up by k, where these words of it are left.
     #[inline(never)]
-    pub(crate) fn raised_to(&self, k: Word, set: WordSet, step: &'a mut Step) -> Known<'a>
+    pub(crate) fn raised_to(&self, k: Word, set: &Seen, step: &'a mut Step) -> Known<'a>
         requires room { length self.now.equations.now ≤ 32 }
-        ensures { Agree (known_of result) (with_name Ac (words set)
+        ensures { Agree (known_of result) (with_name Ac (words set.now)
             (moved Ac k (known_of self.now))) }
     {
         raise(&Name::Accumulator, k, self.equations, &mut step.list);
         Known {
             base: self.base,
-            ac: put(&mut step.set, set),
+            ac: step.set.put(set),
             mq: self.mq,
             link: self.link,
             pointer: self.pointer,
@@ -318,14 +321,14 @@ impl<'a> Known<'a> {
         &self,
         cell: Word,
         more: Word,
-        set: WordSet,
+        set: &Seen,
         step: &'a mut Step,
         spare: &mut Equations,
     ) -> Known<'a>
         requires room { length self.now.equations.now ≤ 32 }
         ensures { Agree (known_of result) (with_equations
             (record { left = Ac; right = Cell cell; more = more } ∷ [])
-            (assigned Ac (words set) (known_of self.now))) }
+            (assigned Ac (words set.now) (known_of self.now))) }
     {
         free(&Name::Accumulator, self.equations, spare);
         step.list.clear();
@@ -337,7 +340,7 @@ impl<'a> Known<'a> {
         add_all(&mut step.list, spare.as_slice());
         Known {
             base: self.base,
-            ac: put(&mut step.set, set),
+            ac: step.set.put(set),
             mq: self.mq,
             link: self.link,
             pointer: self.pointer,
@@ -373,7 +376,7 @@ impl<'a> Known<'a> {
     pub(crate) fn deposited(
         &self,
         cell: Word,
-        set: WordSet,
+        set: &Seen,
         first: &'a mut Step,
         second: &'a mut Step,
         third: &'a mut Step,
@@ -382,10 +385,10 @@ impl<'a> Known<'a> {
         requires room { length self.now.equations.now ≤ 32 }
         ensures { Agree (known_of result) (assigned Ac (one 0)
             (with_equations (copied cell (known_of self.now).equations)
-            (assigned (Cell cell) (words set) (known_of self.now)))) }
+            (assigned (Cell cell) (words set.now) (known_of self.now)))) }
     {
         let put = self.with_cell(cell, set, first);
         let told = put.told(cell, self.equations, &mut second.list);
-        told.with_ac(WordSet::one(Word::ZERO), third)
+        told.with_ac(&Seen::one(Word::ZERO), third)
     }
 }

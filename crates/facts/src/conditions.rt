@@ -115,7 +115,7 @@ impl<A: Allocator> Place<'_, A> {
         ensures { SameWords (words result)
             (targets (place_of self.now) indirect named (meaning fact.now)) }
     {
-        self.reached(indirect, named, &Known::of(fact))
+        self.reached(indirect, named, &Known::of(fact)).set()
     }
 
     /// The cells that a word at the address of a fact may read.

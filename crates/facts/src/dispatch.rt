@@ -20,12 +20,12 @@ use crate::outcome::Outcome;
 use crate::place::Place;
 use crate::references::{call, deposit, steps_pointer};
 use crate::registers::{exchange, operate, transfer};
-use crate::room::{Room, Way, put};
+use crate::room::{Room, Way};
+use crate::seen::Seen;
 use crate::skipping::{both, branch};
 use instruct::{DeviceOperation, Instruction, Operation, decode, halts, refers_indirectly, target};
 use std::alloc::Allocator;
 use word12::{Link, Word};
-use wordset::WordSet;
 
 /// The outcomes of a word: at most four.
 #[derive(Drop)]
@@ -82,7 +82,7 @@ fn branches<'a>(at: Word, word: Word, known: &Known<'a>, room: &'a mut Room) -> 
 }
 
 /// The one target of a reference, where it has one and no other: the named cell of a direct one.
-fn single_target(indirect: bool, named: Word, targets: &WordSet) -> Option<Word>
+fn single_target(indirect: bool, named: Word, targets: &Seen) -> Option<Word>
     requires { indirect ≡ false → SameWords (words targets.now) (one named) }
     ensures { result ≡ only (words targets.now) }
 {
@@ -111,7 +111,7 @@ impl<A: Allocator> Place<'_, A> {
     {
         let indirect = refers_indirectly(word);
         let named = target(word, at);
-        let targets = put(&mut room.targets, self.reached(indirect, named, known));
+        let targets = room.targets.put(&self.reached(indirect, named, known));
         let single = single_target(indirect, named, targets);
         if steps_pointer(indirect, named) {
             let seen = known.stepped(named, &mut room.pointer);
@@ -142,7 +142,7 @@ impl<A: Allocator> Place<'_, A> {
         at: Word,
         word: Word,
         seen: &Known<'a>,
-        reached: &'a WordSet,
+        reached: &'a Seen,
         single: &Option<Word>,
         way: &'a mut Way,
         other: &'a mut Way,

@@ -129,8 +129,8 @@ fn are_both(links: Links) -> bool
 fn allows_all_registers(fact: &Fact) -> bool
     ensures { result ≡ allows_all (meaning fact.now) }
 {
-    let ac = is_everything(fact.accumulator());
-    let mq = is_everything(fact.mq());
+    let ac = is_everything(&fact.accumulator());
+    let mq = is_everything(&fact.mq());
     let link = are_both(fact.link());
     ac && mq && link
 }

@@ -12,6 +12,7 @@ ghost use Rattle.facts.specs.Meaning.{name_of, equation_of, tracked_cells, offse
 
 use crate::names::{Equation, Name};
 use crate::offsets::Offsets;
+use crate::seen::Seen;
 use crate::tracking::TrackedCells;
 use arrayvec::ArrayVec;
 use word12::Word;
@@ -25,8 +26,8 @@ use wordset::{Links, WordSet};
 /// Contracts see its parts as `statement_of` gives them, and the fact as `meaning` gives it.
 #[derive(Clone, Drop)]
 pub struct Fact {
-    ac: WordSet,
-    mq: WordSet,
+    ac: Seen,
+    mq: Seen,
     link: Links,
     cells: TrackedCells,
     equations: ArrayVec<Equation, 32>,
@@ -41,8 +42,8 @@ impl Fact {
         ensures equations { (statement_of result).equations ≡ [] }
     {
         Fact {
-            ac: WordSet::all(),
-            mq: WordSet::all(),
+            ac: Seen::all(),
+            mq: Seen::all(),
             link: Links::both(),
             cells: TrackedCells::new(),
             equations: ArrayVec::new(),
@@ -61,14 +62,28 @@ impl Fact {
     }
 
     /// The words that the accumulator may hold.
-    pub fn accumulator(&self) -> &WordSet
+    pub fn accumulator(&self) -> WordSet
+        ensures { words result ≡ (statement_of self.now).ac }
+    {
+        self.ac.set()
+    }
+
+    /// The same, with the row that they are, where that's known.
+    pub(crate) fn accumulator_seen(&self) -> &Seen
         ensures { words result.now ≡ (statement_of self.now).ac }
     {
         &self.ac
     }
 
     /// The words that MQ may hold.
-    pub fn mq(&self) -> &WordSet
+    pub fn mq(&self) -> WordSet
+        ensures { words result ≡ (statement_of self.now).mq }
+    {
+        self.mq.set()
+    }
+
+    /// The same, with the row that they are, where that's known.
+    pub(crate) fn mq_seen(&self) -> &Seen
         ensures { words result.now ≡ (statement_of self.now).mq }
     {
         &self.mq
@@ -108,7 +123,7 @@ impl Fact {
         ensures { SameWords (words result) ((meaning self.now).set (name_of name.now)) }
     {
         match name {
-            Name::Accumulator => self.ac,
+            Name::Accumulator => self.ac.set(),
             Name::Cell(cell) => self.set_of_cell(*cell),
         }
     }
@@ -126,7 +141,7 @@ impl Fact {
             record (statement_of self.old) { ac = words set } }
         ensures offsets { offsets_of self.new.offsets ≡ offsets_of self.old.offsets }
     {
-        self.ac = set;
+        self.ac = Seen::of(set);
     }
 
     /// Lets the accumulator hold the words from one to another, both of them; none where the second is
@@ -136,7 +151,7 @@ impl Fact {
             record (statement_of self.old) { ac = between first last } }
         ensures offsets { offsets_of self.new.offsets ≡ offsets_of self.old.offsets }
     {
-        self.ac = WordSet::range(first, last);
+        self.ac.put_between(first, last);
     }
 
     /// Lets MQ hold the words from one to another, both of them; none where the second is the lesser.
@@ -145,7 +160,7 @@ impl Fact {
             record (statement_of self.old) { mq = between first last } }
         ensures offsets { offsets_of self.new.offsets ≡ offsets_of self.old.offsets }
     {
-        self.mq = WordSet::range(first, last);
+        self.mq.put_between(first, last);
     }
 
     /// Lets MQ hold these words.
@@ -154,7 +169,7 @@ impl Fact {
             record (statement_of self.old) { mq = words set } }
         ensures offsets { offsets_of self.new.offsets ≡ offsets_of self.old.offsets }
     {
-        self.mq = set;
+        self.mq = Seen::of(set);
     }
 
     /// Lets the link be one of these.

@@ -4,12 +4,13 @@
 //! most two cells changed, or one of several unknown ones did. What is new stands in room that the
 //! asker lends.
 
-ghost use Rattle.std.specs.Prelude.{ℕ, false, ◌≡◌, ◌<◌, ◌≤◌, ◌↔◌, ◌+◌, ◌||◌, length, map, IsTrue};
-ghost use Rattle.wordset.specs.Words.{Words, SameWords, IsWithin, one, plus, shifted};
+ghost use Rattle.std.specs.Prelude.{ℕ, false, ◌≡◌, ◌<◌, ◌≤◌, ◌↔◌, ◌+◌, ◌||◌, length, map, IsTrue, IfSome};
+ghost use Rattle.wordset.specs.Words.{Words, SameWords, IsWithin, one, plus, shifted, meet};
 ghost use Rattle.wordset.specs.Lanes.{words};
 ghost use Rattle.wordset.specs.Links.{links_of};
 ghost use Rattle.facts.specs.Facts.{Ac, Cell, same, narrowed, Among, Knows, KnowsAll, Entails, EntailsOffsets, joined};
 ghost use Rattle.facts.specs.Changes.{moved, assigned, smeared, with_equations, with_name, with_mq, with_link, with_offsets};
+ghost use Rattle.facts.specs.Rows.{row_words, IsRow};
 ghost use Rattle.facts.specs.Statements.{cell_at};
 ghost use Rattle.facts.specs.Same.{Agree};
 ghost use Rattle.facts.specs.Meaning.{name_of, equation_of, tracked_cells, offsets_of, meaning, cell_words, source_words, changed, known_of, Meets, IsUnchanged};
@@ -20,6 +21,7 @@ use crate::fact::Fact;
 use crate::names::{Equation, Name, is_same_equation, is_same_name, negated};
 use crate::offsets::Offsets;
 use crate::room::Room;
+use crate::seen::{Row, Seen};
 use crate::tracking::TrackedCells;
 use word12::Word;
 use wordset::{Links, WordSet};
@@ -30,11 +32,11 @@ pub(crate) enum Change<'a> {
     /// They are as they were.
     Unchanged,
     /// The cell of this address has these words now.
-    Replaced(usize, &'a WordSet),
+    Replaced(usize, &'a Seen),
     /// One of the cells, unknown which, went up by one.
-    Counted(&'a WordSet),
+    Counted(&'a Seen),
     /// One of the cells, unknown which, took one of the words.
-    Stored(&'a WordSet, &'a WordSet),
+    Stored(&'a Seen, &'a Seen),
 }
 
 /// Where the words of cells come from.
@@ -52,8 +54,8 @@ pub(crate) enum Source<'a> {
 #[derive(Drop)]
 pub struct Known<'a> {
     pub(crate) base: Source<'a>,
-    pub(crate) ac: &'a WordSet,
-    pub(crate) mq: &'a WordSet,
+    pub(crate) ac: &'a Seen,
+    pub(crate) mq: &'a Seen,
     pub(crate) link: Links,
     pub(crate) pointer: Change<'a>,
     pub(crate) target: Change<'a>,
@@ -102,9 +104,13 @@ fn change_set(change: &Change<'_>, cell: Word, set: WordSet) -> WordSet
 {
     match change {
         Change::Unchanged => set,
-        Change::Replaced(at, other) => if cell.index() == *at { **other } else { set },
+        Change::Replaced(at, other) => if cell.index() == *at {
+            other.set()
+        } else {
+            set
+        },
         Change::Counted(cells) => {
-            if has_cell(cells, cell) {
+            if has_cell(&cells.set(), cell) {
                 let more = set.shift(Word::ZERO.increment());
                 set.union(&more)
             } else {
@@ -112,12 +118,39 @@ fn change_set(change: &Change<'_>, cell: Word, set: WordSet) -> WordSet
             }
         }
         Change::Stored(cells, other) => {
-            if has_cell(cells, cell) {
-                set.union(other)
+            if has_cell(&cells.set(), cell) {
+                set.union(&other.set())
             } else {
                 set
             }
         }
+    }
+}
+
+/// What a change makes of the words of a cell that are a row, where that is seen to be one.
+fn changed_row(change: &Change<'_>, cell: Word, row: Row) -> Option<Row>
+    ensures { (old : Words) → IsRow row old →
+        IfSome result (λ r. IsRow r (changed change.now cell old)) }
+{
+    match change {
+        Change::Unchanged => Some(row),
+        Change::Replaced(at, other) => {
+            if cell.index() == *at {
+                other.row()
+            } else {
+                Some(row)
+            }
+        }
+        Change::Counted(cells) => if has_cell(&cells.set(), cell) {
+            None
+        } else {
+            Some(row)
+        },
+        Change::Stored(cells, _) => if has_cell(&cells.set(), cell) {
+            None
+        } else {
+            Some(row)
+        },
     }
 }
 
@@ -159,13 +192,13 @@ fn is_new_within(change: &Change<'_>, cells: &TrackedCells, at: usize, before: b
         Change::Unchanged => before,
         Change::Replaced(changed, other) => {
             if cell.index() == *changed {
-                cells.has_all(at, other)
+                cells.has_all(at, &other.set())
             } else {
                 before
             }
         }
-        Change::Counted(several) => before && !has_cell(several, cell),
-        Change::Stored(several, _) => before && !has_cell(several, cell),
+        Change::Counted(several) => before && !has_cell(&several.set(), cell),
+        Change::Stored(several, _) => before && !has_cell(&several.set(), cell),
     }
 }
 
@@ -179,17 +212,17 @@ fn speaks_of(equation: &Equation, name: &Name) -> bool
 
 impl Known<'_> {
     /// The words that the accumulator may hold.
-    pub fn accumulator(&self) -> &WordSet
-        ensures { words result.now ≡ (known_of self.now).set Ac }
+    pub fn accumulator(&self) -> WordSet
+        ensures { words result ≡ (known_of self.now).set Ac }
     {
-        self.ac
+        self.ac.set()
     }
 
     /// The words that MQ may hold.
-    pub fn mq(&self) -> &WordSet
-        ensures { words result.now ≡ (known_of self.now).mq }
+    pub fn mq(&self) -> WordSet
+        ensures { words result ≡ (known_of self.now).mq }
     {
-        self.mq
+        self.mq.set()
     }
 
     /// What the link may be.
@@ -218,7 +251,7 @@ impl Known<'_> {
         ensures { SameWords (words result) ((known_of self.now).set (name_of name.now)) }
     {
         match name {
-            Name::Accumulator => *self.ac,
+            Name::Accumulator => self.ac.set(),
             Name::Cell(cell) => {
                 let mut set = source_set(&self.base, *cell);
                 apply(&self.pointer, *cell, &mut set);
@@ -226,6 +259,95 @@ impl Known<'_> {
                 set
             }
         }
+    }
+
+    /// The words that a name may hold, where they are seen to be a row.
+    fn row(&self, name: &Name) -> Option<Row>
+        ensures { IfSome result (λ r. IsRow r ((known_of self.now).set (name_of name.now))) }
+    {
+        match name {
+            Name::Accumulator => self.ac.row(),
+            Name::Cell(cell) => {
+                let Some(before) = teller(&self.base, *cell).cells().row_of(*cell) else {
+                    return None;
+                };
+                let Some(seen) = changed_row(&self.pointer, *cell, before) else {
+                    return None;
+                };
+                changed_row(&self.target, *cell, seen)
+            }
+        }
+    }
+
+    /// Those words of a row that are k more than a word of a name, where all three are seen to be rows.
+    fn kept_row(&self, row: Row, partner: &Name, k: Word) -> Option<Row>
+        ensures { IfSome result (λ r. IsRow r
+            (meet (row_words row) (shifted ((known_of self.now).set (name_of partner.now)) k))) }
+    {
+        let Some(other) = self.row(partner) else {
+            return None;
+        };
+        let Some(moved) = other.shift(k) else {
+            return None;
+        };
+        row.meet(moved)
+    }
+
+    /// The words of a row that an equation leaves to a name, where they are seen to be a row.
+    fn met_row(&self, name: &Name, equation: &Equation, row: Row) -> Option<Row>
+        requires { IsRow row (row_words row) }
+        ensures { IfSome result (λ r. IsRow r (row_words r) ×
+            Meets (known_of self.now) (name_of name.now) (equation_of equation.now)
+            (row_words row) (row_words r)) }
+    {
+        let mut left = row;
+        if is_same_name(&equation.left, name) {
+            let Some(less) = self.kept_row(left, &Name::Cell(equation.right), equation.more) else {
+                return None;
+            };
+            left = less;
+        }
+        if is_same_name(&Name::Cell(equation.right), name) {
+            let Some(less) = self.kept_row(left, &equation.left, negated(equation.more)) else {
+                return None;
+            };
+            left = less;
+        }
+        Some(left)
+    }
+
+    /// The words that the equations leave to a name, where they are seen to be a row.
+    pub(crate) fn narrowed_row(&self, name: &Name) -> Option<Row>
+        ensures { IfSome result (λ r. IsRow r (narrowed (known_of self.now) (name_of name.now))) }
+    {
+        let Some(mut row) = self.row(name) else {
+            return None;
+        };
+        for e in self.equations {
+            let Some(less) = self.met_row(name, e, row) else {
+                return None;
+            };
+            row = less;
+        }
+        Some(row)
+    }
+
+    /// The words that the equations leave to a name.
+    pub(crate) fn left_to(&self, name: &Name) -> Seen
+        ensures { SameWords (words result) (narrowed (known_of self.now) (name_of name.now)) }
+    {
+        match self.narrowed_row(name) {
+            Some(row) => Seen::of_row(row),
+            None => self.left_by_sets(name),
+        }
+    }
+
+    /// The same, where they aren't seen to be a row; the room for their set is made here alone.
+    #[inline(never)]
+    fn left_by_sets(&self, name: &Name) -> Seen
+        ensures { SameWords (words result) (narrowed (known_of self.now) (name_of name.now)) }
+    {
+        Seen::of(self.narrowed_any(name))
     }
 
     /// Leaves in a set the words that an equation leaves to a name.
@@ -246,8 +368,15 @@ impl Known<'_> {
 
     /// The words that the equations leave to a name: its set met with its partners' sets, shifted
     /// along the equations, one step only.
-    #[inline(never)]
     pub fn narrowed(&self, name: &Name) -> WordSet
+        ensures { SameWords (words result) (narrowed (known_of self.now) (name_of name.now)) }
+    {
+        self.left_to(name).set()
+    }
+
+    /// The same, where they aren't seen to be a row.
+    #[inline(never)]
+    fn narrowed_any(&self, name: &Name) -> WordSet
         ensures { SameWords (words result) (narrowed (known_of self.now) (name_of name.now)) }
     {
         if !self.speaks_of(name) {
@@ -409,14 +538,14 @@ impl Known<'_> {
         if !self.link.is_subset(fact.link()) {
             return false;
         }
-        if !self.mq.is_subset(fact.mq()) {
+        if !self.mq.is_within(fact.mq_seen()) {
             return false;
         }
-        if self.ac.is_subset(fact.accumulator()) {
+        if self.ac.is_within(fact.accumulator_seen()) {
             return true;
         }
-        self.narrowed(&Name::Accumulator)
-            .is_subset(fact.accumulator())
+        self.left_to(&Name::Accumulator)
+            .is_within(fact.accumulator_seen())
     }
 }
 
@@ -431,8 +560,8 @@ impl<'a> Known<'a> {
     {
         Known {
             base: Source::One(fact),
-            ac: fact.accumulator(),
-            mq: fact.mq(),
+            ac: fact.accumulator_seen(),
+            mq: fact.mq_seen(),
             link: fact.link(),
             pointer: Change::Unchanged,
             target: Change::Unchanged,
@@ -479,8 +608,8 @@ impl<'a> Known<'a> {
         add_all(list, exit.equations());
         Known {
             base: Source::Joined(call, exit, written),
-            ac: exit.accumulator(),
-            mq: exit.mq(),
+            ac: exit.accumulator_seen(),
+            mq: exit.mq_seen(),
             link: exit.link(),
             pointer: Change::Unchanged,
             target: Change::Unchanged,

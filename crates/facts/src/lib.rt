@@ -21,6 +21,7 @@ mod place;
 mod references;
 mod registers;
 mod room;
+mod seen;
 mod skipping;
 mod tracking;
 
@@ -35,6 +36,7 @@ pub use offsets::Offsets;
 pub use outcome::Outcome;
 pub use place::{Place, Running};
 pub use room::Room;
+pub use seen::Seen;
 pub use tracking::{TrackedCell, TrackedCells};
 
 /// The conditions that a certificate must meet.

@@ -12,7 +12,7 @@ ghost use Rattle.facts.specs.Slots.{slot};
 
 use crate::known::Known;
 use crate::names::Name;
-use crate::room::put;
+use crate::seen::Seen;
 use word12::Word;
 use wordset::{Links, WordSet};
 
@@ -22,9 +22,9 @@ use wordset::{Links, WordSet};
 #[derive(Drop)]
 pub enum Outcome<'a> {
     /// The run goes on at one of these addresses.
-    Goes(&'a WordSet, Known<'a>),
+    Goes(&'a Seen, Known<'a>),
     /// One of these entries is called.
-    Calls(&'a WordSet, Known<'a>),
+    Calls(&'a Seen, Known<'a>),
     /// The running routine returns.
     Returns(Known<'a>),
 }
@@ -47,10 +47,10 @@ fn has_link(links: Links) -> bool
 fn has_accumulator(known: &Known<'_>) -> bool
     ensures { result ≡ has_some (narrowed (known_of known.now) Ac) }
 {
-    if !known.speaks_of(&Name::Accumulator) {
-        return has_word(known.ac);
+    match known.narrowed_row(&Name::Accumulator) {
+        Some(_) => true,
+        None => has_narrowed_accumulator(known),
     }
-    has_narrowed_accumulator(known)
 }
 
 /// The same, where equations may speak of it; the room for the narrowed set is made here alone.
@@ -71,25 +71,25 @@ fn are_all(a: bool, b: bool, c: bool, d: bool, e: bool, f: bool) -> bool
 /// Whether the targets, the old accumulator, the new one, MQ, the link and the changed cell each
 /// have a word.
 #[inline(never)]
-fn is_alive(targets: &WordSet, before: &Known<'_>, changed: &WordSet, after: &Known<'_>) -> bool
+fn is_alive(targets: &Seen, before: &Known<'_>, changed: &Seen, after: &Known<'_>) -> bool
     ensures { result ≡ alive (words targets.now) (known_of before.now) (words changed.now)
         (known_of after.now) }
 {
-    let targeted = has_word(targets);
+    let targeted = !targets.is_empty();
     let held = has_accumulator(before);
-    let left = has_word(after.ac);
-    let moved = has_word(after.mq);
+    let left = !after.ac.is_empty();
+    let moved = !after.mq.is_empty();
     let linked = has_link(after.link);
-    let written = has_word(changed);
+    let written = !changed.is_empty();
     are_all(targeted, held, left, moved, linked, written)
 }
 
 /// The outcome that goes on at some addresses, where it can come about.
 pub(crate) fn going<'a>(
-    targets: &WordSet,
+    targets: &Seen,
     before: &Known<'_>,
-    changed: &WordSet,
-    next: &'a WordSet,
+    changed: &Seen,
+    next: &'a Seen,
     after: Known<'a>,
 ) -> Option<Outcome<'a>>
     ensures { (p changes nexts : Words) (f h : Fact) → SameWords (words targets.now) p →
@@ -107,10 +107,10 @@ pub(crate) fn going<'a>(
 /// The outcome that goes on at some addresses, where it is chosen and can come about.
 pub(crate) fn going_if<'a>(
     chosen: bool,
-    targets: &WordSet,
+    targets: &Seen,
     before: &Known<'_>,
-    changed: &WordSet,
-    next: &'a WordSet,
+    changed: &Seen,
+    next: &'a Seen,
     after: Known<'a>,
 ) -> Option<Outcome<'a>>
     ensures { (p changes nexts : Words) (f h : Fact) → SameWords (words targets.now) p →
@@ -127,7 +127,7 @@ pub(crate) fn going_if<'a>(
 
 /// The outcome that calls the targets, where it can come about.
 pub(crate) fn calling<'a>(
-    targets: &'a WordSet,
+    targets: &'a Seen,
     before: &Known<'_>,
     after: Known<'a>,
 ) -> Option<Outcome<'a>>
@@ -135,7 +135,7 @@ pub(crate) fn calling<'a>(
         Agree (known_of before.now) f → Agree (known_of after.entry) h →
         AgreeingOutcomes (slot result) (given (alive p f everything h) (CallsTo p h)) }
 {
-    if is_alive(targets, before, &WordSet::all(), &after) {
+    if is_alive(targets, before, &Seen::all(), &after) {
         Some(Outcome::Calls(targets, after))
     } else {
         None
@@ -144,7 +144,7 @@ pub(crate) fn calling<'a>(
 
 /// The outcome that returns, where it can come about.
 pub(crate) fn returning<'a>(
-    targets: &WordSet,
+    targets: &Seen,
     before: &Known<'_>,
     after: Known<'a>,
 ) -> Option<Outcome<'a>>
@@ -152,7 +152,7 @@ pub(crate) fn returning<'a>(
         Agree (known_of before.now) f → Agree (known_of after.entry) h →
         AgreeingOutcomes (slot result) (given (alive p f everything h) (Returns h)) }
 {
-    if is_alive(targets, before, &WordSet::all(), &after) {
+    if is_alive(targets, before, &Seen::all(), &after) {
         Some(Outcome::Returns(after))
     } else {
         None
@@ -160,15 +160,15 @@ pub(crate) fn returning<'a>(
 }
 
 /// The address after another, in its place.
-pub(crate) fn address_after(at: Word, place: &mut WordSet) -> &WordSet
+pub(crate) fn address_after(at: Word, place: &mut Seen) -> &Seen
     ensures { SameWords (words result.now) (one (plus at 1)) }
 {
-    put(place, WordSet::one(at.increment()))
+    place.put_one(at.increment())
 }
 
 /// The address that a skip goes to, in its place.
-pub(crate) fn address_skipped_to(at: Word, place: &mut WordSet) -> &WordSet
+pub(crate) fn address_skipped_to(at: Word, place: &mut Seen) -> &Seen
     ensures { SameWords (words result.now) (one (plus at 2)) }
 {
-    put(place, WordSet::one(at.increment().increment()))
+    place.put_one(at.increment().increment())
 }

@@ -11,6 +11,7 @@ ghost use Rattle.facts.specs.Places.{place_of};
 use crate::entailment::word_of;
 use crate::known::Known;
 use crate::names::Name;
+use crate::seen::Seen;
 use bin_tape::Image;
 use declaration::Declaration;
 use std::alloc::Allocator;
@@ -42,12 +43,12 @@ pub struct Place<'a, A: Allocator> {
 }
 
 /// The tape's word, or all words where the tape has none.
-pub(crate) fn tape_words(word: Option<Word>) -> WordSet
+pub(crate) fn tape_words(word: Option<Word>) -> Seen
     ensures { SameWords (words result) (tape_word word) }
 {
     match word {
-        None => WordSet::all(),
-        Some(word) => WordSet::one(word),
+        None => Seen::all(),
+        Some(word) => Seen::one(word),
     }
 }
 
@@ -99,49 +100,44 @@ impl<A: Allocator> Place<'_, A> {
 
     /// The words that a cell may hold: a variable's narrowed set, the running routine's own return
     /// words, any word in another entry, else the tape's word.
-    pub(crate) fn words_in(&self, known: &Known<'_>, cell: Word) -> WordSet
+    pub(crate) fn words_in(&self, known: &Known<'_>, cell: Word) -> Seen
         ensures { SameWords (words result) (words_in (place_of self.now) (known_of known.now)
             cell) }
     {
         if self.declaration.is_variable(cell) {
-            return known.narrowed(&Name::Cell(cell));
+            return known.left_to(&Name::Cell(cell));
         }
         if self.is_own(cell) {
-            return self.own_words(known);
+            return Seen::of(self.own_words(known));
         }
         if self.declaration.is_entry(cell) {
-            return WordSet::all();
+            return Seen::all();
         }
         tape_words(word_of(self.image, cell))
     }
 
     /// The words that some cells may hold, of which the one is given that has no other beside it.
-    pub(crate) fn words_at(
-        &self,
-        known: &Known<'_>,
-        cells: &WordSet,
-        single: &Option<Word>,
-    ) -> WordSet
+    pub(crate) fn words_at(&self, known: &Known<'_>, cells: &Seen, single: &Option<Word>) -> Seen
         requires { single.now ≡ only (words cells.now) }
         ensures { SameWords (words result)
             (words_at (place_of self.now) (known_of known.now) (words cells.now)) }
     {
         match single {
             Some(cell) => self.words_in(known, *cell),
-            None => self.words_at_each(known, cells),
+            None => Seen::of(self.words_at_each(known, cells)),
         }
     }
 
     /// The words that some cells may hold.
     #[inline(never)]
-    fn words_at_each(&self, known: &Known<'_>, cells: &WordSet) -> WordSet
+    fn words_at_each(&self, known: &Known<'_>, cells: &Seen) -> WordSet
         ensures { SameWords (words result)
             (words_at (place_of self.now) (known_of known.now) (words cells.now)) }
     {
         let mut set = WordSet::empty();
         let mut next = 0usize;
         while let Some(cell) = cells.first_from(next) {
-            set = set.union(&self.words_in(known, cell));
+            set = set.union(&self.words_in(known, cell).set());
             next = cell.index() + 1;
         }
         set

@@ -19,6 +19,7 @@ use crate::outcome::{
 };
 use crate::place::Place;
 use crate::room::{Step, Way};
+use crate::seen::Seen;
 use processor::is_auto_index;
 use std::alloc::Allocator;
 use word12::Word;
@@ -37,7 +38,7 @@ pub(crate) fn steps_pointer(indirect: bool, named: Word) -> bool
 pub(crate) fn deposit<'a>(
     at: Word,
     known: &Known<'a>,
-    targets: &WordSet,
+    targets: &Seen,
     single: &Option<Word>,
     way: &'a mut Way,
 ) -> Option<Outcome<'a>>
@@ -48,20 +49,26 @@ pub(crate) fn deposit<'a>(
         SameWords (words targets.now) p →
         AgreeingOutcomes (slot result) (dca_case place at f p (only p)) }
 {
-    let ac = known.narrowed(&Name::Accumulator);
+    let ac = known.left_to(&Name::Accumulator);
     match single {
         Some(cell) => {
-            let after = known.deposited(*cell, ac, &mut way.first, &mut way.second, &mut way.third);
+            let after = known.deposited(
+                *cell,
+                &ac,
+                &mut way.first,
+                &mut way.second,
+                &mut way.third,
+            );
             going(targets, known, &ac, address_after(at, &mut way.next), after)
         }
         None => {
             let after = known
-                .stored(targets, ac, &mut way.first, &mut way.third)
-                .with_ac(WordSet::one(Word::ZERO), &mut way.second);
+                .stored(targets, &ac, &mut way.first, &mut way.third)
+                .with_ac(&Seen::one(Word::ZERO), &mut way.second);
             going(
                 targets,
                 known,
-                &WordSet::all(),
+                &Seen::all(),
                 address_after(at, &mut way.next),
                 after,
             )
@@ -74,7 +81,7 @@ pub(crate) fn deposit<'a>(
 pub(crate) fn count_one<'a>(
     at: Word,
     known: &Known<'a>,
-    targets: &WordSet,
+    targets: &Seen,
     cell: Word,
     way: &'a mut Way,
     other: &'a mut Way,
@@ -87,8 +94,8 @@ pub(crate) fn count_one<'a>(
         AgreeingOutcomes (slot result.0 ++ slot result.1) (isz_case place at f p (Some cell)) }
 {
     let old = known.narrowed(&Name::Cell(cell));
-    let zero = WordSet::one(Word::ZERO);
-    let more = old.shift(Word::ZERO.increment()).minus(&zero);
+    let zero = Seen::one(Word::ZERO);
+    let more = Seen::of(old.shift(Word::ZERO.increment()).minus(&zero.set()));
     let last = Word::ZERO.complement();
     let skips = going_if(
         old.contains(last),
@@ -96,14 +103,14 @@ pub(crate) fn count_one<'a>(
         known,
         &zero,
         address_skipped_to(at, &mut way.next),
-        known.counted_to(cell, zero, &mut way.first),
+        known.counted_to(cell, &zero, &mut way.first),
     );
     let goes_on = going(
         targets,
         known,
         &more,
         address_after(at, &mut other.next),
-        known.counted_to(cell, more, &mut other.first),
+        known.counted_to(cell, &more, &mut other.first),
     );
     (skips, goes_on)
 }
@@ -113,9 +120,9 @@ pub(crate) fn count_one<'a>(
 pub(crate) fn count_own<'a>(
     at: Word,
     known: &Known<'a>,
-    targets: &WordSet,
+    targets: &Seen,
     cell: Word,
-    next: &'a mut WordSet,
+    next: &'a mut Seen,
 ) -> Option<Outcome<'a>>
     ensures { (place : said.Place) (f : said.Fact) (p : Words) → place.declaration.variable cell ≡
         false →
@@ -125,7 +132,7 @@ pub(crate) fn count_own<'a>(
     going(
         targets,
         known,
-        &WordSet::all(),
+        &Seen::all(),
         address_after(at, next),
         known.returning_later(),
     )
@@ -157,7 +164,7 @@ fn may_stay(known: &Known<'_>, cell: Word) -> bool
 }
 
 /// Whether some of the cells may hold 7777.
-fn may_some_wrap(known: &Known<'_>, cells: &WordSet) -> bool
+fn may_some_wrap(known: &Known<'_>, cells: &Seen) -> bool
     ensures { result ≡ some_below 4096 (λ y. words cells.now y &&
         narrowed (known_of known.now) (Cell y) 4095) }
 {
@@ -171,7 +178,7 @@ fn may_some_wrap(known: &Known<'_>, cells: &WordSet) -> bool
 }
 
 /// Whether some of the cells may hold another word than 7777.
-fn may_some_stay(known: &Known<'_>, cells: &WordSet) -> bool
+fn may_some_stay(known: &Known<'_>, cells: &Seen) -> bool
     ensures { result ≡ some_below 4096
         (λ y. words cells.now y && has_some (without 4095
         (narrowed (known_of known.now) (Cell y)))) }
@@ -190,7 +197,7 @@ fn may_some_stay(known: &Known<'_>, cells: &WordSet) -> bool
 pub(crate) fn count_several<'a>(
     at: Word,
     known: &Known<'a>,
-    targets: &WordSet,
+    targets: &Seen,
     way: &'a mut Way,
     other: &'a mut Way,
 ) -> (Option<Outcome<'a>>, Option<Outcome<'a>>)
@@ -200,7 +207,7 @@ pub(crate) fn count_several<'a>(
         SameWords (words targets.now) p →
         AgreeingOutcomes (slot result.0 ++ slot result.1) (isz_case place at f p None) }
 {
-    let all = WordSet::all();
+    let all = Seen::all();
     let wraps = may_some_wrap(known, targets);
     let stays = may_some_stay(known, targets);
     let skips = going_if(
@@ -227,12 +234,12 @@ pub(crate) fn count_several<'a>(
 fn after_sum<'a>(
     known: &Known<'a>,
     added: &Option<Word>,
-    set: WordSet,
+    set: &Seen,
     step: &'a mut Step,
 ) -> Known<'a>
     requires room { length known.now.equations.now ≤ 32 }
     ensures { (f : said.Fact) (v : Words) → Agree (known_of known.now) f →
-        SameWords (words set) (sums (narrowed f Ac) v) →
+        SameWords (words set.now) (sums (narrowed f Ac) v) →
         Agree (known_of result) (tad_word f v added.now) }
 {
     match added {
@@ -243,7 +250,7 @@ fn after_sum<'a>(
 
 /// JMS calls each target.
 #[inline(never)]
-pub(crate) fn call<'a>(known: &Known<'a>, targets: &'a WordSet) -> Option<Outcome<'a>>
+pub(crate) fn call<'a>(known: &Known<'a>, targets: &'a Seen) -> Option<Outcome<'a>>
     ensures { (f : said.Fact) (p : Words) → Agree (known_of known.now) f →
         SameWords (words targets.now) p →
         AgreeingOutcomes (slot result) (given (alive p f everything f) (CallsTo p f)) }
@@ -255,7 +262,7 @@ impl<A: Allocator> Place<'_, A> {
     /// The targets of a reference: the named cell, or the words that the pointer in it may be, which
     /// counts up first where it is stepped.
     #[inline(never)]
-    pub(crate) fn reached(&self, indirect: bool, named: Word, known: &Known<'_>) -> WordSet
+    pub(crate) fn reached(&self, indirect: bool, named: Word, known: &Known<'_>) -> Seen
         requires pointer { IsUnchanged known.now.pointer }
         requires target { IsUnchanged known.now.target }
         ensures { (f : said.Fact) → Agree (known_of known.now) f →
@@ -263,12 +270,12 @@ impl<A: Allocator> Place<'_, A> {
     {
         if steps_pointer(indirect, named) {
             let one = Word::ZERO.increment();
-            return known.narrowed(&Name::Cell(named)).shift(one);
+            return Seen::of(known.narrowed(&Name::Cell(named)).shift(one));
         }
         if indirect {
             return self.words_in(known, named);
         }
-        WordSet::one(named)
+        Seen::one(named)
     }
 
     /// AND: all a and v, for the words a of the accumulator and v of the targets.
@@ -277,7 +284,7 @@ impl<A: Allocator> Place<'_, A> {
         &self,
         at: Word,
         known: &Known<'a>,
-        targets: &WordSet,
+        targets: &Seen,
         single: &Option<Word>,
         way: &'a mut Way,
     ) -> Option<Outcome<'a>>
@@ -287,13 +294,14 @@ impl<A: Allocator> Place<'_, A> {
             SameWords (words targets.now) p →
             AgreeingOutcomes (slot result) (anded (place_of self.now) at f p) }
     {
-        let ac = known.narrowed(&Name::Accumulator);
+        let ac = known.left_to(&Name::Accumulator);
         let seen = self.words_at(known, targets, single);
-        let after = known.with_ac(ac.ands(&seen), &mut way.first);
+        let both = Seen::of(ac.set().ands(&seen.set()));
+        let after = known.with_ac(&both, &mut way.first);
         going(
             targets,
             known,
-            &WordSet::all(),
+            &Seen::all(),
             address_after(at, &mut way.next),
             after,
         )
@@ -307,13 +315,13 @@ impl<A: Allocator> Place<'_, A> {
         target: &Option<Word>,
         ac: &Option<Word>,
         added: &Option<Word>,
-        set: WordSet,
+        set: &Seen,
         first: &'a mut Step,
         second: &'a mut Step,
     ) -> Known<'a>
         requires room { length known.now.equations.now ≤ 32 }
         ensures { (f : said.Fact) (v : Words) → Agree (known_of known.now) f →
-            SameWords (words set) (sums (narrowed f Ac) v) →
+            SameWords (words set.now) (sums (narrowed f Ac) v) →
             Agree (known_of result) (tad_case (place_of self.now) f v target.now ac.now added.now) }
     {
         if let Some(cell) = target {
@@ -332,7 +340,7 @@ impl<A: Allocator> Place<'_, A> {
         &self,
         at: Word,
         known: &Known<'a>,
-        targets: &WordSet,
+        targets: &Seen,
         single: &Option<Word>,
         way: &'a mut Way,
     ) -> Option<Outcome<'a>>
@@ -342,16 +350,17 @@ impl<A: Allocator> Place<'_, A> {
             SameWords (words targets.now) p →
             AgreeingOutcomes (slot result) (tad (place_of self.now) at f p) }
     {
-        let ac = known.narrowed(&Name::Accumulator);
+        let ac = known.left_to(&Name::Accumulator);
         let seen = self.words_at(known, targets, single);
-        let (sums, carries) = ac.sums(&seen);
+        let mut sums = Seen::all();
+        let carries = sums.put_sums(&ac, &seen);
         let links = known.link.toggled(carries);
         let mut sum = self.after_tad(
             known,
             single,
             &ac.only(),
             &seen.only(),
-            sums,
+            &sums,
             &mut way.first,
             &mut way.second,
         );
@@ -359,7 +368,7 @@ impl<A: Allocator> Place<'_, A> {
         going(
             targets,
             known,
-            &WordSet::all(),
+            &Seen::all(),
             address_after(at, &mut way.next),
             sum,
         )
@@ -372,7 +381,7 @@ impl<A: Allocator> Place<'_, A> {
         indirect: bool,
         named: Word,
         known: &Known<'a>,
-        targets: &'a WordSet,
+        targets: &'a Seen,
     ) -> Option<Outcome<'a>>
         ensures { (f : said.Fact) (p : Words) → Agree (known_of known.now) f →
             SameWords (words targets.now) p →
@@ -381,7 +390,7 @@ impl<A: Allocator> Place<'_, A> {
         if indirect && self.is_own(named) {
             return returning(targets, known, known.same());
         }
-        going(targets, known, &WordSet::all(), targets, known.same())
+        going(targets, known, &Seen::all(), targets, known.same())
     }
 
     /// ISZ: of one variable, of the running routine's own entry, or of one of several variables.
@@ -389,7 +398,7 @@ impl<A: Allocator> Place<'_, A> {
         &self,
         at: Word,
         known: &Known<'a>,
-        targets: &WordSet,
+        targets: &Seen,
         single: &Option<Word>,
         way: &'a mut Way,
         other: &'a mut Way,

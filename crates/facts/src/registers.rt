@@ -20,6 +20,7 @@ use crate::known::Known;
 use crate::names::Name;
 use crate::outcome::{Outcome, address_after, address_skipped_to, going};
 use crate::room::{Step, Way};
+use crate::seen::Seen;
 use instruct::DeviceOperation;
 use word12::Word;
 use wordset::WordSet;
@@ -29,12 +30,12 @@ pub(crate) fn go_on<'a>(
     at: Word,
     known: &Known<'_>,
     after: Known<'a>,
-    next: &'a mut WordSet,
+    next: &'a mut Seen,
 ) -> Option<Outcome<'a>>
     ensures { (f h : said.Fact) → Agree (known_of known.now) f → Agree (known_of after.entry) h →
         AgreeingOutcomes (slot result) (goes everything f everything (one (plus at 1)) h) }
 {
-    let all = WordSet::all();
+    let all = Seen::all();
     going(&all, known, &all, address_after(at, next), after)
 }
 
@@ -66,7 +67,7 @@ fn related<'a>(word: Word, known: &Known<'a>, step: &'a mut Step) -> Known<'a>
         Agree (known_of result) (related1 word f) }
 {
     if changes_accumulator(word) {
-        return known.with_ac(WordSet::all(), step);
+        return known.with_ac(&Seen::all(), step);
     }
     if increments(word) {
         return known.raised_ac(Word::ZERO.increment(), step);
@@ -91,7 +92,7 @@ pub(crate) fn operate<'a>(
     let ac = known.narrowed(&Name::Accumulator);
     let (images, links) = ac.map_operate(word, known.link);
     let after = related(word, known, &mut way.first)
-        .holding(images, &mut way.second)
+        .holding(&Seen::of(images), &mut way.second)
         .with_link(links);
     go_on(at, known, after, &mut way.next)
 }
@@ -100,13 +101,13 @@ pub(crate) fn operate<'a>(
 pub(crate) fn test_flag<'a>(
     at: Word,
     known: &Known<'a>,
-    stay: &'a mut WordSet,
-    skip: &'a mut WordSet,
+    stay: &'a mut Seen,
+    skip: &'a mut Seen,
 ) -> (Option<Outcome<'a>>, Option<Outcome<'a>>)
     ensures { (f : said.Fact) → Agree (known_of known.now) f →
         AgreeingOutcomes (slot result.0 ++ slot result.1) (device_outcomes at f Skips) }
 {
-    let all = WordSet::all();
+    let all = Seen::all();
     let stays = go_on(at, known, known.same(), stay);
     let skips = going(
         &all,
@@ -126,7 +127,7 @@ pub(crate) fn or_byte<'a>(at: Word, known: &Known<'a>, way: &'a mut Way) -> Opti
 {
     let ac = known.narrowed(&Name::Accumulator);
     let byte = ac.or_any(Word::from_byte(0o377));
-    let after = known.with_ac(byte, &mut way.first);
+    let after = known.with_ac(&Seen::of(byte), &mut way.first);
     go_on(at, known, after, &mut way.next)
 }
 
@@ -136,7 +137,7 @@ pub(crate) fn clear<'a>(at: Word, known: &Known<'a>, way: &'a mut Way) -> Option
     ensures { (f : said.Fact) → Agree (known_of known.now) f →
         AgreeingOutcomes (slot result) (device_outcomes at f Clears) }
 {
-    let after = known.with_ac(WordSet::one(Word::ZERO), &mut way.first);
+    let after = known.with_ac(&Seen::one(Word::ZERO), &mut way.first);
     go_on(at, known, after, &mut way.next)
 }
 
@@ -146,13 +147,13 @@ pub(crate) fn take_byte<'a>(at: Word, known: &Known<'a>, way: &'a mut Way) -> Op
     ensures { (f : said.Fact) → Agree (known_of known.now) f →
         AgreeingOutcomes (slot result) (device_outcomes at f Takes) }
 {
-    let bytes = WordSet::range(Word::ZERO, Word::from_byte(0o377));
-    let after = known.with_ac(bytes, &mut way.first);
+    let bytes = Seen::between(Word::ZERO, Word::from_byte(0o377));
+    let after = known.with_ac(&bytes, &mut way.first);
     go_on(at, known, after, &mut way.next)
 }
 
 /// Nothing changes.
-pub(crate) fn leave<'a>(at: Word, known: &Known<'a>, next: &'a mut WordSet) -> Option<Outcome<'a>>
+pub(crate) fn leave<'a>(at: Word, known: &Known<'a>, next: &'a mut Seen) -> Option<Outcome<'a>>
     ensures { (f : said.Fact) → Agree (known_of known.now) f →
         AgreeingOutcomes (slot result) (device_outcomes at f Leaves) }
 {
@@ -174,8 +175,8 @@ fn take<'a>(
         (with_mq t (assigned Ac s f))) }
 {
     let after = known
-        .with_ac(ac, &mut way.first)
-        .with_mq(mq, &mut way.second);
+        .with_ac(&Seen::of(ac), &mut way.first)
+        .with_mq(&Seen::of(mq), &mut way.second);
     go_on(at, known, after, &mut way.next)
 }
 
@@ -194,7 +195,7 @@ pub(crate) fn exchange<'a>(
         (operated3 o f)) }
 {
     let ac = known.narrowed(&Name::Accumulator);
-    let mq = *known.mq;
+    let mq = known.mq.set();
     let zero = WordSet::one(Word::ZERO);
     match word.value() {
         0o7421 => take(at, known, zero, ac, way),

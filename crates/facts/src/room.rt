@@ -3,16 +3,15 @@
 //! What is known after a step borrows the fact that it came from, and for all that is new the room:
 //! a set has 512 bytes, and making places for them anew for each word took nearly all of the time.
 
-ghost use Rattle.std.specs.Prelude.{◌≡◌};
-
 use crate::equations::Equations;
+use crate::seen::Seen;
 use arrayvec::ArrayVec;
 use wordset::WordSet;
 
 /// Room for one change of what is known: a set and a list of equations.
 #[derive(Drop)]
 pub(crate) struct Step {
-    pub(crate) set: WordSet,
+    pub(crate) set: Seen,
     pub(crate) list: Equations,
 }
 
@@ -20,7 +19,7 @@ impl Step {
     /// Room that nothing stands in.
     fn new() -> Step {
         Step {
-            set: WordSet::empty(),
+            set: Seen::of(WordSet::empty()),
             list: ArrayVec::new(),
         }
     }
@@ -32,7 +31,7 @@ pub(crate) struct Way {
     pub(crate) first: Step,
     pub(crate) second: Step,
     pub(crate) third: Step,
-    pub(crate) next: WordSet,
+    pub(crate) next: Seen,
 }
 
 impl Way {
@@ -42,7 +41,7 @@ impl Way {
             first: Step::new(),
             second: Step::new(),
             third: Step::new(),
-            next: WordSet::empty(),
+            next: Seen::of(WordSet::empty()),
         }
     }
 }
@@ -52,7 +51,7 @@ impl Way {
 #[derive(Drop)]
 pub struct Room {
     pub(crate) pointer: Step,
-    pub(crate) targets: WordSet,
+    pub(crate) targets: Seen,
     pub(crate) one: Way,
     pub(crate) two: Way,
     pub(crate) three: Way,
@@ -64,19 +63,11 @@ impl Room {
     pub fn new() -> Room {
         Room {
             pointer: Step::new(),
-            targets: WordSet::empty(),
+            targets: Seen::of(WordSet::empty()),
             one: Way::new(),
             two: Way::new(),
             three: Way::new(),
             four: Way::new(),
         }
     }
-}
-
-/// Puts a set into its place, and lends it.
-pub(crate) fn put(place: &mut WordSet, set: WordSet) -> &WordSet
-    ensures { result.now ≡ set }
-{
-    *place = set;
-    place
 }

@@ -17,6 +17,7 @@ use crate::names::Name;
 use crate::outcome::{Outcome, address_after, address_skipped_to, going_if, has_word};
 use crate::place::union_if;
 use crate::room::{Step, Way};
+use crate::seen::Seen;
 use word12::{Link, Word};
 use wordset::{Links, WordSet};
 
@@ -112,16 +113,16 @@ fn after_test<'a>(word: Word, known: &Known<'a>, part: WordSet, step: &'a mut St
 {
     if reads_switches(word) {
         let left = kept(word, part);
-        return known.with_ac(left.or_any(Word::from_index(0o7777)), step);
+        return known.with_ac(&Seen::of(left.or_any(Word::from_index(0o7777))), step);
     }
     if clears(word) {
-        return known.with_ac(WordSet::one(Word::ZERO), step);
+        return known.with_ac(&Seen::one(Word::ZERO), step);
     }
-    known.same().holding(part, step)
+    known.same().holding(&Seen::of(part), step)
 }
 
 /// The next address, or the one after it.
-fn next_address(at: Word, skip: bool, place: &mut WordSet) -> &WordSet
+fn next_address(at: Word, skip: bool, place: &mut Seen) -> &Seen
     ensures { SameWords (words result.now) (one (next_pc at skip)) }
 {
     if skip {
@@ -151,7 +152,7 @@ pub(crate) fn branch<'a>(
     ensures { (f : said.Fact) → Agree (known_of known.now) f →
         AgreeingOutcomes (slot result) (operated2 at word f link skip) }
 {
-    let all = WordSet::all();
+    let all = Seen::all();
     let ac = known.narrowed(&Name::Accumulator);
     let part = part(word, link, skip, &ac);
     let linked = known.link.contains(link);

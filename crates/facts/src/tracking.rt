@@ -1,12 +1,15 @@
 //! Tracked cells, each in a few bytes: the words of most are words in a row, and the sets of the
 //! others stand in a list beside them.
 
-ghost use Rattle.std.specs.Prelude.{ℕ, ◌≡◌, ◌<◌, ◌≤◌, ◌↔◌, ◌∷◌, [], ◌++◌, length, IsTrue};
-ghost use Rattle.wordset.specs.Words.{SameWords, IsWithin, between, nothing};
+ghost use Rattle.std.specs.Prelude.{ℕ, ◌≡◌, ◌<◌, ◌≤◌, ◌↔◌, ◌∷◌, [], ◌++◌, length, IsTrue, IfSome, List};
+ghost use Rattle.wordset.specs.Words.{SameWords, IsWithin, between, nothing, meet};
 ghost use Rattle.wordset.specs.Lanes.{words};
 ghost use Rattle.facts.specs.Statements.{tracked, cell_at};
+ghost use Rattle.facts.specs.Rows.{row_words, IsRow};
+ghost use Rattle.facts.specs.declared.tracking.TrackedCell.{TrackedCell as Whole};
 ghost use Rattle.facts.specs.Tracking.{tracked_of, held_words, tracked_cells, IsPlaceBelow};
 
+use crate::seen::Row;
 use arrayvec::ArrayVec;
 use std::marker::Model;
 use word12::Word;
@@ -131,6 +134,23 @@ fn set_of(whole: &[TrackedCell], held: &Held) -> WordSet
     }
 }
 
+/// The words of a row that a row allows; none is told of a cell that stands whole.
+fn allowed(row: Row, held: &Held) -> Option<Row>
+    ensures { (whole : List Whole) → IfSome result (λ r.
+        IsRow r (meet (row_words row) (held_words whole held.now))) }
+{
+    match held {
+        Held::Row(first, last) => {
+            let other = Row {
+                first: *first,
+                last: *last,
+            };
+            row.meet(other)
+        }
+        Held::Whole(_) => None,
+    }
+}
+
 impl TrackedCells {
     /// No cell.
     pub fn new() -> TrackedCells
@@ -246,6 +266,23 @@ impl TrackedCells {
             }
         }
         set
+    }
+
+    /// The words of a cell, where they are seen to be a row.
+    pub(crate) fn row_of(&self, cell: Word) -> Option<Row>
+        ensures { IfSome result (λ r. IsRow r (tracked cell (tracked_cells self.now))) }
+    {
+        let mut row = Row::all();
+        for entry in self.entries.as_slice() {
+            if entry.cell != cell {
+                continue;
+            }
+            let Some(less) = allowed(row, &entry.held) else {
+                return None;
+            };
+            row = less;
+        }
+        Some(row)
     }
 
     /// Takes all away.

@@ -79,7 +79,7 @@ fn described(next: WordSet, known: &Known<'_>) -> Seen {
     let equations = known.equations();
     Seen {
         next,
-        ac: *known.accumulator(),
+        ac: known.accumulator(),
         link: known.link(),
         pointer: known.set(&Name::Cell(word(0o10))),
         count: known.set(&Name::Cell(word(0o224))),
@@ -95,7 +95,7 @@ fn described(next: WordSet, known: &Known<'_>) -> Seen {
 fn glimpse(outcome: &Option<Outcome<'_>>) -> Option<Seen> {
     match outcome {
         None => None,
-        Some(Outcome::Goes(next, after)) => Some(described(**next, after)),
+        Some(Outcome::Goes(next, after)) => Some(described(next.set(), after)),
         Some(Outcome::Calls(_, after)) => Some(described(WordSet::empty(), after)),
         Some(Outcome::Returns(after)) => Some(described(WordSet::empty(), after)),
     }

@@ -83,8 +83,8 @@ fn described(way: Way, next: WordSet, known: &Known<'_>) -> Seen {
     Seen {
         way,
         next,
-        ac: *known.accumulator(),
-        mq: *known.mq(),
+        ac: known.accumulator(),
+        mq: known.mq(),
         link: known.link(),
         pointer: cell(known, 0o10),
         x: cell(known, 0o300),
@@ -100,8 +100,8 @@ fn described(way: Way, next: WordSet, known: &Known<'_>) -> Seen {
 fn glimpse(outcome: &Option<Outcome<'_>>) -> Option<Seen> {
     match outcome {
         None => None,
-        Some(Outcome::Goes(next, after)) => Some(described(Way::Goes, **next, after)),
-        Some(Outcome::Calls(next, after)) => Some(described(Way::Calls, **next, after)),
+        Some(Outcome::Goes(next, after)) => Some(described(Way::Goes, next.set(), after)),
+        Some(Outcome::Calls(next, after)) => Some(described(Way::Calls, next.set(), after)),
         Some(Outcome::Returns(after)) => Some(described(Way::Returns, WordSet::empty(), after)),
     }
 }

@@ -56,10 +56,10 @@ fn link_beyond(links: Links, others: Links) -> Option<Link>
 fn register_gap(known: &Known<'_>, fact: &Fact) -> Option<Gap>
     ensures { IfSome result (IsGap (known_of known.now) (meaning fact.now)) }
 {
-    if let Some(word) = word_beyond(&known.narrowed(&Name::Accumulator), fact.accumulator()) {
+    if let Some(word) = word_beyond(&known.narrowed(&Name::Accumulator), &fact.accumulator()) {
         return Some(Gap::Accumulator(word));
     }
-    if let Some(word) = word_beyond(known.mq(), fact.mq()) {
+    if let Some(word) = word_beyond(&known.mq(), &fact.mq()) {
         return Some(Gap::Mq(word));
     }
     match link_beyond(known.link(), fact.link()) {
@@ -129,10 +129,10 @@ fn register_gap_at_start(fact: &Fact) -> Option<Gap>
     ensures { (i : runs.Image) → IfSome result (IsStartGap i (meaning fact.now)) }
 {
     let all = WordSet::all();
-    if let Some(word) = word_beyond(&all, fact.accumulator()) {
+    if let Some(word) = word_beyond(&all, &fact.accumulator()) {
         return Some(Gap::Accumulator(word));
     }
-    if let Some(word) = word_beyond(&all, fact.mq()) {
+    if let Some(word) = word_beyond(&all, &fact.mq()) {
         return Some(Gap::Mq(word));
     }
     match link_beyond(Links::both(), fact.link()) {

@@ -12,11 +12,10 @@ use crate::breach::{Breach, Landing};
 use crate::gap::gap_between;
 use crate::spot::Spot;
 use crate::told::claimed_fact;
-use facts::{Known, Outcome, Room, outcomes};
+use facts::{Known, Outcome, Room, Seen, outcomes};
 use judge::Claims;
 use std::alloc::Allocator;
 use word12::Word;
-use wordset::WordSet;
 
 impl<A: Allocator, C: Claims> Spot<'_, A, C> {
     /// Whether a routine's body has an address.
@@ -52,7 +51,7 @@ impl<A: Allocator, C: Claims> Spot<'_, A, C> {
     }
 
     /// The first of some addresses at which what is known doesn't land, and why.
-    fn misses_at(&self, addresses: &WordSet, known: &Known<'_>) -> Option<(Word, Landing)>
+    fn misses_at(&self, addresses: &Seen, known: &Known<'_>) -> Option<(Word, Landing)>
         ensures { IfSome result (λ found. (found.0 < 4096) × (words addresses.now found.0 ≡ true) ×
             MissesHere C.claims self.now (here self.now).routine found.0 (known_of known.now)
             found.1) }

@@ -5,7 +5,7 @@ use declaration::Declaration;
 use facts::{Equation, Fact, Name, Outcome, OutcomeList, Place, Room, outcomes};
 use std::alloc::Allocator;
 use word12::{Link, Word};
-use wordset::{Links, WordSet};
+use wordset::Links;
 
 /// TAD of the cell 0010.
 const TAD: usize = 0o1010;
@@ -37,7 +37,7 @@ fn relate(fact: &mut Fact, left: Name, right: usize, more: usize) {
 /// words in each cell, the first of which is 0010.
 pub fn before(pairs: usize) -> Fact {
     let mut fact = Fact::any();
-    fact.set_accumulator(WordSet::one(Word::ZERO));
+    fact.set_accumulator_row(Word::ZERO, Word::ZERO);
     fact.set_link(Links::one(Link::CLEAR));
     for pair in 0..32usize {
         if pair < pairs {
@@ -54,7 +54,7 @@ pub fn before(pairs: usize) -> Fact {
 /// there are 32.
 pub fn after(pairs: usize) -> Fact {
     let mut fact = before(pairs);
-    fact.set_accumulator(WordSet::range(word(0o225), word(0o231)));
+    fact.set_accumulator_row(word(0o225), word(0o231));
     relate(&mut fact, Name::Accumulator, 0o10, 0);
     fact
 }

@@ -2,4 +2,4 @@ use Rattle.facts.proofs.OutcomeLemmas.{one_at}
 use Rattle.facts.proofs.outcome.address_after.Goals as goal
 
 pub returns : goal.returns
-returns c = rw c.put.ensures (one_at c.one.ensures c.increment.ensures)
+returns c = one_at c.put_one.ensures c.increment.ensures

@@ -1,6 +1,11 @@
-use Rattle.std.proofs.Common.{◌∙◌}
-use Rattle.facts.proofs.OutcomeLemmas.{has_same}
+use Rattle.std.proofs.Common.{sym, arith}
+use Rattle.facts.specs.Facts.{Ac, narrowed}
+use Rattle.facts.specs.Meaning.{known_of}
+use Rattle.facts.proofs.RowLemmas.{has_first}
 use Rattle.facts.proofs.outcome.has_accumulator.Goals as goal
 
-pub returns-then-not-speaks_of : goal.returns-then-not-speaks_of
-returns-then-not-speaks_of c = c.has_word.ensures ∙ has_same (c.speaks_of.ensures c.if-not-speaks_of.true)
+pub returns-in-Some : goal.returns-in-Some
+returns-in-Some c =
+    let is = c.in-Some.ensures in
+    let row = c.in-Some.field-0 in
+    sym (has_first row.first row.last (narrowed (known_of c.args.known.now) Ac) (let z = is.some in let y = is.small in omega arith) is.some is.same)

@@ -1,4 +1,4 @@
-use Rattle.std.proofs.Common.{◌≡◌, ◌∙◌, ap, subst, lit<}
+use Rattle.std.proofs.Common.{◌≡◌, ◌∙◌, ap, subst, lit<, List, ℕ}
 use Rattle.std.specs.Prelude.{◌&&◌}
 use Rattle.wordset.specs.Words.{Words, SameWords, one, plus, without, shifted}
 use Rattle.wordset.specs.Lanes.{words}
@@ -17,8 +17,9 @@ pub returns : goal.returns
 returns c = λ pl f p var h e.
     let old : SameWords (words c.narrowed-old.result) (narrowed f (Cell c.args.cell)) = λ v lt. c.narrowed-old.ensures v lt ∙ narrowed_agree h (Cell c.args.cell) v lt in
     let zero : SameWords (words c.one-zero.result) (one 0) = λ v lt. ap (λ (x : Words). x v) c.one-zero.ensures in
-    let more : SameWords (words c.minus-more.result) (without 0 (shifted (narrowed f (Cell c.args.cell)) 1)) =
-    left_over (narrowed f (Cell c.args.cell)) c.increment.result c.increment.ensures (shifted_same c.increment.result old c.shift.ensures) c.one-zero.ensures c.minus-more.ensures in
+    let less : words c.set.result ≡ one 0 = c.set.ensures ∙ c.one-zero.ensures in
+    let more : SameWords (words c.of-more.result) (without 0 (shifted (narrowed f (Cell c.args.cell)) 1)) =
+    λ v lt. ap (λ (s : List ℕ). words s v) c.of-more.ensures ∙ left_over (narrowed f (Cell c.args.cell)) c.increment.result c.increment.ensures (shifted_same c.increment.result old c.shift.ensures) less c.minus.ensures v lt in
     let full : c.contains.result ≡ narrowed f (Cell c.args.cell) 4095 = c.contains.ensures ∙ ap (λ n. words c.narrowed-old.result n) c.complement-last.ensures ∙ old 4095 (lit< tt) in
     isz_variable pl c.args.at f p c.args.cell (slot c.going_if-skips.result) (slot c.going-goes_on.result) var
     (subst (λ b. AgreeingOutcomes (slot c.going_if-skips.result) (given (b && alive p f (one 0) (with_name (Cell c.args.cell) (one 0) (moved (Cell c.args.cell) 1 f))) (Goes (one (plus c.args.at 2)) (with_name (Cell c.args.cell) (one 0) (moved (Cell c.args.cell) 1 f))))) full

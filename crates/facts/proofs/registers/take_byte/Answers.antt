@@ -9,4 +9,4 @@ use Rattle.std.proofs.Common.{refl}
 
 pub returns : goal.returns
 returns c = λ f h. c.go_on.ensures f (assigned Ac (λ v. nat_lt v 256) f) h
-    (agree_trans c.with_ac-after.ensures.same (assigned_agree Ac h (bytes_same _ _ c.range-bytes.ensures refl c.from_byte.ensures.same)))
+    (agree_trans c.with_ac-after.ensures.same (assigned_agree Ac h (bytes_same _ _ c.between-bytes.ensures refl c.from_byte.ensures.same)))

@@ -1,5 +1,5 @@
-use Rattle.std.proofs.Common.{◌∙◌, sym, subst}
-use Rattle.wordset.specs.Words.{SameWords}
+use Rattle.std.proofs.Common.{◌∙◌, sym, subst, ap, List, ℕ}
+use Rattle.wordset.specs.Words.{Words, SameWords}
 use Rattle.wordset.specs.Lanes.{words}
 use Rattle.facts.specs.Facts.{tape_word}
 use Rattle.facts.proofs.CallLemmas.{possible_variable, possible_tape}
@@ -10,4 +10,4 @@ returns-then-is_variable g c = possible_variable _ _ _ _ (sym c.is_variable.ensu
 
 pub returns : goal.returns
 returns g c = possible_tape _ _ _ _ (sym c.is_variable.ensures ∙ c.if-is_variable.false)
-    (subst (λ o. SameWords (words c.tape_words.result) (tape_word o)) c.word_of.ensures.word c.tape_words.ensures)
+    (λ v lt. ap (λ (s : Words). s v) c.set.ensures ∙ subst (λ o. SameWords (words c.tape_words.result) (tape_word o)) c.word_of.ensures.word c.tape_words.ensures v lt)

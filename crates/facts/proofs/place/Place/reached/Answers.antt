@@ -1,4 +1,4 @@
-use Rattle.std.proofs.Common.{◌∙◌, ap, sym, subst}
+use Rattle.std.proofs.Common.{◌∙◌, ap, sym, subst, List, ℕ}
 use Rattle.wordset.specs.Words.{Words, SameWords, shifted}
 use Rattle.wordset.specs.Lanes.{words}
 use Rattle.facts.specs.Facts.{Cell}
@@ -11,7 +11,7 @@ use Rattle.facts.proofs.place.Place.reached.Goals as goal
 
 pub returns-then-steps_pointer : goal.returns-then-steps_pointer
 returns-then-steps_pointer g c = λ f h. reach_stepped (place_of c.args.self.now) c.args.indirect c.args.named f (sym c.steps_pointer.ensures ∙ c.if-steps_pointer.true)
-    (λ v lt. shifted_same 1 (λ w l. c.narrowed.ensures w l ∙ narrowed_agree h (Cell c.args.named) w l)
+    (λ v lt. ap (λ (s : List ℕ). words s v) c.of.ensures ∙ shifted_same 1 (λ w l. c.narrowed.ensures w l ∙ narrowed_agree h (Cell c.args.named) w l)
     (subst (λ k. SameWords (words c.shift.result) (shifted (words c.narrowed.result) k)) c.increment-one.ensures c.shift.ensures) v lt ∙ ap (λ (s : Words). s v) (sym (moved_here f c.args.named)))
 
 pub returns-then-indirect : goal.returns-then-indirect

@@ -1,0 +1,11 @@
+use Rattle.std.proofs.Common.{◌≡◌, ◌<◌, ℕ, drop, map}
+use Rattle.std.specs.Prelude.{◌&&◌}
+use Rattle.facts.specs.Facts.{met_by}
+use Rattle.facts.specs.Meaning.{known_of, name_of, equation_of}
+use Rattle.facts.specs.Rows.{row_words, IsRow}
+use Rattle.facts.proofs.known.Known.narrowed_row.Given as goal
+
+abbrev pub invariant-loop-e : goal.invariant-loop-e
+invariant-loop-e l = IsRow l.row (row_words l.row) × ((v : ℕ) → v < 4096 →
+    (row_words l.row v && met_by (known_of l.self) (name_of l.name) (map equation_of (drop l.e-index l.self.equations.now)) v) ≡
+    ((known_of l.self).set (name_of l.name) v && met_by (known_of l.self) (name_of l.name) (map equation_of l.self.equations.now) v))

@@ -1,0 +1,11 @@
+use Rattle.std.proofs.Common.{◌∙◌}
+use Rattle.wordset.specs.Lanes.{words}
+use Rattle.facts.proofs.RowLemmas.{within_rows}
+use Rattle.facts.proofs.seen.Seen.is_within.Goals as goal
+
+pub returns-in-Some-row : goal.returns-in-Some-row
+returns-in-Some-row c =
+    let is = c.in-Some.ensures in
+    let is' = c.in-Some-row.ensures in
+    let both = within_rows c.in-Some.row.first c.in-Some.row.last c.in-Some-row.wider.first c.in-Some-row.wider.last (words c.args.self.now) (words c.args.other.now) is.small is.some is.same is'.same in
+    ((λ t. both.0 (c.is_within.ensures.0 t)), (λ i. c.is_within.ensures.1 (both.1 i)))

@@ -1,0 +1,41 @@
+-- Rows of words, and sets that are kept as rows where they are.
+use Rattle.std.specs.Prelude.{ℕ, ◌+◌, ◌*◌, ◌<◌, ◌≤◌, Bool, if◌then◌else◌, List, [], ◌∷◌}
+use Rattle.std.proofs.Common.{zero, suc}
+use Rattle.wordset.specs.Words.{Words, SameWords, between}
+use Rattle.facts.specs.declared.seen.Row.{Row}
+use Rattle.facts.specs.declared.seen.Kept.{Kept}
+use Rattle.facts.specs.declared.seen.Kept.TheVariants as kept
+
+-- The words of a row.
+abbrev pub row_words : Row → Words
+row_words r = between r.first r.last
+
+-- The row has a word, and its words are these.
+pub record IsRow (r : Row) (set : Words) : Type 0 where
+  pub some : r.first ≤ r.last
+  pub small : r.last < 4096
+  pub same : SameWords (row_words r) set
+
+-- A lane of n bits, each of which is set where its number passes the test.
+unfoldable pub lane_with : ℕ → (ℕ → Bool) → ℕ
+lane_with zero test = 0
+lane_with (suc n) test = (if test 0 then 1 else 0) + 2 * lane_with n (λ j. test (j + 1))
+
+-- The n lanes of a set from one on.
+unfoldable pub lanes_with : ℕ → ℕ → Words → List ℕ
+lanes_with zero i set = []
+lanes_with (suc n) i set = lane_with 64 (λ j. set (64 * i + j)) ∷ lanes_with n (i + 1) set
+
+-- The lanes of a set: 64 of 64 bits.
+unfoldable pub lanes_of : Words → List ℕ
+lanes_of set = lanes_with 64 0 set
+
+-- The lanes of a set that is kept so.
+abbrev pub kept_lanes : Kept → List ℕ
+kept_lanes (kept.Row r) = lanes_of (row_words r)
+kept_lanes (kept.Set s) = s
+
+-- A row that is kept has a word.
+abbrev pub IsKept : Kept → Type 0
+IsKept (kept.Row r) = (r.first ≤ r.last) × (r.last < 4096)
+IsKept (kept.Set s) = Unit {0}

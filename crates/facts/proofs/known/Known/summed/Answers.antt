@@ -14,5 +14,5 @@ returns c =
     let code : CodeEquation = record { left = Accumulator; right = c.args.cell; more = c.args.more } in
     let list : map equation_of c.push.new.self.items ≡ first = ap (map equation_of) (c.push.ensures.items ∙ ap (λ (xs : List CodeEquation). xs ++ code ∷ []) c.clear.ensures) in
     let rest : map equation_of c.free.new.list.items ≡ free_of (λ m. same m Ac) (map equation_of c.args.self.now.equations.now) = c.free.ensures.list in
-    rw (← c.put.ensures) (summed_agrees c.args.self.now first c.put.result c.as_slice-2.result
-    (ap (map equation_of) (c.as_slice-2.ensures.value ∙ (c.add_all.ensures ∙ ap (λ (ys : List CodeEquation). c.push.new.self.items ++ ys) c.as_slice.ensures.value)) ∙ map_both c.push.new.self.items c.free.new.list.items first list ∙ ap (λ (es : List Equation). first ++ es) rest))
+    summed_agrees c.args.self.now first c.args.set c.as_slice-2.result
+    (ap (map equation_of) (c.as_slice-2.ensures.value ∙ (c.add_all.ensures ∙ ap (λ (ys : List CodeEquation). c.push.new.self.items ++ ys) c.as_slice.ensures.value)) ∙ map_both c.push.new.self.items c.free.new.list.items first list ∙ ap (λ (es : List Equation). first ++ es) rest)

@@ -24,9 +24,13 @@ not_empty {r} {b} e = ap not e ∙ twice b
 pub all_six : {a b c d e f g h i j k l : Bool} → a ≡ g → b ≡ h → c ≡ i → d ≡ j → e ≡ k → f ≡ l → (a && (b && (c && (d && (e && f))))) ≡ (g && (h && (i && (j && (k && l)))))
 all_six p q r s t u = rw (p, q, r, s, t, u) refl
 
-pub alive_agree : {p q s t : Words} {h i : Fact} (f : Fact) → SameWords p q → SameWords s t → Agree h i → alive p f s h ≡ alive q f t i
-alive_agree {p} {q} {s} {t} {h} {i} f ep es b =
+pub alive_same : {p q s t : Words} {h i : Fact} (f : Fact) → SameWords p q → SameWords s t → Agree h i → alive p f s h ≡ alive q f t i
+alive_same {p} {q} {s} {t} {h} {i} f ep es b =
     all_six (has_same ep) refl (has_same (b.sets Ac)) (has_same b.mq) (some_same 2 h.link i.link b.link) (has_same es)
+
+pub alive_agree : {p q s t : Words} {f g h i : Fact} → SameWords p q → Agree f g → SameWords s t → Agree h i → alive p f s h ≡ alive q g t i
+alive_agree {p} {q} {s} {t} {f} {g} {h} {i} ep a es b =
+    all_six (has_same ep) (has_same (narrowed_agree a Ac)) (has_same (b.sets Ac)) (has_same b.mq) (some_same 2 h.link i.link b.link) (has_same es)
 
 pub given_agree : (a b : Bool) (o : Outcome) (p : Outcome) → a ≡ b → AgreeingOutcome o p → AgreeingOutcomes (given a o) (given b p)
 given_agree true true o p e h = (h, tt)

@@ -132,6 +132,18 @@ fn changed_row(change: &Change<'_>, cell: Word, row: Row) -> Option<Row>
     ensures { (old : Words) → IsRow row old →
         IfSome result (λ r. IsRow r (changed change.now cell old)) }
 {
+    if let Change::Unchanged = change {
+        return Some(row);
+    }
+    new_row(change, cell, row)
+}
+
+/// The same, whatever the change.
+#[inline(never)]
+fn new_row(change: &Change<'_>, cell: Word, row: Row) -> Option<Row>
+    ensures { (old : Words) → IsRow row old →
+        IfSome result (λ r. IsRow r (changed change.now cell old)) }
+{
     match change {
         Change::Unchanged => Some(row),
         Change::Replaced(at, other) => {

@@ -10,7 +10,7 @@ ghost use Rattle.facts.specs.Changes.{copied, moved, assigned, smeared, with_equ
 ghost use Rattle.facts.specs.Same.{Agree};
 ghost use Rattle.facts.specs.Meaning.{equation_of, offsets_of, known_of, IsUnchanged};
 
-use crate::equations::{Equations, add_all, copy_to, free, free_of_cells, raise};
+use crate::equations::{Equations, add_all, add_free, copy_to, free, free_of_cells, raise};
 use crate::known::{Change, Known};
 use crate::names::{Equation, Name};
 use crate::offsets::Offsets;
@@ -303,21 +303,19 @@ impl<'a> Known<'a> {
         more: Word,
         set: &'a Seen,
         list: &'a mut Equations,
-        spare: &mut Equations,
     ) -> Known<'a>
         requires room { length self.now.equations.now ≤ 32 }
         ensures { Agree (known_of result) (with_equations
             (record { left = Ac; right = Cell cell; more = more } ∷ [])
             (assigned Ac (words set.now) (known_of self.now))) }
     {
-        free(&Name::Accumulator, self.equations, spare);
         list.clear();
         list.push(Equation {
             left: Name::Accumulator,
             right: cell,
             more,
         });
-        add_all(list, spare.as_slice());
+        add_free(&Name::Accumulator, self.equations, list);
         Known {
             base: self.base,
             ac: set,

@@ -79,6 +79,16 @@ pub(crate) fn free(name: &Name, equations: &[Equation], list: &mut Equations)
     ensures len { array_vec_len list.new ≤ length equations.now }
 {
     list.clear();
+    add_free(name, equations, list);
+}
+
+/// Lists the equations that don't speak of a name after those of a list.
+pub(crate) fn add_free(name: &Name, equations: &[Equation], list: &mut Equations)
+    requires { array_vec_len list.old + length equations.now ≤ 64 }
+    ensures list { map equation_of list.new.items ≡ map equation_of list.old.items ++
+        free_of (λ m. same m (name_of name.now)) (map equation_of equations.now) }
+    ensures len { array_vec_len list.new ≤ array_vec_len list.old + length equations.now }
+{
     for e in equations {
         if !is_same_name(&e.left, name) && !is_same_name(&Name::Cell(e.right), name) {
             list.push(*e);

@@ -363,8 +363,7 @@ impl<A: Allocator> Place<'_, A> {
         ac: &Option<Word>,
         added: &Option<Word>,
         set: &'a Seen,
-        first: &'a mut Equations,
-        second: &mut Equations,
+        list: &'a mut Equations,
     ) -> Known<'a>
         requires room { length known.now.equations.now ≤ 32 }
         ensures { (f : said.Fact) (v : Words) → Agree (known_of known.now) f →
@@ -374,11 +373,11 @@ impl<A: Allocator> Place<'_, A> {
         if let Some(cell) = target {
             if let Some(word) = ac {
                 if self.declaration.is_variable(*cell) {
-                    return known.summed(*cell, *word, set, first, second);
+                    return known.summed(*cell, *word, set, list);
                 }
             }
         }
-        after_sum(known, added, set, first)
+        after_sum(known, added, set, list)
     }
 
     /// TAD: all sums, and the link complemented by the carries that occur.
@@ -404,22 +403,13 @@ impl<A: Allocator> Place<'_, A> {
             ac,
             next,
             first,
-            second,
             ..
         } = way;
         let held = known.left_in(&Name::Accumulator, held);
         let read = self.words_at(known, targets, single, read);
         let carries = ac.put_sums(held, read);
         let links = known.link.toggled(carries);
-        let mut sum = self.after_tad(
-            known,
-            single,
-            &held.only(),
-            &read.only(),
-            &*ac,
-            first,
-            second,
-        );
+        let mut sum = self.after_tad(known, single, &held.only(), &read.only(), &*ac, first);
         sum.set_link(links);
         going(targets, held, all.put_all(), address_after(at, next), sum)
     }

@@ -176,7 +176,8 @@ class Judge:
 
     def holds_14(self, written, fact, word, entry, own):
         entries = written & sets.of(self.declared.routines)
-        return not entries or (word >> 9 == 2 and sets.only(written) == entry and 7 not in fact.offsets)
+        counted = entry is not None and word >> 9 == 2 and sets.only(written) == entry and 7 not in fact.offsets
+        return not entries or counted
 
     def holds_6(self, written, fact, word, entry, own):
         return entry is None or not written & ~(own.writes | sets.one(entry))

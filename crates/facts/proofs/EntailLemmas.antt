@@ -5,8 +5,6 @@ use Rattle.std.proofs.lemmas.List.{drop_more}
 use Rattle.std.proofs.Math.ListN.{drop_of_length-le}
 use Rattle.wordset.specs.Words.{plus, minus, Words, SameWords, IsWithin, only}
 use Rattle.facts.specs.Facts.{Name, Ac, Cell, same, Equation, Fact, narrowed, met_by, Knows, KnowsAll, Entails, EntailsOffsets}
-use Rattle.facts.proofs.Alike.{only_same}
-use Rattle.wordset.specs.Lanes.{words}
 use Rattle.facts.specs.declared.fact.Fact.{Fact as CodeFact}
 use Rattle.facts.specs.declared.names.Equation.{Equation as CodeEquation}
 use Rattle.facts.specs.Statements.{TrackedCell, tracked}

@@ -1,7 +1,7 @@
 -- Outcomes that agree.
 use Rattle.std.proofs.Common.{◌≡◌, ℕ, ◌+◌, ◌-◌, ◌<◌, ◌%◌, ◌==◌, Bool, true, false, not, ◌&&◌, Some, List, [], ◌∷◌, ◌++◌, refl, sym, ap, ◌∙◌, arith}
 use Rattle.std.specs.Prelude.{if◌then◌else◌}
-use Rattle.wordset.specs.Words.{plus, minus, Words, SameWords, one, everything, has_some, has_link, without, shifted, difference}
+use Rattle.wordset.specs.Words.{plus, minus, Words, SameWords, one, everything, has_some, without, shifted}
 use Rattle.facts.specs.Facts.{Ac, Cell, Fact, Place, narrowed}
 use Rattle.facts.specs.Outcomes.{Outcome, Goes, CallsTo, Returns, alive, given, goes, isz_case}
 use Rattle.facts.specs.Changes.{moved, with_name, with_offsets}

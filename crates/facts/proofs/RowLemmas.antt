@@ -1,15 +1,14 @@
 -- Rows of words.
-use Rattle.std.proofs.Common.{◌≡◌, ◌∙◌, sym, ap, refl, ℕ, zero, suc, ◌+◌, ◌-◌, ◌*◌, ◌/◌, ◌%◌, ◌<◌, ◌≤◌, ◌==◌, Bool, true, false, not, ◌&&◌, ◌⊎◌, Option, Some, None, List, inl, inr, arith, max, min, get_or, ◌^◌, [], ◌∷◌}
-use Rattle.std.specs.Prelude.{IfSome, IsTrue, ◌↔◌, nat_lt, nat_le, if◌then◌else◌}
+use Rattle.std.proofs.Common.{◌≡◌, ◌∙◌, sym, ap, refl, ℕ, zero, suc, ◌+◌, ◌-◌, ◌*◌, ◌/◌, ◌%◌, ◌<◌, ◌≤◌, ◌==◌, Bool, true, false, ◌&&◌, ◌⊎◌, Option, Some, None, List, inl, inr, arith, max, min, get_or, ◌^◌}
+use Rattle.std.specs.Prelude.{IfSome, ◌↔◌, nat_lt, nat_le, if◌then◌else◌}
 use Rattle.std.specs.Int.{bit_at}
 use Rattle.std.proofs.Math.Path.{fun_ext}
 use Rattle.std.proofs.lemmas.Nat.{shr-shr}
-use Rattle.std.proofs.lemmas.Bool.{cases_lt, eq-eqb, eqb-true, true≢false, false≢true}
+use Rattle.std.proofs.lemmas.Bool.{cases_lt, eq-eqb, eqb-true}
 use Rattle.std.proofs.lemmas.Bool.Decides.{nat_tests, eqb_tells}
-use Rattle.wordset.specs.Words.{Words, SameWords, SameLinks, IsWithin, IsFirstFrom, HasNoneFrom, between, meet, minus, plus, shifted, without, sums, carries, some_below, has_some, only, one, all_words}
+use Rattle.wordset.specs.Words.{Words, SameWords, SameLinks, IsWithin, IsFirstFrom, between, meet, minus, shifted, without, sums, carries, some_below, has_some, only, one, all_words}
 use Rattle.wordset.specs.Lanes.{words}
 use Rattle.wordset.specs.Links.{carries_of}
-use Rattle.wordset.specs.declared.links.Carries.{Carries}
 use Rattle.wordset.proofs.Tests.{both_ways, some_from, some_none_of, some_to, IsSome, and_both, and_first, and_second}
 use Rattle.wordset.proofs.Firsts.{only_next, only_two}
 use Rattle.wordset.proofs.SetLemmas.{words_bit, words_are, equal_words, all_past}

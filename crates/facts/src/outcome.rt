@@ -1,7 +1,7 @@
 //! The outcomes of a word, and those of them that can come about.
 
 ghost use Rattle.std.specs.Prelude.{◌≡◌, ◌&&◌};
-ghost use Rattle.wordset.specs.Words.{Words, SameWords, has_some, has_link, all_words, everything, one, plus};
+ghost use Rattle.wordset.specs.Words.{Words, SameWords, has_link, all_words, everything, one, plus};
 ghost use Rattle.wordset.specs.Lanes.{words};
 ghost use Rattle.wordset.specs.Links.{links_of};
 ghost use Rattle.facts.specs.Facts.{Ac, Fact, narrowed};

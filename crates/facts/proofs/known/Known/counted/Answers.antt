@@ -1,5 +1,4 @@
 use Rattle.std.proofs.Common.{◌∙◌, ap, map}
-use Rattle.facts.specs.Changes.{free_of, cells_of}
 use Rattle.facts.specs.Meaning.{equation_of}
 use Rattle.facts.proofs.ChangingLemmas.{smeared_counted}
 use Rattle.facts.proofs.known.Known.counted.Goals as goal

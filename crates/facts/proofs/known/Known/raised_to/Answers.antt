@@ -1,6 +1,4 @@
 use Rattle.std.proofs.Common.{◌∙◌, ap, map}
-use Rattle.facts.specs.Facts.{Ac}
-use Rattle.facts.specs.Changes.{moved_equations}
 use Rattle.facts.specs.Meaning.{equation_of}
 use Rattle.facts.proofs.ChangingLemmas.{raised_to_agrees}
 use Rattle.facts.proofs.known.Known.raised_to.Goals as goal

@@ -1,6 +1,4 @@
 use Rattle.std.proofs.Common.{◌∙◌, ap, map}
-use Rattle.facts.specs.Facts.{same, Ac}
-use Rattle.facts.specs.Changes.{free_of}
 use Rattle.facts.specs.Meaning.{equation_of}
 use Rattle.facts.proofs.ChangingLemmas.{assigned_ac}
 use Rattle.facts.proofs.known.Known.with_ac.Goals as goal

@@ -1,6 +1,4 @@
 use Rattle.std.proofs.Common.{◌∙◌, ap, map}
-use Rattle.facts.specs.Facts.{same, Cell}
-use Rattle.facts.specs.Changes.{free_of}
 use Rattle.facts.specs.Meaning.{equation_of}
 use Rattle.facts.proofs.ChangingLemmas.{assigned_cell}
 use Rattle.facts.proofs.known.Known.with_cell.Goals as goal

@@ -1,10 +1,8 @@
-use Rattle.std.proofs.Common.{◌∙◌, ◌&&◌, sym, ap, subst}
-use Rattle.wordset.specs.Words.{Words, some_below, one}
+use Rattle.std.proofs.Common.{◌∙◌, sym}
 use Rattle.wordset.specs.Lanes.{words}
-use Rattle.facts.specs.Facts.{words_in}
 use Rattle.facts.specs.Meaning.{known_of}
 use Rattle.facts.specs.Places.{place_of}
-use Rattle.facts.proofs.OneTarget.{only_has, only_is, words_of_only}
+use Rattle.facts.proofs.OneTarget.{words_of_only}
 use Rattle.facts.proofs.place.Place.words_at.Goals as goal
 
 pub returns-in-Some : goal.returns-in-Some

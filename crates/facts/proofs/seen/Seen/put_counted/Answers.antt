@@ -1,7 +1,5 @@
 use Rattle.std.proofs.Common.{◌∙◌, ap}
-use Rattle.wordset.specs.Words.{Words, SameWords}
-use Rattle.wordset.specs.Lanes.{words}
-use Rattle.facts.specs.Rows.{row_words}
+use Rattle.wordset.specs.Words.{Words}
 use Rattle.facts.proofs.RowLemmas.{counted_same}
 use Rattle.facts.proofs.seen.Seen.put_counted.Goals as goal
 

@@ -1,8 +1,3 @@
-use Rattle.std.proofs.Common.{Some, None, Option}
-use Rattle.std.specs.Prelude.{IfSome}
-use Rattle.wordset.specs.Lanes.{words}
-use Rattle.facts.specs.declared.seen.Row.{Row}
-use Rattle.facts.specs.Rows.{IsRow, IsSeen, seen_lanes}
 use Rattle.facts.proofs.RowLemmas.{row_told}
 use Rattle.facts.proofs.seen.Seen.row.Goals as goal
 

@@ -1,19 +1,17 @@
 -- What a step from a state of a fact does is among what the fact says that it may.
-use Rattle.std.proofs.Common.{◌≡◌, ℕ, ◌<◌, ◌==◌, Bool, true, false, ◌&&◌, ◌||◌, ◌⊎◌, refl, sym, ap, ◌∙◌, subst}
+use Rattle.std.proofs.Common.{◌≡◌, ℕ, ◌<◌, ◌==◌, Bool, true, false, ◌&&◌, ◌||◌, ◌⊎◌, refl, ap, ◌∙◌, subst}
 use Rattle.std.proofs.lemmas.Bool.{eqb-true}
 use Rattle.instruct.specs.Instructions.{Meaning, And, Tad, Isz, Dca, Jms, Jmp, Group1, Group2, Group3, Device, Undefined}
 use Rattle.wordset.specs.Words.{Words}
 use Rattle.processor.specs.Cells.{Cells}
 use Rattle.processor.specs.Machine.{State, place, instruction, steps_pointer}
-use Rattle.declaration.specs.Declaration.{IsDeclared}
 use Rattle.policy.specs.Calls.{Calls}
-use Rattle.policy.specs.Rules.{pointer_of, read_by, written_by, stored_at}
-use Rattle.facts.specs.Facts.{Fact, Place, Means, possible, Entails, EntailsOffsets}
+use Rattle.policy.specs.Rules.{pointer_of, read_by, written_by}
+use Rattle.facts.specs.Facts.{Fact, Place}
 use Rattle.facts.specs.Outcomes.{targets}
-use Rattle.facts.specs.Conditions.{may_read, may_write, may_store, called, WritesAreDeclared}
-use Rattle.facts.specs.Law.{IsState, TopIsEntry}
+use Rattle.facts.specs.Conditions.{may_read, may_write, WritesAreDeclared}
 use Rattle.facts.specs.Access.{IsStateOf, ReadsAreForeseen, WritesAreForeseen, CallsAreForeseen, WordsAreForeseen, EntailedFactsHold}
-use Rattle.facts.proofs.Numbers.{or_left, or_right}
+use Rattle.facts.proofs.Numbers.{or_left}
 use Rattle.facts.proofs.Laws.{entails_holds}
 use Rattle.facts.proofs.Cells.{values_words, own_like, possible_true}
 use Rattle.facts.proofs.Covers.{NamesWord, meaning_names, pointer_written, accessed}

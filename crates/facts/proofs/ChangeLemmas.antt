@@ -26,6 +26,9 @@ has_cell_words lanes a = go (nat_lt a 4096) _
 pub shifted_same : {a b s : Words} (k : ℕ) → SameWords a b → SameWords s (shifted a k) → SameWords s (shifted b k)
 shifted_same k e h v lt = h v lt ∙ e (minus v k) (minus_lt v k)
 
+pub shifts_same : {a b : Words} (k : ℕ) → SameWords a b → SameWords (shifted a k) (shifted b k)
+shifts_same k e v lt = e (minus v k) (minus_lt v k)
+
 pub joined_agree : (call exit : CodeFact) (written : Words) (k : Known) → ((a : ℕ) → source_words k.base a ≡ (if has_cell written a then cell_words exit a else cell_words call a)) →
     IsUnchanged k.pointer → IsUnchanged k.target → words k.ac.now ≡ words exit.ac → words k.mq.now ≡ words exit.mq → links_of k.link ≡ links_of exit.link → offsets_of k.offsets ≡ offsets_of call.offsets →
     map equation_of k.equations.now ≡ outside written (map equation_of call.equations.items) ++ map equation_of exit.equations.items →

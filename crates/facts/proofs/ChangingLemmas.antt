@@ -63,11 +63,6 @@ pub assigned_cell : (k : Known) (c d : ℕ) (set : Bor (List ℕ)) (es : Bor (Li
 unfolding assigned
 assigned_cell k c d set es is u e = rw is (record { sets = target_sets k c set (words set.now) u (λ v lt. refl); mq = λ v lt. refl; link = λ l lt. refl; equations = e; offsets = λ o lt. refl })
 
-pub moved_ac : (k : Known) (j : ℕ) (set : Bor (List ℕ)) (es : Bor (List CodeEquation)) → SameWords (words set.now) (shifted (narrowed (known_of k) Ac) j) →
-    map equation_of es.now ≡ moved_equations Ac j (map equation_of k.equations.now) → Agree (known_of (record k { ac = set; equations = es })) (moved Ac j (known_of k))
-unfolding moved
-moved_ac k j set es s e = record { sets = ac_sets k set _ s; mq = λ v lt. refl; link = λ l lt. refl; equations = e; offsets = λ o lt. refl }
-
 pub raised_to_agrees : (k : Known) (j : ℕ) (set : Bor (List ℕ)) (es : Bor (List CodeEquation)) → map equation_of es.now ≡ moved_equations Ac j (map equation_of k.equations.now) →
     Agree (known_of (record k { ac = set; equations = es })) (with_name Ac (words set.now) (moved Ac j (known_of k)))
 unfolding moved

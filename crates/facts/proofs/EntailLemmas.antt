@@ -5,8 +5,6 @@ use Rattle.std.proofs.lemmas.List.{drop_more}
 use Rattle.std.proofs.Math.ListN.{drop_of_length-le}
 use Rattle.wordset.specs.Words.{plus, minus, Words, SameWords, IsWithin, only}
 use Rattle.facts.specs.Facts.{Name, Ac, Cell, same, Equation, Fact, narrowed, met_by, Knows, KnowsAll, Entails, EntailsOffsets}
-use Rattle.facts.proofs.Alike.{only_same}
-use Rattle.wordset.specs.Lanes.{words}
 use Rattle.facts.specs.declared.fact.Fact.{Fact as CodeFact}
 use Rattle.facts.specs.declared.names.Equation.{Equation as CodeEquation}
 use Rattle.facts.specs.Statements.{TrackedCell, tracked}
@@ -60,26 +58,24 @@ tracked_each f (t ∷ ts) w = (
 )
 
 -- two single words
-pub shows_some : (f : Fact) (e : Equation) (a b : Words) (x y z : ℕ) (t : Bool) → SameWords a (narrowed f e.left) → SameWords b (narrowed f e.right) →
-    Some x ≡ only a → Some y ≡ only b → t ≡ (x == z) → z ≡ plus y e.more → IsTrue t ↔ Shows f e
-shows_some f e a b x y z t sa sb ea eb et ez =
-    let l : only (narrowed f e.left) ≡ Some x = sym (only_same a _ sa) ∙ sym ea in
-    let r : only (narrowed f e.right) ≡ Some y = sym (only_same b _ sb) ∙ sym eb in (
-      λ q. (x, y, l, r, eqb-true x z (sym et ∙ q) ∙ ez),
-      λ s. (let ex : s.0 ≡ x = some_is (sym s.2 ∙ l) in let ey : s.1 ≡ y = some_is (sym s.3 ∙ r) in et ∙ eq-eqb x z (sym ex ∙ s.4 ∙ ap (λ k. plus k e.more) ey ∙ sym ez)),
-    )
+pub shows_some : (f : Fact) (e : Equation) (x y z : ℕ) (t : Bool) → Some x ≡ only (narrowed f e.left) → Some y ≡ only (narrowed f e.right) →
+    t ≡ (x == z) → z ≡ plus y e.more → IsTrue t ↔ Shows f e
+shows_some f e x y z t l r et ez = (
+  λ q. (x, y, sym l, sym r, eqb-true x z (sym et ∙ q) ∙ ez),
+  λ s. (let ex : s.0 ≡ x = some_is (sym s.2 ∙ sym l) in let ey : s.1 ≡ y = some_is (sym s.3 ∙ sym r) in et ∙ eq-eqb x z (sym ex ∙ s.4 ∙ ap (λ k. plus k e.more) ey ∙ sym ez)),
+)
   where
     some_is : {p q : ℕ} → Some p ≡ Some q → p ≡ q
     some_is e = cc
 
-pub shows_left : (f : Fact) (e : Equation) (a : Words) → SameWords a (narrowed f e.left) → None ≡ only a → IsTrue false ↔ Shows f e
-shows_left f e a s n = not_true (λ w. none_is (n ∙ only_same a _ s ∙ w.2))
+pub shows_left : (f : Fact) (e : Equation) → None ≡ only (narrowed f e.left) → IsTrue false ↔ Shows f e
+shows_left f e n = not_true (λ w. none_is (n ∙ w.2))
   where
     none_is : {p : ℕ} → None ≡ Some p → ⊥
     none_is e = cc
 
-pub shows_right : (f : Fact) (e : Equation) (b : Words) → SameWords b (narrowed f e.right) → None ≡ only b → IsTrue false ↔ Shows f e
-shows_right f e b s n = not_true (λ w. none_is (n ∙ only_same b _ s ∙ w.3))
+pub shows_right : (f : Fact) (e : Equation) → None ≡ only (narrowed f e.right) → IsTrue false ↔ Shows f e
+shows_right f e n = not_true (λ w. none_is (n ∙ w.3))
   where
     none_is : {p : ℕ} → None ≡ Some p → ⊥
     none_is e = cc

@@ -1,7 +1,7 @@
 -- Outcomes that agree.
 use Rattle.std.proofs.Common.{◌≡◌, ℕ, ◌+◌, ◌-◌, ◌<◌, ◌%◌, ◌==◌, Bool, true, false, not, ◌&&◌, Some, List, [], ◌∷◌, ◌++◌, refl, sym, ap, ◌∙◌, arith}
 use Rattle.std.specs.Prelude.{if◌then◌else◌}
-use Rattle.wordset.specs.Words.{plus, minus, Words, SameWords, one, everything, has_some, has_link, without, shifted, difference}
+use Rattle.wordset.specs.Words.{plus, minus, Words, SameWords, one, everything, has_some, without, shifted}
 use Rattle.facts.specs.Facts.{Ac, Cell, Fact, Place, narrowed}
 use Rattle.facts.specs.Outcomes.{Outcome, Goes, CallsTo, Returns, alive, given, goes, isz_case}
 use Rattle.facts.specs.Changes.{moved, with_name, with_offsets}
@@ -13,15 +13,24 @@ use Rattle.facts.proofs.AgreeLemmas.{narrowed_agree}
 pub has_same : {s t : Words} → SameWords s t → has_some s ≡ has_some t
 has_same {s} {t} e = some_same 4096 s t e
 
+-- what isn't empty has something
+pub not_empty : {r b : Bool} → r ≡ not b → not r ≡ b
+not_empty {r} {b} e = ap not e ∙ twice b
+  where
+    twice : (c : Bool) → not (not c) ≡ c
+    twice true = refl
+    twice false = refl
+
+pub all_six : {a b c d e f g h i j k l : Bool} → a ≡ g → b ≡ h → c ≡ i → d ≡ j → e ≡ k → f ≡ l → (a && (b && (c && (d && (e && f))))) ≡ (g && (h && (i && (j && (k && l)))))
+all_six p q r s t u = rw (p, q, r, s, t, u) refl
+
+pub alive_same : {p q s t : Words} {h i : Fact} (f : Fact) → SameWords p q → SameWords s t → Agree h i → alive p f s h ≡ alive q f t i
+alive_same {p} {q} {s} {t} {h} {i} f ep es b =
+    all_six (has_same ep) refl (has_same (b.sets Ac)) (has_same b.mq) (some_same 2 h.link i.link b.link) (has_same es)
+
 pub alive_agree : {p q s t : Words} {f g h i : Fact} → SameWords p q → Agree f g → SameWords s t → Agree h i → alive p f s h ≡ alive q g t i
 alive_agree {p} {q} {s} {t} {f} {g} {h} {i} ep a es b =
-    let x1 : has_some p ≡ has_some q = has_same ep in
-    let x2 : has_some (narrowed f Ac) ≡ has_some (narrowed g Ac) = has_same (narrowed_agree a Ac) in
-    let x3 : has_some (h.set Ac) ≡ has_some (i.set Ac) = has_same (b.sets Ac) in
-    let x4 : has_some h.mq ≡ has_some i.mq = has_same b.mq in
-    let x5 : has_link h.link ≡ has_link i.link = some_same 2 h.link i.link b.link in
-    let x6 : has_some s ≡ has_some t = has_same es in
-    rw (x1, x2, x3, x4, x5, x6) refl
+    all_six (has_same ep) (has_same (narrowed_agree a Ac)) (has_same (b.sets Ac)) (has_same b.mq) (some_same 2 h.link i.link b.link) (has_same es)
 
 pub given_agree : (a b : Bool) (o : Outcome) (p : Outcome) → a ≡ b → AgreeingOutcome o p → AgreeingOutcomes (given a o) (given b p)
 given_agree true true o p e h = (h, tt)
@@ -69,16 +78,6 @@ pub isz_own : (pl : Place) (at : ℕ) (f : Fact) (p : Words) (y : ℕ) (a : List
     AgreeingOutcomes a (goes p f everything (one (plus at 1)) (with_offsets (λ o. if o == 0 then false else f.offsets (o - 1)) f)) →
     AgreeingOutcomes a (isz_case pl at f p (Some y))
 isz_own pl at f p y a var h = rw var h
-
-pub left_over : {s r zero : Words} (m : Words) (k : ℕ) → k ≡ 1 → SameWords s (shifted m k) → zero ≡ one 0 → r ≡ difference s zero → SameWords r (without 0 (shifted m 1))
-left_over {s} {r} {zero} m k e h z d v lt =
-    ap (λ (x : Words). x v) d ∙ ap (λ b. b && not (zero v)) (h v lt) ∙ ap (λ n. shifted m n v && not (zero v)) e ∙ ap (λ (x : Words). shifted m 1 v && not (x v)) z ∙ go (v == 0) (shifted m 1 v)
-  where
-    go : (b c : Bool) → (c && not b) ≡ (if b then false else c)
-    go true true = refl
-    go true false = refl
-    go false true = refl
-    go false false = refl
 
 pub shifts_agree : {a b : Words} → SameWords a b → SameWords (shifted a 1) (shifted b 1)
 shifts_agree h v lt = h (minus v 1) (minus_lt v 1)

@@ -1,12 +1,12 @@
 -- What a reference reaches.
-use Rattle.std.proofs.Common.{◌≡◌, ℕ, Bool, true, false, refl}
+use Rattle.std.proofs.Common.{◌≡◌, ℕ, Bool, true, false, ◌&&◌, List, refl}
 use Rattle.std.proofs.lemmas.Bool.{eq-eqb}
-use Rattle.wordset.specs.Words.{Words, SameWords, one, shifted}
+use Rattle.wordset.specs.Words.{Words, SameWords, everything, one, shifted}
 use Rattle.processor.specs.Machine.{steps_pointer}
-use Rattle.facts.specs.Facts.{Cell, Fact, Place, narrowed, words_in}
+use Rattle.facts.specs.Facts.{Cell, Fact, Place, narrowed, words_in, is_routine}
 use Rattle.facts.specs.Changes.{moved}
-use Rattle.facts.specs.Outcomes.{stepped, targets}
-use Rattle.facts.specs.Same.{Agree}
+use Rattle.facts.specs.Outcomes.{Outcome, Returns, stepped, targets, alive, given, goes, jmp}
+use Rattle.facts.specs.Same.{Agree, AgreeingOutcomes}
 
 pub step_yes : {k : Fact} (i : Bool) (c : ℕ) (f : Fact) → steps_pointer i c ≡ true → Agree k (moved (Cell c) 1 f) → Agree k (stepped i c f)
 step_yes i c f e h = rw e h
@@ -27,3 +27,11 @@ reach_named pl i c f e t h = rw (e, t) h
 pub moved_here : (f : Fact) (c : ℕ) → (moved (Cell c) 1 f).set (Cell c) ≡ shifted (narrowed f (Cell c)) 1
 unfolding moved
 moved_here f c = rw (eq-eqb c c refl) refl
+
+pub jump_returns : (os : List Outcome) (pl : Place) (i : Bool) (c : ℕ) (f : Fact) (p : Words) → (i && is_routine pl.routine c) ≡ true →
+    AgreeingOutcomes os (given (alive p f everything f) (Returns f)) → AgreeingOutcomes os (jmp pl i c f p)
+jump_returns os pl i c f p e h = rw e h
+
+pub jump_goes : (os : List Outcome) (pl : Place) (i : Bool) (c : ℕ) (f : Fact) (p : Words) → (i && is_routine pl.routine c) ≡ false →
+    AgreeingOutcomes os (goes p f everything p f) → AgreeingOutcomes os (jmp pl i c f p)
+jump_goes os pl i c f p e h = rw e h

@@ -4,40 +4,39 @@ use Rattle.std.specs.Prelude.{if◌then◌else◌, nat_le, nat_lt}
 use Rattle.std.proofs.lemmas.Bool.Decides.{nat_tests}
 use Rattle.instruct.specs.Bits.{has_bit}
 use Rattle.instruct.specs.Operates.{MqOperate, mq_operate_of}
-use Rattle.wordset.specs.Words.{Words, SameWords, SameLinks, everything, images, between, one, plus}
-use Rattle.facts.specs.Facts.{Ac, Fact, narrowed}
-use Rattle.facts.specs.Changes.{moved, assigned, with_name, with_link, with_mq}
-use Rattle.facts.specs.Outcomes.{Outcome, goes, changes_ac, related1, operated1, operated3, ac_after, link_after}
+use Rattle.wordset.specs.Words.{Words, SameWords, everything, between, one, plus}
+use Rattle.facts.specs.Facts.{Name, Ac, Fact, same}
+use Rattle.facts.specs.Changes.{moved, assigned, with_name, with_mq}
+use Rattle.facts.specs.Outcomes.{Outcome, goes, changes_ac, related1, operated3}
 use Rattle.facts.specs.Same.{Agree, AgreeingOutcomes}
-use Rattle.facts.proofs.AgreeLemmas.{agree_trans}
-use Rattle.facts.proofs.ChangingLemmas.{name_agree, link_agree}
 
-pub related_none : {k : Fact} (w : ℕ) (f : Fact) → changes_ac w ≡ true → Agree k (assigned Ac everything f) → Agree k (related1 w f)
-related_none {k} w f e h = go (changes_ac w) e
+pub related_none : {k : Fact} (w : ℕ) (f : Fact) (s : Words) → changes_ac w ≡ true → Agree k (assigned Ac s f) → Agree k (with_name Ac s (related1 w f))
+unfolding assigned
+related_none {k} w f s e h = go (changes_ac w) e
   where
-    go : (b : Bool) → b ≡ true → (let r : Fact = if b then assigned Ac everything f else (if has_bit 0 w then moved Ac 1 f else f) in Agree k r)
-    go true q = h
+    twice : (b : Bool) (n : Name) (v : ℕ) → (let x : Words = if b then s else f.set n in let y : Words = if b then everything else f.set n in let z : Words = if b then s else y in x v ≡ z v)
+    twice true n v = refl
+    twice false n v = refl
+
+    go : (b : Bool) → b ≡ true → (let r : Fact = if b then assigned Ac everything f else (if has_bit 0 w then moved Ac 1 f else f) in Agree k (with_name Ac s r))
+    go true q = record { sets = λ n v lt. h.sets n v lt ∙ twice (same n Ac) n v; mq = h.mq; link = h.link; equations = h.equations; offsets = h.offsets }
     go false q = absurd (cc)
 
-pub related_moved : {k : Fact} (w : ℕ) (f : Fact) → changes_ac w ≡ false → has_bit 0 w ≡ true → Agree k (moved Ac 1 f) → Agree k (related1 w f)
-related_moved {k} w f e i h = go (changes_ac w) (has_bit 0 w) e i
+pub related_moved : {k : Fact} (w : ℕ) (f : Fact) (s : Words) → changes_ac w ≡ false → has_bit 0 w ≡ true → Agree k (with_name Ac s (moved Ac 1 f)) → Agree k (with_name Ac s (related1 w f))
+related_moved {k} w f s e i h = go (changes_ac w) (has_bit 0 w) e i
   where
-    go : (b c : Bool) → b ≡ false → c ≡ true → (let r : Fact = if b then assigned Ac everything f else (if c then moved Ac 1 f else f) in Agree k r)
+    go : (b c : Bool) → b ≡ false → c ≡ true → (let r : Fact = if b then assigned Ac everything f else (if c then moved Ac 1 f else f) in Agree k (with_name Ac s r))
     go false true p q = h
     go false false p q = absurd (cc)
     go true c p q = absurd (cc)
 
-pub related_kept : {k : Fact} (w : ℕ) (f : Fact) → changes_ac w ≡ false → has_bit 0 w ≡ false → Agree k f → Agree k (related1 w f)
-related_kept {k} w f e i h = go (changes_ac w) (has_bit 0 w) e i
+pub related_kept : {k : Fact} (w : ℕ) (f : Fact) (s : Words) → changes_ac w ≡ false → has_bit 0 w ≡ false → Agree k (with_name Ac s f) → Agree k (with_name Ac s (related1 w f))
+related_kept {k} w f s e i h = go (changes_ac w) (has_bit 0 w) e i
   where
-    go : (b c : Bool) → b ≡ false → c ≡ false → (let r : Fact = if b then assigned Ac everything f else (if c then moved Ac 1 f else f) in Agree k r)
+    go : (b c : Bool) → b ≡ false → c ≡ false → (let r : Fact = if b then assigned Ac everything f else (if c then moved Ac 1 f else f) in Agree k (with_name Ac s r))
     go false false p q = h
     go false true p q = absurd (cc)
     go true c p q = absurd (cc)
-
-pub operated_agrees : {k h r : Fact} (w : ℕ) (f : Fact) (set links : Words) → Agree k (related1 w f) → Agree h (with_name Ac set k) → Agree r (with_link links h) →
-    SameWords set (images (ac_after w) (narrowed f Ac) f.link) → SameLinks links (images (link_after w) (narrowed f Ac) f.link) → Agree r (operated1 w f)
-operated_agrees w f set links a b c s l = agree_trans c (link_agree (agree_trans b (name_agree Ac a s)) l)
 
 pub bytes_same : {s : Words} (low high : ℕ) → s ≡ between low high → low ≡ 0 → high ≡ 255 → SameWords s (λ v. nat_lt v 256)
 bytes_same {s} low high e l h v lt = ap (λ (x : Words). x v) e ∙ ap (λ n. nat_le n v && nat_le v high) l ∙ ap (λ n. nat_le 0 v && nat_le v n) h ∙ below v

@@ -1,22 +1,19 @@
 -- Rows of words.
-use Rattle.std.proofs.Common.{◌≡◌, ◌∙◌, sym, ap, refl, ℕ, zero, suc, ◌+◌, ◌-◌, ◌*◌, ◌/◌, ◌%◌, ◌<◌, ◌≤◌, ◌==◌, Bool, true, false, not, ◌&&◌, ◌⊎◌, Option, Some, None, List, inl, inr, arith, max, min, get_or, ◌^◌, [], ◌∷◌}
-use Rattle.std.specs.Prelude.{IfSome, IsTrue, ◌↔◌, nat_lt, nat_le, if◌then◌else◌}
+use Rattle.std.proofs.Common.{◌≡◌, ◌∙◌, sym, ap, refl, ℕ, zero, suc, ◌+◌, ◌-◌, ◌*◌, ◌/◌, ◌%◌, ◌<◌, ◌≤◌, ◌==◌, Bool, true, false, ◌&&◌, ◌⊎◌, Option, Some, None, List, inl, inr, arith, max, min, get_or, ◌^◌}
+use Rattle.std.specs.Prelude.{IfSome, ◌↔◌, nat_lt, nat_le, if◌then◌else◌}
 use Rattle.std.specs.Int.{bit_at}
 use Rattle.std.proofs.Math.Path.{fun_ext}
 use Rattle.std.proofs.lemmas.Nat.{shr-shr}
-use Rattle.std.proofs.lemmas.Bool.{cases_lt, eq-eqb, eqb-true, true≢false, false≢true}
+use Rattle.std.proofs.lemmas.Bool.{cases_lt, eq-eqb, eqb-true}
 use Rattle.std.proofs.lemmas.Bool.Decides.{nat_tests, eqb_tells}
-use Rattle.wordset.specs.Words.{Words, SameWords, SameLinks, IsWithin, IsFirstFrom, HasNoneFrom, between, meet, minus, plus, shifted, sums, carries, some_below, has_some, only, one, all_words}
+use Rattle.wordset.specs.Words.{Words, SameWords, SameLinks, IsWithin, IsFirstFrom, between, meet, minus, shifted, without, sums, carries, some_below, has_some, only, one, all_words}
 use Rattle.wordset.specs.Lanes.{words}
 use Rattle.wordset.specs.Links.{carries_of}
-use Rattle.wordset.specs.declared.links.Carries.{Carries}
 use Rattle.wordset.proofs.Tests.{both_ways, some_from, some_none_of, some_to, IsSome, and_both, and_first, and_second}
 use Rattle.wordset.proofs.Firsts.{only_next, only_two}
 use Rattle.wordset.proofs.SetLemmas.{words_bit, words_are, equal_words, all_past}
 use Rattle.facts.specs.declared.seen.Row.{Row}
-use Rattle.facts.specs.declared.seen.Kept.{Kept}
-use Rattle.facts.specs.declared.seen.Kept.TheVariants as kept
-use Rattle.facts.specs.Rows.{row_words, IsRow, IsKept, lane_with, lanes_with, lanes_of, kept_lanes}
+use Rattle.facts.specs.Rows.{row_words, IsRow, IsSeen, lane_with, lanes_with, lanes_of, seen_lanes}
 
 inside : (f l v : ℕ) → f ≤ v → v ≤ l → between f l v ≡ true
 inside f l v a b = grind (arith, nat_tests)
@@ -217,14 +214,17 @@ past_row r small v ge = after r.first r.last v (omega arith)
 pub row_lanes : (r : Row) → r.last < 4096 → words (lanes_of (row_words r)) ≡ row_words r
 row_lanes r small = words_are (lanes_of (row_words r)) (row_words r) (past_row r small) (lanes_same (row_words r))
 
--- a set that is kept as a row is one
-pub kept_row : (k : Kept) (r : Row) → k ≡ kept.Row r → IsKept k → IsRow r (words (kept_lanes k))
-kept_row k r e h =
+-- words that are kept as a row are one
+pub kept_row : (k : Option Row) (s : List ℕ) (r : Row) → k ≡ Some r → IsSeen k → IsRow r (words (seen_lanes k s))
+kept_row k s r e h =
     let g : (r.first ≤ r.last) × (r.last < 4096) = rw e at h in
     rw e (record { some = g.0; small = g.1; same = λ v lt. sym (lanes_same (row_words r) v lt) })
 
-pub kept_words : (k : Kept) (r : Row) → k ≡ kept.Row r → IsKept k → words (kept_lanes k) ≡ row_words r
-kept_words k r e h = let g : (r.first ≤ r.last) × (r.last < 4096) = rw e at h in rw e (row_lanes r g.1)
+pub kept_words : (k : Option Row) (s : List ℕ) (r : Row) → k ≡ Some r → IsSeen k → words (seen_lanes k s) ≡ row_words r
+kept_words k s r e h = let g : (r.first ≤ r.last) × (r.last < 4096) = rw e at h in rw e (row_lanes r g.1)
+
+pub kept_set : (k : Option Row) (s : List ℕ) → k ≡ None → seen_lanes k s ≡ s
+kept_set k s e = rw e refl
 
 -- one word is a row
 pub one_row : (w : ℕ) → between w w ≡ one w
@@ -235,3 +235,15 @@ one_row w = fun_ext (λ v. both_ways (between w w v) (v == w)
 -- and so are all
 pub all_row : (r : Row) → IsRow r all_words → row_words r ≡ all_words
 all_row r h = equal_words (row_words r) all_words (past_row r h.small) all_past h.same
+
+pub row_told : (k : Option Row) (s : List ℕ) → IsSeen k → IfSome k (λ r. IsRow r (words (seen_lanes k s)))
+row_told None s h = tt
+row_told (Some r) s h = record { some = h.0; small = h.1; same = λ v lt. sym (lanes_same (row_words r) v lt) }
+
+-- the words that counting leaves, but for 0, of the same words
+pub counted_same : {s t : Words} → SameWords s t → SameWords (without 0 (shifted s 1)) (without 0 (shifted t 1))
+counted_same {s} {t} e v lt = go (v == 0)
+  where
+    go : (b : Bool) → (if b then false else s (minus v 1)) ≡ (if b then false else t (minus v 1))
+    go true = refl
+    go false = e (minus v 1) (omega arith)

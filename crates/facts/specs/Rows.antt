@@ -1,10 +1,8 @@
--- Rows of words, and sets that are kept as rows where they are.
-use Rattle.std.specs.Prelude.{ℕ, ◌+◌, ◌*◌, ◌<◌, ◌≤◌, Bool, if◌then◌else◌, List, [], ◌∷◌}
+-- Rows of words, and words that are kept as a row where they are one.
+use Rattle.std.specs.Prelude.{ℕ, ◌+◌, ◌*◌, ◌<◌, ◌≤◌, Bool, if◌then◌else◌, Option, Some, None, List, [], ◌∷◌}
 use Rattle.std.proofs.Common.{zero, suc}
 use Rattle.wordset.specs.Words.{Words, SameWords, between}
 use Rattle.facts.specs.declared.seen.Row.{Row}
-use Rattle.facts.specs.declared.seen.Kept.{Kept}
-use Rattle.facts.specs.declared.seen.Kept.TheVariants as kept
 
 -- The words of a row.
 abbrev pub row_words : Row → Words
@@ -30,12 +28,12 @@ lanes_with (suc n) i set = lane_with 64 (λ j. set (64 * i + j)) ∷ lanes_with 
 unfoldable pub lanes_of : Words → List ℕ
 lanes_of set = lanes_with 64 0 set
 
--- The lanes of a set that is kept so.
-abbrev pub kept_lanes : Kept → List ℕ
-kept_lanes (kept.Row r) = lanes_of (row_words r)
-kept_lanes (kept.Set s) = s
+-- The lanes of words that are kept as a row, or else as a set.
+abbrev pub seen_lanes : Option Row → List ℕ → List ℕ
+seen_lanes (Some r) set = lanes_of (row_words r)
+seen_lanes None set = set
 
 -- A row that is kept has a word.
-abbrev pub IsKept : Kept → Type 0
-IsKept (kept.Row r) = (r.first ≤ r.last) × (r.last < 4096)
-IsKept (kept.Set s) = Unit {0}
+abbrev pub IsSeen : Option Row → Type 0
+IsSeen (Some r) = (r.first ≤ r.last) × (r.last < 4096)
+IsSeen None = Unit {0}

@@ -21,7 +21,7 @@ use crate::dispatch::{OutcomeList, outcomes};
 use crate::entailment::{narrowed, word_of};
 use crate::fact::Fact;
 use crate::names::Name;
-use crate::place::{Place, tape_words};
+use crate::place::Place;
 use crate::references::{either, steps_pointer};
 use crate::room::Room;
 use crate::skipping::both;
@@ -59,7 +59,10 @@ impl<A: Allocator> Place<'_, A> {
         if self.declaration.is_variable(at) {
             return narrowed(fact, &Name::Cell(at));
         }
-        tape_words(word_of(self.image, at)).set()
+        match word_of(self.image, at) {
+            None => WordSet::all(),
+            Some(word) => WordSet::one(word),
+        }
     }
 
     /// Whether a word has a meaning on the machine that is declared.

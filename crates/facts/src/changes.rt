@@ -10,14 +10,13 @@ ghost use Rattle.facts.specs.Changes.{copied, moved, assigned, smeared, with_equ
 ghost use Rattle.facts.specs.Same.{Agree};
 ghost use Rattle.facts.specs.Meaning.{equation_of, offsets_of, known_of, IsUnchanged};
 
-use crate::equations::{Equations, add_all, copy_to, free, free_of_cells, raise};
+use crate::equations::{Equations, add_all, add_free, copy_to, free, free_of_cells, raise};
 use crate::known::{Change, Known};
 use crate::names::{Equation, Name};
 use crate::offsets::Offsets;
-use crate::room::Step;
 use crate::seen::Seen;
 use word12::Word;
-use wordset::{Links, WordSet};
+use wordset::Links;
 
 /// The word 1.
 fn one() -> Word
@@ -27,32 +26,14 @@ fn one() -> Word
 }
 
 impl<'a> Known<'a> {
-    /// After the accumulator's word went up by k.
-    #[inline(never)]
-    pub(crate) fn raised_ac(&self, k: Word, step: &'a mut Step) -> Known<'a>
-        requires room { length self.now.equations.now ≤ 32 }
-        ensures same { Agree (known_of result) (moved Ac k (known_of self.now)) }
-        ensures target { result.target ≡ self.now.target }
-        ensures len { length result.equations.now ≤ length self.now.equations.now }
-    {
-        raise(&Name::Accumulator, k, self.equations, &mut step.list);
-        Known {
-            base: self.base,
-            ac: step
-                .set
-                .put(&Seen::of(self.narrowed(&Name::Accumulator).shift(k))),
-            mq: self.mq,
-            link: self.link,
-            pointer: self.pointer,
-            target: self.target,
-            equations: step.list.as_slice(),
-            offsets: self.offsets,
-        }
-    }
-
     /// After a cell's word went up by one, where a pointer is stepped.
     #[inline(never)]
-    pub(crate) fn stepped(&self, cell: Word, step: &'a mut Step) -> Known<'a>
+    pub(crate) fn stepped(
+        &self,
+        cell: Word,
+        place: &'a mut Seen,
+        list: &'a mut Equations,
+    ) -> Known<'a>
         requires pointer { IsUnchanged self.now.pointer }
         requires target { IsUnchanged self.now.target }
         requires room { length self.now.equations.now ≤ 32 }
@@ -60,64 +41,64 @@ impl<'a> Known<'a> {
         ensures target { IsUnchanged result.target }
         ensures len { length result.equations.now ≤ length self.now.equations.now }
     {
-        let set = self.narrowed(&Name::Cell(cell)).shift(one());
-        raise(&Name::Cell(cell), one(), self.equations, &mut step.list);
+        let set = self.shifted_in(&Name::Cell(cell), one(), place);
+        raise(&Name::Cell(cell), one(), self.equations, list);
         Known {
             base: self.base,
             ac: self.ac,
             mq: self.mq,
             link: self.link,
-            pointer: Change::Replaced(cell.index(), step.set.put(&Seen::of(set))),
+            pointer: Change::Replaced(cell.index(), set),
             target: Change::Unchanged,
-            equations: step.list.as_slice(),
+            equations: list.as_slice(),
             offsets: self.offsets,
         }
     }
 
     /// After the accumulator took some word of a set.
     #[inline(never)]
-    pub(crate) fn with_ac(&self, set: &Seen, step: &'a mut Step) -> Known<'a>
+    pub(crate) fn with_ac(&self, set: &'a Seen, list: &'a mut Equations) -> Known<'a>
         requires room { length self.now.equations.now ≤ 64 }
         ensures same { Agree (known_of result) (assigned Ac (words set.now) (known_of self.now)) }
         ensures target { result.target ≡ self.now.target }
         ensures len { length result.equations.now ≤ length self.now.equations.now }
     {
-        free(&Name::Accumulator, self.equations, &mut step.list);
+        free(&Name::Accumulator, self.equations, list);
         Known {
             base: self.base,
-            ac: step.set.put(set),
+            ac: set,
             mq: self.mq,
             link: self.link,
             pointer: self.pointer,
             target: self.target,
-            equations: step.list.as_slice(),
+            equations: list.as_slice(),
             offsets: self.offsets,
         }
     }
 
     /// After a cell took some word of a set.
-    pub(crate) fn with_cell(&self, cell: Word, set: &Seen, step: &'a mut Step) -> Known<'a>
+    pub(crate) fn with_cell(&self, cell: Word, set: &'a Seen, list: &'a mut Equations) -> Known<'a>
         requires target { IsUnchanged self.now.target }
         requires room { length self.now.equations.now ≤ 32 }
         ensures same { Agree (known_of result)
             (assigned (Cell cell) (words set.now) (known_of self.now)) }
         ensures len { length result.equations.now ≤ length self.now.equations.now }
     {
-        free(&Name::Cell(cell), self.equations, &mut step.list);
+        free(&Name::Cell(cell), self.equations, list);
         Known {
             base: self.base,
             ac: self.ac,
             mq: self.mq,
             link: self.link,
             pointer: self.pointer,
-            target: Change::Replaced(cell.index(), step.set.put(set)),
-            equations: step.list.as_slice(),
+            target: Change::Replaced(cell.index(), set),
+            equations: list.as_slice(),
             offsets: self.offsets,
         }
     }
 
     /// After one of some cells, unknown which, went up by one.
-    pub(crate) fn counted(&self, cells: &Seen, step: &'a mut Step) -> Known<'a>
+    pub(crate) fn counted(&self, cells: &'a Seen, list: &'a mut Equations) -> Known<'a>
         requires target { IsUnchanged self.now.target }
         requires room { length self.now.equations.now ≤ 32 }
         ensures same { Agree (known_of result)
@@ -125,15 +106,15 @@ impl<'a> Known<'a> {
             (known_of self.now)) }
         ensures len { length result.equations.now ≤ length self.now.equations.now }
     {
-        free_of_cells(&cells.set(), self.equations, &mut step.list);
+        free_of_cells(cells, self.equations, list);
         Known {
             base: self.base,
             ac: self.ac,
             mq: self.mq,
             link: self.link,
             pointer: self.pointer,
-            target: Change::Counted(step.set.put(cells)),
-            equations: step.list.as_slice(),
+            target: Change::Counted(cells),
+            equations: list.as_slice(),
             offsets: self.offsets,
         }
     }
@@ -141,10 +122,9 @@ impl<'a> Known<'a> {
     /// After one of some cells, unknown which, took some word of a set.
     pub(crate) fn stored(
         &self,
-        cells: &Seen,
-        set: &Seen,
-        step: &'a mut Step,
-        spare: &'a mut Step,
+        cells: &'a Seen,
+        set: &'a Seen,
+        list: &'a mut Equations,
     ) -> Known<'a>
         requires target { IsUnchanged self.now.target }
         requires room { length self.now.equations.now ≤ 32 }
@@ -152,36 +132,36 @@ impl<'a> Known<'a> {
             (smeared (words cells.now) (λ y. words set.now) (known_of self.now)) }
         ensures len { length result.equations.now ≤ length self.now.equations.now }
     {
-        free_of_cells(&cells.set(), self.equations, &mut step.list);
+        free_of_cells(cells, self.equations, list);
         Known {
             base: self.base,
             ac: self.ac,
             mq: self.mq,
             link: self.link,
             pointer: self.pointer,
-            target: Change::Stored(spare.set.put(cells), step.set.put(set)),
-            equations: step.list.as_slice(),
+            target: Change::Stored(cells, set),
+            equations: list.as_slice(),
             offsets: self.offsets,
         }
     }
 
     /// After a cell went up by one, where these words of it are left.
-    pub(crate) fn counted_to(&self, cell: Word, set: &Seen, step: &'a mut Step) -> Known<'a>
+    pub(crate) fn counted_to(&self, cell: Word, set: &'a Seen, list: &'a mut Equations) -> Known<'a>
         requires target { IsUnchanged self.now.target }
         requires room { length self.now.equations.now ≤ 32 }
         ensures same { Agree (known_of result)
             (with_name (Cell cell) (words set.now) (moved (Cell cell) 1 (known_of self.now))) }
         ensures len { length result.equations.now ≤ length self.now.equations.now }
     {
-        raise(&Name::Cell(cell), one(), self.equations, &mut step.list);
+        raise(&Name::Cell(cell), one(), self.equations, list);
         Known {
             base: self.base,
             ac: self.ac,
             mq: self.mq,
             link: self.link,
             pointer: self.pointer,
-            target: Change::Replaced(cell.index(), step.set.put(set)),
-            equations: step.list.as_slice(),
+            target: Change::Replaced(cell.index(), set),
+            equations: list.as_slice(),
             offsets: self.offsets,
         }
     }
@@ -205,12 +185,12 @@ impl<'a> Known<'a> {
     }
 
     /// With other words of the accumulator; its equations stay.
-    pub(crate) fn holding(self, set: &Seen, step: &'a mut Step) -> Known<'a>
+    pub(crate) fn holding(self, set: &'a Seen) -> Known<'a>
         ensures { Agree (known_of result) (with_name Ac (words set.now) (known_of self.entry)) }
     {
         Known {
             base: self.base,
-            ac: step.set.put(set),
+            ac: set,
             mq: self.mq,
             link: self.link,
             pointer: self.pointer,
@@ -244,13 +224,13 @@ impl<'a> Known<'a> {
     }
 
     /// With other words of MQ.
-    pub(crate) fn with_mq(self, set: &Seen, step: &'a mut Step) -> Known<'a>
+    pub(crate) fn with_mq(self, set: &'a Seen) -> Known<'a>
         ensures { Agree (known_of result) (with_mq (words set.now) (known_of self.entry)) }
     {
         Known {
             base: self.base,
             ac: self.ac,
-            mq: step.set.put(set),
+            mq: set,
             link: self.link,
             pointer: self.pointer,
             target: self.target,
@@ -296,20 +276,20 @@ impl<'a> Known<'a> {
 
     /// After the accumulator's word went up by k, where these words of it are left.
     #[inline(never)]
-    pub(crate) fn raised_to(&self, k: Word, set: &Seen, step: &'a mut Step) -> Known<'a>
+    pub(crate) fn raised_to(&self, k: Word, set: &'a Seen, list: &'a mut Equations) -> Known<'a>
         requires room { length self.now.equations.now ≤ 32 }
         ensures { Agree (known_of result) (with_name Ac (words set.now)
             (moved Ac k (known_of self.now))) }
     {
-        raise(&Name::Accumulator, k, self.equations, &mut step.list);
+        raise(&Name::Accumulator, k, self.equations, list);
         Known {
             base: self.base,
-            ac: step.set.put(set),
+            ac: set,
             mq: self.mq,
             link: self.link,
             pointer: self.pointer,
             target: self.target,
-            equations: step.list.as_slice(),
+            equations: list.as_slice(),
             offsets: self.offsets,
         }
     }
@@ -321,31 +301,29 @@ impl<'a> Known<'a> {
         &self,
         cell: Word,
         more: Word,
-        set: &Seen,
-        step: &'a mut Step,
-        spare: &mut Equations,
+        set: &'a Seen,
+        list: &'a mut Equations,
     ) -> Known<'a>
         requires room { length self.now.equations.now ≤ 32 }
         ensures { Agree (known_of result) (with_equations
             (record { left = Ac; right = Cell cell; more = more } ∷ [])
             (assigned Ac (words set.now) (known_of self.now))) }
     {
-        free(&Name::Accumulator, self.equations, spare);
-        step.list.clear();
-        step.list.push(Equation {
+        list.clear();
+        list.push(Equation {
             left: Name::Accumulator,
             right: cell,
             more,
         });
-        add_all(&mut step.list, spare.as_slice());
+        add_free(&Name::Accumulator, self.equations, list);
         Known {
             base: self.base,
-            ac: step.set.put(set),
+            ac: set,
             mq: self.mq,
             link: self.link,
             pointer: self.pointer,
             target: self.target,
-            equations: step.list.as_slice(),
+            equations: list.as_slice(),
             offsets: self.offsets,
         }
     }
@@ -376,19 +354,21 @@ impl<'a> Known<'a> {
     pub(crate) fn deposited(
         &self,
         cell: Word,
-        set: &Seen,
-        first: &'a mut Step,
-        second: &'a mut Step,
-        third: &'a mut Step,
+        set: &'a Seen,
+        zero: &'a Seen,
+        first: &'a mut Equations,
+        second: &'a mut Equations,
+        third: &'a mut Equations,
     ) -> Known<'a>
         requires target { IsUnchanged self.now.target }
+        requires zero { words zero.now ≡ one 0 }
         requires room { length self.now.equations.now ≤ 32 }
         ensures { Agree (known_of result) (assigned Ac (one 0)
             (with_equations (copied cell (known_of self.now).equations)
             (assigned (Cell cell) (words set.now) (known_of self.now)))) }
     {
         let put = self.with_cell(cell, set, first);
-        let told = put.told(cell, self.equations, &mut second.list);
-        told.with_ac(&Seen::one(Word::ZERO), third)
+        let told = put.told(cell, self.equations, second);
+        told.with_ac(zero, third)
     }
 }

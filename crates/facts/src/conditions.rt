@@ -18,6 +18,7 @@ use crate::fact::Fact;
 use crate::known::Known;
 use crate::place::{Place, union_if};
 use crate::references::{either, steps_pointer};
+use crate::seen::Seen;
 use crate::skipping::both;
 use instruct::{Instruction, Operation, decode, refers_indirectly, target};
 use std::alloc::Allocator;
@@ -115,7 +116,9 @@ impl<A: Allocator> Place<'_, A> {
         ensures { SameWords (words result)
             (targets (place_of self.now) indirect named (meaning fact.now)) }
     {
-        self.reached(indirect, named, &Known::of(fact)).set()
+        let mut place = Seen::all();
+        self.reached(indirect, named, &Known::of(fact), &mut place)
+            .set()
     }
 
     /// The cells that a word at the address of a fact may read.

@@ -111,10 +111,10 @@ impl<A: Allocator> Place<'_, A> {
     {
         let indirect = refers_indirectly(word);
         let named = target(word, at);
-        let targets = room.targets.put(&self.reached(indirect, named, known));
+        let targets = self.reached(indirect, named, known, &mut room.targets);
         let single = single_target(indirect, named, targets);
         if steps_pointer(indirect, named) {
-            let seen = known.stepped(named, &mut room.pointer);
+            let seen = known.stepped(named, &mut room.pointer, &mut room.list);
             return self.refer_to(
                 at,
                 word,
@@ -164,8 +164,8 @@ impl<A: Allocator> Place<'_, A> {
             Operation::Tad => return one(self.add(at, seen, reached, single, way)),
             Operation::Isz => return two(self.count(at, seen, reached, single, way, other)),
             Operation::Dca => return one(deposit(at, seen, reached, single, way)),
-            Operation::Jms => return one(call(seen, reached)),
-            Operation::Jmp => return one(self.jump(indirect, named, seen, reached)),
+            Operation::Jms => return one(call(seen, reached, way)),
+            Operation::Jmp => return one(self.jump(indirect, named, seen, reached, way)),
         }
     }
 

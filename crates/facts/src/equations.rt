@@ -8,6 +8,7 @@ ghost use Rattle.facts.specs.Changes.{moved_equations, free_of, cells_of, copied
 ghost use Rattle.facts.specs.Meaning.{name_of, equation_of};
 
 use crate::names::{Equation, Name, is_same_name, negated, turned};
+use crate::seen::Seen;
 use arrayvec::ArrayVec;
 use word12::Word;
 use wordset::WordSet;
@@ -23,13 +24,13 @@ pub(crate) fn has_cell(cells: &WordSet, cell: Word) -> bool
     cells.contains(cell)
 }
 
-/// Whether a name is a cell of a set.
-fn is_among(cells: &WordSet, name: &Name) -> bool
+/// Whether a name is one of some cells.
+fn is_among(cells: &Seen, name: &Name) -> bool
     ensures { result ≡ cells_of (words cells.now) (name_of name.now) }
 {
     match name {
         Name::Accumulator => false,
-        Name::Cell(cell) => has_cell(cells, *cell),
+        Name::Cell(cell) => cells.has(*cell),
     }
 }
 
@@ -78,6 +79,16 @@ pub(crate) fn free(name: &Name, equations: &[Equation], list: &mut Equations)
     ensures len { array_vec_len list.new ≤ length equations.now }
 {
     list.clear();
+    add_free(name, equations, list);
+}
+
+/// Lists the equations that don't speak of a name after those of a list.
+pub(crate) fn add_free(name: &Name, equations: &[Equation], list: &mut Equations)
+    requires { array_vec_len list.old + length equations.now ≤ 64 }
+    ensures list { map equation_of list.new.items ≡ map equation_of list.old.items ++
+        free_of (λ m. same m (name_of name.now)) (map equation_of equations.now) }
+    ensures len { array_vec_len list.new ≤ array_vec_len list.old + length equations.now }
+{
     for e in equations {
         if !is_same_name(&e.left, name) && !is_same_name(&Name::Cell(e.right), name) {
             list.push(*e);
@@ -85,8 +96,8 @@ pub(crate) fn free(name: &Name, equations: &[Equation], list: &mut Equations)
     }
 }
 
-/// Lists the equations that don't speak of the cells of a set.
-pub(crate) fn free_of_cells(cells: &WordSet, equations: &[Equation], list: &mut Equations)
+/// Lists the equations that don't speak of some cells.
+pub(crate) fn free_of_cells(cells: &Seen, equations: &[Equation], list: &mut Equations)
     requires { length equations.now ≤ 64 }
     ensures list { map equation_of list.new.items ≡
         free_of (cells_of (words cells.now)) (map equation_of equations.now) }

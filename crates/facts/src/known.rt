@@ -5,7 +5,7 @@
 //! asker lends.
 
 ghost use Rattle.std.specs.Prelude.{ℕ, false, ◌≡◌, ◌<◌, ◌≤◌, ◌↔◌, ◌+◌, ◌||◌, length, map, IsTrue, IfSome};
-ghost use Rattle.wordset.specs.Words.{Words, SameWords, IsWithin, one, plus, shifted, meet};
+ghost use Rattle.wordset.specs.Words.{Words, SameWords, IsWithin, one, only, plus, shifted, meet};
 ghost use Rattle.wordset.specs.Lanes.{words};
 ghost use Rattle.wordset.specs.Links.{links_of};
 ghost use Rattle.facts.specs.Facts.{Ac, Cell, same, narrowed, Among, Knows, KnowsAll, Entails, EntailsOffsets, joined};
@@ -110,7 +110,7 @@ fn change_set(change: &Change<'_>, cell: Word, set: WordSet) -> WordSet
             set
         },
         Change::Counted(cells) => {
-            if has_cell(&cells.set(), cell) {
+            if cells.has(cell) {
                 let more = set.shift(Word::ZERO.increment());
                 set.union(&more)
             } else {
@@ -118,7 +118,7 @@ fn change_set(change: &Change<'_>, cell: Word, set: WordSet) -> WordSet
             }
         }
         Change::Stored(cells, other) => {
-            if has_cell(&cells.set(), cell) {
+            if cells.has(cell) {
                 set.union(&other.set())
             } else {
                 set
@@ -132,6 +132,18 @@ fn changed_row(change: &Change<'_>, cell: Word, row: Row) -> Option<Row>
     ensures { (old : Words) → IsRow row old →
         IfSome result (λ r. IsRow r (changed change.now cell old)) }
 {
+    if let Change::Unchanged = change {
+        return Some(row);
+    }
+    new_row(change, cell, row)
+}
+
+/// The same, whatever the change.
+#[inline(never)]
+fn new_row(change: &Change<'_>, cell: Word, row: Row) -> Option<Row>
+    ensures { (old : Words) → IsRow row old →
+        IfSome result (λ r. IsRow r (changed change.now cell old)) }
+{
     match change {
         Change::Unchanged => Some(row),
         Change::Replaced(at, other) => {
@@ -141,16 +153,8 @@ fn changed_row(change: &Change<'_>, cell: Word, row: Row) -> Option<Row>
                 Some(row)
             }
         }
-        Change::Counted(cells) => if has_cell(&cells.set(), cell) {
-            None
-        } else {
-            Some(row)
-        },
-        Change::Stored(cells, _) => if has_cell(&cells.set(), cell) {
-            None
-        } else {
-            Some(row)
-        },
+        Change::Counted(cells) => if cells.has(cell) { None } else { Some(row) },
+        Change::Stored(cells, _) => if cells.has(cell) { None } else { Some(row) },
     }
 }
 
@@ -192,13 +196,13 @@ fn is_new_within(change: &Change<'_>, cells: &TrackedCells, at: usize, before: b
         Change::Unchanged => before,
         Change::Replaced(changed, other) => {
             if cell.index() == *changed {
-                cells.has_all(at, &other.set())
+                cells.has_seen(at, other)
             } else {
                 before
             }
         }
-        Change::Counted(several) => before && !has_cell(&several.set(), cell),
-        Change::Stored(several, _) => before && !has_cell(&several.set(), cell),
+        Change::Counted(several) => before && !several.has(cell),
+        Change::Stored(several, _) => before && !several.has(cell),
     }
 }
 
@@ -332,22 +336,94 @@ impl Known<'_> {
         Some(row)
     }
 
-    /// The words that the equations leave to a name.
-    pub(crate) fn left_to(&self, name: &Name) -> Seen
-        ensures { SameWords (words result) (narrowed (known_of self.now) (name_of name.now)) }
+    /// The words that the equations leave to a name, in a place for them.
+    pub(crate) fn left_in<'b>(&self, name: &Name, place: &'b mut Seen) -> &'b Seen
+        ensures { SameWords (words result.now) (narrowed (known_of self.now) (name_of name.now)) }
     {
         match self.narrowed_row(name) {
-            Some(row) => Seen::of_row(row),
-            None => self.left_by_sets(name),
+            Some(row) => place.put_row(row),
+            None => self.left_by_sets(name, place),
         }
     }
 
     /// The same, where they aren't seen to be a row; the room for their set is made here alone.
     #[inline(never)]
-    fn left_by_sets(&self, name: &Name) -> Seen
-        ensures { SameWords (words result) (narrowed (known_of self.now) (name_of name.now)) }
+    fn left_by_sets<'b>(&self, name: &Name, place: &'b mut Seen) -> &'b Seen
+        ensures { SameWords (words result.now) (narrowed (known_of self.now) (name_of name.now)) }
     {
-        Seen::of(self.narrowed_any(name))
+        place.put_set(&self.narrowed_any(name))
+    }
+
+    /// The words that are k more than those that the equations leave to a name, where they are seen to
+    /// be a row.
+    fn shifted_row(&self, name: &Name, k: Word) -> Option<Row>
+        ensures { IfSome result (λ r. IsRow r
+            (shifted (narrowed (known_of self.now) (name_of name.now)) k)) }
+    {
+        let Some(row) = self.narrowed_row(name) else {
+            return None;
+        };
+        row.shift(k)
+    }
+
+    /// The words that are k more than those that the equations leave to a name, in a place for them.
+    pub(crate) fn shifted_in<'b>(&self, name: &Name, k: Word, place: &'b mut Seen) -> &'b Seen
+        ensures { SameWords (words result.now)
+            (shifted (narrowed (known_of self.now) (name_of name.now)) k) }
+    {
+        match self.shifted_row(name, k) {
+            Some(row) => place.put_row(row),
+            None => self.shifted_by_sets(name, k, place),
+        }
+    }
+
+    /// The same, where they aren't seen to be a row; the room for their set is made here alone.
+    #[inline(never)]
+    fn shifted_by_sets<'b>(&self, name: &Name, k: Word, place: &'b mut Seen) -> &'b Seen
+        ensures { SameWords (words result.now)
+            (shifted (narrowed (known_of self.now) (name_of name.now)) k) }
+    {
+        place.put_set(&self.narrowed_any(name).shift(k))
+    }
+
+    /// The one word that the equations leave to a name, where there is one and no other.
+    fn only_left(&self, name: &Name) -> Option<Word>
+        ensures { result ≡ only (narrowed (known_of self.now) (name_of name.now)) }
+    {
+        match self.narrowed_row(name) {
+            Some(row) => row.only(),
+            None => self.only_by_sets(name),
+        }
+    }
+
+    /// The same, where they aren't seen to be a row; the room for their set is made here alone.
+    #[inline(never)]
+    fn only_by_sets(&self, name: &Name) -> Option<Word>
+        ensures { result ≡ only (narrowed (known_of self.now) (name_of name.now)) }
+    {
+        self.narrowed_any(name).only()
+    }
+
+    /// Whether each word that the equations leave to a name is one of others.
+    fn is_left_within(&self, name: &Name, wider: &Seen) -> bool
+        ensures { IsTrue result ↔
+            IsWithin (narrowed (known_of self.now) (name_of name.now)) (words wider.now) }
+    {
+        if let Some(row) = self.narrowed_row(name) {
+            if let Some(other) = wider.row() {
+                return row.is_within(&other);
+            }
+        }
+        self.is_left_within_set(name, wider)
+    }
+
+    /// The same, where they aren't seen to be rows; the room for their sets is made here alone.
+    #[inline(never)]
+    fn is_left_within_set(&self, name: &Name, wider: &Seen) -> bool
+        ensures { IsTrue result ↔
+            IsWithin (narrowed (known_of self.now) (name_of name.now)) (words wider.now) }
+    {
+        self.narrowed_any(name).is_subset(&wider.set())
     }
 
     /// Leaves in a set the words that an equation leaves to a name.
@@ -371,7 +447,10 @@ impl Known<'_> {
     pub fn narrowed(&self, name: &Name) -> WordSet
         ensures { SameWords (words result) (narrowed (known_of self.now) (name_of name.now)) }
     {
-        self.left_to(name).set()
+        match self.narrowed_row(name) {
+            Some(row) => WordSet::range(row.first, row.last),
+            None => self.narrowed_any(name),
+        }
     }
 
     /// The same, where they aren't seen to be a row.
@@ -429,11 +508,9 @@ impl Known<'_> {
     fn shows(&self, equation: &Equation) -> bool
         ensures { IsTrue result ↔ Shows (known_of self.now) (equation_of equation.now) }
     {
-        let left = self.narrowed(&equation.left);
-        let right = self.narrowed(&Name::Cell(equation.right));
-        match left.only() {
+        match self.only_left(&equation.left) {
             None => false,
-            Some(x) => match right.only() {
+            Some(x) => match self.only_left(&Name::Cell(equation.right)) {
                 None => false,
                 Some(y) => x == y.add(equation.more),
             },
@@ -544,8 +621,7 @@ impl Known<'_> {
         if self.ac.is_within(fact.accumulator_seen()) {
             return true;
         }
-        self.left_to(&Name::Accumulator)
-            .is_within(fact.accumulator_seen())
+        self.is_left_within(&Name::Accumulator, fact.accumulator_seen())
     }
 }
 
@@ -591,7 +667,7 @@ impl<'a> Known<'a> {
         ensures { Agree (known_of result) (joined (meaning call.now) (meaning exit.now)
             (words written.now)) }
     {
-        Known::returned(call, exit, written, &mut room.pointer.list)
+        Known::returned(call, exit, written, &mut room.list)
     }
 
     /// The same, where room for the equations alone is lent.

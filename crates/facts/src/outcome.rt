@@ -1,7 +1,7 @@
 //! The outcomes of a word, and those of them that can come about.
 
 ghost use Rattle.std.specs.Prelude.{◌≡◌, ◌&&◌};
-ghost use Rattle.wordset.specs.Words.{Words, SameWords, has_some, has_link, everything, one, plus};
+ghost use Rattle.wordset.specs.Words.{Words, SameWords, has_link, all_words, everything, one, plus};
 ghost use Rattle.wordset.specs.Lanes.{words};
 ghost use Rattle.wordset.specs.Links.{links_of};
 ghost use Rattle.facts.specs.Facts.{Ac, Fact, narrowed};
@@ -11,10 +11,9 @@ ghost use Rattle.facts.specs.Meaning.{known_of};
 ghost use Rattle.facts.specs.Slots.{slot};
 
 use crate::known::Known;
-use crate::names::Name;
 use crate::seen::Seen;
 use word12::Word;
-use wordset::{Links, WordSet};
+use wordset::Links;
 
 /// What may come of a word, with what is known then.
 ///
@@ -29,36 +28,11 @@ pub enum Outcome<'a> {
     Returns(Known<'a>),
 }
 
-/// Whether a set has a word.
-pub(crate) fn has_word(set: &WordSet) -> bool
-    ensures { result ≡ has_some (words set.now) }
-{
-    !set.is_empty()
-}
-
 /// Whether a link is possible.
 fn has_link(links: Links) -> bool
     ensures { result ≡ has_link (links_of links) }
 {
     !links.is_empty()
-}
-
-/// Whether the equations leave a word to the accumulator.
-fn has_accumulator(known: &Known<'_>) -> bool
-    ensures { result ≡ has_some (narrowed (known_of known.now) Ac) }
-{
-    match known.narrowed_row(&Name::Accumulator) {
-        Some(_) => true,
-        None => has_narrowed_accumulator(known),
-    }
-}
-
-/// The same, where equations may speak of it; the room for the narrowed set is made here alone.
-#[inline(never)]
-fn has_narrowed_accumulator(known: &Known<'_>) -> bool
-    ensures { result ≡ has_some (narrowed (known_of known.now) Ac) }
-{
-    has_word(&known.narrowed(&Name::Accumulator))
 }
 
 /// Whether all are true.
@@ -70,13 +44,12 @@ fn are_all(a: bool, b: bool, c: bool, d: bool, e: bool, f: bool) -> bool
 
 /// Whether the targets, the old accumulator, the new one, MQ, the link and the changed cell each
 /// have a word.
-#[inline(never)]
-fn is_alive(targets: &Seen, before: &Known<'_>, changed: &Seen, after: &Known<'_>) -> bool
-    ensures { result ≡ alive (words targets.now) (known_of before.now) (words changed.now)
-        (known_of after.now) }
+fn is_alive(targets: &Seen, held: &Seen, changed: &Seen, after: &Known<'_>) -> bool
+    ensures { (f : Fact) → SameWords (words held.now) (narrowed f Ac) →
+        result ≡ alive (words targets.now) f (words changed.now) (known_of after.now) }
 {
     let targeted = !targets.is_empty();
-    let held = has_accumulator(before);
+    let held = !held.is_empty();
     let left = !after.ac.is_empty();
     let moved = !after.mq.is_empty();
     let linked = has_link(after.link);
@@ -87,18 +60,18 @@ fn is_alive(targets: &Seen, before: &Known<'_>, changed: &Seen, after: &Known<'_
 /// The outcome that goes on at some addresses, where it can come about.
 pub(crate) fn going<'a>(
     targets: &Seen,
-    before: &Known<'_>,
+    held: &Seen,
     changed: &Seen,
     next: &'a Seen,
     after: Known<'a>,
 ) -> Option<Outcome<'a>>
     ensures { (p changes nexts : Words) (f h : Fact) → SameWords (words targets.now) p →
-        Agree (known_of before.now) f →
+        SameWords (words held.now) (narrowed f Ac) →
         SameWords (words changed.now) changes → SameWords (words next.now) nexts →
         Agree (known_of after.entry) h →
         AgreeingOutcomes (slot result) (goes p f changes nexts h) }
 {
-    if !is_alive(targets, before, changed, &after) {
+    if !is_alive(targets, held, changed, &after) {
         return None;
     }
     Some(Outcome::Goes(next, after))
@@ -108,13 +81,13 @@ pub(crate) fn going<'a>(
 pub(crate) fn going_if<'a>(
     chosen: bool,
     targets: &Seen,
-    before: &Known<'_>,
+    held: &Seen,
     changed: &Seen,
     next: &'a Seen,
     after: Known<'a>,
 ) -> Option<Outcome<'a>>
     ensures { (p changes nexts : Words) (f h : Fact) → SameWords (words targets.now) p →
-        Agree (known_of before.now) f →
+        SameWords (words held.now) (narrowed f Ac) →
         SameWords (words changed.now) changes → SameWords (words next.now) nexts →
         Agree (known_of after.entry) h →
         AgreeingOutcomes (slot result) (given (chosen && alive p f changes h) (Goes nexts h)) }
@@ -122,20 +95,22 @@ pub(crate) fn going_if<'a>(
     if !chosen {
         return None;
     }
-    going(targets, before, changed, next, after)
+    going(targets, held, changed, next, after)
 }
 
 /// The outcome that calls the targets, where it can come about.
 pub(crate) fn calling<'a>(
     targets: &'a Seen,
-    before: &Known<'_>,
+    held: &Seen,
+    all: &Seen,
     after: Known<'a>,
 ) -> Option<Outcome<'a>>
+    requires { words all.now ≡ all_words }
     ensures { (p : Words) (f h : Fact) → SameWords (words targets.now) p →
-        Agree (known_of before.now) f → Agree (known_of after.entry) h →
+        SameWords (words held.now) (narrowed f Ac) → Agree (known_of after.entry) h →
         AgreeingOutcomes (slot result) (given (alive p f everything h) (CallsTo p h)) }
 {
-    if is_alive(targets, before, &Seen::all(), &after) {
+    if is_alive(targets, held, all, &after) {
         Some(Outcome::Calls(targets, after))
     } else {
         None
@@ -145,14 +120,16 @@ pub(crate) fn calling<'a>(
 /// The outcome that returns, where it can come about.
 pub(crate) fn returning<'a>(
     targets: &Seen,
-    before: &Known<'_>,
+    held: &Seen,
+    all: &Seen,
     after: Known<'a>,
 ) -> Option<Outcome<'a>>
+    requires { words all.now ≡ all_words }
     ensures { (p : Words) (f h : Fact) → SameWords (words targets.now) p →
-        Agree (known_of before.now) f → Agree (known_of after.entry) h →
+        SameWords (words held.now) (narrowed f Ac) → Agree (known_of after.entry) h →
         AgreeingOutcomes (slot result) (given (alive p f everything h) (Returns h)) }
 {
-    if is_alive(targets, before, &Seen::all(), &after) {
+    if is_alive(targets, held, all, &after) {
         Some(Outcome::Returns(after))
     } else {
         None

@@ -42,13 +42,13 @@ pub struct Place<'a, A: Allocator> {
     pub routine: Option<Running<'a>>,
 }
 
-/// The tape's word, or all words where the tape has none.
-pub(crate) fn tape_words(word: Option<Word>) -> Seen
-    ensures { SameWords (words result) (tape_word word) }
+/// The tape's word, or all words where the tape has none, in a place for them.
+fn tape_words(word: Option<Word>, place: &mut Seen) -> &Seen
+    ensures { SameWords (words result.now) (tape_word word) }
 {
     match word {
-        None => Seen::all(),
-        Some(word) => Seen::one(word),
+        None => place.put_all(),
+        Some(word) => place.put_one(word),
     }
 }
 
@@ -98,48 +98,70 @@ impl<A: Allocator> Place<'_, A> {
         set
     }
 
-    /// The words that a cell may hold: a variable's narrowed set, the running routine's own return
-    /// words, any word in another entry, else the tape's word.
-    pub(crate) fn words_in(&self, known: &Known<'_>, cell: Word) -> Seen
-        ensures { SameWords (words result) (words_in (place_of self.now) (known_of known.now)
+    /// The same, in a place for them; the room for them is made here alone.
+    #[inline(never)]
+    fn own_in<'b>(&self, known: &Known<'_>, place: &'b mut Seen) -> &'b Seen
+        ensures { SameWords (words result.now) (own_words (place_of self.now).sites
+            (known_of known.now)) }
+    {
+        place.put_set(&self.own_words(known))
+    }
+
+    /// The words that a cell may hold, in a place for them: a variable's narrowed set, the running
+    /// routine's own return words, any word in another entry, else the tape's word.
+    pub(crate) fn words_in<'b>(
+        &self,
+        known: &Known<'_>,
+        cell: Word,
+        place: &'b mut Seen,
+    ) -> &'b Seen
+        ensures { SameWords (words result.now) (words_in (place_of self.now) (known_of known.now)
             cell) }
     {
         if self.declaration.is_variable(cell) {
-            return known.left_to(&Name::Cell(cell));
+            return known.left_in(&Name::Cell(cell), place);
         }
         if self.is_own(cell) {
-            return Seen::of(self.own_words(known));
+            return self.own_in(known, place);
         }
         if self.declaration.is_entry(cell) {
-            return Seen::all();
+            return place.put_all();
         }
-        tape_words(word_of(self.image, cell))
+        tape_words(word_of(self.image, cell), place)
     }
 
-    /// The words that some cells may hold, of which the one is given that has no other beside it.
-    pub(crate) fn words_at(&self, known: &Known<'_>, cells: &Seen, single: &Option<Word>) -> Seen
+    /// The words that some cells may hold, of which the one is given that has no other beside it, in a
+    /// place for them.
+    pub(crate) fn words_at<'b>(
+        &self,
+        known: &Known<'_>,
+        cells: &Seen,
+        single: &Option<Word>,
+        place: &'b mut Seen,
+    ) -> &'b Seen
         requires { single.now ≡ only (words cells.now) }
-        ensures { SameWords (words result)
+        ensures { SameWords (words result.now)
             (words_at (place_of self.now) (known_of known.now) (words cells.now)) }
     {
         match single {
-            Some(cell) => self.words_in(known, *cell),
-            None => Seen::of(self.words_at_each(known, cells)),
+            Some(cell) => self.words_in(known, *cell, place),
+            None => self.words_at_each(known, cells, place),
         }
     }
 
-    /// The words that some cells may hold.
+    /// The words that some cells may hold; the room for them is made here alone.
     #[inline(never)]
-    fn words_at_each(&self, known: &Known<'_>, cells: &Seen) -> WordSet
-        ensures { SameWords (words result)
+    fn words_at_each<'b>(&self, known: &Known<'_>, cells: &Seen, place: &'b mut Seen) -> &'b Seen
+        ensures { SameWords (words result.now)
             (words_at (place_of self.now) (known_of known.now) (words cells.now)) }
     {
+        let mut one = Seen::all();
         let mut set = WordSet::empty();
         let mut next = 0usize;
         while let Some(cell) = cells.first_from(next) {
-            set = set.union(&self.words_in(known, cell).set());
+            set = set.union(&self.words_in(known, cell, &mut one).set());
             next = cell.index() + 1;
         }
-        set
+        place.put_set(&set)
     }
 }

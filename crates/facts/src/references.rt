@@ -12,18 +12,19 @@ ghost use Rattle.facts.specs.Meaning.{known_of, IsUnchanged};
 ghost use Rattle.facts.specs.Places.{place_of};
 ghost use Rattle.facts.specs.Slots.{slot};
 
+use crate::equations::Equations;
 use crate::known::Known;
 use crate::names::Name;
 use crate::outcome::{
     Outcome, address_after, address_skipped_to, calling, going, going_if, returning,
 };
 use crate::place::Place;
-use crate::room::{Step, Way};
+use crate::room::Way;
 use crate::seen::Seen;
+use crate::skipping::both;
 use processor::is_auto_index;
 use std::alloc::Allocator;
 use word12::Word;
-use wordset::WordSet;
 
 /// Whether a reference steps the pointer in its named cell.
 pub(crate) fn steps_pointer(indirect: bool, named: Word) -> bool
@@ -38,7 +39,7 @@ pub(crate) fn steps_pointer(indirect: bool, named: Word) -> bool
 pub(crate) fn deposit<'a>(
     at: Word,
     known: &Known<'a>,
-    targets: &Seen,
+    targets: &'a Seen,
     single: &Option<Word>,
     way: &'a mut Way,
 ) -> Option<Outcome<'a>>
@@ -49,29 +50,27 @@ pub(crate) fn deposit<'a>(
         SameWords (words targets.now) p →
         AgreeingOutcomes (slot result) (dca_case place at f p (only p)) }
 {
-    let ac = known.left_to(&Name::Accumulator);
+    let Way {
+        all,
+        held,
+        ac,
+        next,
+        first,
+        second,
+        third,
+        ..
+    } = way;
+    let held = known.left_in(&Name::Accumulator, held);
+    let zero = ac.put_one(Word::ZERO);
+    let next = address_after(at, next);
     match single {
         Some(cell) => {
-            let after = known.deposited(
-                *cell,
-                &ac,
-                &mut way.first,
-                &mut way.second,
-                &mut way.third,
-            );
-            going(targets, known, &ac, address_after(at, &mut way.next), after)
+            let after = known.deposited(*cell, held, zero, first, second, third);
+            going(targets, held, held, next, after)
         }
         None => {
-            let after = known
-                .stored(targets, &ac, &mut way.first, &mut way.third)
-                .with_ac(&Seen::one(Word::ZERO), &mut way.second);
-            going(
-                targets,
-                known,
-                &Seen::all(),
-                address_after(at, &mut way.next),
-                after,
-            )
+            let after = known.stored(targets, held, first).with_ac(zero, second);
+            going(targets, held, all.put_all(), next, after)
         }
     }
 }
@@ -93,24 +92,38 @@ pub(crate) fn count_one<'a>(
         Agree (known_of known.now) f → SameWords (words targets.now) p →
         AgreeingOutcomes (slot result.0 ++ slot result.1) (isz_case place at f p (Some cell)) }
 {
-    let old = known.narrowed(&Name::Cell(cell));
-    let zero = Seen::one(Word::ZERO);
-    let more = Seen::of(old.shift(Word::ZERO.increment()).minus(&zero.set()));
-    let last = Word::ZERO.complement();
+    let Way {
+        held,
+        read,
+        changed,
+        next,
+        first,
+        ..
+    } = way;
+    let held = known.left_in(&Name::Accumulator, held);
+    let old = known.left_in(&Name::Cell(cell), read);
+    let zero = changed.put_one(Word::ZERO);
     let skips = going_if(
-        old.contains(last),
+        old.has(Word::ZERO.complement()),
         targets,
-        known,
-        &zero,
-        address_skipped_to(at, &mut way.next),
-        known.counted_to(cell, &zero, &mut way.first),
+        held,
+        zero,
+        address_skipped_to(at, next),
+        known.counted_to(cell, zero, first),
     );
+    let Way {
+        changed,
+        next,
+        first,
+        ..
+    } = other;
+    let more = changed.put_counted(old);
     let goes_on = going(
         targets,
-        known,
-        &more,
-        address_after(at, &mut other.next),
-        known.counted_to(cell, &more, &mut other.first),
+        held,
+        more,
+        address_after(at, next),
+        known.counted_to(cell, more, first),
     );
     (skips, goes_on)
 }
@@ -122,17 +135,23 @@ pub(crate) fn count_own<'a>(
     known: &Known<'a>,
     targets: &Seen,
     cell: Word,
-    next: &'a mut Seen,
+    way: &'a mut Way,
 ) -> Option<Outcome<'a>>
     ensures { (place : said.Place) (f : said.Fact) (p : Words) → place.declaration.variable cell ≡
         false →
         Agree (known_of known.now) f → SameWords (words targets.now) p →
         AgreeingOutcomes (slot result) (isz_case place at f p (Some cell)) }
 {
+    let Way {
+        all,
+        held,
+        next,
+        ..
+    } = way;
     going(
         targets,
-        known,
-        &Seen::all(),
+        known.left_in(&Name::Accumulator, held),
+        all.put_all(),
         address_after(at, next),
         known.returning_later(),
     )
@@ -197,7 +216,7 @@ fn may_some_stay(known: &Known<'_>, cells: &Seen) -> bool
 pub(crate) fn count_several<'a>(
     at: Word,
     known: &Known<'a>,
-    targets: &Seen,
+    targets: &'a Seen,
     way: &'a mut Way,
     other: &'a mut Way,
 ) -> (Option<Outcome<'a>>, Option<Outcome<'a>>)
@@ -207,24 +226,33 @@ pub(crate) fn count_several<'a>(
         SameWords (words targets.now) p →
         AgreeingOutcomes (slot result.0 ++ slot result.1) (isz_case place at f p None) }
 {
-    let all = Seen::all();
+    let Way {
+        all,
+        held,
+        next,
+        first,
+        ..
+    } = way;
+    let held = known.left_in(&Name::Accumulator, held);
+    let all = all.put_all();
     let wraps = may_some_wrap(known, targets);
     let stays = may_some_stay(known, targets);
     let skips = going_if(
         wraps,
         targets,
-        known,
-        &all,
-        address_skipped_to(at, &mut way.next),
-        known.counted(targets, &mut way.first),
+        held,
+        all,
+        address_skipped_to(at, next),
+        known.counted(targets, first),
     );
+    let Way { next, first, .. } = other;
     let goes_on = going_if(
         stays,
         targets,
-        known,
-        &all,
-        address_after(at, &mut other.next),
-        known.counted(targets, &mut other.first),
+        held,
+        all,
+        address_after(at, next),
+        known.counted(targets, first),
     );
     (skips, goes_on)
 }
@@ -234,8 +262,8 @@ pub(crate) fn count_several<'a>(
 fn after_sum<'a>(
     known: &Known<'a>,
     added: &Option<Word>,
-    set: &Seen,
-    step: &'a mut Step,
+    set: &'a Seen,
+    list: &'a mut Equations,
 ) -> Known<'a>
     requires room { length known.now.equations.now ≤ 32 }
     ensures { (f : said.Fact) (v : Words) → Agree (known_of known.now) f →
@@ -243,39 +271,50 @@ fn after_sum<'a>(
         Agree (known_of result) (tad_word f v added.now) }
 {
     match added {
-        Some(word) => return known.raised_to(*word, set, step),
-        None => return known.with_ac(set, step),
+        Some(word) => return known.raised_to(*word, set, list),
+        None => return known.with_ac(set, list),
     }
 }
 
 /// JMS calls each target.
 #[inline(never)]
-pub(crate) fn call<'a>(known: &Known<'a>, targets: &'a Seen) -> Option<Outcome<'a>>
+pub(crate) fn call<'a>(
+    known: &Known<'a>,
+    targets: &'a Seen,
+    way: &'a mut Way,
+) -> Option<Outcome<'a>>
     ensures { (f : said.Fact) (p : Words) → Agree (known_of known.now) f →
         SameWords (words targets.now) p →
         AgreeingOutcomes (slot result) (given (alive p f everything f) (CallsTo p f)) }
 {
-    calling(targets, known, known.same())
+    let Way { all, held, .. } = way;
+    let held = known.left_in(&Name::Accumulator, held);
+    calling(targets, held, all.put_all(), known.same())
 }
 
 impl<A: Allocator> Place<'_, A> {
-    /// The targets of a reference: the named cell, or the words that the pointer in it may be, which
-    /// counts up first where it is stepped.
+    /// The targets of a reference, in a place for them: the named cell, or the words that the pointer in
+    /// it may be, which counts up first where it is stepped.
     #[inline(never)]
-    pub(crate) fn reached(&self, indirect: bool, named: Word, known: &Known<'_>) -> Seen
+    pub(crate) fn reached<'b>(
+        &self,
+        indirect: bool,
+        named: Word,
+        known: &Known<'_>,
+        place: &'b mut Seen,
+    ) -> &'b Seen
         requires pointer { IsUnchanged known.now.pointer }
         requires target { IsUnchanged known.now.target }
         ensures { (f : said.Fact) → Agree (known_of known.now) f →
-            SameWords (words result) (targets (place_of self.now) indirect named f) }
+            SameWords (words result.now) (targets (place_of self.now) indirect named f) }
     {
         if steps_pointer(indirect, named) {
-            let one = Word::ZERO.increment();
-            return Seen::of(known.narrowed(&Name::Cell(named)).shift(one));
+            return known.shifted_in(&Name::Cell(named), Word::ZERO.increment(), place);
         }
         if indirect {
-            return self.words_in(known, named);
+            return self.words_in(known, named, place);
         }
-        Seen::one(named)
+        place.put_one(named)
     }
 
     /// AND: all a and v, for the words a of the accumulator and v of the targets.
@@ -294,16 +333,24 @@ impl<A: Allocator> Place<'_, A> {
             SameWords (words targets.now) p →
             AgreeingOutcomes (slot result) (anded (place_of self.now) at f p) }
     {
-        let ac = known.left_to(&Name::Accumulator);
-        let seen = self.words_at(known, targets, single);
-        let both = Seen::of(ac.set().ands(&seen.set()));
-        let after = known.with_ac(&both, &mut way.first);
+        let Way {
+            all,
+            held,
+            read,
+            ac,
+            next,
+            first,
+            ..
+        } = way;
+        let held = known.left_in(&Name::Accumulator, held);
+        let read = self.words_at(known, targets, single, read);
+        let both = ac.put_ands(held, read);
         going(
             targets,
-            known,
-            &Seen::all(),
-            address_after(at, &mut way.next),
-            after,
+            held,
+            all.put_all(),
+            address_after(at, next),
+            known.with_ac(both, first),
         )
     }
 
@@ -315,9 +362,8 @@ impl<A: Allocator> Place<'_, A> {
         target: &Option<Word>,
         ac: &Option<Word>,
         added: &Option<Word>,
-        set: &Seen,
-        first: &'a mut Step,
-        second: &'a mut Step,
+        set: &'a Seen,
+        list: &'a mut Equations,
     ) -> Known<'a>
         requires room { length known.now.equations.now ≤ 32 }
         ensures { (f : said.Fact) (v : Words) → Agree (known_of known.now) f →
@@ -327,11 +373,11 @@ impl<A: Allocator> Place<'_, A> {
         if let Some(cell) = target {
             if let Some(word) = ac {
                 if self.declaration.is_variable(*cell) {
-                    return known.summed(*cell, *word, set, first, &mut second.list);
+                    return known.summed(*cell, *word, set, list);
                 }
             }
         }
-        after_sum(known, added, set, first)
+        after_sum(known, added, set, list)
     }
 
     /// TAD: all sums, and the link complemented by the carries that occur.
@@ -350,28 +396,22 @@ impl<A: Allocator> Place<'_, A> {
             SameWords (words targets.now) p →
             AgreeingOutcomes (slot result) (tad (place_of self.now) at f p) }
     {
-        let ac = known.left_to(&Name::Accumulator);
-        let seen = self.words_at(known, targets, single);
-        let mut sums = Seen::all();
-        let carries = sums.put_sums(&ac, &seen);
+        let Way {
+            all,
+            held,
+            read,
+            ac,
+            next,
+            first,
+            ..
+        } = way;
+        let held = known.left_in(&Name::Accumulator, held);
+        let read = self.words_at(known, targets, single, read);
+        let carries = ac.put_sums(held, read);
         let links = known.link.toggled(carries);
-        let mut sum = self.after_tad(
-            known,
-            single,
-            &ac.only(),
-            &seen.only(),
-            &sums,
-            &mut way.first,
-            &mut way.second,
-        );
+        let mut sum = self.after_tad(known, single, &held.only(), &read.only(), &*ac, first);
         sum.set_link(links);
-        going(
-            targets,
-            known,
-            &Seen::all(),
-            address_after(at, &mut way.next),
-            sum,
-        )
+        going(targets, held, all.put_all(), address_after(at, next), sum)
     }
 
     /// JMP goes to each target; JMP I through the running routine's own entry returns.
@@ -382,15 +422,19 @@ impl<A: Allocator> Place<'_, A> {
         named: Word,
         known: &Known<'a>,
         targets: &'a Seen,
+        way: &'a mut Way,
     ) -> Option<Outcome<'a>>
         ensures { (f : said.Fact) (p : Words) → Agree (known_of known.now) f →
             SameWords (words targets.now) p →
             AgreeingOutcomes (slot result) (jmp (place_of self.now) indirect named f p) }
     {
-        if indirect && self.is_own(named) {
-            return returning(targets, known, known.same());
+        let Way { all, held, .. } = way;
+        let held = known.left_in(&Name::Accumulator, held);
+        let all = all.put_all();
+        if both(indirect, self.is_own(named)) {
+            return returning(targets, held, all, known.same());
         }
-        going(targets, known, &Seen::all(), targets, known.same())
+        going(targets, held, all, targets, known.same())
     }
 
     /// ISZ: of one variable, of the running routine's own entry, or of one of several variables.
@@ -398,7 +442,7 @@ impl<A: Allocator> Place<'_, A> {
         &self,
         at: Word,
         known: &Known<'a>,
-        targets: &Seen,
+        targets: &'a Seen,
         single: &Option<Word>,
         way: &'a mut Way,
         other: &'a mut Way,
@@ -417,7 +461,7 @@ impl<A: Allocator> Place<'_, A> {
                 if self.declaration.is_variable(*cell) {
                     return count_one(at, known, targets, *cell, way, other);
                 }
-                (count_own(at, known, targets, *cell, &mut way.next), None)
+                (count_own(at, known, targets, *cell, way), None)
             }
         }
     }

@@ -9,17 +9,18 @@ ghost use Rattle.instruct.specs.Bits.{has_bit};
 ghost use Rattle.instruct.specs.Operates.{MqOperate, mq_operate_of};
 ghost use Rattle.instruct.specs.Instructions.{instruction_of, processor_action, Skips, Ors, Clears, Takes, Leaves};
 ghost use Rattle.facts.specs.Facts as said;
-ghost use Rattle.facts.specs.Facts.{Ac};
-ghost use Rattle.facts.specs.Changes.{assigned, with_mq};
+ghost use Rattle.facts.specs.Facts.{Ac, narrowed};
+ghost use Rattle.facts.specs.Changes.{assigned, with_mq, with_name};
 ghost use Rattle.facts.specs.Outcomes.{goes, changes_ac, related1, operated1, operated3, device_outcomes};
 ghost use Rattle.facts.specs.Same.{Agree, AgreeingOutcomes};
 ghost use Rattle.facts.specs.Meaning.{known_of};
 ghost use Rattle.facts.specs.Slots.{slot};
 
+use crate::equations::Equations;
 use crate::known::Known;
 use crate::names::Name;
 use crate::outcome::{Outcome, address_after, address_skipped_to, going};
-use crate::room::{Step, Way};
+use crate::room::Way;
 use crate::seen::Seen;
 use instruct::DeviceOperation;
 use word12::Word;
@@ -28,15 +29,17 @@ use wordset::WordSet;
 /// The outcome that goes on at the next address with what is known then.
 pub(crate) fn go_on<'a>(
     at: Word,
-    known: &Known<'_>,
+    held: &Seen,
     after: Known<'a>,
+    all: &mut Seen,
     next: &'a mut Seen,
 ) -> Option<Outcome<'a>>
-    ensures { (f h : said.Fact) → Agree (known_of known.now) f → Agree (known_of after.entry) h →
+    ensures { (f h : said.Fact) → SameWords (words held.now) (narrowed f Ac) →
+        Agree (known_of after.entry) h →
         AgreeingOutcomes (slot result) (goes everything f everything (one (plus at 1)) h) }
 {
-    let all = Seen::all();
-    going(&all, known, &all, address_after(at, next), after)
+    let all = all.put_all();
+    going(all, held, all, address_after(at, next), after)
 }
 
 /// Whether a word of group 1 has CLA, CMA, a rotate or BSW: it leaves no equation of the
@@ -59,20 +62,21 @@ fn increments(word: Word) -> bool
     word.value() & 1 == 1
 }
 
-/// What is known of the accumulator's equations after a word of group 1: with IAC alone they move
-/// by one.
-fn related<'a>(word: Word, known: &Known<'a>, step: &'a mut Step) -> Known<'a>
+/// What is known after a word of group 1, where these words of the accumulator are left: with IAC
+/// alone its equations move by one.
+fn related<'a>(word: Word, known: &Known<'a>, set: &'a Seen, list: &'a mut Equations) -> Known<'a>
     requires room { length known.now.equations.now ≤ 32 }
-    ensures { (f : said.Fact) → Agree (known_of known.now) f →
-        Agree (known_of result) (related1 word f) }
+    ensures { (f : said.Fact) (s : Words) → Agree (known_of known.now) f →
+        SameWords (words set.now) s →
+        Agree (known_of result) (with_name Ac s (related1 word f)) }
 {
     if changes_accumulator(word) {
-        return known.with_ac(&Seen::all(), step);
+        return known.with_ac(set, list);
     }
     if increments(word) {
-        return known.raised_ac(Word::ZERO.increment(), step);
+        return known.raised_to(Word::ZERO.increment(), set, list);
     }
-    known.same()
+    known.same().holding(set)
 }
 
 /// A word of group 1: the images of the words and links.
@@ -89,31 +93,44 @@ pub(crate) fn operate<'a>(
         AgreeingOutcomes (slot result) (goes everything f everything (one (plus at 1))
         (operated1 word f)) }
 {
-    let ac = known.narrowed(&Name::Accumulator);
-    let (images, links) = ac.map_operate(word, known.link);
-    let after = related(word, known, &mut way.first)
-        .holding(&Seen::of(images), &mut way.second)
-        .with_link(links);
-    go_on(at, known, after, &mut way.next)
+    let Way {
+        all,
+        held,
+        ac,
+        next,
+        first,
+        ..
+    } = way;
+    let held = known.left_in(&Name::Accumulator, held);
+    let links = ac.put_images(word, held, known.link);
+    let after = related(word, known, &*ac, first).with_link(links);
+    go_on(at, held, after, all, next)
 }
 
 /// A flag test: the flag may be set or not.
 pub(crate) fn test_flag<'a>(
     at: Word,
     known: &Known<'a>,
-    stay: &'a mut Seen,
-    skip: &'a mut Seen,
+    way: &'a mut Way,
+    other: &'a mut Way,
 ) -> (Option<Outcome<'a>>, Option<Outcome<'a>>)
     ensures { (f : said.Fact) → Agree (known_of known.now) f →
         AgreeingOutcomes (slot result.0 ++ slot result.1) (device_outcomes at f Skips) }
 {
-    let all = Seen::all();
-    let stays = go_on(at, known, known.same(), stay);
+    let Way {
+        all,
+        held,
+        next,
+        ..
+    } = way;
+    let held = known.left_in(&Name::Accumulator, held);
+    let all = all.put_all();
+    let stays = going(all, held, all, address_after(at, next), known.same());
     let skips = going(
-        &all,
-        known,
-        &all,
-        address_skipped_to(at, skip),
+        all,
+        held,
+        all,
+        address_skipped_to(at, &mut other.next),
         known.same(),
     );
     (stays, skips)
@@ -125,10 +142,18 @@ pub(crate) fn or_byte<'a>(at: Word, known: &Known<'a>, way: &'a mut Way) -> Opti
     ensures { (f : said.Fact) → Agree (known_of known.now) f →
         AgreeingOutcomes (slot result) (device_outcomes at f Ors) }
 {
-    let ac = known.narrowed(&Name::Accumulator);
-    let byte = ac.or_any(Word::from_byte(0o377));
-    let after = known.with_ac(&Seen::of(byte), &mut way.first);
-    go_on(at, known, after, &mut way.next)
+    let Way {
+        all,
+        held,
+        ac,
+        next,
+        first,
+        ..
+    } = way;
+    let held = known.left_in(&Name::Accumulator, held);
+    let bytes = ac.put_any(held, Word::from_byte(0o377));
+    let after = known.with_ac(bytes, first);
+    go_on(at, held, after, all, next)
 }
 
 /// The accumulator is cleared.
@@ -137,8 +162,17 @@ pub(crate) fn clear<'a>(at: Word, known: &Known<'a>, way: &'a mut Way) -> Option
     ensures { (f : said.Fact) → Agree (known_of known.now) f →
         AgreeingOutcomes (slot result) (device_outcomes at f Clears) }
 {
-    let after = known.with_ac(&Seen::one(Word::ZERO), &mut way.first);
-    go_on(at, known, after, &mut way.next)
+    let Way {
+        all,
+        held,
+        ac,
+        next,
+        first,
+        ..
+    } = way;
+    let held = known.left_in(&Name::Accumulator, held);
+    let after = known.with_ac(ac.put_one(Word::ZERO), first);
+    go_on(at, held, after, all, next)
 }
 
 /// A device's byte, which may be any, is taken into the accumulator.
@@ -147,37 +181,64 @@ pub(crate) fn take_byte<'a>(at: Word, known: &Known<'a>, way: &'a mut Way) -> Op
     ensures { (f : said.Fact) → Agree (known_of known.now) f →
         AgreeingOutcomes (slot result) (device_outcomes at f Takes) }
 {
-    let bytes = Seen::between(Word::ZERO, Word::from_byte(0o377));
-    let after = known.with_ac(&bytes, &mut way.first);
-    go_on(at, known, after, &mut way.next)
+    let Way {
+        all,
+        held,
+        ac,
+        next,
+        first,
+        ..
+    } = way;
+    let held = known.left_in(&Name::Accumulator, held);
+    ac.put_between(Word::ZERO, Word::from_byte(0o377));
+    let after = known.with_ac(&*ac, first);
+    go_on(at, held, after, all, next)
 }
 
 /// Nothing changes.
-pub(crate) fn leave<'a>(at: Word, known: &Known<'a>, next: &'a mut Seen) -> Option<Outcome<'a>>
+pub(crate) fn leave<'a>(at: Word, known: &Known<'a>, way: &'a mut Way) -> Option<Outcome<'a>>
     ensures { (f : said.Fact) → Agree (known_of known.now) f →
         AgreeingOutcomes (slot result) (device_outcomes at f Leaves) }
 {
-    go_on(at, known, known.same(), next)
+    let Way {
+        all,
+        held,
+        next,
+        ..
+    } = way;
+    let held = known.left_in(&Name::Accumulator, held);
+    go_on(at, held, known.same(), all, next)
 }
 
 /// The outcome after the accumulator and MQ took these words.
+#[inline(never)]
 fn take<'a>(
     at: Word,
     known: &Known<'a>,
-    ac: WordSet,
-    mq: WordSet,
+    set: &WordSet,
+    mq: &WordSet,
     way: &'a mut Way,
 ) -> Option<Outcome<'a>>
     requires room { length known.now.equations.now ≤ 32 }
     ensures { (f : said.Fact) (s t : Words) → Agree (known_of known.now) f →
-        SameWords (words ac) s → SameWords (words mq) t →
+        SameWords (words set.now) s → SameWords (words mq.now) t →
         AgreeingOutcomes (slot result) (goes everything f everything (one (plus at 1))
         (with_mq t (assigned Ac s f))) }
 {
+    let Way {
+        all,
+        held,
+        ac,
+        changed,
+        next,
+        first,
+        ..
+    } = way;
+    let held = known.left_in(&Name::Accumulator, held);
     let after = known
-        .with_ac(&Seen::of(ac), &mut way.first)
-        .with_mq(&Seen::of(mq), &mut way.second);
-    go_on(at, known, after, &mut way.next)
+        .with_ac(ac.put_set(set), first)
+        .with_mq(changed.put_set(mq));
+    go_on(at, held, after, all, next)
 }
 
 /// A word of group 3 moves words between the accumulator and MQ.
@@ -198,12 +259,12 @@ pub(crate) fn exchange<'a>(
     let mq = known.mq.set();
     let zero = WordSet::one(Word::ZERO);
     match word.value() {
-        0o7421 => take(at, known, zero, ac, way),
-        0o7501 => take(at, known, ac.ors(&mq), mq, way),
-        0o7521 => take(at, known, mq, ac, way),
-        0o7621 => take(at, known, zero, zero, way),
-        0o7701 => take(at, known, mq, mq, way),
-        0o7721 => take(at, known, mq, zero, way),
+        0o7421 => take(at, known, &zero, &ac, way),
+        0o7501 => take(at, known, &ac.ors(&mq), &mq, way),
+        0o7521 => take(at, known, &mq, &ac, way),
+        0o7621 => take(at, known, &zero, &zero, way),
+        0o7701 => take(at, known, &mq, &mq, way),
+        0o7721 => take(at, known, &mq, &zero, way),
         _ => None,
     }
 }
@@ -226,17 +287,12 @@ pub(crate) fn transfer<'a>(
         DeviceOperation::SkipOnReaderFlag
         | DeviceOperation::SkipOnPunchFlag
         | DeviceOperation::SkipOnKeyboardFlag
-        | DeviceOperation::SkipOnPrinterFlag => test_flag(
-            at,
-            known,
-            &mut way.next,
-            &mut other.next,
-        ),
+        | DeviceOperation::SkipOnPrinterFlag => test_flag(at, known, way, other),
         DeviceOperation::ReadReaderBuffer
         | DeviceOperation::ReadReaderBufferAndFetchFrame
         | DeviceOperation::ReadKeyboardBuffer => (or_byte(at, known, way), None),
         DeviceOperation::ClearKeyboardFlagAndAccumulator => (clear(at, known, way), None),
         DeviceOperation::TakeKeyboardByte => (take_byte(at, known, way), None),
-        _ => (leave(at, known, &mut way.next), None),
+        _ => (leave(at, known, way), None),
     }
 }

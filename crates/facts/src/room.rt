@@ -6,42 +6,41 @@
 use crate::equations::Equations;
 use crate::seen::Seen;
 use arrayvec::ArrayVec;
-use wordset::WordSet;
 
-/// Room for one change of what is known: a set and a list of equations.
-#[derive(Drop)]
-pub(crate) struct Step {
-    pub(crate) set: Seen,
-    pub(crate) list: Equations,
-}
-
-impl Step {
-    /// Room that nothing stands in.
-    fn new() -> Step {
-        Step {
-            set: Seen::of(WordSet::empty()),
-            list: ArrayVec::new(),
-        }
-    }
-}
-
-/// Room for one outcome: for at most three changes, one after another, and for where it goes on.
+/// Room for one outcome: for the words of what it is made of, and for equations, which change at most
+/// three times, one after another.
 #[derive(Drop)]
 pub(crate) struct Way {
-    pub(crate) first: Step,
-    pub(crate) second: Step,
-    pub(crate) third: Step,
+    /// All words.
+    pub(crate) all: Seen,
+    /// The accumulator's words before.
+    pub(crate) held: Seen,
+    /// The words of the cells that are read.
+    pub(crate) read: Seen,
+    /// The accumulator's words afterwards.
+    pub(crate) ac: Seen,
+    /// The words of a cell, or MQ's, afterwards.
+    pub(crate) changed: Seen,
+    /// Where it goes on.
     pub(crate) next: Seen,
+    pub(crate) first: Equations,
+    pub(crate) second: Equations,
+    pub(crate) third: Equations,
 }
 
 impl Way {
     /// Room in which nothing stands.
     fn new() -> Way {
         Way {
-            first: Step::new(),
-            second: Step::new(),
-            third: Step::new(),
-            next: Seen::of(WordSet::empty()),
+            all: Seen::all(),
+            held: Seen::all(),
+            read: Seen::all(),
+            ac: Seen::all(),
+            changed: Seen::all(),
+            next: Seen::all(),
+            first: ArrayVec::new(),
+            second: ArrayVec::new(),
+            third: ArrayVec::new(),
         }
     }
 }
@@ -50,7 +49,11 @@ impl Way {
 /// what stands in it doesn't matter: the same serves for one word after another.
 #[derive(Drop)]
 pub struct Room {
-    pub(crate) pointer: Step,
+    /// The words of a stepped pointer.
+    pub(crate) pointer: Seen,
+    /// The equations when the pointer was stepped, or after a call.
+    pub(crate) list: Equations,
+    /// The targets of a reference.
     pub(crate) targets: Seen,
     pub(crate) one: Way,
     pub(crate) two: Way,
@@ -62,8 +65,9 @@ impl Room {
     /// Room that nothing stands in.
     pub fn new() -> Room {
         Room {
-            pointer: Step::new(),
-            targets: Seen::of(WordSet::empty()),
+            pointer: Seen::all(),
+            list: ArrayVec::new(),
+            targets: Seen::all(),
             one: Way::new(),
             two: Way::new(),
             three: Way::new(),

@@ -1,7 +1,7 @@
 //! The outcomes of the words of group 2, which skip by the accumulator and the link.
 
 ghost use Rattle.std.specs.Prelude.{ℕ, ◌≡◌, ◌<◌, ◌≤◌, length, ◌==◌, ◌&&◌, not, true, if◌then◌else◌};
-ghost use Rattle.wordset.specs.Words.{Words, SameWords, one};
+ghost use Rattle.wordset.specs.Words.{Words, SameWords, one, or_any};
 ghost use Rattle.wordset.specs.Lanes.{words};
 ghost use Rattle.instruct.specs.Bits.{has_bit};
 ghost use Rattle.instruct.specs.Operates.{any_test_holds, skips_of};
@@ -12,11 +12,12 @@ ghost use Rattle.facts.specs.Same.{Agree, AgreeingOutcomes};
 ghost use Rattle.facts.specs.Meaning.{known_of};
 ghost use Rattle.facts.specs.Slots.{slot};
 
+use crate::equations::Equations;
 use crate::known::Known;
 use crate::names::Name;
-use crate::outcome::{Outcome, address_after, address_skipped_to, going_if, has_word};
+use crate::outcome::{Outcome, address_after, address_skipped_to, going_if};
 use crate::place::union_if;
-use crate::room::{Step, Way};
+use crate::room::Way;
 use crate::seen::Seen;
 use word12::{Link, Word};
 use wordset::{Links, WordSet};
@@ -93,6 +94,15 @@ fn part(word: Word, link: Link, skip: bool, ac: &WordSet) -> WordSet
     ac.minus(&passing)
 }
 
+/// The words that skip, or those that don't, in a place for them; the room for them is made here alone.
+#[inline(never)]
+fn put_part<'b>(word: Word, link: Link, skip: bool, held: &Seen, place: &'b mut Seen) -> &'b Seen
+    ensures { (v : ℕ) → v < 4096 → words result.now v ≡
+        (words held.now v && (if skips_of word v link then skip else not skip)) }
+{
+    place.put_set(&part(word, link, skip, &held.set()))
+}
+
 /// The words that CLA leaves.
 fn kept(word: Word, part: WordSet) -> WordSet
     ensures { SameWords (words result) (if has_bit 7 word then one 0 else words part) }
@@ -104,21 +114,37 @@ fn kept(word: Word, part: WordSet) -> WordSet
     }
 }
 
+/// What CLA leaves of some words, with any bits of the switches, in a place for them; the room for them
+/// is made here alone.
+#[inline(never)]
+fn put_switched<'b>(word: Word, part: &Seen, place: &'b mut Seen) -> &'b Seen
+    ensures { SameWords (words result.now)
+        (or_any 4095 (if has_bit 7 word then one 0 else words part.now)) }
+{
+    let left = kept(word, part.set());
+    place.put_set(&left.or_any(Word::from_index(0o7777)))
+}
+
 /// What is known after the test: CLA, then OSR, by which any bits may come in.
-fn after_test<'a>(word: Word, known: &Known<'a>, part: WordSet, step: &'a mut Step) -> Known<'a>
+fn after_test<'a>(
+    word: Word,
+    known: &Known<'a>,
+    part: &'a Seen,
+    place: &'a mut Seen,
+    list: &'a mut Equations,
+) -> Known<'a>
     requires room { length known.now.equations.now ≤ 32 }
     ensures { (f : said.Fact) (p : Words) → Agree (known_of known.now) f →
-        SameWords (words part) p →
+        SameWords (words part.now) p →
         Agree (known_of result) (related2 word p f) }
 {
     if reads_switches(word) {
-        let left = kept(word, part);
-        return known.with_ac(&Seen::of(left.or_any(Word::from_index(0o7777))), step);
+        return known.with_ac(put_switched(word, part, place), list);
     }
     if clears(word) {
-        return known.with_ac(&Seen::one(Word::ZERO), step);
+        return known.with_ac(place.put_one(Word::ZERO), list);
     }
-    known.same().holding(&Seen::of(part), step)
+    known.same().holding(part)
 }
 
 /// The next address, or the one after it.
@@ -152,17 +178,26 @@ pub(crate) fn branch<'a>(
     ensures { (f : said.Fact) → Agree (known_of known.now) f →
         AgreeingOutcomes (slot result) (operated2 at word f link skip) }
 {
-    let all = Seen::all();
-    let ac = known.narrowed(&Name::Accumulator);
-    let part = part(word, link, skip, &ac);
+    let Way {
+        all,
+        held,
+        read,
+        ac,
+        next,
+        first,
+        ..
+    } = way;
+    let held = known.left_in(&Name::Accumulator, held);
+    let part = put_part(word, link, skip, held, read);
+    let all = all.put_all();
     let linked = known.link.contains(link);
-    let held = has_word(&part);
+    let found = !part.is_empty();
     going_if(
-        both(linked, held),
-        &all,
-        known,
-        &all,
-        next_address(at, skip, &mut way.next),
-        after_test(word, known, part, &mut way.first).with_link(Links::one(link)),
+        both(linked, found),
+        all,
+        held,
+        all,
+        next_address(at, skip, next),
+        after_test(word, known, part, ac, first).with_link(Links::one(link)),
     )
 }

@@ -9,7 +9,7 @@ ghost use Rattle.facts.specs.Rows.{row_words, IsRow};
 ghost use Rattle.facts.specs.declared.tracking.TrackedCell.{TrackedCell as Whole};
 ghost use Rattle.facts.specs.Tracking.{tracked_of, held_words, tracked_cells, IsPlaceBelow};
 
-use crate::seen::Row;
+use crate::seen::{Row, Seen};
 use arrayvec::ArrayVec;
 use std::marker::Model;
 use word12::Word;
@@ -106,10 +106,16 @@ fn has_row(wider: &[TrackedCell], other: &Held, first: Word, last: Word) -> bool
 {
     match other {
         Held::Row(low, high) => *low <= first && last <= *high,
-        Held::Whole(place) => {
-            WordSet::range(first, last).is_subset(&wider[usize::from(*place)].set)
-        }
+        Held::Whole(place) => is_range_within(first, last, &wider[usize::from(*place)].set),
     }
+}
+
+/// Whether words in a row are all within a set; the room for them is made here alone.
+#[inline(never)]
+fn is_range_within(first: Word, last: Word, set: &WordSet) -> bool
+    ensures { IsTrue result ↔ IsWithin (between first last) (words set.now) }
+{
+    WordSet::range(first, last).is_subset(set)
 }
 
 /// Whether all words of a set are within those of a row, or of a cell that stands whole.
@@ -121,6 +127,32 @@ fn has_all(wider: &[TrackedCell], other: &Held, set: &WordSet) -> bool
         Held::Row(low, high) => set.is_subset(&WordSet::range(*low, *high)),
         Held::Whole(place) => set.is_subset(&wider[usize::from(*place)].set),
     }
+}
+
+/// Whether all of some words are within those of a row, or of a cell that stands whole.
+fn has_seen(wider: &[TrackedCell], other: &Held, seen: &Seen) -> bool
+    requires { IsPlaceBelow (length wider.now) other.now }
+    ensures { IsTrue result ↔ IsWithin (words seen.now) (held_words wider.now other.now) }
+{
+    if let Some(row) = seen.row() {
+        if let Held::Row(first, last) = other {
+            let wider = Row {
+                first: *first,
+                last: *last,
+            };
+            return row.is_within(&wider);
+        }
+    }
+    has_set(wider, other, seen)
+}
+
+/// The same, of sets; the room for them is made here alone.
+#[inline(never)]
+fn has_set(wider: &[TrackedCell], other: &Held, seen: &Seen) -> bool
+    requires { IsPlaceBelow (length wider.now) other.now }
+    ensures { IsTrue result ↔ IsWithin (words seen.now) (held_words wider.now other.now) }
+{
+    has_all(wider, other, &seen.set())
 }
 
 /// The words of a row, or of a cell that stands whole.
@@ -210,6 +242,18 @@ impl TrackedCells {
             self.whole.as_slice(),
             &self.entries.as_slice()[at].held,
             set,
+        )
+    }
+
+    /// Whether the one at a place may hold all of some words.
+    pub(crate) fn has_seen(&self, at: usize, seen: &Seen) -> bool
+        requires { at < length (tracked_cells self.now) }
+        ensures { IsTrue result ↔ IsWithin (words seen.now) (cell_at (tracked_cells self.now) at).set }
+    {
+        has_seen(
+            self.whole.as_slice(),
+            &self.entries.as_slice()[at].held,
+            seen,
         )
     }
 

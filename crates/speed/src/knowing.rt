@@ -2,7 +2,7 @@
 
 use bin_tape::Image;
 use declaration::Declaration;
-use facts::{Equation, Fact, Name, Outcome, OutcomeList, Place, Room, outcomes};
+use facts::{Equation, Fact, Name, Outcome, Place, Room, outcomes};
 use std::alloc::Allocator;
 use word12::{Link, Word};
 use wordset::Links;
@@ -67,6 +67,14 @@ fn hit(outcome: &Option<Outcome<'_>>, fact: &Fact) -> u64 {
     }
 }
 
+/// Whether the first of some outcomes goes on and entails a fact, as a number.
+fn hit_of(all: &[Option<Outcome<'_>>], fact: &Fact) -> u64 {
+    match all.first() {
+        None => 0,
+        Some(outcome) => hit(outcome, fact),
+    }
+}
+
 /// Whether the first outcome of TAD at an address entails a fact, as a number.
 fn first_hit<'a, A: Allocator>(
     fact: &'a Fact,
@@ -75,8 +83,8 @@ fn first_hit<'a, A: Allocator>(
     next: &Fact,
     room: &'a mut Room,
 ) -> u64 {
-    let OutcomeList { all } = outcomes(fact, at, word(TAD), place, room);
-    hit(&all[0], next)
+    let found = outcomes(fact, at, word(TAD), place, room);
+    hit_of(&found.all, next)
 }
 
 /// How many of so many outcomes entail a fact.

@@ -1,11 +1,11 @@
 use Rattle.std.proofs.Common.{◌∙◌}
 use Rattle.wordset.specs.Lanes.{words}
 use Rattle.facts.specs.Meaning.{known_of}
-use Rattle.facts.proofs.OutcomeLemmas.{goes_some, given_none, alive_agree}
+use Rattle.facts.proofs.OutcomeLemmas.{goes_some, given_none, alive_same}
 use Rattle.facts.proofs.outcome.going.Goals as goal
 
 pub returns : goal.returns
-returns c = λ p changes nexts f h e a s n b. goes_some (words c.args.next.now) nexts (known_of c.args.after) h c.if-not-is_alive.false (c.is_alive.ensures ∙ alive_agree e a s b) n b
+returns c = λ p changes nexts f h e a s n b. goes_some (words c.args.next.now) nexts (known_of c.args.after) h c.if-not-is_alive.false (c.is_alive.ensures f a ∙ alive_same f e s b) n b
 
 pub returns-then-not-is_alive : goal.returns-then-not-is_alive
-returns-then-not-is_alive c = λ p changes nexts f h e a s n b. given_none _ c.if-not-is_alive.true (c.is_alive.ensures ∙ alive_agree e a s b)
+returns-then-not-is_alive c = λ p changes nexts f h e a s n b. given_none _ c.if-not-is_alive.true (c.is_alive.ensures f a ∙ alive_same f e s b)

@@ -1,7 +1,8 @@
 use Rattle.std.proofs.Common.{◌≡◌, ◌∙◌, subst}
 use Rattle.std.specs.Prelude.{◌&&◌}
-use Rattle.wordset.specs.Words.{one, everything, plus, shifted, some_below, has_some, without}
-use Rattle.facts.specs.Facts.{Cell, Fact, narrowed}
+use Rattle.wordset.specs.Words.{SameWords, one, everything, plus, shifted, some_below, has_some, without}
+use Rattle.wordset.specs.Lanes.{words}
+use Rattle.facts.specs.Facts.{Ac, Cell, Fact, narrowed}
 use Rattle.facts.specs.Changes.{smeared}
 use Rattle.facts.specs.Outcomes.{alive, given, Goes}
 use Rattle.facts.specs.Same.{AgreeingOutcomes}
@@ -14,6 +15,7 @@ use Rattle.facts.proofs.references.count_several.Goals as goal
 
 pub returns : goal.returns
 returns c = λ pl f p h e.
+    let held : SameWords (words c.left_in-held.result.now) (narrowed f Ac) = λ v lt. c.left_in-held.ensures v lt ∙ narrowed_agree h Ac v lt in
     let after : Fact = smeared p (λ y. shifted (f.set (Cell y)) 1) f in
     let wraps : c.may_some_wrap-wraps.result ≡ some_below 4096 (λ y. p y && narrowed f (Cell y) 4095) =
     c.may_some_wrap-wraps.ensures ∙ both_same 4096 _ _ _ _ e (λ y l. narrowed_agree h (Cell y) 4095 lit_last) in
@@ -21,8 +23,8 @@ returns c = λ pl f p h e.
     c.may_some_stay-stays.ensures ∙ both_same 4096 _ _ _ _ e (λ y l. has_same (without_agree 4095 (narrowed_agree h (Cell y)))) in
     append_agree _ _ _ _
     (subst (λ b. AgreeingOutcomes (slot c.going_if-skips.result) (given (b && alive p f everything after) (Goes (one (plus c.args.at 2)) after))) wraps
-    (c.going_if-skips.ensures p everything (one (plus c.args.at 2)) f after e h (all_same c.all-all.ensures) c.address_skipped_to.ensures
+    (c.going_if-skips.ensures p everything (one (plus c.args.at 2)) f after e held (all_same c.put_all-all.ensures) c.address_skipped_to.ensures
     (agree_trans c.counted.ensures.same (smeared_agree h e (λ y. shifts_agree (h.sets (Cell y)))))))
     (subst (λ b. AgreeingOutcomes (slot c.going_if-goes_on.result) (given (b && alive p f everything after) (Goes (one (plus c.args.at 1)) after))) stays
-    (c.going_if-goes_on.ensures p everything (one (plus c.args.at 1)) f after e h (all_same c.all-all.ensures) c.address_after.ensures
+    (c.going_if-goes_on.ensures p everything (one (plus c.args.at 1)) f after e held (all_same c.put_all-all.ensures) c.address_after.ensures
     (agree_trans c.counted-2.ensures.same (smeared_agree h e (λ y. shifts_agree (h.sets (Cell y)))))))

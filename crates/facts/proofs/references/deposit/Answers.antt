@@ -1,4 +1,4 @@
-use Rattle.std.proofs.Common.{◌≡◌, ◌∙◌, Some, None, sym, ap, List, ℕ}
+use Rattle.std.proofs.Common.{◌≡◌, ◌∙◌, Some, None, sym}
 use Rattle.wordset.specs.Words.{SameWords, one, everything, only, plus}
 use Rattle.wordset.specs.Lanes.{words}
 use Rattle.facts.specs.Facts.{narrowed, Ac}
@@ -11,15 +11,15 @@ use Rattle.facts.proofs.references.deposit.Goals as goal
 pub returns-in-Some : goal.returns-in-Some
 returns-in-Some c = λ pl f p h e.
     let same : only p ≡ only (words c.args.targets.now) = sym (only_same _ _ e) in
-    let ac : SameWords (words c.left_to-ac.result) (narrowed f Ac) = λ v lt. c.left_to-ac.ensures v lt ∙ narrowed_agree h Ac v lt in
+    let ac : SameWords (words c.left_in-held.result.now) (narrowed f Ac) = λ v lt. c.left_in-held.ensures v lt ∙ narrowed_agree h Ac v lt in
     let some : only (words c.args.targets.now) ≡ Some c.in-Some.cell = sym c.requires.single ∙ c.in-Some.is in
-    rw (same, some) (c.going.ensures p (narrowed f Ac) (one (plus c.args.at 1)) f _ e h ac c.address_after.ensures
+    rw (same, some) (c.going.ensures p (narrowed f Ac) (one (plus c.args.at 1)) f _ e ac ac c.address_after-next.ensures
     (agree_trans c.deposited-after.ensures (deposited_words h c.in-Some.cell ac)))
 
 pub returns-in-None : goal.returns-in-None
 returns-in-None c = λ pl f p h e.
     let same : only p ≡ only (words c.args.targets.now) = sym (only_same _ _ e) in
-    let ac : SameWords (words c.left_to-ac.result) (narrowed f Ac) = λ v lt. c.left_to-ac.ensures v lt ∙ narrowed_agree h Ac v lt in
+    let ac : SameWords (words c.left_in-held.result.now) (narrowed f Ac) = λ v lt. c.left_in-held.ensures v lt ∙ narrowed_agree h Ac v lt in
     let none : only (words c.args.targets.now) ≡ None = sym c.requires.single ∙ c.in-None.is in
-    rw (same, none) (c.going-in-None.ensures p everything (one (plus c.args.at 1)) f _ e h (all_same c.all.ensures) c.address_after-in-None.ensures
-    (stored_words h e ac c.stored.ensures.same c.one.ensures c.with_ac-after.ensures.same))
+    rw (same, none) (c.going-in-None.ensures p everything (one (plus c.args.at 1)) f _ e ac (all_same c.put_all.ensures) c.address_after-next.ensures
+    (stored_words h e ac c.stored.ensures.same c.put_one-zero.ensures c.with_ac-after.ensures.same))

@@ -1,4 +1,4 @@
-use Rattle.std.proofs.Common.{refl, ap, sym, ◌∙◌, List, ℕ}
+use Rattle.std.proofs.Common.{refl, ap, sym, ◌∙◌}
 use Rattle.wordset.specs.Words.{Words, SameWords, one, ors}
 use Rattle.wordset.specs.Lanes.{words}
 use Rattle.instruct.specs.Operates.{Mql, Mqa, Swp, ClaMqa}

@@ -1,4 +1,4 @@
-use Rattle.std.proofs.Common.{◌∙◌, ap, List, ℕ}
+use Rattle.std.proofs.Common.{◌∙◌, ap}
 use Rattle.wordset.specs.Words.{SameWords, or_any}
 use Rattle.wordset.specs.Lanes.{words}
 use Rattle.facts.specs.Facts.{Ac, narrowed}
@@ -10,6 +10,6 @@ use Rattle.facts.proofs.registers.or_byte.Goals as goal
 
 pub returns : goal.returns
 returns c = λ f h.
-    let ac : SameWords (words c.narrowed-ac.result) (narrowed f Ac) = λ v lt. c.narrowed-ac.ensures v lt ∙ narrowed_agree h Ac v lt in
-    let set : SameWords (words c.of.result) (or_any 255 (narrowed f Ac)) = λ v lt. ap (λ (s : List ℕ). words s v) c.of.ensures ∙ c.or_any-byte.ensures v lt ∙ (ap (λ m. or_any m (words c.narrowed-ac.result) v) c.from_byte.ensures.same ∙ or_any_same 255 ac v lt) in
-    c.go_on.ensures f (assigned Ac (or_any 255 (narrowed f Ac)) f) h (agree_trans c.with_ac-after.ensures.same (assigned_agree Ac h set))
+    let ac : SameWords (words c.left_in-held.result.now) (narrowed f Ac) = λ v lt. c.left_in-held.ensures v lt ∙ narrowed_agree h Ac v lt in
+    let set : SameWords (words c.put_any-bytes.result.now) (or_any 255 (narrowed f Ac)) = λ v lt. c.put_any-bytes.ensures v lt ∙ (ap (λ m. or_any m (words c.left_in-held.result.now) v) c.from_byte.ensures.same ∙ or_any_same 255 ac v lt) in
+    c.go_on.ensures f (assigned Ac (or_any 255 (narrowed f Ac)) f) ac (agree_trans c.with_ac-after.ensures.same (assigned_agree Ac h set))

@@ -1,4 +1,4 @@
-use Rattle.std.proofs.Common.{◌∙◌, sym, ap, List, ℕ}
+use Rattle.std.proofs.Common.{◌∙◌, sym, ap}
 use Rattle.std.specs.Prelude.{if◌then◌else◌}
 use Rattle.instruct.specs.Bits.{has_bit}
 use Rattle.wordset.specs.Words.{Words, SameWords, one, or_any}
@@ -12,15 +12,13 @@ use Rattle.facts.proofs.skipping.after_test.Goals as goal
 
 pub returns-then-reads_switches : goal.returns-then-reads_switches
 returns-then-reads_switches c = λ f p h e.
-    let left : SameWords (words c.kept-left.result) (if has_bit 7 c.args.word then one 0 else p) = λ v lt. c.kept-left.ensures v lt ∙ kept_same c.args.word e v lt in
-    let set : SameWords (words c.of.result) (or_any 4095 (if has_bit 7 c.args.word then one 0 else p)) =
-    λ v lt. ap (λ (s : List ℕ). words s v) c.of.ensures ∙ c.or_any.ensures v lt ∙ (ap (λ m. or_any m (words c.kept-left.result) v) c.from_index.ensures ∙ or_any_same 4095 left v lt) in
+    let set : SameWords (words c.put_switched.result.now) (or_any 4095 (if has_bit 7 c.args.word then one 0 else p)) = λ v lt. c.put_switched.ensures v lt ∙ or_any_same 4095 (kept_same c.args.word e) v lt in
     related_ors c.args.word f p (sym c.reads_switches.ensures ∙ c.if-reads_switches.true) (agree_trans c.with_ac.ensures.same (assigned_agree Ac h set))
 
 pub returns-then-clears : goal.returns-then-clears
 returns-then-clears c = λ f p h e. related_cleared c.args.word f p (sym c.reads_switches.ensures ∙ c.if-reads_switches.false) (sym c.clears.ensures ∙ c.if-clears.true)
-    (agree_trans c.with_ac-then-clears.ensures.same (assigned_agree Ac h (λ v lt. ap (λ (x : Words). x v) c.one.ensures)))
+    (agree_trans c.with_ac-then-clears.ensures.same (assigned_agree Ac h (λ v lt. ap (λ (x : Words). x v) c.put_one.ensures)))
 
 pub returns : goal.returns
 returns c = λ f p h e. related_left c.args.word f p (sym c.reads_switches.ensures ∙ c.if-reads_switches.false) (sym c.clears.ensures ∙ c.if-clears.false)
-    (agree_trans c.holding.ensures (name_agree Ac (agree_trans c.same.ensures.same h) (λ v lt. ap (λ (s : List ℕ). words s v) c.of-2.ensures ∙ e v lt)))
+    (agree_trans c.holding.ensures (name_agree Ac (agree_trans c.same.ensures.same h) e))

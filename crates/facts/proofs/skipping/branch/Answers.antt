@@ -12,18 +12,18 @@ use Rattle.facts.specs.Meaning.{known_of}
 use Rattle.facts.proofs.PlaceLemmas.{all_same, and_both}
 use Rattle.facts.proofs.AgreeLemmas.{agree_trans, narrowed_agree}
 use Rattle.facts.proofs.ChangingLemmas.{link_agree}
-use Rattle.facts.proofs.OutcomeLemmas.{has_same}
+use Rattle.facts.proofs.OutcomeLemmas.{has_same, not_empty}
 use Rattle.facts.proofs.SkipLemmas.{chosen_agrees}
 use Rattle.facts.proofs.skipping.branch.Goals as goal
 
 pub returns : goal.returns
 returns c = λ f h.
-    let ac : SameWords (words c.narrowed-ac.result) (narrowed f Ac) = λ v lt. c.narrowed-ac.ensures v lt ∙ narrowed_agree h Ac v lt in
-    let part : SameWords (words c.part-part.result) (part2 c.args.word f c.args.link c.args.skip) =
-    λ v lt. c.part-part.ensures v lt ∙ ap (λ b. b && (if skips_of c.args.word v c.args.link then c.args.skip else not c.args.skip)) (ac v lt) in
+    let ac : SameWords (words c.left_in-held.result.now) (narrowed f Ac) = λ v lt. c.left_in-held.ensures v lt ∙ narrowed_agree h Ac v lt in
+    let part : SameWords (words c.put_part-part.result.now) (part2 c.args.word f c.args.link c.args.skip) =
+    λ v lt. c.put_part-part.ensures v lt ∙ ap (λ b. b && (if skips_of c.args.word v c.args.link then c.args.skip else not c.args.skip)) (ac v lt) in
     let after : Agree (known_of c.with_link.result) (with_link (one c.args.link) (related2 c.args.word (part2 c.args.word f c.args.link c.args.skip) f)) =
     agree_trans c.with_link.ensures (link_agree (c.after_test.ensures f (part2 c.args.word f c.args.link c.args.skip) h part) c.one.ensures) in
     let chosen : c.both.result ≡ (f.link c.args.link && has_some (part2 c.args.word f c.args.link c.args.skip)) =
-    c.both.ensures ∙ and_both (c.contains-linked.ensures ∙ h.link c.args.link c.requires.link) (c.has_word-held.ensures ∙ has_same part) in
+    c.both.ensures ∙ and_both (c.contains-linked.ensures ∙ h.link c.args.link c.requires.link) (not_empty c.is_empty-found.ensures ∙ has_same part) in
     chosen_agrees _ c.both.result (f.link c.args.link) (has_some (part2 c.args.word f c.args.link c.args.skip)) _ _ chosen
-    (c.going_if.ensures everything everything (one (next_pc c.args.at c.args.skip)) f _ (all_same c.all-all.ensures) h (all_same c.all-all.ensures) c.next_address.ensures after)
+    (c.going_if.ensures everything everything (one (next_pc c.args.at c.args.skip)) f _ (all_same c.put_all-all.ensures) ac (all_same c.put_all-all.ensures) c.next_address.ensures after)

@@ -7,8 +7,8 @@ use Rattle.facts.proofs.known.Known.deposited.Goals as goal
 
 pub returns : goal.returns
 returns c =
-    deposited_agree (known_of c.args.self.now) (known_of c.with_cell-put.result) (known_of c.told-told.result) (known_of c.with_ac.result) (words c.args.set.now) c.args.cell (copied c.args.cell (map equation_of c.args.self.now.equations.now)) (words c.one.result)
-    c.with_cell-put.ensures.same c.told-told.ensures.same c.one.ensures c.with_ac.ensures.same
+    deposited_agree (known_of c.args.self.now) (known_of c.with_cell-put.result) (known_of c.told-told.result) (known_of c.with_ac.result) (words c.args.set.now) c.args.cell (copied c.args.cell (map equation_of c.args.self.now.equations.now)) (words c.args.zero.now)
+    c.with_cell-put.ensures.same c.told-told.ensures.same c.requires.zero c.with_ac.ensures.same
 
 pub with_ac-requires : goal.with_ac-requires
 with_ac-requires c = record { room = omega (arith, c.told-told.ensures.len, c.with_cell-put.ensures.len, c.requires.room) }

@@ -1,6 +1,6 @@
 use Rattle.std.proofs.Common.{◌∙◌, ap, sym, refl}
 use Rattle.wordset.specs.Words.{Words}
-use Rattle.facts.proofs.EntailLemmas.{narrowed_inside, not_true, not_both, within_same, within_set, same_flip}
+use Rattle.facts.proofs.EntailLemmas.{narrowed_inside, not_true, not_both, within_set}
 use Rattle.facts.proofs.known.Known.entails_registers.Goals as goal
 
 pub returns-then-not-is_subset : goal.returns-then-not-is_subset
@@ -20,9 +20,9 @@ returns-then-is_within c = (
 pub returns : goal.returns
 returns c = (
   λ t. record {
-    ac = within_same (same_flip c.left_to.ensures) (within_set c.accumulator_seen-2.ensures (c.is_within-3.ensures.0 t));
+    ac = within_set c.accumulator_seen-2.ensures (c.is_left_within.ensures.0 t);
     mq = within_set c.mq_seen.ensures (c.is_within.ensures.0 c.if-not-is_within.false);
     link = λ k lt q. ap (λ (s : Words). s k) (sym c.link.ensures) ∙ c.is_subset.ensures.0 c.if-not-is_subset.false k lt q;
   },
-  λ r. c.is_within-3.ensures.1 (within_set (sym c.accumulator_seen-2.ensures) (within_same c.left_to.ensures r.ac)),
+  λ r. c.is_left_within.ensures.1 (within_set (sym c.accumulator_seen-2.ensures) r.ac),
 )

@@ -1,4 +1,4 @@
-use Rattle.std.proofs.Common.{◌≡◌, ◌∙◌, ap, refl}
+use Rattle.std.proofs.Common.{◌∙◌, ap, refl}
 use Rattle.std.specs.Prelude.{◌&&◌, map}
 use Rattle.facts.specs.Facts.{met_by, narrowed}
 use Rattle.facts.specs.Meaning.{known_of, name_of, equation_of, Meets}

@@ -4,7 +4,6 @@ use Rattle.facts.specs.Changes.{free_of}
 use Rattle.facts.specs.Meaning.{equation_of}
 use Rattle.facts.specs.declared.names.Equation.{Equation as CodeEquation}
 use Rattle.facts.specs.declared.names.Name.TheVariants.{Accumulator}
-use Rattle.facts.proofs.ChangeLemmas.{map_both}
 use Rattle.facts.proofs.ChangingLemmas.{summed_agrees}
 use Rattle.facts.proofs.known.Known.summed.Goals as goal
 
@@ -13,6 +12,5 @@ returns c =
     let first : List Equation = record { left = Ac; right = Cell c.args.cell; more = c.args.more } ∷ [] in
     let code : CodeEquation = record { left = Accumulator; right = c.args.cell; more = c.args.more } in
     let list : map equation_of c.push.new.self.items ≡ first = ap (map equation_of) (c.push.ensures.items ∙ ap (λ (xs : List CodeEquation). xs ++ code ∷ []) c.clear.ensures) in
-    let rest : map equation_of c.free.new.list.items ≡ free_of (λ m. same m Ac) (map equation_of c.args.self.now.equations.now) = c.free.ensures.list in
-    rw (← c.put.ensures) (summed_agrees c.args.self.now first c.put.result c.as_slice-2.result
-    (ap (map equation_of) (c.as_slice-2.ensures.value ∙ (c.add_all.ensures ∙ ap (λ (ys : List CodeEquation). c.push.new.self.items ++ ys) c.as_slice.ensures.value)) ∙ map_both c.push.new.self.items c.free.new.list.items first list ∙ ap (λ (es : List Equation). first ++ es) rest))
+    summed_agrees c.args.self.now first c.args.set c.as_slice.result
+    (ap (map equation_of) c.as_slice.ensures.value ∙ c.add_free.ensures.list ∙ ap (λ (es : List Equation). es ++ free_of (λ m. same m Ac) (map equation_of c.args.self.now.equations.now)) list)

@@ -2,4 +2,4 @@ use Rattle.facts.proofs.ChangingLemmas.{mq_agrees}
 use Rattle.facts.proofs.known.Known.with_mq.Goals as goal
 
 pub returns : goal.returns
-returns c = rw (← c.put.ensures) (mq_agrees c.args.self c.put.result)
+returns c = mq_agrees c.args.self c.args.set

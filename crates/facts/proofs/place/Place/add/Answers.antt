@@ -15,8 +15,8 @@ use Rattle.facts.proofs.place.Place.add.Goals as goal
 
 pub returns : goal.returns
 returns g c = λ f p h e.
-    let ac : SameWords (words c.left_to-ac.result) (narrowed f Ac) = λ v lt. c.left_to-ac.ensures v lt ∙ narrowed_agree h Ac v lt in
-    let seen : SameWords (words c.words_at-seen.result) (words_at (place_of c.args.self.now) f p) = λ v lt. c.words_at-seen.ensures v lt ∙ at_agree (place_of c.args.self.now) h e v lt in
+    let ac : SameWords (words c.left_in-held.result.now) (narrowed f Ac) = λ v lt. c.left_in-held.ensures v lt ∙ narrowed_agree h Ac v lt in
+    let seen : SameWords (words c.words_at-read.result.now) (words_at (place_of c.args.self.now) f p) = λ v lt. c.words_at-read.ensures v lt ∙ at_agree (place_of c.args.self.now) h e v lt in
     let set : SameWords (words c.put_sums-carries.new.self) (sums (narrowed f Ac) (words_at (place_of c.args.self.now) f p)) = λ v lt. c.put_sums-carries.ensures.words v lt ∙ sums_same ac seen v lt in
     let t : c.args.single.now ≡ only p = c.requires.single ∙ only_same _ _ e in
     let a : c.only.result ≡ only (narrowed f Ac) = c.only.ensures ∙ only_same _ _ ac in
@@ -25,5 +25,5 @@ returns g c = λ f p h e.
     λ k lt. c.toggled-links.ensures k lt ∙ toggled_same h.link (λ j l. c.put_sums-carries.ensures.carries j l ∙ carries_same ac seen j l) k lt in
     let sum : Agree (known_of c.after_tad-sum.result) (tad_case (place_of c.args.self.now) f (words_at (place_of c.args.self.now) f p) (only p) (only (narrowed f Ac)) (only (words_at (place_of c.args.self.now) f p))) =
     rw (← t, ← a, ← w) (c.after_tad-sum.ensures f (words_at (place_of c.args.self.now) f p) h set) in
-    c.going.ensures p everything (one (plus c.args.at 1)) f (tad_fact (place_of c.args.self.now) f p) e h (all_same c.all.ensures) c.address_after.ensures
+    c.going.ensures p everything (one (plus c.args.at 1)) f (tad_fact (place_of c.args.self.now) f p) e ac (all_same c.put_all.ensures) c.address_after.ensures
     (tad_agrees (place_of c.args.self.now) f p (known_of c.after_tad-sum.result) _ (links_of c.toggled-links.result) sum c.set_link.ensures links)

@@ -1,4 +1,4 @@
-use Rattle.std.proofs.Common.{◌≡◌, ◌⊎◌, true, sym, ◌∙◌, ◌<◌, subst}
+use Rattle.std.proofs.Common.{◌≡◌, ◌⊎◌, true, ◌<◌, subst}
 use Rattle.facts.specs.Places.{place_of}
 use Rattle.facts.proofs.OneTarget.{one_each, either_iff}
 use Rattle.facts.proofs.place.Place.is_declared.Goals as goal

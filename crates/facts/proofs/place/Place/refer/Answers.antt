@@ -12,13 +12,13 @@ use Rattle.facts.proofs.place.Place.refer.Goals as goal
 pub returns-then-steps_pointer : goal.returns-then-steps_pointer
 returns-then-steps_pointer g c = λ f h. c.refer_to.ensures f
     (rw (← c.refers_indirectly-indirect.ensures, ← c.target-named.ensures) (step_yes c.refers_indirectly-indirect.result c.target-named.result f (sym c.steps_pointer.ensures ∙ c.if-steps_pointer.true) (agree_trans c.stepped-seen.ensures.same (moved_agree (Cell c.target-named.result) 1 h))))
-    (rw (← c.refers_indirectly-indirect.ensures, ← c.target-named.ensures) (rw c.put-targets.ensures (c.reached.ensures f h)))
+    (rw (← c.refers_indirectly-indirect.ensures, ← c.target-named.ensures) (c.reached-targets.ensures f h))
 
 pub returns : goal.returns
 returns g c = λ f h. c.refer_to-2.ensures f
     (rw (← c.refers_indirectly-indirect.ensures, ← c.target-named.ensures) (step_no c.refers_indirectly-indirect.result c.target-named.result f (sym c.steps_pointer.ensures ∙ c.if-steps_pointer.false) h))
-    (rw (← c.refers_indirectly-indirect.ensures, ← c.target-named.ensures) (rw c.put-targets.ensures (c.reached.ensures f h)))
+    (rw (← c.refers_indirectly-indirect.ensures, ← c.target-named.ensures) (c.reached-targets.ensures f h))
 
 pub single_target-single-requires : goal.single_target-single-requires
-single_target-single-requires g c = λ direct. rw c.put-targets.ensures
-    (direct_target (place_of c.args.self.now) (known_of c.args.known.now) c.refers_indirectly-indirect.result c.target-named.result (words c.reached.result) direct (c.reached.ensures (known_of c.args.known.now) (agree_refl _)))
+single_target-single-requires g c = λ direct.
+    direct_target (place_of c.args.self.now) (known_of c.args.known.now) c.refers_indirectly-indirect.result c.target-named.result (words c.reached-targets.result.now) direct (c.reached-targets.ensures (known_of c.args.known.now) (agree_refl _))

@@ -1,5 +1,4 @@
-use Rattle.std.proofs.Common.{◌∙◌, ap, List, ℕ}
-use Rattle.wordset.specs.Lanes.{words}
+use Rattle.std.proofs.Common.{◌∙◌, ap}
 use Rattle.wordset.specs.Words.{Words}
 use Rattle.facts.specs.Meaning.{meaning}
 use Rattle.facts.proofs.place.Place.targets_seen.Goals as goal

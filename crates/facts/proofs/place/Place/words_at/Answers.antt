@@ -1,13 +1,11 @@
-use Rattle.std.proofs.Common.{◌∙◌, ◌&&◌, sym, ap, subst}
-use Rattle.wordset.specs.Words.{Words, some_below, one}
+use Rattle.std.proofs.Common.{◌∙◌, sym}
 use Rattle.wordset.specs.Lanes.{words}
-use Rattle.facts.specs.Facts.{words_in}
 use Rattle.facts.specs.Meaning.{known_of}
 use Rattle.facts.specs.Places.{place_of}
-use Rattle.facts.proofs.OneTarget.{only_has, only_is, words_of_only}
+use Rattle.facts.proofs.OneTarget.{words_of_only}
 use Rattle.facts.proofs.place.Place.words_at.Goals as goal
 
 pub returns-in-Some : goal.returns-in-Some
 returns-in-Some g c =
-    words_of_only (place_of c.args.self.now) (known_of c.args.known.now) (words c.args.cells.now) c.in-Some.cell (words c.words_in.result)
+    words_of_only (place_of c.args.self.now) (known_of c.args.known.now) (words c.args.cells.now) c.in-Some.cell (words c.words_in.result.now)
     (sym c.requires ∙ c.in-Some.is) c.words_in.ensures

@@ -1,4 +1,4 @@
-use Rattle.std.proofs.Common.{◌≡◌, ◌+◌, ◌∙◌, sym, ap, arith, List, ℕ}
+use Rattle.std.proofs.Common.{◌≡◌, ◌+◌, ◌∙◌, sym, ap, arith}
 use Rattle.std.specs.Prelude.{◌&&◌, ◌||◌}
 use Rattle.wordset.specs.Words.{Words, some_below, IsFirstFrom, HasNoneFrom}
 use Rattle.wordset.specs.Lanes.{words}
@@ -28,4 +28,4 @@ loop-cell-preserved g c =
 pub returns : goal.returns
 returns g c =
     let none : HasNoneFrom c.loop-cell.next (words c.args.cells.now) = c.in_default.ensures in
-    λ v h. some_last c.loop-cell.next (words c.args.cells.now) (λ a. words_in (place_of c.args.self.now) (known_of c.args.known.now) a v) (words c.loop-cell.set v) c.loop-cell.invariant.inside none (c.loop-cell.invariant.so_far v h)
+    λ v h. ap (λ (s : Words). s v) c.put_set.ensures ∙ some_last c.loop-cell.next (words c.args.cells.now) (λ a. words_in (place_of c.args.self.now) (known_of c.args.known.now) a v) (words c.loop-cell.set v) c.loop-cell.invariant.inside none (c.loop-cell.invariant.so_far v h)

@@ -1,4 +1,3 @@
-use Rattle.std.proofs.Common.{refl}
 use Rattle.facts.specs.Places.{place_of}
 use Rattle.facts.proofs.AskedLemmas.{writes_directly}
 use Rattle.facts.proofs.place.Place.written_directly.Goals as goal

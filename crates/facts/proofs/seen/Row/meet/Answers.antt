@@ -1,4 +1,3 @@
-use Rattle.std.proofs.Common.{◌≡◌, ◌∙◌}
 use Rattle.wordset.specs.Words.{between, meet}
 use Rattle.facts.specs.Rows.{row_words}
 use Rattle.facts.proofs.RowLemmas.{row_same, meet_rows}

@@ -1,6 +1,6 @@
-use Rattle.std.proofs.Common.{◌≡◌, ◌<◌, ◌≤◌, ◌+◌, ◌%◌, ◌⊎◌, inl, inr, arith}
+use Rattle.std.proofs.Common.{◌<◌, ◌≤◌, ◌+◌, ◌⊎◌, inl, inr, arith}
 use Rattle.wordset.specs.Words.{between, shifted}
-use Rattle.facts.specs.Rows.{row_words, IsRow}
+use Rattle.facts.specs.Rows.{row_words}
 use Rattle.facts.proofs.RowLemmas.{row_same, shift_row, shift_all}
 use Rattle.facts.proofs.seen.Row.shift.Goals as goal
 use Rattle.facts.proofs.seen.Row.shift.Goals.{else-first-by-lt4096-via-then-first-by-lt4096+else-last-by-ge4096, else-first-by-lt4096-via-else-first-by-lt4096}

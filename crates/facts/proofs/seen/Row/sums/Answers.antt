@@ -1,5 +1,4 @@
-use Rattle.std.proofs.Common.{◌≡◌, ◌<◌, ◌≤◌, ◌+◌, ◌%◌, ◌⊎◌, inl, inr, arith}
-use Rattle.facts.specs.Rows.{IsRow}
+use Rattle.std.proofs.Common.{◌<◌, ◌≤◌, ◌+◌, ◌⊎◌, inl, inr, arith}
 use Rattle.facts.proofs.RowLemmas.{row_sums, row_carries}
 use Rattle.facts.proofs.seen.Row.sums.Goals as goal
 use Rattle.facts.proofs.seen.Row.sums.Goals.{else-least-lt4096-via-then-least-lt4096+else-most-ge4096, else-least-lt4096-via-else-least-lt4096}

@@ -1,4 +1,3 @@
-use Rattle.std.proofs.Common.{◌∙◌}
 use Rattle.wordset.specs.Lanes.{words}
 use Rattle.facts.proofs.RowLemmas.{within_rows}
 use Rattle.facts.proofs.seen.Seen.is_within.Goals as goal

@@ -1,8 +1,7 @@
-use Rattle.std.proofs.Common.{◌≡◌, ◌∙◌, ap, Bool, true, false, not, refl, List, arith}
+use Rattle.std.proofs.Common.{◌≡◌, ◌∙◌, ap, Bool, true, false, not, refl}
 use Rattle.facts.specs.Statements.{tracked}
 use Rattle.facts.specs.Rows.{row_words}
 use Rattle.facts.specs.Tracking.{Kept, tracked_cells}
-use Rattle.facts.specs.declared.tracking.Entry.{Entry}
 use Rattle.facts.proofs.TrackingLemmas.{same_cells, entry_met, entry_passed, met_end}
 use Rattle.facts.proofs.tracking.TrackedCells.row_of.Goals as goal
 

@@ -24,7 +24,7 @@ use Rattle.pal_acts.specs.Acts.{PlacedAct}
 use Rattle.pal_acts.specs.Values.{same, Values, in_table, term_value, joined, value_after, value}
 use Rattle.pal_acts.specs.Meaning.{location_after, location, Defines}
 use Rattle.pal_acts.specs.Words.{Marked, is_indirect, is_zero, is_reference, after_indirect, after_zero, marks, addressed, referring, base, reference, word_value, word_of}
-use Rattle.pal_acts.specs.Faults.{giving_table, assign_table, after}
+use Rattle.pal_acts.proofs.Faulted.{giving_table, assign_table, after}
 use Rattle.pal_acts.specs.Sources.{with_word, words, last_at, IsSource}
 use Rattle.pal_acts.proofs.Unique.{stood, Before, none_left}
 

@@ -1,5 +1,5 @@
 -- One act after another: the private contracts of the calls below `assemble`.
-use Rattle.std.specs.Prelude.{◌≡◌, ℕ, ◌+◌, List, ◌∷◌, length, reverse, Option, Some, None, Ok, Err}
+use Rattle.std.specs.Prelude.{◌≡◌, ℕ, ◌+◌, List, ◌∷◌, length, reverse, Option, Some, None, Result, Ok, Err}
 use Rattle.pal_text.specs.declared.names.Name.{Name}
 use Rattle.pal_acts.specs.declared.act.PlacedWord.{PlacedWord}
 use Rattle.pal_acts.specs.declared.code.Code.{Code}
@@ -14,10 +14,10 @@ use Rattle.pal_acts.specs.Words.{word_of}
 use Rattle.pal_acts.specs.Sources.{Encodes, words, IsImage}
 use Rattle.pal_acts.specs.Faults.{Stops, AsksForMemory, Finds, AsksForWord}
 
--- A refusal by this fault; or memory was refused where there is no fault and the symbols become one more.
-abbrev pub IsFault : ℕ → Option Code → List (Name × ℕ) → Refusal → Type 0
-IsFault count f new (refusal.Fault code) = f ≡ Some code
-IsFault count f new refusal.NoMemory = (f ≡ None) × (length new ≡ count + 1)
+-- A refusal by the fault in place of symbols; or memory was refused where they become one more.
+abbrev pub IsFault : ℕ → Result (List (Name × ℕ)) Code → Refusal → Type 0
+IsFault count taken (refusal.Fault code) = taken ≡ Err code
+IsFault count taken refusal.NoMemory = (new : List (Name × ℕ)) × (taken ≡ Ok new) × (length new ≡ count + 1)
 
 -- The acts are refused before their words are looked at.
 abbrev pub StopsBy : List (Name × ℕ) → ℕ → List PlacedAct → Refused → Type 0

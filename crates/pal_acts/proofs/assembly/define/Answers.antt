@@ -4,7 +4,7 @@ use Rattle.std.specs.Prelude.{reverse}
 use Rattle.std.proofs.lemmas.List.{take_all}
 use Rattle.pal_acts.specs.Acts.{PlacedAct, shown}
 use Rattle.pal_acts.specs.Meaning.{Defines}
-use Rattle.pal_acts.specs.Faults.{fault, after}
+use Rattle.pal_acts.specs.Faults.{taken}
 use Rattle.pal_acts.proofs.Places.{Comes, goes_on, turned_more, split_at, defines_none}
 use Rattle.pal_acts.proofs.assembly.define.Goals as goal
 
@@ -19,7 +19,7 @@ loop-at-preserved g c =
     let m = turned_more acts c.loop-at.at next within c.get-next.ensures in
     let kept : c.act.new.self.permanent.now.entries ≡ c.loop-at.symbols.permanent.now.entries = ap (λ b. b.now.entries) c.act.ensures.permanent in
     let on = goes_on c.loop-at.symbols.permanent.now.entries 1024 (reverse (take c.loop-at.at acts)) next c.loop-at.symbols.own.entries c.act.new.self.own.entries c.loop-at.here c.act.new.here
-    (record { defines = c.loop-at.invariant.0; here_is = c.loop-at.invariant.1 }) c.in-Ok.ensures.sound c.in-Ok.ensures.symbols c.in-Ok.ensures.location in
+    (record { defines = c.loop-at.invariant.0; here_is = c.loop-at.invariant.1 }) c.in-Ok.ensures.taken c.in-Ok.ensures.location in
     let P : List (Name × ℕ) → Type 0 = λ p. Comes p 1024 (next ∷ reverse (take c.loop-at.at acts)) c.act.new.self.own.entries c.act.new.here in
     let on' : P c.act.new.self.permanent.now.entries = subst P (sym kept) on in
     rw m (on'.defines, on'.here_is, kept ∙ c.loop-at.invariant.2)
@@ -46,7 +46,7 @@ returns-in-Err-Fault-clause-refused g c =
         (
           c.loop-at.symbols.own.entries,
           c.loop-at.invariant.0,
-          ap (λ l. fault c.loop-at.symbols.permanent.now.entries 1024 c.loop-at.symbols.own.entries l next.terms next.act) (sym c.loop-at.invariant.1) ∙ e,
+          ap (λ l. taken c.loop-at.symbols.permanent.now.entries 1024 c.loop-at.symbols.own.entries l next.terms next.act) (sym c.loop-at.invariant.1) ∙ e,
         ),
       );
     }))
@@ -65,8 +65,9 @@ returns-in-Err-NoMemory-clause-refused g c =
       parts = split_at acts c.loop-at.at next within c.get-next.ensures;
       such = (
         c.loop-at.symbols.own.entries,
+        asks.0,
         c.loop-at.invariant.0,
-        ap (λ l. fault c.loop-at.symbols.permanent.now.entries 1024 c.loop-at.symbols.own.entries l next.terms next.act) (sym c.loop-at.invariant.1) ∙ asks.0,
-        ap (λ l. length (after c.loop-at.symbols.permanent.now.entries 1024 c.loop-at.symbols.own.entries l next.terms next.act)) (sym c.loop-at.invariant.1) ∙ asks.1,
+        ap (λ l. taken c.loop-at.symbols.permanent.now.entries 1024 c.loop-at.symbols.own.entries l next.terms next.act) (sym c.loop-at.invariant.1) ∙ asks.1,
+        asks.2,
       );
     })

@@ -10,7 +10,8 @@ use Rattle.pal_acts.specs.declared.assembly.Refused.TheVariants.{Fault, NoMemory
 use Rattle.pal_acts.specs.Acts.{PlacedAct}
 use Rattle.pal_acts.specs.Values.{Values}
 use Rattle.pal_acts.specs.Meaning.{location}
-use Rattle.pal_acts.specs.Words.{word_of}
+use Rattle.pal_acts.specs.declared.words.Marks.{Marks}
+use Rattle.pal_acts.specs.Words.{Marked, marked, word_of}
 use Rattle.pal_acts.specs.Sources.{Encodes, words, IsImage}
 use Rattle.pal_acts.specs.Faults.{Stops, AsksForMemory, Finds, AsksForWord}
 
@@ -53,3 +54,7 @@ Keeps σ next kept here kept' here' = (before : List PlacedAct) → here ≡ loc
 abbrev pub BreaksKeeping : Values → ℕ → PlacedAct → Refused → Type 0
 BreaksKeeping σ here next (Fault place code) = (place ≡ next.place) × (word_of σ here next.terms next.act ≡ Some (Err code))
 BreaksKeeping σ here next NoMemory = (w : ℕ) × (word_of σ here next.terms next.act ≡ Some (Ok w))
+
+-- What follows an operation that takes an address, as it is lent.
+abbrev pub marks_in : Marks → Marked
+marks_in m = marked m.indirect m.zero m.address.now

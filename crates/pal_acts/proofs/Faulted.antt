@@ -7,9 +7,9 @@ use Rattle.pal_acts.specs.declared.act.Act.TheVariants as act
 use Rattle.pal_acts.specs.declared.code.Code.{Code}
 use Rattle.pal_acts.specs.declared.code.Code.TheVariants.{Redefined, DuplicateTag, Undefined, TableFull, PauseInLastPart}
 use Rattle.pal_acts.specs.Acts.{PlacedAct}
-use Rattle.pal_acts.specs.Values.{known, value}
+use Rattle.pal_acts.specs.Values.{known, value, needed}
 use Rattle.pal_acts.specs.Meaning.{location}
-use Rattle.pal_acts.specs.Faults.{given, with_value, taken, next_taken}
+use Rattle.pal_acts.specs.Faults.{given, taken, next_taken}
 
 -- the fault of giving a value to a name that has this one or none, where so many symbols are defined: another value has
 -- the given code, and a new name may find the table full.
@@ -77,15 +77,15 @@ given_is code limit own n None v = both_if (nat_lt (length own) limit) (own ++ (
 given_is code limit own n (Some w) v = both_if (nat_eq w v) own code
 
 module _ (permanent : List (Name × ℕ)) (limit : ℕ) (own : List (Name × ℕ)) where
-  origin_is : (o : Option ℕ) → with_value o (λ v. Ok own) ≡ both (origin_fault o) own
+  origin_is : (o : Option ℕ) → needed o (λ v. Ok own) ≡ both (origin_fault o) own
   origin_is None = refl
   origin_is (Some v) = refl
 
-  assign_is : (n : Name) (o : Option ℕ) → with_value o (given Redefined limit own n (known permanent own n)) ≡ both (assign_fault permanent limit own n o) (assign_table permanent limit own n o)
+  assign_is : (n : Name) (o : Option ℕ) → needed o (given Redefined limit own n (known permanent own n)) ≡ both (assign_fault permanent limit own n o) (assign_table permanent limit own n o)
   assign_is n None = refl
   assign_is n (Some v) = given_is Redefined limit own n (known permanent own n) v
 
-  direction_is : (o : Option ℕ) → with_value o (λ v. Err Redefined) ≡ both (Some (direction_fault o)) own
+  direction_is : (o : Option ℕ) → needed o (λ v. Err Redefined) ≡ both (Some (direction_fault o)) own
   direction_is None = refl
   direction_is (Some v) = refl
 

@@ -6,11 +6,11 @@ use Rattle.pal_acts.specs.declared.act.Act.{Act}
 use Rattle.pal_acts.specs.declared.act.Act.TheVariants as act
 use Rattle.pal_acts.specs.declared.act.Place.{Place}
 use Rattle.pal_acts.specs.declared.code.Code.{Code}
-use Rattle.pal_acts.specs.declared.code.Code.TheVariants.{Redefined, DuplicateTag, Undefined, TableFull, PauseInLastPart}
+use Rattle.pal_acts.specs.declared.code.Code.TheVariants.{Redefined, DuplicateTag, TableFull, PauseInLastPart}
 use Rattle.pal_acts.specs.declared.assembly.Refused.{Refused}
 use Rattle.pal_acts.specs.declared.assembly.Refused.TheVariants.{Fault, NoMemory}
 use Rattle.pal_acts.specs.Acts.{PlacedAct}
-use Rattle.pal_acts.specs.Values.{Values, known, value}
+use Rattle.pal_acts.specs.Values.{Values, known, value, needed}
 use Rattle.pal_acts.specs.Meaning.{location, Defines}
 use Rattle.pal_acts.specs.Words.{word_of}
 use Rattle.pal_acts.specs.Sources.{Encodes}
@@ -21,20 +21,15 @@ abbrev pub given : Code → ℕ → List (Name × ℕ) → Name → Option ℕ �
 given code limit own n None v = if nat_lt (length own) limit then Ok (own ++ (n, v) ∷ []) else Err TableFull
 given code limit own n (Some w) v = if nat_eq w v then Ok own else Err code
 
--- What a value gives; without one a symbol is undefined.
-abbrev pub with_value : Option ℕ → (ℕ → Result (List (Name × ℕ)) Code) → Result (List (Name × ℕ)) Code
-with_value None f = Err Undefined
-with_value (Some v) f = f v
-
 module _ (permanent : List (Name × ℕ)) (limit : ℕ) (own : List (Name × ℕ)) where
   -- The own symbols after an act at this location, where these are those before it, or its fault. That of a word is looked
   -- for later. A direction can't be given a value.
   abbrev pub taken : ℕ → List Join → Act → Result (List (Name × ℕ)) Code
   taken here e (act.Wrong c) = Err c
   taken here e (act.Tag n) = given DuplicateTag limit own n (known permanent own n) here
-  taken here e act.Origin = with_value (value (known permanent own) here e) (λ v. Ok own)
-  taken here e (act.Assign n) = with_value (value (known permanent own) here e) (given Redefined limit own n (known permanent own n))
-  taken here e act.AssignDirection = with_value (value (known permanent own) here e) (λ v. Err Redefined)
+  taken here e act.Origin = needed (value (known permanent own) here e) (λ v. Ok own)
+  taken here e (act.Assign n) = needed (value (known permanent own) here e) (given Redefined limit own n (known permanent own n))
+  taken here e act.AssignDirection = needed (value (known permanent own) here e) (λ v. Err Redefined)
   taken here e act.Word = Ok own
   taken here e act.LastPause = Err PauseInLastPart
 

@@ -1,9 +1,9 @@
 //! The word that an expression is.
 
-ghost use Rattle.std.specs.Prelude.{◌≡◌, [], ◌∷◌};
+ghost use Rattle.std.specs.Prelude.{◌≡◌};
 ghost use Rattle.std.specs.List.{list_any};
 ghost use Rattle.pal_acts.specs.Values.{same, term_value, known};
-ghost use Rattle.pal_acts.specs.Words.{joins_one_of, is_indirect, is_zero, is_reference, references, marked, marks, addressed, reference, word_value};
+ghost use Rattle.pal_acts.specs.Words.{joins_one_of, is_mark, references, marked, marks, addressed, reference, word_value};
 ghost use Rattle.pal_acts.specs.Steps.{marks_in};
 
 use crate::act::{Join, Name, Sign, Term};
@@ -84,7 +84,7 @@ fn takes_address(name: Name) -> bool
 
 /// Whether a term begins an expression or follows a space, and is this symbol.
 fn is_mark(mark: Name, join: &Join) -> bool
-    ensures { result ≡ joins_one_of (mark ∷ []) join.now }
+    ensures { result ≡ is_mark mark join.now }
 {
     match (join.sign, join.term) {
         (Sign::Or, Term::Symbol(name)) => name == mark,
@@ -92,20 +92,8 @@ fn is_mark(mark: Name, join: &Join) -> bool
     }
 }
 
-fn indirect(join: &Join) -> bool
-    ensures { result ≡ is_indirect join.now }
-{
-    is_mark(INDIRECT, join)
-}
-
-fn zero_page(join: &Join) -> bool
-    ensures { result ≡ is_zero join.now }
-{
-    is_mark(ZERO_PAGE, join)
-}
-
 fn refers(join: &Join) -> bool
-    ensures { result ≡ is_reference join.now }
+    ensures { result ≡ joins_one_of references join.now }
 {
     match (join.sign, join.term) {
         (Sign::Or, Term::Symbol(name)) => takes_address(name),
@@ -118,12 +106,12 @@ fn marks_of<'t>(joins: &'t [Join]) -> Marks<'t>
     ensures { marks_in result ≡ marks joins.now }
 {
     match joins {
-        [first, rest @ ..] if indirect(first) => match rest {
-            [second, address @ ..] if zero_page(second) => Marks::new(true, true, address),
+        [first, rest @ ..] if is_mark(INDIRECT, first) => match rest {
+            [second, address @ ..] if is_mark(ZERO_PAGE, second) => Marks::new(true, true, address),
             address => Marks::new(true, false, address),
         },
-        [first, rest @ ..] if zero_page(first) => match rest {
-            [second, address @ ..] if indirect(second) => Marks::new(true, true, address),
+        [first, rest @ ..] if is_mark(ZERO_PAGE, first) => match rest {
+            [second, address @ ..] if is_mark(INDIRECT, second) => Marks::new(true, true, address),
             address => Marks::new(false, true, address),
         },
         address => Marks::new(false, false, address),

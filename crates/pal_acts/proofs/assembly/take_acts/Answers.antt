@@ -6,10 +6,10 @@ use Rattle.pal_acts.specs.Acts.{PlacedAct, shown}
 use Rattle.pal_acts.specs.Meaning.{Defines}
 use Rattle.pal_acts.specs.Faults.{taken}
 use Rattle.pal_acts.proofs.Places.{Comes, goes_on, turned_more, split_at, defines_none}
-use Rattle.pal_acts.proofs.assembly.define.Goals as goal
+use Rattle.pal_acts.proofs.assembly.take_acts.Goals as goal
 
 pub loop-at-init : goal.loop-at-init
-loop-at-init g c = rw c.new-symbols.ensures.none (defines_none _ 1024, c.from_index-here.ensures, c.new-symbols.ensures.permanent)
+loop-at-init g c = rw c.requires (defines_none _ 1024, c.from_index-here.ensures, refl)
 
 pub loop-at-preserved : goal.loop-at-preserved
 loop-at-preserved g c =
@@ -35,7 +35,7 @@ returns-in-Err-Fault-clause-refused g c =
     let within : c.loop-at.at < length acts = omega arith in
     let next : PlacedAct = shown c.get-next.result in
     let e = rw c.in-Err-Fault.field-0-is at c.in-Err-Fault.ensures.refused in
-    let kept : c.loop-at.symbols.permanent.now.entries ≡ c.args.permanent.now.entries = c.loop-at.invariant.2 in
+    let kept : c.loop-at.symbols.permanent.now.entries ≡ c.args.symbols.now.permanent.now.entries = c.loop-at.invariant.2 in
     rw c.in-Err-Fault.field-0-is (rw (← kept) (record {
       earlier = reverse (take c.loop-at.at acts);
       next = next;
@@ -56,7 +56,7 @@ returns-in-Err-NoMemory-clause-refused g c =
     let acts : List PlacedAct = c.args.acts.now in
     let within : c.loop-at.at < length acts = omega arith in
     let next : PlacedAct = shown c.get-next.result in
-    let kept : c.loop-at.symbols.permanent.now.entries ≡ c.args.permanent.now.entries = c.loop-at.invariant.2 in
+    let kept : c.loop-at.symbols.permanent.now.entries ≡ c.args.symbols.now.permanent.now.entries = c.loop-at.invariant.2 in
     let asks = rw c.in-Err-NoMemory.field-0-is at c.in-Err-NoMemory.ensures.refused in
     rw (← kept) (record {
       earlier = reverse (take c.loop-at.at acts);

@@ -74,7 +74,10 @@ fn the_first_line_without_a_form_is_named(rt: HostRuntime) -> Result<(), Fail> {
     for (source, line) in &FORMLESS {
         match statements(rt.alloc(), source) {
             Ok(_) => assert!(rt; false),
-            Err(fault) => assert_eq!(rt; fault, TextFault::Illegal(*line)),
+            Err(fault) => {
+                let expected = TextFault::Statement(StatementFault::Illegal(*line));
+                assert_eq!(rt; fault, expected);
+            }
         }
     }
     Ok(())

@@ -9,3 +9,4 @@ pub mod First
 pub mod Bounds
 pub mod Told
 pub mod PermanentLemmas
+pub mod Worded

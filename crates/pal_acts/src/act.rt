@@ -5,7 +5,7 @@ pub use pal_text::Name;
 use word12::Word;
 
 /// How a term joins what stands before it.
-#[derive(Clone, Copy, PartialEq, Eq, Debug)]
+#[derive(Clone, Copy)]
 pub enum Sign {
     /// The sum, modulo 4096.
     Plus,
@@ -16,7 +16,7 @@ pub enum Sign {
 }
 
 /// A term of an expression.
-#[derive(Clone, Copy, PartialEq, Eq, Debug)]
+#[derive(Clone, Copy)]
 pub enum Term {
     /// A number.
     Number(Word),
@@ -27,14 +27,14 @@ pub enum Term {
 }
 
 /// A term, and how it joins what stands before it; an expression is a list of these.
-#[derive(Clone, Copy, PartialEq, Eq, Debug)]
+#[derive(Clone, Copy)]
 pub struct Join {
     pub sign: Sign,
     pub term: Term,
 }
 
 /// One thing that a source does. The terms of its expression stand beside it.
-#[derive(Clone, Copy, PartialEq, Eq, Debug)]
+#[derive(Clone, Copy)]
 pub enum Act {
     /// It is wrong by itself: a form, a digit, a number, or DECIMAL, OCTAL or PAUSE as a tag.
     Wrong(Code),

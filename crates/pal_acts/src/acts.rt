@@ -18,14 +18,14 @@ pub struct Placed<'t> {
 
 /// Where the terms of an expression lie among those of all: from `first` up to the one before
 /// `last`.
-#[derive(Clone, Copy, PartialEq, Eq, Debug)]
+#[derive(Clone, Copy)]
 struct Span {
     first: usize,
     last: usize,
 }
 
 /// An act as it is kept.
-#[derive(Clone, Copy, PartialEq, Eq, Debug)]
+#[derive(Clone, Copy)]
 struct Kept {
     place: Place,
     act: Act,

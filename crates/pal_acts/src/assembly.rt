@@ -21,7 +21,7 @@ use std::alloc::Allocator;
 use word12::Word;
 
 /// Why a source is refused.
-#[derive(Clone, Copy, Debug, PartialEq, Eq)]
+#[derive(Clone, Copy, PartialEq, Eq)]
 pub enum Refused {
     /// An act at this place has this fault, the first of the source.
     Fault(Place, Code),

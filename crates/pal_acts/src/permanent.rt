@@ -1,6 +1,6 @@
 //! The permanent symbols of both profiles.
 
-ghost use Rattle.std.specs.Prelude.{◌≡◌, IfOk, [], map};
+ghost use Rattle.std.specs.Prelude.{◌≡◌, IfOk, OnOk, [], map};
 ghost use Rattle.indexmap.specs.IndexMap.{insert_all};
 ghost use Rattle.pal_acts.specs.Values.{same};
 ghost use Rattle.pal_acts.specs.Permanent.{permanent_symbols, listed};
@@ -78,7 +78,21 @@ const SYMBOLS: [([u8; 6], usize); ALL] = [
     (*b"TFL   ", 0o6040),
 ];
 
-/// Symbols with their values as words, put into a table one after another.
+/// Puts symbols with their values as words into a table, one after another.
+fn fill<A: Allocator + Copy>(
+    table: &mut SymbolTable<A>,
+    symbols: &[([u8; 6], usize)],
+) -> Result<(), AllocError>
+    ensures { OnOk result (table.new.entries ≡
+        insert_all same table.old.entries (map listed symbols.now)) }
+{
+    for (letters, value) in symbols {
+        table.insert(Name { letters: *letters }, Word::from_index(*value % 4096))?;
+    }
+    Ok(())
+}
+
+/// A table of symbols with their values as words.
 fn table_of<A: Allocator + Copy>(
     alloc: A,
     symbols: &[([u8; 6], usize)],
@@ -86,9 +100,7 @@ fn table_of<A: Allocator + Copy>(
     ensures { IfOk result (λ table. table.entries ≡ insert_all same [] (map listed symbols.now)) }
 {
     let mut table = IndexMap::with_capacity(alloc, symbols.len())?;
-    for (letters, value) in symbols {
-        table.insert(Name { letters: *letters }, Word::from_index(*value % 4096))?;
-    }
+    fill(&mut table, symbols)?;
     Ok(table)
 }
 

@@ -17,7 +17,7 @@ use word12::Word;
 pub const MOST_SYMBOLS: usize = 1024;
 
 /// Why an act is refused.
-#[derive(Clone, Copy, Debug, PartialEq, Eq)]
+#[derive(Clone, Copy)]
 pub(crate) enum Refusal {
     Fault(Code),
     NoMemory,

@@ -16,3 +16,4 @@ pub mod OneListing
 pub mod Lined
 pub mod StandsOn
 pub mod Listed
+pub mod Written

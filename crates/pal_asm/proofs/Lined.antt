@@ -10,8 +10,8 @@ use Rattle.pal_text.specs.declared.tokens.Kind.{Kind}
 use Rattle.pal_text.specs.declared.tokens.Kind.TheVariants.{Symbol, Number, Mixed, Space, End, Dollar}
 use Rattle.pal_text.specs.declared.tokens.Token.{Token}
 use Rattle.pal_text.specs.declared.lines.Line.{Line}
-use Rattle.pal_text.specs.Characters.{line, line_by, in_comment, meaning_after}
-use Rattle.pal_text.specs.Lines.{line_start, begun_by, is_begun, line_of, lines_by, ended_lines, lines}
+use Rattle.pal_text.specs.Characters.{line, in_comment, meaning_after}
+use Rattle.pal_text.specs.Lines.{line_start, is_begun, line_of, ended_lines, lines}
 use Rattle.pal_text.specs.Tokens.{is_space, absorbs, longer, token, kind_of, end_token}
 use Rattle.pal_text.specs.Adding.{with_kind, without_space, joined, one_or_both, added, grown, tokens, ended, all_read}
 use Rattle.pal_text.specs.Names.{with_name, named, part_tokens}
@@ -20,6 +20,7 @@ use Rattle.pal_text.specs.Statements.{is_end}
 use Rattle.pal_text.proofs.Apart.{added_end}
 use Rattle.pal_text.proofs.CountedLemmas.{part_are}
 use Rattle.pal_text.proofs.Fronts.{next_front}
+use Rattle.pal_text.proofs.ByMeaning.{begun_by, line_by, lines_by}
 
 -- ---- how many lines bytes have; the newest byte is first
 

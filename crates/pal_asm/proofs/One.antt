@@ -163,16 +163,57 @@ pub told_so : (perm : List (Name × ℕ)) (acts : List PlacedAct) (r : Refused) 
 told_so perm acts (refused.Fault place code) h = h
 told_so perm acts refused.NoMemory h = tt
 
--- a refusal for want of memory is one of every source
-pub silent_refuses : {X : Type 0} (perm : List (Name × ℕ)) (parts : List (List ℕ)) (r : Result X AssembleFault) → IfErr r (λ e. e ≡ NoMemory) → IfErr r (Refuses perm parts)
-silent_refuses perm parts (Ok x) h = tt
-silent_refuses perm parts (Err e) h = subst (Refuses perm parts) (sym h) tt
+-- of an answer what follows from what is known of it
+one : {X : Type 0} (r : Result X AssembleFault) {P Q : X → Type 0} → IfOk r P → ((x : X) → P x → Q x) → IfOk r Q
+one (Ok x) h f = f x h
+one (Err e) h f = tt
 
--- what is true of the words that were found is true of all words
-pub by_words : {X : Type 0} (perm : List (Name × ℕ)) (parts : List (List ℕ)) (r : Result X AssembleFault) (symbols : X → List (Name × ℕ)) (text : X → List ℕ) (permanent own : List (Name × ℕ)) (acts : List PlacedAct) (lines : List TextLine) (ws : List PlacedWord)
-    → permanent ≡ perm → Reads 1 Octal parts acts lines → ws ≡ all_words (known permanent own) acts → IfOk r (λ p. symbols p ≡ own) → IfOk r (λ p. text p ≡ turns_text lines ws ++ codes "\n" ++ symbols_text own)
-    → IfOk r (λ p. Lists perm parts (symbols p) (text p))
-by_words perm parts (Ok p) symbols text permanent own acts lines ws same reads words own_is text_is =
-    subst (λ s. Lists perm parts s (text p)) (sym own_is)
-    (lists_by perm own parts acts lines (text p) reads (text_is ∙ ap (λ l. turns_text lines l ++ codes "\n" ++ symbols_text own) (words ∙ ap (λ s. all_words (known s own) acts) same)))
-by_words perm parts (Err e) symbols text permanent own acts lines ws same reads words own_is text_is = tt
+both : {X : Type 0} (r : Result X AssembleFault) {P Q R : X → Type 0} → IfOk r P → IfOk r Q → ((x : X) → P x → Q x → R x) → IfOk r R
+both (Ok x) h k f = f x h k
+both (Err e) h k f = tt
+
+told : {X : Type 0} (r : Result X AssembleFault) {F G : AssembleFault → Type 0} → IfErr r F → ((e : AssembleFault) → F e → G e) → IfErr r G
+told (Ok x) h f = tt
+told (Err e) h f = f e h
+
+-- what holds of acts over these symbols holds of them over the same
+pub source_by : (perm permanent : List (Name × ℕ)) (acts : List PlacedAct) (s own : List (Name × ℕ)) (i image : List (Option ℕ)) → permanent ≡ perm → IsSource permanent 1024 acts own image → s ≡ own → i ≡ image → IsSource perm 1024 acts s i
+source_by perm permanent acts s own i image same h e f =
+    let P : List (Name × ℕ) → Type 0 = λ p. IsSource p 1024 acts own image in
+    let Q : List (Name × ℕ) → Type 0 = λ l. IsSource perm 1024 acts l image in
+    let R : List (Option ℕ) → Type 0 = λ l. IsSource perm 1024 acts s l in
+    subst R (sym f) (subst Q (sym e) (subst P same h))
+
+module _ {X : Type 0} (r : Result X AssembleFault) where
+  pub source_if : (symbols : X → List (Name × ℕ)) (image_in : X → List (Option ℕ)) (perm permanent : List (Name × ℕ)) (acts : List PlacedAct) (own : List (Name × ℕ)) (image : List (Option ℕ)) → permanent ≡ perm → IsSource permanent 1024 acts own image
+      → IfOk r (λ x. symbols x ≡ own) → IfOk r (λ x. image_in x ≡ image) → IfOk r (λ x. IsSource perm 1024 acts (symbols x) (image_in x))
+  source_if symbols image_in perm permanent acts own image same h e f = both r e f (λ x. source_by perm permanent acts (symbols x) own (image_in x) image same h)
+
+  -- what is true of the words that were found is true of all words
+  pub listing_if : (symbols : X → List (Name × ℕ)) (text : X → List ℕ) (perm permanent own : List (Name × ℕ)) (acts : List PlacedAct) (lines there : List TextLine) (ws : List PlacedWord)
+      → permanent ≡ perm → there ≡ lines → ws ≡ all_words (known permanent own) acts → IfOk r (λ x. symbols x ≡ own) → IfOk r (λ x. text x ≡ turns_text there ws ++ codes "\n" ++ symbols_text own)
+      → IfOk r (λ x. text x ≡ turns_text lines (all_words (known perm (symbols x)) acts) ++ codes "\n" ++ symbols_text (symbols x))
+  listing_if symbols text perm permanent own acts lines there ws same same_lines words e f =
+      both r e f (λ x own_is text_is. text_is
+      ∙ ap (λ l. turns_text l ws ++ codes "\n" ++ symbols_text own) same_lines
+      ∙ ap (λ l. turns_text lines l ++ codes "\n" ++ symbols_text own) (words ∙ ap (λ s. all_words (known s own) acts) same)
+      ∙ ap (λ s. turns_text lines (all_words (known perm s) acts) ++ codes "\n" ++ symbols_text s) (sym own_is))
+
+  -- a refusal for want of memory is one of all acts
+  pub silent_refuses : (perm : List (Name × ℕ)) (acts : List PlacedAct) → IfErr r (λ e. e ≡ NoMemory) → IfErr r (RefusesActs perm acts)
+  silent_refuses perm acts h = told r h (λ e is. subst (RefusesActs perm acts) (sym is) tt)
+
+  -- what acts mean is what their parts mean, and their listing and their refusal those of their parts
+  module _ (perm : List (Name × ℕ)) (parts : List (List ℕ)) (acts : List PlacedAct) (lines : List TextLine) (sizes : size_fault parts ≡ None) (reads : Reads 1 Octal parts acts lines) where
+    pub means_if : (symbols : X → List (Name × ℕ)) (image_in : X → List (Option ℕ)) → IfOk r (λ x. IsSource perm 1024 acts (symbols x) (image_in x)) → IfOk r (λ x. Means perm parts (symbols x) (image_in x))
+    means_if symbols image_in h = one r h (λ x is. record { acts = acts; lines = lines; sizes = sizes; reads = reads; is_source = is })
+
+    pub lists_if : (symbols : X → List (Name × ℕ)) (text : X → List ℕ) → IfOk r (λ x. text x ≡ turns_text lines (all_words (known perm (symbols x)) acts) ++ codes "\n" ++ symbols_text (symbols x)) → IfOk r (λ x. Lists perm parts (symbols x) (text x))
+    lists_if symbols text h = one r h (λ x is. lists_by perm (symbols x) parts acts lines (text x) reads is)
+
+    refuses : (e : AssembleFault) → RefusesActs perm acts e → Refuses perm parts e
+    refuses (Source fault) h = inr (record { acts = acts; lines = lines; sizes = sizes; reads = reads; is_fault = h })
+    refuses NoMemory h = tt
+
+    pub refuses_if : IfErr r (RefusesActs perm acts) → IfErr r (Refuses perm parts)
+    refuses_if h = told r h refuses

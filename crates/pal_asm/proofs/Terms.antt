@@ -1,9 +1,9 @@
 -- Terms taken one by one.
-use Rattle.std.proofs.Common.{◌≡◌, ◌∙◌, sym, ap, refl, ℕ, zero, suc, ◌+◌, ◌<◌, List, [], ◌∷◌, ◌++◌, append_assoc, arith, true, false, if◌then◌else◌, length, get_or, drop}
+use Rattle.std.proofs.Common.{◌≡◌, ◌∙◌, sym, ap, refl, ℕ, zero, suc, ◌+◌, ◌<◌, ◌≤◌, List, [], ◌∷◌, ◌++◌, append_assoc, arith, true, false, if◌then◌else◌, length, get_or, drop}
 use Rattle.std.specs.Prelude.{Result, Ok, Err}
 use Rattle.std.specs.List.{AllByRecursion}
 use Rattle.std.proofs.lemmas.Bool.{cond-true, cond-false}
-use Rattle.std.proofs.lemmas.List.{drop_more, append-nil}
+use Rattle.std.proofs.lemmas.List.{drop_more, drop_all, append-nil}
 use Rattle.pal_text.specs.declared.tokens.Token.{Token}
 use Rattle.pal_text.specs.Grammar.{is_joiner}
 use Rattle.pal_acts.specs.declared.act.Sign.{Sign}
@@ -44,8 +44,22 @@ module _ (b : ℕ) (source : List ℕ) (xs : List Join) (s : Sign) (ts : List To
   bad_left c is reads =
       ap (with_front xs) (left ∙ cond-false (is_joiner (get_or ts i d).kind) _ _ is ∙ ap (λ r. in_front s r (joins b source Or (drop (i + 1) ts))) reads)
 
+-- what is left once a token was read
+module _ (b : ℕ) (source : List ℕ) (xs new : List Join) (s next : Sign) (ts : List Token) (i : ℕ) (d : Token) (all : Result (List Join) Code) (h : i < length ts) (so : with_front xs (joins b source s (drop i ts)) ≡ all) where
+  pub after_joiner : is_joiner (get_or ts i d).kind ≡ true → new ≡ xs → next ≡ sign_of (get_or ts i d).kind → with_front new (joins b source next (drop (i + 1) ts)) ≡ all
+  after_joiner is e f =
+      ap (λ l. with_front l (joins b source next (drop (i + 1) ts))) e ∙ ap (λ k. with_front xs (joins b source k (drop (i + 1) ts))) f ∙ sym (joiner_left b source xs s ts i d h is) ∙ so
+
+  pub after_term : (t : Term) → is_joiner (get_or ts i d).kind ≡ false → term b source (get_or ts i d) ≡ Ok t → new ≡ xs ++ join s t ∷ [] → next ≡ Or → with_front new (joins b source next (drop (i + 1) ts)) ≡ all
+  after_term t is reads e f =
+      ap (λ l. with_front l (joins b source next (drop (i + 1) ts))) e ∙ ap (λ k. with_front (xs ++ join s t ∷ []) (joins b source k (drop (i + 1) ts))) f ∙ sym (term_left b source xs s ts i d h t is reads) ∙ so
+
 pub none_left : (b : ℕ) (source : List ℕ) (xs : List Join) (s : Sign) (ts : List Token) → ts ≡ [] → with_front xs (joins b source s ts) ≡ Ok xs
 none_left b source xs s ts e = ap (λ l. with_front xs (joins b source s l)) e ∙ ap Ok (append-nil xs)
+
+-- none is left
+pub all_left : (b : ℕ) (source : List ℕ) (xs : List Join) (s : Sign) (ts : List Token) (i : ℕ) → length ts ≤ i → with_front xs (joins b source s (drop i ts)) ≡ Ok xs
+all_left b source xs s ts i h = none_left b source xs s (drop i ts) (drop_all i ts h)
 
 -- what holds of each element holds of one
 pub one_of_all : {X : Type 0} (P : X → Type 0) (xs : List X) (i : ℕ) (d : X) → i < length xs → AllByRecursion P xs → P (get_or xs i d)

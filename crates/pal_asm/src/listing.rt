@@ -165,6 +165,21 @@ fn push_text<A: Allocator>(text: &mut Vec<u8, A>, shown: &[u8]) -> Result<(), Al
     text.extend_from_slice(b"\n")
 }
 
+/// Adds a line with its first word and its text.
+fn push_first<A: Allocator>(
+    text: &mut Vec<u8, A>,
+    word: PlacedWord,
+    shown: &[u8],
+) -> Result<(), AllocError>
+    ensures { OnOk result (text.new.items ≡ text.old.items ++ word_text word ++ codes "  " ++
+        characters shown.now ++ codes "\n") }
+{
+    push_word(text, word)?;
+    text.extend_from_slice(b"  ")?;
+    push_characters(text, shown)?;
+    text.extend_from_slice(b"\n")
+}
+
 /// Adds a line with its words, and tells the words after those.
 fn push_line<'w, A: Allocator>(
     text: &mut Vec<u8, A>,
@@ -179,10 +194,7 @@ fn push_line<'w, A: Allocator>(
     let shown = from_text(line.bytes);
     match words {
         [word, more @ ..] if stands_at(line.place, *word) => {
-            push_word(text, *word)?;
-            text.extend_from_slice(b"  ")?;
-            push_characters(text, shown)?;
-            text.extend_from_slice(b"\n")?;
+            push_first(text, *word, shown)?;
             push_words(text, line.place, more)
         }
         _ => {

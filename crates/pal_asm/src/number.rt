@@ -10,7 +10,7 @@ use pal_text::characters::is_character_code;
 use word12::Word;
 
 /// How numbers are written.
-#[derive(Clone, Copy, PartialEq, Eq, Debug)]
+#[derive(Clone, Copy, PartialEq, Eq)]
 pub enum Radix {
     /// In base eight, as at first and after OCTAL.
     Octal,

@@ -16,7 +16,7 @@ ghost use Rattle.pal_asm.specs.Kept.{RefusesActs, lines_of_fronts, turns_text};
 use crate::fault::{AssembleFault, WriteFault};
 use crate::front::Front;
 use crate::listing::make_listing;
-use crate::reading::read_source;
+use crate::reading::{Reading, read_source};
 use crate::sizes::fault_of_sizes;
 use crate::translation::fault_of;
 use bin_tape::Image;
@@ -119,6 +119,29 @@ fn program_of<A: Allocator + Copy>(
     })
 }
 
+/// What a source means that was read, with its listing, or its fault.
+fn assemble_reading<A: Allocator + Copy>(
+    alloc: A,
+    reading: &Reading<'_, A>,
+    profile: Profile,
+) -> Result<Program<A>, AssembleFault>
+    ensures found { IfOk result (λ program. IsSource (permanent_symbols profile) 1024
+        reading.now.acts (symbols_of program) (image_of program)) }
+    ensures listing { IfOk result (λ program. listing_of program ≡
+        turns_text (lines_of_fronts reading.now.fronts.items)
+        (all_words (known (permanent_symbols profile) (symbols_of program)) reading.now.acts) ++
+        codes "\n" ++ symbols_text (symbols_of program)) }
+    ensures refused { IfErr result (RefusesActs (permanent_symbols profile) reading.now.acts) }
+{
+    let Ok(permanent) = permanent_table(alloc, profile) else {
+        return Err(AssembleFault::NoMemory);
+    };
+    match assemble_words(alloc, &permanent, &reading.acts) {
+        Ok(found) => program_of(alloc, found, &reading.fronts),
+        Err(fault) => Err(fault),
+    }
+}
+
 /// What a source means whose parts aren't too many or too long, with its listing, or its fault.
 fn assemble_parts<A: Allocator + Copy>(
     alloc: A,
@@ -135,13 +158,7 @@ fn assemble_parts<A: Allocator + Copy>(
     let Ok(reading) = read_source(alloc, parts) else {
         return Err(AssembleFault::NoMemory);
     };
-    let Ok(permanent) = permanent_table(alloc, profile) else {
-        return Err(AssembleFault::NoMemory);
-    };
-    match assemble_words(alloc, &permanent, &reading.acts) {
-        Ok(found) => program_of(alloc, found, &reading.fronts),
-        Err(fault) => Err(fault),
-    }
+    assemble_reading(alloc, &reading, profile)
 }
 
 /// What a source means under the permanent symbols of a profile, with its listing.

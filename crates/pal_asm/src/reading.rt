@@ -13,14 +13,14 @@ use pal_text::{Close, Ending, Next, Reader, StatementFault};
 use std::alloc::{AllocError, Allocator};
 
 /// What comes after a part: the next one, with numbers written so, or nothing.
-#[derive(Clone, Copy, PartialEq, Eq, Debug)]
+#[derive(Clone, Copy)]
 pub(crate) enum Turn {
     On(Radix),
     Ends,
 }
 
 /// How a part was read: how numbers are written after it, and where it ended.
-#[derive(Clone, Copy, PartialEq, Eq, Debug)]
+#[derive(Clone, Copy)]
 pub(crate) struct Reached {
     pub(crate) radix: Radix,
     pub(crate) close: Close,

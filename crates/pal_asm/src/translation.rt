@@ -80,6 +80,25 @@ fn translation_of<A: Allocator + Copy>(found: Assembled<'_, A>) -> Translation<A
     Translation { image, own }
 }
 
+/// What acts mean under the permanent symbols of a profile, or their fault.
+fn translate_acts<A: Allocator + Copy>(
+    alloc: A,
+    acts: &Acts<A>,
+    profile: Profile,
+) -> Result<Translation<A>, AssembleFault>
+    ensures found { IfOk result (λ translation. IsSource (permanent_symbols profile) 1024 acts.now
+        (symbols_in translation) (image_in translation)) }
+    ensures refused { IfErr result (RefusesActs (permanent_symbols profile) acts.now) }
+{
+    let Ok(permanent) = permanent_table(alloc, profile) else {
+        return Err(AssembleFault::NoMemory);
+    };
+    match assemble_acts(alloc, &permanent, acts) {
+        Ok(found) => Ok(translation_of(found)),
+        Err(fault) => Err(fault),
+    }
+}
+
 /// What a source means whose parts aren't too many or too long, or its fault.
 fn translate_parts<A: Allocator + Copy>(
     alloc: A,
@@ -94,13 +113,7 @@ fn translate_parts<A: Allocator + Copy>(
     let Ok(reading) = read_source(alloc, parts) else {
         return Err(AssembleFault::NoMemory);
     };
-    let Ok(permanent) = permanent_table(alloc, profile) else {
-        return Err(AssembleFault::NoMemory);
-    };
-    match assemble_acts(alloc, &permanent, &reading.acts) {
-        Ok(found) => Ok(translation_of(found)),
-        Err(fault) => Err(fault),
-    }
+    translate_acts(alloc, &reading.acts, profile)
 }
 
 /// What a source means under the permanent symbols of a profile.

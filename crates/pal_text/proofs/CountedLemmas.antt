@@ -5,14 +5,15 @@ use Rattle.std.proofs.lemmas.Bool.{cases_Bool}
 use Rattle.pal_text.specs.declared.characters.Meaning.{Meaning}
 use Rattle.pal_text.specs.declared.characters.Meaning.TheVariants.{Ignored, LineEnd, Character}
 use Rattle.pal_text.specs.declared.tokens.Kind.{Kind}
-use Rattle.pal_text.specs.declared.tokens.Kind.TheVariants.{Symbol, Number, Mixed, Space, Comma, Equals, Plus, Minus, End, Dollar}
+use Rattle.pal_text.specs.declared.tokens.Kind.TheVariants.{Symbol, Number, Mixed, Space, End}
 use Rattle.pal_text.specs.declared.tokens.Token.{Token}
 use Rattle.pal_text.specs.Characters.{line, in_comment, meaning_after}
-use Rattle.pal_text.specs.Tokens.{is_run, is_number, is_space, longer, kind_of, token, lengthened, with_next, runs_with, runs, absorbs, absorbs_after, counted, end_token, all_tokens}
+use Rattle.pal_text.specs.Tokens.{is_run, is_number, is_space, longer, kind_of, token, lengthened, with_next, runs, absorbs, absorbs_after, counted, end_token, all_tokens}
 use Rattle.pal_text.specs.Tokens.{tokens as counted_tokens}
-use Rattle.pal_text.specs.Adding.{without_space, with_kind, joined, one_or_both, added, grown, tokens, ended, all_read}
+use Rattle.pal_text.specs.Adding.{without_space, with_kind, joined, one_or_both, added, grown, tokens, all_read}
 use Rattle.pal_text.specs.Names.{named, part_tokens}
 use Rattle.pal_text.proofs.Apart.{longer_to_end}
+use Rattle.pal_text.proofs.ByMeaning.{runs_with}
 
 -- ---- kinds
 

@@ -15,16 +15,16 @@ use Rattle.pal_text.specs.Characters.{code, returned, in_comment, line}
 use Rattle.pal_text.specs.Tokens.{is_run, is_number, is_space, absorbs, longer, token}
 use Rattle.pal_text.specs.Adding.{with_kind, without_space, joined, one_or_both, added, tokens}
 use Rattle.pal_text.specs.Statements.{is_end}
-use Rattle.pal_text.specs.Scan.{brings, front, IsStop, IsQuiet, IsOutside, IsOpen, IsPlaceIn, IsOwn, is_word, spanned, IsRun, IsOnward}
+use Rattle.pal_text.specs.Scan.{brings, is_line_code, front, IsStop, IsQuiet, IsOutside, IsOpen, IsPlaceIn, IsOwn, is_word, spanned, IsRun, IsOnward}
 use Rattle.pal_text.proofs.Apart.{added_apart}
 use Rattle.pal_text.proofs.Rises.{all_reverse}
 use Rattle.pal_text.proofs.Grows.{turned, before_last, last_is}
-use Rattle.pal_text.proofs.Steps.{Kept, nothing_kept, feed_kept, end_closes, feed_closes, Grows, one_grows, Comments, comment_begins}
+use Rattle.pal_text.proofs.Steps.{Kept, nothing_kept, feed_kept, end_closes, feed_closes, Grows, one_grows, Comments, comment_begins, comment_more, comment_closes}
 
 pub next_front : (source : List ℕ) (at : ℕ) → at < length source → front source (at + 1) ≡ get_or source at 0 ∷ front source at
 next_front source at h = ap reverse (take_more source at 0 h) ∙ reverse-append (take at source) (get_or source at 0 ∷ [])
 
-front_length : (source : List ℕ) (at : ℕ) → at ≤ length source → length (front source at) ≡ at
+pub front_length : (source : List ℕ) (at : ℕ) → at ≤ length source → length (front source at) ≡ at
 front_length source at h = length-reverse (take at source) ∙ length-take-le at source h
 
 -- the same said of a place
@@ -189,6 +189,18 @@ comment_front source at h c b = ap in_comment (next_front source at h) ∙ (comm
 
 pub comment_unreturned : (source : List ℕ) (at : ℕ) → at < length source → in_comment (front source at) ≡ false → brings (code (get_or source at 0)) ≡ Comment → returned (front source (at + 1)) ≡ false
 comment_unreturned source at h c b = ap returned (next_front source at h) ∙ (comment_begins (front source at) (get_or source at 0) c b).returned_is
+
+-- a comment goes on
+pub quiet_more : (source : List ℕ) (from at : ℕ) → at < length source → IsQuiet source from at → in_comment (front source at) ≡ true → returned (front source at) ≡ false → is_line_code (code (get_or source at 0)) ≡ false
+    → IsQuiet source from (at + 1) × (in_comment (front source (at + 1)) ≡ true) × (returned (front source (at + 1)) ≡ false) × (at + 1 ≤ length source)
+quiet_more source from at h q c r b =
+    let k : Comments (front source at) (get_or source at 0) = comment_more (front source at) (get_or source at 0) c r b in
+    let e : front source (at + 1) ≡ get_or source at 0 ∷ front source at = next_front source at h in
+    (record { tokens_are = ap tokens e ∙ k.tokens_are ∙ q.tokens_are; line_is = ap line e ∙ k.line_is ∙ q.line_is }, ap in_comment e ∙ k.comment_is, ap returned e ∙ k.returned_is, omega arith)
+
+-- and ends
+pub stop_comment : (source : List ℕ) (at : ℕ) → at ≤ length source → returned (front source at) ≡ false → is_line_code (code (get_or source at 0)) ≡ true → IsStop source at
+stop_comment source at h r b = record { inside = h; closes = λ h. comment_closes (front source at) (get_or source at 0) r b }
 
 pub own_comment : (source : List ℕ) (place : Place) (at to : ℕ) (was : Bool) (own : List Token) → at < length source → brings (code (get_or source at 0)) ≡ Comment → Reading source place at was own → IsQuiet source (at + 1) to → IsOwn source place to own
 own_comment source place at to was own h b r q =

@@ -1,3 +1,5 @@
+pub mod ByMeaning
+pub mod Alternate
 pub mod Grows
 pub mod Readings
 pub mod NamesLemmas

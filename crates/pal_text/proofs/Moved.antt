@@ -12,7 +12,7 @@ use Rattle.pal_text.specs.declared.scan.Brings.TheVariants.{Nothing}
 use Rattle.pal_text.specs.declared.tokens.Kind.{Kind}
 use Rattle.pal_text.specs.declared.tokens.Kind.TheVariants.{End}
 use Rattle.pal_text.specs.declared.tokens.Token.{Token}
-use Rattle.pal_text.specs.Characters.{code, is_ignored, returned, returned_by, meaning, meaning_after, in_comment, comment_by, line, line_by, is_character, characters}
+use Rattle.pal_text.specs.Characters.{code, is_ignored, returned, returned_by, meaning, meaning_after, in_comment, line, is_character, characters}
 use Rattle.pal_text.specs.Tokens.{is_space, absorbs, longer, token, kind_of, end_token}
 use Rattle.pal_text.specs.Adding.{with_kind, without_space, joined, one_or_both, added, grown, tokens, ended, all_read}
 use Rattle.pal_text.specs.Names.{IsWithin, name, first_six, bytes_of, with_name, named, part_tokens}
@@ -23,6 +23,7 @@ use Rattle.pal_text.proofs.CountedLemmas.{part_are}
 use Rattle.pal_text.proofs.Steps.{Kept, nothing_kept}
 use Rattle.pal_text.proofs.Stays.{range_front, told_alike}
 use Rattle.pal_text.proofs.Rises.{map_reverse, all_tokens_within}
+use Rattle.pal_text.proofs.ByMeaning.{comment_by, line_by}
 
 -- a number before a place, and one that isn't
 below : (a k : ℕ) → a < k → nat_lt a k ≡ true

@@ -20,7 +20,7 @@ use Rattle.pal_text.specs.declared.cut.Close.{Close}
 use Rattle.pal_text.specs.declared.reader.Found.{Found}
 use Rattle.pal_text.specs.declared.reader.Standing.{Standing}
 use Rattle.pal_text.specs.declared.reader.Standing.TheVariants.{Begins, Ended}
-use Rattle.pal_text.specs.Characters.{code, returned, in_comment, line, line_by, meaning_after}
+use Rattle.pal_text.specs.Characters.{code, returned, in_comment, line, meaning_after}
 use Rattle.pal_text.specs.Tokens.{is_space, token, kind_of, end_token}
 use Rattle.pal_text.specs.Adding.{joined, one_or_both, added, grown, tokens, ended, all_read}
 use Rattle.pal_text.specs.Names.{IsWithin, with_name, name, bytes_of, named, part_tokens}
@@ -36,6 +36,7 @@ use Rattle.pal_text.proofs.Fronts.{next_front}
 use Rattle.pal_text.proofs.Grows.{turned}
 use Rattle.pal_text.proofs.Readings.{shape_none}
 use Rattle.pal_text.proofs.Rises.{all_reverse, all_tokens_within, part_tokens_within, written_back}
+use Rattle.pal_text.proofs.ByMeaning.{line_by}
 
 -- no byte brings more than one token, or ends more than one line
 both_length : (next t : Token) (ts : List Token) (o : Option Token) → length (one_or_both next t ts o) ≤ length ts + 2

@@ -9,11 +9,12 @@ use Rattle.pal_text.specs.declared.tokens.Kind.TheVariants as kind
 use Rattle.pal_text.specs.declared.tokens.Token.{Token}
 use Rattle.pal_text.specs.declared.scan.Brings.{Brings}
 use Rattle.pal_text.specs.declared.scan.Brings.TheVariants.{Nothing, Feed, End, Comment, One}
-use Rattle.pal_text.specs.Characters.{code, is_ignored, returned, returned_by, meaning, in_comment, comment_by, line, line_by}
+use Rattle.pal_text.specs.Characters.{code, is_ignored, returned, returned_by, meaning, in_comment, line}
 use Rattle.pal_text.specs.Tokens.{kind_of, token}
 use Rattle.pal_text.specs.Adding.{added, grown, tokens}
 use Rattle.pal_text.specs.Statements.{is_end}
 use Rattle.pal_text.specs.Scan.{of_kind, brings, is_line_code, mark_kind, Closes}
+use Rattle.pal_text.proofs.ByMeaning.{comment_by, line_by}
 
 -- the same by the answers to the tests of a code, which are: ignored, a return, a feed, a tab, a slash
 brings_by : Bool → Bool → Bool → Bool → Bool → Kind → Brings

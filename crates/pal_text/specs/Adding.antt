@@ -1,10 +1,10 @@
 -- How tokens are read, one character after another, for private contracts. That these are the tokens is proved of it. Lists
 -- of bytes and of tokens have the newest first here, but for `all_read`.
-use Rattle.std.specs.Prelude.{ℕ, ◌+◌, Bool, true, false, ◌||◌, ◌&&◌, if◌then◌else◌, List, [], ◌∷◌, length, reverse, Option, Some, None, nat_eq, nat_le}
+use Rattle.std.specs.Prelude.{ℕ, Bool, ◌||◌, ◌&&◌, if◌then◌else◌, List, [], ◌∷◌, length, reverse, Option, Some, None, nat_eq}
 use Rattle.pal_text.specs.declared.characters.Meaning.{Meaning}
 use Rattle.pal_text.specs.declared.characters.Meaning.TheVariants.{Ignored, LineEnd, Character}
 use Rattle.pal_text.specs.declared.tokens.Kind.{Kind}
-use Rattle.pal_text.specs.declared.tokens.Kind.TheVariants.{Symbol, Number, Mixed, Here, Space, Comma, Equals, Plus, Minus, Star, End, Dollar, Other}
+use Rattle.pal_text.specs.declared.tokens.Kind.TheVariants.{End}
 use Rattle.pal_text.specs.declared.tokens.Token.{Token}
 use Rattle.pal_text.specs.Characters.{char, line, in_comment, meaning_after}
 use Rattle.pal_text.specs.Tokens.{is_space, longer, absorbs, kind_of, token, end_token}

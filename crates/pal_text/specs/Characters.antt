@@ -56,25 +56,21 @@ meaning returned b =
 abbrev pub meaning_after : List ℕ → ℕ → Meaning
 meaning_after before b = meaning (returned before) b
 
-abbrev pub comment_by : Bool → Meaning → Bool
-comment_by comment Ignored = comment
-comment_by comment LineEnd = false
-comment_by comment (Character c) = comment || nat_eq c (char "/")
+-- What holds after a byte, by its meaning: where it is ignored, where it ends a line, and where it is a character.
+abbrev pub after : {X : Type 0} → X → X → (ℕ → X) → Meaning → X
+after ignored line_end character Ignored = ignored
+after ignored line_end character LineEnd = line_end
+after ignored line_end character (Character c) = character c
 
 -- A comment goes from a slash to the line's end.
 abbrev pub in_comment : List ℕ → Bool
 in_comment [] = false
-in_comment (b ∷ before) = comment_by (in_comment before) (meaning_after before b)
-
-abbrev pub line_by : ℕ → Meaning → ℕ
-line_by n Ignored = n
-line_by n LineEnd = n + 1
-line_by n (Character c) = n
+in_comment (b ∷ before) = after (in_comment before) false (λ c. in_comment before || nat_eq c (char "/")) (meaning_after before b)
 
 -- The number of the line that the next byte belongs to, counted from 1.
 abbrev pub line : List ℕ → ℕ
 line [] = 1
-line (b ∷ before) = line_by (line before) (meaning_after before b)
+line (b ∷ before) = after (line before) (line before + 1) (λ c. line before) (meaning_after before b)
 
 -- Within a line every line feed is an ignored one, so these codes are no characters there.
 abbrev pub is_character : ℕ → Bool

@@ -1,42 +1,25 @@
 -- The lines of a part. Lists of bytes and of lines have the newest first here, but for `all_lines`.
 use Rattle.std.specs.Prelude.{ℕ, ◌+◌, Bool, true, false, if◌then◌else◌, List, [], ◌∷◌, length, reverse}
-use Rattle.pal_text.specs.declared.characters.Meaning.{Meaning}
-use Rattle.pal_text.specs.declared.characters.Meaning.TheVariants.{Ignored, LineEnd, Character}
 use Rattle.pal_text.specs.declared.lines.Line.{Line}
-use Rattle.pal_text.specs.Characters.{meaning_after}
-
-abbrev pub start_by : ℕ → ℕ → Meaning → ℕ
-start_by start next LineEnd = next
-start_by start next Ignored = start
-start_by start next (Character c) = start
+use Rattle.pal_text.specs.Characters.{meaning_after, after}
 
 -- Where the line of the next byte begins: after the last line end.
 abbrev pub line_start : List ℕ → ℕ
 line_start [] = 0
-line_start (b ∷ before) = start_by (line_start before) (length before + 1) (meaning_after before b)
-
-abbrev pub begun_by : Bool → Meaning → Bool
-begun_by begun Ignored = begun
-begun_by begun LineEnd = false
-begun_by begun (Character c) = true
+line_start (b ∷ before) = after (line_start before) (length before + 1) (λ c. line_start before) (meaning_after before b)
 
 -- A byte that isn't ignored stands after the last line end.
 abbrev pub is_begun : List ℕ → Bool
 is_begun [] = false
-is_begun (b ∷ before) = begun_by (is_begun before) (meaning_after before b)
+is_begun (b ∷ before) = after (is_begun before) false (λ c. true) (meaning_after before b)
 
 abbrev pub line_of : ℕ → ℕ → Line
 line_of start end = record { start = start; end = end }
 
-abbrev pub lines_by : List Line → ℕ → ℕ → Meaning → List Line
-lines_by ls start at LineEnd = line_of start at ∷ ls
-lines_by ls start at Ignored = ls
-lines_by ls start at (Character c) = ls
-
 -- The lines that have ended.
 abbrev pub ended_lines : List ℕ → List Line
 ended_lines [] = []
-ended_lines (b ∷ before) = lines_by (ended_lines before) (line_start before) (length before) (meaning_after before b)
+ended_lines (b ∷ before) = after (ended_lines before) (line_of (line_start before) (length before) ∷ ended_lines before) (λ c. ended_lines before) (meaning_after before b)
 
 -- These and what stands after the last line end, where a byte of that isn't ignored.
 abbrev pub lines : List ℕ → List Line

@@ -4,10 +4,9 @@ use Rattle.pal_text.specs.declared.tokens.Token.{Token}
 use Rattle.pal_text.specs.declared.cut.Statement.{Statement}
 use Rattle.pal_text.specs.declared.cut.Ending.{Ending}
 use Rattle.pal_text.specs.declared.lines.Line.{Line}
-use Rattle.pal_text.specs.declared.fault.StatementFault.{StatementFault}
-use Rattle.pal_text.specs.declared.fault.StatementFault.TheVariants as statement
+use Rattle.pal_text.specs.declared.fault.StatementFault.TheVariants.{Illegal, NoMemory}
 use Rattle.pal_text.specs.declared.fault.TextFault.{TextFault}
-use Rattle.pal_text.specs.declared.fault.TextFault.TheVariants.{Illegal, TooLong, NoMemory}
+use Rattle.pal_text.specs.declared.fault.TextFault.TheVariants as text
 use Rattle.pal_text.specs.Names.{part_tokens}
 use Rattle.pal_text.specs.Statements.{pieces, closed, Stand, Breaks}
 use Rattle.pal_text.specs.Lines.{all_lines}
@@ -30,11 +29,6 @@ past n (s ∷ ss) = past (s.last + 1) ss
 
 -- What a refusal of a part that isn't too long says of it.
 abbrev pub IsFault : List ℕ → TextFault → Type 0
-IsFault source (Illegal n) = IsIllegal source n
-IsFault source TooLong = ⊥
-IsFault source NoMemory = Unit {0}
-
--- A statement's fault as that of its part.
-abbrev pub fault_of : StatementFault → TextFault
-fault_of (statement.Illegal n) = Illegal n
-fault_of statement.NoMemory = NoMemory
+IsFault source text.TooLong = ⊥
+IsFault source (text.Statement (Illegal n)) = IsIllegal source n
+IsFault source (text.Statement NoMemory) = Unit {0}

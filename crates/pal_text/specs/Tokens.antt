@@ -1,12 +1,10 @@
 -- The tokens of a part: its runs of characters, and then these without the spaces that don't count. Lists of bytes and of
 -- tokens have the newest first here, but for `all_tokens`.
 use Rattle.std.specs.Prelude.{ℕ, ◌+◌, Bool, true, false, ◌||◌, ◌&&◌, if◌then◌else◌, List, [], ◌∷◌, length, reverse, Option, Some, None, nat_eq, nat_le}
-use Rattle.pal_text.specs.declared.characters.Meaning.{Meaning}
-use Rattle.pal_text.specs.declared.characters.Meaning.TheVariants.{Ignored, LineEnd, Character}
 use Rattle.pal_text.specs.declared.tokens.Kind.{Kind}
 use Rattle.pal_text.specs.declared.tokens.Kind.TheVariants.{Symbol, Number, Mixed, Here, Space, Comma, Equals, Plus, Minus, Star, End, Dollar, Other}
 use Rattle.pal_text.specs.declared.tokens.Token.{Token}
-use Rattle.pal_text.specs.Characters.{char, line, in_comment, meaning_after}
+use Rattle.pal_text.specs.Characters.{char, line, in_comment, meaning_after, after}
 
 abbrev pub is_letter : ℕ → Bool
 is_letter c = nat_le (char "A") c && nat_le c (char "Z")
@@ -65,16 +63,13 @@ abbrev pub with_next : Token → List Token → List Token
 with_next next [] = next ∷ []
 with_next next (last ∷ ts) = lengthened next last ts (longer last.kind next.kind)
 
--- The runs with what a byte brings: a line's end ends a statement, and a comment brings nothing.
-abbrev pub runs_with : ℕ → ℕ → Bool → Meaning → List Token → List Token
-runs_with at n comment Ignored ts = ts
-runs_with at n comment LineEnd ts = with_next (token End n at) ts
-runs_with at n comment (Character c) ts = if comment || nat_eq c (char "/") then ts else with_next (token (kind_of c) n at) ts
-
--- The runs of these bytes, each as long as its characters stand together.
+-- The runs of these bytes, each as long as its characters stand together: a line's end ends a statement, and a comment
+-- brings nothing.
 abbrev pub runs : List ℕ → List Token
 runs [] = []
-runs (b ∷ before) = runs_with (length before) (line before) (in_comment before) (meaning_after before b) (runs before)
+runs (b ∷ before) =
+    let here : Kind → List Token = λ k. with_next (token k (line before) (length before)) (runs before) in
+    after (runs before) (here End) (λ c. if in_comment before || nat_eq c (char "/") then runs before else here (kind_of c)) (meaning_after before b)
 
 -- Spaces beside these don't count: , = + - and the ends of a statement.
 abbrev pub absorbs : Kind → Bool

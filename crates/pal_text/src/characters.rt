@@ -11,7 +11,7 @@ pub(crate) const FORM_FEED: u8 = 0o14;
 pub(crate) const RUBOUT: u8 = 0o177;
 
 /// What a byte is, after those before it.
-#[derive(Clone, Copy, PartialEq, Eq, Debug)]
+#[derive(Clone, Copy)]
 pub enum Meaning {
     /// The byte is ignored.
     Ignored,

@@ -9,7 +9,7 @@ use crate::tokens::{Kind, Token};
 /// A statement: its line, its tags and what it does. Its tokens are those of the part from `first`
 /// up to the one before `last`, where the token that ends it stands: each of its tags and a comma,
 /// and then what it does.
-#[derive(Clone, Copy, PartialEq, Eq, Debug)]
+#[derive(Clone, Copy)]
 pub struct Statement {
     pub line: usize,
     pub first: usize,
@@ -30,7 +30,7 @@ pub enum Ending {
 }
 
 /// Where a part ends: by what, and after how many of its bytes.
-#[derive(Clone, Copy, PartialEq, Eq, Debug)]
+#[derive(Clone, Copy)]
 pub struct Close {
     pub ending: Ending,
     pub stop: usize,

@@ -1,7 +1,7 @@
 //! Why a part is refused.
 
 ghost use Rattle.std.specs.Prelude.{◌≡◌};
-ghost use Rattle.pal_text.specs.Parts.{fault_of};
+ghost use Rattle.pal_text.specs.declared.fault.TextFault.TheVariants.{Statement};
 
 use thiserror::Error;
 
@@ -19,24 +19,18 @@ pub enum StatementFault {
 /// Why a part is refused.
 #[derive(Clone, Copy, PartialEq, Eq, Debug, Error)]
 pub enum TextFault {
-    /// A statement of this line, counted from 1, has no form. It is the first of those.
-    #[error("Illegal {0}")]
-    Illegal(usize),
     /// The part has more than 65,536 bytes.
     #[error("TooLong")]
     TooLong,
-    /// Memory was refused.
-    #[error("NoMemory")]
-    NoMemory,
+    /// A statement isn't read. Where it has no form, it is the first of those.
+    #[error(transparent)]
+    Statement(StatementFault),
 }
 
 impl From<StatementFault> for TextFault {
-    ghost from_gives = { λ fault result. result ≡ fault_of fault };
+    ghost from_gives = { λ fault result. result ≡ Statement fault };
 
     fn from(fault: StatementFault) -> TextFault {
-        match fault {
-            StatementFault::Illegal(line) => TextFault::Illegal(line),
-            StatementFault::NoMemory => TextFault::NoMemory,
-        }
+        TextFault::Statement(fault)
     }
 }

@@ -2,7 +2,7 @@
 
 ghost use Rattle.std.specs.Prelude.{◌≡◌};
 ghost use Rattle.pal_text.specs.Grammar.{is_term, is_joiner, is_sign, is_name, is_terms, is_expression};
-ghost use Rattle.pal_text.specs.Reading.{is_tag, is_star, is_equals, single, body, shape};
+ghost use Rattle.pal_text.specs.Reading.{is_tag, is_star, is_equals, single, if_expression, body, shape};
 
 use crate::tokens::{Kind, Token};
 
@@ -26,7 +26,7 @@ pub enum Form {
 }
 
 /// What a statement is: so many tags, and then this.
-#[derive(Clone, Copy, PartialEq, Eq, Debug)]
+#[derive(Clone, Copy)]
 pub struct Shape {
     pub tags: usize,
     pub form: Form,
@@ -116,23 +116,25 @@ fn single_form(kind: Kind) -> Option<Form>
     }
 }
 
+/// This form, where these tokens are an expression.
+fn if_expression(tokens: &[Token], form: Form) -> Option<Form>
+    ensures { result ≡ if_expression tokens.now form }
+{
+    if expression(tokens) { Some(form) } else { None }
+}
+
 /// What these tokens do, which stand after the tags.
 fn body_of(tokens: &[Token]) -> Option<Form>
     ensures { result ≡ body tokens.now }
 {
-    let (form, operand) = match tokens {
-        [] => return Some(Form::Empty),
-        [only] => return single_form(only.kind),
-        [first, rest @ ..] if star(first.kind) => (Form::Origin, rest),
+    match tokens {
+        [] => Some(Form::Empty),
+        [only] => single_form(only.kind),
+        [first, rest @ ..] if star(first.kind) => if_expression(rest, Form::Origin),
         [first, second, rest @ ..] if named(first.kind) && equals(second.kind) => {
-            (Form::Assign, rest)
+            if_expression(rest, Form::Assign)
         }
-        _ => (Form::Word, tokens),
-    };
-    if expression(operand) {
-        Some(form)
-    } else {
-        None
+        _ => if_expression(tokens, Form::Word),
     }
 }
 

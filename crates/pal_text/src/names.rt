@@ -9,7 +9,7 @@ use crate::tokens::{Kind, Token};
 use std::hash::{Hash, Hasher};
 
 /// A symbol as it counts: its first six characters, with spaces after a shorter one.
-#[derive(Clone, Copy, PartialEq, Eq, Debug)]
+#[derive(Clone, Copy, PartialEq, Eq)]
 pub struct Name {
     pub letters: [u8; 6],
 }

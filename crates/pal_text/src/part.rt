@@ -1,6 +1,6 @@
 //! A part of a source, read.
 
-ghost use Rattle.std.specs.Prelude.{◌≡◌, ◌⊎◌, ◌≢◌, ◌↔◌, ◌≤◌, ◌<◌, ◌+◌, ◌++◌, ◌∷◌, [], length, reverse, take, slice_range, IfOk, OnOk, OnErr, IfErr, MatchResult, Err, ℕ, List};
+ghost use Rattle.std.specs.Prelude.{◌≡◌, ◌⊎◌, ◌≢◌, ◌↔◌, ◌≤◌, ◌<◌, ◌+◌, ◌++◌, ◌∷◌, [], length, reverse, take, slice_range, IfOk, OnOk, OnErr, IfErr, MatchResult, Err, None, ℕ, List};
 ghost use Rattle.std.specs.List.{AllByRecursion};
 ghost use Rattle.pal_text.specs.Order.{IsOrdered, IsPlaced, IsLineWithin};
 ghost use Rattle.pal_text.specs.Names.{IsWithin, bytes_of, part_tokens};
@@ -11,9 +11,10 @@ ghost use Rattle.pal_text.specs.declared.tokens.Token.{Token as Tokened};
 ghost use Rattle.pal_text.specs.declared.cut.Statement.{Statement as Stated};
 ghost use Rattle.pal_text.specs.declared.cut.Ending.{Ending as Ended};
 ghost use Rattle.pal_text.specs.declared.lines.Line.{Line as Lined};
+ghost use Rattle.pal_text.specs.declared.fault.TextFault.TheVariants.{Statement as Faulty};
 
-use crate::cut::{Ending, Statement};
-use crate::fault::TextFault;
+use crate::cut::{Close, Ending, Statement};
+use crate::fault::{StatementFault, TextFault};
 use crate::lines::{Line, lines_of};
 use crate::reader::{Found, Next, Reader};
 use crate::tokens::Token;
@@ -96,6 +97,37 @@ fn keep<A: Allocator>(
     Ok(())
 }
 
+/// Gathers what a reader at the front of a part reads: each statement, its tokens and the one that
+/// ends it, up to where the part ends.
+fn gather<A: Allocator + Copy>(
+    reader: &mut Reader<'_, A>,
+    tokens: &mut Vec<Token, A>,
+    statements: &mut Vec<Statement, A>,
+) -> Result<Close, StatementFault>
+    requires front { (reader.old.count ≡ 0) × (reader.old.close ≡ None) }
+    requires empty { (tokens.old.items ≡ []) × (statements.old.items ≡ []) }
+    ensures closes { IfOk result (λ close. Stand (part_tokens reader.old.source)
+        (length reader.old.source) (pieces 0 0 (part_tokens reader.old.source))
+        statements.new.items close) }
+    ensures stop { IfOk result (λ close. close.stop ≤ length reader.old.source) }
+    ensures tokens { OnOk result (tokens.new.items ≡
+        take (past 0 statements.new.items) (part_tokens reader.old.source)) }
+    ensures placed { OnOk result (AllByRecursion (IsPlaced tokens.new.items)
+        statements.new.items) }
+    ensures fault { IfErr result (λ fault. IsFault reader.old.source (Faulty fault)) }
+{
+    loop {
+        match reader.read_next()? {
+            Next::Statement(found) => {
+                if keep(tokens, statements, reader.tokens(), &found).is_err() {
+                    return Err(StatementFault::NoMemory);
+                }
+            }
+            Next::End(close) => return Ok(close),
+        }
+    }
+}
+
 /// Reads a part that isn't too long.
 fn read_part<'s, A: Allocator + Copy>(alloc: A, source: &'s [u8]) -> Result<Part<'s, A>, TextFault>
     requires { length source.now ≤ 65536 }
@@ -103,7 +135,7 @@ fn read_part<'s, A: Allocator + Copy>(alloc: A, source: &'s [u8]) -> Result<Part
     ensures part { IfOk result (λ part. IsPart source.now (tokens_in part) part.statements.items
         (lines_in part) part.ending) }
     ensures tokens { IfOk result (λ part. part.tokens.items ≡
-        take (past 0 part.statements.items) (tokens_in part)) }
+        take (past 0 part.statements.items) (part_tokens source.now)) }
     ensures placed { IfOk result (λ part. AllByRecursion (IsPlaced part.tokens.items)
         part.statements.items) }
     ensures stop { IfOk result (λ part. part.stop ≤ length source.now) }
@@ -115,24 +147,14 @@ fn read_part<'s, A: Allocator + Copy>(alloc: A, source: &'s [u8]) -> Result<Part
     let mut reader = Reader::new(alloc, source);
     let mut tokens = Vec::new(alloc);
     let mut statements = Vec::new(alloc);
-    loop {
-        match reader.read_next()? {
-            Next::Statement(found) => {
-                if keep(&mut tokens, &mut statements, reader.tokens(), &found).is_err() {
-                    return Err(TextFault::NoMemory);
-                }
-            }
-            Next::End(close) => {
-                return Ok(Part {
-                    source,
-                    tokens,
-                    statements,
-                    ending: close.ending,
-                    stop: close.stop,
-                });
-            }
-        }
-    }
+    let close = gather(&mut reader, &mut tokens, &mut statements)?;
+    Ok(Part {
+        source,
+        tokens,
+        statements,
+        ending: close.ending,
+        stop: close.stop,
+    })
 }
 
 /// Reads a part of a source: its statements up to `$`, PAUSE or its last byte. Where each of them
@@ -168,11 +190,11 @@ pub fn statements<'s, A: Allocator + Copy>(
         (ending : Ended) → IsPart source.now tokens told lines ending →
         MatchResult result (λ part. (tokens_in part ≡ tokens) × (part.statements.items ≡ told) ×
         (lines_in part ≡ lines) × (part.ending ≡ ending)) (λ fault. (fault ≡ TextFault.TooLong) ⊎
-        (fault ≡ TextFault.NoMemory)) }
+        (fault ≡ TextFault.Statement StatementFault.NoMemory)) }
     ensures illegal_told { (line : ℕ) → IsIllegal source.now line →
-        MatchResult result (λ _. ⊥) (λ fault. (fault ≡ TextFault.Illegal line) ⊎
-        ((fault ≡ TextFault.TooLong) ⊎ (fault ≡ TextFault.NoMemory))) }
-    ensures illegal { (line : ℕ) → result ≡ Err (TextFault.Illegal line) →
+        MatchResult result (λ _. ⊥) (λ fault. (fault ≡ TextFault.Statement (StatementFault.Illegal line)) ⊎
+        ((fault ≡ TextFault.TooLong) ⊎ (fault ≡ TextFault.Statement StatementFault.NoMemory))) }
+    ensures illegal { (line : ℕ) → result ≡ Err (TextFault.Statement (StatementFault.Illegal line)) →
         IsIllegal source.now line }
 {
     if source.len() > LONGEST {

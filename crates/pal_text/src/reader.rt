@@ -20,14 +20,14 @@ use std::alloc::Allocator;
 use std::marker::Model;
 
 /// A statement that was read, and the token that ends it.
-#[derive(Clone, Copy, PartialEq, Eq, Debug)]
+#[derive(Clone, Copy)]
 pub struct Found {
     pub statement: Statement,
     pub mark: Token,
 }
 
 /// What comes next in a part.
-#[derive(Clone, Copy, PartialEq, Eq, Debug)]
+#[derive(Clone, Copy)]
 pub enum Next {
     /// A statement.
     Statement(Found),
@@ -36,14 +36,14 @@ pub enum Next {
 }
 
 /// Where a reader stands: where the next statement begins, or how the part has ended.
-#[derive(Clone, Copy, PartialEq, Eq, Debug)]
+#[derive(Clone, Copy)]
 enum Standing {
     Begins(Place),
     Ended(Close),
 }
 
 /// A statement that was read, and where the reader stands after it.
-#[derive(Clone, Copy, PartialEq, Eq, Debug)]
+#[derive(Clone, Copy)]
 struct Step {
     found: Found,
     next: Standing,

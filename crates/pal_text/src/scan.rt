@@ -15,7 +15,7 @@ use std::alloc::{AllocError, Allocator};
 
 /// Where a statement begins: at this byte, on this line, counted from 1. `returned` says whether
 /// only ignored bytes and line feeds stand between here and a carriage return.
-#[derive(Clone, Copy, PartialEq, Eq, Debug)]
+#[derive(Clone, Copy)]
 pub(crate) struct Place {
     pub(crate) at: usize,
     pub(crate) line: usize,
@@ -23,7 +23,7 @@ pub(crate) struct Place {
 }
 
 /// What a code brings to a statement outside a comment.
-#[derive(Clone, Copy, PartialEq, Eq, Debug)]
+#[derive(Clone, Copy)]
 pub(crate) enum Brings {
     /// Nothing.
     Nothing,
@@ -39,7 +39,7 @@ pub(crate) enum Brings {
 
 /// A token of letters and digits as far as it was read: its kind and end, and the place of the
 /// next byte.
-#[derive(Clone, Copy, PartialEq, Eq, Debug)]
+#[derive(Clone, Copy)]
 pub(crate) struct Run {
     pub(crate) kind: Kind,
     pub(crate) end: usize,

@@ -1,6 +1,6 @@
 //! The tokens of a part.
 
-ghost use Rattle.std.specs.Prelude.{◌≡◌, false, List, [], reverse, OnOk, OnErr};
+ghost use Rattle.std.specs.Prelude.{◌≡◌, false, List, [], ◌∷◌, ◌++◌, reverse, OnOk, OnErr};
 ghost use Rattle.pal_text.specs.Tokens.{kind_of, is_run, is_space, absorbs, longer};
 ghost use Rattle.pal_text.specs.Adding.{joined, added};
 ghost use Rattle.pal_text.specs.declared.tokens.Token.{Token as Tokened};
@@ -46,7 +46,7 @@ pub enum Kind {
 
 /// A token: what it is, its line, counted from 1, and where it stands in the part: from the byte
 /// at `start` up to the one before `end`.
-#[derive(Clone, Copy, PartialEq, Eq, Debug)]
+#[derive(Clone, Copy)]
 pub struct Token {
     pub kind: Kind,
     pub line: usize,
@@ -129,6 +129,14 @@ fn join(last: Token, next: Token) -> Option<Token>
     }
 }
 
+/// Adds a token of its own.
+fn append<A: Allocator>(out: &mut Vec<Token, A>, next: Token) -> Result<(), AllocError>
+    ensures { OnOk result (out.new.items ≡ out.old.items ++ next ∷ []) }
+{
+    out.push(next)?;
+    Ok(())
+}
+
 /// Adds a character. A space that would be the first token wants no memory.
 pub(crate) fn add<A: Allocator>(out: &mut Vec<Token, A>, next: Token) -> Result<(), AllocError>
     ensures added { OnOk result ((ts : List Tokened) → out.old.items ≡ reverse ts →
@@ -137,14 +145,17 @@ pub(crate) fn add<A: Allocator>(out: &mut Vec<Token, A>, next: Token) -> Result<
 {
     let count = out.len();
     if count == 0 {
-        if !is_a_space(next.kind) {
-            out.push(next)?;
-        }
-        return Ok(());
+        return if is_a_space(next.kind) {
+            Ok(())
+        } else {
+            append(out, next)
+        };
     }
     match join(out[count - 1], next) {
-        Some(one) => out[count - 1] = one,
-        None => out.push(next)?,
+        Some(one) => {
+            out[count - 1] = one;
+            Ok(())
+        }
+        None => append(out, next),
     }
-    Ok(())
 }

@@ -11,7 +11,7 @@ use declaration::DeclarationFault;
 use instruct::Profile;
 use pal_acts::Code;
 use pal_asm::{AssembleFault, PalFault};
-use pal_text::{TextFault, statements};
+use pal_text::{StatementFault, TextFault, statements};
 use std::alloc::{AllocError, Allocator, Global};
 use std::test::Fail;
 use testing::Refusing;
@@ -343,12 +343,16 @@ fn part_answers_in_turn<A: Allocator + Copy>(
         if !refused {
             return answer == expected && count > 0;
         }
-        if answer != Some(TextFault::NoMemory) {
+        if answer != Some(TextFault::Statement(StatementFault::NoMemory)) {
             return false;
         }
     }
     false
 }
+
+const ILLEGAL_1: TextFault = TextFault::Statement(StatementFault::Illegal(1));
+
+const ILLEGAL_4: TextFault = TextFault::Statement(StatementFault::Illegal(4));
 
 /// Parts of sources, and their faults where nothing is refused.
 const PARTS: [(&[u8], Option<TextFault>); 7] = [
@@ -357,8 +361,8 @@ const PARTS: [(&[u8], Option<TextFault>); 7] = [
     (b"A=5\nPAUSE\n", None),
     (b"TA\xffD", None),
     (HELLO, None),
-    (b"?", Some(TextFault::Illegal(1))),
-    (b"X,1\nX,2\nA=1;A=2\n8 ?\n", Some(TextFault::Illegal(4))),
+    (b"?", Some(ILLEGAL_1)),
+    (b"X,1\nX,2\nA=1;A=2\n8 ?\n", Some(ILLEGAL_4)),
 ];
 
 #[test]

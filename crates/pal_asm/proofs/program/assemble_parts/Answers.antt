@@ -1,16 +1,18 @@
 use Rattle.pal_acts.specs.Permanent.{permanent_symbols}
 use Rattle.pal_asm.specs.Sources.{texts}
-use Rattle.pal_asm.specs.Programs.{symbols_of, listing_of}
+use Rattle.pal_asm.specs.Programs.{symbols_of, image_of, listing_of}
 use Rattle.pal_asm.specs.Kept.{lines_of_fronts}
-use Rattle.pal_asm.proofs.One.{silent_refuses, by_words}
+use Rattle.pal_asm.proofs.One.{means_if, lists_if, refuses_if}
 use Rattle.pal_asm.proofs.program.assemble_parts.Goals as goal
 
-pub returns-in-Ok-assemble_words-clause-listed : goal.returns-in-Ok-assemble_words-clause-listed
-returns-in-Ok-assemble_words-clause-listed g c =
-    by_words (permanent_symbols c.args.profile) (texts c.args.parts.now) c.program_of.result symbols_of listing_of c.in-Ok-permanent_table.permanent.entries c.in-Ok-assemble_words.found.symbols.own.entries
-    c.in-Ok.reading.acts (lines_of_fronts c.deref.result.now) c.in-Ok-assemble_words.found.words.items
-    c.in-Ok-permanent_table.ensures (rw c.deref.ensures.value c.in-Ok.ensures) c.in-Ok-assemble_words.ensures.words c.program_of.ensures.symbols c.program_of.ensures.listing
+pub returns-clause-meaning : goal.returns-clause-meaning
+returns-clause-meaning g c =
+    means_if c.assemble_reading.result (permanent_symbols c.args.profile) (texts c.args.parts.now) c.in-Ok.reading.acts (lines_of_fronts c.in-Ok.reading.fronts.items) c.requires c.in-Ok.ensures symbols_of image_of c.assemble_reading.ensures.found
 
-pub returns-in-Ok-assemble_words-clause-refused : goal.returns-in-Ok-assemble_words-clause-refused
-returns-in-Ok-assemble_words-clause-refused g c =
-    silent_refuses (permanent_symbols c.args.profile) (texts c.args.parts.now) c.program_of.result c.program_of.ensures.memory
+pub returns-clause-listed : goal.returns-clause-listed
+returns-clause-listed g c =
+    lists_if c.assemble_reading.result (permanent_symbols c.args.profile) (texts c.args.parts.now) c.in-Ok.reading.acts (lines_of_fronts c.in-Ok.reading.fronts.items) c.requires c.in-Ok.ensures symbols_of listing_of c.assemble_reading.ensures.listing
+
+pub returns-clause-refused : goal.returns-clause-refused
+returns-clause-refused g c =
+    refuses_if c.assemble_reading.result (permanent_symbols c.args.profile) (texts c.args.parts.now) c.in-Ok.reading.acts (lines_of_fronts c.in-Ok.reading.fronts.items) c.requires c.in-Ok.ensures c.assemble_reading.ensures.refused

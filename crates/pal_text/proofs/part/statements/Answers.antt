@@ -1,7 +1,7 @@
-use Rattle.std.proofs.Common.{◌≡◌, ◌⊎◌, ◌∙◌, ap, ℕ, List, Result, Ok, Err}
-use Rattle.std.specs.Prelude.{length, reverse, take, IfOk}
-use Rattle.pal_text.specs.declared.part.Part.{Part}
-use Rattle.pal_text.specs.declared.fault.TextFault.TheVariants.{Illegal, TooLong, NoMemory}
+use Rattle.std.proofs.Common.{◌≡◌, ◌⊎◌}
+use Rattle.std.specs.Prelude.{length, reverse, take}
+use Rattle.pal_text.specs.declared.fault.StatementFault.TheVariants.{Illegal, NoMemory}
+use Rattle.pal_text.specs.declared.fault.TextFault.TheVariants.{TooLong, Statement}
 use Rattle.pal_text.specs.ReadParts.{tokens_in, lines_in}
 use Rattle.std.specs.List.{AllByRecursion}
 use Rattle.pal_text.specs.Names.{IsWithin, part_tokens}
@@ -12,33 +12,27 @@ use Rattle.pal_text.proofs.Unique.{agrees, no_fault}
 use Rattle.pal_text.proofs.Told.{matched, ok_also, silent, tells_only, within_by, ordered_by}
 use Rattle.pal_text.proofs.part.statements.Goals as goal
 
--- the tokens of the part are those of the source
-own_tokens : {A E : Type 0} (r : Result (Part A) E) (source : List ℕ) → IfOk r (λ part. IsPart source (tokens_in part) part.statements.items (lines_in part) part.ending)
-    → IfOk r (λ part. part.tokens.items ≡ take (past 0 part.statements.items) (tokens_in part)) → IfOk r (λ part. part.tokens.items ≡ take (past 0 part.statements.items) (part_tokens source))
-own_tokens (Ok part) source h k = k ∙ ap (take (past 0 part.statements.items)) h.tokens_are
-own_tokens (Err e) source h k = tt
-
 pub returns-clause-in_order : goal.returns-clause-in_order
 returns-clause-in_order g c =
     ok_also c.read_part.result (λ part. part.tokens.items ≡ take (past 0 part.statements.items) (part_tokens c.args.source.now)) (λ part. IsOrdered (length c.args.source.now) (reverse part.tokens.items))
-    (own_tokens c.read_part.result c.args.source.now c.read_part.ensures.part c.read_part.ensures.tokens) (λ part h. ordered_by c.args.source.now part.tokens.items (past 0 part.statements.items) h)
+    c.read_part.ensures.tokens (λ part h. ordered_by c.args.source.now part.tokens.items (past 0 part.statements.items) h)
 
 pub returns-clause-within : goal.returns-clause-within
 returns-clause-within g c =
     ok_also c.read_part.result (λ part. part.tokens.items ≡ take (past 0 part.statements.items) (part_tokens c.args.source.now)) (λ part. AllByRecursion (IsWithin (length c.args.source.now)) part.tokens.items)
-    (own_tokens c.read_part.result c.args.source.now c.read_part.ensures.part c.read_part.ensures.tokens) (λ part h. within_by c.args.source.now part.tokens.items (past 0 part.statements.items) h)
+    c.read_part.ensures.tokens (λ part h. within_by c.args.source.now part.tokens.items (past 0 part.statements.items) h)
 
 pub returns-clause-part_told : goal.returns-clause-part_told
 returns-clause-part_told g c tokens told lines end k =
     matched c.read_part.result (λ part. IsPart c.args.source.now (tokens_in part) part.statements.items (lines_in part) part.ending)
-    (λ part. (tokens_in part ≡ tokens) × (part.statements.items ≡ told) × (lines_in part ≡ lines) × (part.ending ≡ end)) (IsFault c.args.source.now) (λ e. (e ≡ TooLong) ⊎ (e ≡ NoMemory))
+    (λ part. (tokens_in part ≡ tokens) × (part.statements.items ≡ told) × (lines_in part ≡ lines) × (part.ending ≡ end)) (IsFault c.args.source.now) (λ e. (e ≡ TooLong) ⊎ (e ≡ Statement NoMemory))
     c.read_part.ensures.part c.read_part.ensures.fault (λ part h. agrees c.args.source.now (tokens_in part) tokens part.statements.items told (lines_in part) lines part.ending end h k)
     (silent c.args.source.now tokens told lines end k)
 
 pub returns-clause-illegal_told : goal.returns-clause-illegal_told
 returns-clause-illegal_told g c line k =
     matched c.read_part.result (λ part. IsPart c.args.source.now (tokens_in part) part.statements.items (lines_in part) part.ending)
-    (λ part. ⊥) (IsFault c.args.source.now) (λ e. (e ≡ Illegal line) ⊎ ((e ≡ TooLong) ⊎ (e ≡ NoMemory)))
+    (λ part. ⊥) (IsFault c.args.source.now) (λ e. (e ≡ Statement (Illegal line)) ⊎ ((e ≡ TooLong) ⊎ (e ≡ Statement NoMemory)))
     c.read_part.ensures.part c.read_part.ensures.fault (λ part h. no_fault c.args.source.now (tokens_in part) part.statements.items (lines_in part) part.ending line h k)
     (tells_only c.args.source.now line k)
 

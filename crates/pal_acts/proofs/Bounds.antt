@@ -1,5 +1,5 @@
 -- The values of a source are words, where its numbers and its permanent symbols are.
-use Rattle.std.proofs.Common.{◌≡◌, ◌∙◌, sym, ap, ℕ, ◌/◌, ◌%◌, ◌<◌, ◌≤◌, List, [], ◌∷◌, ◌++◌, Bool, true, false, Option, Some, None, Result, Ok, Err, inl, inr, arith, subst, length, bit_or}
+use Rattle.std.proofs.Common.{◌≡◌, ◌∙◌, sym, ap, ℕ, ◌/◌, ◌%◌, ◌<◌, ◌≤◌, List, [], ◌∷◌, ◌++◌, Bool, true, false, Option, Some, None, Result, Ok, Err, inl, inr, arith, subst, length, bit_or, if◌then◌else◌}
 use Rattle.std.specs.Prelude.{reverse, nat_lt, nat_eq, unwrap_or, ok_or}
 use Rattle.std.specs.List.{AllByRecursion, list_all}
 use Rattle.std.specs.Option.{option_and_then}
@@ -21,10 +21,10 @@ use Rattle.pal_acts.specs.declared.act.PlacedWord.{PlacedWord}
 use Rattle.pal_acts.specs.declared.code.Code.{Code}
 use Rattle.pal_acts.specs.declared.code.Code.TheVariants.{Undefined}
 use Rattle.pal_acts.specs.Acts.{PlacedAct}
-use Rattle.pal_acts.specs.Values.{same, Values, in_table, term_value, joined, value_after, value}
+use Rattle.pal_acts.specs.Values.{same, Values, in_table, term_value, joined, value_after, value, needed}
 use Rattle.pal_acts.specs.Meaning.{location_after, location, Defines}
-use Rattle.pal_acts.specs.Words.{Marked, is_indirect, is_zero, is_reference, after_indirect, after_zero, marks, addressed, referring, base, reference, word_value, word_of}
-use Rattle.pal_acts.specs.Faults.{giving_table, assign_table, after}
+use Rattle.pal_acts.specs.Words.{Marked, indirect_mark, zero_mark, references, joins_one_of, is_mark, after_indirect, after_zero, marks, addressed, reference, word_value, word_of}
+use Rattle.pal_acts.proofs.Faulted.{giving_table, assign_table, after}
 use Rattle.pal_acts.specs.Sources.{with_word, words, last_at, IsSource}
 use Rattle.pal_acts.proofs.Unique.{stood, Before, none_left}
 
@@ -123,39 +123,39 @@ module _ (σ : Values) (given : (n : Name) → Below (σ n)) where
       (λ not. cond_both zero _ _ BelowOk (λ is. tt)
       (λ other. cond_both (nat_eq (a / 128) (here / 128)) _ _ BelowOk (λ is. or_below (bit_or b 128) (a % 128) (or_below b 128 h (omega arith)) (omega arith)) (λ is. tt)))
 
-  referring_below : (b : ℕ) (zero : Bool) (here : ℕ) (o : Option ℕ) → b < 4096 → Below o → BelowOk (referring b zero here o)
-  referring_below b zero here None h k = tt
-  referring_below b zero here (Some a) h k = addressed_below b zero here a h k
+  needed_below : (o : Option ℕ) (f : ℕ → Result ℕ Code) → Below o → ((v : ℕ) → v < 4096 → BelowOk (f v)) → BelowOk (needed o f)
+  needed_below None f h k = tt
+  needed_below (Some v) f h k = k v h
 
-  base_below : (operation : ℕ) (indirect : Bool) → operation < 4096 → base operation indirect < 4096
+  base_below : (operation : ℕ) (indirect : Bool) → operation < 4096 → (if indirect then bit_or operation 256 else operation) < 4096
   base_below operation true h = or_below operation 256 h (omega arith)
   base_below operation false h = h
 
   reference_below : (here : ℕ) (o : Option ℕ) (m : Marked) → here < 4096 → Below o → Numbers m.address → BelowOk (reference σ here o m)
-  reference_below here None m h k all = tt
-  reference_below here (Some operation) m h k all =
-      referring_below (base operation m.indirect) m.zero here (value σ here m.address) (base_below operation m.indirect k) (value_below here 0 m.address h (omega arith) all)
+  reference_below here o m h k all =
+      needed_below o _ k (λ operation lt. needed_below (value σ here m.address) _ (value_below here 0 m.address h (omega arith) all)
+      (λ a small. addressed_below (if m.indirect then bit_or operation 256 else operation) m.zero here a (base_below operation m.indirect lt) small))
 
   abbrev Marks : Marked → Type 0
   Marks m = Numbers m.address
 
   indirect_below : (js : List Join) → Numbers js → Marks (after_indirect js)
   indirect_below [] all = tt
-  indirect_below (j ∷ js) all = cond_both (is_zero j) _ _ Marks (λ is. all.1) (λ not. all)
+  indirect_below (j ∷ js) all = cond_both (is_mark zero_mark j) _ _ Marks (λ is. all.1) (λ not. all)
 
   zero_marks : (js : List Join) → Numbers js → Marks (after_zero js)
   zero_marks [] all = tt
-  zero_marks (j ∷ js) all = cond_both (is_indirect j) _ _ Marks (λ is. all.1) (λ not. all)
+  zero_marks (j ∷ js) all = cond_both (is_mark indirect_mark j) _ _ Marks (λ is. all.1) (λ not. all)
 
   marks_below : (js : List Join) → Numbers js → Marks (marks js)
   marks_below [] all = tt
   marks_below (j ∷ js) all =
-      cond_both (is_indirect j) _ _ Marks (λ is. indirect_below js all.1) (λ not. cond_both (is_zero j) _ _ Marks (λ is. zero_marks js all.1) (λ other. all))
+      cond_both (is_mark indirect_mark j) _ _ Marks (λ is. indirect_below js all.1) (λ not. cond_both (is_mark zero_mark j) _ _ Marks (λ is. zero_marks js all.1) (λ other. all))
 
   word_below : (here : ℕ) (js : List Join) → here < 4096 → Numbers js → BelowOk (word_value σ here js)
   word_below here [] h all = plain_below (value σ here []) (value_below here 0 [] h (omega arith) all)
   word_below here (j ∷ js) h all =
-      cond_both (is_reference j) _ _ BelowOk (λ is. reference_below here (term_value σ here j.term) (marks js) h (term_below here j.term h all.0) (marks_below js all.1))
+      cond_both (joins_one_of references j) _ _ BelowOk (λ is. reference_below here (term_value σ here j.term) (marks js) h (term_below here j.term h all.0) (marks_below js all.1))
       (λ not. plain_below (value σ here (j ∷ js)) (value_below here 0 (j ∷ js) h (omega arith) all))
 
   -- ---- images

@@ -10,7 +10,8 @@ use Rattle.pal_acts.specs.Values.{Values, in_table}
 use Rattle.pal_acts.specs.Meaning.{location, Defines}
 use Rattle.pal_acts.specs.Words.{word_of}
 use Rattle.pal_acts.specs.Sources.{Encodes, words, IsImage}
-use Rattle.pal_acts.specs.Faults.{next_fault, Stops, Finds}
+use Rattle.pal_acts.specs.Faults.{Stops, Finds}
+use Rattle.pal_acts.proofs.Faulted.{next_fault, failed}
 use Rattle.pal_acts.specs.Laws.{OneSource, NotBoth, OneFault}
 use Rattle.pal_acts.proofs.Unique.{stood, unique, Before}
 use Rattle.pal_acts.proofs.Images.{one_image}
@@ -78,12 +79,15 @@ module _ (perm : List (Name × ℕ)) (limit : ℕ) where
   fails_one : (e : List PlacedAct) (n : PlacedAct) (c d : Code) → Fails e n c → Fails e n d → c ≡ d
   fails_one e n c d (s, k, h) (u, l, f) = let both : Some c ≡ Some d = sym h ∙ ap (λ s. next_fault perm limit s e n) (unique perm limit e s u k l) ∙ f in cc
 
+  fails : (acts : List PlacedAct) (at : Place) (c : Code) → (h : Stops perm limit acts at c) → Fails h.earlier h.next c
+  fails acts at c h = (h.such.1.0, h.such.1.1, failed perm limit h.such.1.0 h.earlier h.next c h.such.1.2)
+
   stops_never : (acts : List PlacedAct) (at : Place) (c : Code) (s : List (Name × ℕ)) → Defines perm limit (reverse acts) s → Stops perm limit acts at c → ⊥
-  stops_never acts at c s d h = never Defined Fits Fails fits_back fits_apart fails_one acts h.earlier h.later h.next c (s, d) h.parts h.such.1
+  stops_never acts at c s d h = never Defined Fits Fails fits_back fits_apart fails_one acts h.earlier h.later h.next c (s, d) h.parts (fails acts at c h)
 
   stops_one : (acts : List PlacedAct) (at au : Place) (c d : Code) → Stops perm limit acts at c → Stops perm limit acts au d → (at ≡ au) × (c ≡ d)
   stops_one acts at au c d h k =
-      let r = first Defined Fits Fails fits_back fits_apart fails_one acts h.earlier k.earlier h.later k.later h.next k.next c d (h.such.1.0, h.such.1.1) (k.such.1.0, k.such.1.1) h.parts k.parts h.such.1 k.such.1 in
+      let r = first Defined Fits Fails fits_back fits_apart fails_one acts h.earlier k.earlier h.later k.later h.next k.next c d (h.such.1.0, h.such.1.1) (k.such.1.0, k.such.1.1) h.parts k.parts (fails acts at c h) (fails acts au d k) in
       (h.such.0 ∙ ap (λ a. a.place) r.0 ∙ sym k.such.0, r.1)
 
 module _ (σ : Values) where

@@ -1,3 +1,4 @@
+pub mod Faulted
 pub mod Table
 pub mod Flat
 pub mod Agree

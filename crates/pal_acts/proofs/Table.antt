@@ -1,11 +1,13 @@
 -- Looking names up in tables.
-use Rattle.std.proofs.Common.{◌≡◌, ◌∙◌, sym, ap, refl, ℕ, List, [], ◌∷◌, ◌++◌, Bool, Some, None, Option, is_some, inl, inr}
+use Rattle.std.proofs.Common.{◌≡◌, ◌∙◌, sym, ap, refl, ℕ, List, [], ◌∷◌, ◌++◌, Bool, Some, None, Option, Ok, is_some, inl, inr, length, ◌<◌, nat_lt, lt-ltb}
 use Rattle.std.specs.List.{list_any}
 use Rattle.std.specs.Map.{lookup, keys_of}
-use Rattle.std.proofs.lemmas.Bool.{cases_Bool}
+use Rattle.std.proofs.lemmas.Bool.{cases_Bool, cond-true}
 use Rattle.pal_text.specs.declared.names.Name.{Name}
 use Rattle.pal_acts.specs.Values.{same, in_table}
 use Rattle.pal_acts.specs.Meaning.{has}
+use Rattle.pal_acts.specs.declared.code.Code.{Code}
+use Rattle.pal_acts.specs.Faults.{given}
 
 -- a name in the first of two tables
 pub lookup-left : {K : Type 0} (test : K → Bool) (xs ys : List (K × ℕ)) (v : ℕ) → lookup test xs ≡ Some v → lookup test (xs ++ ys) ≡ Some v
@@ -44,3 +46,8 @@ lookup-none {K} test (x ∷ xs) ys h =
       | inl is ↦ cc (rw is at h)
       | inr not ↦ lookup-none test xs ys (rw not at h)
     ]
+
+-- a new name finds room
+pub given_new : (code : Code) (limit : ℕ) (own new : List (Name × ℕ)) (n : Name) (o : Option ℕ) (v : ℕ) → o ≡ None → length own < limit → new ≡ own ++ (n, v) ∷ [] → given code limit own n o v ≡ Ok new
+given_new code limit own new n o v none room e =
+    ap (λ o. given code limit own n o v) none ∙ cond-true (nat_lt (length own) limit) _ _ (lt-ltb (length own) limit room) ∙ ap Ok (sym e)

@@ -16,7 +16,7 @@ use Rattle.pal_acts.specs.declared.code.Code.TheVariants.{Redefined, DuplicateTa
 use Rattle.pal_acts.specs.Acts.{PlacedAct}
 use Rattle.pal_acts.specs.Values.{same, Values, in_table, term_value, joined, value_after, value}
 use Rattle.pal_acts.specs.Meaning.{location, giving, givings, has, with_name, names_after, names, IsTermOf, Names, IsLawfulAct, IsLawful, IsGiven, Defines}
-use Rattle.pal_acts.specs.Faults.{giving_fault, giving_table, fault, after, origin_fault, assign_fault, assign_table, next_table}
+use Rattle.pal_acts.proofs.Faulted.{giving_fault, giving_table, fault, after, origin_fault, assign_fault, assign_table, next_table}
 use Rattle.pal_acts.proofs.Table.{lookup-right, has_lookup}
 use Rattle.pal_acts.proofs.Agree.{Agrees, value_agree, location_agree, givings_agree, grows, has-after, has_not, has_it, keys-append, same_self}
 

@@ -1,71 +1,41 @@
 -- The first fault of a source, at the place of its act.
-use Rattle.std.specs.Prelude.{◌≡◌, ℕ, ◌+◌, nat_lt, nat_eq, if◌then◌else◌, List, [], ◌∷◌, ◌++◌, length, reverse, Option, Some, None, Ok, Err, ◌⊎◌}
+use Rattle.std.specs.Prelude.{◌≡◌, ℕ, ◌+◌, nat_lt, nat_eq, if◌then◌else◌, List, [], ◌∷◌, ◌++◌, length, reverse, Option, Some, None, Result, Ok, Err, ◌⊎◌}
 use Rattle.pal_text.specs.declared.names.Name.{Name}
 use Rattle.pal_acts.specs.declared.act.Join.{Join}
 use Rattle.pal_acts.specs.declared.act.Act.{Act}
 use Rattle.pal_acts.specs.declared.act.Act.TheVariants as act
 use Rattle.pal_acts.specs.declared.act.Place.{Place}
 use Rattle.pal_acts.specs.declared.code.Code.{Code}
-use Rattle.pal_acts.specs.declared.code.Code.TheVariants.{Redefined, DuplicateTag, Undefined, TableFull, PauseInLastPart}
+use Rattle.pal_acts.specs.declared.code.Code.TheVariants.{Redefined, DuplicateTag, TableFull, PauseInLastPart}
 use Rattle.pal_acts.specs.declared.assembly.Refused.{Refused}
 use Rattle.pal_acts.specs.declared.assembly.Refused.TheVariants.{Fault, NoMemory}
 use Rattle.pal_acts.specs.Acts.{PlacedAct}
-use Rattle.pal_acts.specs.Values.{Values, known, value}
+use Rattle.pal_acts.specs.Values.{Values, known, value, needed}
 use Rattle.pal_acts.specs.Meaning.{location, Defines}
 use Rattle.pal_acts.specs.Words.{word_of}
 use Rattle.pal_acts.specs.Sources.{Encodes}
 
--- The fault of giving a value to a name that has this one or none, where so many symbols are defined: another value has
--- the given code, and a new name may find the table full.
-abbrev pub giving_fault : Code → ℕ → ℕ → Option ℕ → ℕ → Option Code
-giving_fault code limit count None v = if nat_lt count limit then None else Some TableFull
-giving_fault code limit count (Some w) v = if nat_eq w v then None else Some code
-
--- The own symbols after that: a name that had no value comes last.
-abbrev pub giving_table : List (Name × ℕ) → Name → Option ℕ → ℕ → List (Name × ℕ)
-giving_table own n None v = own ++ (n, v) ∷ []
-giving_table own n (Some w) v = own
-
-abbrev pub origin_fault : Option ℕ → Option Code
-origin_fault None = Some Undefined
-origin_fault (Some v) = None
-
--- A direction can't be given a value.
-abbrev pub direction_fault : Option ℕ → Code
-direction_fault None = Undefined
-direction_fault (Some v) = Redefined
+-- The own symbols once a name has this value, where it had that one or none before, which comes last then. Another value
+-- has the given code, and a new name may find the table full.
+abbrev pub given : Code → ℕ → List (Name × ℕ) → Name → Option ℕ → ℕ → Result (List (Name × ℕ)) Code
+given code limit own n None v = if nat_lt (length own) limit then Ok (own ++ (n, v) ∷ []) else Err TableFull
+given code limit own n (Some w) v = if nat_eq w v then Ok own else Err code
 
 module _ (permanent : List (Name × ℕ)) (limit : ℕ) (own : List (Name × ℕ)) where
-  abbrev pub assign_fault : Name → Option ℕ → Option Code
-  assign_fault n None = Some Undefined
-  assign_fault n (Some v) = giving_fault Redefined limit (length own) (known permanent own n) v
+  -- The own symbols after an act at this location, where these are those before it, or its fault. That of a word is looked
+  -- for later. A direction can't be given a value.
+  abbrev pub taken : ℕ → List Join → Act → Result (List (Name × ℕ)) Code
+  taken here e (act.Wrong c) = Err c
+  taken here e (act.Tag n) = given DuplicateTag limit own n (known permanent own n) here
+  taken here e act.Origin = needed (value (known permanent own) here e) (λ v. Ok own)
+  taken here e (act.Assign n) = needed (value (known permanent own) here e) (given Redefined limit own n (known permanent own n))
+  taken here e act.AssignDirection = needed (value (known permanent own) here e) (λ v. Err Redefined)
+  taken here e act.Word = Ok own
+  taken here e act.LastPause = Err PauseInLastPart
 
-  -- The fault of an act at this location, where these are the own symbols before it. That of a word is looked for later.
-  abbrev pub fault : ℕ → List Join → Act → Option Code
-  fault here e (act.Wrong c) = Some c
-  fault here e (act.Tag n) = giving_fault DuplicateTag limit (length own) (known permanent own n) here
-  fault here e act.Origin = origin_fault (value (known permanent own) here e)
-  fault here e (act.Assign n) = assign_fault n (value (known permanent own) here e)
-  fault here e act.AssignDirection = Some (direction_fault (value (known permanent own) here e))
-  fault here e act.Word = None
-  fault here e act.LastPause = Some PauseInLastPart
-
-  abbrev pub assign_table : Name → Option ℕ → List (Name × ℕ)
-  assign_table n None = own
-  assign_table n (Some v) = giving_table own n (known permanent own n) v
-
-  -- The own symbols after an act that has no fault.
-  abbrev pub after : ℕ → List Join → Act → List (Name × ℕ)
-  after here e (act.Tag n) = giving_table own n (known permanent own n) here
-  after here e (act.Assign n) = assign_table n (value (known permanent own) here e)
-  after here e _ = own
-
-  -- The fault of an act after others whose own symbols these are, and the own symbols after it.
-  abbrev pub next_fault : List PlacedAct → PlacedAct → Option Code
-  next_fault before next = fault (location (known permanent own) before) next.terms next.act
-
-  abbrev pub next_table : List PlacedAct → PlacedAct → List (Name × ℕ)
-  next_table before next = after (location (known permanent own) before) next.terms next.act
+  -- The same for an act after others, whose own symbols these are.
+  abbrev pub next_taken : List PlacedAct → PlacedAct → Result (List (Name × ℕ)) Code
+  next_taken before next = taken (location (known permanent own) before) next.terms next.act
 
 -- One of these acts is such after those before it, which have the newest first.
 pub record Meets (acts : List PlacedAct) (Such : List PlacedAct → PlacedAct → Type 0) : Type 0 where
@@ -78,7 +48,7 @@ pub record Meets (acts : List PlacedAct) (Such : List PlacedAct → PlacedAct �
 -- The first fault that isn't a word's: it is that of an act at this place, and the acts before it have these symbols.
 abbrev pub Stops : List (Name × ℕ) → ℕ → List PlacedAct → Place → Code → Type 0
 Stops permanent limit acts place code = Meets acts (λ before next. (place ≡ next.place)
-    × ((own : List (Name × ℕ)) × Defines permanent limit before own × (next_fault permanent limit own before next ≡ Some code)))
+    × ((own : List (Name × ℕ)) × Defines permanent limit before own × (next_taken permanent limit own before next ≡ Err code)))
 
 -- The first fault of a word: it is that of an act at this place, and the words before it have none.
 abbrev pub Finds : Values → List PlacedAct → Place → Code → Type 0
@@ -92,8 +62,8 @@ IsRefused permanent limit acts place code = Stops permanent limit acts place cod
 
 -- An act asks for memory: those before it have no fault, and it has none and defines a symbol that had no value.
 abbrev pub AsksForMemory : List (Name × ℕ) → ℕ → List PlacedAct → Type 0
-AsksForMemory permanent limit acts = Meets acts (λ before next. (own : List (Name × ℕ)) × Defines permanent limit before own
-    × (next_fault permanent limit own before next ≡ None) × (length (next_table permanent limit own before next) ≡ length own + 1))
+AsksForMemory permanent limit acts = Meets acts (λ before next. (own new : List (Name × ℕ)) × Defines permanent limit before own
+    × (next_taken permanent limit own before next ≡ Ok new) × (length new ≡ length own + 1))
 
 -- A source is refused so: by its fault, or where memory is refused at an act that asks for some.
 abbrev pub Refuses : List (Name × ℕ) → ℕ → List PlacedAct → Refused → Type 0

@@ -5,7 +5,7 @@ use Rattle.std.specs.List.{AllByRecursion, list_any}
 use Rattle.std.specs.Map.{keys_of}
 use Rattle.pal_text.specs.declared.names.Name.{Name}
 use Rattle.pal_acts.specs.declared.act.Term.{Term}
-use Rattle.pal_acts.specs.declared.act.Term.TheVariants.{Number, Symbol, Here}
+use Rattle.pal_acts.specs.declared.act.Term.TheVariants.{Symbol}
 use Rattle.pal_acts.specs.declared.act.Join.{Join}
 use Rattle.pal_acts.specs.declared.act.Act.{Act}
 use Rattle.pal_acts.specs.declared.act.Act.TheVariants as act
@@ -55,9 +55,8 @@ names permanent (a ∷ before) = names_after (names permanent before) a.act
 
 -- A term names no other symbol than these.
 abbrev pub IsTermOf : List Name → Term → Type 0
-IsTermOf ns (Number w) = Unit {0}
 IsTermOf ns (Symbol n) = has ns n ≡ true
-IsTermOf ns Here = Unit {0}
+IsTermOf ns _ = Unit {0}
 
 -- An expression names no other symbols than these.
 abbrev pub Names : List Name → List Join → Type 0

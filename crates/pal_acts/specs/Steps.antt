@@ -1,5 +1,5 @@
 -- One act after another: the private contracts of the calls below `assemble`.
-use Rattle.std.specs.Prelude.{◌≡◌, ℕ, ◌+◌, List, ◌∷◌, length, reverse, Option, Some, None, Ok, Err}
+use Rattle.std.specs.Prelude.{◌≡◌, ℕ, ◌+◌, List, ◌∷◌, length, reverse, Option, Some, None, Result, Ok, Err}
 use Rattle.pal_text.specs.declared.names.Name.{Name}
 use Rattle.pal_acts.specs.declared.act.PlacedWord.{PlacedWord}
 use Rattle.pal_acts.specs.declared.code.Code.{Code}
@@ -10,14 +10,15 @@ use Rattle.pal_acts.specs.declared.assembly.Refused.TheVariants.{Fault, NoMemory
 use Rattle.pal_acts.specs.Acts.{PlacedAct}
 use Rattle.pal_acts.specs.Values.{Values}
 use Rattle.pal_acts.specs.Meaning.{location}
-use Rattle.pal_acts.specs.Words.{word_of}
+use Rattle.pal_acts.specs.declared.words.Marks.{Marks}
+use Rattle.pal_acts.specs.Words.{Marked, marked, word_of}
 use Rattle.pal_acts.specs.Sources.{Encodes, words, IsImage}
 use Rattle.pal_acts.specs.Faults.{Stops, AsksForMemory, Finds, AsksForWord}
 
--- A refusal by this fault; or memory was refused where there is no fault and the symbols become one more.
-abbrev pub IsFault : ℕ → Option Code → List (Name × ℕ) → Refusal → Type 0
-IsFault count f new (refusal.Fault code) = f ≡ Some code
-IsFault count f new refusal.NoMemory = (f ≡ None) × (length new ≡ count + 1)
+-- A refusal by the fault in place of symbols; or memory was refused where they become one more.
+abbrev pub IsFault : ℕ → Result (List (Name × ℕ)) Code → Refusal → Type 0
+IsFault count taken (refusal.Fault code) = taken ≡ Err code
+IsFault count taken refusal.NoMemory = (new : List (Name × ℕ)) × (taken ≡ Ok new) × (length new ≡ count + 1)
 
 -- The acts are refused before their words are looked at.
 abbrev pub StopsBy : List (Name × ℕ) → ℕ → List PlacedAct → Refused → Type 0
@@ -53,3 +54,7 @@ Keeps σ next kept here kept' here' = (before : List PlacedAct) → here ≡ loc
 abbrev pub BreaksKeeping : Values → ℕ → PlacedAct → Refused → Type 0
 BreaksKeeping σ here next (Fault place code) = (place ≡ next.place) × (word_of σ here next.terms next.act ≡ Some (Err code))
 BreaksKeeping σ here next NoMemory = (w : ℕ) × (word_of σ here next.terms next.act ≡ Some (Ok w))
+
+-- What follows an operation that takes an address, as it is lent.
+abbrev pub marks_in : Marks → Marked
+marks_in m = marked m.indirect m.zero m.address.now

@@ -1,5 +1,5 @@
 -- The values of names and of expressions. A word is a number below 4096.
-use Rattle.std.specs.Prelude.{ℕ, ◌+◌, ◌-◌, ◌%◌, Bool, List, [], ◌∷◌, ◌++◌, Option, Some, bit_or, nat_eq}
+use Rattle.std.specs.Prelude.{ℕ, ◌+◌, ◌-◌, ◌%◌, Bool, List, [], ◌∷◌, ◌++◌, Option, Some, None, Result, Err, bit_or, nat_eq}
 use Rattle.std.specs.Cmp.Lexicographic.{pointwise}
 use Rattle.std.specs.Option.{option_and_then}
 use Rattle.std.specs.Map.{lookup}
@@ -9,6 +9,8 @@ use Rattle.pal_acts.specs.declared.act.Sign.TheVariants.{Plus, Minus, Or}
 use Rattle.pal_acts.specs.declared.act.Term.{Term}
 use Rattle.pal_acts.specs.declared.act.Term.TheVariants.{Number, Symbol, Here}
 use Rattle.pal_acts.specs.declared.act.Join.{Join}
+use Rattle.pal_acts.specs.declared.code.Code.{Code}
+use Rattle.pal_acts.specs.declared.code.Code.TheVariants.{Undefined}
 
 -- Two names are the same where all their characters are.
 abbrev pub same : Name → Name → Bool
@@ -46,3 +48,8 @@ value_after σ here a (j ∷ js) = option_and_then (λ v. value_after σ here (j
 -- The value of an expression at a location: its terms joined to 0.
 abbrev pub value : Values → ℕ → List Join → Option ℕ
 value σ here js = value_after σ here 0 js
+
+-- What a value gives; without one a symbol is undefined.
+abbrev pub needed : {X : Type 0} → Option ℕ → (ℕ → Result X Code) → Result X Code
+needed None f = Err Undefined
+needed (Some v) f = f v

@@ -3,15 +3,15 @@ use Rattle.std.specs.Prelude.{ℕ, ◌/◌, ◌%◌, Bool, true, false, ◌&&◌
 use Rattle.std.specs.List.{list_any}
 use Rattle.pal_text.specs.declared.names.Name.{Name}
 use Rattle.pal_acts.specs.declared.act.Sign.{Sign}
-use Rattle.pal_acts.specs.declared.act.Sign.TheVariants.{Plus, Minus, Or}
+use Rattle.pal_acts.specs.declared.act.Sign.TheVariants.{Or}
 use Rattle.pal_acts.specs.declared.act.Term.{Term}
-use Rattle.pal_acts.specs.declared.act.Term.TheVariants.{Number, Symbol, Here}
+use Rattle.pal_acts.specs.declared.act.Term.TheVariants.{Symbol}
 use Rattle.pal_acts.specs.declared.act.Join.{Join}
 use Rattle.pal_acts.specs.declared.act.Act.{Act}
 use Rattle.pal_acts.specs.declared.act.Act.TheVariants as act
 use Rattle.pal_acts.specs.declared.code.Code.{Code}
 use Rattle.pal_acts.specs.declared.code.Code.TheVariants.{Undefined, IllegalReference}
-use Rattle.pal_acts.specs.Values.{Values, same, term_value, value}
+use Rattle.pal_acts.specs.Values.{Values, same, term_value, value, needed}
 
 -- The name with these six characters.
 abbrev pub named : List ℕ → Name
@@ -32,27 +32,20 @@ references =
 
 abbrev pub is_or : Sign → Bool
 is_or Or = true
-is_or Plus = false
-is_or Minus = false
+is_or _ = false
 
 -- A term is one of these symbols.
 abbrev pub is_one_of : List Name → Term → Bool
 is_one_of ns (Symbol n) = list_any (same n) ns
-is_one_of ns (Number w) = false
-is_one_of ns Here = false
+is_one_of ns _ = false
 
 -- A term stands where it begins an expression or follows a space, and is one of these symbols.
 abbrev pub joins_one_of : List Name → Join → Bool
 joins_one_of ns j = is_or j.sign && is_one_of ns j.term
 
-abbrev pub is_reference : Join → Bool
-is_reference j = joins_one_of references j
-
-abbrev pub is_indirect : Join → Bool
-is_indirect j = joins_one_of (indirect_mark ∷ []) j
-
-abbrev pub is_zero : Join → Bool
-is_zero j = joins_one_of (zero_mark ∷ []) j
+-- The same of one symbol.
+abbrev pub is_mark : Name → Join → Bool
+is_mark n j = joins_one_of (n ∷ []) j
 
 -- What follows an operation that takes an address: whether I stands there, whether Z does, and the address after them.
 pub record Marked : Type 0 where
@@ -65,16 +58,16 @@ marked i z js = record { indirect = i; zero = z; address = js }
 
 abbrev pub after_indirect : List Join → Marked
 after_indirect [] = marked true false []
-after_indirect (j ∷ js) = if is_zero j then marked true true js else marked true false (j ∷ js)
+after_indirect (j ∷ js) = if is_mark zero_mark j then marked true true js else marked true false (j ∷ js)
 
 abbrev pub after_zero : List Join → Marked
 after_zero [] = marked false true []
-after_zero (j ∷ js) = if is_indirect j then marked true true js else marked false true (j ∷ js)
+after_zero (j ∷ js) = if is_mark indirect_mark j then marked true true js else marked false true (j ∷ js)
 
 -- I and Z, in either order, each at most once; the rest is the address.
 abbrev pub marks : List Join → Marked
 marks [] = marked false false []
-marks (j ∷ js) = if is_indirect j then after_indirect js else if is_zero j then after_zero js else marked false false (j ∷ js)
+marks (j ∷ js) = if is_mark indirect_mark j then after_indirect js else if is_mark zero_mark j then after_zero js else marked false false (j ∷ js)
 
 -- A reference to an address: below 0200 it is coded on page zero; in the page of the location with 0200, unless Z stands
 -- there; no other address can be referred to.
@@ -85,23 +78,15 @@ addressed base zero here a =
     else if nat_eq (a / 0o200) (here / 0o200) then Ok (bit_or (bit_or base 0o200) (a % 0o200))
     else Err IllegalReference
 
-abbrev pub referring : ℕ → Bool → ℕ → Option ℕ → Result ℕ Code
-referring base zero here None = Err Undefined
-referring base zero here (Some a) = addressed base zero here a
-
--- An operation, with 0400 where the reference is indirect.
-abbrev pub base : ℕ → Bool → ℕ
-base operation indirect = if indirect then bit_or operation 0o400 else operation
-
+-- An operation with the address that follows it, and with 0400 where the reference is indirect.
 abbrev pub reference : Values → ℕ → Option ℕ → Marked → Result ℕ Code
-reference σ here None m = Err Undefined
-reference σ here (Some operation) m = referring (base operation m.indirect) m.zero here (value σ here m.address)
+reference σ here operation m = needed operation (λ o. needed (value σ here m.address) (addressed (if m.indirect then bit_or o 0o400 else o) m.zero here))
 
 -- The word that an expression is at a location, or why it is none: a reference where it begins with an operation that
 -- takes an address, and its value otherwise. With a symbol that has no value it is none.
 abbrev pub word_value : Values → ℕ → List Join → Result ℕ Code
 word_value σ here [] = ok_or (value σ here []) Undefined
-word_value σ here (j ∷ js) = if is_reference j then reference σ here (term_value σ here j.term) (marks js) else ok_or (value σ here (j ∷ js)) Undefined
+word_value σ here (j ∷ js) = if joins_one_of references j then reference σ here (term_value σ here j.term) (marks js) else ok_or (value σ here (j ∷ js)) Undefined
 
 -- The word of an act at this location, or why it is none; an act that isn't to be a word has neither.
 abbrev pub word_of : Values → ℕ → List Join → Act → Option (Result ℕ Code)

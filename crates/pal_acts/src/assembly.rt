@@ -1,6 +1,6 @@
 //! The meaning of a source, or its first fault.
 
-ghost use Rattle.std.specs.Prelude.{◌≡◌, ◌⊎◌, Some, Err, reverse, IfOk, IfErr, OnOk, MatchResult, ℕ, List, Option};
+ghost use Rattle.std.specs.Prelude.{◌≡◌, ◌⊎◌, [], Some, Err, reverse, IfOk, IfErr, OnOk, MatchResult, ℕ, List, Option};
 ghost use Rattle.pal_text.specs.declared.names.Name.{Name as Named};
 ghost use Rattle.pal_acts.specs.declared.act.Place.{Place as Placing};
 ghost use Rattle.pal_acts.specs.declared.code.Code.{Code as Coded};
@@ -44,6 +44,29 @@ pub struct AssembledWords<'p, A: Allocator + Copy> {
     pub words: Vec<PlacedWord, A>,
 }
 
+/// Takes acts one after another into symbols of which there are none yet but the permanent ones.
+fn take_acts<A: Allocator + Copy>(
+    symbols: &mut Symbols<'_, A>,
+    acts: &Acts<A>,
+) -> Result<(), Refused>
+    requires { symbols.old.own.entries ≡ [] }
+    ensures symbols { OnOk result (Defines symbols.old.permanent.now.entries 1024
+        (reverse acts.now) symbols.new.own.entries) }
+    ensures permanent { symbols.new.permanent.now.entries ≡ symbols.old.permanent.now.entries }
+    ensures refused { IfErr result (StopsBy symbols.old.permanent.now.entries 1024 acts.now) }
+{
+    let mut here = Word::from_index(0o200);
+    for at in 0..acts.len() {
+        let next = acts.get(at);
+        match symbols.act(&mut here, next.act, next.terms) {
+            Ok(()) => {}
+            Err(Refusal::Fault(code)) => return Err(Refused::Fault(next.place, code)),
+            Err(Refusal::NoMemory) => return Err(Refused::NoMemory),
+        }
+    }
+    Ok(())
+}
+
 /// The symbols of a source.
 fn define<'p, A: Allocator + Copy>(
     alloc: A,
@@ -56,15 +79,7 @@ fn define<'p, A: Allocator + Copy>(
     ensures refused { IfErr result (StopsBy permanent.now.entries 1024 acts.now) }
 {
     let mut symbols = Symbols::new(alloc, permanent);
-    let mut here = Word::from_index(0o200);
-    for at in 0..acts.len() {
-        let next = acts.get(at);
-        match symbols.act(&mut here, next.act, next.terms) {
-            Ok(()) => {}
-            Err(Refusal::Fault(code)) => return Err(Refused::Fault(next.place, code)),
-            Err(Refusal::NoMemory) => return Err(Refused::NoMemory),
-        }
-    }
+    take_acts(&mut symbols, acts)?;
     Ok(symbols)
 }
 
@@ -171,6 +186,28 @@ fn encode<A: Allocator + Copy>(symbols: &Symbols<'_, A>, acts: &Acts<A>) -> Resu
     Ok(image)
 }
 
+/// Keeps the words of acts whose symbols these are in an empty list, up to the first fault of a
+/// word.
+fn keep_all<A: Allocator + Copy>(
+    symbols: &Symbols<'_, A>,
+    acts: &Acts<A>,
+    kept: &mut Vec<PlacedWord, A>,
+) -> Result<(), Refused>
+    requires { kept.old.items ≡ [] }
+    ensures encodes { OnOk result (Encodes (known symbols.now.permanent.now.entries
+        symbols.now.own.entries) (reverse acts.now)) }
+    ensures words { OnOk result (kept.new.items ≡
+        all_words (known symbols.now.permanent.now.entries symbols.now.own.entries) acts.now) }
+    ensures refused { IfErr result (FindsKeeping (known symbols.now.permanent.now.entries
+        symbols.now.own.entries) acts.now) }
+{
+    let mut here = Word::from_index(0o200);
+    for at in 0..acts.len() {
+        keep(symbols, acts.get(at), kept, &mut here)?;
+    }
+    Ok(())
+}
+
 /// The words of acts whose symbols these are, or the first fault of a word.
 fn keep_words<A: Allocator + Copy>(
     alloc: A,
@@ -185,10 +222,7 @@ fn keep_words<A: Allocator + Copy>(
         symbols.now.own.entries) acts.now) }
 {
     let mut kept = Vec::new(alloc);
-    let mut here = Word::from_index(0o200);
-    for at in 0..acts.len() {
-        keep(symbols, acts.get(at), &mut kept, &mut here)?;
-    }
+    keep_all(symbols, acts, &mut kept)?;
     Ok(kept)
 }
 

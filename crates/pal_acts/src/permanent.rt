@@ -79,6 +79,7 @@ const SYMBOLS: [([u8; 6], usize); ALL] = [
 ];
 
 /// Puts symbols with their values as words into a table, one after another.
+#[inline(always)]
 fn fill<A: Allocator + Copy>(
     table: &mut SymbolTable<A>,
     symbols: &[([u8; 6], usize)],

@@ -1,9 +1,9 @@
 //! The symbols of a source and their values.
 
-ghost use Rattle.std.specs.Prelude.{◌≡◌, None, [], ◌++◌, length, OnOk, IfErr};
+ghost use Rattle.std.specs.Prelude.{◌≡◌, Ok, [], length, OnOk, IfErr};
 ghost use Rattle.pal_acts.specs.Values.{known, term_value, value, joined};
 ghost use Rattle.pal_acts.specs.Meaning.{location_after};
-ghost use Rattle.pal_acts.specs.Faults.{giving_fault, giving_table, fault, after};
+ghost use Rattle.pal_acts.specs.Faults.{given, taken};
 ghost use Rattle.pal_acts.specs.Steps.{IsFault};
 
 use crate::act::{Act, Join, Name, Sign, Term};
@@ -94,15 +94,11 @@ impl<'p, A: Allocator + Copy> Symbols<'p, A> {
     /// Gives a name a value. Where it has another, that is the fault `other`.
     #[inline(always)]
     fn give(&mut self, name: Name, value: Word, other: Code) -> Result<(), Refusal>
-        ensures sound { OnOk result (giving_fault other 1024 (length self.old.own.entries)
-            (known self.old.permanent.now.entries self.old.own.entries name) value ≡ None) }
-        ensures given { OnOk result (self.new.own.entries ≡
-            giving_table self.old.own.entries name
-            (known self.old.permanent.now.entries self.old.own.entries name) value) }
+        ensures given { OnOk result (given other 1024 self.old.own.entries name
+            (known self.old.permanent.now.entries self.old.own.entries name) value ≡
+            Ok self.new.own.entries) }
         ensures refused { IfErr result (IsFault (length self.old.own.entries)
-            (giving_fault other 1024 (length self.old.own.entries)
-            (known self.old.permanent.now.entries self.old.own.entries name) value)
-            (giving_table self.old.own.entries name
+            (given other 1024 self.old.own.entries name
             (known self.old.permanent.now.entries self.old.own.entries name) value)) }
         ensures permanent { self.new.permanent ≡ self.old.permanent }
     {
@@ -128,15 +124,12 @@ impl<'p, A: Allocator + Copy> Symbols<'p, A> {
 
     /// Takes the next act, at the current location; its word is not looked at.
     pub(crate) fn act(&mut self, here: &mut Word, act: Act, terms: &[Join]) -> Result<(), Refusal>
-        ensures sound { OnOk result (fault self.old.permanent.now.entries 1024
-            self.old.own.entries here.old terms.now act ≡ None) }
-        ensures symbols { OnOk result (self.new.own.entries ≡ after self.old.permanent.now.entries
-            1024 self.old.own.entries here.old terms.now act) }
+        ensures taken { OnOk result (taken self.old.permanent.now.entries 1024
+            self.old.own.entries here.old terms.now act ≡ Ok self.new.own.entries) }
         ensures location { OnOk result (here.new ≡ location_after
             (known self.old.permanent.now.entries self.old.own.entries) here.old terms.now act) }
         ensures refused { IfErr result (IsFault (length self.old.own.entries)
-            (fault self.old.permanent.now.entries 1024 self.old.own.entries here.old terms.now act)
-            (after self.old.permanent.now.entries 1024 self.old.own.entries here.old terms.now
+            (taken self.old.permanent.now.entries 1024 self.old.own.entries here.old terms.now
             act)) }
         ensures permanent { self.new.permanent ≡ self.old.permanent }
     {

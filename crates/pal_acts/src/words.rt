@@ -1,9 +1,10 @@
 //! The word that an expression is.
 
-ghost use Rattle.std.specs.Prelude.{◌≡◌, [], ◌∷◌};
+ghost use Rattle.std.specs.Prelude.{◌≡◌};
 ghost use Rattle.std.specs.List.{list_any};
-ghost use Rattle.pal_acts.specs.Values.{same, known};
-ghost use Rattle.pal_acts.specs.Words.{joins_one_of, is_indirect, is_zero, is_reference, references, marks, addressed, word_value};
+ghost use Rattle.pal_acts.specs.Values.{same, term_value, known};
+ghost use Rattle.pal_acts.specs.Words.{joins_one_of, is_mark, references, marked, marks, addressed, reference, word_value};
+ghost use Rattle.pal_acts.specs.Steps.{marks_in};
 
 use crate::act::{Join, Name, Sign, Term};
 use crate::code::Code;
@@ -56,9 +57,7 @@ struct Marks<'t> {
 
 impl<'t> Marks<'t> {
     fn new(indirect: bool, zero: bool, address: &'t [Join]) -> Marks<'t>
-        ensures indirect { result.indirect ≡ indirect }
-        ensures zero { result.zero ≡ zero }
-        ensures address { result.address.now ≡ address.now }
+        ensures { marks_in result ≡ marked indirect zero address.now }
     {
         Marks {
             indirect,
@@ -85,7 +84,7 @@ fn takes_address(name: Name) -> bool
 
 /// Whether a term begins an expression or follows a space, and is this symbol.
 fn is_mark(mark: Name, join: &Join) -> bool
-    ensures { result ≡ joins_one_of (mark ∷ []) join.now }
+    ensures { result ≡ is_mark mark join.now }
 {
     match (join.sign, join.term) {
         (Sign::Or, Term::Symbol(name)) => name == mark,
@@ -93,20 +92,8 @@ fn is_mark(mark: Name, join: &Join) -> bool
     }
 }
 
-fn indirect(join: &Join) -> bool
-    ensures { result ≡ is_indirect join.now }
-{
-    is_mark(INDIRECT, join)
-}
-
-fn zero_page(join: &Join) -> bool
-    ensures { result ≡ is_zero join.now }
-{
-    is_mark(ZERO_PAGE, join)
-}
-
 fn refers(join: &Join) -> bool
-    ensures { result ≡ is_reference join.now }
+    ensures { result ≡ joins_one_of references join.now }
 {
     match (join.sign, join.term) {
         (Sign::Or, Term::Symbol(name)) => takes_address(name),
@@ -116,17 +103,15 @@ fn refers(join: &Join) -> bool
 
 /// What follows an operation: after I, Z may stand, and after Z, I.
 fn marks_of<'t>(joins: &'t [Join]) -> Marks<'t>
-    ensures indirect { result.indirect ≡ (marks joins.now).indirect }
-    ensures zero { result.zero ≡ (marks joins.now).zero }
-    ensures address { result.address.now ≡ (marks joins.now).address }
+    ensures { marks_in result ≡ marks joins.now }
 {
     match joins {
-        [first, rest @ ..] if indirect(first) => match rest {
-            [second, address @ ..] if zero_page(second) => Marks::new(true, true, address),
+        [first, rest @ ..] if is_mark(INDIRECT, first) => match rest {
+            [second, address @ ..] if is_mark(ZERO_PAGE, second) => Marks::new(true, true, address),
             address => Marks::new(true, false, address),
         },
-        [first, rest @ ..] if zero_page(first) => match rest {
-            [second, address @ ..] if indirect(second) => Marks::new(true, true, address),
+        [first, rest @ ..] if is_mark(ZERO_PAGE, first) => match rest {
+            [second, address @ ..] if is_mark(INDIRECT, second) => Marks::new(true, true, address),
             address => Marks::new(false, true, address),
         },
         address => Marks::new(false, false, address),
@@ -149,6 +134,28 @@ fn address_in(base: Word, zero: bool, here: Word, address: Word) -> Result<Word,
 }
 
 impl<'p, A: Allocator + Copy> Symbols<'p, A> {
+    /// The word of an operation that takes an address, with what follows it.
+    #[inline(always)]
+    fn reference(&self, here: Word, operation: Term, rest: &[Join]) -> Result<Word, Code>
+        ensures { result ≡ reference (known self.now.permanent.now.entries self.now.own.entries)
+            here (term_value (known self.now.permanent.now.entries self.now.own.entries) here
+            operation) (marks rest.now) }
+    {
+        let Some(operation) = self.term(here, operation) else {
+            return Err(Code::Undefined);
+        };
+        let marks = marks_of(rest);
+        let Some(address) = self.value(here, marks.address) else {
+            return Err(Code::Undefined);
+        };
+        let base = if marks.indirect {
+            operation.or(Word::from_index(0o400))
+        } else {
+            operation
+        };
+        address_in(base, marks.zero, here, address)
+    }
+
     /// The word that an expression is at a location.
     ///
     /// # Errors
@@ -160,26 +167,9 @@ impl<'p, A: Allocator + Copy> Symbols<'p, A> {
         ensures { result ≡ word_value (known self.now.permanent.now.entries self.now.own.entries)
             here joins.now }
     {
-        if let [first, rest @ ..] = joins
-            && refers(first)
-        {
-            let Some(operation) = self.term(here, first.term) else {
-                return Err(Code::Undefined);
-            };
-            let marks = marks_of(rest);
-            let base = if marks.indirect {
-                operation.or(Word::from_index(0o400))
-            } else {
-                operation
-            };
-            return match self.value(here, marks.address) {
-                Some(address) => address_in(base, marks.zero, here, address),
-                None => Err(Code::Undefined),
-            };
-        }
-        match self.value(here, joins) {
-            Some(word) => Ok(word),
-            None => Err(Code::Undefined),
+        match joins {
+            [first, rest @ ..] if refers(first) => self.reference(here, first.term, rest),
+            _ => self.value(here, joins).ok_or(Code::Undefined),
         }
     }
 }

@@ -44,6 +44,22 @@ fn keep_lines<'s, A: Allocator + Copy>(
     Ok(())
 }
 
+/// Keeps the lines of parts.
+fn keep_fronts<'s, A: Allocator + Copy>(
+    alloc: A,
+    fronts: &[Front<'s>],
+    kept: &mut Vec<ListedLine<'s>, A>,
+) -> Result<(), AllocError>
+    requires { kept.old.items ≡ [] }
+    ensures { OnOk result (lines_in kept.new.items ≡ lines_of_fronts fronts.now) }
+{
+    for front in fronts {
+        let lines = lines_of(alloc, front.bytes)?;
+        keep_lines(front, &lines, kept)?;
+    }
+    Ok(())
+}
+
 /// The lines of parts.
 fn listed_lines<'s, A: Allocator + Copy>(
     alloc: A,
@@ -52,10 +68,7 @@ fn listed_lines<'s, A: Allocator + Copy>(
     ensures { IfOk result (λ lines. lines_in lines.items ≡ lines_of_fronts fronts.now) }
 {
     let mut kept = Vec::new(alloc);
-    for front in fronts {
-        let lines = lines_of(alloc, front.bytes)?;
-        keep_lines(front, &lines, &mut kept)?;
-    }
+    keep_fronts(alloc, fronts, &mut kept)?;
     Ok(kept)
 }
 

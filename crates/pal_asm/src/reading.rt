@@ -1,6 +1,6 @@
 //! What the parts of a source do.
 
-ghost use Rattle.std.specs.Prelude.{◌≡◌, ◌≤◌, IfOk, IfErr, length, None};
+ghost use Rattle.std.specs.Prelude.{◌≡◌, ◌≤◌, [], IfOk, OnOk, IfErr, length, None};
 ghost use Rattle.pal_asm.specs.declared.number.Radix.TheVariants.{Octal};
 ghost use Rattle.pal_asm.specs.Sources.{Reads, size_fault, texts};
 ghost use Rattle.pal_asm.specs.Kept.{lines_of_fronts, IsRead, StopsPart, Turns};
@@ -8,7 +8,7 @@ ghost use Rattle.pal_asm.specs.Kept.{lines_of_fronts, IsRead, StopsPart, Turns};
 use crate::front::Front;
 use crate::number::Radix;
 use crate::statement::{NumberedPart, keep_statement};
-use pal_acts::{Act, Acts, Code, Place};
+use pal_acts::{Act, Acts, Code, Join, Place};
 use pal_text::{Close, Ending, Next, Reader, StatementFault};
 use std::alloc::{AllocError, Allocator};
 
@@ -26,7 +26,37 @@ pub(crate) struct Reached {
     pub(crate) close: Close,
 }
 
-/// Keeps what the statements of a part do, one after another.
+/// Keeps what the statements do that a reader at the front of a part reads, one after another. The
+/// terms of an expression are laid in `joins` first.
+fn keep_read<A: Allocator + Copy>(
+    before: Radix,
+    part: &NumberedPart<'_>,
+    reader: &mut Reader<'_, A>,
+    joins: &mut Vec<Join, A>,
+    acts: &mut Acts<A>,
+) -> Result<Reached, StatementFault>
+    requires source { reader.old.source ≡ part.now.source.now }
+    requires front { (reader.old.count ≡ 0) × (reader.old.close ≡ None) }
+    ensures read { IfOk result (IsRead part.now before acts.old acts.new) }
+    ensures stops { IfErr result (StopsPart part.now.source.now acts.old acts.new) }
+{
+    let mut radix = before;
+    loop {
+        match reader.read_next()? {
+            Next::Statement(found) => {
+                let statement = found.statement;
+                let kept = keep_statement(part, radix, reader.tokens(), statement, joins, acts);
+                let Ok(()) = kept else {
+                    return Err(StatementFault::NoMemory);
+                };
+                radix = radix.after(statement.form);
+            }
+            Next::End(close) => return Ok(Reached { radix, close }),
+        }
+    }
+}
+
+/// Keeps what the statements of a part do.
 fn keep_statements<A: Allocator + Copy>(
     alloc: A,
     before: Radix,
@@ -39,27 +69,7 @@ fn keep_statements<A: Allocator + Copy>(
 {
     let mut reader = Reader::new(alloc, part.source);
     let mut joins = Vec::new(alloc);
-    let mut radix = before;
-    loop {
-        match reader.read_next()? {
-            Next::Statement(found) => {
-                let statement = found.statement;
-                let kept = keep_statement(
-                    part,
-                    radix,
-                    reader.tokens(),
-                    statement,
-                    &mut joins,
-                    acts,
-                );
-                let Ok(()) = kept else {
-                    return Err(StatementFault::NoMemory);
-                };
-                radix = radix.after(statement.form);
-            }
-            Next::End(close) => return Ok(Reached { radix, close }),
-        }
-    }
+    keep_read(before, part, &mut reader, &mut joins, acts)
 }
 
 /// Keeps what a part does, and its bytes up to where it ended. Of a part with a statement that has
@@ -107,7 +117,34 @@ pub(crate) struct Reading<'s, A: Allocator> {
     pub(crate) fronts: Vec<Front<'s>, A>,
 }
 
-/// Reads the parts of a source that aren't too many or too long.
+/// Reads the parts of a source that aren't too many or too long, one after another.
+fn read_parts<'s, A: Allocator + Copy>(
+    alloc: A,
+    parts: &[&'s [u8]],
+    acts: &mut Acts<A>,
+    fronts: &mut Vec<Front<'s>, A>,
+) -> Result<(), AllocError>
+    requires sizes { size_fault (texts parts.now) ≡ None }
+    requires none { (acts.old ≡ []) × (fronts.old.items ≡ []) }
+    ensures { OnOk result (Reads 1 Octal (texts parts.now) acts.new
+        (lines_of_fronts fronts.new.items)) }
+{
+    let mut radix = Radix::Octal;
+    for (at, source) in parts.iter().enumerate() {
+        let part = NumberedPart {
+            number: at + 1,
+            last: at + 1 == parts.len(),
+            source,
+        };
+        match read_part(alloc, radix, &part, acts, fronts)? {
+            Turn::On(next) => radix = next,
+            Turn::Ends => return Ok(()),
+        }
+    }
+    Ok(())
+}
+
+/// Reads a source whose parts aren't too many or too long.
 pub(crate) fn read_source<'s, A: Allocator + Copy>(
     alloc: A,
     parts: &[&'s [u8]],
@@ -118,17 +155,6 @@ pub(crate) fn read_source<'s, A: Allocator + Copy>(
 {
     let mut acts = Acts::new(alloc);
     let mut fronts = Vec::new(alloc);
-    let mut radix = Radix::Octal;
-    for (at, source) in parts.iter().enumerate() {
-        let part = NumberedPart {
-            number: at + 1,
-            last: at + 1 == parts.len(),
-            source,
-        };
-        match read_part(alloc, radix, &part, &mut acts, &mut fronts)? {
-            Turn::On(next) => radix = next,
-            Turn::Ends => return Ok(Reading { acts, fronts }),
-        }
-    }
+    read_parts(alloc, parts, &mut acts, &mut fronts)?;
     Ok(Reading { acts, fronts })
 }

@@ -1,6 +1,6 @@
 //! The lines of a part.
 
-ghost use Rattle.std.specs.Prelude.{◌≡◌, ◌≢◌, ◌≤◌, [], length, reverse, IfOk, OnErr};
+ghost use Rattle.std.specs.Prelude.{◌≡◌, ◌≢◌, ◌≤◌, [], length, reverse, IfOk, OnOk, OnErr};
 ghost use Rattle.pal_text.specs.Lines.{all_lines};
 
 use crate::characters::{Meaning, meaning_of, returned_after};
@@ -14,17 +14,12 @@ pub struct Line {
     pub end: usize,
 }
 
-/// The lines of these bytes in order. What stands after the last line's end is one only where a
-/// byte of it isn't ignored.
-///
-/// # Errors
-///
-/// Where memory was refused, which is wanted only where there is a line.
-pub fn lines_of<A: Allocator>(alloc: A, bytes: &[u8]) -> Result<Vec<Line, A>, AllocError>
-    ensures lines { IfOk result (λ out. out.items ≡ all_lines bytes.now) }
+/// Puts the lines of these bytes into an empty list.
+fn put_lines<A: Allocator>(out: &mut Vec<Line, A>, bytes: &[u8]) -> Result<(), AllocError>
+    requires { out.old.items ≡ [] }
+    ensures lines { OnOk result (out.new.items ≡ all_lines bytes.now) }
     ensures refused { OnErr result (all_lines bytes.now ≢ []) }
 {
-    let mut out = Vec::new(alloc);
     let mut start = 0;
     let mut begun = false;
     let mut returned = false;
@@ -46,5 +41,20 @@ pub fn lines_of<A: Allocator>(alloc: A, bytes: &[u8]) -> Result<Vec<Line, A>, Al
             end: bytes.len(),
         })?;
     }
+    Ok(())
+}
+
+/// The lines of these bytes in order. What stands after the last line's end is one only where a
+/// byte of it isn't ignored.
+///
+/// # Errors
+///
+/// Where memory was refused, which is wanted only where there is a line.
+pub fn lines_of<A: Allocator>(alloc: A, bytes: &[u8]) -> Result<Vec<Line, A>, AllocError>
+    ensures lines { IfOk result (λ out. out.items ≡ all_lines bytes.now) }
+    ensures refused { OnErr result (all_lines bytes.now ≢ []) }
+{
+    let mut out = Vec::new(alloc);
+    put_lines(&mut out, bytes)?;
     Ok(out)
 }

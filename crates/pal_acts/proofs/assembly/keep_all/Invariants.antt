@@ -3,7 +3,7 @@ use Rattle.std.specs.Prelude.{reverse}
 use Rattle.pal_acts.specs.Values.{in_table}
 use Rattle.pal_acts.specs.Meaning.{location}
 use Rattle.pal_acts.specs.Sources.{Encodes, words}
-use Rattle.pal_acts.proofs.assembly.keep_words.Given as goal
+use Rattle.pal_acts.proofs.assembly.keep_all.Given as goal
 
 abbrev pub invariant-loop-at : goal.invariant-loop-at
 invariant-loop-at g l =

@@ -6,8 +6,8 @@ use Rattle.pal_text.specs.Characters.{meaning}
 use Rattle.pal_text.specs.Lines.{line_of}
 use Rattle.pal_text.proofs.Grows.{anyway}
 use Rattle.pal_text.proofs.LineCounts.{line_ended, lined_more, same_lined, put_line, lined_all, line_begun}
-use Rattle.pal_text.proofs.lines.lines_of.Goals as goal
-use Rattle.pal_text.proofs.lines.lines_of.Goals.{in-LineEnd+in_ok-push-in-LineEnd, in-Character, in-Ignored, then-begun+in_ok-push, else-begun}
+use Rattle.pal_text.proofs.lines.put_lines.Goals as goal
+use Rattle.pal_text.proofs.lines.put_lines.Goals.{in-LineEnd+in_ok-push-in-LineEnd, in-Character, in-Ignored}
 
 pub loop-at-preserved : goal.loop-at-preserved
 loop-at-preserved g c = elim c.match-meaning_of.branch [
@@ -22,14 +22,16 @@ loop-at-preserved g c = elim c.match-meaning_of.branch [
       (ap (λ v. v.items) w.out-is ∙ sym (reverse-reverse c.loop-at.out.items)) w.start-is w.begun-is c.returned_after-returned.ensures
 ]
 
-pub returns-clause-lines : goal.returns-clause-lines
-returns-clause-lines g c =
-    let all = lined_all c.args.bytes.now c.loop-at.at c.loop-at.out.items c.loop-at.start c.loop-at.begun c.loop-at.returned c.loop-at-test.false c.loop-at.invariant in
+pub returns-in_ok-push-clause-lines : goal.returns-in_ok-push-clause-lines
+returns-in_ok-push-clause-lines g c =
     let either : Bool → List Line = λ b. if b then c.loop-at.out.items ++ line_of c.loop-at.start (length c.args.bytes.now) ∷ [] else c.loop-at.out.items in
-    elim c.if-begun.branch [
-      | then-begun+in_ok-push w ↦ ap (λ v. v.items) w.out-is ∙ w.in_ok-push.ensures.items ∙ ap either (sym w.if-begun.true) ∙ all
-      | else-begun w ↦ ap (λ v. v.items) w.out-is ∙ ap either (sym w.if-begun.false) ∙ all
-    ]
+    c.in_ok-push.ensures.items ∙ ap either (sym c.if-begun.true)
+    ∙ lined_all c.args.bytes.now c.loop-at.at c.loop-at.out.items c.loop-at.start c.loop-at.begun c.loop-at.returned c.loop-at-test.false c.loop-at.invariant
+
+pub returns-else-begun-clause-lines : goal.returns-else-begun-clause-lines
+returns-else-begun-clause-lines g c =
+    let either : Bool → List Line = λ b. if b then c.loop-at.out.items ++ line_of c.loop-at.start (length c.args.bytes.now) ∷ [] else c.loop-at.out.items in
+    ap either (sym c.if-begun.false) ∙ lined_all c.args.bytes.now c.loop-at.at c.loop-at.out.items c.loop-at.start c.loop-at.begun c.loop-at.returned c.loop-at-test.false c.loop-at.invariant
 
 pub returns-in_err-push-clause-refused : goal.returns-in_err-push-clause-refused
 returns-in_err-push-clause-refused g c =

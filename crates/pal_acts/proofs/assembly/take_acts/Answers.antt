@@ -4,12 +4,12 @@ use Rattle.std.specs.Prelude.{reverse}
 use Rattle.std.proofs.lemmas.List.{take_all}
 use Rattle.pal_acts.specs.Acts.{PlacedAct, shown}
 use Rattle.pal_acts.specs.Meaning.{Defines}
-use Rattle.pal_acts.specs.Faults.{fault, after}
+use Rattle.pal_acts.specs.Faults.{taken}
 use Rattle.pal_acts.proofs.Places.{Comes, goes_on, turned_more, split_at, defines_none}
-use Rattle.pal_acts.proofs.assembly.define.Goals as goal
+use Rattle.pal_acts.proofs.assembly.take_acts.Goals as goal
 
 pub loop-at-init : goal.loop-at-init
-loop-at-init g c = rw c.new-symbols.ensures.none (defines_none _ 1024, c.from_index-here.ensures, c.new-symbols.ensures.permanent)
+loop-at-init g c = rw c.requires (defines_none _ 1024, c.from_index-here.ensures, refl)
 
 pub loop-at-preserved : goal.loop-at-preserved
 loop-at-preserved g c =
@@ -19,7 +19,7 @@ loop-at-preserved g c =
     let m = turned_more acts c.loop-at.at next within c.get-next.ensures in
     let kept : c.act.new.self.permanent.now.entries ≡ c.loop-at.symbols.permanent.now.entries = ap (λ b. b.now.entries) c.act.ensures.permanent in
     let on = goes_on c.loop-at.symbols.permanent.now.entries 1024 (reverse (take c.loop-at.at acts)) next c.loop-at.symbols.own.entries c.act.new.self.own.entries c.loop-at.here c.act.new.here
-    (record { defines = c.loop-at.invariant.0; here_is = c.loop-at.invariant.1 }) c.in-Ok.ensures.sound c.in-Ok.ensures.symbols c.in-Ok.ensures.location in
+    (record { defines = c.loop-at.invariant.0; here_is = c.loop-at.invariant.1 }) c.in-Ok.ensures.taken c.in-Ok.ensures.location in
     let P : List (Name × ℕ) → Type 0 = λ p. Comes p 1024 (next ∷ reverse (take c.loop-at.at acts)) c.act.new.self.own.entries c.act.new.here in
     let on' : P c.act.new.self.permanent.now.entries = subst P (sym kept) on in
     rw m (on'.defines, on'.here_is, kept ∙ c.loop-at.invariant.2)
@@ -35,7 +35,7 @@ returns-in-Err-Fault-clause-refused g c =
     let within : c.loop-at.at < length acts = omega arith in
     let next : PlacedAct = shown c.get-next.result in
     let e = rw c.in-Err-Fault.field-0-is at c.in-Err-Fault.ensures.refused in
-    let kept : c.loop-at.symbols.permanent.now.entries ≡ c.args.permanent.now.entries = c.loop-at.invariant.2 in
+    let kept : c.loop-at.symbols.permanent.now.entries ≡ c.args.symbols.now.permanent.now.entries = c.loop-at.invariant.2 in
     rw c.in-Err-Fault.field-0-is (rw (← kept) (record {
       earlier = reverse (take c.loop-at.at acts);
       next = next;
@@ -46,7 +46,7 @@ returns-in-Err-Fault-clause-refused g c =
         (
           c.loop-at.symbols.own.entries,
           c.loop-at.invariant.0,
-          ap (λ l. fault c.loop-at.symbols.permanent.now.entries 1024 c.loop-at.symbols.own.entries l next.terms next.act) (sym c.loop-at.invariant.1) ∙ e,
+          ap (λ l. taken c.loop-at.symbols.permanent.now.entries 1024 c.loop-at.symbols.own.entries l next.terms next.act) (sym c.loop-at.invariant.1) ∙ e,
         ),
       );
     }))
@@ -56,7 +56,7 @@ returns-in-Err-NoMemory-clause-refused g c =
     let acts : List PlacedAct = c.args.acts.now in
     let within : c.loop-at.at < length acts = omega arith in
     let next : PlacedAct = shown c.get-next.result in
-    let kept : c.loop-at.symbols.permanent.now.entries ≡ c.args.permanent.now.entries = c.loop-at.invariant.2 in
+    let kept : c.loop-at.symbols.permanent.now.entries ≡ c.args.symbols.now.permanent.now.entries = c.loop-at.invariant.2 in
     let asks = rw c.in-Err-NoMemory.field-0-is at c.in-Err-NoMemory.ensures.refused in
     rw (← kept) (record {
       earlier = reverse (take c.loop-at.at acts);
@@ -65,8 +65,9 @@ returns-in-Err-NoMemory-clause-refused g c =
       parts = split_at acts c.loop-at.at next within c.get-next.ensures;
       such = (
         c.loop-at.symbols.own.entries,
+        asks.0,
         c.loop-at.invariant.0,
-        ap (λ l. fault c.loop-at.symbols.permanent.now.entries 1024 c.loop-at.symbols.own.entries l next.terms next.act) (sym c.loop-at.invariant.1) ∙ asks.0,
-        ap (λ l. length (after c.loop-at.symbols.permanent.now.entries 1024 c.loop-at.symbols.own.entries l next.terms next.act)) (sym c.loop-at.invariant.1) ∙ asks.1,
+        ap (λ l. taken c.loop-at.symbols.permanent.now.entries 1024 c.loop-at.symbols.own.entries l next.terms next.act) (sym c.loop-at.invariant.1) ∙ asks.1,
+        asks.2,
       );
     })

@@ -5,7 +5,7 @@ use Rattle.pal_text.specs.Order.{IsLineWithin}
 use Rattle.pal_asm.specs.Kept.{lines_in}
 use Rattle.pal_asm.proofs.Fronted.{all_lines_within}
 use Rattle.pal_asm.proofs.Written.{front_left, no_front_left}
-use Rattle.pal_asm.proofs.listing.listed_lines.Goals as goal
+use Rattle.pal_asm.proofs.listing.keep_fronts.Goals as goal
 
 pub keep_lines-requires : goal.keep_lines-requires
 keep_lines-requires g c =

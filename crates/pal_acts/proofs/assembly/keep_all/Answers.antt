@@ -7,7 +7,7 @@ use Rattle.pal_text.proofs.Cuts.{told_on}
 use Rattle.pal_acts.proofs.Places.{turned_more}
 use Rattle.pal_acts.proofs.Coded.{stops_keeping}
 use Rattle.pal_acts.proofs.Worded.{all_encoded, all_kept}
-use Rattle.pal_acts.proofs.assembly.keep_words.Goals as goal
+use Rattle.pal_acts.proofs.assembly.keep_all.Goals as goal
 
 pub loop-at-preserved : goal.loop-at-preserved
 loop-at-preserved g c =
@@ -26,7 +26,7 @@ returns-in_err-keep-clause-refused g c =
     (stops_keeping σ acts c.loop-at.at (shown c.get.result) c.loop-at.here within c.get.ensures c.loop-at.invariant.2 c.loop-at.invariant.1 c.in_err-keep.field-0.0 c.in_err-keep.ensures.refused)
 
 pub loop-at-init : goal.loop-at-init
-loop-at-init g c = (c.new-kept.ensures.items, tt, c.from_index-here.ensures)
+loop-at-init g c = (c.requires, tt, c.from_index-here.ensures)
 
 pub returns-clause-encodes : goal.returns-clause-encodes
 returns-clause-encodes g c = all_encoded _ c.args.acts.now c.loop-at.at (omega arith) c.loop-at.invariant.1

@@ -14,10 +14,11 @@ use Rattle.pal_acts.specs.declared.act.Act.{Act}
 use Rattle.pal_acts.specs.declared.act.Act.TheVariants as act
 use Rattle.pal_acts.specs.declared.code.Code.{Code}
 use Rattle.pal_acts.specs.Acts.{PlacedAct}
-use Rattle.pal_acts.specs.Values.{same, Values, in_table, term_value, joined, value_after, value}
-use Rattle.pal_acts.specs.Meaning.{location_after, location, giving, givings, has, with_name, names_after, names, IsTermOf, Names, IsLawfulAct, IsLawful, IsGiven, Defines}
+use Rattle.pal_acts.specs.Values.{same, has, Values, term_value, joined, value_after, value}
+use Rattle.pal_acts.specs.Meaning.{location_after, location}
+use Rattle.pal_acts.specs.Laws.{giving, givings, with_name, names_after, names, IsTermOf, Names, IsLawfulAct, IsLawful, IsGiven, IsOfTheWhole}
 use Rattle.pal_acts.proofs.Faulted.{giving_fault, giving_table, fault, after, origin_fault, assign_fault, assign_table, next_fault, next_table}
-use Rattle.pal_acts.proofs.Table.{lookup-left, lookup-right, has_lookup}
+use Rattle.pal_acts.proofs.Table.{in_table, lookup-left, lookup-right, has_lookup}
 
 -- two ways to give values, the same on these names
 abbrev pub Agrees : List Name → Values → Values → Type 0
@@ -135,7 +136,7 @@ pub record Given (perm : List (Name × ℕ)) (before : List PlacedAct) (t u : Li
   pub agrees : Agrees (names (keys_of perm) before) (in_table t) (in_table u)
 
 given_old : (perm : List (Name × ℕ)) (limit : ℕ) (before : List PlacedAct) (symbols : List (Name × ℕ)) (n : Name) (v w : ℕ) (code : Code)
-    → Defines perm limit before symbols → in_table (perm ++ symbols) n ≡ Some w → giving_fault code limit (length symbols) (Some w) v ≡ None
+    → IsOfTheWhole perm limit before symbols → in_table (perm ++ symbols) n ≡ Some w → giving_fault code limit (length symbols) (Some w) v ≡ None
     → Given perm before (perm ++ symbols) (perm ++ symbols) n v
 given_old perm limit before symbols n v w code d is none = elim (cases_Bool (nat_eq w v)) [
   | inl eq ↦ record {
@@ -148,7 +149,7 @@ given_old perm limit before symbols n v w code d is none = elim (cases_Bool (nat
 ]
 
 given_new : (perm : List (Name × ℕ)) (limit : ℕ) (before : List PlacedAct) (symbols : List (Name × ℕ)) (n : Name) (v : ℕ)
-    → Defines perm limit before symbols → in_table (perm ++ symbols) n ≡ None
+    → IsOfTheWhole perm limit before symbols → in_table (perm ++ symbols) n ≡ None
     → Given perm before (perm ++ symbols) (perm ++ (symbols ++ (n, v) ∷ [])) n v
 given_new perm limit before symbols n v d is =
     let t : List (Name × ℕ) = perm ++ symbols in
@@ -175,18 +176,18 @@ pub record Gives (perm : List (Name × ℕ)) (limit : ℕ) (before : List Placed
   pub room : length new ≤ limit
 
 give_on : (perm : List (Name × ℕ)) (limit : ℕ) (before : List PlacedAct) (symbols : List (Name × ℕ)) (n : Name) (v : ℕ) (code : Code) (o : Option ℕ)
-    → Defines perm limit before symbols → in_table (perm ++ symbols) n ≡ o → giving_fault code limit (length symbols) o v ≡ None
+    → IsOfTheWhole perm limit before symbols → in_table (perm ++ symbols) n ≡ o → giving_fault code limit (length symbols) o v ≡ None
     → Gives perm limit before symbols (giving_table symbols n o v) n v
 give_on perm limit before symbols n v code None d is none = record { given = given_new perm limit before symbols n v d is; room = room_new limit v symbols n code d.room none }
 give_on perm limit before symbols n v code (Some w) d is none = record { given = given_old perm limit before symbols n v w code d is none; room = d.room }
 
 -- an act with no fault
 pub record Moves (perm : List (Name × ℕ)) (limit : ℕ) (before : List PlacedAct) (next : PlacedAct) (symbols new : List (Name × ℕ)) : Type 0 where
-  pub defines : Defines perm limit (next ∷ before) new
+  pub defines : IsOfTheWhole perm limit (next ∷ before) new
   pub here : location (in_table (perm ++ symbols)) (next ∷ before) ≡ location (in_table (perm ++ new)) (next ∷ before)
 
 assign_on : (perm : List (Name × ℕ)) (limit : ℕ) (before : List PlacedAct) (symbols : List (Name × ℕ)) (n : Name) (e : List Join) (o : Option ℕ)
-    → Defines perm limit before symbols → value (in_table (perm ++ symbols)) (location (in_table (perm ++ symbols)) before) e ≡ o
+    → IsOfTheWhole perm limit before symbols → value (in_table (perm ++ symbols)) (location (in_table (perm ++ symbols)) before) e ≡ o
     → assign_fault perm limit symbols n o ≡ None
     → Gives perm limit before symbols (assign_table perm limit symbols n o) n (unwrap_or o 0) × Names (names (keys_of perm) before) e
 assign_on perm limit before symbols n e None d is none = cc
@@ -196,7 +197,7 @@ assign_on perm limit before symbols n e (Some v) d is none = (
 )
 
 origin_on : (perm : List (Name × ℕ)) (limit : ℕ) (before : List PlacedAct) (symbols : List (Name × ℕ)) (e : List Join) (o : Option ℕ)
-    → Defines perm limit before symbols → value (in_table (perm ++ symbols)) (location (in_table (perm ++ symbols)) before) e ≡ o
+    → IsOfTheWhole perm limit before symbols → value (in_table (perm ++ symbols)) (location (in_table (perm ++ symbols)) before) e ≡ o
     → origin_fault o ≡ None → Names (names (keys_of perm) before) e
 origin_on perm limit before symbols e None d is none = cc
 origin_on perm limit before symbols e (Some v) d is none = subst (λ ns. Names ns e) d.order (value_closed (perm ++ symbols) (location (in_table (perm ++ symbols)) before) 0 v e is)
@@ -210,7 +211,7 @@ record MovesBy (perm : List (Name × ℕ)) (limit : ℕ) (before : List PlacedAc
   here : location_after (in_table (perm ++ symbols)) (location (in_table (perm ++ symbols)) before) e a ≡ location_after (in_table (perm ++ new)) (location (in_table (perm ++ new)) before) e a
 
 moves_by : (perm : List (Name × ℕ)) (limit : ℕ) (before : List PlacedAct) (e : List Join) (a : Act) (symbols : List (Name × ℕ))
-    → Defines perm limit before symbols → fault perm limit symbols (location (in_table (perm ++ symbols)) before) e a ≡ None
+    → IsOfTheWhole perm limit before symbols → fault perm limit symbols (location (in_table (perm ++ symbols)) before) e a ≡ None
     → MovesBy perm limit before e a symbols (after perm limit symbols (location (in_table (perm ++ symbols)) before) e a)
 moves_by perm limit before e (act.Wrong c) symbols d none = cc
 moves_by perm limit before e act.AssignDirection symbols d none = cc
@@ -236,7 +237,7 @@ moves_by perm limit before e (act.Assign n) symbols d none =
 
 -- where an act has no fault, the symbols after it are those of the acts with it, and the location is what it was
 pub moves : (perm : List (Name × ℕ)) (limit : ℕ) (before : List PlacedAct) (next : PlacedAct) (symbols : List (Name × ℕ))
-    → Defines perm limit before symbols → next_fault perm limit symbols before next ≡ None
+    → IsOfTheWhole perm limit before symbols → next_fault perm limit symbols before next ≡ None
     → Moves perm limit before next symbols (next_table perm limit symbols before next)
 moves perm limit before next symbols d none =
     let m : MovesBy perm limit before next.terms next.act symbols (next_table perm limit symbols before next) = moves_by perm limit before next.terms next.act symbols d none in

@@ -1,6 +1,6 @@
 -- The values of a source are words, where its numbers and its permanent symbols are.
 use Rattle.std.proofs.Common.{◌≡◌, ◌∙◌, sym, ap, ℕ, ◌/◌, ◌%◌, ◌<◌, ◌≤◌, List, [], ◌∷◌, ◌++◌, Bool, true, false, Option, Some, None, Result, Ok, Err, inl, inr, arith, subst, length, bit_or, if◌then◌else◌}
-use Rattle.std.specs.Prelude.{reverse, nat_lt, nat_eq, unwrap_or, ok_or}
+use Rattle.std.specs.Prelude.{reverse, nat_lt, nat_eq, unwrap_or, ok_or, not, ◌&&◌}
 use Rattle.std.specs.List.{AllByRecursion, list_all}
 use Rattle.std.specs.Option.{option_and_then}
 use Rattle.std.proofs.lemmas.Bool.{cases_Bool, cases_lt, ltb-true, cond_both}
@@ -21,12 +21,12 @@ use Rattle.pal_acts.specs.declared.act.PlacedWord.{PlacedWord}
 use Rattle.pal_acts.specs.declared.code.Code.{Code}
 use Rattle.pal_acts.specs.declared.code.Code.TheVariants.{Undefined}
 use Rattle.pal_acts.specs.Acts.{PlacedAct}
-use Rattle.pal_acts.specs.Values.{same, Values, in_table, term_value, joined, value_after, value, needed}
-use Rattle.pal_acts.specs.Meaning.{location_after, location, Defines}
-use Rattle.pal_acts.specs.Words.{Marked, indirect_mark, zero_mark, references, joins_one_of, is_mark, after_indirect, after_zero, marks, addressed, reference, word_value, word_of}
-use Rattle.pal_acts.proofs.Faulted.{giving_table, assign_table, after}
+use Rattle.pal_acts.specs.Values.{same, Values, term_value, joined, value_after, value, needed}
+use Rattle.pal_acts.specs.Meaning.{location_after, location, Defines, nothing, one_more}
+use Rattle.pal_acts.specs.Words.{Marked, indirect_mark, zero_mark, references, joins_one_of, is_mark, marks_after, marks, addressed, reference, word_value, word_of}
+use Rattle.pal_acts.proofs.Table.{in_table}
+use Rattle.pal_acts.proofs.Faulted.{giving_table, assign_table, after, took}
 use Rattle.pal_acts.specs.Sources.{with_word, words, last_at, IsSource}
-use Rattle.pal_acts.proofs.Unique.{stood, Before, none_left}
 
 -- a word, or nothing
 abbrev pub Below : Option ℕ → Type 0
@@ -139,23 +139,16 @@ module _ (σ : Values) (given : (n : Name) → Below (σ n)) where
   abbrev Marks : Marked → Type 0
   Marks m = Numbers m.address
 
-  indirect_below : (js : List Join) → Numbers js → Marks (after_indirect js)
-  indirect_below [] all = tt
-  indirect_below (j ∷ js) all = cond_both (is_mark zero_mark j) _ _ Marks (λ is. all.1) (λ not. all)
-
-  zero_marks : (js : List Join) → Numbers js → Marks (after_zero js)
-  zero_marks [] all = tt
-  zero_marks (j ∷ js) all = cond_both (is_mark indirect_mark j) _ _ Marks (λ is. all.1) (λ not. all)
-
-  marks_below : (js : List Join) → Numbers js → Marks (marks js)
-  marks_below [] all = tt
-  marks_below (j ∷ js) all =
-      cond_both (is_mark indirect_mark j) _ _ Marks (λ is. indirect_below js all.1) (λ not. cond_both (is_mark zero_mark j) _ _ Marks (λ is. zero_marks js all.1) (λ other. all))
+  marks_below : (i z : Bool) (js : List Join) → Numbers js → Marks (marks_after i z js)
+  marks_below i z [] all = tt
+  marks_below i z (j ∷ js) all =
+      cond_both (not i && is_mark indirect_mark j) _ _ Marks (λ is. marks_below true z js all.1)
+      (λ other. cond_both (not z && is_mark zero_mark j) _ _ Marks (λ is. marks_below i true js all.1) (λ none. all))
 
   word_below : (here : ℕ) (js : List Join) → here < 4096 → Numbers js → BelowOk (word_value σ here js)
   word_below here [] h all = plain_below (value σ here []) (value_below here 0 [] h (omega arith) all)
   word_below here (j ∷ js) h all =
-      cond_both (joins_one_of references j) _ _ BelowOk (λ is. reference_below here (term_value σ here j.term) (marks js) h (term_below here j.term h all.0) (marks_below js all.1))
+      cond_both (joins_one_of references j) _ _ BelowOk (λ is. reference_below here (term_value σ here j.term) (marks js) h (term_below here j.term h all.0) (marks_below false false js all.1))
       (λ not. plain_below (value σ here (j ∷ js)) (value_below here 0 (j ∷ js) h (omega arith) all))
 
   -- ---- images
@@ -205,13 +198,12 @@ symbols_after perm limit own here e _ p h k all = h
 
 -- the symbols of acts are words
 symbols_below : (perm : List (Name × ℕ)) (limit : ℕ) (acts : List PlacedAct) (own : List (Name × ℕ)) → Entries perm → AllByRecursion HasNumbers acts → Defines perm limit acts own → Entries own
-symbols_below perm limit [] own p all d = subst Entries (sym (none_left own perm d.order)) tt
-symbols_below perm limit (next ∷ before) own p all d =
-    let b : Before perm limit before next.terms next.act own = stood perm limit before next own d in
-    let old : Entries b.symbols = symbols_below perm limit before b.symbols p all.1 b.defines in
-    let σ : Values = in_table (perm ++ b.symbols) in
-    let here : location σ before < 4096 = location_below σ (table_below (perm ++ b.symbols) (entries_append perm b.symbols p old)) before all.1 in
-    subst Entries (sym b.new_is) (symbols_after perm limit b.symbols (location σ before) next.terms next.act p old here all.0)
+symbols_below perm limit acts own p all nothing = tt
+symbols_below perm limit acts after p all (one_more before next own new d e) =
+    let old : Entries own = symbols_below perm limit before own p all.1 d in
+    let σ : Values = in_table (perm ++ own) in
+    let here : location σ before < 4096 = location_below σ (table_below (perm ++ own) (entries_append perm own p old)) before all.1 in
+    subst Entries (sym (took perm limit own (location σ before) next.terms next.act new e).1) (symbols_after perm limit own (location σ before) next.terms next.act p old here all.0)
 
 below_some : (o : Option ℕ) (v : ℕ) → Below o → o ≡ Some v → v < 4096
 below_some o v h e = subst Below e h

@@ -1,5 +1,5 @@
 -- The fault of an act and what it leaves, told apart.
-use Rattle.std.proofs.Common.{◌≡◌, ◌∙◌, sym, refl, ℕ, nat_lt, nat_eq, if◌then◌else◌, List, [], ◌∷◌, ◌++◌, length, Option, Some, None, Result, Ok, Err, Bool, true, false}
+use Rattle.std.proofs.Common.{◌≡◌, ◌∙◌, sym, ap, refl, ℕ, nat_lt, nat_eq, if◌then◌else◌, List, [], ◌∷◌, ◌++◌, length, Option, Some, None, Result, Ok, Err, Bool, true, false}
 use Rattle.pal_text.specs.declared.names.Name.{Name}
 use Rattle.pal_acts.specs.declared.act.Join.{Join}
 use Rattle.pal_acts.specs.declared.act.Act.{Act}
@@ -8,8 +8,7 @@ use Rattle.pal_acts.specs.declared.code.Code.{Code}
 use Rattle.pal_acts.specs.declared.code.Code.TheVariants.{Redefined, DuplicateTag, Undefined, TableFull, PauseInLastPart}
 use Rattle.pal_acts.specs.Acts.{PlacedAct}
 use Rattle.pal_acts.specs.Values.{known, value, needed}
-use Rattle.pal_acts.specs.Meaning.{location}
-use Rattle.pal_acts.specs.Faults.{given, taken, next_taken}
+use Rattle.pal_acts.specs.Meaning.{location, given, taken}
 
 -- the fault of giving a value to a name that has this one or none, where so many symbols are defined: another value has
 -- the given code, and a new name may find the table full.
@@ -110,7 +109,6 @@ pub took : (permanent : List (Name × ℕ)) (limit : ℕ) (own : List (Name × �
     → (fault permanent limit own here e a ≡ None) × (new ≡ after permanent limit own here e a)
 took permanent limit own here e a new h = is_ok_both (fault permanent limit own here e a) (after permanent limit own here e a) new (sym (taken_is permanent limit own here e a) ∙ h)
 
-pub failed : (permanent : List (Name × ℕ)) (limit : ℕ) (own : List (Name × ℕ)) (before : List PlacedAct) (next : PlacedAct) (c : Code) → next_taken permanent limit own before next ≡ Err c → next_fault permanent limit own before next ≡ Some c
-failed permanent limit own before next c h =
-    let here : ℕ = location (known permanent own) before in
-    is_err_both (fault permanent limit own here next.terms next.act) (after permanent limit own here next.terms next.act) c (sym (taken_is permanent limit own here next.terms next.act) ∙ h)
+pub took_back : (permanent : List (Name × ℕ)) (limit : ℕ) (own : List (Name × ℕ)) (here : ℕ) (e : List Join) (a : Act) → fault permanent limit own here e a ≡ None
+    → taken permanent limit own here e a ≡ Ok (after permanent limit own here e a)
+took_back permanent limit own here e a h = taken_is permanent limit own here e a ∙ ap (λ f. both f (after permanent limit own here e a)) h

@@ -1,19 +1,18 @@
 -- A source has one meaning or one fault.
-use Rattle.std.proofs.Common.{◌≡◌, ◌∙◌, sym, ap, refl, ℕ, List, [], ◌∷◌, ◌++◌, append_assoc, Some, None, inl, inr, subst, ◌⊎◌}
-use Rattle.std.specs.Prelude.{reverse, Err}
+use Rattle.std.proofs.Common.{◌≡◌, ◌∙◌, sym, ap, refl, ℕ, List, [], ◌∷◌, ◌++◌, append_assoc, Some, inl, inr, subst, ◌⊎◌}
+use Rattle.std.specs.Prelude.{reverse, Result, Ok, Err}
 use Rattle.std.proofs.lemmas.List.{reverse-append, reverse-reverse}
 use Rattle.pal_text.specs.declared.names.Name.{Name}
 use Rattle.pal_acts.specs.declared.act.Place.{Place}
 use Rattle.pal_acts.specs.declared.code.Code.{Code}
 use Rattle.pal_acts.specs.Acts.{PlacedAct}
-use Rattle.pal_acts.specs.Values.{Values, in_table}
-use Rattle.pal_acts.specs.Meaning.{location, Defines}
+use Rattle.pal_acts.specs.Values.{Values, known}
+use Rattle.pal_acts.specs.Meaning.{location, next_taken, Defines}
 use Rattle.pal_acts.specs.Words.{word_of}
 use Rattle.pal_acts.specs.Sources.{Encodes, words, IsImage}
 use Rattle.pal_acts.specs.Faults.{Stops, Finds}
-use Rattle.pal_acts.proofs.Faulted.{next_fault, failed}
 use Rattle.pal_acts.specs.Laws.{OneSource, NotBoth, OneFault}
-use Rattle.pal_acts.proofs.Unique.{stood, unique, Before}
+use Rattle.pal_acts.proofs.Defined.{Came, came, unique}
 use Rattle.pal_acts.proofs.Images.{one_image}
 
 -- two ways to cut a list at an element
@@ -59,28 +58,34 @@ module _ (Good : List PlacedAct → Type 0) (Fine : List PlacedAct → PlacedAct
     | inr (inr r) ↦ absurd (apart f o d (back (reverse r.0) f o (subst Good (turned_back f e r.0 o r.1) g)) worse)
   ]
 
+abbrev err : Code → Result (List (Name × ℕ)) Code
+err c = Err c
+
+one_err : (c d : Code) → err c ≡ err d → c ≡ d
+one_err c d e = cc
+
 module _ (perm : List (Name × ℕ)) (limit : ℕ) where
   abbrev Defined : List PlacedAct → Type 0
   Defined acts = (s : List (Name × ℕ)) × Defines perm limit acts s
 
   abbrev Fits : List PlacedAct → PlacedAct → Type 0
-  Fits e n = (s : List (Name × ℕ)) × Defines perm limit e s × (next_fault perm limit s e n ≡ None)
+  Fits e n = (s new : List (Name × ℕ)) × Defines perm limit e s × (next_taken perm limit s e n ≡ Ok new)
 
   abbrev Fails : List PlacedAct → PlacedAct → Code → Type 0
-  Fails e n c = (s : List (Name × ℕ)) × Defines perm limit e s × (next_fault perm limit s e n ≡ Some c)
+  Fails e n c = (s : List (Name × ℕ)) × Defines perm limit e s × (next_taken perm limit s e n ≡ Err c)
 
   fits_back : (m e : List PlacedAct) (n : PlacedAct) → Defined (m ++ n ∷ e) → Fits e n
-  fits_back [] e n (s, d) = let b : Before perm limit e n.terms n.act s = stood perm limit e n s d in (b.symbols, b.defines, b.none)
-  fits_back (x ∷ m) e n (s, d) = let b : Before perm limit (m ++ n ∷ e) x.terms x.act s = stood perm limit (m ++ n ∷ e) x s d in fits_back m e n (b.symbols, b.defines)
+  fits_back [] e n (s, d) = let b : Came perm limit e n s = came perm limit e n s d in (b.own, s, b.defines, b.taken_is)
+  fits_back (x ∷ m) e n (s, d) = let b : Came perm limit (m ++ n ∷ e) x s = came perm limit (m ++ n ∷ e) x s d in fits_back m e n (b.own, b.defines)
 
   fits_apart : (e : List PlacedAct) (n : PlacedAct) (c : Code) → Fits e n → Fails e n c → ⊥
-  fits_apart e n c (s, d, h) (u, k, f) = let same_symbols = ap (λ s. next_fault perm limit s e n) (unique perm limit e s u d k) in cc (sym h ∙ same_symbols ∙ f)
+  fits_apart e n c (s, new, d, h) (u, k, f) = let same_symbols = ap (λ s. next_taken perm limit s e n) (unique perm limit e s u d k) in cc (sym h ∙ same_symbols ∙ f)
 
   fails_one : (e : List PlacedAct) (n : PlacedAct) (c d : Code) → Fails e n c → Fails e n d → c ≡ d
-  fails_one e n c d (s, k, h) (u, l, f) = let both : Some c ≡ Some d = sym h ∙ ap (λ s. next_fault perm limit s e n) (unique perm limit e s u k l) ∙ f in cc
+  fails_one e n c d (s, k, h) (u, l, f) = one_err c d (sym h ∙ ap (λ s. next_taken perm limit s e n) (unique perm limit e s u k l) ∙ f)
 
   fails : (acts : List PlacedAct) (at : Place) (c : Code) → (h : Stops perm limit acts at c) → Fails h.earlier h.next c
-  fails acts at c h = (h.such.1.0, h.such.1.1, failed perm limit h.such.1.0 h.earlier h.next c h.such.1.2)
+  fails acts at c h = h.such.1
 
   stops_never : (acts : List PlacedAct) (at : Place) (c : Code) (s : List (Name × ℕ)) → Defines perm limit (reverse acts) s → Stops perm limit acts at c → ⊥
   stops_never acts at c s d h = never Defined Fits Fails fits_back fits_apart fails_one acts h.earlier h.later h.next c (s, d) h.parts (fails acts at c h)
@@ -118,13 +123,13 @@ module _ (σ : Values) where
 pub one_source : OneSource
 one_source perm limit acts s u i j h k =
     let e : s ≡ u = unique perm limit (reverse acts) s u h.defines k.defines in
-    (e, one_image (words (in_table (perm ++ u)) (reverse acts)) i j (subst (λ s. IsImage (words (in_table (perm ++ s)) (reverse acts)) i) e h.image_is) k.image_is)
+    (e, one_image (words (known perm u) (reverse acts)) i j (subst (λ s. IsImage (words (known perm s) (reverse acts)) i) e h.image_is) k.image_is)
 
 pub not_both : NotBoth
 not_both perm limit acts s i at c h (inl k) = stops_never perm limit acts at c s h.defines k
 not_both perm limit acts s i at c h (inr k) =
     let e : k.0 ≡ s = unique perm limit (reverse acts) k.0 s k.1 h.defines in
-    finds_never (in_table (perm ++ s)) acts at c h.encodes (subst (λ s. Finds (in_table (perm ++ s)) acts at c) e k.2)
+    finds_never (known perm s) acts at c h.encodes (subst (λ s. Finds (known perm s) acts at c) e k.2)
 
 pub one_fault : OneFault
 one_fault perm limit acts at au c d (inl h) (inl k) = stops_one perm limit acts at au c d h k
@@ -132,4 +137,4 @@ one_fault perm limit acts at au c d (inl h) (inr k) = absurd (stops_never perm l
 one_fault perm limit acts at au c d (inr h) (inl k) = absurd (stops_never perm limit acts au d h.0 h.1 k)
 one_fault perm limit acts at au c d (inr h) (inr k) =
     let e : h.0 ≡ k.0 = unique perm limit (reverse acts) h.0 k.0 h.1 k.1 in
-    finds_one (in_table (perm ++ k.0)) acts at au c d (subst (λ s. Finds (in_table (perm ++ s)) acts at c) e h.2) k.2
+    finds_one (known perm k.0) acts at au c d (subst (λ s. Finds (known perm s) acts at c) e h.2) k.2

@@ -5,7 +5,8 @@ pub mod Agree
 pub mod Places
 pub mod Images
 pub mod Coded
-pub mod Unique
+pub mod Whole
+pub mod Defined
 pub mod First
 pub mod Bounds
 pub mod Told

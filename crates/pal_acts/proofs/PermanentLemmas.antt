@@ -3,7 +3,8 @@ use Rattle.std.proofs.Common.{◌≡◌, refl, []}
 use Rattle.indexmap.specs.IndexMap.{insert_all}
 use Rattle.instruct.specs.declared.Profile.TheVariants.{Pdp8I, Pdp8E}
 use Rattle.pal_acts.specs.Values.{same}
-use Rattle.pal_acts.specs.Permanent.{permanent_symbols, common_symbols, further_symbols, PermanentOnce, ReferencesPermanent}
+use Rattle.pal_acts.specs.Permanent.{permanent_symbols, common_symbols, further_symbols}
+use Rattle.pal_acts.specs.Laws.{PermanentOnce, ReferencesPermanent}
 
 -- put into a table one after another, they stand there as in the list
 pub put_common : insert_all same [] (permanent_symbols Pdp8I) ≡ permanent_symbols Pdp8I

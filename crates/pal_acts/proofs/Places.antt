@@ -1,16 +1,13 @@
 -- A place in a list of acts: what stands before it, newest first.
-use Rattle.std.proofs.Common.{◌≡◌, ◌∙◌, sym, ap, ℕ, suc, ◌+◌, ◌<◌, List, [], ◌∷◌, ◌++◌, length, take, drop, get_or, arith, append-nil, add-one, drop-cons, subst, Some, None}
+use Rattle.std.proofs.Common.{◌≡◌, ◌∙◌, sym, ap, ℕ, suc, ◌+◌, ◌<◌, List, [], ◌∷◌, ◌++◌, length, take, drop, get_or, add-one, drop-cons, Some}
 use Rattle.std.specs.Prelude.{reverse, slice_get, Ok}
-use Rattle.std.specs.Map.{keys_of}
 use Rattle.std.proofs.lemmas.List.{take_more, take-append-drop, reverse-append, reverse-reverse}
 use Rattle.std.proofs.lemmas.Option.{slice_get-get_or}
 use Rattle.pal_text.specs.declared.names.Name.{Name}
 use Rattle.pal_acts.specs.Acts.{PlacedAct}
-use Rattle.pal_acts.specs.Values.{in_table}
-use Rattle.pal_acts.specs.Meaning.{location_after, location, Defines}
-use Rattle.pal_acts.specs.Faults.{taken}
-use Rattle.pal_acts.proofs.Faulted.{fault, after, next_table, took}
-use Rattle.pal_acts.proofs.Agree.{moves, Moves}
+use Rattle.pal_acts.specs.Values.{known}
+use Rattle.pal_acts.specs.Meaning.{location_after, location, taken, next_taken, Defines, one_more}
+use Rattle.pal_acts.proofs.Defined.{went, whole_of}
 
 some_is : {X : Type 0} (x y : X) → Some x ≡ Some y → x ≡ y
 some_is x y e = cc
@@ -28,22 +25,17 @@ split_at xs i x h e =
     let rest : drop i xs ≡ x ∷ drop (i + 1) xs = rw add-one (drop-cons xs i x h ∙ ap (λ y. y ∷ drop (suc i) xs) (there xs i x h e)) in
     sym (take-append-drop i xs) ∙ ap (λ l. take i xs ++ l) rest ∙ ap (λ l. l ++ x ∷ drop (i + 1) xs) (sym (reverse-reverse (take i xs)))
 
-pub defines_none : (perm : List (Name × ℕ)) (limit : ℕ) → Defines perm limit [] []
-defines_none perm limit = record { order = ap keys_of (append-nil perm); one_value = tt; lawful = tt; room = omega arith }
-
 -- an act went through
 pub record Comes (perm : List (Name × ℕ)) (limit : ℕ) (acts : List PlacedAct) (symbols : List (Name × ℕ)) (here : ℕ) : Type 0 where
   pub defines : Defines perm limit acts symbols
-  pub here_is : here ≡ location (in_table (perm ++ symbols)) acts
+  pub here_is : here ≡ location (known perm symbols) acts
 
 pub goes_on : (perm : List (Name × ℕ)) (limit : ℕ) (before : List PlacedAct) (next : PlacedAct) (symbols new : List (Name × ℕ)) (here here' : ℕ)
     → Comes perm limit before symbols here → taken perm limit symbols here next.terms next.act ≡ Ok new
-    → here' ≡ location_after (in_table (perm ++ symbols)) here next.terms next.act → Comes perm limit (next ∷ before) new here'
+    → here' ≡ location_after (known perm symbols) here next.terms next.act → Comes perm limit (next ∷ before) new here'
 goes_on perm limit before next symbols new here here' c took_it moved =
-    let both = took perm limit symbols here next.terms next.act new took_it in
-    let none : fault perm limit symbols here next.terms next.act ≡ None = both.0 in
-    let new_is : new ≡ after perm limit symbols here next.terms next.act = both.1 in
-    let m : Moves perm limit before next symbols (next_table perm limit symbols before next) = moves perm limit before next symbols c.defines (ap (λ l. fault perm limit symbols l next.terms next.act) (sym c.here_is) ∙ none) in
-    let P : List (Name × ℕ) → Type 0 = λ t. Comes perm limit (next ∷ before) t here' in
-    subst P (sym (new_is ∙ ap (λ l. after perm limit symbols l next.terms next.act) c.here_is))
-    (record { defines = m.defines; here_is = moved ∙ ap (λ l. location_after (in_table (perm ++ symbols)) l next.terms next.act) c.here_is ∙ m.here })
+    let e : next_taken perm limit symbols before next ≡ Ok new = ap (λ l. taken perm limit symbols l next.terms next.act) (sym c.here_is) ∙ took_it in
+    record {
+      defines = one_more before next symbols new c.defines e;
+      here_is = moved ∙ ap (λ l. location_after (known perm symbols) l next.terms next.act) c.here_is ∙ (went perm limit before next symbols new (whole_of perm limit before symbols c.defines) e).1;
+    }

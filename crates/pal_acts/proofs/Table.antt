@@ -4,10 +4,13 @@ use Rattle.std.specs.List.{list_any}
 use Rattle.std.specs.Map.{lookup, keys_of}
 use Rattle.std.proofs.lemmas.Bool.{cases_Bool, cond-true}
 use Rattle.pal_text.specs.declared.names.Name.{Name}
-use Rattle.pal_acts.specs.Values.{same, in_table}
-use Rattle.pal_acts.specs.Meaning.{has}
+use Rattle.pal_acts.specs.Values.{Values, same, has}
 use Rattle.pal_acts.specs.declared.code.Code.{Code}
-use Rattle.pal_acts.specs.Faults.{given}
+use Rattle.pal_acts.specs.Meaning.{given}
+
+-- the values that a table of names gives: that of a name's first entry
+abbrev pub in_table : List (Name × ℕ) → Values
+in_table table n = lookup (same n) table
 
 -- a name in the first of two tables
 pub lookup-left : {K : Type 0} (test : K → Bool) (xs ys : List (K × ℕ)) (v : ℕ) → lookup test xs ≡ Some v → lookup test (xs ++ ys) ≡ Some v

@@ -1,41 +1,15 @@
 -- The first fault of a source, at the place of its act.
-use Rattle.std.specs.Prelude.{◌≡◌, ℕ, ◌+◌, nat_lt, nat_eq, if◌then◌else◌, List, [], ◌∷◌, ◌++◌, length, reverse, Option, Some, None, Result, Ok, Err, ◌⊎◌}
+use Rattle.std.specs.Prelude.{◌≡◌, ℕ, ◌+◌, List, ◌∷◌, ◌++◌, length, reverse, Some, Ok, Err, ◌⊎◌}
 use Rattle.pal_text.specs.declared.names.Name.{Name}
-use Rattle.pal_acts.specs.declared.act.Join.{Join}
-use Rattle.pal_acts.specs.declared.act.Act.{Act}
-use Rattle.pal_acts.specs.declared.act.Act.TheVariants as act
 use Rattle.pal_acts.specs.declared.act.Place.{Place}
 use Rattle.pal_acts.specs.declared.code.Code.{Code}
-use Rattle.pal_acts.specs.declared.code.Code.TheVariants.{Redefined, DuplicateTag, TableFull, PauseInLastPart}
 use Rattle.pal_acts.specs.declared.assembly.Refused.{Refused}
 use Rattle.pal_acts.specs.declared.assembly.Refused.TheVariants.{Fault, NoMemory}
 use Rattle.pal_acts.specs.Acts.{PlacedAct}
-use Rattle.pal_acts.specs.Values.{Values, known, value, needed}
-use Rattle.pal_acts.specs.Meaning.{location, Defines}
+use Rattle.pal_acts.specs.Values.{Values, known}
+use Rattle.pal_acts.specs.Meaning.{location, next_taken, Defines}
 use Rattle.pal_acts.specs.Words.{word_of}
 use Rattle.pal_acts.specs.Sources.{Encodes}
-
--- The own symbols once a name has this value, where it had that one or none before, which comes last then. Another value
--- has the given code, and a new name may find the table full.
-abbrev pub given : Code → ℕ → List (Name × ℕ) → Name → Option ℕ → ℕ → Result (List (Name × ℕ)) Code
-given code limit own n None v = if nat_lt (length own) limit then Ok (own ++ (n, v) ∷ []) else Err TableFull
-given code limit own n (Some w) v = if nat_eq w v then Ok own else Err code
-
-module _ (permanent : List (Name × ℕ)) (limit : ℕ) (own : List (Name × ℕ)) where
-  -- The own symbols after an act at this location, where these are those before it, or its fault. That of a word is looked
-  -- for later. A direction can't be given a value.
-  abbrev pub taken : ℕ → List Join → Act → Result (List (Name × ℕ)) Code
-  taken here e (act.Wrong c) = Err c
-  taken here e (act.Tag n) = given DuplicateTag limit own n (known permanent own n) here
-  taken here e act.Origin = needed (value (known permanent own) here e) (λ v. Ok own)
-  taken here e (act.Assign n) = needed (value (known permanent own) here e) (given Redefined limit own n (known permanent own n))
-  taken here e act.AssignDirection = needed (value (known permanent own) here e) (λ v. Err Redefined)
-  taken here e act.Word = Ok own
-  taken here e act.LastPause = Err PauseInLastPart
-
-  -- The same for an act after others, whose own symbols these are.
-  abbrev pub next_taken : List PlacedAct → PlacedAct → Result (List (Name × ℕ)) Code
-  next_taken before next = taken (location (known permanent own) before) next.terms next.act
 
 -- One of these acts is such after those before it, which have the newest first.
 pub record Meets (acts : List PlacedAct) (Such : List PlacedAct → PlacedAct → Type 0) : Type 0 where

@@ -1,14 +1,11 @@
 -- The permanent symbols of both profiles.
 use Prim.Native.String.{String}
-use Rattle.std.specs.Prelude.{◌≡◌, ℕ, ◌%◌, Bool, true, ◌&&◌, not, List, [], ◌∷◌, ◌++◌, codes}
-use Rattle.std.specs.List.{list_all}
-use Rattle.std.specs.Map.{keys_of}
+use Rattle.std.specs.Prelude.{ℕ, ◌%◌, List, [], ◌∷◌, ◌++◌, codes}
 use Rattle.word12.specs.Octal.{octal_value}
 use Rattle.instruct.specs.declared.Profile.{Profile}
 use Rattle.instruct.specs.declared.Profile.TheVariants.{Pdp8I, Pdp8E}
 use Rattle.pal_text.specs.declared.names.Name.{Name}
-use Rattle.pal_acts.specs.Meaning.{has}
-use Rattle.pal_acts.specs.Words.{named, references, indirect_mark, zero_mark}
+use Rattle.pal_acts.specs.Words.{named}
 
 -- A symbol by its six characters, and its value in octal digits.
 abbrev pub symbol : String → String → Name × ℕ
@@ -45,16 +42,3 @@ permanent_symbols Pdp8E = common_symbols ++ further_symbols
 -- A symbol as the code lists it, with its value as a word.
 abbrev pub listed : List ℕ × ℕ → Name × ℕ
 listed s = (named s.0, s.1 % 4096)
-
--- No name stands twice among these.
-abbrev pub no_name_twice : List Name → Bool
-no_name_twice [] = true
-no_name_twice (n ∷ ns) = not (has ns n) && no_name_twice ns
-
--- Under both profiles each permanent symbol has one value.
-abbrev pub PermanentOnce : Type 0
-PermanentOnce = (profile : Profile) → no_name_twice (keys_of (permanent_symbols profile)) ≡ true
-
--- Under both profiles the operations that take an address, I and Z are permanent symbols.
-abbrev pub ReferencesPermanent : Type 0
-ReferencesPermanent = (profile : Profile) → list_all (has (keys_of (permanent_symbols profile))) (references ++ indirect_mark ∷ zero_mark ∷ []) ≡ true

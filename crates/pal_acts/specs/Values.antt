@@ -1,6 +1,7 @@
 -- The values of names and of expressions. A word is a number below 4096.
 use Rattle.std.specs.Prelude.{ℕ, ◌+◌, ◌-◌, ◌%◌, Bool, List, [], ◌∷◌, ◌++◌, Option, Some, None, Result, Err, bit_or, nat_eq}
 use Rattle.std.specs.Cmp.Lexicographic.{pointwise}
+use Rattle.std.specs.List.{list_any}
 use Rattle.std.specs.Option.{option_and_then}
 use Rattle.std.specs.Map.{lookup}
 use Rattle.pal_text.specs.declared.names.Name.{Name}
@@ -16,17 +17,17 @@ use Rattle.pal_acts.specs.declared.code.Code.TheVariants.{Undefined}
 abbrev pub same : Name → Name → Bool
 same a b = pointwise nat_eq a.letters b.letters
 
+-- A name is among these.
+abbrev pub has : List Name → Name → Bool
+has ns n = list_any (same n) ns
+
 -- The value of each name that has one.
 abbrev pub Values : Type 0
 Values = Name → Option ℕ
 
--- The values that a table of names gives: that of a name's first entry.
-abbrev pub in_table : List (Name × ℕ) → Values
-in_table table n = lookup (same n) table
-
--- The values by the permanent symbols, and then by the source's own.
+-- The values by the permanent symbols, and then by the source's own: that of a name's first entry.
 abbrev pub known : List (Name × ℕ) → List (Name × ℕ) → Values
-known permanent own = in_table (permanent ++ own)
+known permanent own n = lookup (same n) (permanent ++ own)
 
 -- The value of a term at a location.
 abbrev pub term_value : Values → ℕ → Term → Option ℕ

@@ -1,6 +1,5 @@
 -- The word that an expression is.
-use Rattle.std.specs.Prelude.{ℕ, ◌/◌, ◌%◌, Bool, true, false, ◌&&◌, if◌then◌else◌, List, [], ◌∷◌, Option, Some, None, Result, Ok, Err, ok_or, nat_eq, nat_lt, bit_or, codes}
-use Rattle.std.specs.List.{list_any}
+use Rattle.std.specs.Prelude.{ℕ, ◌/◌, ◌%◌, Bool, true, false, ◌&&◌, not, if◌then◌else◌, List, [], ◌∷◌, Option, Some, None, Result, Ok, Err, ok_or, nat_eq, nat_lt, bit_or, codes}
 use Rattle.pal_text.specs.declared.names.Name.{Name}
 use Rattle.pal_acts.specs.declared.act.Sign.{Sign}
 use Rattle.pal_acts.specs.declared.act.Sign.TheVariants.{Or}
@@ -11,7 +10,7 @@ use Rattle.pal_acts.specs.declared.act.Act.{Act}
 use Rattle.pal_acts.specs.declared.act.Act.TheVariants as act
 use Rattle.pal_acts.specs.declared.code.Code.{Code}
 use Rattle.pal_acts.specs.declared.code.Code.TheVariants.{Undefined, IllegalReference}
-use Rattle.pal_acts.specs.Values.{Values, same, term_value, value, needed}
+use Rattle.pal_acts.specs.Values.{Values, has, term_value, value, needed}
 
 -- The name with these six characters.
 abbrev pub named : List ℕ → Name
@@ -30,18 +29,13 @@ references =
     named (codes "AND   ") ∷ named (codes "TAD   ") ∷ named (codes "ISZ   ")
     ∷ named (codes "DCA   ") ∷ named (codes "JMS   ") ∷ named (codes "JMP   ") ∷ []
 
-abbrev pub is_or : Sign → Bool
-is_or Or = true
-is_or _ = false
+-- What joins by this sign is one of these symbols, and begins an expression or follows a space.
+abbrev pub is_one_of : List Name → Sign → Term → Bool
+is_one_of ns Or (Symbol n) = has ns n
+is_one_of ns _ _ = false
 
--- A term is one of these symbols.
-abbrev pub is_one_of : List Name → Term → Bool
-is_one_of ns (Symbol n) = list_any (same n) ns
-is_one_of ns _ = false
-
--- A term stands where it begins an expression or follows a space, and is one of these symbols.
 abbrev pub joins_one_of : List Name → Join → Bool
-joins_one_of ns j = is_or j.sign && is_one_of ns j.term
+joins_one_of ns j = is_one_of ns j.sign j.term
 
 -- The same of one symbol.
 abbrev pub is_mark : Name → Join → Bool
@@ -56,18 +50,15 @@ pub record Marked : Type 0 where
 abbrev pub marked : Bool → Bool → List Join → Marked
 marked i z js = record { indirect = i; zero = z; address = js }
 
-abbrev pub after_indirect : List Join → Marked
-after_indirect [] = marked true false []
-after_indirect (j ∷ js) = if is_mark zero_mark j then marked true true js else marked true false (j ∷ js)
+-- I and Z, in either order, each at most once; the rest is the address. Here those that stood before are told too.
+abbrev pub marks_after : Bool → Bool → List Join → Marked
+marks_after indirect zero [] = marked indirect zero []
+marks_after indirect zero (j ∷ js) =
+    if not indirect && is_mark indirect_mark j then marks_after true zero js else
+    if not zero && is_mark zero_mark j then marks_after indirect true js else marked indirect zero (j ∷ js)
 
-abbrev pub after_zero : List Join → Marked
-after_zero [] = marked false true []
-after_zero (j ∷ js) = if is_mark indirect_mark j then marked true true js else marked false true (j ∷ js)
-
--- I and Z, in either order, each at most once; the rest is the address.
 abbrev pub marks : List Join → Marked
-marks [] = marked false false []
-marks (j ∷ js) = if is_mark indirect_mark j then after_indirect js else if is_mark zero_mark j then after_zero js else marked false false (j ∷ js)
+marks js = marks_after false false js
 
 -- A reference to an address: below 0200 it is coded on page zero; in the page of the location with 0200, unless Z stands
 -- there; no other address can be referred to.

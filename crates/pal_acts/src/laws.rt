@@ -1,7 +1,12 @@
 //! Laws over the definitions alone. Each is the contract of a function that does nothing.
 
-ghost use Rattle.pal_acts.specs.Laws.{NotBoth, OneFault, OneSource};
-ghost use Rattle.pal_acts.specs.Permanent.{PermanentOnce, ReferencesPermanent};
+ghost use Rattle.pal_acts.specs.Laws.{SymbolsAreOfTheWhole, NotBoth, OneFault, OneSource, PermanentOnce, ReferencesPermanent};
+
+/// The symbols of a source are those of the whole of it: each name has one value wherever it is given
+/// one, in the order of definition, and what needs a value at once names only what has one before it.
+pub fn symbols_are_of_the_whole()
+    ensures { SymbolsAreOfTheWhole }
+{}
 
 /// A source has at most one list of own symbols and at most one image.
 pub fn one_source()

@@ -2,8 +2,7 @@
 
 ghost use Rattle.std.specs.Prelude.{◌≡◌, Ok, [], length, OnOk, IfErr};
 ghost use Rattle.pal_acts.specs.Values.{known, term_value, value, joined};
-ghost use Rattle.pal_acts.specs.Meaning.{location_after};
-ghost use Rattle.pal_acts.specs.Faults.{given, taken};
+ghost use Rattle.pal_acts.specs.Meaning.{location_after, given, taken};
 ghost use Rattle.pal_acts.specs.Steps.{IsFault};
 
 use crate::act::{Act, Join, Name, Sign, Term};

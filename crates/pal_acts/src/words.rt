@@ -1,8 +1,7 @@
 //! The word that an expression is.
 
 ghost use Rattle.std.specs.Prelude.{◌≡◌};
-ghost use Rattle.std.specs.List.{list_any};
-ghost use Rattle.pal_acts.specs.Values.{same, term_value, known};
+ghost use Rattle.pal_acts.specs.Values.{has, term_value, known};
 ghost use Rattle.pal_acts.specs.Words.{joins_one_of, is_mark, references, marked, marks, addressed, reference, word_value};
 ghost use Rattle.pal_acts.specs.Steps.{marks_in};
 
@@ -70,7 +69,7 @@ impl<'t> Marks<'t> {
 /// Whether a name is that of an operation that takes an address. Its first letter leaves one that it
 /// can be, or two.
 fn takes_address(name: Name) -> bool
-    ensures { result ≡ list_any (same name) references }
+    ensures { result ≡ has references name }
 {
     match name.letters[0] {
         b'A' => name == AND,

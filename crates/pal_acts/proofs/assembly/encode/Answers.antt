@@ -1,7 +1,7 @@
-use Rattle.std.proofs.Common.{◌≡◌, ◌+◌, ◌<◌, refl, subst, arith, take, drop, length, List, ◌++◌, Some, Err}
+use Rattle.std.proofs.Common.{◌≡◌, ◌+◌, ◌<◌, refl, subst, arith, take, drop, length, List, Some, Err}
 use Rattle.std.specs.Prelude.{reverse}
 use Rattle.pal_acts.specs.Acts.{PlacedAct, shown}
-use Rattle.pal_acts.specs.Values.{Values, in_table}
+use Rattle.pal_acts.specs.Values.{Values, known}
 use Rattle.pal_acts.specs.Words.{word_of}
 use Rattle.pal_acts.proofs.Images.{blank_image}
 use Rattle.pal_acts.proofs.Places.{split_at, turned_more}
@@ -15,7 +15,7 @@ loop-at-preserved g c =
     let acts : List PlacedAct = c.args.acts.now in
     let within : c.loop-at.at < length acts = omega arith in
     let next : PlacedAct = shown c.get-next.result in
-    let σ : Values = in_table (c.args.symbols.now.permanent.now.entries ++ c.args.symbols.now.own.entries) in
+    let σ : Values = known c.args.symbols.now.permanent.now.entries c.args.symbols.now.own.entries in
     let more = turned_more acts c.loop-at.at next within c.get-next.ensures in
     rw more (c.in_default.ensures.puts (reverse (take c.loop-at.at acts)) c.loop-at.invariant.2 c.loop-at.invariant.0 c.loop-at.invariant.1)
 
@@ -24,7 +24,7 @@ returns-in-Err-clause-refused g c =
     let acts : List PlacedAct = c.args.acts.now in
     let within : c.loop-at.at < length acts = omega arith in
     let next : PlacedAct = shown c.get-next.result in
-    let σ : Values = in_table (c.args.symbols.now.permanent.now.entries ++ c.args.symbols.now.own.entries) in
+    let σ : Values = known c.args.symbols.now.permanent.now.entries c.args.symbols.now.own.entries in
     record {
       earlier = reverse (take c.loop-at.at acts);
       next = next;

@@ -3,13 +3,12 @@ use Rattle.pal_text.specs.declared.names.Name.{Name}
 use Rattle.std.specs.Prelude.{reverse}
 use Rattle.std.proofs.lemmas.List.{take_all}
 use Rattle.pal_acts.specs.Acts.{PlacedAct, shown}
-use Rattle.pal_acts.specs.Meaning.{Defines}
-use Rattle.pal_acts.specs.Faults.{taken}
-use Rattle.pal_acts.proofs.Places.{Comes, goes_on, turned_more, split_at, defines_none}
+use Rattle.pal_acts.specs.Meaning.{taken, Defines, nothing}
+use Rattle.pal_acts.proofs.Places.{Comes, goes_on, turned_more, split_at}
 use Rattle.pal_acts.proofs.assembly.take_acts.Goals as goal
 
 pub loop-at-init : goal.loop-at-init
-loop-at-init g c = rw c.requires (defines_none _ 1024, c.from_index-here.ensures, refl)
+loop-at-init g c = rw c.requires (nothing, c.from_index-here.ensures, refl)
 
 pub loop-at-preserved : goal.loop-at-preserved
 loop-at-preserved g c =

@@ -1,4 +1,4 @@
--- The symbols of acts are those of the acts before the last, and then that one's: so acts have one list of symbols.
+-- Symbols of the whole of some acts are those of the whole of all but the last, and then what that one makes of them.
 use Rattle.std.proofs.Common.{◌≡◌, ◌∙◌, sym, ap, refl, ℕ, ◌≤◌, ◌<◌, List, [], ◌∷◌, ◌++◌, length, arith, append_assoc, append-nil, length-append, true, false, Some, None, Option, inl, inr, subst}
 use Rattle.std.specs.Prelude.{unwrap_or}
 use Rattle.std.specs.List.{AllByRecursion}
@@ -14,10 +14,11 @@ use Rattle.pal_acts.specs.declared.act.Act.TheVariants as act
 use Rattle.pal_acts.specs.declared.code.Code.{Code}
 use Rattle.pal_acts.specs.declared.code.Code.TheVariants.{Redefined, DuplicateTag}
 use Rattle.pal_acts.specs.Acts.{PlacedAct}
-use Rattle.pal_acts.specs.Values.{same, Values, in_table, term_value, joined, value_after, value}
-use Rattle.pal_acts.specs.Meaning.{location, giving, givings, has, with_name, names_after, names, IsTermOf, Names, IsLawfulAct, IsLawful, IsGiven, Defines}
-use Rattle.pal_acts.proofs.Faulted.{giving_fault, giving_table, fault, after, origin_fault, assign_fault, assign_table, next_table}
-use Rattle.pal_acts.proofs.Table.{lookup-right, has_lookup}
+use Rattle.pal_acts.specs.Values.{same, has, Values, term_value, joined, value_after, value}
+use Rattle.pal_acts.specs.Meaning.{location}
+use Rattle.pal_acts.specs.Laws.{giving, givings, with_name, names_after, names, IsTermOf, Names, IsLawfulAct, IsLawful, IsGiven, IsOfTheWhole}
+use Rattle.pal_acts.proofs.Faulted.{giving_fault, giving_table, fault, after, origin_fault, assign_fault, assign_table}
+use Rattle.pal_acts.proofs.Table.{in_table, lookup-right, has_lookup}
 use Rattle.pal_acts.proofs.Agree.{Agrees, value_agree, location_agree, givings_agree, grows, has-after, has_not, has_it, keys-append, same_self}
 
 -- an expression has a value where its names have
@@ -117,7 +118,7 @@ some_same v w e = cc
 -- what stood before a name was given a value
 pub record Ungiven (perm : List (Name × ℕ)) (limit : ℕ) (before : List PlacedAct) (new : List (Name × ℕ)) (n : Name) (v : ℕ) (code : Code) : Type 0 where
   pub symbols : List (Name × ℕ)
-  pub defines : Defines perm limit before symbols
+  pub defines : IsOfTheWhole perm limit before symbols
   pub none : giving_fault code limit (length symbols) (in_table (perm ++ symbols) n) v ≡ None
   pub new_is : new ≡ giving_table symbols n (in_table (perm ++ symbols) n) v
   pub agrees : Agrees (names (keys_of perm) before) (in_table (perm ++ symbols)) (in_table (perm ++ new))
@@ -182,7 +183,7 @@ ungive perm limit before new n v code order is others lawful room =
 -- what stood before an act
 pub record Before (perm : List (Name × ℕ)) (limit : ℕ) (before : List PlacedAct) (e : List Join) (a : Act) (new : List (Name × ℕ)) : Type 0 where
   pub symbols : List (Name × ℕ)
-  pub defines : Defines perm limit before symbols
+  pub defines : IsOfTheWhole perm limit before symbols
   pub none : fault perm limit symbols (location (in_table (perm ++ symbols)) before) e a ≡ None
   pub new_is : new ≡ after perm limit symbols (location (in_table (perm ++ symbols)) before) e a
 
@@ -224,18 +225,9 @@ stood_by perm limit before e (act.Assign n) new order given law lawful room =
       new_is = u.new_is ∙ sym (ap (assign_table perm limit u.symbols n) k.1 ∙ ap (λ l. giving_table u.symbols n (σ n) l) is);
     }
 
-pub stood : (perm : List (Name × ℕ)) (limit : ℕ) (before : List PlacedAct) (next : PlacedAct) (new : List (Name × ℕ)) → Defines perm limit (next ∷ before) new → Before perm limit before next.terms next.act new
+pub stood : (perm : List (Name × ℕ)) (limit : ℕ) (before : List PlacedAct) (next : PlacedAct) (new : List (Name × ℕ)) → IsOfTheWhole perm limit (next ∷ before) new → Before perm limit before next.terms next.act new
 stood perm limit before next new d = stood_by perm limit before next.terms next.act new d.order d.one_value d.lawful.0 d.lawful.1 d.room
 
 pub none_left : (s : List (Name × ℕ)) (perm : List (Name × ℕ)) → keys_of (perm ++ s) ≡ keys_of perm → s ≡ []
 none_left [] perm e = refl
 none_left (x ∷ s) perm e = absurd (omega (arith, ap length (sym (keys-append perm (x ∷ s)) ∙ e), length-append (keys_of perm) (keys_of (x ∷ s))))
-
--- acts have one list of symbols
-pub unique : (perm : List (Name × ℕ)) (limit : ℕ) (acts : List PlacedAct) (s u : List (Name × ℕ)) → Defines perm limit acts s → Defines perm limit acts u → s ≡ u
-unique perm limit [] s u d e = none_left s perm d.order ∙ sym (none_left u perm e.order)
-unique perm limit (next ∷ before) s u d e =
-    let b : Before perm limit before next.terms next.act s = stood perm limit before next s d in
-    let c : Before perm limit before next.terms next.act u = stood perm limit before next u e in
-    let old : b.symbols ≡ c.symbols = unique perm limit before b.symbols c.symbols b.defines c.defines in
-    b.new_is ∙ ap (λ s. next_table perm limit s before next) old ∙ sym c.new_is

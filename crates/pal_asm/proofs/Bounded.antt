@@ -113,4 +113,4 @@ permanent_words Pdp8E = entries_of (permanent_symbols Pdp8E) refl
 
 pub meant_are_words : MeantAreWords
 meant_are_words profile parts symbols image means =
-    holds_words (permanent_symbols profile) 1024 means.acts symbols image (permanent_words profile) (reads_hold 1 Octal parts means.acts means.lines means.reads) means.is_source
+    holds_words (permanent_symbols profile) 1024 means.acts symbols image (permanent_words profile) (reads_hold 1 Octal parts means.acts means.lines means.reads) means.so

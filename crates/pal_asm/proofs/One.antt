@@ -111,14 +111,14 @@ module _ (perm : List (Name × ℕ)) (parts : List (List ℕ)) where
   means_one s u i j h k =
       let e : h.acts ≡ k.acts = (reads_one 1 Octal parts h.acts k.acts h.lines k.lines h.reads k.reads).0 in
       let P : List PlacedAct → Type 0 = λ l. IsSource perm 1024 l s i in
-      one_source perm 1024 k.acts s u i j (subst P e h.is_source) k.is_source
+      one_source perm 1024 k.acts s u i j (subst P e h.so) k.so
 
   pub means_sound : (s : List (Name × ℕ)) (i : List (Option ℕ)) (fault : PalFault) → Means perm parts s i → IsFault perm parts fault → ⊥
   means_sound s i fault h (inl k) = none_some (size_fault parts) fault h.sizes k
   means_sound s i fault h (inr k) =
       let e : h.acts ≡ k.acts = (reads_one 1 Octal parts h.acts k.acts h.lines k.lines h.reads k.reads).0 in
       let P : List PlacedAct → Type 0 = λ l. IsSource perm 1024 l s i in
-      not_both perm 1024 k.acts s i (place fault.part fault.line) fault.code (subst P e h.is_source) k.is_fault
+      not_both perm 1024 k.acts s i (place fault.part fault.line) fault.code (subst P e h.so) k.so
 
   one_fault_of : (acts : List PlacedAct) (f g : PalFault) → IsFaultOf perm acts f → IsFaultOf perm acts g → f ≡ g
   one_fault_of acts f g h k =
@@ -136,7 +136,7 @@ module _ (perm : List (Name × ℕ)) (parts : List (List ℕ)) where
   faults_one f g (inr h) (inr k) =
       let e : h.acts ≡ k.acts = (reads_one 1 Octal parts h.acts k.acts h.lines k.lines h.reads k.reads).0 in
       let P : List PlacedAct → Type 0 = λ l. IsFaultOf perm l f in
-      one_fault_of k.acts f g (subst P e h.is_fault) k.is_fault
+      one_fault_of k.acts f g (subst P e h.so) k.so
 
   -- a source with a meaning is refused for want of memory alone
   pub silent : (s : List (Name × ℕ)) (i : List (Option ℕ)) → Means perm parts s i → (e : AssembleFault) → Refuses perm parts e → e ≡ NoMemory
@@ -206,13 +206,13 @@ module _ {X : Type 0} (r : Result X AssembleFault) where
   -- what acts mean is what their parts mean, and their listing and their refusal those of their parts
   module _ (perm : List (Name × ℕ)) (parts : List (List ℕ)) (acts : List PlacedAct) (lines : List TextLine) (sizes : size_fault parts ≡ None) (reads : Reads 1 Octal parts acts lines) where
     pub means_if : (symbols : X → List (Name × ℕ)) (image_in : X → List (Option ℕ)) → IfOk r (λ x. IsSource perm 1024 acts (symbols x) (image_in x)) → IfOk r (λ x. Means perm parts (symbols x) (image_in x))
-    means_if symbols image_in h = one r h (λ x is. record { acts = acts; lines = lines; sizes = sizes; reads = reads; is_source = is })
+    means_if symbols image_in h = one r h (λ x is. record { acts = acts; lines = lines; sizes = sizes; reads = reads; so = is })
 
     pub lists_if : (symbols : X → List (Name × ℕ)) (text : X → List ℕ) → IfOk r (λ x. text x ≡ turns_text lines (all_words (known perm (symbols x)) acts) ++ codes "\n" ++ symbols_text (symbols x)) → IfOk r (λ x. Lists perm parts (symbols x) (text x))
-    lists_if symbols text h = one r h (λ x is. lists_by perm (symbols x) parts acts lines (text x) reads is)
+    lists_if symbols text h = one r h (λ x is. lists_by perm (symbols x) parts acts lines (text x) sizes reads is)
 
     refuses : (e : AssembleFault) → RefusesActs perm acts e → Refuses perm parts e
-    refuses (Source fault) h = inr (record { acts = acts; lines = lines; sizes = sizes; reads = reads; is_fault = h })
+    refuses (Source fault) h = inr (record { acts = acts; lines = lines; sizes = sizes; reads = reads; so = h })
     refuses NoMemory h = tt
 
     pub refuses_if : IfErr r (RefusesActs perm acts) → IfErr r (Refuses perm parts)

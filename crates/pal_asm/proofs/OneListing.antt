@@ -10,4 +10,4 @@ use Rattle.pal_asm.proofs.One.{reads_one}
 pub lists_one : (perm : List (Name × ℕ)) (parts : List (List ℕ)) (own : List (Name × ℕ)) (text other : List ℕ) → Lists perm parts own text → Lists perm parts own other → text ≡ other
 lists_one perm parts own text other h k =
     let same : (h.acts ≡ k.acts) × (h.lines ≡ k.lines) = reads_one 1 Octal parts h.acts k.acts h.lines k.lines h.reads k.reads in
-    h.text_is ∙ (λ i. listing (same.1 i) (all_words (known perm own) (same.0 i)) own) ∙ sym k.text_is
+    h.so ∙ (λ i. listing (same.1 i) (all_words (known perm own) (same.0 i)) own) ∙ sym k.so

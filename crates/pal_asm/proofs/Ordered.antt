@@ -1,5 +1,5 @@
 -- The words and the lines of parts are in order, so one pass gives each line its words.
-use Rattle.std.proofs.Common.{◌≡◌, ◌∙◌, sym, ap, refl, subst, ℕ, ◌+◌, ◌<◌, List, [], ◌∷◌, ◌++◌, append_assoc, Bool, arith, inl, inr, take, Some, Result, Ok, Err}
+use Rattle.std.proofs.Common.{◌≡◌, ◌∙◌, sym, ap, refl, subst, ℕ, ◌+◌, ◌<◌, List, [], ◌∷◌, ◌++◌, append_assoc, Bool, arith, inl, inr, take, Some, None, Result, Ok, Err}
 use Rattle.std.specs.Prelude.{reverse, codes}
 use Rattle.std.specs.List.{AllByRecursion}
 use Rattle.std.proofs.lemmas.List.{reverse-append, append-nil}
@@ -24,7 +24,7 @@ use Rattle.pal_asm.specs.declared.number.Radix.TheVariants.{Octal}
 use Rattle.pal_acts.specs.declared.act.PlacedWord.{PlacedWord}
 use Rattle.pal_asm.specs.Numbers.{base, radix_after}
 use Rattle.pal_asm.specs.Acts.{statement_acts, Does, ends, goes_on}
-use Rattle.pal_asm.specs.Sources.{is_empty, TextLine, text_lines, part_lines, Reads, no_part, broken, last_part, next_part}
+use Rattle.pal_asm.specs.Sources.{size_fault, is_empty, TextLine, text_lines, part_lines, Reads, no_part, broken, last_part, next_part}
 use Rattle.pal_acts.specs.Sources.{with_word, words, all_words}
 use Rattle.pal_asm.specs.Listings.{symbols_text, listing, Lists}
 use Rattle.pal_asm.specs.Kept.{turns_text}
@@ -157,6 +157,6 @@ listed_by σ parts acts lines own text reads e =
     let w : (q : Place) × After q (all_words σ acts) = words_after σ parts acts lines reads in
     e ∙ ap (λ l. l ++ codes "\n" ++ symbols_text own) (turns_are (place 0 0) w.0 lines (all_words σ acts) (lines_after (place 0 0) 1 Octal parts acts lines (omega arith) reads) w.1)
 
-pub lists_by : (perm own : List (Name × ℕ)) (parts : List (List ℕ)) (acts : List PlacedAct) (lines : List TextLine) (text : List ℕ) → Reads 1 Octal parts acts lines
+pub lists_by : (perm own : List (Name × ℕ)) (parts : List (List ℕ)) (acts : List PlacedAct) (lines : List TextLine) (text : List ℕ) → size_fault parts ≡ None → Reads 1 Octal parts acts lines
     → text ≡ turns_text lines (all_words (known perm own) acts) ++ codes "\n" ++ symbols_text own → Lists perm parts own text
-lists_by perm own parts acts lines text reads e = record { acts = acts; lines = lines; reads = reads; text_is = listed_by (known perm own) parts acts lines own text reads e }
+lists_by perm own parts acts lines text sizes reads e = record { acts = acts; lines = lines; sizes = sizes; reads = reads; so = listed_by (known perm own) parts acts lines own text reads e }

@@ -5,11 +5,9 @@ use Rattle.pal_text.specs.declared.names.Name.{Name}
 use Rattle.pal_text.specs.Characters.{char, tab, characters, code, is_character}
 use Rattle.pal_acts.specs.declared.act.Place.{Place}
 use Rattle.pal_acts.specs.declared.act.PlacedWord.{PlacedWord}
-use Rattle.pal_acts.specs.Acts.{PlacedAct}
 use Rattle.pal_acts.specs.Values.{known}
 use Rattle.pal_acts.specs.Sources.{all_words}
-use Rattle.pal_asm.specs.declared.number.Radix.TheVariants.{Octal}
-use Rattle.pal_asm.specs.Sources.{TextLine, Reads}
+use Rattle.pal_asm.specs.Sources.{TextLine, IsReadSo}
 
 -- A word stands at this place.
 abbrev pub is_at : Place → PlacedWord → Bool
@@ -63,8 +61,5 @@ abbrev pub listing : List TextLine → List PlacedWord → List (Name × ℕ) �
 listing lines ws own = lines_text lines ws ++ codes "\n" ++ symbols_text own
 
 -- The text is the listing of the source of these parts, whose own symbols these are.
-pub record Lists (permanent : List (Name × ℕ)) (parts : List (List ℕ)) (own : List (Name × ℕ)) (text : List ℕ) : Type 0 where
-  pub acts : List PlacedAct
-  pub lines : List TextLine
-  pub reads : Reads 1 Octal parts acts lines
-  pub text_is : text ≡ listing lines (all_words (known permanent own) acts) own
+abbrev pub Lists : List (Name × ℕ) → List (List ℕ) → List (Name × ℕ) → List ℕ → Type 0
+Lists permanent parts own text = IsReadSo parts (λ acts lines. text ≡ listing lines (all_words (known permanent own) acts) own)

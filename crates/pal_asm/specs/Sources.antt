@@ -79,29 +79,25 @@ pub data Reads : ℕ → Radix → List (List ℕ) → List PlacedAct → List T
   next_part : (n : ℕ) (r r' : Radix) (p : List ℕ) (ps : List (List ℕ)) (acts more : List PlacedAct) (lines : List TextLine) (c : Close) → PartDoes n (is_empty ps) r p acts r' c → c.ending ≢ Dollar
       → Reads (n + 1) r' ps more lines → Reads n r (p ∷ ps) (acts ++ more) (part_lines n p c ++ lines)
 
--- The meaning of a source of parts, over these permanent symbols: the symbols and the image of their acts.
-pub record Means (permanent : List (Name × ℕ)) (parts : List (List ℕ)) (symbols : List (Name × ℕ)) (image : List (Option ℕ)) : Type 0 where
+-- Parts whose sizes are good have acts and lines of which this holds.
+pub record IsReadSo (parts : List (List ℕ)) (So : List PlacedAct → List TextLine → Type 0) : Type 0 where
   pub acts : List PlacedAct
   pub lines : List TextLine
   pub sizes : size_fault parts ≡ None
   pub reads : Reads 1 Octal parts acts lines
-  pub is_source : IsSource permanent 1024 acts symbols image
+  pub so : So acts lines
+
+-- The meaning of a source of parts, over these permanent symbols: the symbols and the image of their acts.
+abbrev pub Means : List (Name × ℕ) → List (List ℕ) → List (Name × ℕ) → List (Option ℕ) → Type 0
+Means permanent parts symbols image = IsReadSo parts (λ acts lines. IsSource permanent 1024 acts symbols image)
 
 -- The first fault of acts over these permanent symbols, told at the part and the line of its act.
 abbrev pub IsFaultOf : List (Name × ℕ) → List PlacedAct → PalFault → Type 0
 IsFaultOf permanent acts fault = IsRefused permanent 1024 acts (place fault.part fault.line) fault.code
 
--- A source breaks so: its sizes are good, and this is the fault of the acts of its parts.
-pub record Breaks (permanent : List (Name × ℕ)) (parts : List (List ℕ)) (fault : PalFault) : Type 0 where
-  pub acts : List PlacedAct
-  pub lines : List TextLine
-  pub sizes : size_fault parts ≡ None
-  pub reads : Reads 1 Octal parts acts lines
-  pub is_fault : IsFaultOf permanent acts fault
-
--- The fault of a source.
+-- The fault of a source: that of its sizes, or else that of the acts of its parts.
 abbrev pub IsFault : List (Name × ℕ) → List (List ℕ) → PalFault → Type 0
-IsFault permanent parts fault = (size_fault parts ≡ Some fault) ⊎ Breaks permanent parts fault
+IsFault permanent parts fault = (size_fault parts ≡ Some fault) ⊎ IsReadSo parts (λ acts lines. IsFaultOf permanent acts fault)
 
 -- A source is refused so: by its fault, or memory was refused.
 abbrev pub Refuses : List (Name × ℕ) → List (List ℕ) → AssembleFault → Type 0

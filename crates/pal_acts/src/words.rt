@@ -54,18 +54,6 @@ struct Marks<'t> {
     address: &'t [Join],
 }
 
-impl<'t> Marks<'t> {
-    fn new(indirect: bool, zero: bool, address: &'t [Join]) -> Marks<'t>
-        ensures { marks_in result ≡ marked indirect zero address.now }
-    {
-        Marks {
-            indirect,
-            zero,
-            address,
-        }
-    }
-}
-
 /// Whether a name is that of an operation that takes an address. Its first letter leaves one that it
 /// can be, or two.
 fn takes_address(name: Name) -> bool
@@ -100,21 +88,26 @@ fn refers(join: &Join) -> bool
     }
 }
 
-/// What follows an operation: after I, Z may stand, and after Z, I.
+/// What follows an operation: I and Z, each at most once, and then the address.
 fn marks_of<'t>(joins: &'t [Join]) -> Marks<'t>
     ensures { marks_in result ≡ marks joins.now }
 {
-    match joins {
-        [first, rest @ ..] if is_mark(INDIRECT, first) => match rest {
-            [second, address @ ..] if is_mark(ZERO_PAGE, second) => Marks::new(true, true, address),
-            address => Marks::new(true, false, address),
-        },
-        [first, rest @ ..] if is_mark(ZERO_PAGE, first) => match rest {
-            [second, address @ ..] if is_mark(INDIRECT, second) => Marks::new(true, true, address),
-            address => Marks::new(false, true, address),
-        },
-        address => Marks::new(false, false, address),
+    let mut found = Marks {
+        indirect: false,
+        zero: false,
+        address: joins,
+    };
+    while let [first, rest @ ..] = found.address {
+        if !found.indirect && is_mark(INDIRECT, first) {
+            found.indirect = true;
+        } else if !found.zero && is_mark(ZERO_PAGE, first) {
+            found.zero = true;
+        } else {
+            break;
+        }
+        found.address = rest;
     }
+    found
 }
 
 /// An operation with the address that it refers to.

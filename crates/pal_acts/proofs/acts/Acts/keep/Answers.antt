@@ -7,7 +7,7 @@ use Rattle.pal_acts.proofs.acts.Acts.keep.Goals as goal
 pub returns-clause-kept : goal.returns-clause-kept
 returns-clause-kept g c =
     let k : Kept = record { place = c.args.place; act = c.args.act; span = c.in_ok-span.span } in
-    ap (acts_in c.lay.new.terms.items) c.in_ok-push.ensures.items
+    ap (acts_in c.lay.new.terms.items) {x = c.push.new.self.items} {y = c.self.inside.list.items ++ k ∷ []} c.in_ok-push.ensures.items
     ∙ added c.self.inside.terms.items c.args.terms.now c.lay.new.terms.items c.self.inside.list.items k c.self.invariant c.in_ok-span.ensures.laid c.in_ok-span.ensures.first c.in_ok-span.ensures.last
     ∙ ap (λ l. l ++ placed c.args.place c.args.terms.now c.args.act ∷ []) c.self.view_is
 
@@ -21,7 +21,7 @@ invariant_of-self-in_err-push g c =
 
 pub returns-in_err-push-clause-same : goal.returns-in_err-push-clause-same
 returns-in_err-push-clause-same g c =
-    anyway c.from_residual-in_err-push.result (ap (acts_in c.lay.new.terms.items) c.in_err-push.ensures.items
+    anyway c.from_residual-in_err-push.result (ap (acts_in c.lay.new.terms.items) {x = c.push.new.self.items} {y = c.self.inside.list.items} c.in_err-push.ensures.items
     ∙ kept_longer c.self.inside.terms.items c.lay.new.terms.items c.self.inside.list.items c.self.invariant c.lay.ensures.kept ∙ c.self.view_is)
 
 pub invariant_of-self-2 : goal.invariant_of-self-2

@@ -1,5 +1,5 @@
 -- What a source means holds words.
-use Rattle.std.proofs.Common.{refl, ℕ, ◌+◌, ◌<◌, List, [], ◌∷◌, Bool, Result, Ok, Err}
+use Rattle.std.proofs.Common.{refl, ℕ, ◌+◌, ◌<◌, List, [], ◌∷◌, Bool, Option, Result, Ok, Err}
 use Rattle.std.specs.Prelude.{map, nat_lt}
 use Rattle.std.specs.List.{AllByRecursion, list_all}
 use Rattle.std.proofs.lemmas.Bool.{cond_both, ltb-true}
@@ -8,9 +8,11 @@ use Rattle.instruct.specs.declared.Profile.TheVariants.{Pdp8I, Pdp8E}
 use Rattle.pal_text.specs.declared.tokens.Kind.{Kind}
 use Rattle.pal_text.specs.declared.tokens.Kind.TheVariants as kind
 use Rattle.pal_text.specs.declared.tokens.Token.{Token}
+use Rattle.pal_text.specs.declared.grammar.Form.{Form}
+use Rattle.pal_text.specs.declared.grammar.Form.TheVariants as form
 use Rattle.pal_text.specs.declared.cut.Close.{Close}
 use Rattle.pal_text.specs.Characters.{characters}
-use Rattle.pal_text.specs.Grammar.{is_joiner, Said, Origin, Assign, AssignDirection, Pause, Word, form_of}
+use Rattle.pal_text.specs.Grammar.{is_joiner, Said}
 use Rattle.pal_text.specs.Names.{bytes_of}
 use Rattle.pal_text.specs.Statements.{Piece}
 use Rattle.pal_text.proofs.Rises.{all_append}
@@ -28,7 +30,7 @@ use Rattle.pal_asm.specs.declared.number.Radix.{Radix}
 use Rattle.pal_asm.specs.declared.number.Radix.TheVariants.{Octal}
 use Rattle.pal_asm.specs.Numbers.{base, radix_after, worth, is_digit_of, number}
 use Rattle.pal_asm.specs.Expressions.{sign_of, number_term, term_by, term, in_front, joins, expression}
-use Rattle.pal_asm.specs.Acts.{tag_act, operand, said_acts, acts_with, statement_acts, Does, ends, goes_on}
+use Rattle.pal_asm.specs.Acts.{tag_act, said_acts, acts_with, statement_acts, Does, ends, goes_on}
 use Rattle.pal_asm.specs.Sources.{TextLine, Reads, no_part, broken, last_part, next_part}
 use Rattle.pal_asm.specs.Laws.{MeantAreWords}
 
@@ -76,27 +78,26 @@ tags_hold : (p : Place) (source : List ℕ) (ts : List Token) → Each (map (tag
 tags_hold p source [] = tt
 tags_hold p source (t ∷ ts) = (tt, tags_hold p source ts)
 
-said_hold : (p : Place) (last : Bool) (source : List ℕ) (said : Said) (js : List Join) → Numbers js → Each (said_acts p last source said js)
-said_hold p last source (Origin e) js h = (h, tt)
-said_hold p last source (Assign t e) js h = (h, tt)
-said_hold p last source (AssignDirection e) js h = (h, tt)
-said_hold p last source (Word e) js h = (h, tt)
-said_hold p last source Pause js h = cond_both last (placed p [] act.LastPause ∷ []) [] Each (λ is. (tt, tt)) (λ is. tt)
-said_hold p last source _ js h = tt
+said_hold : (p : Place) (last : Bool) (source : List ℕ) (name : Option Token) (js : List Join) (f : Form) → Numbers js → Each (said_acts p last source name js f)
+said_hold p last source name js form.Origin h = (h, tt)
+said_hold p last source name js form.Assign h = (h, tt)
+said_hold p last source name js form.Word h = (h, tt)
+said_hold p last source name js form.Pause h = cond_both last (placed p [] act.LastPause ∷ []) [] Each (λ is. (tt, tt)) (λ is. tt)
+said_hold p last source name js _ h = tt
 
 with_hold : (p : Place) (last : Bool) (source : List ℕ) (tags : List Token) (said : Said) (r : Result (List Join) Code) → ReadAll r → Each (acts_with p last source tags said r)
 with_hold p last source tags said (Err c) h = (tt, tt)
-with_hold p last source tags said (Ok js) h = all_append HasNumbers (map (tag_act p source) tags) (said_acts p last source said js) (tags_hold p source tags) (said_hold p last source said js h)
+with_hold p last source tags said (Ok js) h = all_append HasNumbers (map (tag_act p source) tags) (said_acts p last source said.name js said.form) (tags_hold p source tags) (said_hold p last source said.name js said.form h)
 
 statement_hold : (p : Place) (b : ℕ) (last : Bool) (source : List ℕ) (tags : List Token) (said : Said) → Each (statement_acts p b last source tags said)
 statement_hold p b last source tags said =
-    with_hold p last source tags said (expression b source (operand said)) (joins_read b source Or (operand said))
+    with_hold p last source tags said (expression b source said.operand) (joins_read b source Or said.operand)
 
 does_hold : (n : ℕ) (last : Bool) (source : List ℕ) (r r' : Radix) (ps : List Piece) (acts : List PlacedAct) (c : Close) → Does n last source r ps acts r' c → Each acts
 does_hold n last source r r' ps acts c (ends q p qs tags said d s e) = statement_hold (place n p.mark.line) (base q) last source tags said
 does_hold n last source r r' ps acts c (goes_on q q' p qs tags said later d s e h) =
     all_append HasNumbers (statement_acts (place n p.mark.line) (base q) last source tags said) later (statement_hold (place n p.mark.line) (base q) last source tags said)
-    (does_hold n last source (radix_after q (form_of said)) q' qs later d h)
+    (does_hold n last source (radix_after q said.form) q' qs later d h)
 
 reads_hold : (n : ℕ) (r : Radix) (parts : List (List ℕ)) (acts : List PlacedAct) (lines : List TextLine) → Reads n r parts acts lines → Each acts
 reads_hold n r parts acts lines (no_part m q) = tt

@@ -1,13 +1,14 @@
 -- What holds of each act that a statement can do holds of all that it does.
-use Rattle.std.proofs.Common.{◌≡◌, refl, ℕ, List, [], ◌∷◌, Bool, Result, Ok, Err}
+use Rattle.std.proofs.Common.{◌≡◌, refl, ℕ, List, [], ◌∷◌, Bool, Option, Some, None, Result, Ok, Err}
 use Rattle.std.specs.Prelude.{map}
 use Rattle.std.specs.List.{AllByRecursion}
 use Rattle.std.proofs.lemmas.Bool.{cond_both}
 use Rattle.pal_text.specs.declared.tokens.Kind.{Kind}
 use Rattle.pal_text.specs.declared.tokens.Kind.TheVariants as kind
 use Rattle.pal_text.specs.declared.tokens.Token.{Token}
+use Rattle.pal_text.specs.declared.grammar.Form.{Form}
 use Rattle.pal_text.specs.declared.grammar.Form.TheVariants as form
-use Rattle.pal_text.specs.Grammar.{Said, Origin, Assign, AssignDirection, Pause, Word, form_of}
+use Rattle.pal_text.specs.Grammar.{Said}
 use Rattle.pal_text.proofs.Rises.{all_append}
 use Rattle.pal_acts.specs.declared.act.Join.{Join}
 use Rattle.pal_acts.specs.declared.act.Act.{Act}
@@ -17,7 +18,11 @@ use Rattle.pal_acts.specs.declared.code.Code.{Code}
 use Rattle.pal_acts.specs.declared.code.Code.TheVariants.{DuplicateTag}
 use Rattle.pal_acts.specs.Acts.{PlacedAct, placed}
 use Rattle.pal_asm.specs.Expressions.{name_of, expression}
-use Rattle.pal_asm.specs.Acts.{tag_by, tag_act, operand, said_acts, acts_with, statement_acts}
+use Rattle.pal_asm.specs.Acts.{tag_by, tag_act, assigned, said_acts, acts_with, statement_acts}
+
+no_word : (source : List ℕ) (name : Option Token) → assigned source name ≡ act.Word → ⊥
+no_word source (Some t) e = cc
+no_word source None e = cc
 
 module _ (P : PlacedAct → Type 0) (p : Place) (idle : (e : List Join) (a : Act) → (a ≡ act.Word → ⊥) → P (placed p e a)) where
   abbrev Each : List PlacedAct → Type 0
@@ -31,18 +36,17 @@ module _ (P : PlacedAct → Type 0) (p : Place) (idle : (e : List Join) (a : Act
   tags_hold source [] = tt
   tags_hold source (t ∷ ts) = (tag_holds source t t.kind, tags_hold source ts)
 
-  said_holds : (last : Bool) (source : List ℕ) (s : Said) (js : List Join) → (form_of s ≡ form.Word → P (placed p js act.Word)) → Each (said_acts p last source s js)
-  said_holds last source (Origin e) js h = (idle js act.Origin (λ e. cc), tt)
-  said_holds last source (Assign t e) js h = (idle js (act.Assign (name_of source t)) (λ e. cc), tt)
-  said_holds last source (AssignDirection e) js h = (idle js act.AssignDirection (λ e. cc), tt)
-  said_holds last source (Word e) js h = (h refl, tt)
-  said_holds last source Pause js h = cond_both last (placed p [] act.LastPause ∷ []) [] (λ l. Each l) (λ is. (idle [] act.LastPause (λ e. cc), tt)) (λ is. tt)
-  said_holds last source _ js h = tt
+  said_holds : (last : Bool) (source : List ℕ) (name : Option Token) (js : List Join) (f : Form) → (f ≡ form.Word → P (placed p js act.Word)) → Each (said_acts p last source name js f)
+  said_holds last source name js form.Origin h = (idle js act.Origin (λ e. cc), tt)
+  said_holds last source name js form.Assign h = (idle js (assigned source name) (no_word source name), tt)
+  said_holds last source name js form.Word h = (h refl, tt)
+  said_holds last source name js form.Pause h = cond_both last (placed p [] act.LastPause ∷ []) [] (λ l. Each l) (λ is. (idle [] act.LastPause (λ e. cc), tt)) (λ is. tt)
+  said_holds last source name js _ h = tt
 
-  with_holds : (last : Bool) (source : List ℕ) (tags : List Token) (s : Said) (r : Result (List Join) Code) → ((js : List Join) → form_of s ≡ form.Word → P (placed p js act.Word)) → Each (acts_with p last source tags s r)
+  with_holds : (last : Bool) (source : List ℕ) (tags : List Token) (s : Said) (r : Result (List Join) Code) → ((js : List Join) → s.form ≡ form.Word → P (placed p js act.Word)) → Each (acts_with p last source tags s r)
   with_holds last source tags s (Err c) h = (idle [] (act.Wrong c) (λ e. cc), tt)
-  with_holds last source tags s (Ok js) h = all_append P (map (tag_act p source) tags) (said_acts p last source s js) (tags_hold source tags) (said_holds last source s js (h js))
+  with_holds last source tags s (Ok js) h = all_append P (map (tag_act p source) tags) (said_acts p last source s.name js s.form) (tags_hold source tags) (said_holds last source s.name js s.form (h js))
 
-  pub statement_holds : (b : ℕ) (last : Bool) (source : List ℕ) (tags : List Token) (s : Said) → ((js : List Join) → form_of s ≡ form.Word → P (placed p js act.Word)) → Each (statement_acts p b last source tags s)
+  pub statement_holds : (b : ℕ) (last : Bool) (source : List ℕ) (tags : List Token) (s : Said) → ((js : List Join) → s.form ≡ form.Word → P (placed p js act.Word)) → Each (statement_acts p b last source tags s)
   statement_holds b last source tags s h =
-      with_holds last source tags s (expression b source (operand s)) h
+      with_holds last source tags s (expression b source s.operand) h

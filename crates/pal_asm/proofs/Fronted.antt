@@ -6,7 +6,6 @@ use Rattle.std.proofs.lemmas.List.{append-nil, take_all, take-append-drop}
 use Rattle.pal_text.specs.declared.tokens.Token.{Token}
 use Rattle.pal_text.specs.declared.cut.Close.{Close}
 use Rattle.pal_text.specs.declared.lines.Line.{Line}
-use Rattle.pal_text.specs.Grammar.{form_of}
 use Rattle.pal_text.specs.Lines.{all_lines}
 use Rattle.pal_text.specs.Order.{IsLineWithin}
 use Rattle.pal_text.specs.Names.{part_tokens}
@@ -51,9 +50,9 @@ fronts_more (g ∷ fs) f =
 does_within : (n : ℕ) (last : Bool) (source : List ℕ) (r r' : Radix) (ps : List Piece) (acts : List PlacedAct) (c : Close) → Marks (length source) ps → Does n last source r ps acts r' c → c.stop ≤ length source
 does_within n last source r r' ps acts c marks (ends q p qs tags said d reads e) =
     let tokens : List Token = part_tokens source in
-    stop_by (length source) (closing (length source) (own tokens p) p.mark (form_of said)) d
-    (closing_within (length source) (own tokens p) p.mark (form_of said) marks.0 (own_within tokens (length source) p (part_tokens_within source))) e
-does_within n last source r r' ps acts c marks (goes_on q q' p qs tags said later d reads e h) = does_within n last source (radix_after q (form_of said)) q' qs later d marks.1 h
+    stop_by (length source) (closing (length source) (own tokens p) p.mark said.form) d
+    (closing_within (length source) (own tokens p) p.mark said.form marks.0 (own_within tokens (length source) p (part_tokens_within source))) e
+does_within n last source r r' ps acts c marks (goes_on q q' p qs tags said later d reads e h) = does_within n last source (radix_after q said.form) q' qs later d marks.1 h
 
 module _ (part : NumberedPart) (before : Radix) (old new : List PlacedAct) (reached : Reached) (is : IsRead part before old new reached) where
   pub stop_inside : reached.close.stop ≤ length part.source.now

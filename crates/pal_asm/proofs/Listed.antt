@@ -6,7 +6,6 @@ use Rattle.std.proofs.lemmas.Bool.{cases_eq}
 use Rattle.pal_text.specs.declared.cut.Close.{Close}
 use Rattle.pal_text.specs.declared.lines.Line.{Line}
 use Rattle.pal_text.specs.declared.names.Name.{Name}
-use Rattle.pal_text.specs.Grammar.{form_of}
 use Rattle.pal_text.specs.Lines.{all_lines}
 use Rattle.pal_text.specs.Names.{part_tokens}
 use Rattle.pal_text.specs.Statements.{Piece, pieces}
@@ -77,7 +76,7 @@ idle_stands lines p e _ h = tt
 does_stands : (n : ℕ) (last : Bool) (source : List ℕ) (lines : List TextLine) (r r' : Radix) (l : ℕ) (ps : List Piece) (acts : List PlacedAct) (c : Close)
     → ((m : ℕ) → 1 ≤ m → m ≤ lines_to source c.stop → IsListed (place n m) lines) → Fairs source ps → Marks l ps → Does n last source r ps acts r' c → AllByRecursion (Stands lines) acts
 does_stands n last source lines r r' l ps acts c listed fair marks (ends q p qs tags said d reads e) =
-    let stopped = stops source n last q (radix_after q (form_of said)) p.mark.line (p ∷ qs) (statement_acts (place n p.mark.line) (base q) last source tags said) d fair (omega arith, marks.1) (ends q p qs tags said d reads e) in
+    let stopped = stops source n last q (radix_after q said.form) p.mark.line (p ∷ qs) (statement_acts (place n p.mark.line) (base q) last source tags said) d fair (omega arith, marks.1) (ends q p qs tags said d reads e) in
     statement_holds (Stands lines) (place n p.mark.line) (idle_stands lines (place n p.mark.line)) (base q) last source tags said
     (λ js w. let at = on_line source p tags said d fair.0 reads stopped w in listed p.mark.line at.0 at.1)
 does_stands n last source lines r r' l ps acts c listed fair marks (goes_on q q' p qs tags said more d reads e h) =
@@ -85,7 +84,7 @@ does_stands n last source lines r r' l ps acts c listed fair marks (goes_on q q'
     all_append (Stands lines) (statement_acts (place n p.mark.line) (base q) last source tags said) more
     (statement_holds (Stands lines) (place n p.mark.line) (idle_stands lines (place n p.mark.line)) (base q) last source tags said
     (λ js w. let at = on_line source p tags said d fair.0 reads stopped w in listed p.mark.line at.0 at.1))
-    (does_stands n last source lines (radix_after q (form_of said)) q' p.mark.line qs more d listed fair.1 marks.1 h)
+    (does_stands n last source lines (radix_after q said.form) q' p.mark.line qs more d listed fair.1 marks.1 h)
 
 part_stands : (n : ℕ) (last : Bool) (source : List ℕ) (r r' : Radix) (acts : List PlacedAct) (c : Close) → PartDoes n last r source acts r' c → AllByRecursion (Stands (part_lines n source c)) acts
 part_stands n last source r r' acts c does =

@@ -6,7 +6,7 @@ use Rattle.pal_text.specs.declared.cut.Statement.{Statement}
 use Rattle.pal_text.specs.declared.cut.Close.{Close}
 use Rattle.pal_text.specs.declared.cut.Ending.{Ending}
 use Rattle.pal_text.specs.declared.names.Name.{Name}
-use Rattle.pal_text.specs.Grammar.{Said, form_of, IsStatement}
+use Rattle.pal_text.specs.Grammar.{Said, IsStatement}
 use Rattle.pal_text.specs.Names.{part_tokens}
 use Rattle.pal_text.specs.Statements.{Piece, pieces, own, Fills, closing, Breaks, here, later}
 use Rattle.pal_text.proofs.Readings.{one_said}
@@ -49,7 +49,7 @@ ending_in c = c.ending
 -- the pieces of a part have one list of acts, and no fault
 module _ (n : ℕ) (last : Bool) (source : List ℕ) where
   abbrev after : Piece → Said → Option Close
-  after p said = closing (length source) (own (part_tokens source) p) p.mark (form_of said)
+  after p said = closing (length source) (own (part_tokens source) p) p.mark said.form
 
   ends_not_on : (p : Piece) (tags others : List Token) (said other : Said) (c : Close) → IsStatement (own (part_tokens source) p) tags said → IsStatement (own (part_tokens source) p) others other
       → after p said ≡ Some c → after p other ≡ None → ⊥
@@ -59,15 +59,15 @@ module _ (n : ℕ) (last : Bool) (source : List ℕ) where
   does_one r r1 r2 ps acts others c d (ends q p qs tags said c' s e) (ends q' p' qs' tags' said' d' t f) =
       let same : (tags ≡ tags') × (said ≡ said') = one_said (own (part_tokens source) p) tags tags' said said' s t in (
         λ i. statement_acts (place n p.mark.line) (base q) last source (same.0 i) (same.1 i),
-        ap (λ x. radix_after q (form_of x)) same.1,
+        ap (λ x. radix_after q x.form) same.1,
         some_same c' d' (sym e ∙ ap (after p) same.1 ∙ f),
       )
   does_one r r1 r2 ps acts others c d (ends q p qs tags said c' s e) (goes_on q' r' p' qs' tags' said' more' d' t f k) = absurd (ends_not_on p tags tags' said said' c' s t e f)
   does_one r r1 r2 ps acts others c d (goes_on q r' p qs tags said mine c' s e h) (ends q' p' qs' tags' said' d' t f) = absurd (ends_not_on p tags' tags said' said d' t s f e)
   does_one r r1 r2 ps acts others c d (goes_on q r' p qs tags said mine c' s e h) (goes_on q' r'' p' qs' tags' said' other d' t f k) =
       let same : (tags ≡ tags') × (said ≡ said') = one_said (own (part_tokens source) p) tags tags' said said' s t in
-      let P : Said → Type 0 = λ x. Does n last source (radix_after q (form_of x)) qs other r'' d' in
-      let more : (mine ≡ other) × (r' ≡ r'') × (c' ≡ d') = does_one (radix_after q (form_of said)) r' r'' qs mine other c' d' h (subst P (sym same.1) k) in (
+      let P : Said → Type 0 = λ x. Does n last source (radix_after q x.form) qs other r'' d' in
+      let more : (mine ≡ other) × (r' ≡ r'') × (c' ≡ d') = does_one (radix_after q said.form) r' r'' qs mine other c' d' h (subst P (sym same.1) k) in (
         λ i. statement_acts (place n p.mark.line) (base q) last source (same.0 i) (same.1 i) ++ more.0 i,
         more.1,
         more.2,
@@ -75,13 +75,13 @@ module _ (n : ℕ) (last : Bool) (source : List ℕ) where
 
   forms_are : (p : Piece) (tags : List Token) (said : Said) (s : Statement) → IsStatement (own (part_tokens source) p) tags said → (f : Fills (part_tokens source) p s) → closing (length source) (own (part_tokens source) p) p.mark s.form ≡ after p said
   forms_are p tags said s h f =
-      ap (closing (length source) (own (part_tokens source) p) p.mark) (f.form ∙ ap form_of (one_said (own (part_tokens source) p) f.names tags f.said said f.reads h).1)
+      ap (closing (length source) (own (part_tokens source) p) p.mark) (f.form ∙ ap (λ (s : Said). s.form) (one_said (own (part_tokens source) p) f.names tags f.said said f.reads h).1)
 
   pub does_sound : (r r' : Radix) (ps : List Piece) (acts : List PlacedAct) (c : Close) (line : ℕ) → Does n last source r ps acts r' c → Breaks (part_tokens source) (length source) ps line → ⊥
   does_sound r r' ps acts c line (ends q p qs tags said c' s e) (here p' qs' k) = k tags said s
   does_sound r r' ps acts c line (ends q p qs tags said c' s e) (later p' qs' t m f g k) = none_some (after p said) c' (sym (forms_are p tags said t s f) ∙ g) e
   does_sound r r' ps acts c line (goes_on q q' p qs tags said more c' s e h) (here p' qs' k) = k tags said s
-  does_sound r r' ps acts c line (goes_on q q' p qs tags said more c' s e h) (later p' qs' t m f g k) = does_sound (radix_after q (form_of said)) q' qs more c' m h k
+  does_sound r r' ps acts c line (goes_on q q' p qs tags said more c' s e h) (later p' qs' t m f g k) = does_sound (radix_after q said.form) q' qs more c' m h k
 
 -- parts have one list of acts, and one of lines
 pub reads_one : (n : ℕ) (r : Radix) (parts : List (List ℕ)) (acts others : List PlacedAct) (lines more : List TextLine) → Reads n r parts acts lines → Reads n r parts others more → (acts ≡ others) × (lines ≡ more)

@@ -6,7 +6,6 @@ use Rattle.std.proofs.lemmas.List.{reverse-append, append-nil}
 use Rattle.pal_text.specs.declared.cut.Close.{Close}
 use Rattle.pal_text.specs.declared.lines.Line.{Line}
 use Rattle.pal_text.specs.declared.names.Name.{Name}
-use Rattle.pal_text.specs.Grammar.{form_of}
 use Rattle.pal_text.specs.Lines.{all_lines}
 use Rattle.pal_text.specs.Names.{part_tokens}
 use Rattle.pal_text.specs.Statements.{Piece, pieces}
@@ -65,7 +64,7 @@ does_after n last source r r' l ps acts later c marks (goes_on q q' p qs tags sa
     let P : List PlacedAct → Type 0 = λ xs. ActsAfter (place n l) xs in
     subst P (sym (append_assoc mine more later))
     (acts_weaker (place n l) at (mine ++ (more ++ later)) (inr (refl, marks.0))
-    (at_after at mine (more ++ later) all (does_after n last source (radix_after q (form_of said)) q' p.mark.line qs more later d marks.1 h k)))
+    (at_after at mine (more ++ later) all (does_after n last source (radix_after q said.form) q' p.mark.line qs more later d marks.1 h k)))
 
 reads_after : (p : Place) (n : ℕ) (r : Radix) (parts : List (List ℕ)) (acts : List PlacedAct) (lines : List TextLine) → p.part < n → Reads n r parts acts lines → ActsAfter p acts
 reads_after p n r parts acts lines lt (no_part m q) = tt

@@ -8,7 +8,7 @@ use Rattle.pal_text.specs.declared.tokens.Kind.{Kind}
 use Rattle.pal_text.specs.declared.tokens.Kind.TheVariants as kind
 use Rattle.pal_text.specs.declared.tokens.Token.{Token}
 use Rattle.pal_text.specs.declared.cut.Statement.{Statement}
-use Rattle.pal_text.specs.Grammar.{is_direction, Said, form_of, IsStatement, nothing, origin, assign, assign_direction, decimal, octal, pause, word, tagged}
+use Rattle.pal_text.specs.Grammar.{is_direction, Said, IsStatement, nothing, origin, assign, assign_direction, decimal, octal, pause, word, tagged}
 use Rattle.pal_text.proofs.Rises.{all_take, all_drop}
 use Rattle.pal_acts.specs.declared.act.Join.{Join}
 use Rattle.pal_acts.specs.declared.act.Act.{Act}
@@ -17,13 +17,13 @@ use Rattle.pal_acts.specs.declared.act.Place.{Place}
 use Rattle.pal_acts.specs.declared.code.Code.{Code}
 use Rattle.pal_acts.specs.Acts.{PlacedAct, placed}
 use Rattle.pal_asm.specs.Expressions.{expression}
-use Rattle.pal_asm.specs.Acts.{tag_by, tag_act, operand, said_acts, acts_with, statement_acts}
+use Rattle.pal_asm.specs.Acts.{tag_by, tag_act, said_acts, acts_with, statement_acts}
 use Rattle.pal_asm.specs.Kept.{Says, names_in, after_tags, operand_by, assign_by, body_by}
 
 record Apart (ts names : List Token) (said : Said) : Type 0 where
   names_are : names_in (length names) ts ≡ names
-  operand_is : operand_by (form_of said) (after_tags (length names) ts) ≡ operand said
-  body_is : (p : Place) (last : Bool) (source : List ℕ) (js : List Join) → body_by p last source (after_tags (length names) ts) (form_of said) js ≡ said_acts p last source said js
+  operand_is : operand_by said.form (after_tags (length names) ts) ≡ said.operand
+  body_is : (p : Place) (last : Bool) (source : List ℕ) (js : List Join) → body_by p last source (after_tags (length names) ts) said.form js ≡ said_acts p last source said.name js said.form
 
 no_names : (ts : List Token) → names_in 0 ts ≡ []
 no_names [] = refl
@@ -40,11 +40,11 @@ direction_by kind.Symbol p source t js h = cc
 direction_by _ p source t js h = refl
 
 -- a statement without a tag
-bare : (ts : List Token) (said : Said) → operand_by (form_of said) ts ≡ operand said → ((p : Place) (last : Bool) (source : List ℕ) (js : List Join) → body_by p last source ts (form_of said) js ≡ said_acts p last source said js) → Apart ts [] said
+bare : (ts : List Token) (said : Said) → operand_by said.form ts ≡ said.operand → ((p : Place) (last : Bool) (source : List ℕ) (js : List Join) → body_by p last source ts said.form js ≡ said_acts p last source said.name js said.form) → Apart ts [] said
 bare ts said h k = record {
   names_are = no_names ts;
-  operand_is = ap (operand_by (form_of said)) (no_tags ts) ∙ h;
-  body_is = λ p last source js. ap (λ l. body_by p last source l (form_of said) js) (no_tags ts) ∙ k p last source js;
+  operand_is = ap (operand_by said.form) (no_tags ts) ∙ h;
+  body_is = λ p last source js. ap (λ l. body_by p last source l said.form js) (no_tags ts) ∙ k p last source js;
 }
 
 more_is : (t : Token) (tags : List Token) → nat_eq (length (t ∷ tags)) 0 ≡ false
@@ -68,17 +68,17 @@ apart ts names said (tagged t u own tags q name comma s) =
     ap (λ b. if b then t ∷ u ∷ own else after_tags (length (t ∷ tags) - 1) own) (more_is t tags) ∙ ap (λ n. after_tags n own) (less_is t tags) in
     record {
       names_are = ap (λ b. if b then [] else t ∷ names_in (length (t ∷ tags) - 1) own) (more_is t tags) ∙ ap (λ n. t ∷ names_in n own) (less_is t tags) ∙ ap (λ l. t ∷ l) k.names_are;
-      operand_is = ap (operand_by (form_of q)) off ∙ k.operand_is;
-      body_is = λ p last source js. ap (λ l. body_by p last source l (form_of q) js) off ∙ k.body_is p last source js;
+      operand_is = ap (operand_by q.form) off ∙ k.operand_is;
+      body_is = λ p last source js. ap (λ l. body_by p last source l q.form js) off ∙ k.body_is p last source js;
     }
 
 module _ (ts : List Token) (s : Statement) (says : Says ts s) where
   parts : Apart ts says.names says.said
   parts = apart ts says.names says.said says.reads
 
-  expression_is : (b : ℕ) (source : List ℕ) (r : Result (List Join) Code) (body tokens : List Token) → body ≡ after_tags s.tags ts → tokens ≡ operand_by s.form body → r ≡ expression b source tokens → expression b source (operand says.said) ≡ r
+  expression_is : (b : ℕ) (source : List ℕ) (r : Result (List Join) Code) (body tokens : List Token) → body ≡ after_tags s.tags ts → tokens ≡ operand_by s.form body → r ≡ expression b source tokens → expression b source (says.said.operand) ≡ r
   expression_is b source r body tokens after is reads =
-      sym (reads ∙ ap (expression b source) (is ∙ (λ i. operand_by (says.form i) (after i)) ∙ ap (λ n. operand_by (form_of says.said) (after_tags n ts)) says.tags ∙ parts.operand_is))
+      sym (reads ∙ ap (expression b source) (is ∙ (λ i. operand_by (says.form i) (after i)) ∙ ap (λ n. operand_by says.said.form (after_tags n ts)) says.tags ∙ parts.operand_is))
 
   -- its numbers are good
   pub kept_all : (b : ℕ) (last : Bool) (source : List ℕ) (p : Place) (js : List Join) (body tokens : List Token) (old mid new : List PlacedAct) → body ≡ after_tags s.tags ts → tokens ≡ operand_by s.form body
@@ -86,10 +86,10 @@ module _ (ts : List Token) (s : Statement) (says : Says ts s) where
       → new ≡ old ++ statement_acts p b last source says.names says.said
   kept_all b last source p js body tokens old mid new after is reads tags rest =
       let names : names_in s.tags ts ≡ says.names = ap (λ n. names_in n ts) says.tags ∙ parts.names_are in
-      let acts : body_by p last source body s.form js ≡ said_acts p last source says.said js =
-      (λ i. body_by p last source (after i) (says.form i) js) ∙ ap (λ n. body_by p last source (after_tags n ts) (form_of says.said) js) says.tags ∙ parts.body_is p last source js in
-      rest ∙ (λ i. tags i ++ acts i) ∙ append_assoc old (map (tag_act p source) (names_in s.tags ts)) (said_acts p last source says.said js)
-      ∙ ap (λ l. old ++ (map (tag_act p source) l ++ said_acts p last source says.said js)) names
+      let acts : body_by p last source body s.form js ≡ said_acts p last source says.said.name js says.said.form =
+      (λ i. body_by p last source (after i) (says.form i) js) ∙ ap (λ n. body_by p last source (after_tags n ts) says.said.form js) says.tags ∙ parts.body_is p last source js in
+      rest ∙ (λ i. tags i ++ acts i) ∙ append_assoc old (map (tag_act p source) (names_in s.tags ts)) (said_acts p last source says.said.name js says.said.form)
+      ∙ ap (λ l. old ++ (map (tag_act p source) l ++ said_acts p last source says.said.name js says.said.form)) names
       ∙ ap (λ r. old ++ acts_with p last source says.names says.said r) (sym (expression_is b source (Ok js) body tokens after is reads))
 
   -- one is bad

@@ -12,7 +12,7 @@ use Rattle.pal_text.specs.declared.grammar.Form.{Form}
 use Rattle.pal_text.specs.declared.grammar.Form.TheVariants as form
 use Rattle.pal_text.specs.declared.cut.Close.{Close}
 use Rattle.pal_text.specs.declared.cut.Ending.TheVariants as ending
-use Rattle.pal_text.specs.Grammar.{is_expression, Said, form_of, IsStatement, nothing, origin, assign, assign_direction, decimal, octal, pause, word, tagged}
+use Rattle.pal_text.specs.Grammar.{is_expression, Said, IsStatement, nothing, origin, assign, assign_direction, decimal, octal, pause, word, tagged}
 use Rattle.pal_text.specs.Names.{part_tokens}
 use Rattle.pal_text.specs.Statements.{is_end, is_dollar, Piece, piece, pieces, own, last_end, closed, closing}
 use Rattle.pal_text.specs.Lines as text
@@ -25,7 +25,7 @@ use Rattle.pal_asm.proofs.Climbs.{Marks}
 use Rattle.pal_asm.proofs.Lined.{lined, lined_all, is_stop, Chain, part_chain}
 
 -- a word and PAUSE have tokens
-has_tokens : (ts tags : List Token) (said : Said) → IsStatement ts tags said → (form_of said ≡ form.Word) ⊎ (form_of said ≡ form.Pause) → ts ≢ []
+has_tokens : (ts tags : List Token) (said : Said) → IsStatement ts tags said → (said.form ≡ form.Word) ⊎ (said.form ≡ form.Pause) → ts ≢ []
 has_tokens ts tags said nothing (inl e) none = let both : form.Empty ≡ form.Word = e in cc
 has_tokens ts tags said nothing (inr e) none = let both : form.Empty ≡ form.Pause = e in cc
 has_tokens ts tags said (origin t e' is h) e none = cc
@@ -158,13 +158,13 @@ module _ (source : List ℕ) where
   pub stops : (n : ℕ) (last : Bool) (r r' : Radix) (l : ℕ) (ps : List Piece) (acts : List PlacedAct) (c : Close) → Fairs ps → Marks l ps → Does n last source r ps acts r' c → Stopped L (length source) l c
   stops n last r r' l ps acts c fair marks (ends q p qs tags said d reads e) =
       let mine : List Token = own (part_tokens source) p in
-      stopped_lower l p.mark.line d marks.0 (bound_by p.mark.line (closing (length source) mine p.mark (form_of said)) d
-      (closing_bound L (length source) mine p.mark (form_of said) (λ is. has_tokens mine tags said reads (inr is)) fair.0.lasts fair.0.dollar) e)
+      stopped_lower l p.mark.line d marks.0 (bound_by p.mark.line (closing (length source) mine p.mark said.form) d
+      (closing_bound L (length source) mine p.mark said.form (λ is. has_tokens mine tags said reads (inr is)) fair.0.lasts fair.0.dollar) e)
   stops n last r r' l ps acts c fair marks (goes_on q q' p qs tags said more d reads e h) =
-      stopped_lower l p.mark.line d marks.0 (stops n last (radix_after q (form_of said)) q' p.mark.line qs more d fair.1 marks.1 h)
+      stopped_lower l p.mark.line d marks.0 (stops n last (radix_after q said.form) q' p.mark.line qs more d fair.1 marks.1 h)
 
   -- a word is on a line of the bytes up to there
-  pub on_line : (p : Piece) (tags : List Token) (said : Said) (c : Close) → Fair L (part_tokens source) p → IsStatement (own (part_tokens source) p) tags said → Stopped L (length source) p.mark.line c → form_of said ≡ form.Word
+  pub on_line : (p : Piece) (tags : List Token) (said : Said) (c : Close) → Fair L (part_tokens source) p → IsStatement (own (part_tokens source) p) tags said → Stopped L (length source) p.mark.line c → said.form ≡ form.Word
       → (1 ≤ p.mark.line) × (p.mark.line ≤ lines_to source c.stop)
   on_line p tags said c fair reads (inl e) w =
       let mine : List Token = own (part_tokens source) p in

@@ -7,7 +7,7 @@ use Rattle.pal_text.specs.declared.cut.Close.{Close}
 use Rattle.pal_text.specs.declared.reader.Found.{Found}
 use Rattle.pal_text.specs.declared.fault.StatementFault.{StatementFault}
 use Rattle.pal_text.specs.declared.fault.StatementFault.TheVariants.{Illegal, NoMemory}
-use Rattle.pal_text.specs.Grammar.{form_of, IsStatement}
+use Rattle.pal_text.specs.Grammar.{IsStatement}
 use Rattle.pal_text.specs.Names.{part_tokens}
 use Rattle.pal_text.specs.Parts.{IsIllegal}
 use Rattle.pal_text.specs.Progress.{Progress}
@@ -53,17 +53,17 @@ says_by source n m found mine seen after next is = record {
 
 came_by : (part : NumberedPart) (before r : Radix) (n m : ℕ) (p : Piece) (s : Statement) (f : Fills (part_tokens part.source.now) p s) (acts : List PlacedAct) (o : Option Close) → p ∷ rest part.source.now m ≡ rest part.source.now n
     → closing (length part.source.now) (own (part_tokens part.source.now) p) p.mark s.form ≡ o → Came part before r n None acts
-    → Came part before (radix_after r (form_of f.said)) m o (acts ++ statement_acts (place part.number p.mark.line) (base r) part.last part.source.now f.names f.said)
+    → Came part before (radix_after r f.said.form) m o (acts ++ statement_acts (place part.number p.mark.line) (base r) part.last part.source.now f.names f.said)
 came_by part before r n m p s f acts (Some c) same e g =
     let source : List ℕ = part.source.now in
     let mine : List PlacedAct = statement_acts (place part.number p.mark.line) (base r) part.last source f.names f.said in
-    let closes : closing (length source) (own (part_tokens source) p) p.mark (form_of f.said) ≡ Some c = ap (closing (length source) (own (part_tokens source) p) p.mark) (sym f.form) ∙ e in
-    let P : List Piece → Type 0 = λ ps. Does part.number part.last source r ps mine (radix_after r (form_of f.said)) c in
-    g.0 mine (radix_after r (form_of f.said)) c (subst P same (ends r p (rest source m) f.names f.said c f.reads closes))
+    let closes : closing (length source) (own (part_tokens source) p) p.mark f.said.form ≡ Some c = ap (closing (length source) (own (part_tokens source) p) p.mark) (sym f.form) ∙ e in
+    let P : List Piece → Type 0 = λ ps. Does part.number part.last source r ps mine (radix_after r f.said.form) c in
+    g.0 mine (radix_after r f.said.form) c (subst P same (ends r p (rest source m) f.names f.said c f.reads closes))
 came_by part before r n m p s f acts None same e g =
     let source : List ℕ = part.source.now in
     let mine : List PlacedAct = statement_acts (place part.number p.mark.line) (base r) part.last source f.names f.said in
-    let closes : closing (length source) (own (part_tokens source) p) p.mark (form_of f.said) ≡ None = ap (closing (length source) (own (part_tokens source) p) p.mark) (sym f.form) ∙ e in (
+    let closes : closing (length source) (own (part_tokens source) p) p.mark f.said.form ≡ None = ap (closing (length source) (own (part_tokens source) p) p.mark) (sym f.form) ∙ e in (
       λ more r' c h.
           (let P : List Piece → Type 0 = λ ps. Does part.number part.last source r ps (mine ++ more) r' c in
           let Q : List PlacedAct → Type 0 = λ l. PartDoes part.number part.last before source l r' c in
@@ -85,7 +85,7 @@ stepped_more part before r r' old mid new n m close after found mine st going ne
     let R : Option Close → Type 0 = λ o. Came part before r n o st.acts in
     let S : Radix → Type 0 = λ q. Came part before q m after (st.acts ++ X found.mark.line) in
     let closes : closing (length source) (own (part_tokens source) p) found.mark found.statement.form ≡ after = ap (λ l. closing (length source) l found.mark found.statement.form) (sym next.own_is) ∙ sym next.close_is in
-    let radix_is : r' ≡ radix_after r (form_of next.fills.said) = turns ∙ ap (radix_after r) next.fills.form in
+    let radix_is : r' ≡ radix_after r next.fills.said.form = turns ∙ ap (radix_after r) next.fills.form in
     record {
       acts = st.acts ++ X found.mark.line;
       came = subst S (sym radix_is) (came_by part before r n m p found.statement next.fills st.acts after (sym next.rest_is) closes (subst R going st.came));

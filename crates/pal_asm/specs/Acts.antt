@@ -1,10 +1,12 @@
 -- What statements do, in the order in which faults are looked for.
-use Rattle.std.specs.Prelude.{◌≡◌, ℕ, Bool, if◌then◌else◌, List, [], ◌∷◌, ◌++◌, length, map, Some, None, Result, Ok, Err}
+use Rattle.std.specs.Prelude.{◌≡◌, ℕ, Bool, if◌then◌else◌, List, [], ◌∷◌, ◌++◌, length, map, Option, Some, None, Result, Ok, Err}
 use Rattle.pal_text.specs.declared.tokens.Kind.{Kind}
 use Rattle.pal_text.specs.declared.tokens.Kind.TheVariants as kind
 use Rattle.pal_text.specs.declared.tokens.Token.{Token}
+use Rattle.pal_text.specs.declared.grammar.Form.{Form}
+use Rattle.pal_text.specs.declared.grammar.Form.TheVariants as form
 use Rattle.pal_text.specs.declared.cut.Close.{Close}
-use Rattle.pal_text.specs.Grammar.{Said, Origin, Assign, AssignDirection, Pause, Word, form_of, IsStatement}
+use Rattle.pal_text.specs.Grammar.{Said, IsStatement}
 use Rattle.pal_text.specs.Names.{part_tokens}
 use Rattle.pal_text.specs.Statements.{Piece, own, closing}
 use Rattle.pal_acts.specs.declared.act.Join.{Join}
@@ -27,40 +29,36 @@ tag_by source t _ = act.Wrong DuplicateTag
 abbrev pub tag_act : Place → List ℕ → Token → PlacedAct
 tag_act p source t = placed p [] (tag_by source t t.kind)
 
--- The expression of what is said.
-abbrev pub operand : Said → List Token
-operand (Origin e) = e
-operand (Assign name e) = e
-operand (AssignDirection e) = e
-operand (Word e) = e
-operand _ = []
+-- What is assigned a value: a symbol, or a direction, which can't be given one.
+abbrev pub assigned : List ℕ → Option Token → Act
+assigned source (Some name) = act.Assign (name_of source name)
+assigned source None = act.AssignDirection
 
--- What is said after the tags does this, where its expression has these terms. PAUSE is a fault in the last part.
-abbrev pub said_acts : Place → Bool → List ℕ → Said → List Join → List PlacedAct
-said_acts p last source (Origin e) js = placed p js act.Origin ∷ []
-said_acts p last source (Assign name e) js = placed p js (act.Assign (name_of source name)) ∷ []
-said_acts p last source (AssignDirection e) js = placed p js act.AssignDirection ∷ []
-said_acts p last source (Word e) js = placed p js act.Word ∷ []
-said_acts p last source Pause js = if last then placed p [] act.LastPause ∷ [] else []
-said_acts p last source _ js = []
+-- What is said after the tags in this form does this, where its expression has these terms. PAUSE is a fault in the last part.
+abbrev pub said_acts : Place → Bool → List ℕ → Option Token → List Join → Form → List PlacedAct
+said_acts p last source name js form.Origin = placed p js act.Origin ∷ []
+said_acts p last source name js form.Assign = placed p js (assigned source name) ∷ []
+said_acts p last source name js form.Word = placed p js act.Word ∷ []
+said_acts p last source name js form.Pause = if last then placed p [] act.LastPause ∷ [] else []
+said_acts p last source name js _ = []
 
 -- What a statement at this place with these tags does, which says this, where its expression has these terms: what its tags do,
 -- and then the rest. With a bad number it is that fault and nothing else.
 abbrev pub acts_with : Place → Bool → List ℕ → List Token → Said → Result (List Join) Code → List PlacedAct
 acts_with p last source tags said (Err c) = placed p [] (act.Wrong c) ∷ []
-acts_with p last source tags said (Ok js) = map (tag_act p source) tags ++ said_acts p last source said js
+acts_with p last source tags said (Ok js) = map (tag_act p source) tags ++ said_acts p last source said.name js said.form
 
 -- A statement at this place with these tags, which says this.
 abbrev pub statement_acts : Place → ℕ → Bool → List ℕ → List Token → Said → List PlacedAct
-statement_acts p b last source tags said = acts_with p last source tags said (expression b source (operand said))
+statement_acts p b last source tags said = acts_with p last source tags said (expression b source said.operand)
 
 -- These pieces of a part with this number and these bytes have these acts, where numbers are written so before them. Then they
 -- are written so, and the part ends so.
 pub data Does (n : ℕ) (last : Bool) (source : List ℕ) : Radix → List Piece → List PlacedAct → Radix → Close → Type 0 where
   ends : (r : Radix) (p : Piece) (ps : List Piece) (tags : List Token) (said : Said) (c : Close) → IsStatement (own (part_tokens source) p) tags said
-      → closing (length source) (own (part_tokens source) p) p.mark (form_of said) ≡ Some c
-      → Does n last source r (p ∷ ps) (statement_acts (place n p.mark.line) (base r) last source tags said) (radix_after r (form_of said)) c
+      → closing (length source) (own (part_tokens source) p) p.mark said.form ≡ Some c
+      → Does n last source r (p ∷ ps) (statement_acts (place n p.mark.line) (base r) last source tags said) (radix_after r said.form) c
   goes_on : (r r' : Radix) (p : Piece) (ps : List Piece) (tags : List Token) (said : Said) (later : List PlacedAct) (c : Close) → IsStatement (own (part_tokens source) p) tags said
-      → closing (length source) (own (part_tokens source) p) p.mark (form_of said) ≡ None
-      → Does n last source (radix_after r (form_of said)) ps later r' c
+      → closing (length source) (own (part_tokens source) p) p.mark said.form ≡ None
+      → Does n last source (radix_after r said.form) ps later r' c
       → Does n last source r (p ∷ ps) (statement_acts (place n p.mark.line) (base r) last source tags said ++ later) r' c

@@ -10,7 +10,7 @@ use Rattle.pal_text.specs.declared.fault.StatementFault.{StatementFault}
 use Rattle.pal_text.specs.declared.fault.StatementFault.TheVariants as text
 use Rattle.pal_text.specs.declared.names.Name.{Name}
 use Rattle.pal_text.specs.Characters.{characters}
-use Rattle.pal_text.specs.Grammar.{Said, form_of, IsStatement}
+use Rattle.pal_text.specs.Grammar.{Said, IsStatement}
 use Rattle.pal_text.specs.Lines.{all_lines}
 use Rattle.pal_text.specs.Parts.{IsIllegal}
 use Rattle.pal_acts.specs.declared.act.Join.{Join}
@@ -45,7 +45,7 @@ pub record Says (tokens : List Token) (s : Statement) : Type 0 where
   pub said : Said
   pub reads : IsStatement tokens names said
   pub tags : s.tags ≡ length names
-  pub form : s.form ≡ form_of said
+  pub form : s.form ≡ said.form
 
 -- The names of so many tags, each of which has a comma after it.
 abbrev pub names_in : ℕ → List Token → List Token

@@ -1,6 +1,7 @@
 pub mod ByMeaning
 pub mod Alternate
 pub mod Grows
+pub mod Sayings
 pub mod Readings
 pub mod NamesLemmas
 pub mod InPlace

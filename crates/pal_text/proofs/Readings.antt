@@ -8,7 +8,8 @@ use Rattle.pal_text.specs.declared.tokens.Token.{Token}
 use Rattle.pal_text.specs.declared.grammar.Form.{Form}
 use Rattle.pal_text.specs.declared.grammar.Form.TheVariants as form
 use Rattle.pal_text.specs.declared.grammar.Shape.{Shape}
-use Rattle.pal_text.specs.Grammar.{is_term, is_joiner, is_sign, is_direction, is_name, is_terms, is_expression, Said, Nothing, Origin, Assign, AssignDirection, Decimal, Octal, Pause, Word, form_of, IsStatement, nothing, origin, assign, assign_direction, decimal, octal, pause, word, tagged}
+use Rattle.pal_text.specs.Grammar.{is_term, is_joiner, is_sign, is_direction, is_name, is_terms, is_expression, Said, IsStatement, nothing, origin, assign, assign_direction, decimal, octal, pause, word, tagged}
+use Rattle.pal_text.proofs.Sayings.{Nothing, Origin, Assign, AssignDirection, Decimal, Octal, Pause, Word}
 use Rattle.pal_text.specs.Reading.{is_star, is_equals, is_comma, is_tag, if_expression, single, body, shaped, shape}
 
 -- a tag is taken off the front of the tokens
@@ -275,20 +276,20 @@ complete ts tags said (tagged t u own more q name comma s) =
 
 abbrev form_in : Option Said → Option Form
 form_in None = None
-form_in (Some s) = Some (form_of s)
+form_in (Some s) = Some s.form
 
 abbrev shape_by : ℕ → Option Saying → Option Shape
 shape_by n None = None
-shape_by n (Some r) = Some (record { tags = n + length r.tags; form = form_of r.said })
+shape_by n (Some r) = Some (record { tags = n + length r.tags; form = r.said.form })
 
 chosen : (b : Bool) (x y : Option Form) (p q : Option Said) → x ≡ form_in p → y ≡ form_in q → (if b then x else y) ≡ form_in (if b then p else q)
 chosen true x y p q h k = h
 chosen false x y p q h k = k
 
-if_form : (e : List Token) (f : Form) (s : Said) → f ≡ form_of s → if_expression e f ≡ form_in (if_said e s)
+if_form : (e : List Token) (f : Form) (s : Said) → f ≡ s.form → if_expression e f ≡ form_in (if_said e s)
 if_form e f s h = chosen (is_expression e) (Some f) None (Some s) None (ap Some h) refl
 
-assigned_form : (k : Kind) (t : Token) (e : List Token) → form.Assign ≡ form_of (assigned_by k t e)
+assigned_form : (k : Kind) (t : Token) (e : List Token) → form.Assign ≡ (assigned_by k t e).form
 assigned_form kind.Symbol t e = refl
 assigned_form _ t e = refl
 
@@ -311,11 +312,11 @@ made n f = record { tags = n; form = f }
 
 untagged_shape : (n : ℕ) (o : Option Said) → shaped n (form_in o) ≡ shape_by n (untagged o)
 untagged_shape n None = refl
-untagged_shape n (Some s) = let place : n ≡ n + 0 = omega arith in ap (λ k. Some (made k (form_of s))) place
+untagged_shape n (Some s) = let place : n ≡ n + 0 = omega arith in ap (λ k. Some (made k s.form)) place
 
 tag_shape : (n : ℕ) (t : Token) (o : Option Saying) → shape_by (n + 1) o ≡ shape_by n (with_tag t o)
 tag_shape n t None = refl
-tag_shape n t (Some r) = let place : (n + 1) + length r.tags ≡ n + length (t ∷ r.tags) = omega arith in ap (λ k. Some (made k (form_of r.said))) place
+tag_shape n t (Some r) = let place : (n + 1) + length r.tags ≡ n + length (t ∷ r.tags) = omega arith in ap (λ k. Some (made k r.said.form)) place
 
 shape_chosen : (b : Bool) (n : ℕ) (x y : Option Shape) (p q : Option Saying) → x ≡ shape_by n p → y ≡ shape_by n q → (if b then x else y) ≡ shape_by n (if b then p else q)
 shape_chosen true n x y p q h k = h
@@ -334,12 +335,12 @@ pub record IsRead (ts : List Token) (read : Shape) : Type 0 where
   pub said : Said
   pub reads : IsStatement ts names said
   pub tags : read.tags ≡ length names
-  pub form : read.form ≡ form_of said
+  pub form : read.form ≡ said.form
 
 read_by : (ts : List Token) (read : Shape) (o : Option Saying) → reading ts ≡ o → shape_by 0 o ≡ Some read → IsRead ts read
 read_by ts read None e h = cc
 read_by ts read (Some r) e h =
-    let same : made (0 + length r.tags) (form_of r.said) ≡ read = cc in
+    let same : made (0 + length r.tags) r.said.form ≡ read = cc in
     let tags_in : Shape → ℕ = λ x. x.tags in
     let form_in' : Shape → Form = λ x. x.form in
     let count : 0 + length r.tags ≡ length r.tags = omega arith in
@@ -352,7 +353,7 @@ shape_sound ts read h = read_by ts read (reading ts) refl (sym (shape_is ts 0) �
 -- what nothing reads is none
 pub shape_none : (ts : List Token) → shape 0 ts ≡ None → (names : List Token) (said : Said) → IsStatement ts names said → ⊥
 shape_none ts h names said s =
-    let read : Some (made (0 + length names) (form_of said)) ≡ None = sym (ap (shape_by 0) (complete ts names said s)) ∙ sym (shape_is ts 0) ∙ h in
+    let read : Some (made (0 + length names) said.form) ≡ None = sym (ap (shape_by 0) (complete ts names said s)) ∙ sym (shape_is ts 0) ∙ h in
     absurd (cc)
 
 some_same : {X : Type 0} (x y : X) → Some x ≡ Some y → x ≡ y

@@ -5,11 +5,11 @@ use Rattle.pal_text.specs.declared.cut.Statement.{Statement}
 use Rattle.pal_text.specs.declared.cut.Close.{Close}
 use Rattle.pal_text.specs.declared.cut.Ending.{Ending}
 use Rattle.pal_text.specs.declared.lines.Line.{Line}
-use Rattle.pal_text.specs.Grammar.{form_of}
 use Rattle.pal_text.specs.Lines.{all_lines}
 use Rattle.pal_text.specs.Names.{part_tokens}
 use Rattle.pal_text.specs.Parts.{IsPart, IsIllegal}
 use Rattle.pal_text.specs.Statements.{Piece, own, Fills, closing, closed, pieces, Stand, ends, goes_on, Breaks, here, later}
+use Rattle.pal_text.specs.Grammar.{Said}
 use Rattle.pal_text.proofs.Readings.{one_said}
 
 -- a piece is one statement
@@ -20,7 +20,7 @@ one_statement tokens p s t f g =
     let firsts : s.first ≡ t.first = f.first ∙ sym g.first in
     let lasts : s.last ≡ t.last = f.last ∙ sym g.last in
     let tags : s.tags ≡ t.tags = f.tags ∙ ap length e.0 ∙ sym g.tags in
-    let forms : s.form ≡ t.form = f.form ∙ ap form_of e.1 ∙ sym g.form in
+    let forms : s.form ≡ t.form = f.form ∙ ap (λ (s : Said). s.form) e.1 ∙ sym g.form in
     λ i. record { line = lines i; first = firsts i; last = lasts i; tags = tags i; form = forms i }
 
 some_same : {X : Type 0} (x y : X) → Some x ≡ Some y → x ≡ y

@@ -1,5 +1,5 @@
 -- The grammar of a statement, on the whole list of its tokens.
-use Rattle.std.specs.Prelude.{◌≡◌, Bool, true, false, ◌&&◌, if◌then◌else◌, List, [], ◌∷◌}
+use Rattle.std.specs.Prelude.{◌≡◌, Bool, true, false, ◌&&◌, if◌then◌else◌, List, [], ◌∷◌, Option, Some, None}
 use Rattle.pal_text.specs.declared.tokens.Kind.{Kind}
 use Rattle.pal_text.specs.declared.tokens.Kind.TheVariants as kind
 use Rattle.pal_text.specs.declared.tokens.Token.{Token}
@@ -47,43 +47,25 @@ abbrev pub is_expression : List Token → Bool
 is_expression [] = false
 is_expression (t ∷ ts) = if is_sign t.kind then is_terms ts else is_terms (t ∷ ts)
 
--- What a statement says after its tags, with the name and the expression that say it.
-pub data Said : Type 0 where
-  -- nothing
-  Nothing : Said
-  -- *e
-  Origin : (e : List Token) → Said
-  -- symbol=e
-  Assign : (name : Token) (e : List Token) → Said
-  -- DECIMAL=e, OCTAL=e and PAUSE=e
-  AssignDirection : (e : List Token) → Said
-  -- DECIMAL, OCTAL and PAUSE
-  Decimal : Said
-  Octal : Said
-  Pause : Said
-  -- e
-  Word : (e : List Token) → Said
+-- What a statement says after its tags: its form, the symbol that it assigns a value, if it does, and its expression, of no
+-- tokens where it has none.
+pub record Said : Type 0 where
+  pub form : Form
+  pub name : Option Token
+  pub operand : List Token
 
--- The form of what is said.
-abbrev pub form_of : Said → Form
-form_of Nothing = form.Empty
-form_of (Origin e) = form.Origin
-form_of (Assign name e) = form.Assign
-form_of (AssignDirection e) = form.Assign
-form_of Decimal = form.Decimal
-form_of Octal = form.Octal
-form_of Pause = form.Pause
-form_of (Word e) = form.Word
+abbrev pub says : Form → Option Token → List Token → Said
+says f name e = record { form = f; name = name; operand = e }
 
 -- These tokens are a statement with these tags, which says this.
 pub data IsStatement : List Token → List Token → Said → Type 0 where
-  nothing : IsStatement [] [] Nothing
-  origin : (star : Token) (e : List Token) → star.kind ≡ kind.Star → is_expression e ≡ true → IsStatement (star ∷ e) [] (Origin e)
-  assign : (name equals : Token) (e : List Token) → name.kind ≡ kind.Symbol → equals.kind ≡ kind.Equals → is_expression e ≡ true → IsStatement (name ∷ equals ∷ e) [] (Assign name e)
-  assign_direction : (name equals : Token) (e : List Token) → is_direction name.kind ≡ true → equals.kind ≡ kind.Equals → is_expression e ≡ true → IsStatement (name ∷ equals ∷ e) [] (AssignDirection e)
-  decimal : (t : Token) → t.kind ≡ kind.Decimal → IsStatement (t ∷ []) [] Decimal
-  octal : (t : Token) → t.kind ≡ kind.Octal → IsStatement (t ∷ []) [] Octal
-  pause : (t : Token) → t.kind ≡ kind.Pause → IsStatement (t ∷ []) [] Pause
-  word : (e : List Token) → is_expression e ≡ true → IsStatement e [] (Word e)
+  nothing : IsStatement [] [] (says form.Empty None [])
+  origin : (star : Token) (e : List Token) → star.kind ≡ kind.Star → is_expression e ≡ true → IsStatement (star ∷ e) [] (says form.Origin None e)
+  assign : (name equals : Token) (e : List Token) → name.kind ≡ kind.Symbol → equals.kind ≡ kind.Equals → is_expression e ≡ true → IsStatement (name ∷ equals ∷ e) [] (says form.Assign (Some name) e)
+  assign_direction : (name equals : Token) (e : List Token) → is_direction name.kind ≡ true → equals.kind ≡ kind.Equals → is_expression e ≡ true → IsStatement (name ∷ equals ∷ e) [] (says form.Assign None e)
+  decimal : (t : Token) → t.kind ≡ kind.Decimal → IsStatement (t ∷ []) [] (says form.Decimal None [])
+  octal : (t : Token) → t.kind ≡ kind.Octal → IsStatement (t ∷ []) [] (says form.Octal None [])
+  pause : (t : Token) → t.kind ≡ kind.Pause → IsStatement (t ∷ []) [] (says form.Pause None [])
+  word : (e : List Token) → is_expression e ≡ true → IsStatement e [] (says form.Word None e)
   -- a tag, and a statement after it
   tagged : (name comma : Token) (own tags : List Token) (said : Said) → is_name name.kind ≡ true → comma.kind ≡ kind.Comma → IsStatement own tags said → IsStatement (name ∷ comma ∷ own) (name ∷ tags) said

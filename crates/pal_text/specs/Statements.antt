@@ -9,7 +9,7 @@ use Rattle.pal_text.specs.declared.cut.Statement.{Statement}
 use Rattle.pal_text.specs.declared.cut.Ending.{Ending}
 use Rattle.pal_text.specs.declared.cut.Ending.TheVariants as ending
 use Rattle.pal_text.specs.declared.cut.Close.{Close}
-use Rattle.pal_text.specs.Grammar.{Said, form_of, IsStatement}
+use Rattle.pal_text.specs.Grammar.{Said, IsStatement}
 
 -- These end a statement.
 abbrev pub is_end : Kind → Bool
@@ -48,7 +48,7 @@ pub record Fills (tokens : List Token) (p : Piece) (s : Statement) : Type 0 wher
   pub said : Said
   pub reads : IsStatement (own tokens p) names said
   pub tags : s.tags ≡ length names
-  pub form : s.form ≡ form_of said
+  pub form : s.form ≡ said.form
 
 -- A piece is no statement.
 abbrev pub IsNone : List Token → Piece → Type 0

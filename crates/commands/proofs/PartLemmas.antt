@@ -11,7 +11,7 @@ use Rattle.std.proofs.lemmas.Option.{slice_get-map, slice_get-get_or}
 use Rattle.std.specs.Io.KnownBytes.{Consumes, IsAtEnd}
 use Rattle.streams.specs.Bytes.{Gave}
 use Rattle.pal_acts.specs.declared.code.Code.TheVariants.{TooLong}
-use Rattle.pal_asm.specs.Sources.{fault_at, first_long, long_fault, size_fault}
+use Rattle.pal_asm.specs.Sources.{fault_at, first_long, size_fault}
 use Rattle.pal_asm.specs.declared.fault.PalFault.{PalFault}
 use Rattle.commands.specs.SourceTexts.{AreRead, IsShort, is_bad_number, FailsToReadPart, IsPartFault, ArePartsFault, IsLong}
 use Rattle.commands.specs.Faults.{fails_to_read}
@@ -147,10 +147,10 @@ as_many (x ∷ xs) [] reads = absurd reads
 as_many (x ∷ xs) (y ∷ ys) reads = ap ℕ.suc (as_many xs ys reads.1)
 
 first_after : (n : ℕ) (ys : List (List ℕ)) (y : List ℕ) (rest : List (List ℕ)) → AllByRecursion IsShort ys → 65536 < length y →
-    first_long n (ys ++ y ∷ rest) ≡ Some (n + length ys)
-first_after n [] y rest all long = rw (lt-ltb 65536 (length y) long) (ap Some (omega arith))
+    first_long n (ys ++ y ∷ rest) ≡ Some (fault_at TooLong (n + length ys) 0)
+first_after n [] y rest all long = rw (lt-ltb 65536 (length y) long) (ap (λ (m : ℕ). Some (fault_at TooLong m 0)) (omega arith))
 first_after n (x ∷ ys) y rest all long =
-    rw (le-ltb 65536 (length x) all.0) (first_after (n + 1) ys y rest all.1 long ∙ ap Some (omega arith))
+    rw (le-ltb 65536 (length x) all.0) (first_after (n + 1) ys y rest all.1 long ∙ ap (λ (m : ℕ). Some (fault_at TooLong m 0)) (omega arith))
 
 told_first : (b : Bool) (x y : Option PalFault) → b ≡ true → (if b then x else y) ≡ x
 told_first b x y is = ap (λ c. if c then x else y) is
@@ -161,8 +161,8 @@ told_second b x y is = ap (λ c. if c then x else y) is
 bad_size : (parts : List (List ℕ)) → is_bad_number (length parts) ≡ true → size_fault parts ≡ Some (fault_at TooLong 0 0)
 bad_size parts bad = told_first _ _ _ bad
 
-long_size : (n : ℕ) (parts : List (List ℕ)) → is_bad_number (length parts) ≡ false → first_long 1 parts ≡ Some n → size_fault parts ≡ Some (fault_at TooLong n 0)
-long_size n parts good long = told_second _ _ _ good ∙ ap long_fault long
+long_size : (n : ℕ) (parts : List (List ℕ)) → is_bad_number (length parts) ≡ false → first_long 1 parts ≡ Some (fault_at TooLong n 0) → size_fault parts ≡ Some (fault_at TooLong n 0)
+long_size n parts good long = told_second _ _ _ good ∙ long
 
 -- a bad number of parts
 pub bad_number : {S : Type 0} (remaining : S → Option (List ℕ)) (marks : List Bool) (left : List (Option (List ℕ))) (os : List S) → is_bad_number (length os) ≡ true →
@@ -185,8 +185,8 @@ long_part remaining items marks left os i d vs part within number reads all is l
     let read : AreRead (map remaining os) parts =
     rw whole (read_both (map remaining (take i os)) (map items vs) (remaining (get_or os i d) ∷ later) (part ∷ map part_of later) reads (is, all_read later)) in
     let many : length parts ≡ length os = as_many (map remaining os) parts read ∙ length-map os remaining in
-    let first : first_long 1 parts ≡ Some (length vs + 1) =
-    first_after 1 (map items vs) part (map part_of later) all long ∙ ap Some (omega (arith, length-map vs items)) in
+    let first : first_long 1 parts ≡ Some (fault_at TooLong (length vs + 1) 0) =
+    first_after 1 (map items vs) part (map part_of later) all long ∙ ap (λ (m : ℕ). Some (fault_at TooLong m 0)) (omega (arith, length-map vs items)) in
     (parts, read, long_size (length vs + 1) parts (ap is_bad_number many ∙ number) first)
 
 -- why there are no parts, where this one isn't read

@@ -2,6 +2,7 @@
 use Rattle.std.proofs.Common.{refl, ℕ, ◌+◌, ◌<◌, List, [], ◌∷◌, Bool, Option, Result, Ok, Err}
 use Rattle.std.specs.Prelude.{map, nat_lt}
 use Rattle.std.specs.List.{AllByRecursion, list_all}
+use Rattle.std.specs.Result.{result_map_both}
 use Rattle.std.proofs.lemmas.Bool.{cond_both, ltb-true}
 use Rattle.instruct.specs.declared.Profile.{Profile}
 use Rattle.instruct.specs.declared.Profile.TheVariants.{Pdp8I, Pdp8E}
@@ -19,6 +20,7 @@ use Rattle.pal_text.proofs.Rises.{all_append}
 use Rattle.pal_acts.specs.declared.act.Sign.{Sign}
 use Rattle.pal_acts.specs.declared.act.Sign.TheVariants.{Or}
 use Rattle.pal_acts.specs.declared.act.Term.{Term}
+use Rattle.pal_acts.specs.declared.act.Term.TheVariants.{Number}
 use Rattle.pal_acts.specs.declared.act.Join.{Join}
 use Rattle.pal_acts.specs.declared.act.Act.TheVariants as act
 use Rattle.pal_acts.specs.declared.act.Place.{Place}
@@ -29,7 +31,7 @@ use Rattle.pal_acts.proofs.Bounds.{IsWordTerm, Numbers, HasNumbers, Entries, ent
 use Rattle.pal_asm.specs.declared.number.Radix.{Radix}
 use Rattle.pal_asm.specs.declared.number.Radix.TheVariants.{Octal}
 use Rattle.pal_asm.specs.Numbers.{base, radix_after, worth, is_digit_of, number}
-use Rattle.pal_asm.specs.Expressions.{sign_of, number_term, term_by, term, in_front, joins, expression}
+use Rattle.pal_asm.specs.Expressions.{sign_of, term_by, term, in_front, joins, expression}
 use Rattle.pal_asm.specs.Acts.{tag_act, said_acts, acts_with, statement_acts, Does, ends, goes_on}
 use Rattle.pal_asm.specs.Sources.{TextLine, Reads, no_part, broken, last_part, next_part}
 use Rattle.pal_asm.specs.Laws.{MeantAreWords}
@@ -50,7 +52,7 @@ ReadAll (Err c) = Unit {0}
 number_read : (b : ℕ) (cs : List ℕ) → Read (number b cs)
 number_read b cs = cond_both (list_all (is_digit_of b) cs) _ _ Read (λ is. cond_both (nat_lt (worth b cs) 4096) _ _ Read (λ lt. ltb-true (worth b cs) 4096 lt) (λ not. tt)) (λ not. tt)
 
-number_term_read : (r : Result ℕ Code) → Read r → ReadTerm (number_term r)
+number_term_read : (r : Result ℕ Code) → Read r → ReadTerm (result_map_both Number (λ c. c) r)
 number_term_read (Ok w) h = h
 number_term_read (Err c) h = tt
 

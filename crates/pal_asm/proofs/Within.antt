@@ -8,8 +8,9 @@ use Rattle.pal_text.specs.declared.tokens.Token.{Token}
 use Rattle.pal_text.specs.declared.grammar.Form.{Form}
 use Rattle.pal_text.specs.declared.grammar.Form.TheVariants as form
 use Rattle.pal_text.proofs.Rises.{all_drop}
+use Rattle.pal_acts.specs.declared.code.Code.TheVariants.{TooLong}
 use Rattle.pal_asm.specs.Kept.{after_tags, operand_by}
-use Rattle.pal_asm.specs.Sources.{first_long, long_fault, size_fault, texts}
+use Rattle.pal_asm.specs.Sources.{fault_at, first_long, size_fault, texts}
 
 -- the tokens of a statement, and those of its expression
 module _ (P : Token → Type 0) where
@@ -27,10 +28,6 @@ module _ (P : Token → Type 0) where
 some_none : {X : Type 0} (x : X) → Some x ≡ None → ⊥
 some_none x e = cc
 
-long_none : (o : Option ℕ) → long_fault o ≡ None → o ≡ None
-long_none None e = refl
-long_none (Some n) e = absurd (some_none _ e)
-
 chosen : {X : Type 0} (b : Bool) (x : X) (o : Option X) → (if b then Some x else o) ≡ None → (b ≡ false) × (o ≡ None)
 chosen true x o e = absurd (some_none x e)
 chosen false x o e = (refl, e)
@@ -39,12 +36,11 @@ chosen false x o e = (refl, e)
 short_from : (n : ℕ) (parts : List (Bor (List ℕ))) (i : ℕ) (d : Bor (List ℕ)) → first_long n (texts parts) ≡ None → i < length parts → length (get_or parts i d).now ≤ 65536
 short_from n [] i d e h = absurd (omega arith)
 short_from n (p ∷ ps) zero d e h = elim (cases_lt 65536 (length p.now)) [
-  | inl long ↦ absurd (some_none n (ap (λ b. if b then Some n else first_long (n + 1) (texts ps)) (sym (lt-ltb 65536 (length p.now) long)) ∙ e))
+  | inl long ↦ absurd (some_none (fault_at TooLong n 0) (ap (λ b. if b then Some (fault_at TooLong n 0) else first_long (n + 1) (texts ps)) (sym (lt-ltb 65536 (length p.now) long)) ∙ e))
   | inr short ↦ short
 ]
-short_from n (p ∷ ps) (suc i) d e h = short_from (n + 1) ps i d (chosen (nat_lt 65536 (length p.now)) n (first_long (n + 1) (texts ps)) e).1 (omega arith)
+short_from n (p ∷ ps) (suc i) d e h = short_from (n + 1) ps i d (chosen (nat_lt 65536 (length p.now)) (fault_at TooLong n 0) (first_long (n + 1) (texts ps)) e).1 (omega arith)
 
 pub short_at : (parts : List (Bor (List ℕ))) (i : ℕ) (d : Bor (List ℕ)) → size_fault (texts parts) ≡ None → i < length parts → length (get_or parts i d).now ≤ 65536
 short_at parts i d e h =
-    short_from 1 parts i d (long_none (first_long 1 (texts parts))
-    (chosen (nat_lt (length (texts parts)) 1 || nat_lt 16 (length (texts parts))) _ (long_fault (first_long 1 (texts parts))) e).1) h
+    short_from 1 parts i d (chosen (nat_lt (length (texts parts)) 1 || nat_lt 16 (length (texts parts))) _ (first_long 1 (texts parts)) e).1 h

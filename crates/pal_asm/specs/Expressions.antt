@@ -1,5 +1,6 @@
 -- Expressions, by their tokens in order.
 use Rattle.std.specs.Prelude.{ℕ, if◌then◌else◌, List, [], ◌∷◌, Result, Ok, Err}
+use Rattle.std.specs.Result.{result_map_both}
 use Rattle.pal_text.specs.declared.names.Name.{Name}
 use Rattle.pal_text.specs.declared.tokens.Kind.{Kind}
 use Rattle.pal_text.specs.declared.tokens.Kind.TheVariants as kind
@@ -25,14 +26,9 @@ sign_of _ = Or
 abbrev pub name_of : List ℕ → Token → Name
 name_of source t = record { letters = name (bytes_of source t) }
 
--- A number as a term, or what is wrong with it.
-abbrev pub number_term : Result ℕ Code → Result Term Code
-number_term (Ok w) = Ok (Number w)
-number_term (Err c) = Err c
-
 -- A term by what its token is.
 abbrev pub term_by : ℕ → List ℕ → Token → Kind → Result Term Code
-term_by b source t kind.Number = number_term (number b (characters (bytes_of source t)))
+term_by b source t kind.Number = result_map_both Number (λ c. c) (number b (characters (bytes_of source t)))
 term_by b source t kind.Here = Ok Here
 term_by b source t _ = Ok (Symbol (name_of source t))
 
@@ -47,8 +43,7 @@ join s t = record { sign = s; term = t }
 -- A term before others. Of what is wrong, the leftmost is told.
 abbrev pub in_front : Sign → Result Term Code → Result (List Join) Code → Result (List Join) Code
 in_front s (Err c) others = Err c
-in_front s (Ok t) (Err c) = Err c
-in_front s (Ok t) (Ok js) = Ok (join s t ∷ js)
+in_front s (Ok t) others = result_map_both (λ js. join s t ∷ js) (λ c. c) others
 
 -- The terms of an expression, the first of which joins what stands before it by this sign.
 abbrev pub joins : ℕ → List ℕ → Sign → List Token → Result (List Join) Code

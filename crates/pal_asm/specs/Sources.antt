@@ -27,19 +27,14 @@ use Rattle.pal_asm.specs.Acts.{Does}
 abbrev pub fault_at : Code → ℕ → ℕ → PalFault
 fault_at code part line = record { code = code; part = part; line = line }
 
--- The number of the first part that is too long, where the first of these has this number.
-abbrev pub first_long : ℕ → List (List ℕ) → Option ℕ
+-- The fault of the first part that is too long, at its line 0, where the first of these has this number.
+abbrev pub first_long : ℕ → List (List ℕ) → Option PalFault
 first_long n [] = None
-first_long n (p ∷ ps) = if nat_lt 65536 (length p) then Some n else first_long (n + 1) ps
-
--- The fault of a part that is too long stands at its line 0.
-abbrev pub long_fault : Option ℕ → Option PalFault
-long_fault None = None
-long_fault (Some n) = Some (fault_at TooLong n 0)
+first_long n (p ∷ ps) = if nat_lt 65536 (length p) then Some (fault_at TooLong n 0) else first_long (n + 1) ps
 
 -- The fault that is told before all others: too few or too many parts, and then a part that is too long.
 abbrev pub size_fault : List (List ℕ) → Option PalFault
-size_fault parts = if nat_lt (length parts) 1 || nat_lt 16 (length parts) then Some (fault_at TooLong 0 0) else long_fault (first_long 1 parts)
+size_fault parts = if nat_lt (length parts) 1 || nat_lt 16 (length parts) then Some (fault_at TooLong 0 0) else first_long 1 parts
 
 -- No part is left.
 abbrev pub is_empty : List (List ℕ) → Bool

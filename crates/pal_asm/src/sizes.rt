@@ -10,13 +10,17 @@ use pal_text::LONGEST;
 /// How many parts a source may have.
 const MOST_PARTS: usize = 16;
 
-/// The number of the first part that is too long.
-fn long_part(parts: &[&[u8]]) -> Option<usize>
+/// The fault of the first part that is too long.
+fn long_part(parts: &[&[u8]]) -> Option<PalFault>
     ensures { result ≡ first_long 1 (texts parts.now) }
 {
     for (at, part) in parts.iter().enumerate() {
         if part.len() > LONGEST {
-            return Some(at + 1);
+            return Some(PalFault {
+                code: Code::TooLong,
+                part: at + 1,
+                line: 0,
+            });
         }
     }
     None
@@ -33,12 +37,5 @@ pub(crate) fn fault_of_sizes(parts: &[&[u8]]) -> Option<PalFault>
             line: 0,
         });
     }
-    match long_part(parts) {
-        Some(part) => Some(PalFault {
-            code: Code::TooLong,
-            part,
-            line: 0,
-        }),
-        None => None,
-    }
+    long_part(parts)
 }

@@ -24,7 +24,7 @@ use Rattle.pal_asm.specs.declared.number.Radix.TheVariants.{Octal}
 use Rattle.pal_acts.specs.declared.act.PlacedWord.{PlacedWord}
 use Rattle.pal_asm.specs.Numbers.{base, radix_after}
 use Rattle.pal_asm.specs.Acts.{statement_acts, Does, ends, goes_on}
-use Rattle.pal_asm.specs.Sources.{is_empty, TextLine, text_lines, part_lines, PartDoes, Reads, no_part, broken, last_part, next_part}
+use Rattle.pal_asm.specs.Sources.{TextLine, text_lines, part_lines, PartDoes, Reads, no_part, broken, last_part, next_part}
 use Rattle.pal_acts.specs.Sources.{with_word, words, all_words}
 use Rattle.pal_asm.specs.Listings.{Lists}
 use Rattle.pal_asm.specs.Laws.{IsListed}
@@ -96,11 +96,11 @@ part_stands n last source r r' acts c does =
 reads_stand : (n : ℕ) (r : Radix) (parts : List (List ℕ)) (acts : List PlacedAct) (lines : List TextLine) → Reads n r parts acts lines → AllByRecursion (Stands lines) acts
 reads_stand n r parts acts lines (no_part m q) = tt
 reads_stand n r parts acts lines (broken m q p ps line is) = (tt, tt)
-reads_stand n r parts acts lines (last_part m q q' p ps mine c does e) = part_stands m (is_empty ps) p q q' mine c does
+reads_stand n r parts acts lines (last_part m q q' p ps mine c does e) = part_stands m _ p q q' mine c does
 reads_stand n r parts acts lines (next_part m q q' p ps mine more ls c does e h) =
     let own_lines : List TextLine = part_lines m p c in
     all_append (Stands (own_lines ++ ls)) mine more
-    (all_more own_lines (own_lines ++ ls) mine (λ q. listed_left q own_lines ls) (part_stands m (is_empty ps) p q q' mine c does))
+    (all_more own_lines (own_lines ++ ls) mine (λ q. listed_left q own_lines ls) (part_stands m _ p q q' mine c does))
     (all_more ls (own_lines ++ ls) more (λ q. listed_right q own_lines ls) (reads_stand (m + 1) q' ps more ls h))
 
 -- ---- words

@@ -29,7 +29,7 @@ use Rattle.pal_acts.specs.declared.act.Place.{Place}
 use Rattle.pal_acts.specs.Acts.{PlacedAct, placed, place}
 use Rattle.pal_asm.specs.Numbers.{base, radix_after}
 use Rattle.pal_asm.specs.Acts.{statement_acts, Does, ends, goes_on}
-use Rattle.pal_asm.specs.Sources.{size_fault, is_empty, TextLine, part_lines, Reads, no_part, broken, last_part, next_part, Means, IsFaultOf, IsFault, Refuses}
+use Rattle.pal_asm.specs.Sources.{size_fault, TextLine, part_lines, Reads, no_part, broken, last_part, next_part, Means, IsFaultOf, IsFault, Refuses}
 use Rattle.pal_asm.specs.Listings.{symbols_text, Lists}
 use Rattle.pal_asm.specs.Kept.{fault_of, RefusesActs, turns_text}
 use Rattle.pal_asm.proofs.Ordered.{lists_by}
@@ -87,21 +87,21 @@ module _ (n : ℕ) (last : Bool) (source : List ℕ) where
 pub reads_one : (n : ℕ) (r : Radix) (parts : List (List ℕ)) (acts others : List PlacedAct) (lines more : List TextLine) → Reads n r parts acts lines → Reads n r parts others more → (acts ≡ others) × (lines ≡ more)
 reads_one n r parts acts others lines more (no_part m q) (no_part m' q') = (refl, refl)
 reads_one n r parts acts others lines more (broken m q p ps line is) (broken m' q' p' ps' line' is') = (ap (λ l. placed (place m l) [] (act.Wrong IllegalCharacter) ∷ []) (one_line p line line' is is'), refl)
-reads_one n r parts acts others lines more (broken m q p ps line is) (last_part m' q' r' p' ps' b c does e) = absurd (does_sound m (is_empty ps) p q r' (pieces 0 0 (part_tokens p)) b c line does is)
-reads_one n r parts acts others lines more (broken m q p ps line is) (next_part m' q' r' p' ps' b b' ls c does e h) = absurd (does_sound m (is_empty ps) p q r' (pieces 0 0 (part_tokens p)) b c line does is)
-reads_one n r parts acts others lines more (last_part m q r' p ps a c does e) (broken m' q' p' ps' line is) = absurd (does_sound m (is_empty ps) p q r' (pieces 0 0 (part_tokens p)) a c line does is)
-reads_one n r parts acts others lines more (next_part m q r' p ps a a' ls c does e h) (broken m' q' p' ps' line is) = absurd (does_sound m (is_empty ps) p q r' (pieces 0 0 (part_tokens p)) a c line does is)
+reads_one n r parts acts others lines more (broken m q p ps line is) (last_part m' q' r' p' ps' b c does e) = absurd (does_sound m _ p q r' (pieces 0 0 (part_tokens p)) b c line does is)
+reads_one n r parts acts others lines more (broken m q p ps line is) (next_part m' q' r' p' ps' b b' ls c does e h) = absurd (does_sound m _ p q r' (pieces 0 0 (part_tokens p)) b c line does is)
+reads_one n r parts acts others lines more (last_part m q r' p ps a c does e) (broken m' q' p' ps' line is) = absurd (does_sound m _ p q r' (pieces 0 0 (part_tokens p)) a c line does is)
+reads_one n r parts acts others lines more (next_part m q r' p ps a a' ls c does e h) (broken m' q' p' ps' line is) = absurd (does_sound m _ p q r' (pieces 0 0 (part_tokens p)) a c line does is)
 reads_one n r parts acts others lines more (last_part m q r' p ps a c does e) (last_part m' q' r'' p' ps' b d does' f) =
-    let same : (a ≡ b) × (r' ≡ r'') × (c ≡ d) = does_one m (is_empty ps) p q r' r'' (pieces 0 0 (part_tokens p)) a b c d does does' in
+    let same : (a ≡ b) × (r' ≡ r'') × (c ≡ d) = does_one m _ p q r' r'' (pieces 0 0 (part_tokens p)) a b c d does does' in
     (same.0, ap (part_lines m p) same.2)
 reads_one n r parts acts others lines more (last_part m q r' p ps a c does e) (next_part m' q' r'' p' ps' b b' ls d does' f k) =
-    let same : (a ≡ b) × (r' ≡ r'') × (c ≡ d) = does_one m (is_empty ps) p q r' r'' (pieces 0 0 (part_tokens p)) a b c d does does' in
+    let same : (a ≡ b) × (r' ≡ r'') × (c ≡ d) = does_one m _ p q r' r'' (pieces 0 0 (part_tokens p)) a b c d does does' in
     absurd (f (ap ending_in (sym same.2) ∙ e))
 reads_one n r parts acts others lines more (next_part m q r' p ps a a' ls c does e h) (last_part m' q' r'' p' ps' b d does' f) =
-    let same : (a ≡ b) × (r' ≡ r'') × (c ≡ d) = does_one m (is_empty ps) p q r' r'' (pieces 0 0 (part_tokens p)) a b c d does does' in
+    let same : (a ≡ b) × (r' ≡ r'') × (c ≡ d) = does_one m _ p q r' r'' (pieces 0 0 (part_tokens p)) a b c d does does' in
     absurd (e (ap ending_in same.2 ∙ f))
 reads_one n r parts acts others lines more (next_part m q r' p ps a a' ls c does e h) (next_part m' q' r'' p' ps' b b' ls' d does' f k) =
-    let same : (a ≡ b) × (r' ≡ r'') × (c ≡ d) = does_one m (is_empty ps) p q r' r'' (pieces 0 0 (part_tokens p)) a b c d does does' in
+    let same : (a ≡ b) × (r' ≡ r'') × (c ≡ d) = does_one m _ p q r' r'' (pieces 0 0 (part_tokens p)) a b c d does does' in
     let P : Radix → Type 0 = λ x. Reads (m + 1) x ps b' ls' in
     let rest : (a' ≡ b') × (ls ≡ ls') = reads_one (m + 1) r' ps a' b' ls ls' h (subst P (sym same.1) k) in
     ((λ i. same.0 i ++ rest.0 i), (λ i. part_lines m p (same.2 i) ++ rest.1 i))

@@ -23,7 +23,7 @@ use Rattle.pal_asm.specs.declared.number.Radix.TheVariants.{Octal}
 use Rattle.pal_acts.specs.declared.act.PlacedWord.{PlacedWord}
 use Rattle.pal_asm.specs.Numbers.{base, radix_after}
 use Rattle.pal_asm.specs.Acts.{statement_acts, Does, ends, goes_on}
-use Rattle.pal_asm.specs.Sources.{size_fault, is_empty, TextLine, text_lines, part_lines, Reads, no_part, broken, last_part, next_part}
+use Rattle.pal_asm.specs.Sources.{size_fault, TextLine, text_lines, part_lines, Reads, no_part, broken, last_part, next_part}
 use Rattle.pal_acts.specs.Sources.{with_word, words, all_words}
 use Rattle.pal_asm.specs.Listings.{symbols_text, listing, Lists}
 use Rattle.pal_asm.specs.Kept.{turns_text}
@@ -71,10 +71,10 @@ reads_after p n r parts acts lines lt (no_part m q) = tt
 reads_after p n r parts acts lines lt (broken m q s ss line is) = (inl lt, tt)
 reads_after p n r parts acts lines lt (last_part m q q' s ss mine c does e) =
     let P : List PlacedAct → Type 0 = λ xs. ActsAfter (place m 0) xs in
-    acts_weaker p (place m 0) mine (inl lt) (subst P (append-nil mine) (does_after m (is_empty ss) s q q' 0 (pieces 0 0 (part_tokens s)) mine [] c (part_marks s) does (λ k. tt)))
+    acts_weaker p (place m 0) mine (inl lt) (subst P (append-nil mine) (does_after m _ s q q' 0 (pieces 0 0 (part_tokens s)) mine [] c (part_marks s) does (λ k. tt)))
 reads_after p n r parts acts lines lt (next_part m q q' s ss mine more ls c does e h) =
     acts_weaker p (place m 0) (mine ++ more) (inl lt)
-    (does_after m (is_empty ss) s q q' 0 (pieces 0 0 (part_tokens s)) mine more c (part_marks s) does (λ k. reads_after (place m k) (m + 1) q' ss more ls (omega arith) h))
+    (does_after m _ s q q' 0 (pieces 0 0 (part_tokens s)) mine more c (part_marks s) does (λ k. reads_after (place m k) (m + 1) q' ss more ls (omega arith) h))
 
 -- the same with the newest first
 abbrev ActsUpto : Place → List PlacedAct → Type 0

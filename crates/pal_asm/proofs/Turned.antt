@@ -16,7 +16,7 @@ use Rattle.pal_asm.specs.declared.reading.Reached.{Reached}
 use Rattle.pal_asm.specs.declared.reading.Turn.{Turn}
 use Rattle.pal_asm.specs.declared.reading.Turn.TheVariants.{On, Ends}
 use Rattle.pal_asm.specs.declared.statement.NumberedPart.{NumberedPart}
-use Rattle.pal_asm.specs.Sources.{is_empty, texts, TextLine, part_lines, PartDoes, Reads, no_part, broken, last_part, next_part}
+use Rattle.pal_asm.specs.Sources.{texts, TextLine, part_lines, PartDoes, Reads, no_part, broken, last_part, next_part}
 use Rattle.pal_asm.specs.Kept.{IsRead, Follows, Turns}
 
 not_dollar : (e : Ending) → (e ≡ Pause) ⊎ (e ≡ Bytes) → e ≢ Dollar
@@ -26,7 +26,7 @@ not_dollar e (inr is) same = let both : Bytes ≡ Dollar = sym is ∙ same in cc
 -- a part that was read up to where it ends
 module _ (part : NumberedPart) (before : Radix) (old new : List PlacedAct) (reached : Reached) (old_lines new_lines : List TextLine) (is : IsRead part before old new reached)
     (lines_are : new_lines ≡ old_lines ++ part_lines part.number part.source.now reached.close) where
-  does_before : (rest : List (List ℕ)) → part.last ≡ is_empty rest → PartDoes part.number (is_empty rest) before part.source.now is.acts reached.radix reached.close
+  does_before : (rest : List (List ℕ)) → part.last ≡ nat_eq (length rest) 0 → PartDoes part.number (nat_eq (length rest) 0) before part.source.now is.acts reached.radix reached.close
   does_before rest empty = let P : Bool → Type 0 = λ b. PartDoes part.number b before part.source.now is.acts reached.radix reached.close in subst P empty is.does
 
   pub read_last : reached.close.ending ≡ Dollar → Turns part.number before part.last part.source.now old new old_lines new_lines Ends
@@ -72,10 +72,11 @@ below : (k n : ℕ) → k ≤ n → (k ≡ n → ⊥) → k < n
 below k n h ne = omega arith
 
 -- whether a part is the last one
-pub last_here : (parts : List (Bor (List ℕ))) (k : ℕ) → k ≤ length parts → nat_eq k (length parts) ≡ is_empty (texts (drop k parts))
+pub last_here : (parts : List (Bor (List ℕ))) (k : ℕ) → k ≤ length parts → nat_eq k (length parts) ≡ nat_eq (length (texts (drop k parts))) 0
 last_here parts k h = elim (cases_eq k (length parts)) [
-  | inl e ↦ eq-eqb k (length parts) e ∙ sym (ap (λ l. is_empty (texts l)) (drop_all k parts (omega arith)))
-  | inr ne ↦ ne_eqb k (length parts) ne ∙ sym (ap (λ l. is_empty (texts l)) (drop_more parts k (record { ref_ptr = (0, 0); now = [] }) (below k (length parts) h ne)))
+  | inl e ↦ eq-eqb k (length parts) e ∙ sym (ap (λ l. nat_eq (length (texts l)) 0) (drop_all k parts (omega arith)))
+  | inr ne ↦ ne_eqb k (length parts) ne ∙ sym (ap (λ l. nat_eq (length (texts l)) 0) (drop_more parts k (record { ref_ptr = (0, 0); now = [] }) (below k (length parts) h ne))
+      ∙ ne_eqb (length (texts (drop (k + 1) parts)) + 1) 0 (λ e. omega (arith, e)))
 ]
 
 -- the first so many parts were read

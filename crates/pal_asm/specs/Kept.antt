@@ -31,7 +31,7 @@ use Rattle.pal_asm.specs.declared.listing.ListedLine.{ListedLine}
 use Rattle.pal_asm.specs.declared.fault.AssembleFault.{AssembleFault}
 use Rattle.pal_asm.specs.declared.fault.AssembleFault.TheVariants.{Source, NoMemory}
 use Rattle.pal_asm.specs.Expressions.{name_of}
-use Rattle.pal_asm.specs.Sources.{fault_at, TextLine, text_line, text_lines, is_empty, PartDoes, Reads, IsFaultOf}
+use Rattle.pal_asm.specs.Sources.{fault_at, TextLine, text_line, text_lines, PartDoes, Reads, IsFaultOf}
 use Rattle.pal_asm.specs.Listings.{is_at, line_text, without_front}
 
 -- An expression that was read into these terms, or what is wrong with it.
@@ -105,7 +105,7 @@ pub record Turns (n : ℕ) (r : Radix) (last : Bool) (part : List ℕ) (old new 
   pub new_is : new ≡ old ++ more
   pub more_lines : List TextLine
   pub lines_are : new_lines ≡ old_lines ++ more_lines
-  pub reads : (rest : List (List ℕ)) (acts : List PlacedAct) (lines : List TextLine) → last ≡ is_empty rest → Follows turn (n + 1) rest acts lines → Reads n r (part ∷ rest) (more ++ acts) (more_lines ++ lines)
+  pub reads : (rest : List (List ℕ)) (acts : List PlacedAct) (lines : List TextLine) → last ≡ nat_eq (length rest) 0 → Follows turn (n + 1) rest acts lines → Reads n r (part ∷ rest) (more ++ acts) (more_lines ++ lines)
 
 -- The line that is kept so.
 abbrev pub shown_line : ListedLine → TextLine

@@ -1,5 +1,5 @@
 -- What a source means, and what its fault is.
-use Rattle.std.specs.Prelude.{◌≡◌, ◌≢◌, ℕ, ◌+◌, Bool, true, false, ◌||◌, nat_lt, if◌then◌else◌, List, [], ◌∷◌, ◌++◌, length, map, take, slice_range, Option, Some, None, ◌⊎◌}
+use Rattle.std.specs.Prelude.{◌≡◌, ◌≢◌, ℕ, ◌+◌, Bool, ◌||◌, nat_eq, nat_lt, if◌then◌else◌, List, [], ◌∷◌, ◌++◌, length, map, take, slice_range, Option, Some, None, ◌⊎◌}
 use Rattle.std.specs.Borrow.{Bor}
 use Rattle.pal_text.specs.declared.cut.Close.{Close}
 use Rattle.pal_text.specs.declared.cut.Ending.TheVariants.{Dollar}
@@ -36,11 +36,6 @@ first_long n (p ∷ ps) = if nat_lt 65536 (length p) then Some (fault_at TooLong
 abbrev pub size_fault : List (List ℕ) → Option PalFault
 size_fault parts = if nat_lt (length parts) 1 || nat_lt 16 (length parts) then Some (fault_at TooLong 0 0) else first_long 1 parts
 
--- No part is left.
-abbrev pub is_empty : List (List ℕ) → Bool
-is_empty [] = true
-is_empty (p ∷ ps) = false
-
 -- A line of a source: where it stands, and its bytes without those that end it.
 pub record TextLine : Type 0 where
   pub place : Place
@@ -69,9 +64,9 @@ pub data Reads : ℕ → Radix → List (List ℕ) → List PlacedAct → List T
   -- a statement without a form is that one fault in the place of its part, and nothing after it is looked at
   broken : (n : ℕ) (r : Radix) (p : List ℕ) (ps : List (List ℕ)) (line : ℕ) → IsIllegal p line → Reads n r (p ∷ ps) (placed (place n line) [] (act.Wrong IllegalCharacter) ∷ []) []
   -- nor is anything after a dollar sign
-  last_part : (n : ℕ) (r r' : Radix) (p : List ℕ) (ps : List (List ℕ)) (acts : List PlacedAct) (c : Close) → PartDoes n (is_empty ps) r p acts r' c → c.ending ≡ Dollar
+  last_part : (n : ℕ) (r r' : Radix) (p : List ℕ) (ps : List (List ℕ)) (acts : List PlacedAct) (c : Close) → PartDoes n (nat_eq (length ps) 0) r p acts r' c → c.ending ≡ Dollar
       → Reads n r (p ∷ ps) acts (part_lines n p c)
-  next_part : (n : ℕ) (r r' : Radix) (p : List ℕ) (ps : List (List ℕ)) (acts more : List PlacedAct) (lines : List TextLine) (c : Close) → PartDoes n (is_empty ps) r p acts r' c → c.ending ≢ Dollar
+  next_part : (n : ℕ) (r r' : Radix) (p : List ℕ) (ps : List (List ℕ)) (acts more : List PlacedAct) (lines : List TextLine) (c : Close) → PartDoes n (nat_eq (length ps) 0) r p acts r' c → c.ending ≢ Dollar
       → Reads (n + 1) r' ps more lines → Reads n r (p ∷ ps) (acts ++ more) (part_lines n p c ++ lines)
 
 -- Parts whose sizes are good have acts and lines of which this holds.

@@ -8,7 +8,7 @@ use Rattle.pal_text.specs.declared.tokens.Kind.{Kind}
 use Rattle.pal_text.specs.declared.tokens.Kind.TheVariants.{Symbol, Number, Mixed, Space, End}
 use Rattle.pal_text.specs.declared.tokens.Token.{Token}
 use Rattle.pal_text.specs.Characters.{line, in_comment, meaning_after}
-use Rattle.pal_text.specs.Tokens.{is_run, is_number, is_space, longer, kind_of, token, lengthened, with_next, runs, absorbs, absorbs_after, counted, end_token, all_tokens}
+use Rattle.pal_text.specs.Tokens.{is_space, longer, kind_of, token, lengthened, with_next, runs, absorbs, absorbs_after, counted, end_token, all_tokens}
 use Rattle.pal_text.specs.Tokens.{tokens as counted_tokens}
 use Rattle.pal_text.specs.Adding.{without_space, with_kind, joined, one_or_both, added, grown, tokens, all_read}
 use Rattle.pal_text.specs.Names.{named, part_tokens}
@@ -22,11 +22,12 @@ space_absorbs Space h = refl
 space_absorbs _ h = cc
 
 spaces_join : (k n : Kind) → is_space k ≡ true → is_space n ≡ true → longer k n ≡ Some Space
-spaces_join Space n h e = ap (λ b. if b then Some Space else None) e
-spaces_join _ n h e = cc
+spaces_join Space Space h e = refl
+spaces_join _ _ h e = cc
 
 space_ends : (k n : Kind) → is_space k ≡ true → is_space n ≡ false → longer k n ≡ None
-space_ends Space n h e = ap (λ b. if b then Some Space else None) e
+space_ends Space Space h e = cc
+space_ends Space _ h e = refl
 space_ends _ n h e = cc
 
 absorbing_no_space : (k : Kind) → absorbs k ≡ true → is_space k ≡ false
@@ -45,16 +46,15 @@ abbrev Alike : Kind → Option Kind → Type 0
 Alike k None = Unit {0}
 Alike k (Some l) = (is_space l ≡ false) × (absorbs l ≡ absorbs k)
 
-alike_if : (k l : Kind) (b : Bool) (o : Option Kind) → Alike k (Some l) → Alike k o → Alike k (if b then Some l else o)
-alike_if k l true o h e = h
-alike_if k l false o h e = e
-
 longer_alike : (k n : Kind) → is_space k ≡ false → Alike k (longer k n)
-longer_alike Symbol n h = alike_if Symbol Symbol (is_run n) None (refl, refl) tt
-longer_alike Number n h = alike_if Number Number (is_number n) (if is_run n then Some Mixed else None) (refl, refl) (alike_if Number Mixed (is_run n) None (refl, refl) tt)
-longer_alike Mixed n h = alike_if Mixed Mixed (is_run n) None (refl, refl) tt
-longer_alike Space n h = cc
-longer_alike _ n h = tt
+longer_alike Symbol Symbol h = (refl, refl)
+longer_alike Symbol Number h = (refl, refl)
+longer_alike Number Number h = (refl, refl)
+longer_alike Number Symbol h = (refl, refl)
+longer_alike Mixed Symbol h = (refl, refl)
+longer_alike Mixed Number h = (refl, refl)
+longer_alike Space _ h = cc
+longer_alike _ _ h = tt
 
 -- ---- spaces
 

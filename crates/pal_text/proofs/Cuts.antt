@@ -23,7 +23,8 @@ use Rattle.pal_text.specs.Parts.{past, IsIllegal, IsFault}
 use Rattle.pal_text.specs.Reading.{shape}
 use Rattle.pal_text.specs.Progress.{Progress}
 use Rattle.pal_text.specs.Readers.{rest, IsNext, Finds, IsBroken, StopsAt, BreaksNext}
-use Rattle.pal_text.specs.Statements.{is_end, Piece, piece, pieces, own, Fills, closing, Stand, ends, goes_on, Breaks, here, later}
+use Rattle.pal_text.specs.Tokens.{is_end}
+use Rattle.pal_text.specs.Statements.{Piece, piece, pieces, own, Fills, closing, Stand, ends, goes_on, Breaks, here, later}
 use Rattle.pal_text.proofs.Readings.{IsRead, shape_sound}
 use Rattle.pal_text.proofs.Rises.{all_append}
 

@@ -10,7 +10,8 @@ use Rattle.pal_text.specs.declared.cut.Statement.{Statement}
 use Rattle.pal_text.specs.declared.cut.Ending.TheVariants as ending
 use Rattle.pal_text.specs.declared.cut.Close.{Close}
 use Rattle.pal_text.specs.Names.{IsWithin}
-use Rattle.pal_text.specs.Statements.{is_end, is_dollar, Piece, piece, pieces, own, last_end, closed, closing, Stand, ends, goes_on}
+use Rattle.pal_text.specs.Tokens.{is_end}
+use Rattle.pal_text.specs.Statements.{is_dollar, Piece, piece, pieces, own, last_end, closed, closing, Stand, ends, goes_on}
 use Rattle.pal_text.proofs.Rises.{all_take, all_drop}
 
 last_end_within : (size n : ℕ) (ts : List Token) → n ≤ size → AllByRecursion (IsWithin size) ts → last_end n ts ≤ size

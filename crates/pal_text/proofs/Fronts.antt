@@ -12,9 +12,8 @@ use Rattle.pal_text.specs.declared.scan.Brings.TheVariants.{Nothing, Feed, End, 
 use Rattle.pal_text.specs.declared.scan.Place.{Place}
 use Rattle.pal_text.specs.declared.scan.Run.{Run}
 use Rattle.pal_text.specs.Characters.{code, returned, in_comment, line}
-use Rattle.pal_text.specs.Tokens.{is_run, is_number, is_space, absorbs, longer, token}
+use Rattle.pal_text.specs.Tokens.{is_space, absorbs, longer, token, is_end}
 use Rattle.pal_text.specs.Adding.{with_kind, without_space, joined, one_or_both, added, tokens}
-use Rattle.pal_text.specs.Statements.{is_end}
 use Rattle.pal_text.specs.Scan.{brings, is_line_code, front, IsStop, IsQuiet, IsOutside, IsOpen, IsPlaceIn, IsOwn, is_word, spanned, IsRun, IsOnward}
 use Rattle.pal_text.proofs.Apart.{added_apart}
 use Rattle.pal_text.proofs.Rises.{all_reverse}
@@ -64,14 +63,14 @@ grown_outside source at k h c b =
 word_on : (k j k' : Kind) (n m start end at : ℕ) (ts : List Token) → longer k j ≡ Some k' → added (token j m at) (spanned k n start end ∷ ts) ≡ spanned k' n start (at + 1) ∷ ts
 word_on k j k' n m start end at ts h = ap (λ o. one_or_both (token j m at) (spanned k n start end) ts (with_kind (spanned k n start end) (token j m at) o)) h
 
-word_stays : (k j k' : Kind) → is_word k ≡ true → longer k j ≡ Some k' → is_run j ≡ true → is_word k' ≡ true
-word_stays kind.Symbol kind.Symbol k' h e r = cc
-word_stays kind.Symbol kind.Number k' h e r = cc
-word_stays kind.Number kind.Symbol k' h e r = cc
-word_stays kind.Number kind.Number k' h e r = cc
-word_stays kind.Mixed kind.Symbol k' h e r = cc
-word_stays kind.Mixed kind.Number k' h e r = cc
-word_stays _ _ k' h e r = cc
+word_stays : (k j k' : Kind) → is_word k ≡ true → longer k j ≡ Some k' → is_word k' ≡ true
+word_stays kind.Symbol kind.Symbol k' h e = cc
+word_stays kind.Symbol kind.Number k' h e = cc
+word_stays kind.Number kind.Symbol k' h e = cc
+word_stays kind.Number kind.Number k' h e = cc
+word_stays kind.Mixed kind.Symbol k' h e = cc
+word_stays kind.Mixed kind.Number k' h e = cc
+word_stays _ _ k' h e = cc
 
 pub word_digit : (k : Kind) → is_word k ≡ true → longer k kind.Number ≡ Some k
 word_digit kind.Symbol h = refl
@@ -91,14 +90,14 @@ run_none source k end from run h b r =
       tokens_are = λ n start ts e. q.tokens_are ∙ r.tokens_are n start ts e;
     }
 
-pub run_one : (source : List ℕ) (k : Kind) (end from : ℕ) (run : Run) (j k' : Kind) → run.at < length source → brings (code (get_or source run.at 0)) ≡ One j → is_run j ≡ true → longer run.kind j ≡ Some k'
+pub run_one : (source : List ℕ) (k : Kind) (end from : ℕ) (run : Run) (j k' : Kind) → run.at < length source → brings (code (get_or source run.at 0)) ≡ One j → longer run.kind j ≡ Some k'
     → IsRun source k end from run → IsRun source k end from (record { kind = k'; end = run.at + 1; at = run.at + 1 })
-run_one source k end from run j k' h b is more r =
+run_one source k end from run j k' h b more r =
     let g : GrowsAt source run.at j = grows_at source run.at j h (one_grows (front source run.at) (get_or source run.at 0) j r.outside.comment_is b) in
     record {
       outside = record { inside = omega arith; comment_is = g.comment_is; returned_is = g.returned_is };
       forward = omega (arith, r.forward);
-      word = word_stays run.kind j k' r.word more is;
+      word = word_stays run.kind j k' r.word more;
       line_is = g.line_is ∙ r.line_is;
       tokens_are = λ n start ts e. g.tokens_are ∙ ap (added (token j (line (front source run.at)) run.at)) (r.tokens_are n start ts e) ∙ word_on run.kind j k' n (line (front source run.at)) start run.end run.at ts more;
     }
@@ -217,27 +216,14 @@ OpenOne None = Unit {0}
 OpenOne (Some t) = IsOpen t
 
 longer_open : (k n k' : Kind) → longer k n ≡ Some k' → is_end k' ≡ false
-longer_open kind.Symbol n k' h = elim (cases_Bool (is_run n)) [
-  | inl run ↦ (let e : Some kind.Symbol ≡ Some k' = sym (ap (λ b. if b then Some kind.Symbol else None) run) ∙ h in let f : kind.Symbol ≡ k' = cc in ap is_end (sym f))
-  | inr other ↦ cc (sym (ap (λ b. if b then Some kind.Symbol else None) other) ∙ h)
-]
-longer_open kind.Number n k' h = elim (cases_Bool (is_number n)) [
-  | inl number ↦ (let e : Some kind.Number ≡ Some k' = sym (ap (λ b. if b then Some kind.Number else (if is_run n then Some kind.Mixed else None)) number) ∙ h in let f : kind.Number ≡ k' = cc in ap is_end (sym f))
-  | inr other ↦ (let e : (if is_run n then Some kind.Mixed else None) ≡ Some k' = sym (ap (λ b. if b then Some kind.Number else (if is_run n then Some kind.Mixed else None)) other) ∙ h in
-      elim (cases_Bool (is_run n)) [
-        | inl run ↦ (let g : Some kind.Mixed ≡ Some k' = sym (ap (λ b. if b then Some kind.Mixed else None) run) ∙ e in let f : kind.Mixed ≡ k' = cc in ap is_end (sym f))
-        | inr none ↦ cc (sym (ap (λ b. if b then Some kind.Mixed else None) none) ∙ e)
-      ])
-]
-longer_open kind.Mixed n k' h = elim (cases_Bool (is_run n)) [
-  | inl run ↦ (let e : Some kind.Mixed ≡ Some k' = sym (ap (λ b. if b then Some kind.Mixed else None) run) ∙ h in let f : kind.Mixed ≡ k' = cc in ap is_end (sym f))
-  | inr other ↦ cc (sym (ap (λ b. if b then Some kind.Mixed else None) other) ∙ h)
-]
-longer_open kind.Space n k' h = elim (cases_Bool (is_space n)) [
-  | inl space ↦ (let e : Some kind.Space ≡ Some k' = sym (ap (λ b. if b then Some kind.Space else None) space) ∙ h in let f : kind.Space ≡ k' = cc in ap is_end (sym f))
-  | inr other ↦ cc (sym (ap (λ b. if b then Some kind.Space else None) other) ∙ h)
-]
-longer_open _ n k' h = cc
+longer_open kind.Symbol kind.Symbol k' h = cc
+longer_open kind.Symbol kind.Number k' h = cc
+longer_open kind.Number kind.Number k' h = cc
+longer_open kind.Number kind.Symbol k' h = cc
+longer_open kind.Mixed kind.Symbol k' h = cc
+longer_open kind.Mixed kind.Number k' h = cc
+longer_open kind.Space kind.Space k' h = cc
+longer_open _ _ k' h = cc
 
 open_space : (t next : Token) → IsOpen t → IsOpen next → OpenOne (without_space t next)
 open_space t next o n = elim (cases_Bool (is_space next.kind && absorbs t.kind)) [

@@ -21,12 +21,12 @@ use Rattle.pal_text.specs.declared.reader.Found.{Found}
 use Rattle.pal_text.specs.declared.reader.Standing.{Standing}
 use Rattle.pal_text.specs.declared.reader.Standing.TheVariants.{Begins, Ended}
 use Rattle.pal_text.specs.Characters.{code, returned, in_comment, line, meaning_after}
-use Rattle.pal_text.specs.Tokens.{is_space, token, kind_of, end_token}
+use Rattle.pal_text.specs.Tokens.{is_space, token, kind_of, end_token, is_end}
 use Rattle.pal_text.specs.Adding.{joined, one_or_both, added, grown, tokens, ended, all_read}
 use Rattle.pal_text.specs.Names.{IsWithin, with_name, name, bytes_of, named, part_tokens}
 use Rattle.pal_text.specs.Progress.{ended_at}
 use Rattle.pal_text.specs.Reading.{shape}
-use Rattle.pal_text.specs.Statements.{is_end, is_dollar, piece, pieces, own, closing}
+use Rattle.pal_text.specs.Statements.{is_dollar, piece, pieces, own, closing}
 use Rattle.pal_text.specs.Readers.{rest, IsNext, IsBroken}
 use Rattle.pal_text.specs.Scan.{front, mark_kind, line_past, trimmed, mark, next_place, Closes, IsStop, IsCut, IsOpen, IsPlaceIn, stands_by, StandsAt, IsOwn}
 use Rattle.pal_text.proofs.Apart.{added_apart, added_end, Later, ended_later, Ends, ended_on}

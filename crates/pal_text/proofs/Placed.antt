@@ -11,7 +11,8 @@ use Rattle.pal_text.specs.declared.lines.Line.{Line}
 use Rattle.pal_text.specs.Characters.{meaning_after}
 use Rattle.pal_text.specs.Lines.{line_start, is_begun, ended_lines, line_of, lines, all_lines}
 use Rattle.pal_text.specs.Order.{IsLineWithin}
-use Rattle.pal_text.specs.Statements.{is_end, Piece, piece, pieces}
+use Rattle.pal_text.specs.Tokens.{is_end}
+use Rattle.pal_text.specs.Statements.{Piece, piece, pieces}
 use Rattle.pal_text.proofs.Rises.{all_reverse}
 use Rattle.pal_text.proofs.ByMeaning.{lines_by, start_by}
 

@@ -8,7 +8,8 @@ use Rattle.pal_text.specs.declared.tokens.Token.{Token}
 use Rattle.pal_text.specs.declared.grammar.Form.{Form}
 use Rattle.pal_text.specs.declared.grammar.Form.TheVariants as form
 use Rattle.pal_text.specs.declared.grammar.Shape.{Shape}
-use Rattle.pal_text.specs.Grammar.{is_term, is_joiner, is_sign, is_direction, is_name, is_terms, is_expression, Said, IsStatement, nothing, origin, assign, assign_direction, decimal, octal, pause, word, tagged}
+use Rattle.pal_text.specs.Tokens.{is_sign}
+use Rattle.pal_text.specs.Grammar.{is_term, is_joiner, is_direction, is_name, is_terms, is_expression, Said, IsStatement, nothing, origin, assign, assign_direction, decimal, octal, pause, word, tagged}
 use Rattle.pal_text.proofs.Sayings.{Nothing, Origin, Assign, AssignDirection, Decimal, Octal, Pause, Word}
 use Rattle.pal_text.specs.Reading.{is_star, is_equals, is_comma, is_tag, if_expression, single, body, shaped, shape}
 

@@ -10,10 +10,9 @@ use Rattle.pal_text.specs.declared.tokens.Kind.{Kind}
 use Rattle.pal_text.specs.declared.tokens.Kind.TheVariants.{Symbol, Number, Mixed, Space, End}
 use Rattle.pal_text.specs.declared.tokens.Token.{Token}
 use Rattle.pal_text.specs.Characters.{code, is_ignored, returned, returned_by, meaning, meaning_after, in_comment, line, characters}
-use Rattle.pal_text.specs.Tokens.{is_space, absorbs, longer, token, kind_of, end_token}
+use Rattle.pal_text.specs.Tokens.{is_space, absorbs, longer, token, kind_of, end_token, is_end}
 use Rattle.pal_text.specs.Adding.{with_kind, without_space, one_or_both, added, grown, tokens, ended, all_read}
 use Rattle.pal_text.specs.Names.{name, bytes_of, with_name, named, part_tokens}
-use Rattle.pal_text.specs.Statements.{is_end}
 use Rattle.pal_text.specs.Scan.{trimmed}
 use Rattle.pal_text.specs.Laws.{alone, SpellsAgain, TokensSpellAgain}
 use Rattle.pal_text.proofs.Apart.{added_end}
@@ -114,10 +113,8 @@ unreturned : (r r' : Bool) (b x : ℕ) → meaning r b ≡ Character x → retur
 unreturned r r' b x h = returned_none (is_ignored (code b)) (nat_eq (code b) 13) (nat_eq (code b) 10) (nat_eq (code b) 9) r r' (code b) x h
 
 longer_no_space : (k j k' : Kind) → longer k j ≡ Some k' → is_space k' ≡ false → is_space k ≡ false
-longer_no_space Space j k' e h = elim (cases_Bool (is_space j)) [
-  | inl is ↦ (let same : Some Space ≡ Some k' = sym (ap (λ b. if b then Some Space else None) is) ∙ e in let f : Space ≡ k' = cc in ap is_space f ∙ h)
-  | inr other ↦ cc (sym (ap (λ b. if b then Some Space else None) other) ∙ e)
-]
+longer_no_space Space Space k' e h = cc
+longer_no_space Space _ k' e h = cc
 longer_no_space _ j k' e h = refl
 
 -- what goes on ends no statement

@@ -12,10 +12,9 @@ use Rattle.pal_text.specs.declared.tokens.Token.{Token}
 use Rattle.pal_text.specs.declared.scan.Brings.TheVariants.{One}
 use Rattle.pal_text.specs.declared.scan.Place.{Place}
 use Rattle.pal_text.specs.Characters.{code, line, in_comment, meaning_after}
-use Rattle.pal_text.specs.Tokens.{is_run, is_number, is_space, absorbs, longer, token, kind_of, end_token}
+use Rattle.pal_text.specs.Tokens.{is_space, absorbs, longer, token, kind_of, end_token, is_end}
 use Rattle.pal_text.specs.Adding.{with_kind, without_space, joined, one_or_both, added, grown, tokens, ended, all_read}
 use Rattle.pal_text.specs.Names.{named, part_tokens}
-use Rattle.pal_text.specs.Statements.{is_end}
 use Rattle.pal_text.specs.Readers.{HasToken}
 use Rattle.pal_text.specs.Scan.{brings, front, IsCut, IsOpen, IsPlaceIn}
 use Rattle.pal_text.proofs.Apart.{joined_cut, added_apart, grown_apart}
@@ -40,12 +39,14 @@ OneBegins (Some t) = Begins t.kind
 
 -- with one more character it is another such token
 longer_begins : (k n : Kind) → is_space k ≡ false → KindBegins (longer k n)
-longer_begins kind.Symbol n h = cond_both (is_run n) (Some kind.Symbol) None (λ o. KindBegins o) (λ is. (refl, refl)) (λ is. tt)
-longer_begins kind.Number n h =
-    cond_both (is_number n) (Some kind.Number) (if is_run n then Some kind.Mixed else None) (λ o. KindBegins o) (λ is. (refl, refl)) (λ is. cond_both (is_run n) (Some kind.Mixed) None (λ o. KindBegins o) (λ too. (refl, refl)) (λ too. tt))
-longer_begins kind.Mixed n h = cond_both (is_run n) (Some kind.Mixed) None (λ o. KindBegins o) (λ is. (refl, refl)) (λ is. tt)
-longer_begins kind.Space n h = cc
-longer_begins _ n h = tt
+longer_begins kind.Symbol kind.Symbol h = (refl, refl)
+longer_begins kind.Symbol kind.Number h = (refl, refl)
+longer_begins kind.Number kind.Number h = (refl, refl)
+longer_begins kind.Number kind.Symbol h = (refl, refl)
+longer_begins kind.Mixed kind.Symbol h = (refl, refl)
+longer_begins kind.Mixed kind.Number h = (refl, refl)
+longer_begins kind.Space _ h = cc
+longer_begins _ _ h = tt
 
 none_if : {X : Type 0} (b : Bool) (x : X) → b ≡ false → (if b then Some x else None) ≡ None
 none_if true x h = cc

@@ -10,7 +10,8 @@ use Rattle.pal_text.specs.declared.tokens.Token.{Token}
 use Rattle.pal_text.specs.Adding.{tokens, ended}
 use Rattle.pal_text.specs.Names.{IsWithin, name, named_kind, bytes_of, with_name, named, part_tokens}
 use Rattle.pal_text.specs.Grammar.{IsStatement}
-use Rattle.pal_text.specs.Statements.{is_end, Piece, piece, pieces}
+use Rattle.pal_text.specs.Tokens.{is_end}
+use Rattle.pal_text.specs.Statements.{Piece, piece, pieces}
 use Rattle.pal_text.specs.Scan.{IsCut}
 use Rattle.pal_text.specs.Laws.{front_tokens, EndsStatement, ReadsSo, StatementsStay}
 use Rattle.pal_text.proofs.Apart.{Later, ended_later}

@@ -10,9 +10,8 @@ use Rattle.pal_text.specs.declared.tokens.Token.{Token}
 use Rattle.pal_text.specs.declared.scan.Brings.{Brings}
 use Rattle.pal_text.specs.declared.scan.Brings.TheVariants.{Nothing, Feed, End, Comment, One}
 use Rattle.pal_text.specs.Characters.{code, is_ignored, returned, returned_by, meaning, in_comment, line}
-use Rattle.pal_text.specs.Tokens.{kind_of, token}
+use Rattle.pal_text.specs.Tokens.{kind_of, token, is_end}
 use Rattle.pal_text.specs.Adding.{added, grown, tokens}
-use Rattle.pal_text.specs.Statements.{is_end}
 use Rattle.pal_text.specs.Scan.{of_kind, brings, is_line_code, mark_kind, Closes}
 use Rattle.pal_text.proofs.ByMeaning.{comment_by, line_by}
 

@@ -5,6 +5,7 @@ use Rattle.pal_text.specs.declared.tokens.Kind.TheVariants as kind
 use Rattle.pal_text.specs.declared.tokens.Token.{Token}
 use Rattle.pal_text.specs.declared.grammar.Form.{Form}
 use Rattle.pal_text.specs.declared.grammar.Form.TheVariants as form
+use Rattle.pal_text.specs.Tokens.{is_sign}
 
 -- A number, a symbol or the current location. DECIMAL, OCTAL and PAUSE are no terms.
 abbrev pub is_term : Kind → Bool
@@ -16,14 +17,7 @@ is_term _ = false
 -- What stands between two terms.
 abbrev pub is_joiner : Kind → Bool
 is_joiner kind.Space = true
-is_joiner kind.Plus = true
-is_joiner kind.Minus = true
-is_joiner _ = false
-
-abbrev pub is_sign : Kind → Bool
-is_sign kind.Plus = true
-is_sign kind.Minus = true
-is_sign _ = false
+is_joiner k = is_sign k
 
 abbrev pub is_direction : Kind → Bool
 is_direction kind.Decimal = true

@@ -9,9 +9,9 @@ use Rattle.pal_text.specs.declared.cut.Statement.{Statement}
 use Rattle.pal_text.specs.declared.cut.Ending.{Ending}
 use Rattle.pal_text.specs.declared.lines.Line.{Line}
 use Rattle.pal_text.specs.Characters.{char, line_feed, carriage_return, code, is_ignored, meaning_after, in_comment, characters}
-use Rattle.pal_text.specs.Tokens.{is_space, tokens}
+use Rattle.pal_text.specs.Tokens.{is_space, tokens, is_end}
 use Rattle.pal_text.specs.Names.{bytes_of, named, part_tokens}
-use Rattle.pal_text.specs.Statements.{is_end, Piece, pieces, Fills}
+use Rattle.pal_text.specs.Statements.{Piece, pieces, Fills}
 use Rattle.pal_text.specs.Parts.{IsPart, IsIllegal}
 
 -- The tokens of a part that is one token of so many bytes: that token, and the part's end.

@@ -9,7 +9,8 @@ use Rattle.pal_text.specs.declared.reader.Next.TheVariants as next
 use Rattle.pal_text.specs.declared.reader.Found.{Found}
 use Rattle.pal_text.specs.Names.{part_tokens}
 use Rattle.pal_text.specs.Progress.{Progress}
-use Rattle.pal_text.specs.Statements.{is_end, Piece, piece, pieces, Fills, IsNone, closing}
+use Rattle.pal_text.specs.Tokens.{is_end}
+use Rattle.pal_text.specs.Statements.{Piece, piece, pieces, Fills, IsNone, closing}
 
 -- The pieces of a part after so many of its tokens.
 abbrev pub rest : List ℕ → ℕ → List Piece

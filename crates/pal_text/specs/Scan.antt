@@ -12,9 +12,8 @@ use Rattle.pal_text.specs.declared.cut.Close.{Close}
 use Rattle.pal_text.specs.declared.reader.Standing.{Standing}
 use Rattle.pal_text.specs.declared.reader.Standing.TheVariants.{Begins, Ended}
 use Rattle.pal_text.specs.Characters.{char, tab, line_feed, carriage_return, code, is_ignored, returned, in_comment, line}
-use Rattle.pal_text.specs.Tokens.{is_space, kind_of, token}
+use Rattle.pal_text.specs.Tokens.{is_space, kind_of, token, is_end}
 use Rattle.pal_text.specs.Adding.{added, tokens}
-use Rattle.pal_text.specs.Statements.{is_end}
 
 abbrev pub of_kind : Kind → Brings
 of_kind k = if is_end k then End else One k

@@ -1,7 +1,7 @@
 -- The statements of a part, by its tokens in order.
 use Rattle.std.specs.Prelude.{◌≡◌, ℕ, ◌+◌, Bool, true, false, if◌then◌else◌, List, [], ◌∷◌, Option, Some, None, length, nat_eq, slice_range}
 use Rattle.pal_text.specs.declared.tokens.Kind.{Kind}
-use Rattle.pal_text.specs.declared.tokens.Kind.TheVariants.{End, Dollar}
+use Rattle.pal_text.specs.declared.tokens.Kind.TheVariants.{Dollar}
 use Rattle.pal_text.specs.declared.tokens.Token.{Token}
 use Rattle.pal_text.specs.declared.grammar.Form.{Form}
 use Rattle.pal_text.specs.declared.grammar.Form.TheVariants as form
@@ -9,13 +9,8 @@ use Rattle.pal_text.specs.declared.cut.Statement.{Statement}
 use Rattle.pal_text.specs.declared.cut.Ending.{Ending}
 use Rattle.pal_text.specs.declared.cut.Ending.TheVariants as ending
 use Rattle.pal_text.specs.declared.cut.Close.{Close}
+use Rattle.pal_text.specs.Tokens.{is_end}
 use Rattle.pal_text.specs.Grammar.{Said, IsStatement}
-
--- These end a statement.
-abbrev pub is_end : Kind → Bool
-is_end End = true
-is_end Dollar = true
-is_end _ = false
 
 abbrev pub is_dollar : Kind → Bool
 is_dollar Dollar = true

@@ -27,16 +27,6 @@ kind_of c =
     if nat_eq c (char ";") then End else
     if nat_eq c (char "$") then Dollar else Other
 
--- A letter or a digit.
-abbrev pub is_run : Kind → Bool
-is_run Symbol = true
-is_run Number = true
-is_run _ = false
-
-abbrev pub is_number : Kind → Bool
-is_number Number = true
-is_number _ = false
-
 abbrev pub is_space : Kind → Bool
 is_space Space = true
 is_space _ = false
@@ -44,11 +34,14 @@ is_space _ = false
 -- Letters and digits that stand together are one token, and so are spaces. Here the kind of a token becomes that of the
 -- token with one more character, where the character goes onto it.
 abbrev pub longer : Kind → Kind → Option Kind
-longer Symbol next = if is_run next then Some Symbol else None
-longer Number next = if is_number next then Some Number else if is_run next then Some Mixed else None
-longer Mixed next = if is_run next then Some Mixed else None
-longer Space next = if is_space next then Some Space else None
-longer _ next = None
+longer Symbol Symbol = Some Symbol
+longer Symbol Number = Some Symbol
+longer Number Number = Some Number
+longer Number Symbol = Some Mixed
+longer Mixed Symbol = Some Mixed
+longer Mixed Number = Some Mixed
+longer Space Space = Some Space
+longer _ _ = None
 
 -- A token of one byte at a place.
 abbrev pub token : Kind → ℕ → ℕ → Token
@@ -71,15 +64,22 @@ runs (b ∷ before) =
     let here : Kind → List Token = λ k. with_next (token k (line before) (length before)) (runs before) in
     after (runs before) (here End) (λ c. if in_comment before || nat_eq c (char "/") then runs before else here (kind_of c)) (meaning_after before b)
 
+abbrev pub is_sign : Kind → Bool
+is_sign Plus = true
+is_sign Minus = true
+is_sign _ = false
+
+-- These end a statement.
+abbrev pub is_end : Kind → Bool
+is_end End = true
+is_end Dollar = true
+is_end _ = false
+
 -- Spaces beside these don't count: , = + - and the ends of a statement.
 abbrev pub absorbs : Kind → Bool
 absorbs Comma = true
 absorbs Equals = true
-absorbs Plus = true
-absorbs Minus = true
-absorbs End = true
-absorbs Dollar = true
-absorbs _ = false
+absorbs k = is_sign k || is_end k
 
 -- Nor do those at the front of the part.
 abbrev pub absorbs_after : List Token → Bool

@@ -1,7 +1,8 @@
 //! What the tokens of a statement are: its tags, and then what it does.
 
 ghost use Rattle.std.specs.Prelude.{◌≡◌};
-ghost use Rattle.pal_text.specs.Grammar.{is_term, is_joiner, is_sign, is_name, is_terms, is_expression};
+ghost use Rattle.pal_text.specs.Tokens.{is_sign};
+ghost use Rattle.pal_text.specs.Grammar.{is_term, is_joiner, is_name, is_terms, is_expression};
 ghost use Rattle.pal_text.specs.Reading.{is_tag, is_star, is_equals, single, if_expression, body, shape};
 
 use crate::tokens::{Kind, Token};

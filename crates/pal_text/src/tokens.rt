@@ -1,7 +1,7 @@
 //! The tokens of a part.
 
 ghost use Rattle.std.specs.Prelude.{◌≡◌, false, List, [], ◌∷◌, ◌++◌, reverse, OnOk, OnErr};
-ghost use Rattle.pal_text.specs.Tokens.{kind_of, is_run, is_space, absorbs, longer};
+ghost use Rattle.pal_text.specs.Tokens.{kind_of, is_space, absorbs, longer};
 ghost use Rattle.pal_text.specs.Adding.{joined, added};
 ghost use Rattle.pal_text.specs.declared.tokens.Token.{Token as Tokened};
 
@@ -73,12 +73,6 @@ pub(crate) fn kind_for(code: u8) -> Kind
     }
 }
 
-fn is_letter_or_digit(kind: Kind) -> bool
-    ensures { result ≡ is_run kind }
-{
-    matches!(kind, Kind::Symbol | Kind::Number)
-}
-
 pub(crate) fn is_a_space(kind: Kind) -> bool
     ensures { result ≡ is_space kind }
 {
@@ -100,10 +94,23 @@ fn longer_kind(kind: Kind, next: Kind) -> Option<Kind>
     ensures { result ≡ longer kind next }
 {
     match kind {
-        Kind::Symbol if is_letter_or_digit(next) => Some(Kind::Symbol),
-        Kind::Number if next == Kind::Number => Some(Kind::Number),
-        Kind::Number | Kind::Mixed if is_letter_or_digit(next) => Some(Kind::Mixed),
-        Kind::Space if is_a_space(next) => Some(Kind::Space),
+        Kind::Symbol => match next {
+            Kind::Symbol | Kind::Number => Some(Kind::Symbol),
+            _ => None,
+        },
+        Kind::Number => match next {
+            Kind::Number => Some(Kind::Number),
+            Kind::Symbol => Some(Kind::Mixed),
+            _ => None,
+        },
+        Kind::Mixed => match next {
+            Kind::Symbol | Kind::Number => Some(Kind::Mixed),
+            _ => None,
+        },
+        Kind::Space => match next {
+            Kind::Space => Some(Kind::Space),
+            _ => None,
+        },
         _ => None,
     }
 }

@@ -12,7 +12,8 @@ use Rattle.pal_text.specs.Characters.{line, in_comment, meaning_after}
 use Rattle.pal_text.specs.Tokens.{is_space, absorbs, longer, token, kind_of, end_token}
 use Rattle.pal_text.specs.Adding.{with_kind, without_space, joined, one_or_both, added, grown, tokens, ended, all_read}
 use Rattle.pal_text.specs.Names.{named, part_tokens}
-use Rattle.pal_text.specs.Statements.{is_end, Piece, piece, pieces}
+use Rattle.pal_text.specs.Tokens.{is_end}
+use Rattle.pal_text.specs.Statements.{Piece, piece, pieces}
 use Rattle.pal_text.proofs.CountedLemmas.{part_are}
 use Rattle.pal_text.proofs.ByMeaning.{line_by}
 

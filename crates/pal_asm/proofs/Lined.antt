@@ -16,7 +16,7 @@ use Rattle.pal_text.specs.Tokens.{is_space, absorbs, longer, token, kind_of, end
 use Rattle.pal_text.specs.Adding.{with_kind, without_space, joined, one_or_both, added, grown, tokens, ended, all_read}
 use Rattle.pal_text.specs.Names.{with_name, named, part_tokens}
 use Rattle.pal_text.specs.Scan.{front, trimmed}
-use Rattle.pal_text.specs.Statements.{is_end}
+use Rattle.pal_text.specs.Tokens.{is_end}
 use Rattle.pal_text.proofs.Apart.{added_end}
 use Rattle.pal_text.proofs.CountedLemmas.{part_are}
 use Rattle.pal_text.proofs.Fronts.{next_front}

@@ -14,7 +14,8 @@ use Rattle.pal_text.specs.declared.cut.Close.{Close}
 use Rattle.pal_text.specs.declared.cut.Ending.TheVariants as ending
 use Rattle.pal_text.specs.Grammar.{is_expression, Said, IsStatement, nothing, origin, assign, assign_direction, decimal, octal, pause, word, tagged}
 use Rattle.pal_text.specs.Names.{part_tokens}
-use Rattle.pal_text.specs.Statements.{is_end, is_dollar, Piece, piece, pieces, own, last_end, closed, closing}
+use Rattle.pal_text.specs.Tokens.{is_end}
+use Rattle.pal_text.specs.Statements.{is_dollar, Piece, piece, pieces, own, last_end, closed, closing}
 use Rattle.pal_text.specs.Lines as text
 use Rattle.pal_text.specs.Lines.{all_lines}
 use Rattle.pal_acts.specs.Acts.{PlacedAct}

@@ -76,7 +76,7 @@ pub last_here : (parts : List (Bor (List ℕ))) (k : ℕ) → k ≤ length parts
 last_here parts k h = elim (cases_eq k (length parts)) [
   | inl e ↦ eq-eqb k (length parts) e ∙ sym (ap (λ l. nat_eq (length (texts l)) 0) (drop_all k parts (omega arith)))
   | inr ne ↦ ne_eqb k (length parts) ne ∙ sym (ap (λ l. nat_eq (length (texts l)) 0) (drop_more parts k (record { ref_ptr = (0, 0); now = [] }) (below k (length parts) h ne))
-      ∙ ne_eqb (length (texts (drop (k + 1) parts)) + 1) 0 (λ e. omega (arith, e)))
+      ∙ ne_eqb (ℕ.suc (length (texts (drop (k + 1) parts)))) 0 (λ e. omega (arith, e)))
 ]
 
 -- the first so many parts were read

@@ -55,23 +55,23 @@ impl<'p, A: Allocator + Copy> Symbols<'p, A> {
 
     /// The value of a symbol, if it has one; a permanent one keeps its own.
     #[inline(always)]
-    pub fn get(&self, name: Name) -> Option<Word>
-        ensures { result ≡ known self.now.permanent.now.entries self.now.own.entries name }
+    pub fn get(&self, name: &Name) -> Option<Word>
+        ensures { result ≡ known self.now.permanent.now.entries self.now.own.entries name.now }
     {
-        match self.permanent.get(&name) {
+        match self.permanent.get(name) {
             Some(value) => Some(*value),
-            None => self.own.get(&name).copied(),
+            None => self.own.get(name).copied(),
         }
     }
 
     /// The value of a term at a location, if it has one.
     #[inline(always)]
-    pub(crate) fn term(&self, here: Word, term: Term) -> Option<Word>
+    pub(crate) fn term(&self, here: Word, term: &Term) -> Option<Word>
         ensures { result ≡ term_value (known self.now.permanent.now.entries self.now.own.entries)
-            here term }
+            here term.now }
     {
         match term {
-            Term::Number(word) => Some(word),
+            Term::Number(word) => Some(*word),
             Term::Symbol(name) => self.get(name),
             Term::Here => Some(here),
         }
@@ -85,7 +85,7 @@ impl<'p, A: Allocator + Copy> Symbols<'p, A> {
     {
         let mut sum = Word::ZERO;
         for item in joins {
-            sum = join(item.sign, sum, self.term(here, item.term)?);
+            sum = join(item.sign, sum, self.term(here, &item.term)?);
         }
         Some(sum)
     }
@@ -101,7 +101,7 @@ impl<'p, A: Allocator + Copy> Symbols<'p, A> {
             (known self.old.permanent.now.entries self.old.own.entries name) value)) }
         ensures permanent { self.new.permanent ≡ self.old.permanent }
     {
-        match self.get(name) {
+        match self.get(&name) {
             Some(old) => {
                 if old == value {
                     Ok(())

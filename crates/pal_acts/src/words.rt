@@ -56,6 +56,7 @@ struct Marks<'t> {
 
 /// Whether a name is that of an operation that takes an address. Its first letter leaves one that it
 /// can be, or two.
+#[inline(always)]
 fn takes_address(name: Name) -> bool
     ensures { result ≡ has references name }
 {
@@ -70,6 +71,7 @@ fn takes_address(name: Name) -> bool
 }
 
 /// Whether a term begins an expression or follows a space, and is this symbol.
+#[inline(always)]
 fn is_mark(mark: Name, join: &Join) -> bool
     ensures { result ≡ is_mark mark join.now }
 {
@@ -79,6 +81,7 @@ fn is_mark(mark: Name, join: &Join) -> bool
     }
 }
 
+#[inline(always)]
 fn refers(join: &Join) -> bool
     ensures { result ≡ joins_one_of references join.now }
 {
@@ -89,6 +92,7 @@ fn refers(join: &Join) -> bool
 }
 
 /// What follows an operation: I and Z, each at most once, and then the address.
+#[inline(always)]
 fn marks_of<'t>(joins: &'t [Join]) -> Marks<'t>
     ensures { marks_in result ≡ marks joins.now }
 {
@@ -128,10 +132,10 @@ fn address_in(base: Word, zero: bool, here: Word, address: Word) -> Result<Word,
 impl<'p, A: Allocator + Copy> Symbols<'p, A> {
     /// The word of an operation that takes an address, with what follows it.
     #[inline(always)]
-    fn reference(&self, here: Word, operation: Term, rest: &[Join]) -> Result<Word, Code>
+    fn reference(&self, here: Word, operation: &Term, rest: &[Join]) -> Result<Word, Code>
         ensures { result ≡ reference (known self.now.permanent.now.entries self.now.own.entries)
             here (term_value (known self.now.permanent.now.entries self.now.own.entries) here
-            operation) (marks rest.now) }
+            operation.now) (marks rest.now) }
     {
         let Some(operation) = self.term(here, operation) else {
             return Err(Code::Undefined);
@@ -160,7 +164,7 @@ impl<'p, A: Allocator + Copy> Symbols<'p, A> {
             here joins.now }
     {
         match joins {
-            [first, rest @ ..] if refers(first) => self.reference(here, first.term, rest),
+            [first, rest @ ..] if refers(first) => self.reference(here, &first.term, rest),
             _ => self.value(here, joins).ok_or(Code::Undefined),
         }
     }

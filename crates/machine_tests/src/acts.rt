@@ -213,8 +213,8 @@ fn symbols_are_defined_in_order(rt: HostRuntime) -> Result<(), Fail> {
     match assemble(rt.alloc(), &permanent, &acts) {
         Ok(found) => {
             assert_eq!(rt; found.symbols.own.len(), 2);
-            assert_eq!(rt; found.symbols.get(start), Some(Word::from_index(0o200)));
-            assert_eq!(rt; found.symbols.get(b), Some(Word::from_index(0o201)));
+            assert_eq!(rt; found.symbols.get(&start), Some(Word::from_index(0o200)));
+            assert_eq!(rt; found.symbols.get(&b), Some(Word::from_index(0o201)));
             assert_eq!(rt;
                 found.image.get(Word::from_index(0o200)),
                 Some(Word::from_index(5))
@@ -288,7 +288,7 @@ fn permanent_symbols_are_those_of_the_profile(rt: HostRuntime) -> Result<(), Fai
             let Ok(found) = assemble(rt.alloc(), &permanent, &none) else {
                 panic!(rt; "refused");
             };
-            let value = found.symbols.get(name(letters));
+            let value = found.symbols.get(&name(letters));
             assert_eq!(rt; value.map(|w| w.index()), expected);
         }
     }

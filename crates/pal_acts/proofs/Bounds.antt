@@ -1,6 +1,6 @@
 -- The values of a source are words, where its numbers and its permanent symbols are.
 use Rattle.std.proofs.Common.{◌≡◌, ◌∙◌, sym, ap, ℕ, ◌/◌, ◌%◌, ◌<◌, ◌≤◌, List, [], ◌∷◌, ◌++◌, Bool, true, false, Option, Some, None, Result, Ok, Err, inl, inr, arith, subst, length, bit_or, if◌then◌else◌}
-use Rattle.std.specs.Prelude.{reverse, nat_lt, nat_eq, unwrap_or, ok_or, not, ◌&&◌}
+use Rattle.std.specs.Prelude.{reverse, nat_lt, nat_eq, unwrap_or, ok_or, not, ◌&&◌, codes}
 use Rattle.std.specs.List.{AllByRecursion, list_all}
 use Rattle.std.specs.Option.{option_and_then}
 use Rattle.std.proofs.lemmas.Bool.{cases_Bool, cases_lt, ltb-true, cond_both}
@@ -23,7 +23,7 @@ use Rattle.pal_acts.specs.declared.code.Code.TheVariants.{Undefined}
 use Rattle.pal_acts.specs.Acts.{PlacedAct}
 use Rattle.pal_acts.specs.Values.{same, Values, term_value, joined, value_after, value, needed}
 use Rattle.pal_acts.specs.Meaning.{location_after, location, Defines, nothing, one_more}
-use Rattle.pal_acts.specs.Words.{Marked, indirect_mark, zero_mark, references, joins_one_of, is_mark, marks_after, marks, addressed, reference, word_value, word_of}
+use Rattle.pal_acts.specs.Words.{Marked, named, references, is_one_of, is_mark, marks_after, marks, addressed, reference, word_value, word_of}
 use Rattle.pal_acts.proofs.Table.{in_table}
 use Rattle.pal_acts.proofs.Faulted.{giving_table, assign_table, after, took}
 use Rattle.pal_acts.specs.Sources.{with_word, words, last_at, IsSource}
@@ -142,13 +142,13 @@ module _ (σ : Values) (given : (n : Name) → Below (σ n)) where
   marks_below : (i z : Bool) (js : List Join) → Numbers js → Marks (marks_after i z js)
   marks_below i z [] all = tt
   marks_below i z (j ∷ js) all =
-      cond_both (not i && is_mark indirect_mark j) _ _ Marks (λ is. marks_below true z js all.1)
-      (λ other. cond_both (not z && is_mark zero_mark j) _ _ Marks (λ is. marks_below i true js all.1) (λ none. all))
+      cond_both (not i && is_mark (named (codes "I     ")) j) _ _ Marks (λ is. marks_below true z js all.1)
+      (λ other. cond_both (not z && is_mark (named (codes "Z     ")) j) _ _ Marks (λ is. marks_below i true js all.1) (λ none. all))
 
   word_below : (here : ℕ) (js : List Join) → here < 4096 → Numbers js → BelowOk (word_value σ here js)
   word_below here [] h all = plain_below (value σ here []) (value_below here 0 [] h (omega arith) all)
   word_below here (j ∷ js) h all =
-      cond_both (joins_one_of references j) _ _ BelowOk (λ is. reference_below here (term_value σ here j.term) (marks js) h (term_below here j.term h all.0) (marks_below false false js all.1))
+      cond_both (is_one_of references j.sign j.term) _ _ BelowOk (λ is. reference_below here (term_value σ here j.term) (marks js) h (term_below here j.term h all.0) (marks_below false false js all.1))
       (λ not. plain_below (value σ here (j ∷ js)) (value_below here 0 (j ∷ js) h (omega arith) all))
 
   -- ---- images

@@ -6,7 +6,8 @@ use Rattle.std.proofs.lemmas.List.{take_all, drop_at, drop-append-le, take-appen
 use Rattle.pal_text.proofs.Rises.{all_append}
 use Rattle.pal_acts.specs.declared.act.Join.{Join}
 use Rattle.pal_acts.specs.declared.acts.Kept.{Kept}
-use Rattle.pal_acts.specs.Acts.{placed, kept_act, acts_in}
+use Rattle.pal_acts.specs.Acts.{placed, acts_in}
+use Rattle.pal_acts.specs.Kept.{kept_act}
 use Rattle.pal_acts.specs.Kept.{LiesWithin}
 
 pub range_kept : {X : Type 0} (js more : List X) (first last : ℕ) → first ≤ last → last ≤ length js → slice_range (js ++ more) first last ≡ slice_range js first last

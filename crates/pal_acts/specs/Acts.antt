@@ -23,10 +23,6 @@ place part line = record { part = part; line = line }
 abbrev pub shown : Placed → PlacedAct
 shown a = placed a.place a.terms.now a.act
 
--- The act that is kept so, where these are the terms of all expressions.
-abbrev pub kept_act : List Join → Kept → PlacedAct
-kept_act js k = placed k.place (slice_range js k.span.first k.span.last) k.act
-
--- The acts that are kept.
+-- The acts that are kept so, where these are the terms of all expressions.
 abbrev pub acts_in : List Join → List Kept → List PlacedAct
-acts_in js ks = map (kept_act js) ks
+acts_in js ks = map (λ k. placed k.place (slice_range js k.span.first k.span.last) k.act) ks

@@ -1,6 +1,12 @@
 -- Where the expressions of acts lie in memory, for private contracts.
-use Rattle.std.specs.Prelude.{ℕ, ◌≤◌}
+use Rattle.std.specs.Prelude.{ℕ, ◌≤◌, List, slice_range}
+use Rattle.pal_acts.specs.declared.act.Join.{Join}
 use Rattle.pal_acts.specs.declared.acts.Kept.{Kept}
+use Rattle.pal_acts.specs.Acts.{PlacedAct, placed}
+
+-- The act that is kept so, where these are the terms of all expressions.
+abbrev pub kept_act : List Join → Kept → PlacedAct
+kept_act js k = placed k.place (slice_range js k.span.first k.span.last) k.act
 
 -- An expression lies among so many terms.
 pub record LiesWithin (n : ℕ) (k : Kept) : Type 0 where

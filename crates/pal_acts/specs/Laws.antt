@@ -1,6 +1,6 @@
 -- What follows from the definitions: symbols are those of the whole source, a source has at most one meaning or one fault, and
 -- not both, and each permanent symbol has one value. A list of acts has the newest first where its symbols are meant.
-use Rattle.std.specs.Prelude.{◌≡◌, ℕ, ◌≤◌, Bool, true, ◌&&◌, not, if◌then◌else◌, List, [], ◌∷◌, ◌++◌, length, Option, Some, unwrap_or}
+use Rattle.std.specs.Prelude.{◌≡◌, ℕ, ◌≤◌, Bool, true, ◌&&◌, not, if◌then◌else◌, List, [], ◌∷◌, ◌++◌, length, Option, Some, unwrap_or, codes}
 use Rattle.std.specs.List.{AllByRecursion, list_all}
 use Rattle.std.specs.Map.{keys_of}
 use Rattle.instruct.specs.declared.Profile.{Profile}
@@ -15,7 +15,7 @@ use Rattle.pal_acts.specs.declared.code.Code.{Code}
 use Rattle.pal_acts.specs.Acts.{PlacedAct}
 use Rattle.pal_acts.specs.Values.{Values, has, known, value}
 use Rattle.pal_acts.specs.Meaning.{location, Defines}
-use Rattle.pal_acts.specs.Words.{references, indirect_mark, zero_mark}
+use Rattle.pal_acts.specs.Words.{references, named}
 use Rattle.pal_acts.specs.Permanent.{permanent_symbols}
 use Rattle.pal_acts.specs.Sources.{IsSource}
 use Rattle.pal_acts.specs.Faults.{IsRefused}
@@ -112,4 +112,4 @@ PermanentOnce = (profile : Profile) → no_name_twice (keys_of (permanent_symbol
 
 -- Under both profiles the operations that take an address, I and Z are permanent symbols.
 abbrev pub ReferencesPermanent : Type 0
-ReferencesPermanent = (profile : Profile) → list_all (has (keys_of (permanent_symbols profile))) (references ++ indirect_mark ∷ zero_mark ∷ []) ≡ true
+ReferencesPermanent = (profile : Profile) → list_all (has (keys_of (permanent_symbols profile))) (references ++ named (codes "I     ") ∷ named (codes "Z     ") ∷ []) ≡ true

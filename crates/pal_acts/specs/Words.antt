@@ -16,13 +16,6 @@ use Rattle.pal_acts.specs.Values.{Values, has, term_value, value, needed}
 abbrev pub named : List ℕ → Name
 named letters = record { letters = letters }
 
--- The mark of an indirect reference, and that of page zero.
-abbrev pub indirect_mark : Name
-indirect_mark = named (codes "I     ")
-
-abbrev pub zero_mark : Name
-zero_mark = named (codes "Z     ")
-
 -- The operations that take an address.
 abbrev pub references : List Name
 references =
@@ -34,12 +27,9 @@ abbrev pub is_one_of : List Name → Sign → Term → Bool
 is_one_of ns Or (Symbol n) = has ns n
 is_one_of ns _ _ = false
 
-abbrev pub joins_one_of : List Name → Join → Bool
-joins_one_of ns j = is_one_of ns j.sign j.term
-
 -- The same of one symbol.
 abbrev pub is_mark : Name → Join → Bool
-is_mark n j = joins_one_of (n ∷ []) j
+is_mark n j = is_one_of (n ∷ []) j.sign j.term
 
 -- What follows an operation that takes an address: whether I stands there, whether Z does, and the address after them.
 pub record Marked : Type 0 where
@@ -50,12 +40,13 @@ pub record Marked : Type 0 where
 abbrev pub marked : Bool → Bool → List Join → Marked
 marked i z js = record { indirect = i; zero = z; address = js }
 
--- I and Z, in either order, each at most once; the rest is the address. Here those that stood before are told too.
+-- I, which is the mark of an indirect reference, and Z, that of page zero, in either order, each at most once; the rest is
+-- the address. Here those that stood before are told too.
 abbrev pub marks_after : Bool → Bool → List Join → Marked
 marks_after indirect zero [] = marked indirect zero []
 marks_after indirect zero (j ∷ js) =
-    if not indirect && is_mark indirect_mark j then marks_after true zero js else
-    if not zero && is_mark zero_mark j then marks_after indirect true js else marked indirect zero (j ∷ js)
+    if not indirect && is_mark (named (codes "I     ")) j then marks_after true zero js else
+    if not zero && is_mark (named (codes "Z     ")) j then marks_after indirect true js else marked indirect zero (j ∷ js)
 
 abbrev pub marks : List Join → Marked
 marks js = marks_after false false js
@@ -77,7 +68,7 @@ reference σ here operation m = needed operation (λ o. needed (value σ here m.
 -- takes an address, and its value otherwise. With a symbol that has no value it is none.
 abbrev pub word_value : Values → ℕ → List Join → Result ℕ Code
 word_value σ here [] = ok_or (value σ here []) Undefined
-word_value σ here (j ∷ js) = if joins_one_of references j then reference σ here (term_value σ here j.term) (marks js) else ok_or (value σ here (j ∷ js)) Undefined
+word_value σ here (j ∷ js) = if is_one_of references j.sign j.term then reference σ here (term_value σ here j.term) (marks js) else ok_or (value σ here (j ∷ js)) Undefined
 
 -- The word of an act at this location, or why it is none; an act that isn't to be a word has neither.
 abbrev pub word_of : Values → ℕ → List Join → Act → Option (Result ℕ Code)

@@ -2,7 +2,7 @@
 
 ghost use Rattle.std.specs.Prelude.{◌≡◌};
 ghost use Rattle.pal_acts.specs.Values.{has, term_value, known};
-ghost use Rattle.pal_acts.specs.Words.{joins_one_of, is_mark, references, marked, marks, addressed, reference, word_value};
+ghost use Rattle.pal_acts.specs.Words.{is_one_of, is_mark, references, marked, marks, addressed, reference, word_value};
 ghost use Rattle.pal_acts.specs.Steps.{marks_in};
 
 use crate::act::{Join, Name, Sign, Term};
@@ -83,7 +83,7 @@ fn is_mark(mark: Name, join: &Join) -> bool
 
 #[inline(always)]
 fn refers(join: &Join) -> bool
-    ensures { result ≡ joins_one_of references join.now }
+    ensures { result ≡ is_one_of references join.now.sign join.now.term }
 {
     match (join.sign, join.term) {
         (Sign::Or, Term::Symbol(name)) => takes_address(name),

@@ -20,8 +20,8 @@ use Rattle.pal_asm.specs.declared.statement.NumberedPart.{NumberedPart}
 use Rattle.pal_acts.specs.Acts.{PlacedAct, place}
 use Rattle.pal_asm.specs.Numbers.{radix_after}
 use Rattle.pal_asm.specs.Acts.{Does, ends, goes_on}
-use Rattle.pal_asm.specs.Sources.{text_line, text_lines, part_lines}
-use Rattle.pal_asm.specs.Kept.{IsRead, lines_of_fronts}
+use Rattle.pal_asm.specs.Sources.{text_lines, part_lines}
+use Rattle.pal_asm.specs.Kept.{text_line, IsRead, lines_of_fronts}
 use Rattle.pal_acts.proofs.Flat.{range_kept}
 
 -- the lines of a front of some bytes are lines of those bytes

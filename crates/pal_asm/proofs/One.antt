@@ -29,9 +29,9 @@ use Rattle.pal_acts.specs.declared.act.Place.{Place}
 use Rattle.pal_acts.specs.Acts.{PlacedAct, placed, place}
 use Rattle.pal_asm.specs.Numbers.{base, radix_after}
 use Rattle.pal_asm.specs.Acts.{statement_acts, Does, ends, goes_on}
-use Rattle.pal_asm.specs.Sources.{size_fault, TextLine, part_lines, Reads, no_part, broken, last_part, next_part, Means, IsFaultOf, IsFault, Refuses}
+use Rattle.pal_asm.specs.Sources.{size_fault, TextLine, part_lines, Reads, no_part, broken, last_part, next_part, Means, IsFault, Refuses}
 use Rattle.pal_asm.specs.Listings.{symbols_text, Lists}
-use Rattle.pal_asm.specs.Kept.{fault_of, RefusesActs, turns_text}
+use Rattle.pal_asm.specs.Kept.{fault_of, IsFaultOf, RefusesActs, turns_text}
 use Rattle.pal_asm.proofs.Ordered.{lists_by}
 
 none_some : {X : Type 0} (o : Option X) (x : X) → o ≡ None → o ≡ Some x → ⊥
@@ -75,7 +75,7 @@ module _ (n : ℕ) (last : Bool) (source : List ℕ) where
 
   forms_are : (p : Piece) (tags : List Token) (said : Said) (s : Statement) → IsStatement (own (part_tokens source) p) tags said → (f : Fills (part_tokens source) p s) → closing (length source) (own (part_tokens source) p) p.mark s.form ≡ after p said
   forms_are p tags said s h f =
-      ap (closing (length source) (own (part_tokens source) p) p.mark) (f.form ∙ ap (λ (s : Said). s.form) (one_said (own (part_tokens source) p) f.names tags f.said said f.reads h).1)
+      ap (closing (length source) (own (part_tokens source) p) p.mark) (ap (λ (s : Statement). s.form) f.is ∙ ap (λ (s : Said). s.form) (one_said (own (part_tokens source) p) f.names tags f.said said f.reads h).1)
 
   pub does_sound : (r r' : Radix) (ps : List Piece) (acts : List PlacedAct) (c : Close) (line : ℕ) → Does n last source r ps acts r' c → Breaks (part_tokens source) (length source) ps line → ⊥
   does_sound r r' ps acts c line (ends q p qs tags said c' s e) (here p' qs' k) = k tags said s

@@ -47,8 +47,8 @@ says_by source n m found mine seen after next is = record {
   names = next.fills.names;
   said = next.fills.said;
   reads = subst (λ ts. IsStatement ts next.fills.names next.fills.said) (sym next.own_is ∙ sym is) next.fills.reads;
-  tags = next.fills.tags;
-  form = next.fills.form;
+  tags = ap (λ (s : Statement). s.tags) next.fills.is;
+  form = ap (λ (s : Statement). s.form) next.fills.is;
 }
 
 came_by : (part : NumberedPart) (before r : Radix) (n m : ℕ) (p : Piece) (s : Statement) (f : Fills (part_tokens part.source.now) p s) (acts : List PlacedAct) (o : Option Close) → p ∷ rest part.source.now m ≡ rest part.source.now n
@@ -57,13 +57,13 @@ came_by : (part : NumberedPart) (before r : Radix) (n m : ℕ) (p : Piece) (s : 
 came_by part before r n m p s f acts (Some c) same e g =
     let source : List ℕ = part.source.now in
     let mine : List PlacedAct = statement_acts (place part.number p.mark.line) (base r) part.last source f.names f.said in
-    let closes : closing (length source) (own (part_tokens source) p) p.mark f.said.form ≡ Some c = ap (closing (length source) (own (part_tokens source) p) p.mark) (sym f.form) ∙ e in
+    let closes : closing (length source) (own (part_tokens source) p) p.mark f.said.form ≡ Some c = ap (closing (length source) (own (part_tokens source) p) p.mark) (sym (ap (λ (s : Statement). s.form) f.is)) ∙ e in
     let P : List Piece → Type 0 = λ ps. Does part.number part.last source r ps mine (radix_after r f.said.form) c in
     g.0 mine (radix_after r f.said.form) c (subst P same (ends r p (rest source m) f.names f.said c f.reads closes))
 came_by part before r n m p s f acts None same e g =
     let source : List ℕ = part.source.now in
     let mine : List PlacedAct = statement_acts (place part.number p.mark.line) (base r) part.last source f.names f.said in
-    let closes : closing (length source) (own (part_tokens source) p) p.mark f.said.form ≡ None = ap (closing (length source) (own (part_tokens source) p) p.mark) (sym f.form) ∙ e in (
+    let closes : closing (length source) (own (part_tokens source) p) p.mark f.said.form ≡ None = ap (closing (length source) (own (part_tokens source) p) p.mark) (sym (ap (λ (s : Statement). s.form) f.is)) ∙ e in (
       λ more r' c h.
           (let P : List Piece → Type 0 = λ ps. Does part.number part.last source r ps (mine ++ more) r' c in
           let Q : List PlacedAct → Type 0 = λ l. PartDoes part.number part.last before source l r' c in
@@ -85,11 +85,11 @@ stepped_more part before r r' old mid new n m close after found mine st going ne
     let R : Option Close → Type 0 = λ o. Came part before r n o st.acts in
     let S : Radix → Type 0 = λ q. Came part before q m after (st.acts ++ X found.mark.line) in
     let closes : closing (length source) (own (part_tokens source) p) found.mark found.statement.form ≡ after = ap (λ l. closing (length source) l found.mark found.statement.form) (sym next.own_is) ∙ sym next.close_is in
-    let radix_is : r' ≡ radix_after r next.fills.said.form = turns ∙ ap (radix_after r) next.fills.form in
+    let radix_is : r' ≡ radix_after r next.fills.said.form = turns ∙ ap (λ (s : Statement). radix_after r s.form) next.fills.is in
     record {
       acts = st.acts ++ X found.mark.line;
       came = subst S (sym radix_is) (came_by part before r n m p found.statement next.fills st.acts after (sym next.rest_is) closes (subst R going st.came));
-      new_is = kept ∙ (λ i. st.new_is i ++ X (next.fills.line i)) ∙ append_assoc old st.acts (X found.mark.line);
+      new_is = kept ∙ (λ i. st.new_is i ++ X (next.fills.is i).line) ∙ append_assoc old st.acts (X found.mark.line);
     }
 
 -- the part has ended
@@ -105,9 +105,10 @@ stuck part before r old new n close (Illegal line) st going b =
     let source : List ℕ = part.source.now in
     let R : Option Close → Type 0 = λ o. Came part before r n o st.acts in
     let P : List Piece → Type 0 = λ ps. Breaks (part_tokens source) (length source) ps line in
-    let Q : ℕ → Type 0 = λ k. Breaks (part_tokens source) (length source) (piece n b.last b.mark ∷ rest source (b.last + 1)) k in
+    let p : Piece = b.0 in
+    let Q : ℕ → Type 0 = λ k. Breaks (part_tokens source) (length source) (p ∷ rest source (p.last + 1)) k in
     let came = subst R going st.came in
-    (came.1 line (subst P (sym b.rest_is) (subst Q (sym b.line_is) (here (piece n b.last b.mark) (rest source (b.last + 1)) b.none))), (st.acts, st.new_is))
+    (came.1 line (subst P (sym b.1) (subst Q (sym b.3) (here p (rest source (p.last + 1)) b.2))), (st.acts, st.new_is))
 stuck part before r old new n close NoMemory st going b = tt
 
 pub stuck_at : (part : NumberedPart) (before r : Radix) (old new : List PlacedAct) (at : Progress) (fault : StatementFault) → Stepped part before r old new at.count at.close → at.source ≡ part.source.now → BreaksNext at fault

@@ -11,7 +11,11 @@ use Rattle.pal_acts.specs.declared.act.Sign.TheVariants.{Or}
 use Rattle.pal_acts.specs.declared.act.Term.{Term}
 use Rattle.pal_acts.specs.declared.act.Join.{Join}
 use Rattle.pal_acts.specs.declared.code.Code.{Code}
-use Rattle.pal_asm.specs.Expressions.{sign_of, term, join, in_front, joins}
+use Rattle.pal_asm.specs.Expressions.{sign_of, term, in_front, joins}
+
+-- a term that joins what stands before it so
+abbrev pub join : Sign → Term → Join
+join s t = record { sign = s; term = t }
 
 -- these terms before others
 abbrev pub with_front : List Join → Result (List Join) Code → Result (List Join) Code

@@ -9,8 +9,8 @@ use Rattle.pal_text.specs.Lines.{all_lines}
 use Rattle.pal_acts.specs.Acts.{place}
 use Rattle.pal_asm.specs.declared.front.Front.{Front}
 use Rattle.pal_asm.specs.declared.listing.ListedLine.{ListedLine}
-use Rattle.pal_asm.specs.Sources.{TextLine, text_line, text_lines}
-use Rattle.pal_asm.specs.Kept.{shown_line, lines_in, lines_of_fronts}
+use Rattle.pal_asm.specs.Sources.{TextLine, text_lines}
+use Rattle.pal_asm.specs.Kept.{text_line, shown_line, lines_in, lines_of_fronts}
 
 character_left : (bytes : List ℕ) (i : ℕ) → i < length bytes → is_character (code (get_or bytes i 0)) ≡ true → characters (drop i bytes) ≡ code (get_or bytes i 0) ∷ characters (drop (i + 1) bytes)
 character_left bytes i h is = ap characters (drop_more bytes i 0 h) ∙ cond-true (is_character (code (get_or bytes i 0))) _ _ is

@@ -36,14 +36,10 @@ term_by b source t _ = Ok (Symbol (name_of source t))
 abbrev pub term : ℕ → List ℕ → Token → Result Term Code
 term b source t = term_by b source t t.kind
 
--- A term that joins what stands before it so.
-abbrev pub join : Sign → Term → Join
-join s t = record { sign = s; term = t }
-
--- A term before others. Of what is wrong, the leftmost is told.
+-- A term, which joins what stands before it by this sign, before others. Of what is wrong, the leftmost is told.
 abbrev pub in_front : Sign → Result Term Code → Result (List Join) Code → Result (List Join) Code
 in_front s (Err c) others = Err c
-in_front s (Ok t) others = result_map_both (λ js. join s t ∷ js) (λ c. c) others
+in_front s (Ok t) others = result_map_both (λ js. record { sign = s; term = t } ∷ js) (λ c. c) others
 
 -- The terms of an expression, the first of which joins what stands before it by this sign.
 abbrev pub joins : ℕ → List ℕ → Sign → List Token → Result (List Join) Code

@@ -20,7 +20,8 @@ use Rattle.pal_acts.specs.declared.act.PlacedWord.{PlacedWord}
 use Rattle.pal_acts.specs.declared.code.Code.{Code}
 use Rattle.pal_acts.specs.declared.assembly.Refused.{Refused}
 use Rattle.pal_acts.specs.declared.assembly.Refused.TheVariants as refused
-use Rattle.pal_acts.specs.Acts.{PlacedAct, placed}
+use Rattle.pal_acts.specs.Acts.{PlacedAct, placed, place}
+use Rattle.pal_acts.specs.Faults.{IsRefused}
 use Rattle.pal_asm.specs.declared.number.Radix.{Radix}
 use Rattle.pal_asm.specs.declared.reading.Turn.{Turn}
 use Rattle.pal_asm.specs.declared.reading.Turn.TheVariants.{On, Ends}
@@ -28,10 +29,11 @@ use Rattle.pal_asm.specs.declared.reading.Reached.{Reached}
 use Rattle.pal_asm.specs.declared.statement.NumberedPart.{NumberedPart}
 use Rattle.pal_asm.specs.declared.front.Front.{Front}
 use Rattle.pal_asm.specs.declared.listing.ListedLine.{ListedLine}
+use Rattle.pal_asm.specs.declared.fault.PalFault.{PalFault}
 use Rattle.pal_asm.specs.declared.fault.AssembleFault.{AssembleFault}
 use Rattle.pal_asm.specs.declared.fault.AssembleFault.TheVariants.{Source, NoMemory}
 use Rattle.pal_asm.specs.Expressions.{name_of}
-use Rattle.pal_asm.specs.Sources.{fault_at, TextLine, text_line, text_lines, PartDoes, Reads, IsFaultOf}
+use Rattle.pal_asm.specs.Sources.{fault_at, TextLine, text_lines, PartDoes, Reads}
 use Rattle.pal_asm.specs.Listings.{is_at, line_text, without_front}
 
 -- An expression that was read into these terms, or what is wrong with it.
@@ -107,6 +109,10 @@ pub record Turns (n : ℕ) (r : Radix) (last : Bool) (part : List ℕ) (old new 
   pub lines_are : new_lines ≡ old_lines ++ more_lines
   pub reads : (rest : List (List ℕ)) (acts : List PlacedAct) (lines : List TextLine) → last ≡ nat_eq (length rest) 0 → Follows turn (n + 1) rest acts lines → Reads n r (part ∷ rest) (more ++ acts) (more_lines ++ lines)
 
+-- The line that stands there with these bytes.
+abbrev pub text_line : Place → List ℕ → TextLine
+text_line p bytes = record { place = p; bytes = bytes }
+
 -- The line that is kept so.
 abbrev pub shown_line : ListedLine → TextLine
 shown_line l = text_line l.place l.bytes.now
@@ -124,6 +130,10 @@ lines_of_fronts (f ∷ fs) = text_lines f.number 1 f.bytes.now (all_lines f.byte
 abbrev pub fault_of : Refused → AssembleFault
 fault_of (refused.Fault place code) = Source (fault_at code place.part place.line)
 fault_of refused.NoMemory = NoMemory
+
+-- The first fault of acts, told at the part and the line of its act.
+abbrev pub IsFaultOf : List (Name × ℕ) → List PlacedAct → PalFault → Type 0
+IsFaultOf permanent acts fault = IsRefused permanent 1024 acts (place fault.part fault.line) fault.code
 
 -- Kept acts are refused so: by their fault, or memory was refused.
 abbrev pub RefusesActs : List (Name × ℕ) → List PlacedAct → AssembleFault → Type 0

@@ -2,7 +2,7 @@
 use Rattle.std.specs.Prelude.{◌≡◌, ℕ, Bool, ◌||◌, ◌&&◌, not, if◌then◌else◌, List, [], ◌∷◌, ◌++◌, filter, nat_eq, codes}
 use Rattle.word12.specs.Words.{octal_text}
 use Rattle.pal_text.specs.declared.names.Name.{Name}
-use Rattle.pal_text.specs.Characters.{char, tab, characters, code, is_character}
+use Rattle.pal_text.specs.Characters.{char, characters, code, is_character}
 use Rattle.pal_acts.specs.declared.act.Place.{Place}
 use Rattle.pal_acts.specs.declared.act.PlacedWord.{PlacedWord}
 use Rattle.pal_acts.specs.Values.{known}
@@ -13,18 +13,14 @@ use Rattle.pal_asm.specs.Sources.{TextLine, IsReadSo}
 abbrev pub is_at : Place → PlacedWord → Bool
 is_at p w = nat_eq w.place.part p.part && nat_eq w.place.line p.line
 
--- Spaces and tabs at the front of a line aren't listed.
-abbrev pub is_blank : ℕ → Bool
-is_blank c = nat_eq c (char " ") || nat_eq c tab
-
--- Characters from the first one on that is neither.
+-- Characters from the first one on that is no space and no tab: those at the front of a line aren't listed.
 abbrev pub without_front : List ℕ → List ℕ
 without_front [] = []
-without_front (c ∷ cs) = if is_blank c then without_front cs else c ∷ cs
+without_front (c ∷ cs) = if nat_eq c (char " ") || nat_eq c (char "\t") then without_front cs else c ∷ cs
 
 -- A byte at the front of a line is no text: an ignored one, a space or a tab.
 abbrev pub is_no_text : ℕ → Bool
-is_no_text b = not (is_character (code b)) || is_blank (code b)
+is_no_text b = not (is_character (code b)) || (nat_eq (code b) (char " ") || nat_eq (code b) (char "\t"))
 
 -- The address and the word, in octal.
 abbrev pub word_text : PlacedWord → List ℕ

@@ -41,14 +41,10 @@ pub record TextLine : Type 0 where
   pub place : Place
   pub bytes : List ℕ
 
--- The line that stands there with these bytes.
-abbrev pub text_line : Place → List ℕ → TextLine
-text_line p bytes = record { place = p; bytes = bytes }
-
 -- The lines of a part, the first of which has this number.
 abbrev pub text_lines : ℕ → ℕ → List ℕ → List Line → List TextLine
 text_lines part n source [] = []
-text_lines part n source (l ∷ ls) = text_line (place part n) (slice_range source l.start l.end) ∷ text_lines part (n + 1) source ls
+text_lines part n source (l ∷ ls) = record { place = place part n; bytes = slice_range source l.start l.end } ∷ text_lines part (n + 1) source ls
 
 -- The lines of a part up to where it ends.
 abbrev pub part_lines : ℕ → List ℕ → Close → List TextLine
@@ -81,23 +77,15 @@ pub record IsReadSo (parts : List (List ℕ)) (So : List PlacedAct → List Text
 abbrev pub Means : List (Name × ℕ) → List (List ℕ) → List (Name × ℕ) → List (Option ℕ) → Type 0
 Means permanent parts symbols image = IsReadSo parts (λ acts lines. IsSource permanent 1024 acts symbols image)
 
--- The first fault of acts over these permanent symbols, told at the part and the line of its act.
-abbrev pub IsFaultOf : List (Name × ℕ) → List PlacedAct → PalFault → Type 0
-IsFaultOf permanent acts fault = IsRefused permanent 1024 acts (place fault.part fault.line) fault.code
-
--- The fault of a source: that of its sizes, or else that of the acts of its parts.
+-- The fault of a source: that of its sizes, or else the first one of the acts of its parts, told at the part and the line of its act.
 abbrev pub IsFault : List (Name × ℕ) → List (List ℕ) → PalFault → Type 0
-IsFault permanent parts fault = (size_fault parts ≡ Some fault) ⊎ IsReadSo parts (λ acts lines. IsFaultOf permanent acts fault)
+IsFault permanent parts fault = (size_fault parts ≡ Some fault) ⊎ IsReadSo parts (λ acts lines. IsRefused permanent 1024 acts (place fault.part fault.line) fault.code)
 
 -- A source is refused so: by its fault, or memory was refused.
 abbrev pub Refuses : List (Name × ℕ) → List (List ℕ) → AssembleFault → Type 0
 Refuses permanent parts (Source fault) = IsFault permanent parts fault
 Refuses permanent parts NoMemory = Unit {0}
 
--- The bytes behind a reference.
-abbrev pub now_of : Bor (List ℕ) → List ℕ
-now_of p = p.now
-
 -- The bytes of parts that were lent.
 abbrev pub texts : List (Bor (List ℕ)) → List (List ℕ)
-texts parts = map now_of parts
+texts parts = map (λ p. p.now) parts

@@ -1,6 +1,7 @@
 -- Tokens that are read one character after another are the runs without the spaces that don't count.
 use Rattle.std.proofs.Common.{◌≡◌, ◌∙◌, sym, ap, refl, ℕ, List, [], ◌∷◌, Bool, true, false, ◌||◌, ◌&&◌, if◌then◌else◌, Option, Some, None, inl, inr, length}
 use Rattle.std.specs.Prelude.{reverse, map, nat_eq}
+use Rattle.std.specs.Option.{option_map_or}
 use Rattle.std.proofs.lemmas.Bool.{cases_Bool}
 use Rattle.pal_text.specs.declared.characters.Meaning.{Meaning}
 use Rattle.pal_text.specs.declared.characters.Meaning.TheVariants.{Ignored, LineEnd, Character}
@@ -8,12 +9,16 @@ use Rattle.pal_text.specs.declared.tokens.Kind.{Kind}
 use Rattle.pal_text.specs.declared.tokens.Kind.TheVariants.{Symbol, Number, Mixed, Space, End}
 use Rattle.pal_text.specs.declared.tokens.Token.{Token}
 use Rattle.pal_text.specs.Characters.{line, in_comment, meaning_after}
-use Rattle.pal_text.specs.Tokens.{is_space, longer, kind_of, token, lengthened, with_next, runs, absorbs, absorbs_after, counted, end_token, all_tokens}
+use Rattle.pal_text.specs.Tokens.{is_space, longer, kind_of, token, with_next, runs, absorbs, absorbs_after, counted, end_token, all_tokens}
 use Rattle.pal_text.specs.Tokens.{tokens as counted_tokens}
 use Rattle.pal_text.specs.Adding.{without_space, with_kind, joined, one_or_both, added, grown, tokens, all_read}
 use Rattle.pal_text.specs.Names.{named, part_tokens}
 use Rattle.pal_text.proofs.Apart.{longer_to_end}
 use Rattle.pal_text.proofs.ByMeaning.{runs_with}
+
+-- Runs with one more character, by the kind that the last one becomes.
+abbrev lengthened : Token → Token → List Token → Option Kind → List Token
+lengthened next last ts o = option_map_or (λ k. record last { kind = k; end = next.end } ∷ ts) o (next ∷ last ∷ ts)
 
 -- ---- kinds
 

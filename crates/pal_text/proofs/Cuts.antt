@@ -49,7 +49,7 @@ made first at t s = record { line = t.line; first = first; last = at; tags = s.t
 pub made_fills : (tokens : List Token) (first at : ℕ) (t : Token) (s : Shape) → shape 0 (slice_range tokens first at) ≡ Some s → Fills tokens (piece first at t) (made first at t s)
 made_fills tokens first at t s h =
     let r : IsRead (slice_range tokens first at) s = shape_sound (slice_range tokens first at) s h in
-    record { line = refl; first = refl; last = refl; names = r.names; said = r.said; reads = r.reads; tags = r.tags; form = r.form }
+    record { names = r.names; said = r.said; reads = r.reads; is = λ i. record { line = t.line; first = first; last = at; tags = r.tags i; form = r.form i } }
 
 -- one statement more
 reached_by : (tokens : List Token) (size n m : ℕ) (p : Piece) (s : Statement) (statements : List Statement) (o : Option Close) → p ∷ left tokens m m ≡ left tokens n n → Fills tokens p s → closing size (own tokens p) p.mark s.form ≡ o
@@ -89,9 +89,10 @@ pub breaks_next : (source : List ℕ) (n line : ℕ) (close : Option Close) (sta
 breaks_next source n line close statements going b r =
     let R : Option Close → Type 0 = λ o. Reached (part_tokens source) (length source) n o statements in
     let P : List Piece → Type 0 = λ ps. Breaks (part_tokens source) (length source) ps line in
-    let Q : ℕ → Type 0 = λ k. Breaks (part_tokens source) (length source) (piece n b.last b.mark ∷ rest source (b.last + 1)) k in
+    let p : Piece = b.0 in
+    let Q : ℕ → Type 0 = λ k. Breaks (part_tokens source) (length source) (p ∷ rest source (p.last + 1)) k in
     let open' = subst R going r in
-    open'.1 line (subst P (sym b.rest_is) (subst Q (sym b.line_is) (here (piece n b.last b.mark) (rest source (b.last + 1)) b.none)))
+    open'.1 line (subst P (sym b.1) (subst Q (sym b.3) (here p (rest source (p.last + 1)) b.2)))
 
 faults_next : (source : List ℕ) (n : ℕ) (close : Option Close) (statements : List Statement) (e : StatementFault) → close ≡ None → StopsAt source n e → Reached (part_tokens source) (length source) n close statements
     → IsFault source (Faulty e)
@@ -170,12 +171,13 @@ held_next source n m found mine tokens more close statements all next h e f =
     let length_more : length more ≡ m = ap length tokens_are ∙ length-take-le m ts inside in
     let length_tokens : length tokens ≡ n = ap length h.tokens_are ∙ size in
     let P : List Statement → Type 0 = λ l. AllByRecursion (IsPlaced more) l in
+    let first_is : found.statement.first ≡ n = ap (λ (s : Statement). s.first) next.fills.is in
     record {
       tokens_are = tokens_are;
       past_is = next.count_is ∙ sym (past_more 0 statements found.statement) ∙ ap (past 0) (sym f);
       inside = inside;
       placed = subst P (sym f) (all_append (IsPlaced more) statements (found.statement ∷ []) (placed_longer tokens more statements (omega arith) h.placed)
-          (record { forward = omega (arith, next.fills.first, k.is); inside = omega (arith, next.count_is) }, tt));
+          (record { forward = omega (arith, first_is, k.is); inside = omega (arith, next.count_is) }, tt));
     }
 
 -- fewer pieces are left after each

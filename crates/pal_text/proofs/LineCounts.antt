@@ -6,8 +6,9 @@ use Rattle.std.proofs.lemmas.List.{reverse-append, reverse-reverse, length-rever
 use Rattle.pal_text.specs.declared.characters.Meaning.{Meaning}
 use Rattle.pal_text.specs.declared.characters.Meaning.TheVariants.{Ignored, LineEnd, Character}
 use Rattle.pal_text.specs.declared.lines.Line.{Line}
+use Rattle.pal_text.specs.Scan.{returned_by}
 use Rattle.pal_text.specs.Characters.{meaning_after}
-use Rattle.pal_text.specs.Characters.{meaning, returned, returned_by}
+use Rattle.pal_text.specs.Characters.{meaning, returned}
 use Rattle.pal_text.specs.Lines.{line_of, line_start, is_begun, ended_lines, lines, all_lines}
 use Rattle.pal_text.proofs.Fronts.{next_front, front_length}
 use Rattle.pal_text.proofs.Grows.{turned}

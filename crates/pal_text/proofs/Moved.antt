@@ -12,11 +12,12 @@ use Rattle.pal_text.specs.declared.scan.Brings.TheVariants.{Nothing}
 use Rattle.pal_text.specs.declared.tokens.Kind.{Kind}
 use Rattle.pal_text.specs.declared.tokens.Kind.TheVariants.{End}
 use Rattle.pal_text.specs.declared.tokens.Token.{Token}
-use Rattle.pal_text.specs.Characters.{code, is_ignored, returned, returned_by, meaning, meaning_after, in_comment, line, is_character, characters}
+use Rattle.pal_text.specs.Characters.{code, is_ignored, returned, meaning, meaning_after, in_comment, line, is_character, characters}
 use Rattle.pal_text.specs.Tokens.{is_space, absorbs, longer, token, kind_of, end_token}
 use Rattle.pal_text.specs.Adding.{with_kind, without_space, joined, one_or_both, added, grown, tokens, ended, all_read}
-use Rattle.pal_text.specs.Names.{IsWithin, name, first_six, bytes_of, with_name, named, part_tokens}
-use Rattle.pal_text.specs.Scan.{trimmed}
+use Rattle.pal_text.proofs.NamesLemmas.{first_six}
+use Rattle.pal_text.specs.Names.{IsWithin, name, bytes_of, with_name, named, part_tokens}
+use Rattle.pal_text.specs.Scan.{returned_by, trimmed}
 use Rattle.pal_text.specs.Laws.{moved, IgnoredAddNothing}
 use Rattle.pal_text.proofs.Apart.{added_end}
 use Rattle.pal_text.proofs.CountedLemmas.{part_are}

@@ -9,7 +9,11 @@ use Rattle.std.proofs.lemmas.Bool.Decides.{nat_tests}
 use Rattle.std.specs.Prelude.{nat_eq}
 use Rattle.pal_text.specs.declared.tokens.Kind.TheVariants.{Symbol}
 use Rattle.pal_text.specs.Tokens.{is_letter}
-use Rattle.pal_text.specs.Names.{first_six, name, named_kind, begins_none}
+use Rattle.pal_text.specs.Names.{name, named_kind, begins_none}
+
+-- The first six of some characters, with spaces after fewer.
+abbrev pub first_six : List ℕ → List ℕ
+first_six cs = take 6 (cs ++ replicate 6 32)
 
 one_more : (bytes : List ℕ) (i : ℕ) → i < length bytes → characters (take (i + 1) bytes) ≡ characters (take i bytes) ++ cond (is_character (code (get_or bytes i 0))) (code (get_or bytes i 0) ∷ []) []
 one_more bytes i h =

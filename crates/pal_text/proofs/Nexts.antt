@@ -341,13 +341,12 @@ next_found source count size raw own_tokens read_tokens closed_tokens m s close 
 
 pub next_broken : (source : List ℕ) (count : ℕ) (raw own_tokens read_tokens : List Token) (m : Token) → Stands source count (map (named source) raw) m → own_tokens ≡ map (named source) raw → read_tokens ≡ own_tokens
     → shape 0 read_tokens ≡ None → IsBroken source count m.line
-next_broken source count raw own_tokens read_tokens m h is r reads = record {
-  last = count + length (map (named source) raw);
-  mark = m;
-  rest_is = h.rest_is;
-  none = shape_none (own (part_tokens source) (piece count (count + length (map (named source) raw)) m)) (ap (shape 0) (sym h.own_is ∙ sym is ∙ sym r) ∙ reads);
-  line_is = refl;
-}
+next_broken source count raw own_tokens read_tokens m h is r reads = (
+  piece count (count + length (map (named source) raw)) m,
+  h.rest_is,
+  shape_none (own (part_tokens source) (piece count (count + length (map (named source) raw)) m)) (ap (shape 0) (sym h.own_is ∙ sym is ∙ sym r) ∙ reads),
+  refl,
+)
 
 pub next_small : (source : List ℕ) (count size : ℕ) (raw : List Token) (m : Token) → length source ≤ 65536 → Stands source count (map (named source) raw) m → size ≡ length raw → count + size ≤ 65536
 next_small source count size raw m most h n = omega (arith, h.small, length-map raw (named source))

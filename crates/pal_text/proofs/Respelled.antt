@@ -9,11 +9,11 @@ use Rattle.pal_text.specs.declared.characters.Meaning.TheVariants.{Ignored, Line
 use Rattle.pal_text.specs.declared.tokens.Kind.{Kind}
 use Rattle.pal_text.specs.declared.tokens.Kind.TheVariants.{Symbol, Number, Mixed, Space, End}
 use Rattle.pal_text.specs.declared.tokens.Token.{Token}
-use Rattle.pal_text.specs.Characters.{code, is_ignored, returned, returned_by, meaning, meaning_after, in_comment, line, characters}
+use Rattle.pal_text.specs.Characters.{code, is_ignored, returned, meaning, meaning_after, in_comment, line, characters}
 use Rattle.pal_text.specs.Tokens.{is_space, absorbs, longer, token, kind_of, end_token, is_end}
 use Rattle.pal_text.specs.Adding.{with_kind, without_space, one_or_both, added, grown, tokens, ended, all_read}
 use Rattle.pal_text.specs.Names.{name, bytes_of, with_name, named, part_tokens}
-use Rattle.pal_text.specs.Scan.{trimmed}
+use Rattle.pal_text.specs.Scan.{returned_by, trimmed}
 use Rattle.pal_text.specs.Laws.{alone, SpellsAgain, TokensSpellAgain}
 use Rattle.pal_text.proofs.Apart.{added_end}
 use Rattle.pal_text.proofs.CountedLemmas.{part_are}

@@ -139,12 +139,11 @@ has_token source at b cut a =
     let own : List Token = map (named source) (reverse b) in
     let all : all_read source ≡ reverse b ++ (f.first ∷ f.rest) = ap (λ g. reverse (ended g)) (split_source source at) ∙ ap reverse k.is ∙ reverse-append k.own b ∙ ap (λ l. reverse b ++ l) f.is in
     let is : part_tokens source ≡ own ++ (named source f.first ∷ map (named source) f.rest) = part_are source ∙ ap (map (named source)) all ∙ map-append (named source) (reverse b) (f.first ∷ f.rest) in
-    let size : length b ≡ length own = sym (length-map (reverse b) (named source) ∙ length-reverse b) in
-    record {
-      token = named source f.first;
-      stands = (λ i. slice_get (is i) (size i)) ∙ nth_seam own (map (named source) f.rest) (named source f.first);
-      ends_none = with_name_open source f.first f.first.kind f.ends_none;
-    }
+    let size : length b ≡ length own = sym (length-map (reverse b) (named source) ∙ length-reverse b) in (
+      named source f.first,
+      (λ i. slice_get (is i) (size i)) ∙ nth_seam own (map (named source) f.rest) (named source f.first),
+      with_name_open source f.first f.first.kind f.ends_none,
+    )
 
 -- no space stands at the front, or after the end of a statement
 abbrev Spaced : List Token → Type 0

@@ -56,14 +56,10 @@ read_so_by : (xs ys : List Token) (ps : List Piece) → AllByRecursion (IsBefore
 read_so_by xs ys [] h = tt
 read_so_by xs ys (p ∷ ps) h = (
   λ s f. record {
-    line = f.line;
-    first = f.first;
-    last = f.last;
     names = f.names;
     said = f.said;
     reads = subst (λ own_tokens. IsStatement own_tokens f.names f.said) (sym (range_front xs ys p.first p.last h.0.forward (omega (arith, h.0.inside)))) f.reads;
-    tags = f.tags;
-    form = f.form;
+    is = f.is;
   },
   read_so_by xs ys ps h.1,
 )

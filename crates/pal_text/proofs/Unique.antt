@@ -9,19 +9,13 @@ use Rattle.pal_text.specs.Lines.{all_lines}
 use Rattle.pal_text.specs.Names.{part_tokens}
 use Rattle.pal_text.specs.Parts.{IsPart, IsIllegal}
 use Rattle.pal_text.specs.Statements.{Piece, own, Fills, closing, closed, pieces, Stand, ends, goes_on, Breaks, here, later}
-use Rattle.pal_text.specs.Grammar.{Said}
 use Rattle.pal_text.proofs.Readings.{one_said}
 
 -- a piece is one statement
 one_statement : (tokens : List Token) (p : Piece) (s t : Statement) → Fills tokens p s → Fills tokens p t → s ≡ t
 one_statement tokens p s t f g =
     let e : (f.names ≡ g.names) × (f.said ≡ g.said) = one_said (own tokens p) f.names g.names f.said g.said f.reads g.reads in
-    let lines : s.line ≡ t.line = f.line ∙ sym g.line in
-    let firsts : s.first ≡ t.first = f.first ∙ sym g.first in
-    let lasts : s.last ≡ t.last = f.last ∙ sym g.last in
-    let tags : s.tags ≡ t.tags = f.tags ∙ ap length e.0 ∙ sym g.tags in
-    let forms : s.form ≡ t.form = f.form ∙ ap (λ (s : Said). s.form) e.1 ∙ sym g.form in
-    λ i. record { line = lines i; first = firsts i; last = lasts i; tags = tags i; form = forms i }
+    f.is ∙ (λ i. record { line = p.mark.line; first = p.first; last = p.last; tags = length (e.0 i); form = (e.1 i).form }) ∙ sym g.is
 
 some_same : {X : Type 0} (x y : X) → Some x ≡ Some y → x ≡ y
 some_same x y e = cc

@@ -4,54 +4,31 @@ use Rattle.std.specs.Prelude.{ℕ, ◌+◌, ◌%◌, Bool, true, false, ◌||◌
 use Rattle.pal_text.specs.declared.characters.Meaning.{Meaning}
 use Rattle.pal_text.specs.declared.characters.Meaning.TheVariants.{Ignored, LineEnd, Character}
 
--- The code of a character.
+-- The code of a character. "\t" is a tab, "\n" a line feed and "\r" a carriage return.
 abbrev pub char : String → ℕ
 char s = get_or (codes s) 0 0
-
--- The codes of characters that have no sign.
-abbrev pub null : ℕ
-null = 0
-
-abbrev pub tab : ℕ
-tab = 0o11
-
-abbrev pub line_feed : ℕ
-line_feed = 0o12
-
-abbrev pub form_feed : ℕ
-form_feed = 0o14
-
-abbrev pub carriage_return : ℕ
-carriage_return = 0o15
-
-abbrev pub rubout : ℕ
-rubout = 0o177
 
 -- A byte without channel 8.
 abbrev pub code : ℕ → ℕ
 code b = b % 0o200
 
--- Null, form feed and rubout are ignored wherever they stand.
+-- Null, form feed and rubout, which have no sign, are ignored wherever they stand.
 abbrev pub is_ignored : ℕ → Bool
-is_ignored c = nat_eq c null || nat_eq c form_feed || nat_eq c rubout
+is_ignored c = nat_eq c 0 || nat_eq c 0o14 || nat_eq c 0o177
 
--- Whether only ignored bytes and line feeds stand between here and a carriage return, after one more byte: a carriage
--- return makes it so, ignored bytes and line feeds leave it, any other ends it.
-abbrev pub returned_by : Bool → ℕ → Bool
-returned_by before b = if nat_eq (code b) carriage_return then true else if is_ignored (code b) || nat_eq (code b) line_feed then before else false
-
--- The same after these bytes.
+-- Whether only ignored bytes and line feeds stand between here and a carriage return: a carriage return makes it so, ignored
+-- bytes and line feeds leave it, any other ends it.
 abbrev pub returned : List ℕ → Bool
 returned [] = false
-returned (b ∷ before) = returned_by (returned before) b
+returned (b ∷ before) = if nat_eq (code b) (char "\r") then true else if is_ignored (code b) || nat_eq (code b) (char "\n") then returned before else false
 
 -- What a byte is: a carriage return ends a line, a line feed too unless it follows a return, and a tab is a space.
 abbrev pub meaning : Bool → ℕ → Meaning
 meaning returned b =
     if is_ignored (code b) then Ignored else
-    if nat_eq (code b) carriage_return then LineEnd else
-    if nat_eq (code b) line_feed then (if returned then Ignored else LineEnd) else
-    if nat_eq (code b) tab then Character (char " ") else Character (code b)
+    if nat_eq (code b) (char "\r") then LineEnd else
+    if nat_eq (code b) (char "\n") then (if returned then Ignored else LineEnd) else
+    if nat_eq (code b) (char "\t") then Character (char " ") else Character (code b)
 
 abbrev pub meaning_after : List ℕ → ℕ → Meaning
 meaning_after before b = meaning (returned before) b
@@ -74,7 +51,7 @@ line (b ∷ before) = after (line before) (line before + 1) (λ c. line before) 
 
 -- Within a line every line feed is an ignored one, so these codes are no characters there.
 abbrev pub is_character : ℕ → Bool
-is_character c = not (is_ignored c || nat_eq c line_feed || nat_eq c carriage_return)
+is_character c = not (is_ignored c || nat_eq c (char "\n") || nat_eq c (char "\r"))
 
 -- The characters of a token or of a line: its bytes in order, without channel 8 and without the ignored ones.
 abbrev pub characters : List ℕ → List ℕ

@@ -8,7 +8,7 @@ use Rattle.pal_text.specs.declared.tokens.Token.{Token}
 use Rattle.pal_text.specs.declared.cut.Statement.{Statement}
 use Rattle.pal_text.specs.declared.cut.Ending.{Ending}
 use Rattle.pal_text.specs.declared.lines.Line.{Line}
-use Rattle.pal_text.specs.Characters.{char, line_feed, carriage_return, code, is_ignored, meaning_after, in_comment, characters}
+use Rattle.pal_text.specs.Characters.{char, code, is_ignored, meaning_after, in_comment, characters}
 use Rattle.pal_text.specs.Tokens.{is_space, tokens, is_end}
 use Rattle.pal_text.specs.Names.{bytes_of, named, part_tokens}
 use Rattle.pal_text.specs.Statements.{Piece, pieces, Fills}
@@ -41,7 +41,7 @@ IgnoredAddNothing = (before after : List ℕ) (b : ℕ) → is_ignored (code b) 
 
 -- A carriage return or a line feed.
 abbrev pub is_line_byte : ℕ → Bool
-is_line_byte b = nat_eq (code b) carriage_return || nat_eq (code b) line_feed
+is_line_byte b = nat_eq (code b) (char "\r") || nat_eq (code b) (char "\n")
 
 -- After some bytes, the newest first, a line ends with the next byte, or because none is left.
 abbrev pub EndsLine : List ℕ → List ℕ → Type 0

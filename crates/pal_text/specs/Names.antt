@@ -7,13 +7,9 @@ use Rattle.pal_text.specs.declared.tokens.Token.{Token}
 use Rattle.pal_text.specs.Characters.{char, characters}
 use Rattle.pal_text.specs.Tokens.{is_letter, all_tokens}
 
--- The first six of some characters, with spaces after fewer.
-abbrev pub first_six : List ℕ → List ℕ
-first_six cs = take 6 (cs ++ replicate 6 (char " "))
-
--- The name of the symbol with these bytes.
+-- The name of the symbol with these bytes: its first six characters, with spaces after fewer.
 abbrev pub name : List ℕ → List ℕ
-name bytes = first_six (characters bytes)
+name bytes = take 6 (characters bytes ++ replicate 6 (char " "))
 
 -- DECIMAL, OCTAL and PAUSE are told by their names. Every other symbol is an ordinary one.
 abbrev pub named_kind : List ℕ → Kind

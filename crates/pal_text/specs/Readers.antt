@@ -31,18 +31,12 @@ Finds old (next.Statement found) new = (old.close ≡ None) × IsNext old.source
 Finds old (next.End c) new = (old.close ≡ Some c) × (new.close ≡ Some c) × (new.count ≡ old.count) × (new.own ≡ [])
 
 -- The next piece, after n tokens, is no statement, and the token that ends it is on this line.
-pub record IsBroken (source : List ℕ) (n line : ℕ) : Type 0 where
-  pub last : ℕ
-  pub mark : Token
-  pub rest_is : rest source n ≡ piece n last mark ∷ rest source (last + 1)
-  pub none : IsNone (part_tokens source) (piece n last mark)
-  pub line_is : line ≡ mark.line
+abbrev pub IsBroken : List ℕ → ℕ → ℕ → Type 0
+IsBroken source n line = (p : Piece) × (rest source n ≡ p ∷ rest source (p.last + 1)) × IsNone (part_tokens source) p × (line ≡ p.mark.line)
 
 -- The next piece, after n tokens, has a token: the next one ends no statement.
-pub record HasToken (source : List ℕ) (n : ℕ) : Type 0 where
-  pub token : Token
-  pub stands : slice_get (part_tokens source) n ≡ Some token
-  pub ends_none : is_end token.kind ≡ false
+abbrev pub HasToken : List ℕ → ℕ → Type 0
+HasToken source n = (token : Token) × (slice_get (part_tokens source) n ≡ Some token) × (is_end token.kind ≡ false)
 
 -- A fault at the next piece, after n tokens. Memory is wanted only for a token.
 abbrev pub StopsAt : List ℕ → ℕ → StatementFault → Type 0

@@ -11,9 +11,13 @@ use Rattle.pal_text.specs.declared.scan.Run.{Run}
 use Rattle.pal_text.specs.declared.cut.Close.{Close}
 use Rattle.pal_text.specs.declared.reader.Standing.{Standing}
 use Rattle.pal_text.specs.declared.reader.Standing.TheVariants.{Begins, Ended}
-use Rattle.pal_text.specs.Characters.{char, tab, line_feed, carriage_return, code, is_ignored, returned, in_comment, line}
+use Rattle.pal_text.specs.Characters.{char, code, is_ignored, returned, in_comment, line}
 use Rattle.pal_text.specs.Tokens.{is_space, kind_of, token, is_end}
 use Rattle.pal_text.specs.Adding.{added, tokens}
+
+-- The same as `returned` after one more byte.
+abbrev pub returned_by : Bool → ℕ → Bool
+returned_by before b = if nat_eq (code b) (char "\r") then true else if is_ignored (code b) || nat_eq (code b) (char "\n") then before else false
 
 abbrev pub of_kind : Kind → Brings
 of_kind k = if is_end k then End else One k
@@ -22,14 +26,14 @@ of_kind k = if is_end k then End else One k
 abbrev pub brings : ℕ → Brings
 brings c =
     if is_ignored c then Nothing else
-    if nat_eq c carriage_return then End else
-    if nat_eq c line_feed then Feed else
-    if nat_eq c tab then One kind.Space else
+    if nat_eq c (char "\r") then End else
+    if nat_eq c (char "\n") then Feed else
+    if nat_eq c (char "\t") then One kind.Space else
     if nat_eq c (char "/") then Comment else of_kind (kind_of c)
 
 -- A carriage return or a line feed.
 abbrev pub is_line_code : ℕ → Bool
-is_line_code c = nat_eq c carriage_return || nat_eq c line_feed
+is_line_code c = nat_eq c (char "\r") || nat_eq c (char "\n")
 
 -- The kind of the token that a byte brings that ends a statement.
 abbrev pub mark_kind : ℕ → Kind
@@ -50,7 +54,7 @@ mark source n at = if nat_eq at (length source) then record { kind = kind.End; l
 
 -- Where the next statement begins, after one that ends by the byte at a place.
 abbrev pub next_place : List ℕ → ℕ → ℕ → Place
-next_place source n at = record { at = at + 1; line = line_past n (code (get_or source at 0)); returned = nat_eq (code (get_or source at 0)) carriage_return }
+next_place source n at = record { at = at + 1; line = line_past n (code (get_or source at 0)); returned = nat_eq (code (get_or source at 0)) (char "\r") }
 
 -- The bytes before a place, the newest first.
 abbrev pub front : List ℕ → ℕ → List ℕ
@@ -61,7 +65,7 @@ pub record Closes (before : List ℕ) (b : ℕ) : Type 0 where
   pub tokens_are : tokens (b ∷ before) ≡ added (token (mark_kind (code b)) (line before) (length before)) (tokens before)
   pub is_mark : is_end (mark_kind (code b)) ≡ true
   pub line_is : line (b ∷ before) ≡ line_past (line before) (code b)
-  pub returned_is : returned (b ∷ before) ≡ nat_eq (code b) carriage_return
+  pub returned_is : returned (b ∷ before) ≡ nat_eq (code b) (char "\r")
   pub comment_is : in_comment (b ∷ before) ≡ false
 
 -- The byte at a place ends a statement, where there is one.

@@ -36,14 +36,10 @@ own tokens p = slice_range tokens p.first p.last
 
 -- A piece is this statement: its tokens have so many tags, and what they say has this form.
 pub record Fills (tokens : List Token) (p : Piece) (s : Statement) : Type 0 where
-  pub line : s.line ≡ p.mark.line
-  pub first : s.first ≡ p.first
-  pub last : s.last ≡ p.last
   pub names : List Token
   pub said : Said
   pub reads : IsStatement (own tokens p) names said
-  pub tags : s.tags ≡ length names
-  pub form : s.form ≡ said.form
+  pub is : s ≡ record { line = p.mark.line; first = p.first; last = p.last; tags = length names; form = said.form }
 
 -- A piece is no statement.
 abbrev pub IsNone : List Token → Piece → Type 0

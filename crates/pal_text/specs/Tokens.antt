@@ -1,6 +1,7 @@
 -- The tokens of a part: its runs of characters, and then these without the spaces that don't count. Lists of bytes and of
 -- tokens have the newest first here, but for `all_tokens`.
 use Rattle.std.specs.Prelude.{ℕ, ◌+◌, Bool, true, false, ◌||◌, ◌&&◌, if◌then◌else◌, List, [], ◌∷◌, length, reverse, Option, Some, None, nat_eq, nat_le}
+use Rattle.std.specs.Option.{option_map_or}
 use Rattle.pal_text.specs.declared.tokens.Kind.{Kind}
 use Rattle.pal_text.specs.declared.tokens.Kind.TheVariants.{Symbol, Number, Mixed, Here, Space, Comma, Equals, Plus, Minus, Star, End, Dollar, Other}
 use Rattle.pal_text.specs.declared.tokens.Token.{Token}
@@ -48,13 +49,9 @@ abbrev pub token : Kind → ℕ → ℕ → Token
 token k n at = record { kind = k; line = n; start = at; end = at + 1 }
 
 -- Runs with one more character: it goes onto the last one, or stands after it.
-abbrev pub lengthened : Token → Token → List Token → Option Kind → List Token
-lengthened next last ts (Some k) = record { kind = k; line = last.line; start = last.start; end = next.end } ∷ ts
-lengthened next last ts None = next ∷ last ∷ ts
-
 abbrev pub with_next : Token → List Token → List Token
 with_next next [] = next ∷ []
-with_next next (last ∷ ts) = lengthened next last ts (longer last.kind next.kind)
+with_next next (last ∷ ts) = option_map_or (λ k. record last { kind = k; end = next.end } ∷ ts) (longer last.kind next.kind) (next ∷ last ∷ ts)
 
 -- The runs of these bytes, each as long as its characters stand together: a line's end ends a statement, and a comment
 -- brings nothing.

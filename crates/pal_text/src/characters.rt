@@ -1,7 +1,8 @@
 //! What each byte of a part is: nothing, the end of a line, or a character.
 
 ghost use Rattle.std.specs.Prelude.{◌≡◌};
-ghost use Rattle.pal_text.specs.Characters.{meaning, returned_by, is_character};
+ghost use Rattle.pal_text.specs.Characters.{meaning, is_character};
+ghost use Rattle.pal_text.specs.Scan.{returned_by};
 
 /// The ignored codes that have no sign of their own.
 pub(crate) const NULL: u8 = 0;

@@ -3,7 +3,8 @@ use Rattle.std.specs.Prelude.{slice_get, slice_range}
 use Rattle.std.specs.Option.{option_map}
 use Rattle.std.proofs.lemmas.List.{length-map}
 use Rattle.std.proofs.lemmas.Option.{slice_get-map, slice_get-get_or}
-use Rattle.pal_acts.specs.Acts.{placed, kept_act}
+use Rattle.pal_acts.specs.Acts.{placed}
+use Rattle.pal_acts.specs.Kept.{kept_act}
 use Rattle.pal_acts.proofs.acts.Acts.get.Goals as goal
 
 pub returns : goal.returns

@@ -1,6 +1,6 @@
 use Rattle.std.proofs.Common.{◌≡◌, ◌≤◌, ◌<◌, length, take}
 use Rattle.pal_text.specs.Characters.{characters}
-use Rattle.pal_text.specs.Names.{first_six}
+use Rattle.pal_text.proofs.NamesLemmas.{first_six}
 use Rattle.pal_text.proofs.names.Name.new.Given as goal
 
 abbrev pub invariant-loop-byte : goal.invariant-loop-byte

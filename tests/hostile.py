@@ -1,7 +1,7 @@
 #!/usr/bin/env python3
 """Gives pdp8 random, cut and mixed-up inputs, and sees that each run ends with an answer that docs/PROGRAM.md names.
 
-Each input comes from the programs of crates/examples/data: tapes, sources, declarations, events and certificates, of which
+Each input comes from the programs of examples: tapes, sources, declarations, events and certificates, of which
 bytes are changed, left out, doubled, put in or exchanged with another file's, or from random bytes. A run that ends by a
 signal, takes more than a minute of processor time, or says something that isn't named is a failure. Where the answer is yes, the run by the
 program's events is watched, and must be clean. The same seed gives the same runs.
@@ -18,7 +18,7 @@ import subprocess
 import sys
 import tempfile
 
-DATA = os.path.join(os.path.dirname(os.path.abspath(__file__)), '..', 'crates', 'examples', 'data')
+DATA = os.path.join(os.path.dirname(os.path.abspath(__file__)), '..', 'examples')
 KINDS = {
     'tape': 'TooLong|NoWord|NoOrigin|BadFrame \\d+|WrongField \\d+|Truncated|NoChecksum|Checksum [0-7]{4} [0-7]{4}|EmptyImage',
     'source': '(IC|RD|DT|UA|IR|ST|NB|PA|TL) \\d+ \\d+',

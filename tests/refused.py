@@ -14,7 +14,7 @@ import subprocess
 import sys
 import tempfile
 
-DATA = os.path.join(os.path.dirname(os.path.abspath(__file__)), '..', 'crates', 'examples', 'data')
+DATA = os.path.join(os.path.dirname(os.path.abspath(__file__)), '..', 'examples')
 SHIM = r'''
 #define _GNU_SOURCE
 #include <dlfcn.h>

@@ -15,7 +15,8 @@ A page is Markdown. Of its blocks of code these are read, in their order, in a f
 A file, a tape or bytes with the word "rows" at the end of its fence is written anew for each row of the tables below it, up to
 the next heading, with {1}, {2}, .. replaced. What a row writes is removed after it. A page finds in its folder the files of the
 programs of examples/ that it names, the tape NAME.bin of each source NAME.pal of theirs, and programs/, the folder
-tests/cases/programs, if it names that. Statuses are compared in tests/cases/; other pages may leave them out.
+tests/cases/programs, if it names that. Statuses are compared in tests/cases/; other pages may leave them out. The cases of
+the pages in tests/cases/wrong/ are wrong on purpose, and one of them fails where it isn't told as wrong.
 
 usage: tests/cases.py PDP8 [PAGE..]    PDP8 is the built program; without pages all of tests/cases/, README.md and docs/
 """
@@ -56,11 +57,14 @@ class Page:
 
     def compare(self, line, command, wanted, said):
         self.count += 1
-        if wanted != said:
+        if (wanted == said) == self.is_wrong_on_purpose():
             self.wrong.append(f'{self.path}:{line}: $ {command}\n  wanted {wanted}\n  said   {said}')
 
     def has_statuses(self):
         return 'cases' in self.path.split(os.sep)
+
+    def is_wrong_on_purpose(self):
+        return 'wrong' in self.path.split(os.sep)
 
 
 def blocks_of(text):
@@ -218,7 +222,7 @@ def run_page(path, program):
 def pages():
     """All pages with cases."""
     found = [os.path.join(TOP, 'README.md')]
-    for folder in ('docs', os.path.join('tests', 'cases')):
+    for folder in ('docs', os.path.join('tests', 'cases'), os.path.join('tests', 'cases', 'wrong')):
         folder = os.path.join(TOP, folder)
         found += [os.path.join(folder, name) for name in sorted(os.listdir(folder)) if name.endswith('.md')]
     return found

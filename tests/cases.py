@@ -9,8 +9,9 @@ A page is Markdown. Of its blocks of code these are read, in their order, in a f
 ```console            a line after "$ " is a command of bash, which goes on in the next line after a backslash; below it stand
                       the lines that it prints on standard output and standard error, and, where it isn't 0, its status: "[1]"
 ```table              "$ COMMAND" and then a row a line, "GIVEN | GIVEN => PRINTED [STATUS]": the command is run for each row
-                      with {1}, {2}, .. replaced by what is given. \\n, \\t, \\r, \\\\ and three octal digits after \\ are bytes
-                      in what is printed, and in what is given where it goes into a file; nothing given is written as -
+                      with {1}, {2}, .. replaced by what is given, without blanks at its ends. \\n, \\t, \\r, \\\\ and three
+                      octal digits after \\ are bytes in what is printed, and in what is given where it goes into a file;
+                      nothing given is written as -, and behind => nothing as nothing
 
 A file, a tape or bytes with the word "rows" at the end of its fence is written anew for each row of the tables below it, up to
 the next heading, with {1}, {2}, .. replaced. What a row writes is removed after it. A page finds in its folder the files of the
@@ -119,8 +120,8 @@ def tape_of(text):
 
 
 def filled(text, given):
-    """A text with {1}, {2}, .. replaced by what a row gives."""
-    return re.sub(r'\{(\d)\}', lambda it: given[int(it[1]) - 1] if int(it[1]) <= len(given) else it[0], text)
+    """A text with {1}, {2}, .. replaced by what a row gives; what it doesn't give is nothing."""
+    return re.sub(r'\{(\d)\}', lambda it: given[int(it[1]) - 1] if int(it[1]) <= len(given) else '', text)
 
 
 def write(block, folder, given=None):
@@ -138,10 +139,13 @@ def write(block, folder, given=None):
 
 
 def run(command, page):
-    """What a command prints, and its status."""
+    """What a command prints, and its status, or that it took too long."""
     path = page.program + os.pathsep + os.environ['PATH']
-    done = subprocess.run(['bash', '-c', command], cwd=page.folder, env={**os.environ, 'PATH': path}, stdin=subprocess.DEVNULL,
-                          stdout=subprocess.PIPE, stderr=subprocess.STDOUT, timeout=SECONDS)
+    try:
+        done = subprocess.run(['bash', '-c', command], cwd=page.folder, env={**os.environ, 'PATH': path}, stdin=subprocess.DEVNULL,
+                              stdout=subprocess.PIPE, stderr=subprocess.STDOUT, timeout=SECONDS, check=False)
+    except subprocess.TimeoutExpired:
+        return f'it took longer than {SECONDS} s\n'.encode(), 1
     return done.stdout, done.returncode
 
 

@@ -11,7 +11,7 @@ A page is Markdown. Of its blocks of code these are read, in their order, in a f
 ```table              "$ COMMAND" and then a row a line, "GIVEN | GIVEN => PRINTED [STATUS]": the command is run for each row
                       with {1}, {2}, .. replaced by what is given, without blanks at its ends. \\n, \\t, \\r, \\\\ and three
                       octal digits after \\ are bytes in what is printed, and in what is given where it goes into a file;
-                      nothing given is written as -, and behind => nothing as nothing
+                      nothing given is written as -, a dash as --, and behind => nothing as nothing
 
 A file, a tape or bytes with the word "rows" at the end of its fence is written anew for each row of the tables below it, up to
 the next heading, with {1}, {2}, .. replaced. What a row writes is removed after it. A page finds in its folder the files of the
@@ -179,7 +179,7 @@ def run_table(block, templates, page):
         if not row.strip():
             continue
         given, _, wanted = row.partition('=>')
-        given = ['' if cell.strip() == '-' else cell.strip() for cell in given.split(' | ')]
+        given = [{'-': '', '--': '-'}.get(cell.strip(), cell.strip()) for cell in given.split(' | ')]
         for template in templates:
             write(template, page.folder, given)
         said, status = run(filled(command, given), page)

@@ -2,7 +2,7 @@
 //! are written. Only of these a quick search keeps what is known.
 
 use crate::program::{Program, is_reference};
-use crate::turns::Halt;
+use crate::halt::Halt;
 use instruct::{Operation, refers_indirectly, target};
 use std::alloc::Allocator;
 use word12::Word;

@@ -4,7 +4,7 @@ PREFIX ?= /usr/local
 # How many libraries are proved side by side: one for each processor that has 3 GB of free memory.
 JOBS ?= $(shell awk -v n="$$(nproc)" '/^MemAvailable/ { m = int($$2 / 3000000); print m < 1 ? 1 : m < n ? m : n }' /proc/meminfo)
 
-.PHONY: run try test install bench fmt
+.PHONY: run try test edits install bench fmt
 
 # Proves the libraries below the command line side by side, then the command line and the program, which are one after
 # another and so get all the processors; builds the program and runs it on the stored tape.
@@ -20,12 +20,17 @@ try:
 	cd crates/pdp8 && rt try < stdin
 	@echo "Nothing was proved. make run proves the program before it runs it."
 
-# The gate: the list of definitions and whether each edit applies, which takes a second; then every proof from nothing, the
-# edits that must fail, every test and the program.
+# The gate: the list of definitions, whether each edit applies and that there aren't too many, which takes a second; then every
+# proof from nothing, the edits in must-fail/, every test and the program.
 test:
 	python3 tests/definitions.py
 	python3 tests/edits.py
 	rt ci
+
+# The wrong edits that the gate leaves out, crates/NAME/more-edits/: the prover must refuse each. Whoever changes a contract
+# tries those of its crate, as by make edits CRATES="facts judge"; without CRATES all are tried, which may take hours.
+edits:
+	python3 tests/more_edits.py $(CRATES)
 
 # Puts pdp8 into $(PREFIX)/bin, its man page and its completions for bash beside it.
 install: run

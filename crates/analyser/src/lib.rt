@@ -14,6 +14,7 @@ ghost use Rattle.analyser.specs.Versions.{version_of};
 
 mod draft;
 mod form;
+mod halt;
 mod joining;
 mod kept;
 mod length;
@@ -22,14 +23,13 @@ mod needs;
 mod program;
 mod search;
 mod table;
-mod halt;
 mod widening;
 
 use crate::draft::is_draft;
+use crate::halt::Halt;
 use crate::length::is_short;
 use crate::program::Program;
 use crate::search::Search;
-use crate::halt::Halt;
 use bin_tape::Image;
 use certificate::{Certificate, Version};
 use declaration::Declaration;

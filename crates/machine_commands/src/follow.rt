@@ -12,8 +12,8 @@ ghost use Rattle.machine_commands.specs.Course.{Ran, RanIntoLine, RanToOutput, e
 ghost use Rattle.machine_commands.specs.Trace.{trace_of, traced};
 ghost use Rattle.command_parts.specs.Writes.{FrontOf};
 
-use command_parts::status::Fault;
 use crate::trace::put_trace;
+use command_parts::status::Fault;
 use peripherals::{Event, Seen, World};
 use std::alloc::Allocator;
 use streams::ByteSink;

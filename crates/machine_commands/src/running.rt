@@ -11,11 +11,11 @@ ghost use Rattle.command_parts.specs.declared.status.Fault.TheVariants.{NoMemory
 ghost use Rattle.command_parts.specs.declared.status.Status.TheVariants.{Done};
 
 use crate::follow::{Course, End, follow};
+use crate::summary::summary_of;
+use bin_tape::Image;
 use command_parts::inputs::{events_from, tape_from};
 use command_parts::status::{Fault, Status};
-use crate::summary::summary_of;
 use command_parts::text::dump_of;
-use bin_tape::Image;
 use instruct::Profile;
 pub use options::RunOptions;
 use peripherals::{Start, World};

@@ -12,11 +12,11 @@ ghost use Rattle.machine_commands.specs.Session.{BrokeOff, FrontsOf, IsSession, 
 ghost use Rattle.machine_commands.specs.SessionParts.{IsPartOf, Played, PlayedFront, is_step};
 
 use crate::follow::{End, Outcome, apply_event, end_of};
-use command_parts::inputs::{bytes_from, tape_from};
 use crate::running::status_of;
-use command_parts::status::{Fault, Status};
 use crate::summary::summary_of;
 use bin_tape::Image;
+use command_parts::inputs::{bytes_from, tape_from};
+use command_parts::status::{Fault, Status};
 use options::RunOptions;
 pub use options::SessionOptions;
 use peripherals::{Event, Operator, Seen, Start, World};

@@ -25,13 +25,13 @@ use crate::map::Map;
 use crate::text::push_reads;
 use crate::variables::{Breadth, lists_needed, read, written};
 use analyser::guess_within;
-pub use turns::{GuessFault, ProposeFault, Turns};
 use bin_tape::Image;
 use certificate::Certificate;
 use declaration::{Declaration, DeclarationFault};
 use instruct::Profile;
 use judge::judge;
 use std::alloc::Allocator;
+pub use turns::{GuessFault, ProposeFault, Turns};
 use word12::Word;
 use wordset::WordSet;
 

@@ -11,10 +11,10 @@ ghost use Rattle.declaration.specs.Kept.{meaning};
 ghost use Rattle.declaration.specs.Text.{Declares};
 ghost use Rattle.proposer.specs.Proposals.{AreNeeded, Fits, IsListed, IsShown, IsTold};
 
+use bin_tape::Image;
 use command_parts::inputs::tape_from;
 use command_parts::status::{Fault, Status};
 use command_parts::text::push_place;
-use bin_tape::Image;
 use declaration::{Declaration, DeclarationFault};
 use instruct::Profile;
 pub use options::DeclareOptions;

@@ -12,19 +12,19 @@ ghost use Rattle.search_commands.specs.StuckText.{IsReport, IsStuck, stuck_text}
 ghost use Rattle.command_parts.specs.Writes.{FrontOf, Writes};
 ghost use Rattle.command_parts.specs.declared.status.Status.TheVariants.{Done, Refused};
 
-use command_parts::inputs::{declaration_from, tape_from};
-use verdict_texts::reason_text::push_why;
-use command_parts::status::{Fault, Status};
-use command_parts::text::push_place;
 use analyser::{Attempt, guess_or_draft};
 use bin_tape::Image;
 use certificate::Certificate;
+use command_parts::inputs::{declaration_from, tape_from};
+use command_parts::status::{Fault, Status};
+use command_parts::text::push_place;
 use declaration::Declaration;
 use instruct::Profile;
 use judge::Refusal;
 use reasons::{Reason, why_stuck};
 use std::alloc::{AllocError, Allocator};
 use streams::{ByteSink, ByteSource, put};
+use verdict_texts::reason_text::push_why;
 use word12::Word;
 
 /// Adds the line of a search that is stuck at an address, and behind it why, as far as that is told.

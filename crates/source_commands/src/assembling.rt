@@ -15,9 +15,9 @@ ghost use Rattle.command_parts.specs.declared.status.Fault.TheVariants.{Source};
 ghost use Rattle.command_parts.specs.declared.status.Status.TheVariants.{Done};
 
 use crate::sources::{lend, read_parts};
-use command_parts::status::{DeviceFault, Fault, Status};
 use bin_tape::laws::written_tapes_read_back;
 use bin_tape::{WriteTapeFault, write_tape};
+use command_parts::status::{DeviceFault, Fault, Status};
 use instruct::Profile;
 use pal_asm::{AssembleFault, Program, Translation, WriteFault};
 use std::alloc::Allocator;

@@ -14,18 +14,18 @@ ghost use Rattle.command_parts.specs.Writes.{FrontOf, Writes};
 ghost use Rattle.command_parts.specs.declared.status.Fault.TheVariants.{NoMemory};
 ghost use Rattle.certificate.specs.Faults.{AsksForMemory};
 
-use verdict_texts::verdict::{verdict_line, verdict_status};
-use command_parts::inputs::{declaration_from, tape_from};
-use verdict_texts::certificates::certificate_from;
-use verdict_texts::reason_text::push_why;
-use command_parts::status::{Fault, Status};
 use bin_tape::Image;
 use certificate::{Certificate, WriteFault};
+use command_parts::inputs::{declaration_from, tape_from};
+use command_parts::status::{Fault, Status};
 use declaration::Declaration;
 use judge::{Claims, Refusal, judge};
 use reasons::{Reason, why};
 use std::alloc::Allocator;
 use streams::{ByteSink, ByteSource, put};
+use verdict_texts::certificates::certificate_from;
+use verdict_texts::reason_text::push_why;
+use verdict_texts::verdict::{verdict_line, verdict_status};
 
 /// Why a verdict is no.
 fn reason_of<D: Allocator, C: Claims>(

@@ -9,10 +9,10 @@ ghost use Rattle.verdict_commands.specs.MigrateText.{IsMigrated};
 ghost use Rattle.command_parts.specs.Writes.{FrontOf, Writes};
 ghost use Rattle.command_parts.specs.declared.status.Status.TheVariants.{Done};
 
-use verdict_texts::certificates::certificate_from;
 use command_parts::status::{Fault, Status};
 use std::alloc::Allocator;
 use streams::{ByteSink, ByteSource};
+use verdict_texts::certificates::certificate_from;
 
 /// Migrates a certificate to version 2 and writes its text. It claims what it claimed before; of MQ
 /// a certificate of version 1 says then that it may hold any word. One of version 2 is written as it

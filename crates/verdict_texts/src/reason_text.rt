@@ -8,8 +8,8 @@ ghost use Rattle.command_parts.specs.LinkText.{link_text};
 ghost use Rattle.verdict_texts.specs.WhyText.{around, around_number, asked_text, breach_text, call_text, equation_text, gap_text, landing_text, name_text, reason_line, reason_text, return_text, why_text, word_shown};
 
 use crate::verdict::condition_name;
-use command_parts::text::{push_dump_line, push_place, push_word};
 use bin_tape::Image;
+use command_parts::text::{push_dump_line, push_place, push_word};
 use facts::{Equation, Name};
 use instruct::Profile;
 use itoa::Buffer;

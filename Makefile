@@ -20,8 +20,8 @@ try:
 	cd crates/pdp8 && rt try < stdin
 	@echo "Nothing was proved. make run proves the program before it runs it."
 
-# The gate: the list of definitions, whether each edit applies and that there aren't too many, which takes a second; then every
-# proof from nothing, the edits in must-fail/, every test and the program.
+# The gate: that the page of definitions is what the comments make, that each edit applies and that there aren't too many,
+# which takes two seconds; then every proof from nothing, the edits in must-fail/, every test and the program.
 test:
 	python3 tests/definitions.py
 	python3 tests/edits.py

@@ -1,6 +1,5 @@
 pub mod Accepted
 pub mod Attempts
 pub mod Claimed
-pub mod Counts
 pub mod Making
 pub mod Versions

@@ -1,7 +1,7 @@
 //! What a fact and something else that is known say both.
 
+use crate::halt::Halt;
 use crate::kept::{Kept, Line, left_to};
-use crate::turns::Halt;
 use crate::widening::{Limits, Pace, widened};
 use facts::{Equation, Known, Name, Offsets};
 use std::alloc::Allocator;

@@ -5,7 +5,7 @@ ghost use Rattle.facts.specs.Meaning.{statement_of, offsets_of, equation_of};
 ghost use Rattle.certificate.specs.Reading.{place_of_equation};
 ghost use Rattle.analyser.specs.Claimed.{cell_of, said_of, has_room};
 
-use crate::turns::Halt;
+use crate::halt::Halt;
 use crate::widening::smoothed;
 use facts::{Equation, Fact, Known, Name, Offsets, TrackedCell};
 use std::alloc::Allocator;

@@ -4,7 +4,7 @@ ghost use Rattle.std.specs.Prelude.{◌≡◌, ◌≤◌, [], length, true, fals
 ghost use Rattle.certificate.specs.Spelling.{text};
 ghost use Rattle.certificate.specs.Kept.{meaning};
 
-use crate::turns::Halt;
+use crate::halt::Halt;
 use certificate::Certificate;
 use std::alloc::Allocator;
 use streams::{ByteSink, Failed};

@@ -6,14 +6,15 @@ ghost use Rattle.declaration.specs.Kept.{meaning as declared};
 ghost use Rattle.certificate.specs.Kept.{meaning};
 ghost use Rattle.certificate.specs.Spelling.{text};
 ghost use Rattle.certificate.specs.Reading.{AreLines};
-ghost use Rattle.analyser.specs.declared.GuessFault.TheVariants.{TurnsSpent};
+ghost use Rattle.turns.specs.declared.GuessFault.TheVariants.{TurnsSpent};
 ghost use Rattle.analyser.specs.Accepted.{IsAccepted};
 ghost use Rattle.analyser.specs.Attempts.{IsAcceptedIfFound, IsDraftIfStuck, IsShortIfFound, claimed_by};
-ghost use Rattle.analyser.specs.Counts.{IsSpentUp};
+ghost use Rattle.turns.specs.Counts.{IsSpentUp};
 ghost use Rattle.analyser.specs.Versions.{version_of};
 
 mod draft;
 mod form;
+mod halt;
 mod joining;
 mod kept;
 mod length;
@@ -22,44 +23,24 @@ mod needs;
 mod program;
 mod search;
 mod table;
-mod turns;
 mod widening;
 
 use crate::draft::is_draft;
+use crate::halt::Halt;
 use crate::length::is_short;
 use crate::program::Program;
 use crate::search::Search;
-use crate::turns::Halt;
 use bin_tape::Image;
 use certificate::{Certificate, Version};
 use declaration::Declaration;
 use instruct::Profile;
 use judge::judge;
 use std::alloc::Allocator;
-use thiserror::Error;
-pub use turns::Turns;
+pub use turns::{GuessFault, Turns};
 use word12::Word;
 
 /// The turns that `guess` allows.
 const MOST_TURNS: u32 = 2_000_000;
-
-/// Why no guess is made.
-#[derive(Clone, Copy, PartialEq, Eq, Debug, Error)]
-pub enum GuessFault {
-    /// All turns are spent.
-    #[error("TurnsSpent")]
-    TurnsSpent,
-    /// At this address an instruction was met that the judge would refuse, or the judge refuses there
-    /// what was found.
-    #[error("Stuck {0}")]
-    Stuck(Word),
-    /// The text of what was found has more than the 1,048,576 bytes that are read of a certificate.
-    #[error("TooLong")]
-    TooLong,
-    /// A growth of the table was refused.
-    #[error("NoMemory")]
-    NoMemory,
-}
 
 /// What a search came to.
 #[derive(Drop)]

@@ -1,8 +1,8 @@
 //! Which cells are needed at an address: those that the words from there on may look at before they
 //! are written. Only of these a quick search keeps what is known.
 
+use crate::halt::Halt;
 use crate::program::{Program, is_reference};
-use crate::turns::Halt;
 use instruct::{Operation, refers_indirectly, target};
 use std::alloc::Allocator;
 use word12::Word;

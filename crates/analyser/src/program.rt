@@ -2,7 +2,7 @@
 
 ghost use Rattle.std.specs.Prelude.{◌≡◌};
 
-use crate::turns::Halt;
+use crate::halt::Halt;
 use crate::widening::Limits;
 use bin_tape::Image;
 use certificate::Routine;

@@ -3,8 +3,8 @@
 ghost use Rattle.std.specs.Prelude.{◌≡◌, length, option_map, IfOk};
 ghost use Rattle.analyser.specs.Claimed.{kept_at, row_at, exit_in};
 
+use crate::halt::Halt;
 use crate::kept::Kept;
-use crate::turns::Halt;
 use crate::widening::{Limits, Pace};
 use certificate::Routine;
 use facts::{Fact, Known};

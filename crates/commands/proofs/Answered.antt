@@ -21,14 +21,14 @@ use Rattle.peripherals.specs.declared.Seen.TheVariants as seen
 use Rattle.peripherals.specs.Devices.{Devices, Reader, WorldState, answer_to, answer_of, devices_after, word_at_pc, Instructs, with_reader_flag, with_writer_flag, with_keyboard_flag, fetched, fetches, clears_keyboard, given}
 use Rattle.peripherals.specs.Events.{Happens, done, read, struck, with_devices}
 use Rattle.peripherals.specs.Seen.{seen_of}
-use Rattle.commands.specs.declared.follow.End.{End}
-use Rattle.commands.specs.declared.follow.End.TheVariants.{Unsupported}
-use Rattle.commands.specs.declared.running.RunOptions.{RunOptions}
-use Rattle.commands.specs.Follows.{Follows, Ended, Stuck, Stopped, Went, end_of, goes_on, counted}
+use Rattle.machine_commands.specs.declared.follow.End.{End}
+use Rattle.machine_commands.specs.declared.follow.End.TheVariants.{Unsupported}
+use Rattle.options.specs.declared.RunOptions.{RunOptions}
+use Rattle.machine_commands.specs.Follows.{Follows, Ended, Stuck, Stopped, Went, end_of, goes_on, counted}
 use Rattle.commands.specs.Laws.{Carries, RunsEnd}
-use Rattle.commands.specs.Running.{IsRunOf, fresh, status_of}
-use Rattle.commands.specs.Summary.{summary}
-use Rattle.commands.specs.Trace.{trace_of, traced}
+use Rattle.machine_commands.specs.Running.{IsRunOf, fresh, status_of}
+use Rattle.machine_commands.specs.Summary.{summary}
+use Rattle.machine_commands.specs.Trace.{trace_of, traced}
 
 -- what the devices may tell is a byte, and the switches show a word
 pub record Tells (v : Devices) : Type 0 where

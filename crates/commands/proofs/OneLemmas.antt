@@ -9,15 +9,15 @@ use Rattle.peripherals.specs.Events.{Happens}
 use Rattle.peripherals.specs.Operator.{Plan, due, left_after}
 use Rattle.peripherals.specs.Seen.{seen_of}
 use Rattle.peripherals.proofs.OneLemmas.{one_world}
-use Rattle.commands.specs.declared.follow.End.{End}
-use Rattle.commands.specs.declared.follow.End.TheVariants.{Unsupported}
-use Rattle.commands.specs.declared.running.RunOptions.{RunOptions}
-use Rattle.commands.specs.Follows.{Follows, Ended, Stuck, Stopped, Went, end_of, goes_on, counted}
+use Rattle.machine_commands.specs.declared.follow.End.{End}
+use Rattle.machine_commands.specs.declared.follow.End.TheVariants.{Unsupported}
+use Rattle.options.specs.declared.RunOptions.{RunOptions}
+use Rattle.machine_commands.specs.Follows.{Follows, Ended, Stuck, Stopped, Went, end_of, goes_on, counted}
 use Rattle.commands.specs.Laws.{RunsAreOne, SessionsAreOne}
-use Rattle.commands.specs.Running.{IsRunOf, fresh, status_of}
-use Rattle.commands.specs.Session.{Comes, Over, Cut, Final, Then, Whole, printed_in, summary_where}
-use Rattle.commands.specs.Summary.{summary}
-use Rattle.commands.specs.Trace.{trace_of, traced}
+use Rattle.machine_commands.specs.Running.{IsRunOf, fresh, status_of}
+use Rattle.machine_commands.specs.Session.{Comes, Over, Cut, Final, Then, Whole, printed_in, summary_where}
+use Rattle.machine_commands.specs.Summary.{summary}
+use Rattle.machine_commands.specs.Trace.{trace_of, traced}
 
 -- two runs are one
 record AreOne (lines lines' : List ℕ) (n n' : ℕ) (end end' : End) (x x' : WorldState) : Type 0 where

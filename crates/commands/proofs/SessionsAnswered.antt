@@ -11,12 +11,12 @@ use Rattle.peripherals.specs.Devices.{WorldState}
 use Rattle.peripherals.specs.Events.{Happens}
 use Rattle.peripherals.specs.Operator.{Plan, round_due, key_due, frame_due, first_due, due, one_less, left_after}
 use Rattle.peripherals.specs.Seen.{seen_of}
-use Rattle.commands.specs.declared.follow.End.TheVariants.{Unsupported}
-use Rattle.commands.specs.Follows.{Ended, Stuck, Stopped, Went, end_of, goes_on, counted}
+use Rattle.machine_commands.specs.declared.follow.End.TheVariants.{Unsupported}
+use Rattle.machine_commands.specs.Follows.{Ended, Stuck, Stopped, Went, end_of, goes_on, counted}
 use Rattle.commands.specs.Laws.{Carries, CarriesAll, SessionsEnd}
-use Rattle.commands.specs.Running.{fresh, status_of}
-use Rattle.commands.specs.Session.{Comes, Over, Final, Then, Whole, printed_in, summary_where}
-use Rattle.commands.specs.Trace.{trace_of, traced}
+use Rattle.machine_commands.specs.Running.{fresh, status_of}
+use Rattle.machine_commands.specs.Session.{Comes, Over, Final, Then, Whole, printed_in, summary_where}
+use Rattle.machine_commands.specs.Trace.{trace_of, traced}
 use Rattle.commands.proofs.Answered.{Tells, goes, Ends}
 
 -- how many events may still come: at most five in each round

@@ -17,14 +17,14 @@ use Rattle.pal_acts.specs.Permanent.{permanent_symbols}
 use Rattle.pal_asm.specs.Laws.{MeaningIsOne, FaultIsOne, MeaningIsNoFault, MeantAreWords}
 use Rattle.pal_asm.specs.Sources.{Means, IsFault}
 use Rattle.pal_asm.specs.declared.fault.PalFault.{PalFault}
-use Rattle.commands.specs.declared.status.Fault.{Fault}
-use Rattle.commands.specs.declared.status.Fault.TheVariants.{Tape, EmptyImage, Source, Declared, Certificate, Events, Guess, Declare, Device}
-use Rattle.commands.specs.declared.status.Fault.TheVariants as fault
-use Rattle.commands.specs.declared.status.DeviceFault.TheVariants.{Read, Write}
-use Rattle.commands.specs.AssembleText.{IsAssembled, IsListing, IsListFault, IsSourceFault, HasFault}
-use Rattle.commands.specs.Inputs.{HasImage}
+use Rattle.command_parts.specs.declared.status.Fault.{Fault}
+use Rattle.command_parts.specs.declared.status.Fault.TheVariants.{Tape, EmptyImage, Source, Declared, Certificate, Events, Guess, Declare, Device}
+use Rattle.command_parts.specs.declared.status.Fault.TheVariants as fault
+use Rattle.command_parts.specs.declared.status.DeviceFault.TheVariants.{Read, Write}
+use Rattle.source_commands.specs.AssembleText.{IsAssembled, IsListing, IsListFault, IsSourceFault, HasFault}
+use Rattle.command_parts.specs.Inputs.{HasImage}
 use Rattle.commands.specs.Laws.{telling, TapeIsThere, EmptyHasNoTape, MayMiss, MayBeTold, TapeIsOne, MeantIsRead, ReadIsMeant, MeantIsWritten, FaultIsTold, FaultIsNotWritten, MeantIsListed, FaultIsTheOne}
-use Rattle.commands.specs.SourceTexts.{AreRead}
+use Rattle.source_commands.specs.SourceTexts.{AreRead}
 
 -- sources that tell their bytes hold these parts alone
 told : (parts others : List (List ℕ)) → AreRead (telling parts) others → others ≡ parts

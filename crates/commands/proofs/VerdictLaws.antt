@@ -22,12 +22,12 @@ use Rattle.judge.specs.declared.judging.Refusal.{Refusal}
 use Rattle.judge.proofs.AlikeLaws.{claims_are_valid, claims_fail}
 use Rattle.judge.proofs.ReadingLemmas.{none_fails, one_first}
 use Rattle.facts.specs.declared.Condition.{Condition}
-use Rattle.commands.specs.CertificateText.{IsGuess}
-use Rattle.commands.specs.CheckText.{IsCheckedSo, IsVerdict, checked_case, verdict_status, verdict_text, yes_text}
-use Rattle.commands.specs.Inputs.{IsTextOf}
+use Rattle.search_commands.specs.GuessText.{IsGuess}
+use Rattle.verdict_texts.specs.CheckText.{IsCheckedSo, IsVerdict, checked_case, verdict_status, verdict_text, yes_text}
+use Rattle.verdict_texts.specs.CertificateInputs.{IsTextOf}
 use Rattle.commands.specs.Laws.{ChecksAreOne, GuessIsAccepted, MigratedIsCheckedAlike}
-use Rattle.commands.specs.declared.status.Status.{Status}
-use Rattle.commands.specs.declared.status.Status.TheVariants.{Done}
+use Rattle.command_parts.specs.declared.status.Status.{Status}
+use Rattle.command_parts.specs.declared.status.Status.TheVariants.{Done}
 
 abbrev Verdict : Type 0
 Verdict = Result (Unit {0}) Refusal

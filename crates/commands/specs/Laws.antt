@@ -4,11 +4,11 @@ use Rattle.std.specs.Prelude.{ℕ, ◌≡◌, ◌<◌, Bool, true, Option, Some,
 use Rattle.std.specs.List.{AllByRecursion}
 use Rattle.peripherals.specs.declared.Event.{Event}
 use Rattle.peripherals.specs.declared.Event.TheVariants.{Step, Key, PrinterDone, ReaderDone, PunchDone, Switches, Continue}
-use Rattle.commands.specs.declared.running.RunOptions.{RunOptions}
-use Rattle.commands.specs.declared.status.Fault.{Fault}
-use Rattle.commands.specs.declared.status.Fault.TheVariants.{EmptyImage, Source, Device}
-use Rattle.commands.specs.declared.status.Fault.TheVariants as fault
-use Rattle.commands.specs.declared.status.Status.{Status}
+use Rattle.options.specs.declared.RunOptions.{RunOptions}
+use Rattle.command_parts.specs.declared.status.Fault.{Fault}
+use Rattle.command_parts.specs.declared.status.Fault.TheVariants.{EmptyImage, Source, Device}
+use Rattle.command_parts.specs.declared.status.Fault.TheVariants as fault
+use Rattle.command_parts.specs.declared.status.Status.{Status}
 use Rattle.instruct.specs.declared.Profile.{Profile}
 use Rattle.bin_tape.specs.Image.{IsEmptyImage}
 use Rattle.bin_tape.specs.Written.{written_tape}
@@ -16,14 +16,15 @@ use Rattle.pal_text.specs.declared.names.Name.{Name}
 use Rattle.pal_acts.specs.Permanent.{permanent_symbols}
 use Rattle.pal_asm.specs.Sources.{Means, IsFault}
 use Rattle.pal_asm.specs.declared.fault.PalFault.{PalFault}
-use Rattle.commands.specs.CertificateText.{IsGuess, IsMigrated}
-use Rattle.commands.specs.CheckText.{IsCheckedSo}
-use Rattle.commands.specs.declared.status.Status.TheVariants.{Done}
-use Rattle.commands.specs.AssembleText.{IsAssembled, IsListing, IsListFault, IsSourceFault}
-use Rattle.commands.specs.Inputs.{HasImage}
-use Rattle.commands.specs.Running.{IsRunOf}
+use Rattle.search_commands.specs.GuessText.{IsGuess}
+use Rattle.verdict_commands.specs.MigrateText.{IsMigrated}
+use Rattle.verdict_texts.specs.CheckText.{IsCheckedSo}
+use Rattle.command_parts.specs.declared.status.Status.TheVariants.{Done}
+use Rattle.source_commands.specs.AssembleText.{IsAssembled, IsListing, IsListFault, IsSourceFault}
+use Rattle.command_parts.specs.Inputs.{HasImage}
+use Rattle.machine_commands.specs.Running.{IsRunOf}
 use Rattle.peripherals.specs.Operator.{Plan}
-use Rattle.commands.specs.Session.{IsSessionOf, Whole}
+use Rattle.machine_commands.specs.Session.{IsSessionOf, Whole}
 
 -- What an event carries is a byte, or a word.
 abbrev pub Carries : Event → Type 0

@@ -1,21 +1,10 @@
-//! The commands of the program `pdp8`, each over sources and sinks.
+//! The commands of the program `pdp8`, each over sources and sinks, and laws about what they write.
 #![tactic(auto)]
 
-pub mod assembling;
-pub mod checking;
-pub mod declaring;
-pub mod explaining;
-pub mod follow;
-pub mod guessing;
-mod inputs;
 pub mod laws;
-pub mod migrating;
-mod reason_text;
-pub mod running;
-pub mod session;
-mod sources;
-pub mod status;
-pub mod stuck;
-mod text;
-mod trace;
-pub mod watching;
+
+pub use command_parts::status;
+pub use machine_commands::{follow, running, session, watching};
+pub use search_commands::{declaring, guessing, stuck};
+pub use source_commands::assembling;
+pub use verdict_commands::{checking, explaining, migrating};

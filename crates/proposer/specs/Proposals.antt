@@ -13,12 +13,12 @@ use Rattle.judge.specs.Conditions.{IsValid}
 use Rattle.judge.specs.Judged.{judged}
 use Rattle.declaration.specs.declared.DeclarationFault.TheVariants as declaration_fault
 use Rattle.proposer.specs.Needed.{ReadsAreNeeded}
-use Rattle.analyser.specs.Counts.{Count}
+use Rattle.turns.specs.Counts.{Count}
 use Rattle.analyser.specs.Versions.{version_of}
 use Rattle.proposer.specs.declared.Proposal.{Proposal}
 use Rattle.proposer.specs.declared.Verdict.{Verdict}
-use Rattle.proposer.specs.declared.ProposeFault.{ProposeFault}
-use Rattle.proposer.specs.declared.ProposeFault.TheVariants.{Undeclarable}
+use Rattle.turns.specs.declared.ProposeFault.{ProposeFault}
+use Rattle.turns.specs.declared.ProposeFault.TheVariants.{Undeclarable}
 use Rattle.proposer.specs.declared.Verdict.TheVariants.{Safe, TurnsSpent}
 
 -- The declaration has this start and is for this machine, it keeps the overlap rules, and the text is one of its texts, with

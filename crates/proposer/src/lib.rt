@@ -3,7 +3,7 @@
 
 ghost use Rattle.std.specs.Prelude.{ℕ, ◌≡◌, ◌≢◌, ◌≤◌, length, List, Option, IfOk, IfErr, None, is_some, true};
 ghost use Rattle.analyser.specs.Versions.{version_of};
-ghost use Rattle.analyser.specs.declared.GuessFault.TheVariants as guess_fault;
+ghost use Rattle.turns.specs.declared.GuessFault.TheVariants as guess_fault;
 ghost use Rattle.certificate.specs.Kept as certified;
 ghost use Rattle.certificate.specs.Reading.{AreLines};
 ghost use Rattle.certificate.specs.Spelling.{text};
@@ -24,34 +24,19 @@ mod walk;
 use crate::map::Map;
 use crate::text::push_reads;
 use crate::variables::{Breadth, lists_needed, read, written};
-use analyser::{GuessFault, Turns, guess_within};
+use analyser::guess_within;
 use bin_tape::Image;
 use certificate::Certificate;
 use declaration::{Declaration, DeclarationFault};
 use instruct::Profile;
 use judge::judge;
 use std::alloc::Allocator;
-use thiserror::Error;
+pub use turns::{GuessFault, ProposeFault, Turns};
 use word12::Word;
 use wordset::WordSet;
 
 /// How often the variables are cut down at most.
 const MOST_CUTS: usize = 16;
-
-/// Why nothing is proposed.
-#[derive(Clone, Copy, PartialEq, Eq, Debug, Error)]
-pub enum ProposeFault {
-    /// What was found can't be declared, as where there are more than 64 routines.
-    #[error("Undeclarable {0}")]
-    Undeclarable(DeclarationFault),
-    /// What was found has another start, is for another machine than was asked, or lists other cells; or
-    /// the judge refuses the certificate once the cells are listed.
-    #[error("Mismatch")]
-    Mismatch,
-    /// A growth was refused.
-    #[error("NoMemory")]
-    NoMemory,
-}
 
 /// What is known of a proposed declaration.
 #[derive(Drop)]

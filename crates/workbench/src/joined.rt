@@ -3,7 +3,7 @@
 ghost use Rattle.std.specs.Prelude.{◌≡◌, false, IfOk};
 
 use crate::files::{input_of, open_input};
-use crate::operator::Session;
+use command_line::Session;
 use commands::session::{Outputs, run_session};
 use commands::status::{DeviceFault, Fault, Status};
 use either::Either;

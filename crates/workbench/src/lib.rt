@@ -3,9 +3,7 @@
 
 mod files;
 mod joined;
-mod operator;
 mod program;
-mod words;
 
 pub use commands::{
     assembling, checking, declaring, explaining, guessing, migrating, running, session, status,

@@ -4,8 +4,8 @@ ghost use Rattle.std.specs.Prelude.{◌≤◌};
 
 use crate::files::{open_input, open_inputs, open_output};
 use crate::joined::{hold_session, tell_to};
-use crate::words::{Refused, Request, parse_words};
 use clap::Error;
+use command_line::{Refused, Request, parse_words};
 use commands::assembling::{assemble, list};
 use commands::checking::check;
 use commands::declaring::{DeclareOptions, declare};

@@ -1,0 +1,115 @@
+//! The words of a run with an operator.
+
+use crate::requests::{Refused, run_options, share_standard_input};
+use clap::{Arg, ArgAction, ArgMatches, Command};
+use options::SessionOptions;
+use std::alloc::{AllocError, Global};
+use word12::Word;
+
+/// A run with an operator, as the words ask for it.
+#[derive(Clone, Copy, Debug)]
+pub struct Session<'a> {
+    /// The name of the tape's file.
+    pub tape: &'a str,
+    /// What the devices are joined to.
+    pub joined: Joined<'a>,
+    /// How the tape is run.
+    pub options: SessionOptions,
+}
+
+/// What the devices of a machine are joined to.
+#[derive(Clone, Copy, Debug)]
+pub struct Joined<'a> {
+    /// The name of the file whose frames are in the reader.
+    pub reader: Option<&'a str>,
+    /// The name of the file that the punched bytes go to.
+    pub punch: Option<&'a str>,
+    /// The name of the file of the keys.
+    pub keys: Option<&'a str>,
+    /// What is printed goes to standard output.
+    pub teletype: bool,
+}
+
+/// Adds the words for the reader, the punch, the teletype and the switches.
+pub fn with_operator<'a>(alloc: Global, run: Command<'a>) -> Result<Command<'a>, AllocError> {
+    let reader = Arg::new(alloc, "reader")
+        .long("reader")
+        .value_name("FILE")
+        .help("the frames in the reader, or - for standard input");
+    let punch = Arg::new(alloc, "punch")
+        .long("punch")
+        .value_name("FILE")
+        .help("where the punched bytes go; it is emptied first");
+    let keys = Arg::new(alloc, "keys")
+        .long("keys")
+        .value_name("FILE")
+        .help("the keys that are struck, or - for standard input");
+    let mark = Arg::new(alloc, "mark")
+        .long("mark")
+        .action(ArgAction::SetTrue)
+        .help("sets channel 8 of each key");
+    let teletype = Arg::new(alloc, "teletype")
+        .long("teletype")
+        .action(ArgAction::SetTrue)
+        .help("what is printed goes to standard output, all else to standard error");
+    let switches = Arg::new(alloc, "switches")
+        .long("switches")
+        .value_name("W")
+        .help("the octal word that the switches are set to; 0000 without it");
+    run.arg(reader)?
+        .arg(punch)?
+        .arg(keys)?
+        .arg(mark)?
+        .arg(teletype)?
+        .arg(switches)
+}
+
+/// Whether a run has an operator.
+pub fn has_operator(found: &ArgMatches<'_>) -> bool {
+    ["reader", "punch", "keys", "switches"]
+        .iter()
+        .any(|name| found.get_str(name).is_some())
+        || found.get_flag("mark")
+        || found.get_flag("teletype")
+}
+
+/// What the switches are set to, if they are.
+fn switches_of(found: &ArgMatches<'_>) -> Result<Option<Word>, Refused> {
+    match found.get_str("switches") {
+        None => Ok(None),
+        Some(text) => match Word::from_octal(text.as_bytes()) {
+            Ok(word) => Ok(Some(word)),
+            Err(fault) => Err(Refused::Switches(fault)),
+        },
+    }
+}
+
+/// The run with an operator that the words of `run` ask for.
+pub fn session_of<'a>(tape: &'a str, found: &ArgMatches<'a>) -> Result<Session<'a>, Refused> {
+    let reader = found.get_str("reader");
+    let keys = found.get_str("keys");
+    let punch = found.get_str("punch");
+    if found.get_str("events").is_some() {
+        return Err(Refused::EventsAndOperator);
+    }
+    if share_standard_input(&[tape, reader.unwrap_or(""), keys.unwrap_or("")]) {
+        return Err(Refused::BothStandardInput);
+    }
+    if punch == Some("-") {
+        return Err(Refused::PunchToOutput);
+    }
+    Ok(Session {
+        tape,
+        joined: Joined {
+            reader,
+            punch,
+            keys,
+            teletype: found.get_flag("teletype"),
+        },
+        options: SessionOptions {
+            run: run_options(found)?,
+            switches: switches_of(found)?,
+            mark: found.get_flag("mark"),
+        },
+    })
+}

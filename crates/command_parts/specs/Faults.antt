@@ -1,0 +1,144 @@
+-- Which faults a command may have: the first of its inputs that has one, and then its own work. Each table names the
+-- faults that can come; no other does.
+use Rattle.std.specs.Prelude.{ℕ, Bool, true, false, Result, Err, List, IfSome, ◌⊎◌}
+use Rattle.streams.specs.Bytes.{Gave}
+use Rattle.streams.specs.declared.input.InputFault.{InputFault}
+use Rattle.streams.specs.declared.input.InputFault.TheVariants as input_fault
+use Rattle.bin_tape.specs.Refuses.{Refuses}
+use Rattle.bin_tape.specs.declared.fault.TapeFault.{TapeFault}
+use Rattle.bin_tape.specs.declared.fault.TapeFault.TheVariants.{ReadFault}
+use Rattle.peripherals.specs.EventText.{Fails as FailsAsEvents, most_bytes as most_event_bytes}
+use Rattle.peripherals.specs.declared.event_text.EventsFault.{EventsFault}
+use Rattle.peripherals.specs.declared.event_text.EventsFault.TheVariants as events_fault
+use Rattle.declaration.specs.Text.{Fails as FailsAsDeclaration, most_bytes as most_declaration_bytes}
+use Rattle.declaration.specs.declared.DeclarationFault.{DeclarationFault}
+use Rattle.declaration.specs.declared.DeclarationFault.TheVariants as declaration_fault
+use Rattle.certificate.specs.declared.CertificateFault.{CertificateFault}
+use Rattle.certificate.specs.declared.CertificateFault.TheVariants as certificate_fault
+use Rattle.turns.specs.declared.GuessFault.{GuessFault}
+use Rattle.turns.specs.declared.GuessFault.TheVariants as guess_fault
+use Rattle.turns.specs.declared.ProposeFault.{ProposeFault}
+use Rattle.turns.specs.declared.ProposeFault.TheVariants as propose_fault
+use Rattle.command_parts.specs.declared.status.Fault.{Fault}
+use Rattle.command_parts.specs.declared.status.Fault.TheVariants.{Tape, Declared, Certificate, Events, Guess, Declare, Device}
+use Rattle.command_parts.specs.declared.status.Fault.TheVariants as fault
+use Rattle.command_parts.specs.declared.status.DeviceFault.TheVariants.{Read, Write}
+use Rattle.command_parts.specs.Inputs.{Input, HasCome, IsGoodTape, IsGoodDeclaration, IsGoodEvents, FailsBefore, FailsInTape, FailsInText}
+
+-- The answer is that a write failed.
+abbrev pub fails_to_write : {T : Type 0} → Result T Fault → Bool
+fails_to_write (Err (Device Write)) = true
+fails_to_write _ = false
+
+-- The answer is that a read failed.
+abbrev pub fails_to_read : {T : Type 0} → Result T Fault → Bool
+fails_to_read (Err (Device Read)) = true
+fails_to_read _ = false
+
+-- The answer's fault is the tape's, or the declaration's.
+abbrev pub is_fault_of_tape : Fault → Bool
+is_fault_of_tape (Tape fault) = true
+is_fault_of_tape _ = false
+
+abbrev pub is_fault_of_declaration : Fault → Bool
+is_fault_of_declaration (Declared fault) = true
+is_fault_of_declaration _ = false
+
+-- A read that failed is the device's fault; any other fault of a tape is the tape's.
+abbrev pub fault_of_tape : TapeFault → Fault
+fault_of_tape ReadFault = Device Read
+fault_of_tape fault = Tape fault
+
+-- The same of a text that wasn't read.
+abbrev pub fault_of_input : InputFault → Fault
+fault_of_input input_fault.ReadFailed = Device Read
+fault_of_input input_fault.NoMemory = fault.NoMemory
+
+-- A want of memory is nobody's fault; any other fault of a text is the text's.
+abbrev pub fault_of_events : EventsFault → Fault
+fault_of_events events_fault.NoMemory = fault.NoMemory
+fault_of_events fault = Events fault
+
+abbrev pub fault_of_declaration : DeclarationFault → Fault
+fault_of_declaration declaration_fault.NoMemory = fault.NoMemory
+fault_of_declaration fault = Declared fault
+
+abbrev pub fault_of_certificate : CertificateFault → Fault
+fault_of_certificate certificate_fault.NoMemory = fault.NoMemory
+fault_of_certificate certificate_fault.ReadFault = Device Read
+fault_of_certificate fault = Certificate fault
+
+abbrev pub fault_of_guess : GuessFault → Fault
+fault_of_guess guess_fault.NoMemory = fault.NoMemory
+fault_of_guess fault = Guess fault
+
+abbrev pub fault_of_proposal : ProposeFault → Fault
+fault_of_proposal propose_fault.NoMemory = fault.NoMemory
+fault_of_proposal fault = Declare fault
+
+-- The text has this fault; a want of memory is none.
+abbrev pub IsEventsFault : List ℕ → EventsFault → Type 0
+IsEventsFault text events_fault.NoMemory = ⊥
+IsEventsFault text fault = FailsAsEvents text fault
+
+abbrev pub IsDeclarationFault : List ℕ → DeclarationFault → Type 0
+IsDeclarationFault text declaration_fault.NoMemory = ⊥
+IsDeclarationFault text fault = FailsAsDeclaration text fault
+
+-- Why a tape wasn't read: it has this fault, or a read failed. Reading a tape takes no memory.
+abbrev pub IsTapeInputFault : Input → Fault → Type 0
+IsTapeInputFault tape (Tape fault) = IfSome tape.had (λ bytes. Refuses 65536 bytes fault)
+IsTapeInputFault tape (Device Read) = FailsInTape tape
+IsTapeInputFault tape _ = ⊥
+
+-- Why a text of events wasn't read: it has this fault, a read failed, or memory was refused once some of it had come.
+abbrev pub IsEventsInputFault : Input → Fault → Type 0
+IsEventsInputFault text (Events fault) = IfSome text.had (λ bytes. IsEventsFault bytes fault)
+IsEventsInputFault text (Device Read) = FailsInText most_event_bytes text
+IsEventsInputFault text fault.NoMemory = HasCome text
+IsEventsInputFault text _ = ⊥
+
+-- The same of a declaration.
+abbrev pub IsDeclarationInputFault : Input → Fault → Type 0
+IsDeclarationInputFault text (Declared fault) = IfSome text.had (λ bytes. IsDeclarationFault bytes fault)
+IsDeclarationInputFault text (Device Read) = FailsInText most_declaration_bytes text
+IsDeclarationInputFault text fault.NoMemory = HasCome text
+IsDeclarationInputFault text _ = ⊥
+
+-- Why frames or keys weren't read: a read failed, or memory was refused once some had come.
+abbrev pub IsBytesFault : ℕ → Input → Fault → Type 0
+IsBytesFault most bytes (Device Read) = FailsBefore most bytes
+IsBytesFault most bytes fault.NoMemory = HasCome bytes
+IsBytesFault most bytes _ = ⊥
+
+-- The inputs are good, and a write failed or memory was refused.
+abbrev pub IsRunFault : Fault → Type 0
+IsRunFault (Device Write) = Unit {0}
+IsRunFault fault.NoMemory = Unit {0}
+IsRunFault _ = ⊥
+
+-- The inputs are good, and a write failed.
+abbrev pub IsWriteFault : Fault → Type 0
+IsWriteFault (Device Write) = Unit {0}
+IsWriteFault _ = ⊥
+
+-- Why a command of a tape has no result: the tape's fault, or after a good tape that of the work.
+abbrev pub IsTapeFault : Input → Fault → Type 0
+IsTapeFault tape fault = IsTapeInputFault tape fault ⊎ (IsGoodTape tape.had × IsRunFault fault)
+
+-- The same with a text of events, which is looked at after a good tape.
+abbrev pub IsEventRunFault : Input → Input → Fault → Type 0
+IsEventRunFault tape text fault =
+    IsTapeInputFault tape fault ⊎ (IsGoodTape tape.had × (IsEventsInputFault text fault ⊎ (IsGoodEvents text.had × IsRunFault fault)))
+
+-- The same with a declaration between them: each input is looked at where those before it are good.
+abbrev pub IsWatchFault : Input → Input → Input → Fault → Type 0
+IsWatchFault tape text list fault =
+    IsTapeInputFault tape fault ⊎ (IsGoodTape tape.had × (IsDeclarationInputFault text fault
+    ⊎ (IsGoodDeclaration text.had × (IsEventsInputFault list fault ⊎ (IsGoodEvents list.had × IsRunFault fault)))))
+
+-- Why a session has no result: each input is looked at where those before it are good, and so many frames and keys at most.
+abbrev pub IsSessionFault : ℕ → Input → Input → Input → Fault → Type 0
+IsSessionFault most tape reader keys fault =
+    IsTapeInputFault tape fault ⊎ (IsGoodTape tape.had × (IsBytesFault most reader fault
+    ⊎ (IsBytesFault most keys fault ⊎ IsRunFault fault)))

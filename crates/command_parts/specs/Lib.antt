@@ -1,0 +1,6 @@
+pub mod Writes
+pub mod Inputs
+pub mod Faults
+pub mod Statuses
+pub mod LinkText
+pub mod Dumping

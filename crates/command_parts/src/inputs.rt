@@ -1,0 +1,95 @@
+//! What commands read: tapes, declarations and lists of events.
+
+ghost use Rattle.std.specs.Prelude.{◌≡◌, false, IfOk, IfErr};
+ghost use Rattle.std.specs.Io.KnownBytes.{Consumes};
+ghost use Rattle.declaration.specs.Kept.{meaning};
+ghost use Rattle.command_parts.specs.Faults.{IsTapeInputFault, IsDeclarationInputFault, IsEventsInputFault, IsBytesFault, fails_to_read};
+ghost use Rattle.command_parts.specs.Inputs.{AreFirst, HasImage, HasDeclaration, HasEvents, TakesAtMost, TakesTape, input};
+
+use crate::status::Fault;
+use bin_tape::{Image, read_from};
+use declaration::Declaration;
+use peripherals::{Event, events};
+use std::alloc::Allocator;
+use streams::{ByteSource, read_at_most};
+
+/// One byte more than the text of a declaration may have, so that a longer one is seen to be too
+/// long.
+const MOST_DECLARATION: usize = 16_385;
+
+/// The same of a text of events.
+const MOST_EVENTS: usize = 65_537;
+
+/// Reads a tape.
+pub fn tape_from<R: ByteSource>(source: &mut R) -> Result<Image, Fault>
+    requires { R.mark source.old ≡ false }
+    ensures tape { IfOk result (λ image. HasImage (R.remaining source.old) image) }
+    ensures faults { IfErr result (IsTapeInputFault
+        (input (R.mark source.new) (R.remaining source.old) (R.remaining source.new))) }
+    ensures marks { R.mark source.new ≡ fails_to_read result }
+    ensures takes { TakesTape (R.remaining source.old) (R.remaining source.new) }
+{
+    match read_from(source) {
+        Ok(image) => Ok(image),
+        Err(fault) => Err(Fault::from(fault)),
+    }
+}
+
+/// Reads a declaration.
+pub fn declaration_from<A: Allocator + Copy, R: ByteSource>(
+    alloc: A,
+    source: &mut R,
+) -> Result<Declaration<A>, Fault>
+    requires { R.mark source.old ≡ false }
+    ensures declares { IfOk result (λ d. HasDeclaration (R.remaining source.old) (meaning d)) }
+    ensures faults { IfErr result (IsDeclarationInputFault
+        (input (R.mark source.new) (R.remaining source.old) (R.remaining source.new))) }
+    ensures marks { R.mark source.new ≡ fails_to_read result }
+    ensures takes { TakesAtMost 16385 (R.remaining source.old) (R.remaining source.new) }
+{
+    let text = read_at_most(alloc, source, MOST_DECLARATION)?;
+    match Declaration::parse(alloc, &text) {
+        Ok(declaration) => Ok(declaration),
+        Err(fault) => Err(Fault::from(fault)),
+    }
+}
+
+/// Reads so many bytes at most: the frames in a reader, or keys.
+pub fn bytes_from<A: Allocator, R: ByteSource>(
+    alloc: A,
+    source: &mut R,
+    most: u32,
+) -> Result<Vec<u8, A>, Fault>
+    requires { R.mark source.old ≡ false }
+    ensures bytes { IfOk result (λ bytes. AreFirst most (R.remaining source.old) bytes.items) }
+    ensures taken { IfOk result (λ bytes.
+        Consumes (R.remaining source.old) (R.remaining source.new) bytes.items) }
+    ensures faults { IfErr result (IsBytesFault most
+        (input (R.mark source.new) (R.remaining source.old) (R.remaining source.new))) }
+    ensures marks { R.mark source.new ≡ fails_to_read result }
+    ensures takes { TakesAtMost most (R.remaining source.old) (R.remaining source.new) }
+{
+    match read_at_most(alloc, source, most as usize) {
+        Ok(bytes) => Ok(bytes),
+        Err(fault) => Err(Fault::from(fault)),
+    }
+}
+
+/// Reads a list of events.
+pub fn events_from<A: Allocator + Copy, R: ByteSource>(
+    alloc: A,
+    source: &mut R,
+) -> Result<Vec<Event, A>, Fault>
+    requires { R.mark source.old ≡ false }
+    ensures spells { IfOk result (λ list. HasEvents (R.remaining source.old) list.items) }
+    ensures faults { IfErr result (IsEventsInputFault
+        (input (R.mark source.new) (R.remaining source.old) (R.remaining source.new))) }
+    ensures marks { R.mark source.new ≡ fails_to_read result }
+    ensures takes { TakesAtMost 65537 (R.remaining source.old) (R.remaining source.new) }
+{
+    let text = read_at_most(alloc, source, MOST_EVENTS)?;
+    match events(alloc, &text) {
+        Ok(list) => Ok(list),
+        Err(fault) => Err(Fault::from(fault)),
+    }
+}

@@ -1,0 +1,6 @@
+//! What the commands share: what they read, the lines that several write, how they fail and how they end.
+#![tactic(auto)]
+
+pub mod inputs;
+pub mod status;
+pub mod text;

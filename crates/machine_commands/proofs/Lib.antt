@@ -1,0 +1,6 @@
+pub mod FollowLemmas
+pub mod UnreadLemmas
+pub mod SummaryLemmas
+pub mod WatchLemmas
+pub mod RunLemmas
+pub mod SessionLemmas

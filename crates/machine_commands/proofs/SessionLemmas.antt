@@ -1,0 +1,784 @@
+-- An operator's run, event by event.
+use Rattle.std.proofs.Common.{ℕ, zero, suc, ◌≡◌, ◌+◌, ◌*◌, ◌%◌, ◌==◌, ◌<◌, ◌≤◌, Bool, true, false, ◌||◌, if◌then◌else◌, List, [], ◌∷◌, ◌++◌, length, drop, take, map, refl, sym, ◌∙◌, ap, inl, inr, append_assoc, append-nil, add-zero, add-one, take_all, length-append, get_or, le_refl, arith, Some, None, Option, Result, Ok, Err, IfOk, OnErr, true≢false, subst, unwrap_or}
+use Rattle.std.specs.Io.KnownBytes.{Appends, Consumes}
+use Rattle.std.proofs.KnownBytes.{Appends-nil, Appends-trans}
+use Rattle.std.proofs.Transfers.{drop-appended}
+use Rattle.std.proofs.lemmas.List.{map-append, take-append-le, drop_all, length-map}
+use Rattle.std.proofs.Math.Seq.{drop-cons, take-append-add}
+use Rattle.std.specs.Prelude.{IfErr, is_some}
+use Rattle.streams.specs.Bytes.{AppendsFront, Gave}
+use Rattle.instruct.specs.declared.Profile.{Profile}
+use Rattle.instruct.specs.Devices.{word_of}
+use Rattle.instruct.specs.declared.devices.DeviceOperation.TheVariants.{ClearPrinterFlag, ClearPrinterFlagAndPrint, ClearPunchFlag, ClearPunchFlagAndPunch, Print, Punch, ReadReaderBuffer, SetPrinterFlag}
+use Rattle.processor.specs.Machine.{State}
+use Rattle.peripherals.specs.declared.Event.{Event}
+use Rattle.peripherals.specs.declared.Event.TheVariants.{Step, Key, PrinterDone, ReaderDone, PunchDone, Switches, Continue}
+use Rattle.peripherals.specs.declared.Seen.{Seen}
+use Rattle.peripherals.specs.declared.Seen.TheVariants as seen
+use Rattle.peripherals.specs.Devices.{Devices, Writer, WorldState, Instructs, word_at_pc, devices_after, fetches, clears_keyboard, given, fetched, with_writer_flag, with_reader_flag, with_keyboard_flag}
+use Rattle.peripherals.specs.Events.{Happens, Steps, completed, done, with_devices}
+use Rattle.peripherals.specs.Operator.{Plan, due, first_due, frame_due, key_due, left_after, round_due}
+use Rattle.peripherals.specs.Seen.{puts_out, seen_of}
+use Rattle.machine_commands.specs.declared.follow.End.{End}
+use Rattle.machine_commands.specs.declared.follow.End.TheVariants.{Unsupported}
+use Rattle.machine_commands.specs.declared.follow.Outcome.{Outcome}
+use Rattle.machine_commands.specs.Follows.{Follows, Ended, Stuck, Stopped, end_of, goes_on, counted}
+use Rattle.options.specs.declared.RunOptions.{RunOptions}
+use Rattle.options.specs.declared.SessionOptions.{SessionOptions}
+use Rattle.command_parts.specs.declared.status.Fault.{Fault}
+use Rattle.command_parts.specs.declared.status.Fault.TheVariants.{NoMemory}
+use Rattle.command_parts.specs.declared.status.Status.{Status}
+use Rattle.command_parts.specs.Faults.{IsBytesFault, fails_to_write}
+use Rattle.command_parts.specs.Inputs.{AreFirst, HasCome, HasImage, Input}
+use Rattle.machine_commands.specs.Running.{fresh, status_of}
+use Rattle.machine_commands.specs.Session.{AppendsSome, Comes, Over, Cut, Final, Then, Extent, Whole, UpToOutput, UpToAny, MayEnd, extent_after, summary_where, Operated, BrokeOff, FrontsOf, IsSession, IsSessionOf, NothingOrFronts, SessionFronts, WritesAll, character, plan_for, printed_in, taken, Taken, Failures, failures}
+use Rattle.machine_commands.specs.Summary.{summary}
+use Rattle.machine_commands.specs.SessionParts.{IsPartOf, Played, Unplayed, Faltered, PlayedFront, printed_from}
+use Rattle.machine_commands.specs.Trace.{line_of, trace_of, traced}
+use Rattle.machine_commands.proofs.FollowLemmas.{Came, came_none, came_all, joined, leads_both, leads_one, front_after, no_line, one_by}
+
+pub or_left : (a b : Bool) → a || b ≡ false → a ≡ false
+or_left true b is = is
+or_left false b is = refl
+
+pub or_right : (a b : Bool) → a || b ≡ false → b ≡ false
+or_right true b is = absurd (true≢false is)
+or_right false b is = is
+
+-- nothing is a front of a piece
+pub no_front : (a : Option (List ℕ)) (piece : List ℕ) → AppendsSome a a piece
+no_front a piece = record { count = 0; within = omega arith; out = Appends-nil a }
+
+-- what a printer put out stays, and one byte may come after it
+pub record Grows (old new : List ℕ) : Type 0 where
+  more : List ℕ
+  few : length more ≤ 1
+  is : new ≡ old ++ more
+
+stays : (l : List ℕ) → Grows l l
+stays l = record { more = []; few = omega arith; is = sym (append-nil l) }
+
+puts_one : (l : List ℕ) (byte : ℕ) → Grows l (l ++ byte ∷ [])
+puts_one l byte = record { more = byte ∷ []; few = le_refl 1; is = refl }
+
+-- by the tests of a device word
+by_tests : (v : Devices) (ac : ℕ) (a b c d e f g h i j : Bool) → Grows v.printer.output
+    (if a then record v { reader = with_reader_flag false v.reader }
+    else (if b then record v { reader = fetched v.reader }
+    else (if c then record v { punch = with_writer_flag false v.punch }
+    else (if d then record v { punch = given ac v.punch }
+    else (if e then record v { punch = given ac (with_writer_flag false v.punch) }
+    else (if f then record v { keyboard = with_keyboard_flag false v.keyboard }
+    else (if g then record v { printer = with_writer_flag true v.printer }
+    else (if h then record v { printer = with_writer_flag false v.printer }
+    else (if i then record v { printer = given ac v.printer }
+    else (if j then record v { printer = given ac (with_writer_flag false v.printer) }
+    else v)))))))))).printer.output
+by_tests v ac true b c d e f g h i j = stays v.printer.output
+by_tests v ac false true c d e f g h i j = stays v.printer.output
+by_tests v ac false false true d e f g h i j = stays v.printer.output
+by_tests v ac false false false true e f g h i j = stays v.printer.output
+by_tests v ac false false false false true f g h i j = stays v.printer.output
+by_tests v ac false false false false false true g h i j = stays v.printer.output
+by_tests v ac false false false false false false true h i j = stays v.printer.output
+by_tests v ac false false false false false false false true i j = stays v.printer.output
+by_tests v ac false false false false false false false false true j = puts_one v.printer.output (ac % 256)
+by_tests v ac false false false false false false false false false true = puts_one v.printer.output (ac % 256)
+by_tests v ac false false false false false false false false false false = stays v.printer.output
+
+by_word : (v : Devices) (word ac : ℕ) → Grows v.printer.output (devices_after v word ac).printer.output
+unfolding devices_after
+by_word v word ac = by_tests v ac (word == word_of ReadReaderBuffer) (fetches word) (word == word_of ClearPunchFlag) (word == word_of Punch) (word == word_of ClearPunchFlagAndPunch)
+    (clears_keyboard word) (word == word_of SetPrinterFlag) (word == word_of ClearPrinterFlag) (word == word_of Print) (word == word_of ClearPrinterFlagAndPrint)
+
+by_instruction : (p : Profile) (w x : WorldState) → Instructs p w x → Grows w.devices.printer.output x.devices.printer.output
+by_instruction p w x (inl carried) = rw (carried.devices) (by_word w.devices (word_at_pc w) w.state.ac)
+by_instruction p w x (inr stuck) = rw (stuck.1) (stays w.devices.printer.output)
+
+by_step : (p : Profile) (w x : WorldState) (at : Option ℕ) → w.halted_at ≡ at → Steps p w x → Grows w.devices.printer.output x.devices.printer.output
+by_step p w x None is steps = by_instruction p w x (steps.runs is)
+by_step p w x (Some at) is steps = rw (steps.halted at is) (stays w.devices.printer.output)
+
+done_keeps : (busy : Bool) (d : Writer) → Grows d.output (if busy then record d { busy = false; flag = true } else d).output
+done_keeps true d = stays d.output
+done_keeps false d = stays d.output
+
+grows : (p : Profile) (w x : WorldState) (e : Event) → Happens p w e x → Grows w.devices.printer.output x.devices.printer.output
+grows p w x Step happens = by_step p w x w.halted_at refl happens
+grows p w x (Key byte) happens = rw (happens.1) (stays w.devices.printer.output)
+grows p w x PrinterDone happens = rw happens (done_keeps w.devices.printer.busy w.devices.printer)
+grows p w x (ReaderDone byte) happens = rw (happens.1) (stays w.devices.printer.output)
+grows p w x PunchDone happens = rw happens (stays w.devices.printer.output)
+grows p w x (Switches word) happens = rw (happens.1) (stays w.devices.printer.output)
+grows p w x Continue happens = rw happens (stays w.devices.printer.output)
+
+rest_is : (old new : List ℕ) → Grows old new → new ≡ old ++ drop (length old) new
+rest_is old new g = g.is ∙ ap (λ (l : List ℕ). old ++ l) (sym (drop-appended old new g.more g.is))
+
+-- what was printed with what an event printed
+pub printed_more : (p : Profile) (w x : WorldState) (e : Event) → Happens p w e x → printed_in x ≡ printed_in w ++ printed_from w x
+printed_more p w x e happens =
+    let all = rest_is w.devices.printer.output x.devices.printer.output (grows p w x e happens) in
+    ap (map character) all ∙ map-append character w.devices.printer.output (drop (length w.devices.printer.output) x.devices.printer.output)
+
+-- an event prints one character at most
+one_printed : (p : Profile) (w x : WorldState) (e : Event) → Happens p w e x → length (printed_from w x) ≤ 1
+one_printed p w x e happens =
+    let g = grows p w x e happens in
+    let rest : drop (length w.devices.printer.output) x.devices.printer.output ≡ g.more = drop-appended w.devices.printer.output x.devices.printer.output g.more g.is in
+    let same : length (printed_from w x) ≡ length g.more = length-map (drop (length w.devices.printer.output) x.devices.printer.output) character ∙ ap length rest in
+    let few : length g.more ≤ 1 = g.few in
+    omega (arith, few, same)
+
+-- so all that was printed is one character more at most than what was typed, where some of the last was
+nearly_all : (p : Profile) (w x : WorldState) (e : Event) (count : ℕ) → Happens p w e x → length (printed_in x) ≤ length (printed_in w) + count + 1
+nearly_all p w x e count happens =
+    let all : length (printed_in x) ≡ length (printed_in w ++ printed_from w x) = ap length (printed_more p w x e happens) in
+    let sum : length (printed_in w ++ printed_from w x) ≡ length (printed_in w) + length (printed_from w x) = length-append (printed_in w) (printed_from w x) in
+    let one : length (printed_from w x) ≤ 1 = one_printed p w x e happens in
+    omega (arith, all, sum, one)
+
+one_over : (n : ℕ) → n ≤ n + 1
+one_over n = omega arith
+
+-- a front of a piece is a front of more
+pub front_of_more : (old new : Option (List ℕ)) (piece more : List ℕ) → AppendsSome old new piece → AppendsSome old new (piece ++ more)
+front_of_more old new piece more front = record {
+  count = front.count;
+  within = let e = length-append piece more in let f = front.within in omega (arith, e, f);
+  out = rw (take-append-le front.count piece more front.within) front.out;
+}
+
+-- and where it isn't all of the piece it isn't all of more
+cut_of_more : (old new : Option (List ℕ)) (piece more : List ℕ) → AppendsFront old new piece → AppendsFront old new (piece ++ more)
+cut_of_more old new piece more front = record {
+  count = front.count;
+  within = let e = length-append piece more in let f = front.within in omega (arith, e, f);
+  out = let f : front.count ≤ length piece = (let within = front.within in omega (arith, within)) in rw (take-append-le front.count piece more f) front.out;
+}
+
+-- some of a piece that is the same
+some_same : (old new : Option (List ℕ)) (piece other : List ℕ) → piece ≡ other → AppendsSome old new other → AppendsSome old new piece
+some_same old new piece other same some = record { count = some.count; within = rw same some.within; out = rw same some.out }
+
+-- a whole piece is a front of itself
+pub whole_front : (old new : Option (List ℕ)) (piece : List ℕ) → Appends old new piece → AppendsSome old new piece
+whole_front old new piece whole = record {
+  count = length piece;
+  within = le_refl (length piece);
+  out = rw (take_all (length piece) piece (le_refl (length piece))) whole;
+}
+
+-- a front of a piece that isn't all of it
+pub some_of : (old new : Option (List ℕ)) (piece : List ℕ) → AppendsFront old new piece → AppendsSome old new piece
+some_of old new piece front = record {
+  count = front.count;
+  within = let f = front.within in omega (arith, f);
+  out = front.out;
+}
+
+-- a whole piece, and some of the next
+some_after : (a b c : Option (List ℕ)) (first second : List ℕ) → Appends a b first → AppendsSome b c second → AppendsSome a c (first ++ second)
+some_after a b c first second whole front = record {
+  count = length first + front.count;
+  within = let e = length-append first second in let f = front.within in omega (arith, e, f);
+  out = rw (take-append-add first second front.count) (Appends-trans a b c first (take front.count second) whole front.out);
+}
+
+-- The run came so far: these events came, and what is still to come follows on them.
+pub record Sat (p : Profile) (trace : Bool) (plan now : Plan) (last : Option Event) (w x : WorldState) (n : ℕ) (old new told tells : Option (List ℕ)) : Type 0 where
+  pub events : List Event
+  pub came : Came p true trace events w n x old new
+  pub come : (extent : Extent) (rest : List Event) → Comes p extent now last x rest → Comes p extent plan None w (events ++ rest)
+  pub printed : Appends told tells (printed_in x)
+
+pub sat_none : (p : Profile) (trace : Bool) (plan : Plan) (w : WorldState) (last : Option Event) (old told : Option (List ℕ)) → last ≡ None → w.devices.printer.output ≡ [] →
+    Sat p trace plan plan last w w 0 old old told told
+sat_none p trace plan w last old told first empty = record {
+  events = [];
+  came = came_none p true trace w old;
+  come = λ extent rest comes. rw first at comes;
+  printed = rw empty (Appends-nil told);
+}
+
+came_next : (p : Profile) (trace : Bool) (es : List Event) (e : Event) (w x y : WorldState) (n : ℕ) (what : Seen) (old mid new : Option (List ℕ)) →
+    Came p true trace es w n x old mid → seen_of p x e ≡ what → goes_on true what ≡ true → Happens p x e y → Appends mid new (traced trace (trace_of p x e y)) →
+    Came p true trace (es ++ e ∷ []) w (n + counted what) y old new
+came_next p trace es e w x y n what old mid new came sees goes happens wrote = record {
+  lines = came.lines ++ trace_of p x e y;
+  leads = leads_both p true es (e ∷ []) w x y came.lines (trace_of p x e y) n (counted what) came.leads (leads_one p true e x y what sees goes happens);
+  wrote = joined trace old mid new came.lines (trace_of p x e y) came.wrote wrote;
+}
+
+printed_next : (p : Profile) (x y : WorldState) (e : Event) (told mid tells : Option (List ℕ)) → Happens p x e y → Appends told mid (printed_in x) → Appends mid tells (printed_from x y) → Appends told tells (printed_in y)
+printed_next p x y e told mid tells happens before after =
+    rw (printed_more p x y e happens) (Appends-trans told mid tells (printed_in x) (printed_from x y) before after)
+
+-- the event that is due comes after those before
+one_more : (es : List Event) (e : Event) (rest : List Event) → (es ++ e ∷ []) ++ rest ≡ es ++ (e ∷ rest)
+one_more es e rest = append_assoc es (e ∷ []) rest
+
+pub sat_more : (p : Profile) (trace : Bool) (plan now after : Plan) (last new_last : Option Event) (e : Event) (w x y : WorldState) (n : ℕ) (what : Seen) (old mid new told tmid tells : Option (List ℕ)) →
+    Sat p trace plan now last w x n old mid told tmid → due now x last ≡ Some e → after ≡ left_after e now → new_last ≡ Some e → Played p trace x e what y mid new tmid tells → goes_on true what ≡ true →
+    Sat p trace plan after new_last w y (n + counted what) old new told tells
+sat_more p trace plan now after last new_last e w x y n what old mid new told tmid tells sat is left next played goes = record {
+  events = sat.events ++ e ∷ [];
+  came = came_next p trace sat.events e w x y n what old mid new sat.came (sym played.sees) goes played.happens played.wrote;
+  come = λ extent rest comes.
+      let on : goes_on true (seen_of p x e) ≡ true = rw (← played.sees) goes in
+      let from : Comes p extent (left_after e now) (Some e) y rest = rw (left, next) at comes in
+      rw (one_more sat.events e rest) (sat.come extent (e ∷ rest) (Then now last x y e rest is on played.happens from));
+  printed = printed_next p x y e told tmid tells played.happens sat.printed played.printed;
+}
+
+-- nothing is due any more
+pub sat_all : (p : Profile) (trace : Bool) (plan now : Plan) (last : Option Event) (w x : WorldState) (outcome : Outcome) (old new told tells : Option (List ℕ)) →
+    Sat p trace plan now last w x outcome.steps old new told tells → due now x last ≡ None → outcome.end ≡ end_of x → Operated p trace plan w outcome x old new told tells
+sat_all p trace plan now last w x outcome old new told tells sat is ends = record {
+  events = sat.events;
+  come = let all : Comes p Whole plan None w (sat.events ++ []) = sat.come Whole [] (Over now last x is) in rw (append-nil sat.events) at all;
+  ran = came_all p true trace sat.events w x outcome old new sat.came ends;
+  printed = sat.printed;
+}
+
+final_comes : (p : Profile) (extent : Extent) (now : Plan) (last : Option Event) (x : WorldState) (e : Event) (what : Seen) → due now x last ≡ Some e → what ≡ seen_of p x e → goes_on true what ≡ false →
+    Comes p extent now last x (e ∷ [])
+final_comes p extent now last x e what is sees ends = Final now last x e is (rw (← sees) ends)
+
+pub sat_to_halt : (p : Profile) (trace : Bool) (plan now : Plan) (last : Option Event) (e : Event) (w x y : WorldState) (n : ℕ) (outcome : Outcome) (old mid new told tmid tells : Option (List ℕ)) →
+    Sat p trace plan now last w x n old mid told tmid → due now x last ≡ Some e → Played p trace x e seen.Halted y mid new tmid tells → outcome.steps ≡ n + 1 → outcome.end ≡ end_of y →
+    Operated p trace plan w outcome y old new told tells
+sat_to_halt p trace plan now last e w x y n outcome old mid new told tmid tells sat is played steps ends = record {
+  events = sat.events ++ e ∷ [];
+  come = sat.come Whole (e ∷ []) (final_comes p Whole now last x e seen.Halted is played.sees refl);
+  ran = record {
+    lines = sat.came.lines ++ trace_of p x e y;
+    follows = rw (steps, ends) (sat.came.leads (e ∷ []) (trace_of p x e y) 1 (end_of y) y (Stopped e [] x y refl (sym played.sees) played.happens));
+    wrote = joined trace old mid new sat.came.lines (trace_of p x e y) sat.came.wrote played.wrote;
+  };
+  printed = printed_next p x y e told tmid tells played.happens sat.printed played.printed;
+}
+
+pub sat_to_stuck : (p : Profile) (trace : Bool) (plan now : Plan) (last : Option Event) (e : Event) (w x y : WorldState) (n word : ℕ) (outcome : Outcome) (old mid new told tmid tells : Option (List ℕ)) →
+    Sat p trace plan now last w x n old mid told tmid → due now x last ≡ Some e → Played p trace x e (seen.Unsupported word) y mid new tmid tells → outcome.steps ≡ n → outcome.end ≡ Unsupported y.state.pc →
+    Operated p trace plan w outcome y old new told tells
+sat_to_stuck p trace plan now last e w x y n word outcome old mid new told tmid tells sat is played steps ends =
+    let none : Appends mid new (traced trace []) = rw (no_line p e x y word (sym played.sees)) at played.wrote in
+    let follows : Follows p true (sat.events ++ e ∷ []) w (sat.came.lines ++ []) (n + 0) (Unsupported y.state.pc) y = sat.came.leads (e ∷ []) [] 0 (Unsupported y.state.pc) y (Stuck e [] x y word (sym played.sees) played.happens) in
+    record {
+      events = sat.events ++ e ∷ [];
+      come = sat.come Whole (e ∷ []) (final_comes p Whole now last x e (seen.Unsupported word) is played.sees refl);
+      ran = record {
+        lines = sat.came.lines ++ [];
+        follows = rw (steps, ends) (rw (add-zero n) at follows);
+        wrote = joined trace old mid new sat.came.lines [] sat.came.wrote none;
+      };
+      printed = printed_next p x y e told tmid tells played.happens sat.printed played.printed;
+    }
+
+-- a run may break off before an event that puts out a byte, whether a write failed or not
+ends_before : (failed : Bool) (now : Plan) (last : Option Event) (x : WorldState) (e : Event) → due now x last ≡ Some e → puts_out x e ≡ true → MayEnd (extent_after failed) now x last
+ends_before true now last x e is puts = tt
+ends_before false now last x e is puts = record { event = e; is_due = is; puts = puts }
+
+-- the run broke off before the event
+broke_before : (p : Profile) (trace : Bool) (plan now : Plan) (last : Option Event) (e : Event) (w x y : WorldState) (n : ℕ) (reported typed : Bool) (old mid new told tmid tells : Option (List ℕ)) →
+    Sat p trace plan now last w x n old mid told tmid → due now x last ≡ Some e → Unplayed x e y reported typed mid new tmid tells → BrokeOff p trace plan w y reported typed old new told tells
+unfolding whole_front
+broke_before p trace plan now last e w x y n reported typed old mid new told tmid tells sat is un = rw (un.same, un.unwritten, un.unprinted) (record {
+  events = sat.events;
+  come = let all : Comes p (extent_after (reported || typed)) plan None w (sat.events ++ []) = sat.come (extent_after (reported || typed)) [] (Cut now last x (ends_before (reported || typed) now last x e is un.wanted)) in rw (append-nil sat.events) at all;
+  lines = sat.came.lines;
+  steps = n;
+  end = end_of x;
+  follows = let done : Follows p true (sat.events ++ []) w (sat.came.lines ++ []) (n + 0) (end_of x) x = sat.came.leads [] [] 0 (end_of x) x (Ended x) in
+      rw (append-nil sat.events, append-nil sat.came.lines, add-zero n) at done;
+  wrote = whole_front old mid (traced trace sat.came.lines) sat.came.wrote;
+  printed = whole_front told tmid (printed_in x) sat.printed;
+  wrote_whole = λ no. sat.came.wrote;
+  printed_whole = λ no. sat.printed;
+  wrote_front = λ yes. absurd (true≢false (sym yes ∙ or_left reported typed un.unfailed));
+  printed_front = λ yes. absurd (true≢false (sym yes ∙ or_right reported typed un.unfailed));
+  printed_nearly = one_over (length (printed_in x));
+})
+
+-- the events up to the one that is due
+cut_after : (p : Profile) (now : Plan) (last : Option Event) (x y : WorldState) (e : Event) (on : Bool) → due now x last ≡ Some e → goes_on true (seen_of p x e) ≡ on → Happens p x e y → Comes p UpToAny now last x (e ∷ [])
+cut_after p now last x y e true is goes happens = Then now last x y e [] is goes happens (Cut (left_after e now) (Some e) y tt)
+cut_after p now last x y e false is goes happens = Final now last x e is goes
+
+front_joined : (trace : Bool) (a b c : Option (List ℕ)) (first second : List ℕ) → Appends a b (traced trace first) → AppendsSome b c (traced trace second) → AppendsSome a c (traced trace (first ++ second))
+front_joined true a b c first second whole front = some_after a b c first second whole front
+front_joined false a b c first second whole front = some_after a b c [] [] whole front
+
+front_cut : (trace : Bool) (a b c : Option (List ℕ)) (first second : List ℕ) → Appends a b (traced trace first) → AppendsFront b c (traced trace second) → AppendsFront a c (traced trace (first ++ second))
+front_cut true a b c first second whole front = front_after a b c first second whole front
+front_cut false a b c first second whole front = front_after a b c [] [] whole front
+
+broke_after : (p : Profile) (trace : Bool) (plan now : Plan) (last : Option Event) (e : Event) (w x y : WorldState) (n : ℕ) (reported typed : Bool) (old mid new told tmid tells : Option (List ℕ)) →
+    Sat p trace plan now last w x n old mid told tmid → due now x last ≡ Some e → Faltered p trace x e y reported typed mid new tmid tells → BrokeOff p trace plan w y reported typed old new told tells
+unfolding some_same some_after
+broke_after p trace plan now last e w x y n reported typed old mid new told tmid tells sat is faltered =
+    let one = one_by p true e x y (seen_of p x e) refl faltered.happens in
+    let more = printed_more p x y e faltered.happens in
+    record {
+      events = sat.events ++ e ∷ [];
+      come = rw (faltered.failed) (sat.come UpToAny (e ∷ []) (cut_after p now last x y e (goes_on true (seen_of p x e)) is refl faltered.happens));
+      lines = sat.came.lines ++ trace_of p x e y;
+      steps = n + one.steps;
+      end = one.end;
+      follows = sat.came.leads (e ∷ []) (trace_of p x e y) one.steps one.end y one.follows;
+      wrote = front_joined trace old mid new sat.came.lines (trace_of p x e y) sat.came.wrote faltered.wrote;
+      printed = some_same told tells (printed_in y) (printed_in x ++ printed_from x y) more (some_after told tmid tells (printed_in x) (printed_from x y) sat.printed faltered.printed);
+      wrote_whole = λ no. joined trace old mid new sat.came.lines (trace_of p x e y) sat.came.wrote (faltered.wrote_whole no);
+      printed_whole = λ no. printed_next p x y e told tmid tells faltered.happens sat.printed (faltered.printed_whole no);
+      wrote_front = λ yes. front_cut trace old mid new sat.came.lines (trace_of p x e y) sat.came.wrote (faltered.wrote_front yes);
+      printed_front = λ yes. rw more (front_after told tmid tells (printed_in x) (printed_from x y) sat.printed (faltered.printed_front yes));
+      printed_nearly = nearly_all p x y e faltered.printed.count faltered.happens;
+    }
+
+pub sat_to_fault : (p : Profile) (trace : Bool) (plan now : Plan) (last : Option Event) (e : Event) (w x y : WorldState) (n : ℕ) (reported typed : Bool) (old mid new told tmid tells : Option (List ℕ)) →
+    Sat p trace plan now last w x n old mid told tmid → due now x last ≡ Some e → PlayedFront p trace x e y reported typed mid new tmid tells → BrokeOff p trace plan w y reported typed old new told tells
+sat_to_fault p trace plan now last e w x y n reported typed old mid new told tmid tells sat is (inl un) = broke_before p trace plan now last e w x y n reported typed old mid new told tmid tells sat is un
+sat_to_fault p trace plan now last e w x y n reported typed old mid new told tmid tells sat is (inr faltered) = broke_after p trace plan now last e w x y n reported typed old mid new told tmid tells sat is faltered
+
+-- the events of a whole run are the first ones too
+comes_first : (p : Profile) (extent : Extent) (plan : Plan) (last : Option Event) (w : WorldState) (es : List Event) → Comes p Whole plan last w es → Comes p extent plan last w es
+comes_first p extent _ _ _ _ (Over plan last w none) = Over plan last w none
+comes_first p extent _ _ _ _ (Cut plan last w cut) = absurd cut
+comes_first p extent _ _ _ _ (Final plan last w e is ends) = Final plan last w e is ends
+comes_first p extent _ _ _ _ (Then plan last w m e es is goes happens rest) = Then plan last w m e es is goes happens (comes_first p extent (left_after e plan) (Some e) m es rest)
+
+-- a whole run, of which no more is told
+pub operated_broke : (p : Profile) (trace : Bool) (plan : Plan) (w : WorldState) (outcome : Outcome) (x : WorldState) (reported typed : Bool) (old new told tells : Option (List ℕ)) →
+    Operated p trace plan w outcome x old new told tells → (reported || typed) ≡ false → BrokeOff p trace plan w x reported typed old new told tells
+unfolding whole_front
+operated_broke p trace plan w outcome x reported typed old new told tells done unfailed = record {
+  events = done.events;
+  come = comes_first p (extent_after (reported || typed)) plan None w done.events done.come;
+  lines = done.ran.lines;
+  steps = outcome.steps;
+  end = outcome.end;
+  follows = done.ran.follows;
+  wrote = whole_front old new (traced trace done.ran.lines) done.ran.wrote;
+  printed = whole_front told tells (printed_in x) done.printed;
+  wrote_whole = λ no. done.ran.wrote;
+  printed_whole = λ no. done.printed;
+  wrote_front = λ yes. absurd (true≢false (sym yes ∙ or_left reported typed unfailed));
+  printed_front = λ yes. absurd (true≢false (sym yes ∙ or_right reported typed unfailed));
+  printed_nearly = one_over (length (printed_in x));
+}
+
+-- how many events may come at most in the round that has begun
+abbrev rank : Option Event → ℕ
+rank None = 1
+rank (Some Step) = 4
+rank (Some PrinterDone) = 3
+rank (Some PunchDone) = 2
+rank (Some (ReaderDone frame)) = 1
+rank (Some (Key key)) = 0
+rank (Some (Switches word)) = 0
+rank (Some Continue) = 0
+
+-- how many events may come at most
+abbrev pub events_left : Plan → Option Event → ℕ
+events_left plan last = plan.rounds * 5 + rank last
+
+-- fewer events are left after an event than before it
+abbrev Fewer : Plan → ℕ → Event → Type 0
+Fewer plan before e = events_left (left_after e plan) (Some e) < plan.rounds * 5 + before
+
+none_is : {e : Event} → None ≡ Some e → ⊥
+none_is is = cc
+
+event_is : (e f : Event) → Some e ≡ Some f → e ≡ f
+event_is e f is = ap (λ (o : Option Event). unwrap_or o Step) is
+
+step_fewer : (plan : Plan) (before n : ℕ) → plan.rounds ≡ suc n → Fewer plan before Step
+step_fewer plan before n is = rw is (omega arith)
+
+round_fewer : (plan : Plan) (before n : ℕ) (e : Event) → plan.rounds ≡ n → round_due n ≡ Some e → Fewer plan before e
+round_fewer plan before zero e is due = absurd (none_is due)
+round_fewer plan before (suc n) e is due = subst (Fewer plan before) (event_is Step e due) (step_fewer plan before n is)
+
+key_struck : (plan : Plan) (before key : ℕ) → 0 < before → Fewer plan before (Key key)
+key_struck plan before key some = omega (arith, some)
+
+key_fewer : (plan : Plan) (before : ℕ) (keys : List ℕ) (flag : Bool) (e : Event) → 0 < before → key_due keys plan.rounds flag ≡ Some e → Fewer plan before e
+key_fewer plan before [] flag e some due = round_fewer plan before plan.rounds e refl due
+key_fewer plan before (key ∷ keys) true e some due = round_fewer plan before plan.rounds e refl due
+key_fewer plan before (key ∷ keys) false e some due = subst (Fewer plan before) (event_is (Key key) e due) (key_struck plan before key some)
+
+frame_read : (plan : Plan) (frame : ℕ) → Fewer plan 2 (ReaderDone frame)
+frame_read plan frame = omega arith
+
+frame_fewer : (plan : Plan) (w : WorldState) (frames : List ℕ) (waits : Bool) (e : Event) → w.devices.reader.fetching ≡ waits → frame_due plan w frames ≡ Some e → Fewer plan 2 e
+frame_fewer plan w [] waits e is due = key_fewer plan 2 plan.keys w.devices.keyboard.flag e (omega arith) due
+frame_fewer plan w (frame ∷ frames) true e is due = subst (Fewer plan 2) (event_is (ReaderDone frame) e (rw is at due)) (frame_read plan frame)
+frame_fewer plan w (frame ∷ frames) false e is due = key_fewer plan 2 plan.keys w.devices.keyboard.flag e (omega arith) (rw is at due)
+
+first_fewer : (plan : Plan) (switches : Option ℕ) (e : Event) → first_due plan switches ≡ Some e → Fewer plan 1 e
+first_fewer plan None e due = round_fewer plan 1 plan.rounds e refl due
+first_fewer plan (Some word) e due = subst (Fewer plan 1) (event_is (Switches word) e due) (omega arith)
+
+due_fewer : (plan : Plan) (w : WorldState) (last : Option Event) (e : Event) → due plan w last ≡ Some e → Fewer plan (rank last) e
+due_fewer plan w None e is = first_fewer plan plan.switches e is
+due_fewer plan w (Some Step) e is = subst (Fewer plan 4) (event_is PrinterDone e is) (omega arith)
+due_fewer plan w (Some PrinterDone) e is = subst (Fewer plan 3) (event_is PunchDone e is) (omega arith)
+due_fewer plan w (Some PunchDone) e is = frame_fewer plan w plan.frames w.devices.reader.fetching e refl is
+due_fewer plan w (Some (ReaderDone frame)) e is = key_fewer plan 1 plan.keys w.devices.keyboard.flag e (omega arith) is
+due_fewer plan w (Some (Key key)) e is = round_fewer plan 0 plan.rounds e refl is
+due_fewer plan w (Some (Switches word)) e is = round_fewer plan 0 plan.rounds e refl is
+due_fewer plan w (Some Continue) e is = round_fewer plan 0 plan.rounds e refl is
+
+pub fewer : (plan after : Plan) (w : WorldState) (last new_last : Option Event) (e : Event) → due plan w last ≡ Some e → after ≡ left_after e plan → new_last ≡ Some e → events_left after new_last < events_left plan last
+fewer plan after w last new_last e is left next = rw (left, next) (due_fewer plan w last e is)
+
+-- Bytes that are typed one by one: these went out, and with those still to come they are all.
+pub record Typed (told now : Option (List ℕ)) (bytes : List ℕ) (from index : ℕ) : Type 0 where
+  pub sent : List ℕ
+  pub wrote : Appends told now sent
+  pub rest : sent ++ map character (drop index bytes) ≡ map character (drop from bytes)
+
+pub typed_none : (told : Option (List ℕ)) (bytes : List ℕ) (from : ℕ) → Typed told told bytes from from
+typed_none told bytes from = record { sent = []; wrote = Appends-nil told; rest = refl }
+
+typed_rest : (bytes sent : List ℕ) (from index : ℕ) → index < length bytes → sent ++ map character (drop index bytes) ≡ map character (drop from bytes) →
+    (sent ++ (get_or bytes index 0 % 128) ∷ []) ++ map character (drop (suc index) bytes) ≡ map character (drop from bytes)
+typed_rest bytes sent from index within rest =
+    let next : drop index bytes ≡ get_or bytes index 0 ∷ drop (suc index) bytes = drop-cons bytes index 0 within in
+    append_assoc sent ((get_or bytes index 0 % 128) ∷ []) (map character (drop (suc index) bytes)) ∙ ap (λ (l : List ℕ). sent ++ map character l) (sym next) ∙ rest
+
+pub typed_more : (told now new : Option (List ℕ)) (bytes : List ℕ) (from index byte : ℕ) → Typed told now bytes from index → index < length bytes → byte ≡ get_or bytes index 0 →
+    Appends now new ((byte % 128) ∷ []) → Typed told new bytes from (index + 1)
+typed_more told now new bytes from index byte typed within is wrote =
+    let more : Typed told new bytes from (suc index) = record {
+      sent = typed.sent ++ (get_or bytes index 0 % 128) ∷ [];
+      wrote = Appends-trans told now new typed.sent ((get_or bytes index 0 % 128) ∷ []) typed.wrote (rw is at wrote);
+      rest = typed_rest bytes typed.sent from index within typed.rest;
+    } in
+    subst (Typed told new bytes from) (sym (add-one index)) more
+
+pub typed_all : (told now : Option (List ℕ)) (bytes : List ℕ) (from index : ℕ) → Typed told now bytes from index → length bytes ≤ index → Appends told now (map character (drop from bytes))
+typed_all told now bytes from index typed past =
+    let none : drop index bytes ≡ [] = drop_all index bytes past in
+    let all : typed.sent ≡ map character (drop from bytes) = sym (append-nil typed.sent) ∙ ap (λ (l : List ℕ). typed.sent ++ map character l) (sym none) ∙ typed.rest in
+    rw (← all) typed.wrote
+
+pub typed_front : (told now new : Option (List ℕ)) (bytes : List ℕ) (from index byte : ℕ) → Typed told now bytes from index → index < length bytes → byte ≡ get_or bytes index 0 →
+    AppendsFront now new ((byte % 128) ∷ []) → AppendsFront told new (map character (drop from bytes))
+typed_front told now new bytes from index byte typed within is front =
+    let cut : AppendsFront told new (typed.sent ++ (get_or bytes index 0 % 128) ∷ []) = front_after told now new typed.sent ((get_or bytes index 0 % 128) ∷ []) typed.wrote (rw is at front) in
+    rw (← typed_rest bytes typed.sent from index within typed.rest) (cut_of_more told new (typed.sent ++ (get_or bytes index 0 % 128) ∷ []) (map character (drop (suc index) bytes)) cut)
+
+-- What a run that came to its end leaves.
+session_whole : (options : RunOptions) (plan : Plan) (image : List (Option ℕ)) (p : Profile) (w x : WorldState) (outcome : Outcome) (status : Status) (old mid told tells : Option (List ℕ)) →
+    p ≡ options.profile → w ≡ fresh image options.start → (done : Operated p options.trace plan w outcome x old mid told tells) → status ≡ status_of outcome.end →
+    IsSessionOf options Whole plan image (traced options.trace done.ran.lines ++ summary outcome.end x outcome.steps) (printed_in x) x.devices.punch.output status
+session_whole options plan image p w x outcome status old mid told tells profile begins done is = record {
+  events = done.events;
+  come = let come : Comes p Whole plan None w done.events = done.come in rw (profile, begins) at come;
+  lines = done.ran.lines;
+  steps = outcome.steps;
+  end = outcome.end;
+  final = x;
+  follows = let follows : Follows p true done.events w done.ran.lines outcome.steps outcome.end x = done.ran.follows in rw (profile, begins) at follows;
+  text_is = refl;
+  printed_is = refl;
+  punched_is = refl;
+  status_is = is;
+}
+
+pub attended : (options : RunOptions) (plan : Plan) (image : List (Option ℕ)) (p : Profile) (w x : WorldState) (outcome : Outcome) (status : Status) (old mid new told tells held holds : Option (List ℕ)) →
+    p ≡ options.profile → w ≡ fresh image options.start → Operated p options.trace plan w outcome x old mid told tells → Appends held holds x.devices.punch.output →
+    Appends mid new (summary outcome.end x outcome.steps) → status ≡ status_of outcome.end →
+    WritesAll (λ text printed punched. IsSessionOf options Whole plan image text printed punched status) (taken old told held) (taken new tells holds)
+attended options plan image p w x outcome status old mid new told tells held holds profile begins done punched wrote is = record {
+  text = traced options.trace done.ran.lines ++ summary outcome.end x outcome.steps;
+  printed = printed_in x;
+  punched = x.devices.punch.output;
+  is = session_whole options plan image p w x outcome status old mid told tells profile begins done is;
+  to_report = Appends-trans old mid new (traced options.trace done.ran.lines) (summary outcome.end x outcome.steps) done.ran.wrote wrote;
+  to_teletype = done.printed;
+  to_punch = punched;
+}
+
+-- the summary failed
+pub attended_front : (options : RunOptions) (plan : Plan) (image : List (Option ℕ)) (p : Profile) (w x : WorldState) (outcome : Outcome) (reported typed unpunched : Bool) (old mid new told tells held holds : Option (List ℕ)) →
+    p ≡ options.profile → w ≡ fresh image options.start → Operated p options.trace plan w outcome x old mid told tells → Appends held holds x.devices.punch.output →
+    AppendsFront mid new (summary outcome.end x outcome.steps) → reported ≡ true → typed ≡ false → unpunched ≡ false →
+    FrontsOf (IsPartOf options reported typed plan image) (failures reported typed unpunched) (taken old told held) (taken new tells holds)
+unfolding whole_front
+attended_front options plan image p w x outcome reported typed unpunched old mid new told tells held holds profile begins done punched front failed untyped is_punched = record {
+  extent = Whole;
+  text = traced options.trace done.ran.lines ++ summary outcome.end x outcome.steps;
+  printed = printed_in x;
+  punched = x.devices.punch.output;
+  is = record { summed = λ all. failed; to_output = λ no. absurd (true≢false (sym failed ∙ or_left reported typed no)); status = status_of outcome.end; is = session_whole options plan image p w x outcome (status_of outcome.end) old mid told tells profile begins done refl };
+  to_report = some_of old new (traced options.trace done.ran.lines ++ summary outcome.end x outcome.steps) (front_after old mid new (traced options.trace done.ran.lines) (summary outcome.end x outcome.steps) done.ran.wrote front);
+  to_teletype = whole_front told tells (printed_in x) done.printed;
+  to_punch = whole_front held holds x.devices.punch.output punched;
+  report_whole = λ no. absurd (true≢false (sym failed ∙ no));
+  teletype_whole = λ no. done.printed;
+  punch_whole = λ no. punched;
+  report_front = λ yes. front_after old mid new (traced options.trace done.ran.lines) (summary outcome.end x outcome.steps) done.ran.wrote front;
+  teletype_front = λ yes. absurd (true≢false (sym yes ∙ untyped));
+  punch_front = λ yes. absurd (true≢false (sym yes ∙ is_punched));
+  typed_nearly = one_over (length (printed_in x));
+  typed_before_summary = λ all. done.printed;
+  punched_before_summary = λ all. punched;
+}
+
+not_whole : (failed : Bool) → extent_after failed ≡ Whole → ⊥
+not_whole true is = let e : UpToAny ≡ Whole = is in cc
+not_whole false is = let e : UpToOutput ≡ Whole = is in cc
+
+no_summary : (failed : Bool) (end : End) (x : WorldState) (steps : ℕ) → summary_where (extent_after failed) end x steps ≡ []
+no_summary true end x steps = refl
+no_summary false end x steps = refl
+
+pub broke_front : (options : RunOptions) (plan : Plan) (image : List (Option ℕ)) (p : Profile) (w x : WorldState) (reported typed unpunched : Bool) (old new told tells held holds : Option (List ℕ)) →
+    p ≡ options.profile → w ≡ fresh image options.start → BrokeOff p options.trace plan w x reported typed old new told tells → AppendsSome held holds x.devices.punch.output →
+    (unpunched ≡ false → Appends held holds x.devices.punch.output) → (unpunched ≡ true → AppendsFront held holds x.devices.punch.output) →
+    FrontsOf (IsPartOf options reported typed plan image) (failures reported typed unpunched) (taken old told held) (taken new tells holds)
+broke_front options plan image p w x reported typed unpunched old new told tells held holds profile begins broke punched whole cut = record {
+  extent = extent_after (reported || typed);
+  text = traced options.trace broke.lines ++ [];
+  printed = printed_in x;
+  punched = x.devices.punch.output;
+  is = record {
+    summed = λ all. absurd (not_whole (reported || typed) all);
+    to_output = λ no. rw no refl;
+    status = status_of broke.end;
+    is = record {
+      events = broke.events;
+      come = let come : Comes p (extent_after (reported || typed)) plan None w broke.events = broke.come in rw (profile, begins) at come;
+      lines = broke.lines;
+      steps = broke.steps;
+      end = broke.end;
+      final = x;
+      follows = let follows : Follows p true broke.events w broke.lines broke.steps broke.end x = broke.follows in rw (profile, begins) at follows;
+      text_is = ap (λ (l : List ℕ). traced options.trace broke.lines ++ l) (sym (no_summary (reported || typed) broke.end x broke.steps));
+      printed_is = refl;
+      punched_is = refl;
+      status_is = refl;
+    };
+  };
+  to_report = front_of_more old new (traced options.trace broke.lines) [] broke.wrote;
+  to_teletype = broke.printed;
+  to_punch = punched;
+  report_whole = λ no. subst (Appends old new) (sym (append-nil (traced options.trace broke.lines))) (broke.wrote_whole no);
+  teletype_whole = broke.printed_whole;
+  punch_whole = whole;
+  report_front = λ yes. subst (AppendsFront old new) (sym (append-nil (traced options.trace broke.lines))) (broke.wrote_front yes);
+  teletype_front = broke.printed_front;
+  punch_front = cut;
+  typed_nearly = broke.printed_nearly;
+  typed_before_summary = λ all. absurd (not_whole (reported || typed) all);
+  punched_before_summary = λ all. absurd (not_whole (reported || typed) all);
+}
+
+-- memory was refused for the summary
+pub summary_wanting : (options : RunOptions) (plan : Plan) (image : List (Option ℕ)) (p : Profile) (w x : WorldState) (outcome : Outcome) (reported typed unpunched : Bool) (old new told tells held holds : Option (List ℕ)) →
+    p ≡ options.profile → w ≡ fresh image options.start → Operated p options.trace plan w outcome x old new told tells → Appends held holds x.devices.punch.output → (reported || typed) ≡ false → unpunched ≡ false →
+    FrontsOf (IsPartOf options reported typed plan image) (failures reported typed unpunched) (taken old told held) (taken new tells holds)
+summary_wanting options plan image p w x outcome reported typed unpunched old new told tells held holds profile begins done punched unfailed is_punched =
+    broke_front options plan image p w x reported typed unpunched old new told tells held holds profile begins (operated_broke p options.trace plan w outcome x reported typed old new told tells done unfailed)
+    (whole_front held holds x.devices.punch.output punched) (λ no. punched) (λ yes. absurd (true≢false (sym yes ∙ is_punched)))
+
+-- the punch failed, whatever the run brought
+pub failed_punch : (options : RunOptions) (plan : Plan) (image : List (Option ℕ)) (p : Profile) (w x : WorldState) (ran : Result Outcome Fault) (reported typed unpunched : Bool) (old new told tells held holds : Option (List ℕ)) →
+    p ≡ options.profile → w ≡ fresh image options.start → IfOk ran (λ outcome. Operated p options.trace plan w outcome x old new told tells) → OnErr ran (BrokeOff p options.trace plan w x reported typed old new told tells) →
+    (reported || typed) ≡ fails_to_write ran → AppendsFront held holds x.devices.punch.output → unpunched ≡ true → FrontsOf (IsPartOf options reported typed plan image) (failures reported typed unpunched) (taken old told held) (taken new tells holds)
+failed_punch options plan image p w x (Ok outcome) reported typed unpunched old new told tells held holds profile begins done broke marks punched failed =
+    broke_front options plan image p w x reported typed unpunched old new told tells held holds profile begins (operated_broke p options.trace plan w outcome x reported typed old new told tells done marks)
+    (some_of held holds x.devices.punch.output punched) (λ no. absurd (true≢false (sym failed ∙ no))) (λ yes. punched)
+failed_punch options plan image p w x (Err fault) reported typed unpunched old new told tells held holds profile begins done broke marks punched failed =
+    broke_front options plan image p w x reported typed unpunched old new told tells held holds profile begins broke (some_of held holds x.devices.punch.output punched) (λ no. absurd (true≢false (sym failed ∙ no))) (λ yes. punched)
+
+-- the inputs are good
+pub session_fronts : (options : SessionOptions) (tape reader keys : Option (List ℕ)) (image : List (Option ℕ)) (frames bytes : List ℕ) (plan : Plan) (failed : Failures) (old new : Taken) →
+    HasImage tape image → AreFirst options.run.rounds reader frames → AreFirst options.run.rounds keys bytes → plan ≡ plan_for options frames bytes →
+    FrontsOf (IsPartOf options.run failed.report failed.teletype plan image) failed old new → SessionFronts options failed tape reader keys old new
+session_fronts options tape reader keys image frames bytes plan failed old new has_image frames_are bytes_are is fronts = record {
+  extent = fronts.extent;
+  text = fronts.text;
+  printed = fronts.printed;
+  punched = fronts.punched;
+  is = record {
+    summed = fronts.is.summed;
+    to_output = fronts.is.to_output;
+    status = fronts.is.status;
+    is = record {
+      image = image;
+      has_image = has_image;
+      frames = frames;
+      frames_are = frames_are;
+      bytes = bytes;
+      bytes_are = bytes_are;
+      session = let session : IsSessionOf options.run fronts.extent plan image fronts.text fronts.printed fronts.punched fronts.is.status = fronts.is.is in rw is at session;
+    };
+  };
+  to_report = fronts.to_report;
+  to_teletype = fronts.to_teletype;
+  to_punch = fronts.to_punch;
+  report_whole = fronts.report_whole;
+  teletype_whole = fronts.teletype_whole;
+  punch_whole = fronts.punch_whole;
+  report_front = fronts.report_front;
+  teletype_front = fronts.teletype_front;
+  punch_front = fronts.punch_front;
+  typed_nearly = fronts.typed_nearly;
+  typed_before_summary = fronts.typed_before_summary;
+  punched_before_summary = fronts.punched_before_summary;
+}
+
+pub session_part : (options : SessionOptions) (tape reader keys : Option (List ℕ)) (image : List (Option ℕ)) (frames bytes : List ℕ) (plan : Plan) (failed : Failures) (old new : Taken) →
+    HasImage tape image → AreFirst options.run.rounds reader frames → AreFirst options.run.rounds keys bytes → plan ≡ plan_for options frames bytes →
+    FrontsOf (IsPartOf options.run failed.report failed.teletype plan image) failed old new → NothingOrFronts options failed tape reader keys old new
+session_part options tape reader keys image frames bytes plan failed old new has_image frames_are bytes_are is fronts =
+    inr (session_fronts options tape reader keys image frames bytes plan failed old new has_image frames_are bytes_are is fronts)
+
+pub session_is : (options : SessionOptions) (tape reader keys : Option (List ℕ)) (image : List (Option ℕ)) (frames bytes : List ℕ) (plan : Plan) (status : Status) (old new : Taken) →
+    HasImage tape image → AreFirst options.run.rounds reader frames → AreFirst options.run.rounds keys bytes → plan ≡ plan_for options frames bytes →
+    WritesAll (λ text printed punched. IsSessionOf options.run Whole plan image text printed punched status) old new → WritesAll (IsSession options Whole tape reader keys status) old new
+session_is options tape reader keys image frames bytes plan status old new has_image frames_are bytes_are is writes = record {
+  text = writes.text;
+  printed = writes.printed;
+  punched = writes.punched;
+  is = record {
+    image = image;
+    has_image = has_image;
+    frames = frames;
+    frames_are = frames_are;
+    bytes = bytes;
+    bytes_are = bytes_are;
+    session = let session : IsSessionOf options.run Whole plan image writes.text writes.printed writes.punched status = writes.is in rw is at session;
+  };
+  to_report = writes.to_report;
+  to_teletype = writes.to_teletype;
+  to_punch = writes.to_punch;
+}
+
+-- a line of the trace failed, or memory was refused
+pub play_front : (p : Profile) (trace : Bool) (w : WorldState) (e : Event) (x : WorldState) (old new told : Option (List ℕ)) (marked typed : Bool) →
+    (marked ≡ true → Happens p w e x) → (marked ≡ true → trace ≡ true) → (marked ≡ true → AppendsFront old new (trace_of p w e x)) → (marked ≡ false → x ≡ w) → (marked ≡ false → puts_out w e ≡ true) → (marked ≡ false → new ≡ old) → typed ≡ false →
+    PlayedFront p trace w e x marked typed old new told told
+play_front p trace w e x old new told true typed happens asked front same wanted unwritten untyped = inr (record {
+  happens = happens refl;
+  failed = refl;
+  wrote = some_of old new (traced trace (trace_of p w e x)) (rw (asked refl) (front refl));
+  printed = no_front told (printed_from w x);
+  wrote_whole = λ no. absurd (true≢false no);
+  printed_whole = λ no. absurd (true≢false no);
+  wrote_front = λ yes. rw (asked refl) (front refl);
+  printed_front = λ yes. absurd (true≢false (sym yes ∙ untyped));
+})
+play_front p trace w e x old new told false typed happens asked front same wanted unwritten untyped = inl (record { same = same refl; unfailed = untyped; wanted = wanted refl; unwritten = unwritten refl; unprinted = refl })
+
+or_true : (b : Bool) → b || true ≡ true
+or_true true = refl
+or_true false = refl
+
+-- a character failed
+pub type_front : (p : Profile) (trace : Bool) (w : WorldState) (e : Event) (x : WorldState) (marked typed : Bool) (old new told tells : Option (List ℕ)) →
+    Happens p w e x → Appends old new (traced trace (trace_of p w e x)) → AppendsFront told tells (printed_from w x) → marked ≡ false → typed ≡ true → PlayedFront p trace w e x marked typed old new told tells
+type_front p trace w e x marked typed old new told tells happens wrote front unmarked failed = inr (record {
+  happens = happens;
+  failed = rw failed (or_true marked);
+  wrote = whole_front old new (traced trace (trace_of p w e x)) wrote;
+  printed = some_of told tells (printed_from w x) front;
+  wrote_whole = λ no. wrote;
+  printed_whole = λ no. absurd (true≢false (sym failed ∙ or_right marked typed no));
+  wrote_front = λ yes. absurd (true≢false (sym yes ∙ unmarked));
+  printed_front = λ yes. front;
+})
+
+-- an event that carries out no instruction
+pub sat_still : (p : Profile) (trace : Bool) (plan now after : Plan) (last new_last : Option Event) (e : Event) (w x y : WorldState) (n : ℕ) (what : Seen) (old mid new told tmid tells : Option (List ℕ)) →
+    Sat p trace plan now last w x n old mid told tmid → due now x last ≡ Some e → after ≡ left_after e now → new_last ≡ Some e → Played p trace x e what y mid new tmid tells → goes_on true what ≡ true → counted what ≡ 0 →
+    Sat p trace plan after new_last w y n old new told tells
+sat_still p trace plan now after last new_last e w x y n what old mid new told tmid tells sat is left next played goes none =
+    let more : Sat p trace plan after new_last w y (n + counted what) old new told tells = sat_more p trace plan now after last new_last e w x y n what old mid new told tmid tells sat is left next played goes in
+    rw (none, add-zero n) at more
+
+-- what is seen of an event that changes a device, where it is enabled
+abbrev device_seen : Bool → Seen
+device_seen enabled = if enabled then seen.Changed else seen.NotEnabled
+
+device_goes : (enabled : Bool) → goes_on true (device_seen enabled) ≡ true
+device_goes true = refl
+device_goes false = refl
+
+device_counts : (enabled : Bool) → counted (device_seen enabled) ≡ 0
+device_counts true = refl
+device_counts false = refl
+
+device_line : (p : Profile) (enabled trace : Bool) (at word : ℕ) (s : State) → traced trace (line_of p (device_seen enabled) at word s) ≡ []
+device_line p true true at word s = refl
+device_line p true false at word s = refl
+device_line p false true at word s = refl
+device_line p false false at word s = refl
+
+-- such an event writes nothing, and prints nothing where the output stays
+device_played : (p : Profile) (trace : Bool) (w x : WorldState) (e : Event) (enabled : Bool) (told tells : Option (List ℕ)) →
+    Happens p w e x → seen_of p w e ≡ device_seen enabled → x.devices.printer.output ≡ w.devices.printer.output → Played p trace w e (device_seen enabled) x told told tells tells
+device_played p trace w x e enabled told tells happens is same = record {
+  happens = happens;
+  sees = sym is;
+  wrote = rw (is, device_line p enabled trace w.state.pc (word_at_pc w) x.state) (Appends-nil told);
+  printed = rw (same, drop_all (length w.devices.printer.output) w.devices.printer.output (le_refl (length w.devices.printer.output))) (Appends-nil tells);
+}
+
+output_stays : (busy : Bool) (d : Writer) → (if busy then record d { busy = false; flag = true } else d).output ≡ d.output
+output_stays true d = refl
+output_stays false d = refl
+
+abbrev printer_done : WorldState → WorldState
+printer_done w = with_devices w (record w.devices { printer = done w.devices.printer })
+
+-- after an instruction the printer gets done, and the punch
+pub sat_completed : (p : Profile) (trace : Bool) (plan now : Plan) (w x : WorldState) (n : ℕ) (old new told tells : Option (List ℕ)) →
+    Sat p trace plan now (Some Step) w x n old new told tells → Sat p trace plan now (Some PunchDone) w (completed x) n old new told tells
+sat_completed p trace plan now w x n old new told tells sat =
+    let mid = printer_done x in
+    let printed : Played p trace x PrinterDone (device_seen x.devices.printer.busy) mid new new tells tells =
+    device_played p trace x mid PrinterDone x.devices.printer.busy new tells refl refl (output_stays x.devices.printer.busy x.devices.printer) in
+    let punched : Played p trace mid PunchDone (device_seen mid.devices.punch.busy) (completed x) new new tells tells =
+    device_played p trace mid (completed x) PunchDone mid.devices.punch.busy new tells refl refl refl in
+    let half : Sat p trace plan now (Some PrinterDone) w mid n old new told tells =
+    sat_still p trace plan now now (Some Step) (Some PrinterDone) PrinterDone w x mid n (device_seen x.devices.printer.busy) old new new told tells tells
+    sat refl refl refl printed (device_goes x.devices.printer.busy) (device_counts x.devices.printer.busy) in
+    sat_still p trace plan now now (Some PrinterDone) (Some PunchDone) PunchDone w mid (completed x) n (device_seen mid.devices.punch.busy) old new new told tells tells
+    half refl refl refl punched (device_goes mid.devices.punch.busy) (device_counts mid.devices.punch.busy)
+
+not_ran : (enabled : Bool) → seen.Ran ≡ device_seen enabled → ⊥
+not_ran true is = cc
+not_ran false is = cc
+
+-- an instruction was carried out by a step alone
+pub ran_is_step : (p : Profile) (w : WorldState) (e : Event) → seen.Ran ≡ seen_of p w e → e ≡ Step
+ran_is_step p w Step is = refl
+ran_is_step p w (Key byte) is = absurd (not_ran true is)
+ran_is_step p w PrinterDone is = absurd (not_ran w.devices.printer.busy is)
+ran_is_step p w (ReaderDone byte) is = absurd (not_ran w.devices.reader.fetching is)
+ran_is_step p w PunchDone is = absurd (not_ran w.devices.punch.busy is)
+ran_is_step p w (Switches word) is = absurd (not_ran true is)
+ran_is_step p w Continue is = absurd (not_ran (is_some w.halted_at) is)
+
+-- where a write failed, or memory was refused, what holds of a fault holds
+pub of_failure : {T X : Type 0} (r : Result T Fault) → fails_to_write r ≡ true → OnErr r X → X
+of_failure (Ok v) failed x = absurd (true≢false (sym failed))
+of_failure (Err fault) failed x = x
+
+pub of_refusal : {T X : Type 0} (r : Result T Fault) → r ≡ Err NoMemory → OnErr r X → X
+of_refusal r refused x = rw refused at x
+
+-- bytes for which memory was refused have come in part
+pub bytes_came : {T : Type 0} (most : ℕ) (bytes : Input) (r : Result T Fault) → IfErr r (IsBytesFault most bytes) → r ≡ Err NoMemory → HasCome bytes
+bytes_came most bytes r is refused = rw refused at is
+
+-- bytes that came whole
+pub came_whole : (most : ℕ) (had left : Option (List ℕ)) (bytes : List ℕ) → Consumes had left bytes → AreFirst most had bytes → Gave had left (λ given. AreFirst most had given)
+came_whole most None left bytes taken first = tt
+came_whole most (Some all) left bytes taken first = (bytes, taken, first)

@@ -1,0 +1,42 @@
+use Rattle.std.proofs.Common.{rules, ◌≡◌}
+use Rattle.std.specs.Io.KnownBytes.{Appends}
+use Rattle.streams.specs.Bytes.{AppendsFront}
+use Rattle.peripherals.specs.World.{view, profile_of}
+use Rattle.machine_commands.specs.Course.{ends_at_halt, events_in}
+use Rattle.machine_commands.specs.Running.{fresh}
+use Rattle.machine_commands.specs.Summary.{summary}
+use Rattle.machine_commands.proofs.RunLemmas.{run_front, run_whole, trace_front, trace_refused, trace_whole}
+use Rattle.machine_commands.proofs.FollowLemmas.{of_fault}
+use Rattle.machine_commands.proofs.running.run_course.Goals as goal
+
+pub returns-in_err-outcome-clause-front : goal.returns-in_err-outcome-clause-front
+returns-in_err-outcome-clause-front g c = λ marked.
+    let profile : profile_of c.load-world.result ≡ c.args.options.profile = c.load-world.ensures.profile in
+    let begins : view c.load-world.result ≡ fresh c.args.image.now c.args.options.start = search rules in
+    trace_front c.args.options (ends_at_halt c.args.course.now) (events_in c.args.course.now) c.args.image.now _ (view c.load-world.result) _ _ profile begins (c.follow.ensures.asked marked) (c.follow.ensures.front marked)
+
+pub returns-in_err-put-clause-front : goal.returns-in_err-put-clause-front
+returns-in_err-put-clause-front g c = λ marked.
+    let profile : profile_of c.load-world.result ≡ c.args.options.profile = c.load-world.ensures.profile in
+    let begins : view c.load-world.result ≡ fresh c.args.image.now c.args.options.start = search rules in
+    let front : AppendsFront (g.W.ByteSink.taken c.follow.new.out) (g.W.ByteSink.taken c.put.new.sink) (summary c.in_ok-outcome.outcome.end (view c.follow.new.world) c.in_ok-outcome.outcome.steps) = search rules in
+    run_front c.args.options (ends_at_halt c.args.course.now) (events_in c.args.course.now) c.args.image.now _ (view c.load-world.result) (view c.follow.new.world) c.in_ok-outcome.outcome _ _ _ profile begins c.in_ok-outcome.ensures.ran front
+
+pub returns-clause-run : goal.returns-clause-run
+returns-clause-run g c =
+    let profile : profile_of c.load-world.result ≡ c.args.options.profile = c.load-world.ensures.profile in
+    let begins : view c.load-world.result ≡ fresh c.args.image.now c.args.options.start = search rules in
+    let written : Appends (g.W.ByteSink.taken c.follow.new.out) (g.W.ByteSink.taken c.put.new.sink) (summary c.in_ok-outcome.outcome.end (view c.follow.new.world) c.in_ok-outcome.outcome.steps) = search rules in
+    run_whole c.args.options (ends_at_halt c.args.course.now) (events_in c.args.course.now) c.args.image.now _ (view c.load-world.result) (view c.follow.new.world) c.in_ok-outcome.outcome c.status_of.result _ _ _ profile begins c.in_ok-outcome.ensures.ran written c.status_of.ensures
+
+pub returns-in_err-outcome-clause-traced : goal.returns-in_err-outcome-clause-traced
+returns-in_err-outcome-clause-traced g c = of_fault c.from_residual.result (λ unmarked asked.
+    let profile : profile_of c.load-world.result ≡ c.args.options.profile = c.load-world.ensures.profile in
+    let begins : view c.load-world.result ≡ fresh c.args.image.now c.args.options.start = search rules in
+    trace_refused c.args.options (ends_at_halt c.args.course.now) (events_in c.args.course.now) c.args.image.now _ (view c.load-world.result) (view c.follow.new.world) _ _ profile begins asked (c.in_err-outcome.ensures.refused unmarked))
+
+pub returns-in_err-text-clause-traced : goal.returns-in_err-text-clause-traced
+returns-in_err-text-clause-traced g c = of_fault c.from_residual-in_err-text.result (λ unmarked asked.
+    let profile : profile_of c.load-world.result ≡ c.args.options.profile = c.load-world.ensures.profile in
+    let begins : view c.load-world.result ≡ fresh c.args.image.now c.args.options.start = search rules in
+    trace_whole c.args.options (ends_at_halt c.args.course.now) (events_in c.args.course.now) c.args.image.now _ (view c.load-world.result) (view c.follow.new.world) c.in_ok-outcome.outcome _ _ profile begins asked c.in_ok-outcome.ensures.ran)

@@ -1,0 +1,95 @@
+-- The run of a tape, and what it writes.
+use Rattle.std.specs.Prelude.{ℕ, ◌≡◌, Bool, true, false, None, ◌⊎◌, ◌++◌, List, Option}
+use Rattle.peripherals.specs.declared.Event.{Event}
+use Rattle.peripherals.specs.Devices.{WorldState, idle}
+use Rattle.peripherals.specs.Loading.{image_of, laid}
+use Rattle.machine_commands.specs.declared.follow.End.{End}
+use Rattle.machine_commands.specs.declared.follow.End.TheVariants.{Unsupported}
+use Rattle.options.specs.declared.RunOptions.{RunOptions}
+use Rattle.command_parts.specs.declared.status.Status.{Status}
+use Rattle.command_parts.specs.declared.status.Status.TheVariants.{Done, Refused}
+use Rattle.command_parts.specs.Inputs.{HasImage, HasEvents}
+use Rattle.machine_commands.specs.Follows.{Follows, IsTraceOfSome, IsTraceUpToOutput, rounds}
+use Rattle.machine_commands.specs.Summary.{summary}
+use Rattle.machine_commands.specs.Trace.{traced}
+
+-- A machine whose registers and other cells are 0, loaded with an image, which stands at an address.
+abbrev pub fresh : List (Option ℕ) → ℕ → WorldState
+fresh image pc = record {
+  state = record { ac = 0; link = 0; mq = 0; pc = pc; memory = laid (image_of image) (λ _. 0) };
+  devices = idle;
+  halted_at = None;
+}
+
+-- A run that is stuck at an unsupported word is refused.
+abbrev pub status_of : End → Status
+status_of (Unsupported at) = Refused
+status_of _ = Done
+
+-- From an image these events lead to an end: the text is the trace, if one is asked for, and the summary. Without a trace
+-- it is the summary.
+pub record IsRunOf (options : RunOptions) (ends_at_halt : Bool) (events : List Event) (image : List (Option ℕ)) (text : List ℕ) (status : Status) : Type 0 where
+  pub lines : List ℕ
+  pub steps : ℕ
+  pub end : End
+  pub final : WorldState
+  pub follows : Follows options.profile ends_at_halt events (fresh image options.start) lines steps end final
+  pub text_is : text ≡ traced options.trace lines ++ summary end final steps
+  pub status_is : status ≡ status_of end
+
+-- A trace is asked for, and the text is that of the run of some first events.
+pub record IsTraceOf (options : RunOptions) (ends_at_halt : Bool) (events : List Event) (image : List (Option ℕ)) (text : List ℕ) : Type 0 where
+  pub asked : options.trace ≡ true
+  pub is : IsTraceOfSome options.profile ends_at_halt events (fresh image options.start) text
+
+-- A trace is asked for, and the text is that of the run of all these events, or of those before one that prints or punches.
+pub record IsTraceToOutput (options : RunOptions) (ends_at_halt : Bool) (events : List Event) (image : List (Option ℕ)) (text : List ℕ) : Type 0 where
+  pub asked : options.trace ≡ true
+  pub is : IsTraceUpToOutput options.profile ends_at_halt events (fresh image options.start) text
+
+-- What a run may be about to write: its whole text, or the trace of some first events.
+abbrev pub IsPartOf : RunOptions → Bool → List Event → List (Option ℕ) → List ℕ → Type 0
+IsPartOf options ends_at_halt events image text =
+    ((status : Status) × IsRunOf options ends_at_halt events image text status)
+    ⊎ IsTraceOf options ends_at_halt events image text
+
+-- The frames are a tape, and the text is that of the run of its image by so many rounds, which ends at a halt.
+pub record IsRoundRun (options : RunOptions) (frames : Option (List ℕ)) (text : List ℕ) (status : Status) : Type 0 where
+  pub image : List (Option ℕ)
+  pub tape : HasImage frames image
+  pub run : IsRunOf options true (rounds options.rounds) image text status
+
+pub record IsPartOfRoundRun (options : RunOptions) (frames : Option (List ℕ)) (text : List ℕ) : Type 0 where
+  pub image : List (Option ℕ)
+  pub tape : HasImage frames image
+  pub part : IsPartOf options true (rounds options.rounds) image text
+
+-- The same by the events that a list spells; such a run goes on after a halt.
+pub record IsEventRun (options : RunOptions) (frames list : Option (List ℕ)) (text : List ℕ) (status : Status) : Type 0 where
+  pub image : List (Option ℕ)
+  pub tape : HasImage frames image
+  pub events : List Event
+  pub spelled : HasEvents list events
+  pub run : IsRunOf options false events image text status
+
+pub record IsPartOfEventRun (options : RunOptions) (frames list : Option (List ℕ)) (text : List ℕ) : Type 0 where
+  pub image : List (Option ℕ)
+  pub tape : HasImage frames image
+  pub events : List Event
+  pub spelled : HasEvents list events
+  pub part : IsPartOf options false events image text
+
+-- The frames are a tape, a trace is asked for, and the text is that of the run of its image by so many rounds, or by their
+-- events before one that prints or punches.
+pub record IsTraceOfRounds (options : RunOptions) (frames : Option (List ℕ)) (text : List ℕ) : Type 0 where
+  pub image : List (Option ℕ)
+  pub tape : HasImage frames image
+  pub is : IsTraceToOutput options true (rounds options.rounds) image text
+
+-- The same by the events that a list spells.
+pub record IsTraceOfEvents (options : RunOptions) (frames list : Option (List ℕ)) (text : List ℕ) : Type 0 where
+  pub image : List (Option ℕ)
+  pub tape : HasImage frames image
+  pub events : List Event
+  pub spelled : HasEvents list events
+  pub is : IsTraceToOutput options false events image text

@@ -1,0 +1,209 @@
+-- A run with an operator: which events come, and what is written, printed and punched.
+use Rattle.std.specs.Prelude.{ℕ, ◌≡◌, ◌+◌, ◌≤◌, ◌%◌, Bool, true, false, ◌||◌, ◌⊎◌, Option, Some, None, List, [], ◌∷◌, ◌++◌, map, take, length}
+use Rattle.std.specs.Io.KnownBytes.{Appends}
+use Rattle.streams.specs.Bytes.{AppendsFront}
+use Rattle.instruct.specs.declared.Profile.{Profile}
+use Rattle.peripherals.specs.declared.Event.{Event}
+use Rattle.peripherals.specs.Devices.{WorldState}
+use Rattle.peripherals.specs.Events.{Happens}
+use Rattle.peripherals.specs.Operator.{Plan, due, left_after, struck_as}
+use Rattle.peripherals.specs.Seen.{puts_out, seen_of}
+use Rattle.machine_commands.specs.declared.follow.End.{End}
+use Rattle.machine_commands.specs.declared.follow.Outcome.{Outcome}
+use Rattle.options.specs.declared.RunOptions.{RunOptions}
+use Rattle.options.specs.declared.SessionOptions.{SessionOptions}
+use Rattle.command_parts.specs.declared.status.Status.{Status}
+use Rattle.machine_commands.specs.Course.{Ran}
+use Rattle.machine_commands.specs.Follows.{Follows, goes_on}
+use Rattle.command_parts.specs.Inputs.{AreFirst, HasImage}
+use Rattle.machine_commands.specs.Running.{fresh, status_of}
+use Rattle.machine_commands.specs.Summary.{summary}
+use Rattle.machine_commands.specs.Trace.{traced}
+
+-- How much of a run is told: all that comes; what comes up to an event that prints or punches; or what comes up to any event.
+pub data Extent : Type 0 where
+  Whole : Extent
+  UpToOutput : Extent
+  UpToAny : Extent
+
+-- The event that is due in a world prints or punches.
+pub record OutputIsDue (plan : Plan) (w : WorldState) (last : Option Event) : Type 0 where
+  pub event : Event
+  pub is_due : due plan w last ≡ Some event
+  pub puts : puts_out w event ≡ true
+
+-- No more is told from here on.
+abbrev pub MayEnd : Extent → Plan → WorldState → Option Event → Type 0
+MayEnd Whole plan w last = ⊥
+MayEnd UpToOutput plan w last = OutputIsDue plan w last
+MayEnd UpToAny plan w last = Unit {0}
+
+-- From a world, after the last event if there was one, these events come: each is due where it comes. They are all that
+-- come in the run, or, where the run isn't told whole, the first of them.
+pub data Comes (profile : Profile) (extent : Extent) : Plan → Option Event → WorldState → List Event → Type 0 where
+  -- nothing is due any more
+  Over : (plan : Plan) (last : Option Event) (w : WorldState) → due plan w last ≡ None → Comes profile extent plan last w []
+  -- what comes further isn't told
+  Cut : (plan : Plan) (last : Option Event) (w : WorldState) → MayEnd extent plan w last → Comes profile extent plan last w []
+  -- the run ends with the event that is due: it is stuck, or the machine halts
+  Final : (plan : Plan) (last : Option Event) (w : WorldState) (e : Event) →
+      due plan w last ≡ Some e → goes_on true (seen_of profile w e) ≡ false → Comes profile extent plan last w (e ∷ [])
+  -- the event that is due happens, and the others come after it
+  Then : (plan : Plan) (last : Option Event) (w m : WorldState) (e : Event) (es : List Event) →
+      due plan w last ≡ Some e → goes_on true (seen_of profile w e) ≡ true → Happens profile w e m →
+      Comes profile extent (left_after e plan) (Some e) m es → Comes profile extent plan last w (e ∷ es)
+
+-- The character of a byte on the teletype: channel 8 is dropped.
+abbrev pub character : ℕ → ℕ
+character byte = byte % 128
+
+-- What was printed in a world, as characters.
+abbrev pub printed_in : WorldState → List ℕ
+printed_in w = map character w.devices.printer.output
+
+-- An operator's run came to its end in x: the trace, if one was asked for, and the characters that were printed were
+-- appended.
+pub record Operated (profile : Profile) (trace : Bool) (plan : Plan) (w : WorldState) (outcome : Outcome) (x : WorldState) (old new told tells : Option (List ℕ)) : Type 0 where
+  pub events : List Event
+  pub come : Comes profile Whole plan None w events
+  pub ran : Ran profile true trace events w outcome x old new
+  pub printed : Appends told tells (printed_in x)
+
+-- A front of a piece was appended to what a sink tells: all of it, a part or nothing.
+pub record AppendsSome (old new : Option (List ℕ)) (piece : List ℕ) : Type 0 where
+  pub count : ℕ
+  pub within : count ≤ length piece
+  pub out : Appends old new (take count piece)
+
+-- A run may break off at any event where a write failed, and else, where memory was refused, only before an event that
+-- prints or punches.
+abbrev pub extent_after : Bool → Extent
+extent_after true = UpToAny
+extent_after false = UpToOutput
+
+-- It broke off in x after some first events: fronts of the trace and of the characters went out. All of the trace did
+-- unless the report failed, and all the characters unless the report or the teletype did; at most the last one is missing.
+pub record BrokeOff (profile : Profile) (trace : Bool) (plan : Plan) (w x : WorldState) (reported typed : Bool) (old new told tells : Option (List ℕ)) : Type 0 where
+  pub events : List Event
+  pub come : Comes profile (extent_after (reported || typed)) plan None w events
+  pub lines : List ℕ
+  pub steps : ℕ
+  pub end : End
+  pub follows : Follows profile true events w lines steps end x
+  pub wrote : AppendsSome old new (traced trace lines)
+  pub printed : AppendsSome told tells (printed_in x)
+  pub wrote_whole : reported ≡ false → Appends old new (traced trace lines)
+  pub printed_whole : (reported || typed) ≡ false → Appends told tells (printed_in x)
+  pub wrote_front : reported ≡ true → AppendsFront old new (traced trace lines)
+  pub printed_front : typed ≡ true → AppendsFront told tells (printed_in x)
+  pub printed_nearly : length (printed_in x) ≤ printed.count + 1
+
+-- The summary stands after a whole run.
+abbrev pub summary_where : Extent → End → WorldState → ℕ → List ℕ
+summary_where Whole end w steps = summary end w steps
+summary_where UpToOutput end w steps = []
+summary_where UpToAny end w steps = []
+
+-- From an image the events of this plan lead to an end. The text is the trace, if one is asked for, and the summary; and
+-- these are the characters printed and the bytes punched. Where the run isn't whole, this is what its first events leave.
+pub record IsSessionOf (options : RunOptions) (extent : Extent) (plan : Plan) (image : List (Option ℕ)) (text printed punched : List ℕ) (status : Status) : Type 0 where
+  pub events : List Event
+  pub come : Comes options.profile extent plan None (fresh image options.start) events
+  pub lines : List ℕ
+  pub steps : ℕ
+  pub end : End
+  pub final : WorldState
+  pub follows : Follows options.profile true events (fresh image options.start) lines steps end final
+  pub text_is : text ≡ traced options.trace lines ++ summary_where extent end final steps
+  pub printed_is : printed ≡ printed_in final
+  pub punched_is : punched ≡ final.devices.punch.output
+  pub status_is : status ≡ status_of end
+
+-- The plan for these frames and keys.
+abbrev pub plan_for : SessionOptions → List ℕ → List ℕ → Plan
+plan_for options frames keys = record {
+  switches = options.switches;
+  rounds = options.run.rounds;
+  frames = frames;
+  keys = map (struck_as options.mark) keys;
+}
+
+-- The tape is good, and these are what a run of it brings, with the frames of a reader and the bytes of keys, as many of each
+-- as there are rounds: no more can come.
+pub record IsSession (options : SessionOptions) (extent : Extent) (tape reader keys : Option (List ℕ)) (status : Status) (text printed punched : List ℕ) : Type 0 where
+  pub image : List (Option ℕ)
+  pub has_image : HasImage tape image
+  pub frames : List ℕ
+  pub frames_are : AreFirst options.run.rounds reader frames
+  pub bytes : List ℕ
+  pub bytes_are : AreFirst options.run.rounds keys bytes
+  pub session : IsSessionOf options.run extent (plan_for options frames bytes) image text printed punched status
+
+-- What a run with an operator that has a fault may be about to write, to print and to punch. The summary, which a whole run
+-- alone has, is written last: after it only that write itself can fail, so it's about to be written only where the report
+-- failed. Where neither the report nor the teletype failed, the run came to its end or to an event that prints or punches.
+pub record IsPartOfSession (options : SessionOptions) (reported typed : Bool) (tape reader keys : Option (List ℕ)) (extent : Extent) (text printed punched : List ℕ) : Type 0 where
+  pub summed : extent ≡ Whole → reported ≡ true
+  pub to_output : (reported || typed) ≡ false → extent ≡ UpToOutput
+  pub status : Status
+  pub is : IsSession options extent tape reader keys status text printed punched
+
+-- What three sinks tell: where the trace and the summary, the characters and the punched bytes go.
+pub record Taken : Type 0 where
+  pub report : Option (List ℕ)
+  pub teletype : Option (List ℕ)
+  pub punch : Option (List ℕ)
+
+abbrev pub taken : Option (List ℕ) → Option (List ℕ) → Option (List ℕ) → Taken
+taken report teletype punch = record { report = report; teletype = teletype; punch = punch }
+
+-- Three texts of which P is true were appended.
+pub record WritesAll (P : List ℕ → List ℕ → List ℕ → Type 0) (old new : Taken) : Type 0 where
+  pub text : List ℕ
+  pub printed : List ℕ
+  pub punched : List ℕ
+  pub is : P text printed punched
+  pub to_report : Appends old.report new.report text
+  pub to_teletype : Appends old.teletype new.teletype printed
+  pub to_punch : Appends old.punch new.punch punched
+
+-- Which of the three failed.
+pub record Failures : Type 0 where
+  pub report : Bool
+  pub teletype : Bool
+  pub punch : Bool
+
+abbrev pub failures : Bool → Bool → Bool → Failures
+failures report teletype punch = record { report = report; teletype = teletype; punch = punch }
+
+-- A front of each of three such texts, which are told to some extent, was appended: all of the report and of what was punched
+-- unless the write of it failed, and all that was printed unless the teletype failed or the report did, which comes before it.
+-- Where a write failed its front isn't all. Whatever failed, at most the last character wasn't typed; and before the summary,
+-- which is written last, all was typed and punched.
+pub record FrontsOf (P : Extent → List ℕ → List ℕ → List ℕ → Type 0) (failed : Failures) (old new : Taken) : Type 0 where
+  pub extent : Extent
+  pub text : List ℕ
+  pub printed : List ℕ
+  pub punched : List ℕ
+  pub is : P extent text printed punched
+  pub to_report : AppendsSome old.report new.report text
+  pub to_teletype : AppendsSome old.teletype new.teletype printed
+  pub to_punch : AppendsSome old.punch new.punch punched
+  pub report_whole : failed.report ≡ false → Appends old.report new.report text
+  pub teletype_whole : (failed.report || failed.teletype) ≡ false → Appends old.teletype new.teletype printed
+  pub punch_whole : failed.punch ≡ false → Appends old.punch new.punch punched
+  pub report_front : failed.report ≡ true → AppendsFront old.report new.report text
+  pub teletype_front : failed.teletype ≡ true → AppendsFront old.teletype new.teletype printed
+  pub punch_front : failed.punch ≡ true → AppendsFront old.punch new.punch punched
+  pub typed_nearly : length printed ≤ to_teletype.count + 1
+  pub typed_before_summary : extent ≡ Whole → Appends old.teletype new.teletype printed
+  pub punched_before_summary : extent ≡ Whole → Appends old.punch new.punch punched
+
+-- Fronts went out of what a run with an operator may be about to write, where these of its sinks failed.
+abbrev pub SessionFronts : SessionOptions → Failures → Option (List ℕ) → Option (List ℕ) → Option (List ℕ) → Taken → Taken → Type 0
+SessionFronts options failed tape reader keys old new =
+    FrontsOf (IsPartOfSession options failed.report failed.teletype tape reader keys) failed old new
+
+-- Nothing was written at all, or such fronts were.
+abbrev pub NothingOrFronts : SessionOptions → Failures → Option (List ℕ) → Option (List ℕ) → Option (List ℕ) → Taken → Taken → Type 0
+NothingOrFronts options failed tape reader keys old new = (new ≡ old) ⊎ SessionFronts options failed tape reader keys old new

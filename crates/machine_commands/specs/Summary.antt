@@ -1,0 +1,41 @@
+-- The summary of a run.
+use Rattle.std.specs.Prelude.{ℕ, ◌+◌, ◌/◌, ◌%◌, List, [], ◌∷◌, ◌++◌, codes, decimal}
+use Rattle.word12.specs.Words.{octal_text}
+use Rattle.command_parts.specs.LinkText.{link_text}
+use Rattle.processor.specs.Machine.{State}
+use Rattle.peripherals.specs.Devices.{WorldState}
+use Rattle.machine_commands.specs.declared.follow.End.{End}
+use Rattle.machine_commands.specs.declared.follow.End.TheVariants.{Halted, Unsupported, Bound}
+
+-- How a run ended and where: stuck at an unsupported word, halted by the HLT at this address, or at its bound.
+abbrev pub end_text : End → List ℕ
+end_text (Unsupported at) = codes "UNSUPPORTED " ++ octal_text at
+end_text (Halted at) = codes "HALT " ++ octal_text at
+end_text (Bound at) = codes "BOUND " ++ octal_text at
+
+abbrev pub registers_text : State → List ℕ
+registers_text s =
+    codes " AC=" ++ octal_text s.ac ++ (codes " L=" ++ link_text s.link) ++ codes " PC=" ++ octal_text s.pc
+
+-- The first line: the end, the registers, and how many instructions were carried out.
+abbrev pub state_line : End → WorldState → ℕ → List ℕ
+state_line end w steps =
+    end_text end ++ registers_text w.state ++ (codes " STEPS=" ++ decimal steps ++ codes "\n")
+
+-- A byte after a space, as three octal digits.
+abbrev pub byte_text : ℕ → List ℕ
+byte_text b = 32 ∷ (48 + b / 64) ∷ (48 + b / 8 % 8) ∷ (48 + b % 8) ∷ []
+
+abbrev pub bytes_text : List ℕ → List ℕ
+bytes_text [] = []
+bytes_text (b ∷ bs) = byte_text b ++ bytes_text bs
+
+-- What a device put out, under its name; nothing where it put out nothing.
+abbrev pub output_line : List ℕ → List ℕ → List ℕ
+output_line name [] = []
+output_line name (b ∷ bs) = name ++ bytes_text (b ∷ bs) ++ codes "\n"
+
+abbrev pub summary : End → WorldState → ℕ → List ℕ
+summary end w steps =
+    state_line end w steps ++ output_line (codes "PRINTED") w.devices.printer.output ++
+    output_line (codes "PUNCHED") w.devices.punch.output

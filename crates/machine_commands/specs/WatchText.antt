@@ -1,0 +1,50 @@
+-- What `watch` writes.
+use Rattle.std.specs.Prelude.{ℕ, ◌≡◌, ◌++◌, codes, decimal, List, Option}
+use Rattle.peripherals.specs.declared.Event.{Event}
+use Rattle.peripherals.specs.Loading.{image_of}
+use Rattle.declaration.specs.Declaration.{Declaration}
+use Rattle.policy.specs.declared.rules.Rule.{Rule}
+use Rattle.policy.specs.declared.watcher.Watched.{Watched}
+use Rattle.policy.specs.declared.watcher.Watched.TheVariants.{Clean, Broken}
+use Rattle.policy.specs.Watching.{IsClean, BreaksAt, number_of}
+use Rattle.command_parts.specs.declared.status.Status.{Status}
+use Rattle.command_parts.specs.declared.status.Status.TheVariants.{Done, Refused}
+use Rattle.command_parts.specs.Inputs.{HasImage, HasEvents, HasDeclaration}
+use Rattle.machine_commands.specs.Running.{fresh}
+
+-- The line for event n, which breaks rule r.
+abbrev pub broken_text : ℕ → Rule → List ℕ
+broken_text n r = codes "broken: event " ++ decimal n ++ codes " rule " ++ decimal (number_of r) ++ codes "\n"
+
+-- The line that says what was seen.
+abbrev pub watched_text : Watched → List ℕ
+watched_text Clean = codes "clean\n"
+watched_text (Broken n r) = broken_text n r
+
+-- A run that breaks a rule is refused.
+abbrev pub watched_status : Watched → Status
+watched_status Clean = Done
+watched_status (Broken n r) = Refused
+
+-- What is seen of the declared run of these events, which begins with all registers and all cells that aren't on the
+-- tape 0: each step is legal, or this is the first that isn't, with the least rule that it breaks.
+abbrev pub IsSeen : List (Option ℕ) → Declaration → List Event → Watched → Type 0
+IsSeen image d events Clean = IsClean (image_of image) d events (fresh image d.start)
+IsSeen image d events (Broken n r) = BreaksAt (image_of image) d events (fresh image d.start) n r
+
+-- The frames are a tape, the texts a declaration and a list of events; the text is the line of what is seen of them.
+pub record IsWatchedSo (frames text list : Option (List ℕ)) (line : List ℕ) (status : Status) : Type 0 where
+  pub image : List (Option ℕ)
+  pub tape : HasImage frames image
+  pub declaration : Declaration
+  pub declares : HasDeclaration text declaration
+  pub events : List Event
+  pub spells : HasEvents list events
+  pub watched : Watched
+  pub sees : IsSeen image declaration events watched
+  pub line_is : line ≡ watched_text watched
+  pub status_is : status ≡ watched_status watched
+
+-- The same with whichever status.
+abbrev pub IsWatched : Option (List ℕ) → Option (List ℕ) → Option (List ℕ) → List ℕ → Type 0
+IsWatched frames text list line = (status : Status) × IsWatchedSo frames text list line status

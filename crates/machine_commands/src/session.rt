@@ -1,0 +1,322 @@
+//! A run with an operator: frames in the reader, keys to strike, the teletype and the punch.
+
+ghost use Rattle.std.specs.Prelude.{◌≡◌, ◌<◌, ◌||◌, ◌⊎◌, ◌%◌, [], ◌∷◌, false, true, None, Err, drop, get_or, is_err, map, IfOk, IfErr, OnOk, OnErr};
+ghost use Rattle.std.specs.Io.KnownBytes.{Appends};
+ghost use Rattle.streams.specs.Bytes.{AppendsFront, Gave};
+ghost use Rattle.peripherals.specs.Operator.{plan_of};
+ghost use Rattle.peripherals.specs.World.{view, profile_of};
+ghost use Rattle.command_parts.specs.declared.status.Fault.TheVariants.{NoMemory};
+ghost use Rattle.command_parts.specs.Faults.{is_fault_of_tape, fails_to_read, fails_to_write, IsRunFault, IsSessionFault};
+ghost use Rattle.command_parts.specs.Inputs.{AreFirst, HasCome, TakesAtMost, TakesTape, input};
+ghost use Rattle.machine_commands.specs.Session.{BrokeOff, FrontsOf, IsSession, IsSessionOf, NothingOrFronts, Operated, SessionFronts, Whole, WritesAll, character, failures, printed_in, taken};
+ghost use Rattle.machine_commands.specs.SessionParts.{IsPartOf, Played, PlayedFront, is_step};
+
+use crate::follow::{End, Outcome, apply_event, end_of};
+use crate::running::status_of;
+use crate::summary::summary_of;
+use bin_tape::Image;
+use command_parts::inputs::{bytes_from, tape_from};
+use command_parts::status::{Fault, Status};
+use options::RunOptions;
+pub use options::SessionOptions;
+use peripherals::{Event, Operator, Seen, Start, World};
+use std::alloc::Allocator;
+use streams::{ByteSink, ByteSource, Failed, put};
+use word12::Word;
+
+/// Where a session writes to.
+#[derive(Drop)]
+pub struct Outputs<W, T, P> {
+    /// Takes the trace and the summary.
+    pub report: W,
+    /// Takes the characters that are printed.
+    pub teletype: T,
+    /// Takes the bytes that are punched.
+    pub punch: P,
+}
+
+/// Types the byte that was printed after so many others, if there is one.
+#[inline(always)]
+fn type_from<T: ByteSink>(bytes: &[u8], from: usize, teletype: &mut T) -> Result<(), Failed>
+    requires unmarked { T.mark teletype.old ≡ false }
+    ensures whole { OnOk result (Appends (T.taken teletype.old) (T.taken teletype.new)
+        (map character (drop from bytes.now))) }
+    ensures front { OnErr result (AppendsFront (T.taken teletype.old) (T.taken teletype.new)
+        (map character (drop from bytes.now))) }
+    ensures marks { T.mark teletype.new ≡ is_err result }
+{
+    for index in from..bytes.len() {
+        put(teletype, &character_at(bytes, index))?;
+    }
+    Ok(())
+}
+
+/// Whether an event is a step of the machine.
+fn is_step(event: &Event) -> bool
+    ensures { result ≡ is_step event.now }
+{
+    matches!(event, Event::Step)
+}
+
+/// Types the byte that an event printed after so many others, if there is one. Only a step prints, so
+/// after another event nothing is looked at.
+#[inline(always)]
+fn type_printed<T: ByteSink>(
+    event: &Event,
+    bytes: &[u8],
+    from: usize,
+    teletype: &mut T,
+) -> Result<(), Failed>
+    requires unmarked { T.mark teletype.old ≡ false }
+    requires quiet { is_step event.now ≡ false → drop from bytes.now ≡ [] }
+    ensures whole { OnOk result (Appends (T.taken teletype.old) (T.taken teletype.new)
+        (map character (drop from bytes.now))) }
+    ensures front { OnErr result (AppendsFront (T.taken teletype.old) (T.taken teletype.new)
+        (map character (drop from bytes.now))) }
+    ensures marks { T.mark teletype.new ≡ is_err result }
+{
+    if !is_step(event) {
+        return Ok(());
+    }
+    type_from(bytes, from, teletype)
+}
+
+/// The character of the byte with this index.
+fn character_at(bytes: &[u8], index: usize) -> [u8; 1]
+    ensures { result ≡ (get_or bytes.now index 0 % 128) ∷ [] }
+{
+    match bytes.get(index) {
+        Some(byte) => [*byte % 128],
+        None => [0],
+    }
+}
+
+/// Applies one event, adds its line to the trace if one is asked for, and types what it printed.
+#[inline(always)]
+fn play<A: Allocator, W: ByteSink, T: ByteSink, P>(
+    world: &mut World<A>,
+    out: &mut Outputs<W, T, P>,
+    trace: bool,
+    event: Event,
+) -> Result<Seen, Fault>
+    requires writable { W.mark out.old.report ≡ false }
+    requires typable { T.mark out.old.teletype ≡ false }
+    ensures played { IfOk result (λ seen.
+        Played (profile_of world.old) trace (view world.old) event seen (view world.new)
+        (W.taken out.old.report) (W.taken out.new.report)
+        (T.taken out.old.teletype) (T.taken out.new.teletype)) }
+    ensures front { OnErr result
+        (PlayedFront (profile_of world.old) trace (view world.old) event (view world.new)
+        (W.mark out.new.report) (T.mark out.new.teletype)
+        (W.taken out.old.report) (W.taken out.new.report)
+        (T.taken out.old.teletype) (T.taken out.new.teletype)) }
+    ensures profile { profile_of world.new ≡ profile_of world.old }
+    ensures punch { out.new.punch ≡ out.old.punch }
+    ensures faults { IfErr result IsRunFault }
+    ensures marks { W.mark out.new.report || T.mark out.new.teletype ≡ fails_to_write result }
+{
+    let before = world.printed().len();
+    let seen = apply_event(world, &mut out.report, trace, event)?;
+    type_printed(&event, world.printed(), before, &mut out.teletype)?;
+    Ok(seen)
+}
+
+/// Lets happen what an operator brings. The run ends early at a halt and at an unsupported word.
+fn operate<A: Allocator, W: ByteSink, T: ByteSink, P>(
+    world: &mut World<A>,
+    operator: &mut Operator<'_>,
+    trace: bool,
+    out: &mut Outputs<W, T, P>,
+) -> Result<Outcome, Fault>
+    requires writable { W.mark out.old.report ≡ false }
+    requires typable { T.mark out.old.teletype ≡ false }
+    requires first { operator.old.last ≡ None }
+    requires few { (plan_of operator.old).rounds < 4294967296 }
+    requires unprinted { (view world.old).devices.printer.output ≡ [] }
+    ensures ran { IfOk result (λ outcome.
+        Operated (profile_of world.old) trace (plan_of operator.old) (view world.old) outcome
+        (view world.new) (W.taken out.old.report) (W.taken out.new.report)
+        (T.taken out.old.teletype) (T.taken out.new.teletype)) }
+    ensures broke { OnErr result
+        (BrokeOff (profile_of world.old) trace (plan_of operator.old) (view world.old)
+        (view world.new) (W.mark out.new.report) (T.mark out.new.teletype) (W.taken out.old.report) (W.taken out.new.report)
+        (T.taken out.old.teletype) (T.taken out.new.teletype)) }
+    ensures punch { out.new.punch ≡ out.old.punch }
+    ensures faults { IfErr result IsRunFault }
+    ensures marks { W.mark out.new.report || T.mark out.new.teletype ≡ fails_to_write result }
+{
+    let mut steps = 0;
+    while let Some(event) = operator.next(world) {
+        match play(world, out, trace, event)? {
+            Seen::Ran => {
+                steps += 1;
+                operator.complete(world);
+            }
+            Seen::Halted => {
+                return Ok(Outcome {
+                    steps: steps + 1,
+                    end: end_of(world),
+                });
+            }
+            Seen::Unsupported(_) => {
+                return Ok(Outcome {
+                    steps,
+                    end: End::Unsupported(world.cpu().pc),
+                });
+            }
+            Seen::NotEnabled => {}
+            Seen::Changed => {}
+        }
+    }
+    Ok(Outcome {
+        steps,
+        end: end_of(world),
+    })
+}
+
+/// Shows that rounds are few.
+fn are_few(rounds: u32)
+    ensures { rounds < 4294967296 }
+{}
+
+/// Runs an image with an operator, and writes what was punched in the end, also where the run broke
+/// off, and the summary.
+fn attend<A: Allocator + Copy, W: ByteSink, T: ByteSink, P: ByteSink>(
+    alloc: A,
+    image: &Image,
+    operator: &mut Operator<'_>,
+    options: RunOptions,
+    out: &mut Outputs<W, T, P>,
+) -> Result<Status, Fault>
+    requires writable { W.mark out.old.report ≡ false }
+    requires typable { T.mark out.old.teletype ≡ false }
+    requires punchable { P.mark out.old.punch ≡ false }
+    requires first { operator.old.last ≡ None }
+    requires rounds { (plan_of operator.old).rounds ≡ options.rounds }
+    ensures run { IfOk result (λ status.
+        WritesAll (λ text printed punched.
+        IsSessionOf options Whole (plan_of operator.old) image.now text printed punched status)
+        (taken (W.taken out.old.report) (T.taken out.old.teletype) (P.taken out.old.punch))
+        (taken (W.taken out.new.report) (T.taken out.new.teletype) (P.taken out.new.punch))) }
+    ensures front { OnErr result (FrontsOf
+        (IsPartOf options (W.mark out.new.report) (T.mark out.new.teletype)
+        (plan_of operator.old) image.now)
+        (failures (W.mark out.new.report) (T.mark out.new.teletype) (P.mark out.new.punch))
+        (taken (W.taken out.old.report) (T.taken out.old.teletype) (P.taken out.old.punch))
+        (taken (W.taken out.new.report) (T.taken out.new.teletype) (P.taken out.new.punch))) }
+    ensures faults { IfErr result IsRunFault }
+    ensures marks { (W.mark out.new.report || T.mark out.new.teletype) || P.mark out.new.punch
+        ≡ fails_to_write result }
+{
+    let mut world = World::load(alloc, image, options.start, &Start::zero(), options.profile);
+    are_few(options.rounds);
+    let ran = operate(&mut world, operator, options.trace, out);
+    put(&mut out.punch, world.punched())?;
+    let outcome = ran?;
+    let text = summary_of(alloc, &outcome, &world)?;
+    put(&mut out.report, &text)?;
+    Ok(status_of(outcome.end))
+}
+
+/// Runs a tape with an operator: the frames of one source are in the reader, the bytes of another
+/// are the keys, and both are read before the run, as many bytes as there are rounds. What is
+/// printed is typed as characters, what is punched is written as it is, and the trace, if it is asked for, and the summary are the report. The run ends early as that of
+/// `run`.
+///
+/// # Errors
+///
+/// The tape's fault; `Device` where a read failed, or a write, after which a front went out of what
+/// was to be reported, typed and punched; `NoMemory`.
+#[tactic(auto, using(crate::proofs::UnreadLemmas::takes_no_text))]
+pub fn run_session<
+    A: Allocator + Copy,
+    R: ByteSource,
+    F: ByteSource,
+    K: ByteSource,
+    W: ByteSink,
+    T: ByteSink,
+    P: ByteSink,
+>(
+    alloc: A,
+    tape: &mut R,
+    reader: &mut F,
+    keys: &mut K,
+    options: SessionOptions,
+    out: &mut Outputs<W, T, P>,
+) -> Result<Status, Fault>
+    requires readable { R.mark tape.old ≡ false }
+    requires reader_readable { F.mark reader.old ≡ false }
+    requires keys_readable { K.mark keys.old ≡ false }
+    requires writable { W.mark out.old.report ≡ false }
+    requires typable { T.mark out.old.teletype ≡ false }
+    requires punchable { P.mark out.old.punch ≡ false }
+    // What is written, typed and punched is that of the run of the events that come.
+    ensures run { IfOk result (λ status.
+        WritesAll (IsSession options Whole (R.remaining tape.old) (F.remaining reader.old)
+        (K.remaining keys.old) status)
+        (taken (W.taken out.old.report) (T.taken out.old.teletype) (P.taken out.old.punch))
+        (taken (W.taken out.new.report) (T.taken out.new.teletype) (P.taken out.new.punch))) }
+    ensures faults { IfErr result (IsSessionFault options.run.rounds
+        (input (R.mark tape.new) (R.remaining tape.old) (R.remaining tape.new))
+        (input (F.mark reader.new) (F.remaining reader.old) (F.remaining reader.new))
+        (input (K.mark keys.new) (K.remaining keys.old) (K.remaining keys.new))) }
+    // After a fault fronts of what the first events leave went out, and all of it where no write
+    // failed, or of the whole with its summary where the report failed; or nothing at all,
+    ensures front { OnErr result (NothingOrFronts options
+        (failures (W.mark out.new.report) (T.mark out.new.teletype) (P.mark out.new.punch))
+        (R.remaining tape.old) (F.remaining reader.old) (K.remaining keys.old)
+        (taken (W.taken out.old.report) (T.taken out.old.teletype) (P.taken out.old.punch))
+        (taken (W.taken out.new.report) (T.taken out.new.teletype) (P.taken out.new.punch))) }
+    // of which the fronts are sure where a write failed,
+    ensures front_of_failure { fails_to_write result ≡ true → SessionFronts options
+        (failures (W.mark out.new.report) (T.mark out.new.teletype) (P.mark out.new.punch))
+        (R.remaining tape.old) (F.remaining reader.old) (K.remaining keys.old)
+        (taken (W.taken out.old.report) (T.taken out.old.teletype) (P.taken out.old.punch))
+        (taken (W.taken out.new.report) (T.taken out.new.teletype) (P.taken out.new.punch)) }
+    // and where memory was refused, unless it may have been wanted for the frames or the keys;
+    ensures broke_off { result ≡ Err NoMemory →
+        HasCome (input (F.mark reader.new) (F.remaining reader.old) (F.remaining reader.new))
+        ⊎ (HasCome (input (K.mark keys.new) (K.remaining keys.old) (K.remaining keys.new))
+        ⊎ SessionFronts options
+        (failures (W.mark out.new.report) (T.mark out.new.teletype) (P.mark out.new.punch))
+        (R.remaining tape.old) (F.remaining reader.old) (K.remaining keys.old)
+        (taken (W.taken out.old.report) (T.taken out.old.teletype) (P.taken out.old.punch))
+        (taken (W.taken out.new.report) (T.taken out.new.teletype) (P.taken out.new.punch))) }
+    // and nothing is written where the tape is refused or a read failed.
+    ensures nothing { IfErr result (λ fault. is_fault_of_tape fault ≡ true → out.new ≡ out.old) }
+    ensures nothing_after_failure { fails_to_read result ≡ true → out.new ≡ out.old }
+    // A write failed exactly where the answer says so, and so did a read.
+    ensures marks { (W.mark out.new.report || T.mark out.new.teletype) || P.mark out.new.punch
+        ≡ fails_to_write result }
+    ensures reads { (R.mark tape.new || F.mark reader.new) || K.mark keys.new
+        ≡ fails_to_read result }
+    // No input is read after one that is refused, or whose read failed.
+    ensures unread { IfErr result (λ fault. is_fault_of_tape fault ≡ true →
+        (reader.new ≡ reader.old) × (keys.new ≡ keys.old)) }
+    ensures unread_after_failure { R.mark tape.new ≡ true →
+        (reader.new ≡ reader.old) × (keys.new ≡ keys.old) }
+    ensures keys_unread_after_failure { F.mark reader.new ≡ true → keys.new ≡ keys.old }
+    // No key is read before the frames have come whole.
+    ensures keys_unread { (keys.new ≡ keys.old)
+        ⊎ Gave (F.remaining reader.old) (F.remaining reader.new)
+        (λ given. AreFirst options.run.rounds (F.remaining reader.old) given) }
+    // The tape is not read past its limit, and of frames and keys no more are taken than there are
+    // rounds.
+    ensures takes_tape { TakesTape (R.remaining tape.old) (R.remaining tape.new) }
+    ensures takes_frames { TakesAtMost options.run.rounds
+        (F.remaining reader.old) (F.remaining reader.new) }
+    ensures takes_keys { TakesAtMost options.run.rounds
+        (K.remaining keys.old) (K.remaining keys.new) }
+{
+    let image = tape_from(tape)?;
+    let frames = bytes_from(alloc, reader, options.run.rounds)?;
+    let struck = bytes_from(alloc, keys, options.run.rounds)?;
+    let mut operator = Operator::new(
+        options.switches,
+        options.run.rounds,
+        &frames,
+        &struck,
+        options.mark,
+    );
+    attend(alloc, &image, &mut operator, options.run, out)
+}

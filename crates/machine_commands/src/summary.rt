@@ -1,0 +1,125 @@
+//! The summary of a run.
+
+ghost use Rattle.std.specs.Prelude.{ℕ, ◌≡◌, ◌≤◌, false, ◌++◌, codes, decimal, is_err, OnOk, IfOk};
+ghost use Rattle.processor.specs.Steps.{state_of};
+ghost use Rattle.peripherals.specs.World.{view};
+ghost use Rattle.command_parts.specs.LinkText.{link_text};
+ghost use Rattle.machine_commands.specs.Summary.{end_text, registers_text, state_line, byte_text, bytes_text, output_line, summary};
+
+use crate::follow::{End, Outcome};
+use command_parts::text::{push_place, push_word};
+use itoa::Buffer;
+use peripherals::World;
+use processor::Cpu;
+use std::alloc::{AllocError, Allocator};
+use word12::Link;
+
+/// Adds how a run ended, and where.
+fn push_end<A: Allocator>(text: &mut Vec<u8, A>, end: End) -> Result<(), AllocError>
+    ensures { OnOk result (text.new.items ≡ text.old.items ++ end_text end) }
+{
+    match end {
+        End::Unsupported(at) => push_place(text, b"UNSUPPORTED ", at),
+        End::Halted(at) => push_place(text, b"HALT ", at),
+        End::Bound(at) => push_place(text, b"BOUND ", at),
+    }
+}
+
+/// Adds the link after its name.
+fn push_link<A: Allocator>(text: &mut Vec<u8, A>, link: Link) -> Result<(), AllocError>
+    ensures { OnOk result (text.new.items ≡ text.old.items ++ (codes " L=" ++ link_text link)) }
+{
+    text.extend_from_slice(if link.is_set() { b" L=1" } else { b" L=0" })
+}
+
+/// Adds the accumulator, the link and the program counter.
+fn push_registers<A: Allocator>(text: &mut Vec<u8, A>, cpu: &Cpu) -> Result<(), AllocError>
+    ensures { OnOk result (text.new.items ≡ text.old.items ++ registers_text (state_of cpu.now)) }
+{
+    text.extend_from_slice(b" AC=")?;
+    push_word(text, cpu.ac)?;
+    push_link(text, cpu.link)?;
+    text.extend_from_slice(b" PC=")?;
+    push_word(text, cpu.pc)
+}
+
+/// Adds how many instructions were carried out.
+fn push_steps<A: Allocator>(text: &mut Vec<u8, A>, steps: u64) -> Result<(), AllocError>
+    ensures { OnOk result
+        (text.new.items ≡ text.old.items ++ (codes " STEPS=" ++ decimal steps ++ codes "\n")) }
+{
+    let mut digits = Buffer::new();
+    text.extend_from_slice(b" STEPS=")?;
+    text.extend_from_slice(digits.format(steps).as_bytes())?;
+    text.extend_from_slice(b"\n")
+}
+
+/// Adds the first line of a summary.
+fn push_state<A: Allocator, B: Allocator>(
+    text: &mut Vec<u8, A>,
+    outcome: &Outcome,
+    world: &World<B>,
+) -> Result<(), AllocError>
+    ensures { OnOk result
+        (text.new.items ≡ text.old.items
+        ++ state_line outcome.now.end (view world.now) outcome.now.steps) }
+{
+    push_end(text, outcome.end)?;
+    push_registers(text, world.cpu())?;
+    push_steps(text, outcome.steps)
+}
+
+/// The three octal digits of a byte, after a space.
+fn spaced_octal(byte: u8) -> [u8; 4]
+    ensures { result ≡ byte_text byte }
+{
+    [
+        b' ',
+        b'0' + (byte >> 6),
+        b'0' + (byte >> 3 & 7),
+        b'0' + (byte & 7),
+    ]
+}
+
+/// Adds the bytes that a device put out.
+#[tactic(auto, using(crate::proofs::SummaryLemmas::next_byte))]
+fn push_bytes<A: Allocator>(text: &mut Vec<u8, A>, bytes: &[u8]) -> Result<(), AllocError>
+    ensures { OnOk result (text.new.items ≡ text.old.items ++ bytes_text bytes.now) }
+{
+    for byte in bytes {
+        text.extend_from_slice(&spaced_octal(*byte))?;
+    }
+    Ok(())
+}
+
+/// Adds the line of a device that put out anything.
+fn push_output<A: Allocator>(
+    text: &mut Vec<u8, A>,
+    name: &[u8],
+    bytes: &[u8],
+) -> Result<(), AllocError>
+    ensures { OnOk result (text.new.items ≡ text.old.items ++ output_line name.now bytes.now) }
+{
+    if bytes.is_empty() {
+        return Ok(());
+    }
+    text.extend_from_slice(name)?;
+    push_bytes(text, bytes)?;
+    text.extend_from_slice(b"\n")
+}
+
+/// The summary of a run.
+pub fn summary_of<A: Allocator, B: Allocator>(
+    alloc: A,
+    outcome: &Outcome,
+    world: &World<B>,
+) -> Result<Vec<u8, A>, AllocError>
+    ensures { IfOk result (λ text.
+        text.items ≡ summary outcome.now.end (view world.now) outcome.now.steps) }
+{
+    let mut text = Vec::new(alloc);
+    push_state(&mut text, outcome, world)?;
+    push_output(&mut text, b"PRINTED", world.printed())?;
+    push_output(&mut text, b"PUNCHED", world.punched())?;
+    Ok(text)
+}

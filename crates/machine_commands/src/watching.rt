@@ -1,0 +1,126 @@
+//! The command that watches a run.
+
+ghost use Rattle.std.specs.Prelude.{◌≡◌, ◌||◌, ◌⊎◌, false, true, Err, IfOk, IfErr, OnErr};
+ghost use Rattle.command_parts.specs.Faults.{IsWatchFault, is_fault_of_declaration, is_fault_of_tape, fails_to_read, fails_to_write};
+ghost use Rattle.command_parts.specs.Inputs.{HasCome, IsGoodDeclaration, IsGoodEvents, IsGoodTape, TakesAtMost, TakesTape, input};
+ghost use Rattle.machine_commands.specs.WatchText.{IsWatched, IsWatchedSo, broken_text, watched_status, watched_text};
+ghost use Rattle.command_parts.specs.Writes.{FrontOf, Writes};
+ghost use Rattle.command_parts.specs.declared.status.Fault.TheVariants.{NoMemory};
+
+use command_parts::inputs::{declaration_from, events_from, tape_from};
+use command_parts::status::{Fault, Status};
+use itoa::Buffer;
+use peripherals::Start;
+use policy::{Rule, Watched};
+use std::alloc::{AllocError, Allocator};
+use streams::{ByteSink, ByteSource, put};
+
+/// The line for a broken rule.
+fn broken_line<A: Allocator>(alloc: A, event: usize, rule: Rule) -> Result<Vec<u8, A>, AllocError>
+    ensures { IfOk result (λ text. text.items ≡ broken_text event rule) }
+{
+    let mut text = Vec::new(alloc);
+    text.extend_from_slice(b"broken: event ")?;
+    text.extend_from_slice(Buffer::new().format(event).as_bytes())?;
+    text.extend_from_slice(b" rule ")?;
+    text.extend_from_slice(Buffer::new().format(rule.number()).as_bytes())?;
+    text.extend_from_slice(b"\n")?;
+    Ok(text)
+}
+
+/// The line that says what was seen.
+fn watched_line<A: Allocator>(alloc: A, watched: Watched) -> Result<Vec<u8, A>, AllocError>
+    ensures { IfOk result (λ text. text.items ≡ watched_text watched) }
+{
+    match watched {
+        Watched::Clean => {
+            let mut text = Vec::new(alloc);
+            text.extend_from_slice(b"clean\n")?;
+            Ok(text)
+        }
+        Watched::Broken { event, rule } => broken_line(alloc, event, rule),
+    }
+}
+
+/// A run that breaks a rule is refused.
+fn watched_status(watched: Watched) -> Status
+    ensures { result ≡ watched_status watched }
+{
+    match watched {
+        Watched::Clean => Status::Done,
+        Watched::Broken { .. } => Status::Refused,
+    }
+}
+
+/// Runs a tape by a list of events, from the declared start with all registers and all cells that
+/// aren't on the tape 0, and writes whether each of its steps is legal, or which event is the first
+/// that isn't and the least rule that it breaks; then the status is `Refused`.
+///
+/// # Errors
+///
+/// The fault of the tape, of the declaration or of the text of events: each is read and, if it has
+/// a fault, refused before the next is read; `Device` where a read or a write failed, after which a
+/// prefix of the line went out; `NoMemory`.
+#[tactic(auto, using(crate::proofs::UnreadLemmas::takes_no_text))]
+pub fn watch<A: Allocator + Copy, R: ByteSource, D: ByteSource, E: ByteSource, W: ByteSink>(
+    alloc: A,
+    tape: &mut R,
+    declaration: &mut D,
+    list: &mut E,
+    out: &mut W,
+) -> Result<Status, Fault>
+    requires readable { R.mark tape.old ≡ false }
+    requires declaration_readable { D.mark declaration.old ≡ false }
+    requires list_readable { E.mark list.old ≡ false }
+    requires writable { W.mark out.old ≡ false }
+    // What is written is what is seen of the run.
+    ensures watched { IfOk result (λ status. Writes
+        (λ line. IsWatchedSo (R.remaining tape.old) (D.remaining declaration.old)
+        (E.remaining list.old) line status)
+        (W.taken out.old) (W.taken out.new)) }
+    // A fault is that of the first input that has one.
+    ensures faults { IfErr result (IsWatchFault
+        (input (R.mark tape.new) (R.remaining tape.old) (R.remaining tape.new))
+        (input (D.mark declaration.new) (D.remaining declaration.old) (D.remaining declaration.new))
+        (input (E.mark list.new) (E.remaining list.old) (E.remaining list.new))) }
+    // Where a write failed, a front of the line went out,
+    ensures front { W.mark out.new ≡ true → FrontOf
+        (IsWatched (R.remaining tape.old) (D.remaining declaration.old) (E.remaining list.old))
+        (W.taken out.old) (W.taken out.new) }
+    // and any other fault leaves the output as it was.
+    ensures nothing { OnErr result (W.mark out.new ≡ false → W.taken out.new ≡ W.taken out.old) }
+    // A write failed exactly where the answer says so, and so did a read.
+    ensures marks { W.mark out.new ≡ fails_to_write result }
+    ensures reads { R.mark tape.new || D.mark declaration.new || E.mark list.new ≡
+        fails_to_read result }
+    // An input isn't read after one that is refused, or whose read failed.
+    ensures unread { IfErr result (λ fault. is_fault_of_tape fault ≡ true →
+        (declaration.new ≡ declaration.old) × (list.new ≡ list.old)) }
+    ensures unread_list { IfErr result (λ fault. is_fault_of_declaration fault ≡ true →
+        list.new ≡ list.old) }
+    ensures unread_after_failure { R.mark tape.new ≡ true →
+        (declaration.new ≡ declaration.old) × (list.new ≡ list.old) }
+    ensures unread_list_after_failure { D.mark declaration.new ≡ true → list.new ≡ list.old }
+    // It is read only after those before it are good,
+    ensures declaration_after_tape { (declaration.new ≡ declaration.old) ⊎
+        IsGoodTape (R.remaining tape.old) }
+    ensures list_after_declaration { (list.new ≡ list.old) ⊎
+        IsGoodDeclaration (D.remaining declaration.old) }
+    // and memory that is refused after the events were begun is wanted for them or after them.
+    ensures wanted { result ≡ Err NoMemory → (list.new ≡ list.old) ⊎
+        (HasCome (input (E.mark list.new) (E.remaining list.old) (E.remaining list.new)) ⊎
+        IsGoodEvents (E.remaining list.old)) }
+    // No input is read past its limit.
+    ensures takes_tape { TakesTape (R.remaining tape.old) (R.remaining tape.new) }
+    ensures takes_declaration { TakesAtMost 16385
+        (D.remaining declaration.old) (D.remaining declaration.new) }
+    ensures takes_events { TakesAtMost 65537 (E.remaining list.old) (E.remaining list.new) }
+{
+    let image = tape_from(tape)?;
+    let promised = declaration_from(alloc, declaration)?;
+    let happened = events_from(alloc, list)?;
+    let watched = policy::watch(alloc, &image, &promised, &Start::zero(), &happened)?;
+    let text = watched_line(alloc, watched)?;
+    put(out, &text)?;
+    Ok(watched_status(watched))
+}

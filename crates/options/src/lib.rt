@@ -1,0 +1,40 @@
+//! What commands are asked to do, apart from the files that they work on.
+#![tactic(auto)]
+
+use instruct::Profile;
+use word12::Word;
+
+/// How a tape is run.
+#[derive(Clone, Copy, PartialEq, Eq, Debug)]
+pub struct RunOptions {
+    /// The address of the first instruction.
+    pub start: Word,
+    /// How many rounds are made at most.
+    pub rounds: u32,
+    /// A line is written for each instruction.
+    pub trace: bool,
+    /// Whose instructions the machine has.
+    pub profile: Profile,
+}
+
+/// How a tape is run with an operator.
+#[derive(Clone, Copy, PartialEq, Eq, Debug)]
+pub struct SessionOptions {
+    /// How the tape is run.
+    pub run: RunOptions,
+    /// What the switches are set to first, if they are.
+    pub switches: Option<Word>,
+    /// Each key has channel 8 set.
+    pub mark: bool,
+}
+
+/// What a declaration is proposed for.
+#[derive(Clone, Copy, PartialEq, Eq, Debug)]
+pub struct DeclareOptions {
+    /// Where the program starts.
+    pub start: Word,
+    /// The machine that it's for.
+    pub profile: Profile,
+    /// Whether the cells that may be read are listed.
+    pub reads: bool,
+}

@@ -1,0 +1,3 @@
+pub mod UnreadLemmas
+pub mod DeclareLemmas
+pub mod StuckLemmas

@@ -1,0 +1,49 @@
+-- What `declare` writes.
+use Rattle.std.specs.Prelude.{ℕ, ◌≡◌, List, Option, None, is_some, false, true}
+use Rattle.peripherals.specs.Loading.{image_of}
+use Rattle.declaration.specs.Declaration.{Declaration}
+use Rattle.declaration.specs.Text.{Declares}
+use Rattle.policy.specs.Runs.{IsSafe}
+use Rattle.certificate.specs.Reading.{AreLines}
+use Rattle.certificate.specs.Spelling.{Lines}
+use Rattle.judge.specs.Conditions.{IsValid}
+use Rattle.proposer.specs.Needed.{ReadsAreNeeded}
+use Rattle.verdict_texts.specs.CheckText.{checked_case}
+use Rattle.options.specs.declared.DeclareOptions.{DeclareOptions}
+use Rattle.command_parts.specs.declared.status.Status.{Status}
+use Rattle.command_parts.specs.declared.status.Status.TheVariants.{Done, Refused}
+use Rattle.command_parts.specs.Inputs.{HasImage}
+
+-- The text declares a program that starts where it was asked to, on the machine that was asked for.
+pub record IsDeclarationFor (options : DeclareOptions) (text : List ℕ) : Type 0 where
+  pub declaration : Declaration
+  pub declares : Declares text declaration
+  pub start_is : declaration.start ≡ options.start
+  pub profile_is : declaration.profile ≡ options.profile
+
+-- The same, and it lists no reads.
+abbrev pub IsBare : DeclareOptions → List ℕ → Type 0
+IsBare options text = (is : IsDeclarationFor options text) × (is.declaration.reads ≡ None)
+
+-- Every condition holds of some certificate, and by its facts some possible word may read each cell of the list of reads.
+pub record ListsNeeded (image : List (Option ℕ)) (d : Declaration) : Type 0 where
+  pub lines : Lines
+  pub lines_are : AreLines lines
+  pub valid : IsValid (checked_case image d lines)
+  pub needed : ReadsAreNeeded (checked_case image d lines)
+
+-- The frames are a tape, and the text is such a declaration; where the command is done, no run of the tape's program breaks
+-- it, and if a list of reads was asked for it has one, whose cells are needed. Else it has none.
+pub record IsProposal (options : DeclareOptions) (frames : Option (List ℕ)) (status : Status) (text : List ℕ) : Type 0 where
+  pub image : List (Option ℕ)
+  pub tape : HasImage frames image
+  pub is : IsDeclarationFor options text
+  pub safe : status ≡ Done → IsSafe (image_of image) is.declaration
+  pub unlisted : options.reads ≡ false → is.declaration.reads ≡ None
+  pub bare : status ≡ Refused → is.declaration.reads ≡ None
+  pub listed : status ≡ Done → options.reads ≡ true → is_some is.declaration.reads ≡ true
+  pub needed : status ≡ Done → options.reads ≡ true → ListsNeeded image is.declaration
+
+-- The same with whichever status.
+abbrev pub IsProposed : DeclareOptions → Option (List ℕ) → List ℕ → Type 0
+IsProposed options frames text = (status : Status) × IsProposal options frames status text

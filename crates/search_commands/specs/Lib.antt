@@ -1,0 +1,4 @@
+pub mod SearchFaults
+pub mod GuessText
+pub mod DeclareText
+pub mod StuckText

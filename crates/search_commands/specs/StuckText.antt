@@ -1,0 +1,49 @@
+-- What `guess --why` reports of a search that is stuck: the line of the fault, and behind it the lines of `check --why`.
+use Rattle.std.specs.Prelude.{ℕ, ◌≡◌, ◌++◌, codes, List, [], Option, Some, None, IfSome, Err}
+use Rattle.word12.specs.Words.{octal_text}
+use Rattle.instruct.specs.declared.Profile.{Profile}
+use Rattle.analyser.specs.Attempts.{IsDraft}
+use Rattle.analyser.specs.Versions.{version_of}
+use Rattle.certificate.specs.Reading.{AreLines, certificate_of}
+use Rattle.certificate.specs.Spelling.{Lines}
+use Rattle.declaration.specs.Declaration.{Declaration}
+use Rattle.judge.specs.declared.judging.Refusal.{Refusal}
+use Rattle.reasons.specs.Reasons.{Explains}
+use Rattle.reasons.specs.Stuck.{IsToldOf}
+use Rattle.reasons.specs.declared.reason.Reason.{Reason}
+use Rattle.verdict_texts.specs.CheckText.{checked_case}
+use Rattle.command_parts.specs.Inputs.{HasDeclaration, HasImage}
+use Rattle.verdict_texts.specs.WhyText.{why_text}
+
+-- The lines of the condition that is told, if one is.
+abbrev pub told_text : Profile → List (Option ℕ) → Option (Refusal × Reason) → List ℕ
+told_text profile image None = []
+told_text profile image (Some found) = why_text profile image (Err found.0) (Some found.1)
+
+-- The line of the fault, with the address, and those lines.
+abbrev pub stuck_text : Profile → List (Option ℕ) → ℕ → Option (Refusal × Reason) → List ℕ
+stuck_text profile image at told =
+    (codes "pdp8: guess: Stuck " ++ octal_text at) ++ codes "\n" ++ told_text profile image told
+
+-- These are the lines of a search that is stuck somewhere. The draft's facts stand in bodies and its routine and exit lines
+-- at entries, and it has a fact there, or there is an entry. The condition that is told fails by the draft, since what is
+-- told is so: at that address, and not because a line is missing or too narrow, or at a call in its routine.
+pub record IsReport (image : List (Option ℕ)) (d : Declaration) (draft : Lines) (report : List ℕ) : Type 0 where
+  pub at : ℕ
+  pub is_draft : IsDraft d at (certificate_of draft)
+  pub told : Option (Refusal × Reason)
+  pub why : IfSome told (λ found. Explains (checked_case image d draft) found.0.condition found.0.address found.1)
+  pub place : IfSome told (λ found. IsToldOf d at found.0 found.1)
+  pub report_is : report ≡ stuck_text d.profile image at told
+
+-- The frames are a tape, the text is that of a declaration; these are the lines of a search that is stuck, by some draft of a
+-- certificate, in the version of the declared machine.
+pub record IsStuck (frames text : Option (List ℕ)) (report : List ℕ) : Type 0 where
+  pub image : List (Option ℕ)
+  pub tape : HasImage frames image
+  pub declaration : Declaration
+  pub declares : HasDeclaration text declaration
+  pub draft : Lines
+  pub lines_are : AreLines draft
+  pub version_is : draft.version ≡ version_of declaration.profile
+  pub is : IsReport image declaration draft report

@@ -1,0 +1,202 @@
+//! The command that proposes a declaration.
+
+ghost use Rattle.std.specs.Prelude.{◌≡◌, ◌⊎◌, None, false, true, IfOk, IfErr, OnErr};
+ghost use Rattle.command_parts.specs.declared.status.Status.TheVariants.{Done, Refused};
+ghost use Rattle.search_commands.specs.DeclareText.{IsBare, IsProposal, IsProposed};
+ghost use Rattle.search_commands.specs.SearchFaults.{IsDeclareFault, IsProposeFault};
+ghost use Rattle.command_parts.specs.Faults.{fails_to_read, fails_to_write};
+ghost use Rattle.command_parts.specs.Inputs.{TakesTape, input};
+ghost use Rattle.command_parts.specs.Writes.{FrontOf, Writes};
+ghost use Rattle.declaration.specs.Kept.{meaning};
+ghost use Rattle.declaration.specs.Text.{Declares};
+ghost use Rattle.proposer.specs.Proposals.{AreNeeded, Fits, IsListed, IsShown, IsTold};
+
+use bin_tape::Image;
+use command_parts::inputs::tape_from;
+use command_parts::status::{Fault, Status};
+use command_parts::text::push_place;
+use declaration::{Declaration, DeclarationFault};
+use instruct::Profile;
+pub use options::DeclareOptions;
+use proposer::{Proposal, Verdict, propose, propose_with_reads};
+use std::alloc::{AllocError, Allocator};
+use streams::{ByteSink, ByteSource, put};
+use turns::{ProposeFault, Turns};
+use word12::Word;
+use wordset::WordSet;
+
+/// How many turns there are at most.
+const MOST_TURNS: u32 = 2_000_000;
+
+/// Adds a comment for each address at which control isn't followed.
+fn push_unfollowed<A: Allocator>(
+    text: &mut Vec<u8, A>,
+    addresses: &WordSet,
+) -> Result<(), AllocError> {
+    for index in 0..4096usize {
+        let at = Word::from_index(index);
+        if addresses.contains(at) {
+            push_place(text, b"/ It isn't known where the program goes on at ", at)?;
+            text.extend_from_slice(b".\n")?;
+        }
+    }
+    Ok(())
+}
+
+/// Adds a comment that says why no certificate is found, if none is.
+fn push_verdict<A: Allocator, B: Allocator>(
+    text: &mut Vec<u8, A>,
+    verdict: &Verdict<B>,
+) -> Result<(), AllocError> {
+    match verdict {
+        Verdict::Safe(_) => return Ok(()),
+        Verdict::Stuck(at) => push_place(text, b"/ No certificate is found: stuck at ", *at)?,
+        Verdict::TurnsSpent => {
+            text.extend_from_slice(b"/ No certificate is found within the turns that there are")?
+        }
+        Verdict::TooLong => text.extend_from_slice(
+            b"/ No certificate is found that is short enough",
+        )?,
+    }
+    text.extend_from_slice(b".\n")
+}
+
+/// What is proposed for a tape's words, with a list of reads where one was asked for.
+fn proposal_for<A: Allocator + Copy>(
+    alloc: A,
+    image: &Image,
+    options: &DeclareOptions,
+    turns: &mut Turns,
+) -> Result<Proposal<A>, ProposeFault>
+    ensures fits { IfOk result (Fits options.now.start options.now.profile) }
+    ensures shown { IfOk result (λ p. IsShown image.now p.declaration p.verdict) }
+    ensures listed { options.now.reads ≡ true →
+        IfOk result (λ p. IsListed p.declaration p.verdict) }
+    ensures needed { options.now.reads ≡ true →
+        IfOk result (λ p. AreNeeded image.now p.declaration p.verdict) }
+    ensures unlisted { options.now.reads ≡ false →
+        IfOk result (λ p. (meaning p.declaration).reads ≡ None) }
+    ensures faults { IfErr result IsTold }
+{
+    if options.reads {
+        propose_with_reads(alloc, image, options.start, options.profile, turns)
+    } else {
+        propose(alloc, image, options.start, options.profile, turns)
+    }
+}
+
+/// A copy of a text.
+fn copy_of<A: Allocator>(alloc: A, text: &[u8]) -> Result<Vec<u8, A>, AllocError>
+    ensures { IfOk result (λ copy. copy.items ≡ text.now) }
+{
+    let mut copy = Vec::new(alloc);
+    copy.extend_from_slice(text)?;
+    Ok(copy)
+}
+
+/// The text of a proposal behind comments that say what is missing.
+fn remarks_and_text<A: Allocator + Copy>(
+    alloc: A,
+    proposal: &Proposal<A>,
+) -> Result<Vec<u8, A>, AllocError> {
+    let mut text = Vec::new(alloc);
+    push_verdict(&mut text, &proposal.verdict)?;
+    push_unfollowed(&mut text, &proposal.unfollowed)?;
+    text.extend_from_slice(&proposal.text)?;
+    Ok(text)
+}
+
+/// Whether a text declares a program for what was asked, without a list of reads.
+fn declares_for<A: Allocator + Copy>(
+    alloc: A,
+    text: &[u8],
+    options: &DeclareOptions,
+) -> Result<bool, Fault>
+    ensures declares { IfOk result (λ yes. yes ≡ true → IsBare options.now text.now) }
+    ensures faults { IfErr result IsProposeFault }
+    ensures wrote { fails_to_write result ≡ false }
+    ensures read { fails_to_read result ≡ false }
+{
+    match Declaration::parse(alloc, text) {
+        Ok(found) => {
+            if found.reads_listed() || found.start() != options.start {
+                return Ok(false);
+            }
+            Ok(found.profile() == options.profile)
+        }
+        Err(DeclarationFault::NoMemory) => Err(Fault::NoMemory),
+        Err(_) => Ok(false),
+    }
+}
+
+/// The text of a proposal without a list of reads, behind the remarks where there is room for them.
+fn remarked<A: Allocator + Copy>(
+    alloc: A,
+    proposal: &Proposal<A>,
+    options: &DeclareOptions,
+) -> Result<Vec<u8, A>, Fault>
+    requires text { Declares proposal.now.text.items (meaning proposal.now.declaration) }
+    requires start { (meaning proposal.now.declaration).start ≡ options.now.start }
+    requires profile { (meaning proposal.now.declaration).profile ≡ options.now.profile }
+    requires unlisted { (meaning proposal.now.declaration).reads ≡ None }
+    ensures declares { IfOk result (λ text. IsBare options.now text.items) }
+    ensures faults { IfErr result IsProposeFault }
+    ensures wrote { fails_to_write result ≡ false }
+    ensures read { fails_to_read result ≡ false }
+{
+    let text = remarks_and_text(alloc, proposal)?;
+    if declares_for(alloc, &text, options)? {
+        return Ok(text);
+    }
+    Ok(copy_of(alloc, &proposal.text)?)
+}
+
+/// Proposes what the program of a tape may do, by the tape, its start and the machine alone, and
+/// writes the text of that declaration. `Done` says that no run of the program breaks it. Else it's
+/// `Refused`: no certificate is found that shows that, and comments in front of the text say why, if
+/// there is room for them.
+///
+/// # Errors
+///
+/// The fault of the tape; `Declare` where what is found can't be declared; `Device` where a read or a
+/// write failed, after which a prefix of the text went out; `NoMemory`. Nothing is written but where
+/// a write failed.
+pub fn declare<A: Allocator + Copy, R: ByteSource, W: ByteSink>(
+    alloc: A,
+    tape: &mut R,
+    options: DeclareOptions,
+    out: &mut W,
+) -> Result<Status, Fault>
+    requires readable { R.mark tape.old ≡ false }
+    requires writable { W.mark out.old ≡ false }
+    // What is written declares a program from that start, on that machine; and where the command is
+    // done the tape's program is safe, and there is a list of reads if one was asked for, of cells that
+    // by the facts of a certificate some possible word may read. Else there is no list.
+    ensures declared { IfOk result (λ status. Writes
+        (IsProposal options (R.remaining tape.old) status) (W.taken out.old) (W.taken out.new)) }
+    ensures statuses { IfOk result (λ status. (status ≡ Done) ⊎ (status ≡ Refused)) }
+    // A fault is that of the tape, or else of what was found or of a write.
+    ensures faults { IfErr result (IsDeclareFault
+        (input (R.mark tape.new) (R.remaining tape.old) (R.remaining tape.new))) }
+    // Where a write failed, a front of such a text went out,
+    ensures front { W.mark out.new ≡ true → FrontOf
+        (IsProposed options (R.remaining tape.old)) (W.taken out.old) (W.taken out.new) }
+    // and any other fault leaves the output as it was.
+    ensures nothing { OnErr result (W.mark out.new ≡ false → W.taken out.new ≡ W.taken out.old) }
+    // A write failed exactly where the answer says so, and so did a read.
+    ensures marks { W.mark out.new ≡ fails_to_write result }
+    ensures reads { R.mark tape.new ≡ fails_to_read result }
+    // The tape is not read past its limit.
+    ensures takes_tape { TakesTape (R.remaining tape.old) (R.remaining tape.new) }
+{
+    let image = tape_from(tape)?;
+    let mut turns = Turns::new(MOST_TURNS);
+    let proposal = proposal_for(alloc, &image, &options, &mut turns)?;
+    if let Verdict::Safe(_) = &proposal.verdict {
+        put(out, &proposal.text)?;
+        return Ok(Status::Done);
+    }
+    let text = remarked(alloc, &proposal, &options)?;
+    put(out, &text)?;
+    Ok(Status::Refused)
+}

@@ -1,0 +1,171 @@
+//! The command that guesses a certificate and says why the search is stuck.
+
+ghost use Rattle.std.specs.Prelude.{◌≡◌, ◌⊎◌, ◌||◌, ◌++◌, false, true, IfOk, IfErr, OnErr, OnOk, Ok};
+ghost use Rattle.declaration.specs.Kept.{meaning};
+ghost use Rattle.analyser.specs.Attempts.{IsDraft};
+ghost use Rattle.certificate.specs.Kept.{claims, meaning as lines_of};
+ghost use Rattle.search_commands.specs.GuessText.{IsGuess};
+ghost use Rattle.search_commands.specs.SearchFaults.{IsGuessFault};
+ghost use Rattle.command_parts.specs.Faults.{is_fault_of_tape, fails_to_read, fails_to_write};
+ghost use Rattle.command_parts.specs.Inputs.{TakesAtMost, TakesTape, input};
+ghost use Rattle.search_commands.specs.StuckText.{IsReport, IsStuck, stuck_text};
+ghost use Rattle.command_parts.specs.Writes.{FrontOf, Writes};
+ghost use Rattle.command_parts.specs.declared.status.Status.TheVariants.{Done, Refused};
+
+use analyser::{Attempt, guess_or_draft};
+use bin_tape::Image;
+use certificate::Certificate;
+use command_parts::inputs::{declaration_from, tape_from};
+use command_parts::status::{Fault, Status};
+use command_parts::text::push_place;
+use declaration::Declaration;
+use instruct::Profile;
+use judge::Refusal;
+use reasons::{Reason, why_stuck};
+use std::alloc::{AllocError, Allocator};
+use streams::{ByteSink, ByteSource, put};
+use verdict_texts::reason_text::push_why;
+use word12::Word;
+
+/// Adds the line of a search that is stuck at an address, and behind it why, as far as that is told.
+fn push_stuck<A: Allocator>(
+    text: &mut Vec<u8, A>,
+    profile: Profile,
+    image: &Image,
+    at: Word,
+    told: &Option<(Refusal, Reason)>,
+) -> Result<(), AllocError>
+    ensures { OnOk result
+        (text.new.items ≡ text.old.items ++ stuck_text profile image.now at told.now) }
+{
+    push_place(text, b"pdp8: guess: Stuck ", at)?;
+    text.extend_from_slice(b"\n")?;
+    match told {
+        None => Ok(()),
+        Some((refusal, reason)) => push_why(text, profile, image, &Err(*refusal), &Some(*reason)),
+    }
+}
+
+/// The lines of a search that is stuck at an address, and why, by the draft of what it found.
+fn stuck_lines<A: Allocator, D: Allocator, C: Allocator>(
+    alloc: A,
+    image: &Image,
+    declaration: &Declaration<D>,
+    draft: &Certificate<C>,
+    at: Word,
+) -> Result<Vec<u8, A>, AllocError>
+    requires draft { IsDraft (meaning declaration.now) at (claims draft.now) }
+    ensures { IfOk result (λ text. IsReport image.now (meaning declaration.now) (lines_of draft.now)
+        text.items) }
+{
+    let told = why_stuck(image, declaration, draft, at);
+    let mut text = Vec::new(alloc);
+    push_stuck(&mut text, declaration.profile(), image, at, &told)?;
+    Ok(text)
+}
+
+/// Reports that a search is stuck at an address, and why, by the draft of what it found.
+fn report_stuck<A: Allocator, D: Allocator, C: Allocator, E: ByteSink>(
+    alloc: A,
+    image: &Image,
+    declaration: &Declaration<D>,
+    draft: &Certificate<C>,
+    at: Word,
+    report: &mut E,
+) -> Result<(), AllocError>
+    requires unmarked { E.mark report.old ≡ false }
+    requires draft { IsDraft (meaning declaration.now) at (claims draft.now) }
+    ensures told { OnOk result (E.mark report.new ≡ false → Writes
+        (IsReport image.now (meaning declaration.now) (lines_of draft.now))
+        (E.taken report.old) (E.taken report.new)) }
+    ensures front { E.mark report.new ≡ true → FrontOf
+        (IsReport image.now (meaning declaration.now) (lines_of draft.now))
+        (E.taken report.old) (E.taken report.new) }
+    ensures nothing { OnErr result (report.new ≡ report.old) }
+{
+    let text = stuck_lines(alloc, image, declaration, draft, at)?;
+    match put(report, &text) {
+        Ok(()) | Err(_) => Ok(()),
+    }
+}
+
+/// Looks for a certificate as [`guess`](crate::guessing::guess) does. Where the search is stuck, and
+/// there is a draft of what it found until then, the line of that fault goes to the report, and
+/// behind it why, as far as that is found and as [`explain`](crate::explaining::explain) says it:
+/// the address with its word and name, what the condition asks, and what breaks it. The status is
+/// `Refused` then, also where the report can't be written.
+///
+/// # Errors
+///
+/// As of `guess`; `Guess` tells that the search is stuck where there is no draft, which no clause
+/// excludes.
+#[tactic(auto, using(crate::proofs::UnreadLemmas::takes_no_text))]
+pub fn guess_or_explain<
+    A: Allocator + Copy,
+    R: ByteSource,
+    D: ByteSource,
+    W: ByteSink,
+    E: ByteSink,
+>(alloc: A, tape: &mut R, declaration: &mut D, out: &mut W, report: &mut E) -> Result<Status, Fault>
+    requires readable { R.mark tape.old ≡ false }
+    requires declaration_readable { D.mark declaration.old ≡ false }
+    requires writable { W.mark out.old ≡ false }
+    requires reportable { E.mark report.old ≡ false }
+    // It's done where a certificate is found, and refused where the search is stuck.
+    ensures statuses { IfOk result (λ status. (status ≡ Done) ⊎ (status ≡ Refused)) }
+    // What is written is the text of a certificate of which every condition holds, in the version of
+    // the declared machine,
+    ensures guessed { IfOk result (λ status. status ≡ Done → Writes
+        (IsGuess (R.remaining tape.old) (D.remaining declaration.old))
+        (W.taken out.old) (W.taken out.new)) }
+    // and what is reported is that the search is stuck, and why.
+    ensures stuck { IfOk result (λ status. status ≡ Refused → E.mark report.new ≡ false → Writes
+        (IsStuck (R.remaining tape.old) (D.remaining declaration.old))
+        (E.taken report.old) (E.taken report.new)) }
+    // Where the write of the report failed the status is as it would have been.
+    ensures report_failed { E.mark report.new ≡ true → result ≡ Ok Refused }
+    // Only where the search is stuck is anything reported, and nothing is written then.
+    ensures unreported { IfOk result (λ status. status ≡ Done → report.new ≡ report.old) }
+    ensures unreported_fault { OnErr result (report.new ≡ report.old) }
+    ensures unwritten { IfOk result (λ status. status ≡ Refused → out.new ≡ out.old) }
+    // A fault is that of the first input that has one, or else of the search or of a write.
+    ensures faults { IfErr result (IsGuessFault
+        (input (R.mark tape.new) (R.remaining tape.old) (R.remaining tape.new))
+        (input (D.mark declaration.new) (D.remaining declaration.old)
+        (D.remaining declaration.new))) }
+    // Where a write failed, a front of such a text went out,
+    ensures front { W.mark out.new ≡ true → FrontOf
+        (IsGuess (R.remaining tape.old) (D.remaining declaration.old))
+        (W.taken out.old) (W.taken out.new) }
+    // or of such lines to the report,
+    ensures front_of_report { E.mark report.new ≡ true → FrontOf
+        (IsStuck (R.remaining tape.old) (D.remaining declaration.old))
+        (E.taken report.old) (E.taken report.new) }
+    // and any other fault leaves the output as it was.
+    ensures nothing { OnErr result (W.mark out.new ≡ false → W.taken out.new ≡ W.taken out.old) }
+    // A write to the output failed exactly where the answer says so, and so did a read.
+    ensures marks { W.mark out.new ≡ fails_to_write result }
+    ensures reads { R.mark tape.new || D.mark declaration.new ≡ fails_to_read result }
+    // The declaration isn't read after a tape that is refused, or whose read failed.
+    ensures unread { IfErr result (λ fault. is_fault_of_tape fault ≡ true →
+        declaration.new ≡ declaration.old) }
+    ensures unread_after_failure { R.mark tape.new ≡ true → declaration.new ≡ declaration.old }
+    // No input is read past its limit.
+    ensures takes_tape { TakesTape (R.remaining tape.old) (R.remaining tape.new) }
+    ensures takes_declaration { TakesAtMost 16385
+        (D.remaining declaration.old) (D.remaining declaration.new) }
+{
+    let image = tape_from(tape)?;
+    let promised = declaration_from(alloc, declaration)?;
+    let attempt = guess_or_draft(alloc, &image, &promised)?;
+    match &attempt {
+        Attempt::Found(certificate) => {
+            certificate.write(out)?;
+            Ok(Status::Done)
+        }
+        Attempt::Stuck(at, draft) => {
+            report_stuck(alloc, &image, &promised, draft, *at, report)?;
+            Ok(Status::Refused)
+        }
+    }
+}

@@ -1,0 +1,4 @@
+pub mod SourceLemmas
+pub mod PartLemmas
+pub mod AssembleLemmas
+pub mod LaterLemmas

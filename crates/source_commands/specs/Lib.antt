@@ -1,0 +1,2 @@
+pub mod SourceTexts
+pub mod AssembleText

@@ -1,0 +1,165 @@
+//! The commands that assemble a source.
+
+ghost use Rattle.std.specs.Prelude.{◌≡◌, Err, false, true, length, map, IfOk, IfErr, OnOk, OnErr, Some, slice_get, ℕ};
+ghost use Rattle.std.specs.List.{AllByRecursion, list_any};
+ghost use Rattle.pal_acts.specs.Permanent.{permanent_symbols};
+ghost use Rattle.pal_asm.specs.Listings.{Lists};
+ghost use Rattle.pal_asm.specs.Programs.{symbols_of, image_of, listing_of, symbols_in, image_in};
+ghost use Rattle.pal_acts.specs.declared.code.Code.TheVariants.{TooLong};
+ghost use Rattle.pal_asm.specs.Sources.{fault_at, texts, Means};
+ghost use Rattle.source_commands.specs.AssembleText.{IsAssembled, IsAssemblyFault, IsListFault, IsListing, IsSourceFault};
+ghost use Rattle.command_parts.specs.Faults.{fails_to_read, fails_to_write};
+ghost use Rattle.source_commands.specs.SourceTexts.{EachTakesAtMost, HasLeft, IsLongAt, LeavesThoseAfter, is_bad_number};
+ghost use Rattle.command_parts.specs.Writes.{FrontOf, Writes};
+ghost use Rattle.command_parts.specs.declared.status.Fault.TheVariants.{Source};
+ghost use Rattle.command_parts.specs.declared.status.Status.TheVariants.{Done};
+
+use crate::sources::{lend, read_parts};
+use bin_tape::laws::written_tapes_read_back;
+use bin_tape::{WriteTapeFault, write_tape};
+use command_parts::status::{DeviceFault, Fault, Status};
+use instruct::Profile;
+use pal_asm::{AssembleFault, Program, Translation, WriteFault};
+use std::alloc::Allocator;
+use streams::{ByteSink, ByteSource};
+
+/// What the parts of a source mean.
+fn translation_of<A: Allocator + Copy>(
+    alloc: A,
+    parts: &[&[u8]],
+    profile: Profile,
+) -> Result<Translation<A>, Fault>
+    ensures found { IfOk result (λ translation. Means (permanent_symbols profile) (texts parts.now)
+        (symbols_in translation) (image_in translation)) }
+    ensures faults { IfErr result (IsAssemblyFault profile (texts parts.now)) }
+{
+    match pal_asm::translate(alloc, parts, profile) {
+        Ok(translation) => Ok(translation),
+        Err(AssembleFault::Source(fault)) => Err(Fault::Source(fault)),
+        Err(AssembleFault::NoMemory) => Err(Fault::NoMemory),
+    }
+}
+
+/// Assembles the parts of a source, with its listing.
+fn program_of<A: Allocator + Copy>(
+    alloc: A,
+    parts: &[&[u8]],
+    profile: Profile,
+) -> Result<Program<A>, Fault>
+    ensures found { IfOk result (λ program. Means (permanent_symbols profile) (texts parts.now)
+        (symbols_of program) (image_of program)) }
+    ensures listed { IfOk result (λ program. Lists (permanent_symbols profile) (texts parts.now)
+        (symbols_of program) (listing_of program)) }
+    ensures faults { IfErr result (IsAssemblyFault profile (texts parts.now)) }
+{
+    match pal_asm::assemble(alloc, parts, profile) {
+        Ok(program) => Ok(program),
+        Err(AssembleFault::Source(fault)) => Err(Fault::Source(fault)),
+        Err(AssembleFault::NoMemory) => Err(Fault::NoMemory),
+    }
+}
+
+/// Assembles a source of one part or more, in order, and writes its tape.
+///
+/// # Errors
+///
+/// `Source` with the first fault of the source: that of the number of parts before any is read, that
+/// of a part that is too long before the next is read, and any other once all are read;
+/// `EmptyImage` where it has no word, and then nothing is written; `Device` where a read failed, or
+/// where a write failed, after which a prefix of the tape went out; `NoMemory`.
+pub fn assemble<A: Allocator + Copy, R: ByteSource, W: ByteSink>(
+    alloc: A,
+    sources: &mut [R],
+    profile: Profile,
+    out: &mut W,
+) -> Result<Status, Fault>
+    requires readable { AllByRecursion (λ source. R.mark source ≡ false) sources.old }
+    requires writable { W.mark out.old ≡ false }
+    // What is written is the tape of the image that the source means.
+    ensures done { IfOk result (λ status. status ≡ Done) }
+    ensures tape { OnOk result (Writes (IsAssembled profile (map R.remaining sources.old))
+        (W.taken out.old) (W.taken out.new)) }
+    // A fault of the source is its one fault; that of a read comes only where the number of sources
+    // is good and those before it aren't too long.
+    ensures faults { IfErr result (IsSourceFault profile (map R.mark sources.new)
+        (map R.remaining sources.old) (map R.remaining sources.new)) }
+    // Where a write failed, a front of that tape went out,
+    ensures front { W.mark out.new ≡ true →
+        FrontOf (IsAssembled profile (map R.remaining sources.old))
+        (W.taken out.old) (W.taken out.new) }
+    // and any other fault leaves the output as it was.
+    ensures nothing { OnErr result (W.mark out.new ≡ false → W.taken out.new ≡ W.taken out.old) }
+    // A write failed exactly where the answer says so, and so did a read.
+    ensures marks { W.mark out.new ≡ fails_to_write result }
+    ensures reads { list_any R.mark sources.new ≡ fails_to_read result }
+    // A bad number of sources is told, and nothing is read.
+    ensures number { is_bad_number (length sources.old) ≡ true →
+        (result ≡ Err (Source (fault_at TooLong 0 0))) × (sources.new ≡ sources.old) }
+    // The sources after one that is too long, or whose read failed, aren't read.
+    ensures unread { (at : ℕ) → IsLongAt (map R.remaining sources.old) at →
+        LeavesThoseAfter at sources.old sources.new }
+    ensures unread_after_failure { (at : ℕ) → slice_get (map R.mark sources.new) at ≡ Some true →
+        LeavesThoseAfter at sources.old sources.new }
+    // A source is read only where those before it are read to their ends.
+    ensures unread_after { (at : ℕ) →
+        HasLeft (map R.remaining sources.old) (map R.remaining sources.new) at →
+        LeavesThoseAfter at sources.old sources.new }
+    // Of a source no more is taken than a part may have and a byte.
+    ensures takes { EachTakesAtMost 65537 (map R.remaining sources.old)
+        (map R.remaining sources.new) }
+{
+    let parts = read_parts(alloc, sources)?;
+    let slices = lend(alloc, &parts)?;
+    let translation = translation_of(alloc, &slices, profile)?;
+    written_tapes_read_back(translation.image());
+    match write_tape(translation.image(), out) {
+        Ok(()) => Ok(Status::Done),
+        Err(WriteTapeFault::EmptyImage) => Err(Fault::EmptyImage),
+        Err(WriteTapeFault::WriteFault) => Err(Fault::Device(DeviceFault::Write)),
+    }
+}
+
+/// Assembles a source of one part or more, in order, and writes its listing.
+///
+/// # Errors
+///
+/// As for [`assemble`], but that a source without a word has a listing too.
+pub fn list<A: Allocator + Copy, R: ByteSource, W: ByteSink>(
+    alloc: A,
+    sources: &mut [R],
+    profile: Profile,
+    out: &mut W,
+) -> Result<Status, Fault>
+    requires readable { AllByRecursion (λ source. R.mark source ≡ false) sources.old }
+    requires writable { W.mark out.old ≡ false }
+    ensures done { IfOk result (λ status. status ≡ Done) }
+    ensures listing { OnOk result (Writes (IsListing profile (map R.remaining sources.old))
+        (W.taken out.old) (W.taken out.new)) }
+    ensures faults { IfErr result (IsListFault profile (map R.mark sources.new)
+        (map R.remaining sources.old) (map R.remaining sources.new)) }
+    ensures front { W.mark out.new ≡ true →
+        FrontOf (IsListing profile (map R.remaining sources.old))
+        (W.taken out.old) (W.taken out.new) }
+    ensures nothing { OnErr result (W.mark out.new ≡ false → W.taken out.new ≡ W.taken out.old) }
+    ensures marks { W.mark out.new ≡ fails_to_write result }
+    ensures reads { list_any R.mark sources.new ≡ fails_to_read result }
+    ensures number { is_bad_number (length sources.old) ≡ true →
+        (result ≡ Err (Source (fault_at TooLong 0 0))) × (sources.new ≡ sources.old) }
+    ensures unread { (at : ℕ) → IsLongAt (map R.remaining sources.old) at →
+        LeavesThoseAfter at sources.old sources.new }
+    ensures unread_after_failure { (at : ℕ) → slice_get (map R.mark sources.new) at ≡ Some true →
+        LeavesThoseAfter at sources.old sources.new }
+    ensures unread_after { (at : ℕ) →
+        HasLeft (map R.remaining sources.old) (map R.remaining sources.new) at →
+        LeavesThoseAfter at sources.old sources.new }
+    ensures takes { EachTakesAtMost 65537 (map R.remaining sources.old)
+        (map R.remaining sources.new) }
+{
+    let parts = read_parts(alloc, sources)?;
+    let slices = lend(alloc, &parts)?;
+    let program = program_of(alloc, &slices, profile)?;
+    match program.write_listing(out) {
+        Ok(()) => Ok(Status::Done),
+        Err(WriteFault) => Err(Fault::Device(DeviceFault::Write)),
+    }
+}

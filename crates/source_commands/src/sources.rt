@@ -1,0 +1,127 @@
+//! The parts of a source, read.
+
+ghost use Rattle.std.specs.Prelude.{◌≡◌, Err, true, false, length, map, IfOk, IfErr, IfSome, List, ℕ, Some, slice_get};
+ghost use Rattle.std.specs.List.{AllByRecursion, list_any};
+ghost use Rattle.std.specs.Io.KnownBytes.{IsAtEnd};
+ghost use Rattle.pal_acts.specs.declared.code.Code.TheVariants.{TooLong};
+ghost use Rattle.pal_asm.specs.Sources.{fault_at, texts};
+ghost use Rattle.command_parts.specs.declared.status.Fault.TheVariants.{Source};
+ghost use Rattle.command_parts.specs.Faults.{fails_to_read};
+ghost use Rattle.command_parts.specs.Inputs.{TakesAtMost};
+ghost use Rattle.source_commands.specs.SourceTexts.{AreRead, EachTakesAtMost, HasLeft, IsShort, IsPartFault, ArePartsFault, IsLongAt, LeavesThoseAfter, is_bad_number};
+
+use command_parts::status::Fault;
+use pal_acts::Code;
+use pal_asm::PalFault;
+use std::alloc::{AllocError, Allocator};
+use streams::{ByteSource, read_at_most};
+
+/// How many parts a source may have.
+const MOST_PARTS: usize = 16;
+
+/// One byte more than a part may have, so that a longer one is seen to be too long.
+const MOST_PART: usize = 65_537;
+
+/// There are no parts, or too many.
+fn is_bad_number(count: usize) -> bool
+    ensures { result ≡ is_bad_number count }
+{
+    count == 0 || count > MOST_PARTS
+}
+
+/// The fault of a part that is too long; with the number 0, that of the number of parts.
+fn too_long(part: usize) -> Fault
+    ensures { result ≡ Source (fault_at TooLong part 0) }
+{
+    Fault::Source(PalFault {
+        code: Code::TooLong,
+        part,
+        line: 0,
+    })
+}
+
+/// Reads the part of a source that has this number.
+fn read_part<A: Allocator, R: ByteSource>(
+    alloc: A,
+    source: &mut R,
+    number: usize,
+) -> Result<Vec<u8, A>, Fault>
+    requires { R.mark source.old ≡ false }
+    ensures read { IfOk result (λ part.
+        IfSome (R.remaining source.old) (λ bytes. part.items ≡ bytes)) }
+    ensures fits { IfOk result (λ part. IsShort part.items) }
+    ensures faults { IfErr result
+        (IsPartFault number (R.remaining source.old) (R.remaining source.new)) }
+    ensures marks { R.mark source.new ≡ fails_to_read result }
+    ensures takes { TakesAtMost 65537 (R.remaining source.old) (R.remaining source.new) }
+    // A part that is read has come whole.
+    ensures ended { IfOk result (λ _.
+        IfSome (R.remaining source.old) (λ _. IsAtEnd (R.remaining source.new))) }
+{
+    let part = read_at_most(alloc, source, MOST_PART)?;
+    if part.len() >= MOST_PART {
+        return Err(too_long(number));
+    }
+    Ok(part)
+}
+
+/// Reads the parts of a source, in order, up to the first that is too long or whose read fails. The
+/// number of parts is looked at before the first is read.
+#[tactic(auto, using(crate::proofs::SourceLemmas::none_taken))]
+pub(crate) fn read_parts<A: Allocator + Copy, R: ByteSource>(
+    alloc: A,
+    sources: &mut [R],
+) -> Result<Vec<Vec<u8, A>, A>, Fault>
+    requires { AllByRecursion (λ source. R.mark source ≡ false) sources.old }
+    ensures number { IfOk result (λ _. is_bad_number (length sources.old) ≡ false) }
+    ensures read { IfOk result (λ parts. AreRead
+        (map R.remaining sources.old) (map (λ part. part.items) parts.items)) }
+    ensures faults { IfErr result (ArePartsFault (map R.mark sources.new)
+        (map R.remaining sources.old) (map R.remaining sources.new)) }
+    ensures marks { list_any R.mark sources.new ≡ fails_to_read result }
+    // A bad number of parts is told, and nothing is read.
+    ensures told { is_bad_number (length sources.old) ≡ true →
+        (result ≡ Err (Source (fault_at TooLong 0 0))) × (sources.new ≡ sources.old) }
+    // The sources after one that is too long, or whose read failed, aren't read.
+    ensures unread { (at : ℕ) → IsLongAt (map R.remaining sources.old) at →
+        LeavesThoseAfter at sources.old sources.new }
+    ensures unread_after_failure { (at : ℕ) → slice_get (map R.mark sources.new) at ≡ Some true →
+        LeavesThoseAfter at sources.old sources.new }
+    // A source is read only where those before it are read to their ends.
+    ensures unread_after { (at : ℕ) →
+        HasLeft (map R.remaining sources.old) (map R.remaining sources.new) at →
+        LeavesThoseAfter at sources.old sources.new }
+    // Of a part no more is taken than it may have and a byte, which tells that it's too long.
+    ensures takes { EachTakesAtMost 65537 (map R.remaining sources.old)
+        (map R.remaining sources.new) }
+{
+    if is_bad_number(sources.len()) {
+        return Err(too_long(0));
+    }
+    let mut parts = Vec::new(alloc);
+    for source in sources.iter_mut() {
+        match read_part(alloc, source, parts.len() + 1) {
+            Ok(part) => {
+                if parts.push(part).is_err() {
+                    return Err(Fault::NoMemory);
+                }
+            }
+            Err(fault) => return Err(fault),
+        }
+    }
+    Ok(parts)
+}
+
+/// The bytes of parts, lent.
+pub(crate) fn lend<'t, A: Allocator + Copy>(
+    alloc: A,
+    parts: &'t [Vec<u8, A>],
+) -> Result<Vec<&'t [u8], A>, AllocError>
+    ensures { IfOk result (λ slices. texts slices.items ≡ map (λ part. part.items) parts.now) }
+{
+    let mut slices = Vec::new(alloc);
+    for part in parts {
+        slices.push(part.as_slice())?;
+    }
+    Ok(slices)
+}

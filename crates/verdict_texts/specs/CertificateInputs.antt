@@ -1,0 +1,37 @@
+-- What a command read of a certificate, as far as a source tells its bytes.
+use Rattle.std.specs.Prelude.{ℕ, ◌≡◌, ◌≤◌, true, IfSome, List, Option, length}
+use Rattle.streams.specs.Bytes.{Gave}
+use Rattle.certificate.specs.Spelling.{Lines}
+use Rattle.certificate.specs.Spelling as certificate
+use Rattle.certificate.specs.Reading.{AreLines, certificate_of}
+use Rattle.certificate.specs.Faults.{most_bytes}
+use Rattle.certificate.specs.Serving.{IsUnanswered}
+use Rattle.certificate.specs.Serving as serving
+use Rattle.judge.specs.Laws.{SetsAreOfWords}
+use Rattle.command_parts.specs.Inputs.{Input, TakesAtMost}
+
+-- The bytes are the text of a certificate with these lines, whose sets are of words, and not too many.
+pub record IsTextOf (bytes : List ℕ) (lines : Lines) : Type 0 where
+  pub lines_are : AreLines lines
+  pub of_words : SetsAreOfWords (certificate_of lines)
+  pub text_is : bytes ≡ certificate.text lines
+  pub few : length bytes ≤ most_bytes
+
+-- The text is that of a certificate with these lines.
+abbrev pub HasCertificate : Option (List ℕ) → Lines → Type 0
+HasCertificate certificate lines = IfSome certificate (λ bytes. IsTextOf bytes lines)
+
+-- The text is that of a certificate.
+pub record IsGoodCertificate (certificate : Option (List ℕ)) : Type 0 where
+  pub lines : Lines
+  pub claims : HasCertificate certificate lines
+
+-- A read of a certificate failed, and the bytes given before it bring no answer.
+pub record FailsInCertificate (certificate : Input) : Type 0 where
+  pub failed : certificate.failed ≡ true
+  pub unanswered : Gave certificate.had certificate.left IsUnanswered
+
+-- Of a certificate as many as it may have and one, and at most 511 past the one that brings the answer.
+pub record TakesCertificate (had left : Option (List ℕ)) : Type 0 where
+  pub limit : TakesAtMost 1048577 had left
+  pub prompt : Gave had left (serving.IsPrompt 511)

@@ -1,0 +1,4 @@
+pub mod CertificateInputs
+pub mod CertificateFaults
+pub mod CheckText
+pub mod WhyText

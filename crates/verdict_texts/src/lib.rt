@@ -1,0 +1,6 @@
+//! What the commands on certificates share: how a certificate is read, the line of a verdict, and why it is no.
+#![tactic(auto)]
+
+pub mod certificates;
+pub mod reason_text;
+pub mod verdict;

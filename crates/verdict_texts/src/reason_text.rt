@@ -1,0 +1,388 @@
+//! The words that say why a condition fails.
+
+ghost use Rattle.std.specs.Prelude.{◌≡◌, ◌++◌, codes, decimal, OnOk};
+ghost use Rattle.word12.specs.Words.{octal_text};
+ghost use Rattle.verdict_texts.specs.CheckText.{condition_text};
+ghost use Rattle.command_parts.specs.Dumping.{dump_line};
+ghost use Rattle.command_parts.specs.LinkText.{link_text};
+ghost use Rattle.verdict_texts.specs.WhyText.{around, around_number, asked_text, breach_text, call_text, equation_text, gap_text, landing_text, name_text, reason_line, reason_text, return_text, why_text, word_shown};
+
+use crate::verdict::condition_name;
+use bin_tape::Image;
+use command_parts::text::{push_dump_line, push_place, push_word};
+use facts::{Equation, Name};
+use instruct::Profile;
+use itoa::Buffer;
+use judge::{Condition, Refusal};
+use reasons::{Breach, CallBreach, Gap, Landing, Reason, ReturnBreach};
+use std::alloc::{AllocError, Allocator};
+use word12::{Link, Word};
+
+/// What a condition asks.
+fn asked(condition: Condition) -> &'static [u8]
+    ensures { result.now ≡ asked_text condition }
+{
+    match condition {
+        Condition::V1 => b"there is a fact at the start, and it holds of every start",
+        Condition::V2 =>
+            b"a fact is in a body, with offsets in routines alone; routine and exit lines are at entries",
+        Condition::V3 => b"at most 64 words are possible, and each is supported",
+        Condition::V4 =>
+            b"wherever a word goes on there is a fact in the same body that allows what is possible",
+        Condition::V5 =>
+            b"each cell that a word may write, a JMS's own apart, is a variable or an entry",
+        Condition::V6 =>
+            b"each cell that a word may write, a JMS's own apart, is in the routine's written set, or its entry",
+        Condition::V7 =>
+            b"a JMS calls listed entries of lower rank, and not through an auto-index cell",
+        Condition::V8 =>
+            b"what a callee may write, and its entry, are in the caller's written set, and the caller's entry isn't in the callee's",
+        Condition::V9 => b"a JMS is at a listed site of its callee, and at most at 7767",
+        Condition::V10 => b"the fact at the callee's first address allows what is possible",
+        Condition::V11 => b"the fact at each return address allows what is possible",
+        Condition::V12 =>
+            b"a return is the routine's own, by declared offsets, and the exit lines allow what is possible",
+        Condition::V13 => b"a HLT is at a declared halt",
+        Condition::V14 =>
+            b"no word writes an entry, save that a JMS enters it and ISZ may count the routine's own",
+        Condition::V15 =>
+            b"each cell that a word may read is on the list of reads, or the routine's entry",
+    }
+}
+
+/// Adds a text, an address and a text.
+fn push_around<A: Allocator>(
+    text: &mut Vec<u8, A>,
+    before: &[u8],
+    at: Word,
+    after: &[u8],
+) -> Result<(), AllocError>
+    ensures { OnOk result
+        (text.new.items ≡ text.old.items ++ around before.now at after.now) }
+{
+    text.extend_from_slice(before)?;
+    push_word(text, at)?;
+    text.extend_from_slice(after)
+}
+
+/// Adds a text, a number and a text.
+fn push_around_number<A: Allocator>(
+    text: &mut Vec<u8, A>,
+    before: &[u8],
+    number: usize,
+    after: &[u8],
+) -> Result<(), AllocError>
+    ensures { OnOk result
+        (text.new.items ≡ text.old.items ++ around_number before.now number after.now) }
+{
+    let mut digits = Buffer::new();
+    text.extend_from_slice(before)?;
+    text.extend_from_slice(digits.format(number).as_bytes())?;
+    text.extend_from_slice(after)
+}
+
+/// Adds the digit of a link.
+fn push_link_digit<A: Allocator>(text: &mut Vec<u8, A>, link: Link) -> Result<(), AllocError>
+    ensures { OnOk result (text.new.items ≡ text.old.items ++ link_text link) }
+{
+    text.extend_from_slice(if link.is_set() { b"1" } else { b"0" })
+}
+
+/// Adds what the link may be.
+fn push_link<A: Allocator>(text: &mut Vec<u8, A>, link: Link) -> Result<(), AllocError>
+    ensures { OnOk result
+        (text.new.items ≡ text.old.items ++ (codes "the link may be " ++ link_text link)) }
+{
+    text.extend_from_slice(b"the link may be ")?;
+    push_link_digit(text, link)
+}
+
+/// Adds AC, or the address of a cell.
+fn push_name<A: Allocator>(text: &mut Vec<u8, A>, name: &Name) -> Result<(), AllocError>
+    ensures { OnOk result (text.new.items ≡ text.old.items ++ name_text name.now) }
+{
+    match name {
+        Name::Accumulator => text.extend_from_slice(b"AC"),
+        Name::Cell(cell) => push_word(text, *cell),
+    }
+}
+
+/// Adds an equation.
+fn push_equation<A: Allocator>(text: &mut Vec<u8, A>, equation: &Equation) -> Result<(), AllocError>
+    ensures { OnOk result (text.new.items ≡ text.old.items ++ equation_text equation.now) }
+{
+    push_name(text, &equation.left)?;
+    push_place(text, b" = ", equation.right)?;
+    push_place(text, b" + ", equation.more)
+}
+
+/// Adds what is possible.
+fn push_gap<A: Allocator>(text: &mut Vec<u8, A>, gap: &Gap) -> Result<(), AllocError>
+    ensures { OnOk result (text.new.items ≡ text.old.items ++ gap_text gap.now) }
+{
+    match gap {
+        Gap::Accumulator(word) => push_place(text, b"AC may be ", *word),
+        Gap::Mq(word) => push_place(text, b"MQ may be ", *word),
+        Gap::Link(link) => push_link(text, *link),
+        Gap::Cell(cell, word) => {
+            push_place(text, b"the cell ", *cell)?;
+            push_place(text, b" may be ", *word)
+        }
+        Gap::Equation(equation) => {
+            push_equation(text, equation)?;
+            text.extend_from_slice(b" may be wrong as far as is known")
+        }
+        Gap::Offset(offset) => push_around_number(
+            text,
+            b"the return word may be up by ",
+            *offset,
+            b"",
+        ),
+    }
+}
+
+/// Adds why a run doesn't land.
+fn push_landing<A: Allocator>(text: &mut Vec<u8, A>, landing: &Landing) -> Result<(), AllocError>
+    ensures { OnOk result (text.new.items ≡ text.old.items ++ landing_text landing.now) }
+{
+    match landing {
+        Landing::NoFact => text.extend_from_slice(b"no fact is there"),
+        Landing::OtherBody => text.extend_from_slice(b"that isn't in the body"),
+        Landing::Excluded(gap) => {
+            push_gap(text, gap)?;
+            text.extend_from_slice(b", which the fact there excludes")
+        }
+    }
+}
+
+/// Adds why a call doesn't land where it enters.
+fn push_enters<A: Allocator>(text: &mut Vec<u8, A>, landing: &Landing) -> Result<(), AllocError>
+    ensures { OnOk result
+        (text.new.items ≡ text.old.items ++ (codes " and enters it: " ++ landing_text landing.now)) }
+{
+    text.extend_from_slice(b" and enters it: ")?;
+    push_landing(text, landing)
+}
+
+/// Adds why a run doesn't land after a return by an offset.
+fn push_returns<A: Allocator>(
+    text: &mut Vec<u8, A>,
+    offset: usize,
+    landing: &Landing,
+) -> Result<(), AllocError>
+    ensures { OnOk result (text.new.items ≡ text.old.items
+        ++ (around_number (codes ", which returns by offset ") offset (codes ": ")
+        ++ landing_text landing.now)) }
+{
+    push_around_number(text, b", which returns by offset ", offset, b": ")?;
+    push_landing(text, landing)
+}
+
+/// Adds what a call breaks.
+fn push_call<A: Allocator>(text: &mut Vec<u8, A>, breach: &CallBreach) -> Result<(), AllocError>
+    ensures { OnOk result (text.new.items ≡ text.old.items ++ call_text breach.now) }
+{
+    match breach {
+        CallBreach::NoEntry => text.extend_from_slice(b", which isn't an entry"),
+        CallBreach::NotListed => text.extend_from_slice(b", which has no routine line"),
+        CallBreach::NotLower(rank, own) => {
+            let mut digits = Buffer::new();
+            push_around_number(
+                text,
+                b" of rank ",
+                *rank,
+                b", which isn't below the caller's, ",
+            )?;
+            text.extend_from_slice(digits.format(*own).as_bytes())
+        }
+        CallBreach::Writes(cell) => push_around(
+            text,
+            b", which may write ",
+            *cell,
+            b", and the caller's written set doesn't have it",
+        ),
+        CallBreach::EntryNotWritten => {
+            text.extend_from_slice(b", which the caller's written set doesn't have")
+        }
+        CallBreach::WritesCaller => {
+            text.extend_from_slice(b", which may write the caller's entry")
+        }
+        CallBreach::NoSite => {
+            text.extend_from_slice(b", and the address isn't one of its sites")
+        }
+        CallBreach::TooHigh => text.extend_from_slice(b", from an address past 7767"),
+        CallBreach::Enters(landing) => push_enters(text, landing),
+        CallBreach::Returns(offset, landing) => push_returns(text, *offset, landing),
+    }
+}
+
+/// Adds what a return breaks.
+fn push_return<A: Allocator>(text: &mut Vec<u8, A>, breach: &ReturnBreach) -> Result<(), AllocError>
+    ensures { OnOk result (text.new.items ≡ text.old.items ++ return_text breach.now) }
+{
+    match breach {
+        ReturnBreach::OtherRoutine => text.extend_from_slice(b", which isn't its own entry"),
+        ReturnBreach::NotDeclared(offset) => {
+            push_around_number(text, b" by offset ", *offset, b", which isn't declared")
+        }
+        ReturnBreach::NoExit(offset) => {
+            push_around_number(text, b" by offset ", *offset, b", which has no exit line")
+        }
+        ReturnBreach::Excluded(offset, gap) => {
+            push_around_number(text, b" by offset ", *offset, b": ")?;
+            push_gap(text, gap)?;
+            text.extend_from_slice(b", which the exit line excludes")
+        }
+    }
+}
+
+/// Adds a cell that may be written, and what is wrong with that.
+fn push_write<A: Allocator>(
+    text: &mut Vec<u8, A>,
+    cell: Word,
+    wrong: &[u8],
+) -> Result<(), AllocError>
+    ensures { OnOk result
+        (text.new.items ≡ text.old.items ++ around (codes "it may write ") cell wrong.now) }
+{
+    push_around(text, b"it may write ", cell, wrong)
+}
+
+/// Adds what a word breaks.
+fn push_breach<A: Allocator>(text: &mut Vec<u8, A>, breach: &Breach) -> Result<(), AllocError>
+    ensures { OnOk result (text.new.items ≡ text.old.items ++ breach_text breach.now) }
+{
+    match breach {
+        Breach::NotSupported => text.extend_from_slice(b"it isn't supported"),
+        Breach::WritesUndeclared(cell) => {
+            push_write(text, *cell, b", which is neither a variable nor an entry")
+        }
+        Breach::WritesEntry(cell) => push_write(text, *cell, b", which is an entry"),
+        Breach::WritesUnlisted(cell) => {
+            push_write(text, *cell, b", which isn't in the routine's written set")
+        }
+        Breach::HaltsUndeclared => {
+            text.extend_from_slice(b"it halts, and no halt is declared there")
+        }
+        Breach::CallsThroughIndex => {
+            text.extend_from_slice(b"it calls through an auto-index cell")
+        }
+        Breach::Calls(entry, call) => {
+            push_place(text, b"it calls ", *entry)?;
+            push_call(text, call)
+        }
+        Breach::Returns(entry, back) => {
+            push_place(text, b"it returns through ", *entry)?;
+            push_return(text, back)
+        }
+        Breach::GoesOn(at, landing) => {
+            push_around(text, b"it may go on at ", *at, b": ")?;
+            push_landing(text, landing)
+        }
+        Breach::ReadsUnlisted(cell) => push_around(
+            text,
+            b"it may read ",
+            *cell,
+            b", which isn't on the list of reads",
+        ),
+    }
+}
+
+/// Adds why a condition fails.
+fn push_reason<A: Allocator>(text: &mut Vec<u8, A>, reason: &Reason) -> Result<(), AllocError>
+    ensures { OnOk result (text.new.items ≡ text.old.items ++ reason_text reason.now) }
+{
+    match reason {
+        Reason::NoFact => text.extend_from_slice(b"no fact is there"),
+        Reason::StartExcluded(gap) => {
+            text.extend_from_slice(b"at a start ")?;
+            push_gap(text, gap)?;
+            text.extend_from_slice(b", which the fact there excludes")
+        }
+        Reason::LineAtNoEntry => text.extend_from_slice(
+            b"a routine or exit line names the address, which isn't an entry",
+        ),
+        Reason::InNoBody => {
+            text.extend_from_slice(b"a fact is there, and the address is in no body")
+        }
+        Reason::OffsetInMain(offset) => push_around_number(
+            text,
+            b"the fact is in main's body, and has the offset ",
+            *offset,
+            b"",
+        ),
+        Reason::NoOffset(entry) => push_around(
+            text,
+            b"the fact is in the body of ",
+            *entry,
+            b", and has no offset",
+        ),
+        Reason::RoutineNotListed(entry) => push_around(
+            text,
+            b"the fact is in the body of ",
+            *entry,
+            b", which has no routine line",
+        ),
+        Reason::TooManyWords(count) => {
+            push_around_number(text, b"", *count, b" words are possible")
+        }
+        Reason::ByWord(_, breach) => push_breach(text, breach),
+    }
+}
+
+/// Adds the line of a reason, if there is one.
+fn push_reason_line<A: Allocator>(
+    text: &mut Vec<u8, A>,
+    reason: &Option<Reason>,
+) -> Result<(), AllocError>
+    ensures { OnOk result (text.new.items ≡ text.old.items ++ reason_line reason.now) }
+{
+    let Some(reason) = reason else {
+        return Ok(());
+    };
+    push_reason(text, reason)?;
+    text.extend_from_slice(b"\n")
+}
+
+/// The word that is shown: the one that breaks the condition, or else the tape's.
+fn word_shown(image: &Image, at: Word, reason: &Option<Reason>) -> Option<Word>
+    ensures { result ≡ word_shown image.now at reason.now }
+{
+    match reason {
+        Some(Reason::ByWord(word, _)) => Some(*word),
+        _ => image.get(at),
+    }
+}
+
+/// Adds the line of what a condition asks.
+fn push_asked<A: Allocator>(text: &mut Vec<u8, A>, condition: Condition) -> Result<(), AllocError>
+    ensures { OnOk result (text.new.items ≡ text.old.items
+        ++ (condition_text condition ++ codes " asks: " ++ asked_text condition ++ codes "\n")) }
+{
+    text.extend_from_slice(condition_name(condition).as_bytes())?;
+    text.extend_from_slice(b" asks: ")?;
+    text.extend_from_slice(asked(condition))?;
+    text.extend_from_slice(b"\n")
+}
+
+/// Adds why a verdict is no: the address with its word and its name, what the condition asks, and
+/// why it fails.
+pub fn push_why<A: Allocator>(
+    text: &mut Vec<u8, A>,
+    profile: Profile,
+    image: &Image,
+    verdict: &Result<(), Refusal>,
+    reason: &Option<Reason>,
+) -> Result<(), AllocError>
+    ensures { OnOk result
+        (text.new.items ≡ text.old.items
+        ++ why_text profile image.now verdict.now reason.now) }
+{
+    let Err(refusal) = verdict else {
+        return Ok(());
+    };
+    let shown = word_shown(image, refusal.address, reason);
+    push_dump_line(text, refusal.address, shown, profile)?;
+    push_asked(text, refusal.condition)?;
+    push_reason_line(text, reason)
+}

@@ -1,0 +1,59 @@
+#!/usr/bin/env python3
+"""Times the first look, the first run and the gate in a fresh clone, with nothing kept from earlier runs.
+
+The toolchain keeps what it proved in a folder beside its own. That folder is moved away before and put back after, whatever
+happens. Nothing else should run on the machine. A time is by the clock; the processor's minutes are those of all that ran.
+
+usage: tests/time.py try|run|test [PROCESSORS]    PROCESSORS is how many are used; without it all
+"""
+import os
+import resource
+import shutil
+import subprocess
+import sys
+import tempfile
+import time
+
+TOP = os.path.join(os.path.dirname(os.path.abspath(__file__)), '..')
+EXPECTED = {'try': 'half a minute', 'run': 'a third of an hour', 'test': 'an hour, and nearly two with two processors'}
+
+
+def kept_folder():
+    """The folder in which the toolchain keeps what it proved."""
+    page = subprocess.run(['rt', 'doc'], capture_output=True, text=True, check=True).stdout.strip()
+    return os.path.join(os.path.dirname(os.path.dirname(page)), 'rattle-kept')
+
+
+def timed(target, processors):
+    """Makes a target in a fresh clone, and says how long it took and how it ended."""
+    with tempfile.TemporaryDirectory() as room:
+        subprocess.run(['git', 'clone', '-q', TOP, f'{room}/clone'], check=True)
+        begin = time.monotonic()
+        done = subprocess.run(['taskset', '-c', f'0-{processors - 1}', 'make', target], cwd=f'{room}/clone', check=False)
+        minutes = (time.monotonic() - begin) / 60
+    used = resource.getrusage(resource.RUSAGE_CHILDREN)
+    worked = (used.ru_utime + used.ru_stime) / 60
+    print(f'make {target}: {minutes:.1f} min by the clock, {worked:.1f} processor min, {processors} processors, status {done.returncode}')
+    return done.returncode
+
+
+def main():
+    if len(sys.argv) < 2 or sys.argv[1] not in EXPECTED:
+        sys.exit(__doc__)
+    processors = int(sys.argv[2]) if len(sys.argv) > 2 else os.cpu_count()
+    print(f'make {sys.argv[1]} with nothing kept: expect {EXPECTED[sys.argv[1]]}. Load now: {os.getloadavg()[0]:.1f}', flush=True)
+    kept = kept_folder()
+    aside = f'{kept}-aside-{os.getpid()}'
+    if os.path.isdir(kept):
+        os.rename(kept, aside)
+    try:
+        status = timed(sys.argv[1], processors)
+    finally:
+        if os.path.isdir(aside):
+            shutil.rmtree(kept, ignore_errors=True)
+            os.rename(aside, kept)
+    sys.exit(status)
+
+
+if __name__ == '__main__':
+    main()

@@ -45,7 +45,7 @@ pub record SaysFactAt (at : ℕ) (ls : List Line) (s : Statement) (offsets : Wor
   pub statement : fact_statement (drop at ls) ≡ Some (with_details s (drop (at + 1) ls))
   pub room : FitUnderFirst (drop at ls) → HasRoomUnder s (drop (at + 1) ls)
 
--- The same of an exit's line.
+-- The line at a place is an exit's, and this is what it says but for its details, for which there is room.
 pub record SaysExitAt (at : ℕ) (ls : List Line) (s : Statement) : Type 0 where
   pub fact : first_exit (drop at ls) ≡ fact_of (with_details s (drop (at + 1) ls)) everything
   pub statement : exit_statement (drop at ls) ≡ Some (with_details s (drop (at + 1) ls))

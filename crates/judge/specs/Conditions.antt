@@ -77,7 +77,8 @@ pub record Covers (c : Certificate) (r e : ℕ) : Type 0 where
   pub entry : c.writes r e ≡ true
   pub own : c.writes e r ≡ false
 
--- Nothing of this is asked of main.
+-- Where the caller is a routine, what its callee may write, and the callee's entry, are in its written set, and its own
+-- entry isn't in the callee's. Of main none of this is asked.
 abbrev pub CoversCallee : Certificate → Routine → ℕ → Type 0
 CoversCallee c None e = Unit {0}
 CoversCallee c (Some r) e = Covers c r e

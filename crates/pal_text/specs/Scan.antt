@@ -15,7 +15,8 @@ use Rattle.pal_text.specs.Characters.{char, code, is_ignored, returned, in_comme
 use Rattle.pal_text.specs.Tokens.{is_space, kind_of, token, is_end}
 use Rattle.pal_text.specs.Adding.{added, tokens}
 
--- The same as `returned` after one more byte.
+-- Whether a line feed would follow a carriage return after one more byte, by whether it would before that: `returned`
+-- in one step.
 abbrev pub returned_by : Bool → ℕ → Bool
 returned_by before b = if nat_eq (code b) (char "\r") then true else if is_ignored (code b) || nat_eq (code b) (char "\n") then before else false
 

@@ -29,12 +29,12 @@ abbrev pub IsFactLine : Line → Statement → Words → Type 0
 IsFactLine (FactIs a r known) s offsets = (s ≡ stated r []) × (offsets ≡ known)
 IsFactLine _ s offsets = ⊥
 
--- It is an exit's that says this, but for its details.
+-- The line is an exit's that says this, but for its details.
 abbrev pub IsExitLine : Line → Statement → Type 0
 IsExitLine (ExitIs e o r) s = s ≡ stated r []
 IsExitLine _ s = ⊥
 
--- It is that of a routine.
+-- The line is a routine's with this rank, these sites and these written cells.
 abbrev pub IsRoutineLine : Line → Routine → Type 0
 IsRoutineLine (RoutineIs r) given = (given.rank ≡ r.rank) × (words given.sites ≡ r.sites) × (words given.writes ≡ r.writes)
 IsRoutineLine _ given = ⊥

@@ -42,9 +42,9 @@ abbrev pub is_8e : Profile → Bool
 is_8e Pdp8I = false
 is_8e Pdp8E = true
 
--- What each device operation does to the processor: RSF, PSF, KSF and TSF may skip; RRB, alone or with RFC, and KRS or
--- a byte into the accumulator; KCC clears it; KRB clears it and takes a byte; all others, IOF among them, leave the
--- processor.
+-- What each device operation does to the processor: RSF, PSF, KSF and TSF may skip; by RRB, alone or with RFC, and by
+-- KRS a byte is ored into the accumulator; KCC clears the accumulator; KRB clears it and takes a byte; all others, IOF
+-- among them, leave the processor.
 abbrev pub processor_action : DeviceOperation → DeviceAction
 processor_action DisableInterrupts = Leaves
 processor_action SkipOnReaderFlag = Skips

@@ -93,7 +93,7 @@ abbrev pub group3_name_if : Option MqOperate → List ℕ
 group3_name_if (Some operate) = group3_name operate
 group3_name_if None = codes "?"
 
--- The mnemonic of each device operation; the one that takes the reader's byte and fetches the next frame is shown as
+-- The mnemonic of each device operation; the one that reads the reader's byte and fetches the next frame is shown as
 -- RRB RFC.
 abbrev pub device_name : DeviceOperation → List ℕ
 device_name DisableInterrupts = codes "IOF"

@@ -205,7 +205,8 @@ place_among V11 = 12
 place_among V4 = 13
 place_among V15 = 14
 
--- The order in which the conditions are asked: the first one, then by rising address, then by the place among those at one address.
+-- The order in which the conditions are asked: the first one, then by rising address, then by the place among those at
+-- one address.
 abbrev pub order : Condition → ℕ → ℕ
 order v a = if is_first_condition v then 0 else 16 * a + place_among v
 

@@ -1,4 +1,5 @@
--- How the tokens of a statement are read from its bytes. Lists of bytes and of tokens have the newest first here, but for what stands in a source or among a statement's own tokens.
+-- How the tokens of a statement are read from its bytes. Lists of bytes and of tokens have the newest first here, but for
+-- what stands in a source or among a statement's own tokens.
 use Rattle.std.specs.Prelude.{◌≡◌, ℕ, ◌+◌, ◌≤◌, ◌<◌, Bool, true, false, ◌||◌, if◌then◌else◌, List, [], ◌∷◌, ◌++◌, Option, Some, None, length, reverse, take, get_or, nat_eq}
 use Rattle.std.specs.List.{AllByRecursion}
 use Rattle.pal_text.specs.declared.tokens.Kind.{Kind}

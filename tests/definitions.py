@@ -10,8 +10,7 @@ a public type or trait says by ghost items, but for invariants; it reaches the d
 name. A module in specs/inside/, or one whose first comment says that it serves private contracts, must not be reached.
 
 Each must have a comment that says more than its name: the lines right above it, without a blank line between, or the first
-comment of a module that has no other definition. A comment above one definition isn't taken to cover the next ones. Those
-that lack one yet are named in tests/uncommented.txt, one in a line, and no others may be.
+comment of a module that has no other definition. A comment above one definition isn't taken to cover the next ones.
 
 The crates stand in the order and under the headings of crates.txt, each with the first sentence of its src/lib.rt. The
 modules of a crate stand as its Lib.antt names them, but each after those that it uses."""
@@ -25,7 +24,6 @@ from rattle_sources import crates_of, functions_of, modules_of
 
 ROOT = os.path.dirname(os.path.dirname(os.path.abspath(__file__)))
 PAGE = "docs/DEFINITIONS.md"
-UNCOMMENTED = "tests/uncommented.txt"
 WIDTH = 120
 # What these hold is no contract on a caller's side: how a value is kept.
 INSIDE = ("invariant", "inverse")
@@ -38,7 +36,7 @@ FRONT = """\
 What is promised of the code is said in terms of the definitions below. The checker sees to it that the code keeps them; that \
 they say what a PDP-8, a tape or a safe program is, only a reader can see. So here is each definition that the contract of a \
 public function, type or trait reaches, with its comment, under its module. Each crate stands after those that it uses, and \
-so does each module of a crate. "No comment" says that a definition has none of its own: one above may speak of it too.
+so does each module of a crate.
 
 What isn't listed need not be believed: everything under `proofs/`, and the definitions that only private contracts cite.
 
@@ -182,17 +180,9 @@ def wrapped(text, indent=""):
 
 
 def rows(module, definitions):
-    """A row for each of these definitions of a module; those without a comment that stand together share one."""
-    bare = []
-    for it in [*definitions, None]:
-        comment = comment_of(module, it) if it else ""
-        if bare and (comment or not it):
-            yield f"- {', '.join(bare)}: no comment"
-            bare = []
-        if comment:
-            yield wrapped(f"- `{it.name}`: {comment}", "  ")
-        elif it:
-            bare.append(f"`{it.name}`")
+    """A row for each of these definitions of a module."""
+    for it in definitions:
+        yield wrapped(f"- `{it.name}`: {comment_of(module, it) or 'no comment'}", "  ")
 
 
 def page(definitions, reached):
@@ -211,12 +201,6 @@ def page(definitions, reached):
     return "\n\n".join(it for it in parts if it) + "\n"
 
 
-def uncommented(root):
-    """The definitions that may lack a comment yet."""
-    with open(f"{root}/{UNCOMMENTED}", encoding="utf-8") as file:
-        return [tuple(it.split()) for it in file.read().splitlines() if it and not it.startswith("#")]
-
-
 def lacking(definitions, reached):
     """The reached definitions that have no comment, or one that says nothing."""
     for key in sorted(reached):
@@ -225,20 +209,15 @@ def lacking(definitions, reached):
 
 
 def differences(definitions, reached):
-    """What is wrong with the definitions, with the list of those without a comment, and with the page."""
+    """What is wrong with the definitions and with the page."""
     known = {it for _, crates in crates_in_order(definitions.root) for it in crates}
     for crate in sorted({it[0] for it in reached} - known):
         yield f"crates.txt has no crate {crate}"
     for key in sorted(reached):
         if definitions.modules[key[0]][key[1]].is_private:
             yield f"{key[0]}, {key[1]} serves private contracts, but {reached[key]} reaches {key[2]}"
-    listed, bare = uncommented(definitions.root), list(lacking(definitions, reached))
-    for key in bare:
-        if key not in listed:
-            yield f"{key[0]}, {key[1]}: {key[2]}, which {reached[key]} reaches, has no comment that says more than its name"
-    for at, key in enumerate(listed):
-        if key not in bare or key in listed[:at]:
-            yield f"{UNCOMMENTED}: {' '.join(key)} must leave the list: it has a comment, isn't reached or is named twice"
+    for key in lacking(definitions, reached):
+        yield f"{key[0]}, {key[1]}: {key[2]}, which {reached[key]} reaches, has no comment that says more than its name"
     if not os.path.isfile(f"{definitions.root}/{PAGE}"):
         yield f"there is no {PAGE}: tests/definitions.py --write makes it"
         return
@@ -280,7 +259,7 @@ def main(words):
             file.write(page(definitions, reached))
     found = list(differences(definitions, reached))
     print("".join(f"{it}\n" for it in found), end="")
-    print(f"definitions: {len(reached)} to believe, {len(uncommented(ROOT))} without a comment, {len(found)} differences")
+    print(f"definitions: {len(reached)} to believe, {len(found)} differences")
     return 1 if found else 0
 
 

@@ -4,6 +4,9 @@ usage: tests/definitions.py                          names each difference; exit
        tests/definitions.py --write                  makes the page
        tests/definitions.py --compare BEFORE AFTER   the definitions that public contracts reach: which were lost or added
                                                      from one folder to the other, and which read otherwise
+       tests/definitions.py --behind CRATE::NAME..   each module with the definitions behind these names: those that the
+                                                     definitions of this name reach, themselves among them, or the
+                                                     contracts of the public functions of this name
 
 The page has each definition that a public contract reaches. A public contract is the clauses of a public function, or what
 a public type or trait says by ghost items, but for invariants; it reaches the definitions that it names and those that they
@@ -94,21 +97,40 @@ class Definitions:
             if re.match(r" *pub record", text):
                 above |= bound_in(part) | {*re.findall(r"^\s+pub ([\w']+) :", part)}
 
+    def cited(self, function):
+        """The definitions that the contract of a function names."""
+        parameters = set(re.findall(r"(\w+):", function.head))
+        for text in [it[2] for it in function.clauses if it[1] not in INSIDE]:
+            yield from self.named(text, function.imports, None, parameters | bound_in(text))
+
+    def closed(self, ahead, why, found):
+        """Puts these definitions, and all that they name, into what is found, each with the reason why."""
+        ahead = list(ahead)
+        while ahead:
+            key = ahead.pop()
+            if key not in found:
+                found[key] = why
+                ahead += self.used(key)
+
     def reached(self):
         """Each definition that a public contract reaches, with a function whose contract does."""
         found = {}
         for crate, folder in self.folders.items():
             for function in functions_of(crate, folder):
-                parameters = set(re.findall(r"(\w+):", function.head))
-                texts = [it[2] for it in function.clauses if it[1] not in INSIDE]
-                ahead = []
-                for text in texts:
-                    ahead += self.named(text, function.imports, None, parameters | bound_in(text))
-                while ahead:
-                    key = ahead.pop()
-                    if key not in found:
-                        found[key] = f"{crate}::{function.name}"
-                        ahead += self.used(key)
+                self.closed(self.cited(function), f"{crate}::{function.name}", found)
+        return found
+
+    def behind(self, names):
+        """The definitions behind these names."""
+        found = {}
+        for name in names:
+            crate, _, rest = name.partition("::")
+            modules, folder = self.modules.get(crate, {}), self.folders.get(crate)
+            ahead = [(crate, it.name, rest) for it in modules.values() if rest in it.definitions]
+            called = [it for it in functions_of(crate, folder) if it.name == rest] if folder else []
+            if not ahead and not called:
+                raise KeyError(name)
+            self.closed(ahead + [key for it in called for key in self.cited(it)], name, found)
         return found
 
 
@@ -245,9 +267,33 @@ def compared(before, after):
             yield "\n".join([f"CHANGED {new[0]}::{new[1]}", *gone, *come])
 
 
+def told_behind(definitions, names):
+    """A line for each module with definitions behind these names: how many there are, how many lines it has, and which."""
+    found = definitions.behind(names)
+    lines_of_all = 0
+    crates = [crate for _, crates in crates_in_order(definitions.root) for crate in crates if crate in definitions.modules]
+    modules = [(crate, it) for crate in crates for it in in_order(crate, definitions.modules[crate])]
+    shown = [(crate, it) for crate, it in modules if any(key[:2] == (crate, it.name) for key in found)]
+    for crate, module in shown:
+        taken = [it for it in module.definitions if (crate, module.name, it) in found]
+        file = f"crates/{crate}/specs/{module.name.replace('.', '/')}.antt"
+        with open(f"{definitions.root}/{file}", encoding="utf-8") as text:
+            count = len(text.readlines())
+        lines_of_all += count
+        yield wrapped(f"{crate} {module.name}: {len(taken)} of {len(module.definitions)} definitions, in {count} lines: {' '.join(taken)}", "    ")
+    yield f"behind {' '.join(names)}: {len(found)} definitions in {len(shown)} modules of {lines_of_all} lines"
+
+
 def main(words):
     if words[:1] == ["--compare"] and len(words) == 3:
         print("\n".join(sorted(compared(*words[1:]))))
+        return 0
+    if words[:1] == ["--behind"] and len(words) > 1:
+        try:
+            print("\n".join(told_behind(Definitions(ROOT), words[1:])))
+        except KeyError as error:
+            print(f"there is no definition and no public function {error.args[0]}", file=sys.stderr)
+            return 1
         return 0
     if words not in ([], ["--write"]):
         print(__doc__, file=sys.stderr)

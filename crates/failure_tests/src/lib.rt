@@ -1,0 +1,14 @@
+//! What is answered where memory, a read or a write fails: each request, each read and each write in turn. The same of
+//! the program, over a runtime whose files and streams fail; and calls of the libraries that no command makes, once.
+#![tactic(auto)]
+
+#[cfg(test)]
+mod desk;
+#[cfg(test)]
+mod failing;
+#[cfg(test)]
+mod fixtures;
+#[cfg(test)]
+mod interrupts;
+#[cfg(test)]
+mod requests;

@@ -15,70 +15,29 @@ static INPUT: &[u8] = b"*200\nHLT\n$\n";
 /// A tape with the word of that source, with a shorter leader and trailer.
 static HALT: &[u8] = b"\x80\x80\x80\x80\x42\x00\x3c\x02\x02\x00\x80\x80\x80\x80";
 
-/// The tape of DEC's RIM loader for the high-speed reader.
-static RIM_LOADER: &[u8] = b"\
-    \x80\x80\x80\x80\x7f\x2e\x30\x0c\x30\x09\x2b\x2f\x30\x0e\x39\x06\x38\x06\x3d\x08\x2b\x3c\
-    \x38\x06\x30\x09\x2b\x37\x30\x0e\x3c\x10\x1f\x3e\x1b\x3e\x2b\x2f\x00\x00\x15\x16\x80\x80\
-    \x80\x80\
-";
+/// The tape of a program that prints and punches an A: TAD 0204, TLS, PLS, HLT, 0301.
+static LETTER: &[u8] = b"\x80\x80\x42\x00\x0a\x04\x30\x26\x30\x16\x3c\x02\x03\x01\x04\x2e\x80\x80";
 
-/// A RIM tape that prints A from 0000 on and halts, with a word that starts it.
-static CARD: &[u8] = b"\
-    \x80\x80\x80\x80\x40\x00\x3b\x00\x40\x01\x08\x06\x40\x02\x30\x26\x40\x03\x30\x21\x40\x04\
-    \x28\x03\x40\x05\x3c\x02\x40\x06\x03\x01\x7f\x3d\x2f\x3e\x80\x80\x80\x80\
-";
-
-/// The tape of a program that copies the reader to the punch up to a frame 377.
-static COPIER: &[u8] = b"\
-    \x80\x80\x80\x80\x42\x00\x3b\x00\x30\x0c\x30\x09\x2a\x02\x30\x0a\x30\x16\x30\x11\x2a\x06\
-    \x0a\x0f\x3e\x28\x2a\x0d\x30\x0c\x2a\x02\x3c\x02\x2a\x00\x3c\x01\x0f\x12\x80\x80\x80\x80\
-";
-
-/// The tape of a program that prints what is typed up to a carriage return.
-static ECHO: &[u8] = b"\
-    \x80\x80\x80\x80\x42\x00\x3b\x00\x30\x26\x30\x19\x2a\x02\x30\x1e\x22\x0b\x0a\x10\x3e\x20\
-    \x2a\x02\x3c\x02\x2a\x00\x00\x00\x30\x21\x2a\x0c\x30\x26\x2e\x0b\x3d\x33\x11\x15\x80\x80\
-    \x80\x80\
-";
-
-/// The tape of a program that takes the switches.
-static SWITCHES: &[u8] = b"\x80\x80\x80\x80\x42\x00\x3e\x04\x3c\x02\x03\x02\x80\x80\x80\x80";
-
-/// What the file of this name has, if there is one. A read of `failing` fails.
+/// What the file of this name has, if there is one. Where the name begins with `failing`, a read behind that fails.
 fn content(name: &str) -> Option<&'static [u8]> {
     match name {
         "halt.bin" => Some(HALT),
-        "bad.bin" => Some(b"\x80\x80"),
+        "letter.bin" => Some(LETTER),
         "halt.pal" => Some(INPUT),
         "bad.pal" => Some(b"TAD 600\n"),
         "halt.dcl" => Some(b"start 200\nmain 200\nstop 200\n"),
-        "8e.dcl" => Some(b"profile 8e\nstart 200\nmain 200\nstop 200\n"),
-        "bad.dcl" => Some(b"main 9\n"),
+        "wild.dcl" => Some(b"start 200\nmain 200\n"),
         "halt.cert" => {
             Some(b"PDP8-CERTIFICATE 1\nfact 0200 ac 0000-7777 link 01 offsets -\nend\n")
         }
-        "bad.cert" => Some(b"PDP8-CERTIFICATE 1\nfact 0200\nend\n"),
-        "wild.dcl" => Some(b"start 200\nmain 200\n"),
         "step.ev" => Some(b"step\n"),
-        "bad.ev" => Some(b"steps\n"),
-        "rim.bin" => Some(RIM_LOADER),
-        "card.rim" => Some(CARD),
-        "copier.bin" => Some(COPIER),
-        "echo.bin" => Some(ECHO),
-        "switches.bin" => Some(SWITCHES),
-        "old.tape" => Some(b"\x00\x80A\x7f\xff\x01"),
-        "hi.keys" => Some(b"HI\r?"),
-        "failing" => Some(b""),
+        "failing.bin" => Some(b"\x80\x80\x80\x80\x42\x00\x3c"),
+        "failing.pal" => Some(b"*200\nHLT\n"),
+        "failing.dcl" => Some(b"start 200\nmain 200\n"),
+        "failing.cert" => Some(b"PDP8-CERTIFICATE 1\nfact 0200"),
+        "failing.ev" => Some(b"step\n"),
+        "failing.tape" => Some(b"\x00\x01"),
         _ => None,
-    }
-}
-
-/// What a file has that is made, if it can be made. A write to `failing` fails.
-fn made(name: &str) -> Option<&'static [u8]> {
-    if name.starts_with("absent/") {
-        None
-    } else {
-        Some(b"")
     }
 }
 
@@ -115,7 +74,7 @@ impl Page {
     }
 }
 
-/// A file: the bytes still to be read, and where the written ones go.
+/// A file: the bytes still to be read, whether a read behind them fails, and where the written ones go.
 #[derive(Drop)]
 pub struct Sheet<'d> {
     rest: &'d [u8],
@@ -125,7 +84,7 @@ pub struct Sheet<'d> {
 
 impl Read for Sheet<'_> {
     fn read(&mut self, buf: &mut [u8]) -> io::Result<usize> {
-        if self.fails {
+        if self.fails && self.rest.is_empty() {
             return Err(unsupported());
         }
         self.rest.read(buf)
@@ -134,9 +93,6 @@ impl Read for Sheet<'_> {
 
 impl Write for Sheet<'_> {
     fn write(&mut self, buf: &[u8]) -> io::Result<usize> {
-        if self.fails {
-            return Err(unsupported());
-        }
         self.written.add(buf)?;
         Ok(buf.len())
     }
@@ -179,17 +135,14 @@ impl OpenFile for Sheet<'_> {
 struct Pages {
     printed: Page,
     told: Page,
-    opened: Page,
     written: Page,
 }
 
-/// The runtime. Its words are those of a text, separated by spaces; one of them may begin with a byte
-/// with which no text begins.
+/// The runtime. Its words are those of a text, separated by spaces.
 #[derive(Drop)]
 struct Desk<'d> {
     alloc: Global,
     words: &'d str,
-    spoiled: Option<usize>,
     pages: &'d Pages,
 }
 
@@ -211,9 +164,6 @@ impl Env for Desk<'_> {
             return Err(FillError::TooLong);
         }
         buf[..bytes.len()].copy_from_slice(bytes);
-        if Some(i) == self.spoiled && !bytes.is_empty() {
-            buf[0] = 0xff;
-        }
         Ok(bytes.len())
     }
 
@@ -283,10 +233,8 @@ impl<'d> Files for Desk<'d> {
 
     fn open_file(&self, how: &OpenOptions, path: &str) -> io::Result<Sheet<'d>> {
         how.check()?;
-        self.pages.opened.add(path.as_bytes())?;
-        self.pages.opened.add(b" ")?;
         let found = if how.asks_create() {
-            made(path)
+            Some(b"".as_slice())
         } else {
             content(path)
         };
@@ -337,6 +285,21 @@ impl<'d> Files for Desk<'d> {
     }
 }
 
+/// For how many bytes there is room on standard output, on standard error and in files.
+#[derive(Clone, Copy)]
+pub struct Rooms {
+    pub printed: usize,
+    pub told: usize,
+    pub written: usize,
+}
+
+/// There is room for all.
+pub const ROOMY: Rooms = Rooms {
+    printed: usize::MAX,
+    told: usize::MAX,
+    written: usize::MAX,
+};
+
 /// What the program leaves.
 #[derive(Drop)]
 pub struct Ended {
@@ -346,59 +309,31 @@ pub struct Ended {
     pub printed: Vec<u8, Global>,
     /// What went to standard error.
     pub told: Vec<u8, Global>,
-    /// The names of the files that it opened or made, in order, a space after each.
-    pub opened: Vec<u8, Global>,
     /// What went to files.
     pub written: Vec<u8, Global>,
 }
 
-/// Runs the program with these words, separated by spaces.
-pub fn run_program(alloc: Global, words: &str) -> Ended {
-    run_with_room(alloc, words, usize::MAX, usize::MAX)
-}
-
-/// Runs the program with these words where standard output fails at a write past so many bytes, and
-/// standard error past so many.
-pub fn run_with_room(alloc: Global, words: &str, printed: usize, told: usize) -> Ended {
-    collected(alloc, words, None, printed, told)
-}
-
-/// Runs the program with these words, of which the one at a place isn't text.
-pub fn run_spoiled(alloc: Global, words: &str, at: usize) -> Ended {
-    collected(alloc, words, Some(at), usize::MAX, usize::MAX)
-}
-
-/// Runs the program, and collects what it wrote.
-fn collected(
-    alloc: Global,
-    words: &str,
-    spoiled: Option<usize>,
-    printed: usize,
-    told: usize,
-) -> Ended {
+/// Runs the program with these words, separated by spaces, where a write past the room that there is fails.
+pub fn run_program(alloc: Global, words: &str, rooms: Rooms) -> Ended {
     let pages = Pages {
-        printed: Page::new(alloc, printed),
-        told: Page::new(alloc, told),
-        opened: Page::new(alloc, usize::MAX),
-        written: Page::new(alloc, usize::MAX),
+        printed: Page::new(alloc, rooms.printed),
+        told: Page::new(alloc, rooms.told),
+        written: Page::new(alloc, rooms.written),
     };
     let status = exit_status(&Desk {
         alloc,
         words,
-        spoiled,
         pages: &pages,
     });
     let Pages {
         printed,
         told,
-        opened,
         written,
     } = pages;
     Ended {
         status,
         printed: printed.into_bytes(),
         told: told.into_bytes(),
-        opened: opened.into_bytes(),
         written: written.into_bytes(),
     }
 }

@@ -3,6 +3,8 @@
 #![tactic(auto)]
 
 #[cfg(test)]
+mod calls;
+#[cfg(test)]
 mod desk;
 #[cfg(test)]
 mod failing;
@@ -11,4 +13,12 @@ mod fixtures;
 #[cfg(test)]
 mod interrupts;
 #[cfg(test)]
+mod program;
+#[cfg(test)]
+mod readers;
+#[cfg(test)]
 mod requests;
+#[cfg(test)]
+mod worlds;
+#[cfg(test)]
+mod writers;

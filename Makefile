@@ -1,42 +1,65 @@
-# Thin: each target calls rt or a script.
+# Each target calls rt or a script. Times are those of four processors with nothing kept from earlier runs: make time.
 PREFIX ?= /usr/local
+PROGRAM ?= pdp8
+BUILT = crates/pdp8/out/pdp8
 
-# How many libraries are proved side by side: one for each processor that has 3 GB of free memory.
-JOBS ?= $(shell awk -v n="$$(nproc)" '/^MemAvailable/ { m = int($$2 / 3000000); print m < 1 ? 1 : m < n ? m : n }' /proc/meminfo)
+# How many checks the gate runs side by side: one for each processor.
+export RT_JOBS ?= $(shell nproc)
 
-.PHONY: run try test edits install bench fmt
+.PHONY: help try run test cases edits install time bench fmt
 
-# Proves the libraries below the command line side by side, then the command line and the program, which are one after
-# another and so get all the processors; builds the program and runs it on the stored tape.
-run:
-	@echo "Proving pdp8 and all below it with $(JOBS) jobs. From nothing this takes some 15 minutes on four processors, and"
-	@echo "seconds where nothing has changed. Each crate's lines come when it is done; make try proves nothing and is quick."
-	cd crates/commands && rt all check --jobs $(JOBS)
-	cd crates/workbench && rt check --jobs $(JOBS)
-	cd crates/pdp8 && rt run < stdin
+# Says what there is.
+help:
+	@echo "make try       the first look: builds pdp8 without any proof and runs it on a stored tape (half a minute)"
+	@echo "make run       proves pdp8 and all below it, builds it and runs it on that tape (see README.md for times)"
+	@echo "make test      the gate: every proof from nothing, wrong edits, tests, all cases"
+	@echo "make cases     the cases of tests/cases/, README.md and docs/ against the program that is built"
+	@echo "make edits     the wrong edits that the gate leaves out; CRATES=\"facts judge\" for those of some crates"
+	@echo "make install   puts $(PROGRAM), its man page and its completions below PREFIX=$(PREFIX)"
+	@echo "make time      times the first look, the first run and the gate with nothing kept (hours)"
+	@echo "make bench     times the program itself, beside others where they are installed"
+	@echo "make fmt       lays out the sources"
 
-# Runs the program on the stored tape without any proof, in less than a minute.
+# Builds and runs the program without any proof.
 try:
+	@echo "Building pdp8 without any proof. This takes half a minute."
 	cd crates/pdp8 && rt try < stdin
 	@echo "Nothing was proved. make run proves the program before it runs it."
 
-# The gate: the list of definitions, whether each edit applies and that there aren't too many, which takes a second; then every
-# proof from nothing, the edits in must-fail/, every test and the program.
+# Proves the program and all below it side by side, builds it, and runs it on the stored tape.
+run:
+	@echo "Proving pdp8 and all below it. README.md says how long that takes from nothing; where nothing has changed it takes seconds."
+	python3 tests/prove.py
+
+# The gate: the page of definitions, whether each edit applies and that there aren't too many; every proof from nothing, the
+# edits in must-fail/, every test and the program; and then all cases, with the program that was proved.
 test:
 	python3 tests/definitions.py
 	python3 tests/edits.py
 	rt ci
+	python3 tests/cases.py $(BUILT)
+
+# All cases, with the program that is built.
+cases:
+	python3 tests/cases.py $(BUILT)
 
 # The wrong edits that the gate leaves out, crates/NAME/more-edits/: the prover must refuse each. Whoever changes a contract
-# tries those of its crate, as by make edits CRATES="facts judge"; without CRATES all are tried, which may take hours.
+# tries those of its crate, as by make edits CRATES="facts judge"; without CRATES all are tried, which takes hours.
 edits:
 	python3 tests/more_edits.py $(CRATES)
 
-# Puts pdp8 into $(PREFIX)/bin, its man page and its completions for bash beside it.
+# Puts the program, its man page and its completions for bash below $(PREFIX).
 install: run
-	install -D -m 755 crates/pdp8/out/pdp8 $(PREFIX)/bin/pdp8
-	install -D -m 644 share/pdp8.1 $(PREFIX)/share/man/man1/pdp8.1
-	install -D -m 644 share/pdp8.bash $(PREFIX)/share/bash-completion/completions/pdp8
+	install -D -m 755 $(BUILT) $(PREFIX)/bin/$(PROGRAM)
+	install -D -m 644 share/pdp8.1 $(PREFIX)/share/man/man1/$(PROGRAM).1
+	install -D -m 644 share/pdp8.bash $(PREFIX)/share/bash-completion/completions/$(PROGRAM)
+
+# Times the first look, the first run and the gate, each in a fresh clone with nothing kept from earlier runs.
+time:
+	python3 tests/time.py try
+	python3 tests/time.py run
+	python3 tests/time.py test
+	python3 tests/time.py test 2
 
 # Times all that is timed, script after script: machine, tapes, sets, assembler, watcher, facts, certificates, guesses, an
 # archive. Needs Debian's simh and palbart, and rustc for the plain programs beside ours.

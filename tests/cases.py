@@ -9,13 +9,15 @@ A page is Markdown. Of its blocks of code these are read, in their order, in a f
 ```console            a line after "$ " is a command of bash, which goes on in the next line after a backslash; below it stand
                       the lines that it prints on standard output and standard error, and, where it isn't 0, its status: "[1]"
 ```table              "$ COMMAND" and then a row a line, "GIVEN | GIVEN => PRINTED [STATUS]": the command is run for each row
-                      with {1}, {2}, .. replaced by what is given. \\n, \\t, \\r, \\\\ and three octal digits after \\ are bytes
-                      in what is printed, and in what is given where it goes into a file; nothing given is written as -
+                      with {1}, {2}, .. replaced by what is given, without blanks at its ends. \\n, \\t, \\r, \\\\ and three
+                      octal digits after \\ are bytes in what is printed, and in what is given where it goes into a file;
+                      nothing given is written as -, a dash as --, and behind => nothing as nothing
 
 A file, a tape or bytes with the word "rows" at the end of its fence is written anew for each row of the tables below it, up to
 the next heading, with {1}, {2}, .. replaced. What a row writes is removed after it. A page finds in its folder the files of the
 programs of examples/ that it names, the tape NAME.bin of each source NAME.pal of theirs, and programs/, the folder
-tests/cases/programs, if it names that. Statuses are compared in tests/cases/; other pages may leave them out.
+tests/cases/programs, if it names that. Statuses are compared in tests/cases/; other pages may leave them out. The cases of
+the pages in tests/cases/wrong/ are wrong on purpose, and one of them fails where it isn't told as wrong.
 
 usage: tests/cases.py PDP8 [PAGE..]    PDP8 is the built program; without pages all of tests/cases/, README.md and docs/
 """
@@ -56,11 +58,14 @@ class Page:
 
     def compare(self, line, command, wanted, said):
         self.count += 1
-        if wanted != said:
+        if (wanted == said) == self.is_wrong_on_purpose():
             self.wrong.append(f'{self.path}:{line}: $ {command}\n  wanted {wanted}\n  said   {said}')
 
     def has_statuses(self):
         return 'cases' in self.path.split(os.sep)
+
+    def is_wrong_on_purpose(self):
+        return 'wrong' in self.path.split(os.sep)
 
 
 def blocks_of(text):
@@ -115,8 +120,8 @@ def tape_of(text):
 
 
 def filled(text, given):
-    """A text with {1}, {2}, .. replaced by what a row gives."""
-    return re.sub(r'\{(\d)\}', lambda it: given[int(it[1]) - 1] if int(it[1]) <= len(given) else it[0], text)
+    """A text with {1}, {2}, .. replaced by what a row gives; what it doesn't give is nothing."""
+    return re.sub(r'\{(\d)\}', lambda it: given[int(it[1]) - 1] if int(it[1]) <= len(given) else '', text)
 
 
 def write(block, folder, given=None):
@@ -134,10 +139,13 @@ def write(block, folder, given=None):
 
 
 def run(command, page):
-    """What a command prints, and its status."""
+    """What a command prints, and its status, or that it took too long."""
     path = page.program + os.pathsep + os.environ['PATH']
-    done = subprocess.run(['bash', '-c', command], cwd=page.folder, env={**os.environ, 'PATH': path}, stdin=subprocess.DEVNULL,
-                          stdout=subprocess.PIPE, stderr=subprocess.STDOUT, timeout=SECONDS)
+    try:
+        done = subprocess.run(['bash', '-c', command], cwd=page.folder, env={**os.environ, 'PATH': path}, stdin=subprocess.DEVNULL,
+                              stdout=subprocess.PIPE, stderr=subprocess.STDOUT, timeout=SECONDS, check=False)
+    except subprocess.TimeoutExpired:
+        return f'it took longer than {SECONDS} s\n'.encode(), 1
     return done.stdout, done.returncode
 
 
@@ -171,7 +179,7 @@ def run_table(block, templates, page):
         if not row.strip():
             continue
         given, _, wanted = row.partition('=>')
-        given = ['' if cell.strip() == '-' else cell.strip() for cell in given.split(' | ')]
+        given = [{'-': '', '--': '-'}.get(cell.strip(), cell.strip()) for cell in given.split(' | ')]
         for template in templates:
             write(template, page.folder, given)
         said, status = run(filled(command, given), page)
@@ -218,7 +226,7 @@ def run_page(path, program):
 def pages():
     """All pages with cases."""
     found = [os.path.join(TOP, 'README.md')]
-    for folder in ('docs', os.path.join('tests', 'cases')):
+    for folder in ('docs', os.path.join('tests', 'cases'), os.path.join('tests', 'cases', 'wrong')):
         folder = os.path.join(TOP, folder)
         found += [os.path.join(folder, name) for name in sorted(os.listdir(folder)) if name.endswith('.md')]
     return found

@@ -1,32 +1,61 @@
-"""Compares docs/DEFINITIONS.md with the definitions of the crates' specs/.
+"""Makes docs/DEFINITIONS.md from the comments of the crates' specs/, and sees to it that it is what they make.
 
-usage: tests/definitions.py [--root DIR]         names each difference; exit status 1 where there is one
-       tests/definitions.py --rows CRATE         the rows of a table for the definitions of a crate that aren't listed
-       tests/definitions.py --unreached          the names that are listed though no public contract reaches them
+usage: tests/definitions.py                          names each difference; exit status 1 where there is one
+       tests/definitions.py --write                  makes the page
        tests/definitions.py --compare BEFORE AFTER   the definitions that public contracts reach: which were lost or added
-                                                 from one folder to the other, and which read otherwise
+                                                     from one folder to the other, and which read otherwise
 
-A public definition that a public contract reaches must stand in the table of its crate, with its module, below those that
-it uses. A public contract is the clauses of a public function, or what a public type or trait says by ghost items, but for
-invariants; it reaches the definitions that it names and those that they name. A module in specs/inside/, or one whose first
-comment says that it serves private contracts, must not be reached. Tables stand below headings `## CRATE: ..`, and their
-rows are `| NAMES | MODULE | ..` with each name between backquotes. Each name must be a definition of that module."""
+The page has each definition that a public contract reaches. A public contract is the clauses of a public function, or what
+a public type or trait says by ghost items, but for invariants; it reaches the definitions that it names and those that they
+name. A module in specs/inside/, or one whose first comment says that it serves private contracts, must not be reached.
+
+Each must have a comment that says more than its name: the lines right above it, without a blank line between, or the first
+comment of a module that has no other definition. A comment above one definition isn't taken to cover the next ones. Those
+that lack one yet are named in tests/uncommented.txt, one in a line, and no others may be.
+
+The crates stand in the order and under the headings of crates.txt, each with the first sentence of its src/lib.rt. The
+modules of a crate stand as its Lib.antt names them, but each after those that it uses."""
 import os
 import re
 import sys
+import textwrap
 
 from clauses import matched
 from rattle_sources import crates_of, functions_of, modules_of
 
+ROOT = os.path.dirname(os.path.dirname(os.path.abspath(__file__)))
 PAGE = "docs/DEFINITIONS.md"
+UNCOMMENTED = "tests/uncommented.txt"
+WIDTH = 120
 # What these hold is no contract on a caller's side: how a value is kept.
 INSIDE = ("invariant", "inverse")
+# A comment of these and of the words of its name says nothing.
+SMALL = "a all an and are as at be by each for from has have in is it its no not of on one or that the this to what which with"
+
+FRONT = """\
+# The definitions, in reading order
+
+What is promised of the code is said in terms of the definitions below. The checker sees to it that the code keeps them; that \
+they say what a PDP-8, a tape or a safe program is, only a reader can see. So here is each definition that the contract of a \
+public function, type or trait reaches, with its comment, under its module. Each crate stands after those that it uses, and \
+so does each module of a crate. "No comment" says that a definition has none of its own: one above may speak of it too.
+
+What isn't listed need not be believed: everything under `proofs/`, and the definitions that only private contracts cite.
+
+Contracts use the toolchain's own definitions besides: numbers, lists, options and results with their tests (`IfOk`, `IfErr`, \
+`IfSome`), bit by bit `bit_and` and `bit_or`, `codes` for the bytes of a text, `decimal`, `lines`, and for sources and sinks \
+`Appends` (known bytes grow by these) and `Consumes` (known bytes begin with these, and lose them). What is taken from a \
+crate's `specs.declared` is a public type of its `src/`. A name that stands in several modules may mean something else in each.
+
+`tests/definitions.py --write` makes this page, and `make test` fails where it isn't what the comments make.
+"""
 
 
 class Definitions:
     """The definitions of all crates, each by crate, module and name."""
 
     def __init__(self, root):
+        self.root = root
         self.folders = crates_of(root)
         self.modules = {crate: modules_of(folder) for crate, folder in self.folders.items()}
         # What a name of a module belongs to: a constructor to its type, and each definition to itself.
@@ -93,63 +122,129 @@ def bound_in(text, name=None):
     return {it for group in groups for it in group.split() if it[:1].islower() or it == "_"}
 
 
-def listed(page):
-    """The names of the page's tables: crate, module, name and line."""
-    crate = None
-    with open(page, encoding="utf-8") as file:
-        for number, line in enumerate(file, 1):
-            heading = re.match(r"## (?:([a-z0-9_]+): )?", line)
-            if heading:
-                crate = heading[1]
-            cells = [it.strip() for it in line.split("|")]
-            if crate and len(cells) == 5 and "`" in cells[1]:
-                for name in re.findall(r"`([^`]+)`", cells[1]):
-                    yield crate, cells[2], name, number
+def crates_in_order(root):
+    """The headings of crates.txt, each with the names of its crates."""
+    found = []
+    with open(f"{root}/crates.txt", encoding="utf-8") as file:
+        for part in re.split(r"\n\s*\n", file.read()):
+            heading = re.match(r"# (.*)", part)
+            found.append((heading[1] if heading else "", re.findall(r"^(\w+):", part, re.M)))
+    return found
 
 
-def differences(definitions, names):
-    """What the page lacks, and what it names wrongly."""
-    for crate, module, name, number in names:
-        if crate not in definitions.modules:
-            yield f"{PAGE}:{number}: there is no crate {crate}"
-        elif module not in definitions.modules[crate]:
-            yield f"{PAGE}:{number}: {crate} has no module {module}, where {name} is said to stand"
-        elif name not in definitions.modules[crate][module].definitions:
-            others = [f"; it stands in {it.name}" for it in definitions.modules[crate].values() if name in it.definitions]
-            yield f"{PAGE}:{number}: {crate}, {module} has no definition {name}{''.join(others[:1])}"
-    known = {it[:3]: it[3] for it in names}
-    for key, by in sorted(definitions.reached().items()):
-        crate, module, name = key
-        for used in {*definitions.used(key)} if key in known else ():
-            if known.get(used, 0) > known[key]:
-                yield f"{PAGE}:{known[key]}: {name} uses {used[2]}, which stands below it"
-        if definitions.modules[crate][module].is_private:
-            yield f"{crate}, {module} serves private contracts, but {by} reaches {name}"
-        elif key not in known:
-            yield f"{PAGE} doesn't list {crate}, {module}: {name}, which {by} reaches"
+def sentence_of(folder):
+    """The first sentence that a crate says of itself."""
+    with open(f"{folder}/src/lib.rt", encoding="utf-8") as file:
+        said = " ".join(it[3:].strip() for it in file if it.startswith("//!"))
+    first = re.match(r".*?\.(?=\s|$)", said)
+    return first[0] if first else ""
 
 
-def as_meaning(comment):
-    """A comment as the page's tables write it: no capital at its front but of a name, and no full stop."""
-    front = comment[:1].lower() if re.match(r"[A-Z]([a-z]|\b)", comment) else comment[:1]
-    return (front + comment[1:]).removesuffix(".")
+def in_order(crate, modules):
+    """The modules of a crate, each after those that it uses."""
+    found, begun = [], set()
+
+    def take(module):
+        if module.name in begun:
+            return
+        begun.add(module.name)
+        used = [".".join(path) + "." for _, path in module.imports]
+        for other in modules.values():
+            if any(it.startswith(f"Rattle.{crate}.specs.{other.name}.") for it in used):
+                take(other)
+        found.append(module)
+
+    for module in modules.values():
+        take(module)
+    return found
 
 
-def rows(definitions, names, crate):
-    """The rows of a crate's table for what isn't listed: definitions under one comment together."""
-    known = {it[:3] for it in names}
-    reached = definitions.reached()
-    for module in definitions.modules[crate].values():
-        row, comment = [], ""
-        for it in module.definitions.values():
-            if (crate, module.name, it.name) in reached and (crate, module.name, it.name) not in known:
-                if row and it.comment:
-                    yield f"| {', '.join(row)} | {module.name} | {comment} |"
-                    row = []
-                comment = as_meaning(it.comment) or comment
-                row.append(f"`{it.name}`")
-        if row:
-            yield f"| {', '.join(row)} | {module.name} | {comment} |"
+def comment_of(module, definition):
+    """The comment of a definition, or nothing."""
+    return definition.comment or (module.first if len(module.definitions) == 1 else "")
+
+
+def said_by(text):
+    """The words of a name or a comment, in small letters and each without an s at its end."""
+    return {it.lower().rstrip("s") for it in re.findall(r"[a-z0-9]+|[A-Z]+[a-z0-9]*", text)}
+
+
+def says_nothing(name, comment):
+    """Whether a comment says no more than the name below it; what stands between backquotes says something."""
+    return "`" not in comment and not said_by(comment) - said_by(name) - said_by(SMALL)
+
+
+def wrapped(text, indent=""):
+    """The text in lines that fit a screen; none begins with a mark that Markdown takes for a list or a heading."""
+    held = re.sub(r" (?=([-+*#>]|\d+[.)])( |$))", "\0", text)
+    lines = textwrap.wrap(held, WIDTH, subsequent_indent=indent, break_long_words=False, break_on_hyphens=False)
+    return "\n".join(lines).replace("\0", " ")
+
+
+def rows(module, definitions):
+    """A row for each of these definitions of a module; those without a comment that stand together share one."""
+    bare = []
+    for it in [*definitions, None]:
+        comment = comment_of(module, it) if it else ""
+        if bare and (comment or not it):
+            yield f"- {', '.join(bare)}: no comment"
+            bare = []
+        if comment:
+            yield wrapped(f"- `{it.name}`: {comment}", "  ")
+        elif it:
+            bare.append(f"`{it.name}`")
+
+
+def page(definitions, reached):
+    """The text of the page."""
+    parts = [re.sub(r"[^\n]+", lambda it: wrapped(it[0]), FRONT).strip()]
+    for heading, crates in crates_in_order(definitions.root):
+        shown = [it for it in crates if any(key[0] == it for key in reached)]
+        parts += [f"## {heading}"] if shown else []
+        for crate in shown:
+            parts += [f"### {crate}", wrapped(sentence_of(definitions.folders[crate]))]
+            for module in in_order(crate, definitions.modules[crate]):
+                taken = [it for it in module.definitions.values() if (crate, module.name, it.name) in reached]
+                if taken:
+                    file = f"crates/{crate}/specs/{module.name.replace('.', '/')}.antt"
+                    parts += [f"#### [{module.name}](../{file})", wrapped(module.first), "\n".join(rows(module, taken))]
+    return "\n\n".join(it for it in parts if it) + "\n"
+
+
+def uncommented(root):
+    """The definitions that may lack a comment yet."""
+    with open(f"{root}/{UNCOMMENTED}", encoding="utf-8") as file:
+        return [tuple(it.split()) for it in file.read().splitlines() if it and not it.startswith("#")]
+
+
+def lacking(definitions, reached):
+    """The reached definitions that have no comment, or one that says nothing."""
+    for key in sorted(reached):
+        if says_nothing(key[2], comment_of(definitions.modules[key[0]][key[1]], definitions.definition(key))):
+            yield key
+
+
+def differences(definitions, reached):
+    """What is wrong with the definitions, with the list of those without a comment, and with the page."""
+    known = {it for _, crates in crates_in_order(definitions.root) for it in crates}
+    for crate in sorted({it[0] for it in reached} - known):
+        yield f"crates.txt has no crate {crate}"
+    for key in sorted(reached):
+        if definitions.modules[key[0]][key[1]].is_private:
+            yield f"{key[0]}, {key[1]} serves private contracts, but {reached[key]} reaches {key[2]}"
+    listed, bare = uncommented(definitions.root), list(lacking(definitions, reached))
+    for key in bare:
+        if key not in listed:
+            yield f"{key[0]}, {key[1]}: {key[2]}, which {reached[key]} reaches, has no comment that says more than its name"
+    for at, key in enumerate(listed):
+        if key not in bare or key in listed[:at]:
+            yield f"{UNCOMMENTED}: {' '.join(key)} must leave the list: it has a comment, isn't reached or is named twice"
+    if not os.path.isfile(f"{definitions.root}/{PAGE}"):
+        yield f"there is no {PAGE}: tests/definitions.py --write makes it"
+        return
+    with open(f"{definitions.root}/{PAGE}", encoding="utf-8") as file:
+        if file.read() != page(definitions, reached):
+            yield f"{PAGE} isn't what the comments make: tests/definitions.py --write makes it"
 
 
 def texts(root):
@@ -175,20 +270,17 @@ def main(words):
     if words[:1] == ["--compare"] and len(words) == 3:
         print("\n".join(sorted(compared(*words[1:]))))
         return 0
-    root = os.path.dirname(os.path.dirname(os.path.abspath(__file__)))
-    if words[:1] == ["--root"]:
-        root, words = words[1], words[2:]
-    definitions = Definitions(root)
-    names = list(listed(f"{root}/{PAGE}"))
-    if words[:1] == ["--rows"]:
-        print("\n".join(rows(definitions, names, words[1])))
-        return 0
-    if words == ["--unreached"]:
-        reached = definitions.reached()
-        print("\n".join(", ".join(it[:3]) for it in names if it[:3] not in reached))
-        return 0
-    found = [*differences(definitions, names)]
-    print("".join(f"{it}\n" for it in found) + f"definitions: {len(names)} listed, {len(found)} differences")
+    if words not in ([], ["--write"]):
+        print(__doc__, file=sys.stderr)
+        return 2
+    definitions = Definitions(ROOT)
+    reached = definitions.reached()
+    if words:
+        with open(f"{ROOT}/{PAGE}", "w", encoding="utf-8") as file:
+            file.write(page(definitions, reached))
+    found = list(differences(definitions, reached))
+    print("".join(f"{it}\n" for it in found), end="")
+    print(f"definitions: {len(reached)} to believe, {len(uncommented(ROOT))} without a comment, {len(found)} differences")
     return 1 if found else 0
 
 

@@ -317,7 +317,7 @@ def crates_of(root):
 
 
 class Definition:
-    """A definition of specs/: its module, its name, its text, the comment above it and the names that come with it."""
+    """A definition of specs/: its module, its name, its text, the comment right above it and the names that come with it."""
 
     def __init__(self, module, name, text, comment, parts):
         self.module, self.name, self.text, self.comment, self.parts = module, name, text, comment, parts
@@ -330,7 +330,8 @@ class Module:
         self.name = name
         with open(file, encoding="utf-8") as it:
             lines = it.read().split("\n")
-        self.first = " ".join(lines[: next((n for n, it in enumerate(lines) if not it.startswith("--")), 0)])
+        ahead = next((n for n, it in enumerate(lines) if not it.startswith("--")), 0)
+        self.first = " ".join(it[2:].strip() for it in lines[:ahead])
         self.imports, self.definitions = [], {}
         comment, now = [], None
         for line in lines:
@@ -340,7 +341,7 @@ class Module:
             is_comment = line.lstrip().startswith("--")
             if is_comment:
                 comment.append(line.strip()[2:].strip())
-            elif line.strip():
+            else:
                 if begins:
                     now = Definition(name, begins[1], "", " ".join(comment), set())
                     self.definitions[now.name] = now

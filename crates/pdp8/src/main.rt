@@ -1,8 +1,18 @@
 //! The program `pdp8`: a workbench for PDP-8 paper tapes.
 #![tactic(auto)]
 
+use std::fs;
 use std::process::ExitCode;
 
+/// What is opened in the place of a standard stream that is closed: it can be neither read nor
+/// written, so each use of that stream fails, and no file that is opened later stands for it.
+static NO_STREAM: &str = "/";
+
 fn main(rt: HostRuntime) -> ExitCode {
+    let _streams = [
+        fs::open(&rt, NO_STREAM),
+        fs::open(&rt, NO_STREAM),
+        fs::open(&rt, NO_STREAM),
+    ];
     ExitCode::from(workbench::exit_status(&rt))
 }

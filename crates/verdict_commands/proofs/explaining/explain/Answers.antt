@@ -7,7 +7,7 @@ use Rattle.certificate.specs.Kept.{meaning as lines_of}
 use Rattle.verdict_texts.specs.CheckText.{checked_case, verdict_status, verdict_text}
 use Rattle.verdict_texts.specs.WhyText.{why_text, fact_shown}
 use Rattle.verdict_texts.proofs.CheckLemmas.{verdict_is}
-use Rattle.machine_commands.proofs.FollowLemmas.{front_after}
+use Rattle.streams.proofs.BytesLemmas.{front_after}
 use Rattle.certificate.proofs.SpelledLemmas.{front_more}
 use Rattle.verdict_commands.proofs.explaining.explain.Goals as goal
 

@@ -1,5 +1,6 @@
 //! A runtime whose words, input and files are given, and which keeps what the program writes.
 
+use crate::fixtures::{HALT, HALT_CERTIFICATE, HALT_DECLARED, LETTER, UNDECLARED};
 use std::alloc::{AllocError, Allocator, Global};
 use std::cell::RefCell;
 use std::env::FillError;
@@ -12,12 +13,6 @@ use workbench::exit_status;
 /// What standard input gives: a source with HLT at 0200.
 static INPUT: &[u8] = b"*200\nHLT\n$\n";
 
-/// A tape with the word of that source, with a shorter leader and trailer.
-static HALT: &[u8] = b"\x80\x80\x80\x80\x42\x00\x3c\x02\x02\x00\x80\x80\x80\x80";
-
-/// The tape of a program that prints and punches an A: TAD 0204, TLS, PLS, HLT, 0301.
-static LETTER: &[u8] = b"\x80\x80\x42\x00\x0a\x04\x30\x26\x30\x16\x3c\x02\x03\x01\x04\x2e\x80\x80";
-
 /// What the file of this name has, if there is one. Where the name begins with `failing`, a read behind that fails.
 fn content(name: &str) -> Option<&'static [u8]> {
     match name {
@@ -25,17 +20,13 @@ fn content(name: &str) -> Option<&'static [u8]> {
         "letter.bin" => Some(LETTER),
         "halt.pal" => Some(INPUT),
         "bad.pal" => Some(b"TAD 600\n"),
-        "halt.dcl" => Some(b"start 200\nmain 200\nstop 200\n"),
-        "wild.dcl" => Some(b"start 200\nmain 200\n"),
-        "halt.cert" => {
-            Some(b"PDP8-CERTIFICATE 1\nfact 0200 ac 0000-7777 link 01 offsets -\nend\n")
-        }
-        "step.ev" => Some(b"step\n"),
+        "halt.dcl" => Some(HALT_DECLARED),
+        "wild.dcl" | "failing.dcl" => Some(UNDECLARED),
+        "halt.cert" => Some(HALT_CERTIFICATE),
+        "step.ev" | "failing.ev" => Some(b"step\n"),
         "failing.bin" => Some(b"\x80\x80\x80\x80\x42\x00\x3c"),
         "failing.pal" => Some(b"*200\nHLT\n"),
-        "failing.dcl" => Some(b"start 200\nmain 200\n"),
         "failing.cert" => Some(b"PDP8-CERTIFICATE 1\nfact 0200"),
-        "failing.ev" => Some(b"step\n"),
         "failing.tape" => Some(b"\x00\x01"),
         _ => None,
     }

@@ -3,6 +3,7 @@
 
 ghost use Rattle.std.specs.Prelude.{◌≡◌, false};
 
+use crate::fixtures::{HALT, HALT_CERTIFICATE, HALT_DECLARED, LETTER, UNDECLARED};
 use commands::assembling::{assemble, list};
 use commands::checking::check;
 use commands::declaring::{DeclareOptions, declare};
@@ -40,23 +41,8 @@ enum Command {
     Migrate,
 }
 
-/// The parts of a source with HLT at 0200.
+/// The parts of the source.
 static PARTS: [&[u8]; 2] = [b"*200\n", b"HLT\n$\n"];
-
-/// The tape of that source, with a shorter leader and trailer.
-static HALT: &[u8] = b"\x80\x80\x80\x80\x42\x00\x3c\x02\x02\x00\x80\x80\x80\x80";
-
-/// The tape of a program that prints and punches an A: TAD 0204, TLS, PLS, HLT, 0301.
-static LETTER: &[u8] = b"\x80\x80\x42\x00\x0a\x04\x30\x26\x30\x16\x3c\x02\x03\x01\x04\x2e\x80\x80";
-
-/// A declaration of the halt.
-static DECLARED: &[u8] = b"start 200\nmain 200\nstop 200\n";
-
-/// One that leaves the halt out.
-static UNDECLARED: &[u8] = b"start 200\nmain 200\n";
-
-/// The certificate of the halt.
-static CERTIFICATE: &[u8] = b"PDP8-CERTIFICATE 1\nfact 0200 ac 0000-7777 link 01 offsets -\nend\n";
 
 /// Which input fails after how many reads, and which output has room for how many bytes.
 #[derive(Clone, Copy)]
@@ -68,29 +54,14 @@ struct Plan {
 }
 
 /// Nothing fails.
-const NEVER: usize = usize::MAX;
+const FINE: Plan = Plan {
+    input: 0,
+    reads: usize::MAX,
+    output: 0,
+    room: usize::MAX,
+};
 
 impl Plan {
-    /// A read of this input fails after so many.
-    fn failing_read(input: usize, reads: usize) -> Plan {
-        Plan {
-            input,
-            reads,
-            output: 0,
-            room: NEVER,
-        }
-    }
-
-    /// This output has room for so many bytes.
-    fn with_room(output: usize, room: usize) -> Plan {
-        Plan {
-            input: 0,
-            reads: NEVER,
-            output,
-            room,
-        }
-    }
-
     /// The input with this number, which gives a byte at a time.
     fn source<'a>(&self, number: usize, bytes: &'a [u8]) -> MemorySource<'a>
         ensures { result.failed ≡ false }
@@ -98,7 +69,7 @@ impl Plan {
         let reads = if number == self.input {
             self.reads
         } else {
-            NEVER
+            FINE.reads
         };
         MemorySource::new(bytes).in_pieces(1).failing_after(reads)
     }
@@ -110,15 +81,9 @@ impl Plan {
         let room = if number == self.output {
             self.room
         } else {
-            NEVER
+            FINE.room
         };
         MemorySink::new(heap, room)
-    }
-
-    /// What a command with one output left.
-    fn left(&self, answer: Result<Status, Fault>, out: MemorySink<Global>) -> Left {
-        let total = out.bytes().len();
-        Left { answer, out, total }
     }
 }
 
@@ -139,45 +104,68 @@ fn options(trace: bool) -> RunOptions {
     }
 }
 
-fn assembled<A: Allocator + Copy>(alloc: A, heap: Global, plan: Plan) -> Left {
-    let mut out = plan.sink(0, heap);
+/// What a command on tapes and sources answers, or another.
+fn answered<A: Allocator + Copy>(
+    alloc: A,
+    command: Command,
+    plan: &Plan,
+    out: &mut MemorySink<Global>,
+) -> Result<Status, Fault>
+    requires { out.old.failed ≡ false }
+{
     let mut parts = [plan.source(0, PARTS[0]), plan.source(1, PARTS[1])];
-    let answer = assemble(alloc, &mut parts, Profile::Pdp8I, &mut out);
-    plan.left(answer, out)
+    let mut tape = plan.source(0, HALT);
+    match command {
+        Command::Assemble => assemble(alloc, &mut parts, Profile::Pdp8I, out),
+        Command::List => list(alloc, &mut parts, Profile::Pdp8I, out),
+        Command::Dump => dump(alloc, &mut tape, Profile::Pdp8I, out),
+        Command::Run => run(alloc, &mut tape, options(false), out),
+        Command::Trace => run(alloc, &mut tape, options(true), out),
+        Command::Events => {
+            let mut events = plan.source(1, b"step\n");
+            run_events(alloc, &mut tape, &mut events, options(false), out)
+        }
+        _ => promised(alloc, command, plan, out),
+    }
 }
 
-fn listed<A: Allocator + Copy>(alloc: A, heap: Global, plan: Plan) -> Left {
-    let mut out = plan.sink(0, heap);
-    let mut parts = [plan.source(0, PARTS[0]), plan.source(1, PARTS[1])];
-    let answer = list(alloc, &mut parts, Profile::Pdp8I, &mut out);
-    plan.left(answer, out)
+/// What a command on promises answers.
+fn promised<A: Allocator + Copy>(
+    alloc: A,
+    command: Command,
+    plan: &Plan,
+    out: &mut MemorySink<Global>,
+) -> Result<Status, Fault>
+    requires { out.old.failed ≡ false }
+{
+    let mut tape = plan.source(0, HALT);
+    let mut text = plan.source(1, HALT_DECLARED);
+    let mut certificate = plan.source(2, HALT_CERTIFICATE);
+    match command {
+        Command::Watch => {
+            let mut events = plan.source(2, b"step\n");
+            watch(alloc, &mut tape, &mut text, &mut events, out)
+        }
+        Command::Check => check(alloc, &mut tape, &mut text, &mut certificate, out),
+        Command::Explain => {
+            let mut text = plan.source(1, UNDECLARED);
+            explain(alloc, &mut tape, &mut text, &mut certificate, out)
+        }
+        Command::Declare => {
+            let options = DeclareOptions {
+                start: Word::from_index(0o200),
+                profile: Profile::Pdp8I,
+                reads: false,
+            };
+            declare(alloc, &mut tape, options, out)
+        }
+        Command::Guess => guess(alloc, &mut tape, &mut text, out),
+        _ => migrate(alloc, &mut plan.source(0, HALT_CERTIFICATE), out),
+    }
 }
 
-fn dumped<A: Allocator + Copy>(alloc: A, heap: Global, plan: Plan) -> Left {
-    let mut out = plan.sink(0, heap);
-    let answer = dump(alloc, &mut plan.source(0, HALT), Profile::Pdp8I, &mut out);
-    plan.left(answer, out)
-}
-
-fn ran<A: Allocator + Copy>(alloc: A, heap: Global, plan: Plan, trace: bool) -> Left {
-    let mut out = plan.sink(0, heap);
-    let answer = run(alloc, &mut plan.source(0, HALT), options(trace), &mut out);
-    plan.left(answer, out)
-}
-
-fn ran_by_events<A: Allocator + Copy>(alloc: A, heap: Global, plan: Plan) -> Left {
-    let mut out = plan.sink(0, heap);
-    let answer = run_events(
-        alloc,
-        &mut plan.source(0, HALT),
-        &mut plan.source(1, b"step\n"),
-        options(false),
-        &mut out,
-    );
-    plan.left(answer, out)
-}
-
-fn operated<A: Allocator + Copy>(alloc: A, heap: Global, plan: Plan) -> Left {
+/// What is left by a run with an operator.
+fn operated<A: Allocator + Copy>(alloc: A, heap: Global, plan: &Plan) -> Left {
     let mut outputs = Outputs {
         report: plan.sink(0, heap),
         teletype: plan.sink(1, heap),
@@ -201,11 +189,8 @@ fn operated<A: Allocator + Copy>(alloc: A, heap: Global, plan: Plan) -> Left {
         teletype,
         punch,
     } = outputs;
-    let total = report
-        .bytes()
-        .len()
-        .saturating_add(teletype.bytes().len())
-        .saturating_add(punch.bytes().len());
+    let typed = teletype.bytes().len().saturating_add(punch.bytes().len());
+    let total = report.bytes().len().saturating_add(typed);
     let out = match plan.output {
         0 => report,
         1 => teletype,
@@ -214,76 +199,14 @@ fn operated<A: Allocator + Copy>(alloc: A, heap: Global, plan: Plan) -> Left {
     Left { answer, out, total }
 }
 
-fn watched<A: Allocator + Copy>(alloc: A, heap: Global, plan: Plan) -> Left {
-    let mut out = plan.sink(0, heap);
-    let answer = watch(
-        alloc,
-        &mut plan.source(0, HALT),
-        &mut plan.source(1, DECLARED),
-        &mut plan.source(2, b"step\n"),
-        &mut out,
-    );
-    plan.left(answer, out)
-}
-
-fn checked<A: Allocator + Copy>(alloc: A, heap: Global, plan: Plan) -> Left {
-    let mut out = plan.sink(0, heap);
-    let answer = check(
-        alloc,
-        &mut plan.source(0, HALT),
-        &mut plan.source(1, DECLARED),
-        &mut plan.source(2, CERTIFICATE),
-        &mut out,
-    );
-    plan.left(answer, out)
-}
-
-fn explained<A: Allocator + Copy>(alloc: A, heap: Global, plan: Plan) -> Left {
-    let mut out = plan.sink(0, heap);
-    let answer = explain(
-        alloc,
-        &mut plan.source(0, HALT),
-        &mut plan.source(1, UNDECLARED),
-        &mut plan.source(2, CERTIFICATE),
-        &mut out,
-    );
-    plan.left(answer, out)
-}
-
-fn declared<A: Allocator + Copy>(alloc: A, heap: Global, plan: Plan) -> Left {
-    let mut out = plan.sink(0, heap);
-    let options = DeclareOptions {
-        start: Word::from_index(0o200),
-        profile: Profile::Pdp8I,
-        reads: false,
-    };
-    let answer = declare(alloc, &mut plan.source(0, HALT), options, &mut out);
-    plan.left(answer, out)
-}
-
-fn guessed<A: Allocator + Copy>(alloc: A, heap: Global, plan: Plan) -> Left {
-    let mut out = plan.sink(0, heap);
-    let answer = guess(
-        alloc,
-        &mut plan.source(0, HALT),
-        &mut plan.source(1, DECLARED),
-        &mut out,
-    );
-    plan.left(answer, out)
-}
-
-fn guessed_or_told<A: Allocator + Copy>(
-    alloc: A,
-    heap: Global,
-    plan: Plan,
-    promised: &[u8],
-) -> Left {
+/// What is left by a guess that says why it is stuck.
+fn guessed<A: Allocator + Copy>(alloc: A, heap: Global, plan: &Plan, text: &[u8]) -> Left {
     let mut found = plan.sink(0, heap);
     let mut report = plan.sink(1, heap);
     let answer = guess_or_explain(
         alloc,
         &mut plan.source(0, HALT),
-        &mut plan.source(1, promised),
+        &mut plan.source(1, text),
         &mut found,
         &mut report,
     );
@@ -292,31 +215,19 @@ fn guessed_or_told<A: Allocator + Copy>(
     Left { answer, out, total }
 }
 
-fn migrated<A: Allocator + Copy>(alloc: A, heap: Global, plan: Plan) -> Left {
-    let mut out = plan.sink(0, heap);
-    let answer = migrate(alloc, &mut plan.source(0, CERTIFICATE), &mut out);
-    plan.left(answer, out)
-}
-
 /// What a command leaves by a plan. It takes its memory from the first allocator, and what it writes is
 /// kept by the second.
-fn left_by<A: Allocator + Copy>(alloc: A, heap: Global, command: Command, plan: Plan) -> Left {
+fn left_by<A: Allocator + Copy>(alloc: A, heap: Global, command: Command, plan: &Plan) -> Left {
     match command {
-        Command::Assemble => assembled(alloc, heap, plan),
-        Command::List => listed(alloc, heap, plan),
-        Command::Dump => dumped(alloc, heap, plan),
-        Command::Run => ran(alloc, heap, plan, false),
-        Command::Trace => ran(alloc, heap, plan, true),
-        Command::Events => ran_by_events(alloc, heap, plan),
         Command::Session => operated(alloc, heap, plan),
-        Command::Watch => watched(alloc, heap, plan),
-        Command::Check => checked(alloc, heap, plan),
-        Command::Explain => explained(alloc, heap, plan),
-        Command::Declare => declared(alloc, heap, plan),
-        Command::Guess => guessed(alloc, heap, plan),
-        Command::GuessOrExplain => guessed_or_told(alloc, heap, plan, DECLARED),
-        Command::Stuck => guessed_or_told(alloc, heap, plan, UNDECLARED),
-        Command::Migrate => migrated(alloc, heap, plan),
+        Command::GuessOrExplain => guessed(alloc, heap, plan, HALT_DECLARED),
+        Command::Stuck => guessed(alloc, heap, plan, UNDECLARED),
+        _ => {
+            let mut out = plan.sink(0, heap);
+            let answer = answered(alloc, command, plan, &mut out);
+            let total = out.bytes().len();
+            Left { answer, out, total }
+        }
     }
 }
 
@@ -324,7 +235,12 @@ fn left_by<A: Allocator + Copy>(alloc: A, heap: Global, command: Command, plan: 
 /// nothing is written then.
 fn reads_in_turn(heap: Global, command: Command, input: usize) -> Option<usize> {
     for reads in 0..100usize {
-        let left = left_by(heap, heap, command, Plan::failing_read(input, reads));
+        let plan = Plan {
+            input,
+            reads,
+            ..FINE
+        };
+        let left = left_by(heap, heap, command, &plan);
         if left.answer.is_ok() {
             return Some(reads);
         }
@@ -368,6 +284,15 @@ fn each_read_that_fails_is_told(rt: HostRuntime) {
     }
 }
 
+/// An output has room for so many bytes.
+fn with_room(output: usize, room: usize) -> Plan {
+    Plan {
+        output,
+        room,
+        ..FINE
+    }
+}
+
 /// Whether a command looks for a certificate, which takes much longer than all else here.
 fn searches(command: Command) -> bool {
     matches!(
@@ -384,15 +309,35 @@ fn writes_in_turn(heap: Global, command: Command, output: usize, text: &[u8]) ->
         if searches(command) && room % 9 != 0 {
             continue;
         }
-        let left = left_by(heap, heap, command, Plan::with_room(output, room));
+        let left = left_by(heap, heap, command, &with_room(output, room));
         let told = left.answer == Err(Fault::Device(DeviceFault::Write));
         if !told || left.out.bytes() != &text[..room] {
             return false;
         }
     }
-    let whole = left_by(heap, heap, command, Plan::with_room(output, text.len()));
+    let whole = left_by(heap, heap, command, &with_room(output, text.len()));
     whole.answer.is_ok() && whole.out.bytes() == text
 }
+
+/// The tape of the halt, with its whole leader and trailer.
+const TAPE: &[u8] =
+    b"\x80\x80\x80\x80\x80\x80\x80\x80\x80\x80\x80\x80\x80\x80\x80\x80\x42\x00\x3c\x02\x02\x00\
+    \x80\x80\x80\x80\x80\x80\x80\x80\x80\x80\x80\x80\x80\x80\x80\x80";
+
+const LISTING: &[u8] = b"            *200\n0200  7402  HLT\n            $\n\n";
+
+const SUMMARY: &[u8] = b"HALT 0200 AC=0000 L=0 PC=0201 STEPS=1\n";
+
+const TRACED: &[u8] = b"0200 7402 HLT AC=0000 L=0\nHALT 0200 AC=0000 L=0 PC=0201 STEPS=1\n";
+
+const REPORTED: &[u8] = b"HALT 0203 AC=0301 L=0 PC=0204 STEPS=4\nPRINTED 301\nPUNCHED 301\n";
+
+const VERDICT: &[u8] = b"yes: 1 body cells, 0 variable cells, 0 entries, 1 halts\n";
+
+const REASON: &[u8] = b"no: V13 at 0200\n0200 7402 HLT\nV13 asks: a HLT is at a declared halt\n\
+    it halts, and no halt is declared there\nfact 0200 ac 0000-7777 link 01 offsets -\n";
+
+const PROPOSED: &[u8] = b"start 0200\nmain 0200\nstop 0200 / HLT\n";
 
 /// The certificate of the halt in version 2.
 const MIGRATED: &[u8] =
@@ -400,55 +345,21 @@ const MIGRATED: &[u8] =
 
 /// Commands, the number of an output, and what goes there.
 const TEXTS: [(Command, usize, &[u8]); 16] = [
-    (
-        Command::Assemble,
-        0,
-        b"\x80\x80\x80\x80\x80\x80\x80\x80\x80\x80\x80\x80\x80\x80\x80\x80\x42\x00\x3c\x02\x02\x00\
-        \x80\x80\x80\x80\x80\x80\x80\x80\x80\x80\x80\x80\x80\x80\x80\x80",
-    ),
-    (
-        Command::List,
-        0,
-        b"            *200\n0200  7402  HLT\n            $\n\n",
-    ),
+    (Command::Assemble, 0, TAPE),
+    (Command::List, 0, LISTING),
     (Command::Dump, 0, b"0200 7402 HLT\n"),
-    (Command::Run, 0, b"HALT 0200 AC=0000 L=0 PC=0201 STEPS=1\n"),
-    (
-        Command::Trace,
-        0,
-        b"0200 7402 HLT AC=0000 L=0\nHALT 0200 AC=0000 L=0 PC=0201 STEPS=1\n",
-    ),
-    (
-        Command::Events,
-        0,
-        b"HALT 0200 AC=0000 L=0 PC=0201 STEPS=1\n",
-    ),
-    (
-        Command::Session,
-        0,
-        b"HALT 0203 AC=0301 L=0 PC=0204 STEPS=4\nPRINTED 301\nPUNCHED 301\n",
-    ),
+    (Command::Run, 0, SUMMARY),
+    (Command::Trace, 0, TRACED),
+    (Command::Events, 0, SUMMARY),
+    (Command::Session, 0, REPORTED),
     (Command::Session, 1, b"A"),
     (Command::Session, 2, b"\xc1"),
     (Command::Watch, 0, b"clean\n"),
-    (
-        Command::Check,
-        0,
-        b"yes: 1 body cells, 0 variable cells, 0 entries, 1 halts\n",
-    ),
-    (
-        Command::Explain,
-        0,
-        b"no: V13 at 0200\n0200 7402 HLT\nV13 asks: a HLT is at a declared halt\n\
-        it halts, and no halt is declared there\nfact 0200 ac 0000-7777 link 01 offsets -\n",
-    ),
-    (
-        Command::Declare,
-        0,
-        b"start 0200\nmain 0200\nstop 0200 / HLT\n",
-    ),
-    (Command::Guess, 0, CERTIFICATE),
-    (Command::GuessOrExplain, 0, CERTIFICATE),
+    (Command::Check, 0, VERDICT),
+    (Command::Explain, 0, REASON),
+    (Command::Declare, 0, PROPOSED),
+    (Command::Guess, 0, HALT_CERTIFICATE),
+    (Command::GuessOrExplain, 0, HALT_CERTIFICATE),
     (Command::Migrate, 0, MIGRATED),
 ];
 
@@ -466,7 +377,7 @@ fn memory_in_turn(heap: Global, command: Command, output: usize, text: &[u8]) ->
     let goes_on = matches!(command, Command::Trace | Command::Session);
     for count in 0..1000u64 {
         let tight = Refusing::new(heap, count);
-        let left = left_by(&tight, heap, command, Plan::with_room(output, NEVER));
+        let left = left_by(&tight, heap, command, &with_room(output, FINE.room));
         if !tight.has_refused() {
             return count > 0 && left.answer.is_ok() && left.out.bytes() == text;
         }
@@ -494,12 +405,7 @@ const REPORT: &[u8] = b"pdp8: guess: Stuck 0200\n0200 7402 HLT\n\
 fn a_report_that_fails_changes_no_answer(rt: HostRuntime) {
     for more in 0..10usize {
         let room = more * 15;
-        let left = left_by(
-            rt.alloc(),
-            rt.alloc(),
-            Command::Stuck,
-            Plan::with_room(1, room),
-        );
+        let left = left_by(rt.alloc(), rt.alloc(), Command::Stuck, &with_room(1, room));
         assert_eq!(rt; left.answer, Ok(Status::Refused));
         assert_eq!(rt; left.out.bytes(), &REPORT[..REPORT.len().min(room)]);
     }

@@ -1,4 +1,5 @@
-//! The program that prints HELLO, as a source, as words, on tape, with its declaration and its certificate.
+//! The program that prints HELLO, as a source, as words and on tape, and a lone HLT, with their declarations and
+//! certificates.
 
 use bin_tape::Image;
 use peripherals::Event;
@@ -24,40 +25,34 @@ pub const HELLO_DECLARED: &[u8] =
 
 /// The certificate.
 pub const HELLO_CERTIFICATE: &[u8] = b"PDP8-CERTIFICATE 1\n\
-    routine 0214 rank 00 sites 0207 writes -\n\
-    fact 0200 ac 0000-7777 link 01 offsets -\n\
-    fact 0201 ac 0000 link 0 offsets -\n\
-    fact 0202 ac 0000 link 0 offsets -\n\
-    fact 0203 ac 0224 link 0 offsets -\n\
-    fact 0204 ac 0000 link 0 offsets -\n\
-    cell 0010 0224\n\
-    fact 0205 ac 7773 link 0 offsets -\n\
-    cell 0010 0224\n\
-    fact 0206 ac 0000 link 0 offsets -\n\
-    cell 0010 0224-0230\n\
-    cell 0224 7773-7777\n\
-    equal 0010 0224 0231\n\
-    fact 0207 ac 0305,0310,0314,0317 link 0 offsets -\n\
-    cell 0010 0225-0231\n\
-    cell 0224 7773-7777\n\
-    equal 0010 0224 0232\n\
-    fact 0210 ac 0000 link 0 offsets -\n\
-    cell 0010 0225-0231\n\
-    cell 0224 7773-7777\n\
-    equal 0010 0224 0232\n\
-    fact 0211 ac 0000 link 0 offsets -\n\
-    cell 0010 0225-0231\n\
-    cell 0224 7774-7777\n\
-    equal 0010 0224 0231\n\
-    fact 0212 ac 0000 link 0 offsets -\n\
-    fact 0213 ac 0000 link 0 offsets -\n\
-    fact 0215 ac 0305,0310,0314,0317 link 0 offsets 0\n\
-    fact 0216 ac 0305,0310,0314,0317 link 0 offsets 0\n\
-    fact 0217 ac 0305,0310,0314,0317 link 0 offsets 0\n\
-    fact 0220 ac 0305,0310,0314,0317 link 0 offsets 0\n\
-    fact 0221 ac 0000 link 0 offsets 0\n\
-    exit 0214 0 ac 0000 link 0\n\
-    end\n";
+    routine 0214 rank 00 sites 0207 writes -\nfact 0200 ac 0000-7777 link 01 offsets -\n\
+    fact 0201 ac 0000 link 0 offsets -\nfact 0202 ac 0000 link 0 offsets -\n\
+    fact 0203 ac 0224 link 0 offsets -\nfact 0204 ac 0000 link 0 offsets -\ncell 0010 0224\n\
+    fact 0205 ac 7773 link 0 offsets -\ncell 0010 0224\nfact 0206 ac 0000 link 0 offsets -\n\
+    cell 0010 0224-0230\ncell 0224 7773-7777\nequal 0010 0224 0231\n\
+    fact 0207 ac 0305,0310,0314,0317 link 0 offsets -\ncell 0010 0225-0231\ncell 0224 7773-7777\n\
+    equal 0010 0224 0232\nfact 0210 ac 0000 link 0 offsets -\ncell 0010 0225-0231\ncell 0224 7773-7777\n\
+    equal 0010 0224 0232\nfact 0211 ac 0000 link 0 offsets -\ncell 0010 0225-0231\ncell 0224 7774-7777\n\
+    equal 0010 0224 0231\nfact 0212 ac 0000 link 0 offsets -\nfact 0213 ac 0000 link 0 offsets -\n\
+    fact 0215 ac 0305,0310,0314,0317 link 0 offsets 0\nfact 0216 ac 0305,0310,0314,0317 link 0 offsets 0\n\
+    fact 0217 ac 0305,0310,0314,0317 link 0 offsets 0\nfact 0220 ac 0305,0310,0314,0317 link 0 offsets 0\n\
+    fact 0221 ac 0000 link 0 offsets 0\nexit 0214 0 ac 0000 link 0\nend\n";
+
+/// A tape with HLT at 0200.
+pub static HALT: &[u8] = b"\x80\x80\x80\x80\x42\x00\x3c\x02\x02\x00\x80\x80\x80\x80";
+
+/// Its declaration, and one that leaves the halt out.
+pub static HALT_DECLARED: &[u8] = b"start 200\nmain 200\nstop 200\n";
+
+pub static UNDECLARED: &[u8] = b"start 200\nmain 200\n";
+
+/// Its certificate.
+pub const HALT_CERTIFICATE: &[u8] =
+    b"PDP8-CERTIFICATE 1\nfact 0200 ac 0000-7777 link 01 offsets -\nend\n";
+
+/// The tape of a program that prints and punches an A: TAD 0204, TLS, PLS, HLT, 0301.
+pub static LETTER: &[u8] =
+    b"\x80\x80\x42\x00\x0a\x04\x30\x26\x30\x16\x3c\x02\x03\x01\x04\x2e\x80\x80";
 
 /// The word of a number.
 pub fn word(value: u16) -> Word {

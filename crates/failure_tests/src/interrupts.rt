@@ -64,32 +64,19 @@ fn an_interrupted_read_is_tried_again(rt: HostRuntime) -> Result<(), Fail> {
     for times in [0, 1, 2, 30] {
         let mut source = Reads::new(broken_off(rt.alloc(), times, false, b"TAD 200"));
         let text = read_at_most(rt.alloc(), &mut source, 100)?;
-        assert_eq!(rt; text.as_slice(), b"TAD 200".as_slice());
-        assert!(rt; !source.failed());
+        assert!(rt; text.as_slice() == b"TAD 200".as_slice() && !source.failed());
     }
+    let mut source = Reads::new(broken_off(rt.alloc(), 3, true, b"TAD 200"));
+    assert!(rt; read_at_most(rt.alloc(), &mut source, 100).is_err() && source.failed());
     Ok(())
 }
 
 #[test]
-fn a_read_that_fails_after_interruptions_has_failed(rt: HostRuntime) {
-    let mut source = Reads::new(broken_off(rt.alloc(), 3, true, b"TAD 200"));
-    assert!(rt; read_at_most(rt.alloc(), &mut source, 100).is_err());
-    assert!(rt; source.failed());
-}
-
-#[test]
-fn an_interrupted_write_is_tried_again(rt: HostRuntime) -> Result<(), Fail> {
+fn an_interrupted_write_is_tried_again(rt: HostRuntime) {
     for times in [0, 1, 2, 30] {
         let mut sink = Writes::new(broken_off(rt.alloc(), times, false, b""));
-        put(&mut sink, b"HALT 0200")?;
-        assert!(rt; !sink.failed());
+        assert!(rt; put(&mut sink, b"HALT 0200").is_ok() && !sink.failed());
     }
-    Ok(())
-}
-
-#[test]
-fn a_write_that_fails_after_interruptions_has_failed(rt: HostRuntime) {
     let mut sink = Writes::new(broken_off(rt.alloc(), 3, true, b""));
-    assert!(rt; put(&mut sink, b"HALT 0200").is_err());
-    assert!(rt; sink.failed());
+    assert!(rt; put(&mut sink, b"HALT 0200").is_err() && sink.failed());
 }

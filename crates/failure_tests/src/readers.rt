@@ -34,23 +34,6 @@ fn a_tape_that_is_cut_anywhere_is_told(rt: HostRuntime) {
         assert!(rt; are_told(&tape[..count], wanted), "{count}");
     }
     assert!(rt; read_tape(&tape) == Ok(image(&HELLO_WORDS)));
-}
-
-/// Frames with a fault, and the fault.
-const FAULTY_FRAMES: [(&[u8], TapeFault); 6] = [
-    (&[0o200, 0o102, 0o000, 0o200], TapeFault::NoChecksum),
-    (&[0o200, 0o074, 0o002], TapeFault::NoOrigin),
-    (&[0o200, 0o102, 0o102], TapeFault::BadFrame(2)),
-    (&[0o200, 0o201], TapeFault::BadFrame(1)),
-    (&[0o200, 0o310], TapeFault::WrongField(1)),
-    (&[0o200, 0o377, 0o101], TapeFault::Truncated),
-];
-
-#[test]
-fn faults_of_tapes_are_told_in_pieces(rt: HostRuntime) {
-    for (frames, fault) in &FAULTY_FRAMES {
-        assert!(rt; are_told(frames, Some(*fault)), "{fault}");
-    }
     let long = [0o200; 65_537];
     assert!(rt; are_told(&long, Some(TapeFault::TooLong)));
     assert!(rt; are_told(&long[..65_536], Some(TapeFault::NoWord)));

@@ -1,11 +1,10 @@
 //! Values worked by hand, and each kernel against its plain body.
 
 use crate::plain;
-use instruct::{Instruction, Profile, decode};
 use rand_core::utils::NextWord;
 use rand_pcg::Pcg32;
-use word12::{Link, Word};
-use wordset::{Carries, Links, WordSet};
+use word12::Word;
+use wordset::{Carries, WordSet};
 
 /// The word of a number, modulo 4096.
 fn word(value: u32) -> Word {
@@ -18,18 +17,6 @@ fn set_of(words: &[u32]) -> WordSet {
         set.insert(word(*value));
     }
     set
-}
-
-/// What a word of group 1 makes of one accumulator with the link 0.
-fn operated(operate: u32, ac: u32) -> (WordSet, Links) {
-    let operate = word(operate);
-    match decode(operate, Profile::Pdp8E) {
-        Instruction::Operate1 => WordSet::one(word(ac)).map_operate(
-            operate,
-            Links::one(Link::CLEAR),
-        ),
-        _ => (WordSet::empty(), Links::none()),
-    }
 }
 
 #[test]
@@ -67,28 +54,6 @@ fn images_are_those_worked_by_hand(rt: HostRuntime) {
     assert!(rt; set_of(&[3]).ands(&set_of(&[5, 6])) == set_of(&[1, 2]));
     assert!(rt; set_of(&[3]).ors(&set_of(&[5, 6])) == set_of(&[7]));
     assert!(rt; set_of(&[1]).or_any(word(6)) == set_of(&[1, 3, 5, 7]));
-
-    let (accumulators, links) = operated(0o7005, 0o7777);
-    assert!(rt; accumulators == set_of(&[1]));
-    assert_eq!(rt; links, Links::one(Link::CLEAR));
-    let (exchanged, _) = operated(0o7002, 0o1234);
-    assert!(rt; exchanged == set_of(&[0o3412]));
-    let (counted, _) = operated(0o7003, 0o0077);
-    assert!(rt; counted == set_of(&[1]));
-}
-
-#[test]
-fn links_are_toggled_by_carries(rt: HostRuntime) {
-    let clear = Links::one(Link::CLEAR);
-    let present = Carries {
-        absent: false,
-        present: true,
-    };
-    assert_eq!(rt; clear.toggled(present), Links::one(Link::SET));
-    assert_eq!(rt; clear.with(Link::SET), Links::both());
-    assert!(rt; clear.contains(Link::CLEAR));
-    assert!(rt; clear.is_subset(Links::both()));
-    assert!(rt; Links::none().is_empty());
 }
 
 /// Whether each kernel on two sets agrees with its plain body, which goes through the words of `a`.

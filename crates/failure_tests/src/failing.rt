@@ -1,0 +1,413 @@
+//! Each command where a read, a write or a request for memory fails: all of them in turn, a byte at a
+//! time, until none fails.
+
+ghost use Rattle.std.specs.Prelude.{◌≡◌, false};
+
+use crate::fixtures::{HALT, HALT_CERTIFICATE, HALT_DECLARED, LETTER, UNDECLARED};
+use commands::assembling::{assemble, list};
+use commands::checking::check;
+use commands::declaring::{DeclareOptions, declare};
+use commands::explaining::explain;
+use commands::guessing::guess;
+use commands::migrating::migrate;
+use commands::running::{RunOptions, dump, run, run_events};
+use commands::session::{Outputs, SessionOptions, run_session};
+use commands::status::{DeviceFault, Fault, Status};
+use commands::stuck::guess_or_explain;
+use commands::watching::watch;
+use instruct::Profile;
+use std::alloc::{Allocator, Global};
+use testing::Refusing;
+use testing::memory::{MemorySink, MemorySource};
+use word12::Word;
+
+/// The commands, those that say why among them.
+#[derive(Clone, Copy, PartialEq, Eq, Debug)]
+enum Command {
+    Assemble,
+    List,
+    Dump,
+    Run,
+    Trace,
+    Events,
+    Session,
+    Watch,
+    Check,
+    Explain,
+    Declare,
+    Guess,
+    GuessOrExplain,
+    Stuck,
+    Migrate,
+}
+
+/// The parts of the source.
+static PARTS: [&[u8]; 2] = [b"*200\n", b"HLT\n$\n"];
+
+/// Which input fails after how many reads, and which output has room for how many bytes.
+#[derive(Clone, Copy)]
+struct Plan {
+    input: usize,
+    reads: usize,
+    output: usize,
+    room: usize,
+}
+
+/// Nothing fails.
+const FINE: Plan = Plan {
+    input: 0,
+    reads: usize::MAX,
+    output: 0,
+    room: usize::MAX,
+};
+
+impl Plan {
+    /// The input with this number, which gives a byte at a time.
+    fn source<'a>(&self, number: usize, bytes: &'a [u8]) -> MemorySource<'a>
+        ensures { result.failed ≡ false }
+    {
+        let reads = if number == self.input {
+            self.reads
+        } else {
+            FINE.reads
+        };
+        MemorySource::new(bytes).in_pieces(1).failing_after(reads)
+    }
+
+    /// The output with this number.
+    fn sink(&self, number: usize, heap: Global) -> MemorySink<Global>
+        ensures { result.failed ≡ false }
+    {
+        let room = if number == self.output {
+            self.room
+        } else {
+            FINE.room
+        };
+        MemorySink::new(heap, room)
+    }
+}
+
+/// What a command left: its answer, the output that the plan names, and how much went to all outputs.
+#[derive(Drop)]
+struct Left {
+    answer: Result<Status, Fault>,
+    out: MemorySink<Global>,
+    total: usize,
+}
+
+fn options(trace: bool) -> RunOptions {
+    RunOptions {
+        start: Word::from_index(0o200),
+        rounds: 10,
+        trace,
+        profile: Profile::Pdp8I,
+    }
+}
+
+/// What a command on tapes and sources answers, or another.
+fn answered<A: Allocator + Copy>(
+    alloc: A,
+    command: Command,
+    plan: &Plan,
+    out: &mut MemorySink<Global>,
+) -> Result<Status, Fault>
+    requires { out.old.failed ≡ false }
+{
+    let mut parts = [plan.source(0, PARTS[0]), plan.source(1, PARTS[1])];
+    let mut tape = plan.source(0, HALT);
+    match command {
+        Command::Assemble => assemble(alloc, &mut parts, Profile::Pdp8I, out),
+        Command::List => list(alloc, &mut parts, Profile::Pdp8I, out),
+        Command::Dump => dump(alloc, &mut tape, Profile::Pdp8I, out),
+        Command::Run => run(alloc, &mut tape, options(false), out),
+        Command::Trace => run(alloc, &mut tape, options(true), out),
+        Command::Events => {
+            let mut events = plan.source(1, b"step\n");
+            run_events(alloc, &mut tape, &mut events, options(false), out)
+        }
+        _ => promised(alloc, command, plan, out),
+    }
+}
+
+/// What a command on promises answers.
+fn promised<A: Allocator + Copy>(
+    alloc: A,
+    command: Command,
+    plan: &Plan,
+    out: &mut MemorySink<Global>,
+) -> Result<Status, Fault>
+    requires { out.old.failed ≡ false }
+{
+    let mut tape = plan.source(0, HALT);
+    let mut text = plan.source(1, HALT_DECLARED);
+    let mut certificate = plan.source(2, HALT_CERTIFICATE);
+    match command {
+        Command::Watch => {
+            let mut events = plan.source(2, b"step\n");
+            watch(alloc, &mut tape, &mut text, &mut events, out)
+        }
+        Command::Check => check(alloc, &mut tape, &mut text, &mut certificate, out),
+        Command::Explain => {
+            let mut text = plan.source(1, UNDECLARED);
+            explain(alloc, &mut tape, &mut text, &mut certificate, out)
+        }
+        Command::Declare => {
+            let options = DeclareOptions {
+                start: Word::from_index(0o200),
+                profile: Profile::Pdp8I,
+                reads: false,
+            };
+            declare(alloc, &mut tape, options, out)
+        }
+        Command::Guess => guess(alloc, &mut tape, &mut text, out),
+        _ => migrate(alloc, &mut plan.source(0, HALT_CERTIFICATE), out),
+    }
+}
+
+/// What is left by a run with an operator.
+fn operated<A: Allocator + Copy>(alloc: A, heap: Global, plan: &Plan) -> Left {
+    let mut outputs = Outputs {
+        report: plan.sink(0, heap),
+        teletype: plan.sink(1, heap),
+        punch: plan.sink(2, heap),
+    };
+    let session = SessionOptions {
+        run: options(false),
+        switches: None,
+        mark: false,
+    };
+    let answer = run_session(
+        alloc,
+        &mut plan.source(0, LETTER),
+        &mut plan.source(1, b"\x00\x01"),
+        &mut plan.source(2, b"A"),
+        session,
+        &mut outputs,
+    );
+    let Outputs {
+        report,
+        teletype,
+        punch,
+    } = outputs;
+    let typed = teletype.bytes().len().saturating_add(punch.bytes().len());
+    let total = report.bytes().len().saturating_add(typed);
+    let out = match plan.output {
+        0 => report,
+        1 => teletype,
+        _ => punch,
+    };
+    Left { answer, out, total }
+}
+
+/// What is left by a guess that says why it is stuck.
+fn guessed<A: Allocator + Copy>(alloc: A, heap: Global, plan: &Plan, text: &[u8]) -> Left {
+    let mut found = plan.sink(0, heap);
+    let mut report = plan.sink(1, heap);
+    let answer = guess_or_explain(
+        alloc,
+        &mut plan.source(0, HALT),
+        &mut plan.source(1, text),
+        &mut found,
+        &mut report,
+    );
+    let total = found.bytes().len().saturating_add(report.bytes().len());
+    let out = if plan.output == 0 { found } else { report };
+    Left { answer, out, total }
+}
+
+/// What a command leaves by a plan. It takes its memory from the first allocator, and what it writes is
+/// kept by the second.
+fn left_by<A: Allocator + Copy>(alloc: A, heap: Global, command: Command, plan: &Plan) -> Left {
+    match command {
+        Command::Session => operated(alloc, heap, plan),
+        Command::GuessOrExplain => guessed(alloc, heap, plan, HALT_DECLARED),
+        Command::Stuck => guessed(alloc, heap, plan, UNDECLARED),
+        _ => {
+            let mut out = plan.sink(0, heap);
+            let answer = answered(alloc, command, plan, &mut out);
+            let total = out.bytes().len();
+            Left { answer, out, total }
+        }
+    }
+}
+
+/// How many reads of an input are made where none fails, if each that fails before is told as such and
+/// nothing is written then.
+fn reads_in_turn(heap: Global, command: Command, input: usize) -> Option<usize> {
+    for reads in 0..100usize {
+        let plan = Plan {
+            input,
+            reads,
+            ..FINE
+        };
+        let left = left_by(heap, heap, command, &plan);
+        if left.answer.is_ok() {
+            return Some(reads);
+        }
+        if left.answer != Err(Fault::Device(DeviceFault::Read)) || left.total != 0 {
+            return None;
+        }
+    }
+    None
+}
+
+/// Commands, and how many reads of each input they make. A tape is read up to the first frame of its
+/// trailer, a text until its end was told.
+const READS: [(Command, usize, usize, usize); 15] = [
+    (Command::Assemble, 6, 7, 0),
+    (Command::List, 6, 7, 0),
+    (Command::Dump, 11, 0, 0),
+    (Command::Run, 11, 0, 0),
+    (Command::Trace, 11, 0, 0),
+    (Command::Events, 11, 6, 0),
+    (Command::Session, 17, 3, 2),
+    (Command::Watch, 11, 29, 6),
+    (Command::Check, 11, 29, 65),
+    (Command::Explain, 11, 20, 65),
+    (Command::Declare, 11, 0, 0),
+    (Command::Guess, 11, 29, 0),
+    (Command::GuessOrExplain, 11, 29, 0),
+    (Command::Stuck, 11, 20, 0),
+    (Command::Migrate, 65, 0, 0),
+];
+
+#[test]
+fn each_read_that_fails_is_told(rt: HostRuntime) {
+    for (command, first, second, third) in &READS {
+        let counts = (
+            reads_in_turn(rt.alloc(), *command, 0),
+            reads_in_turn(rt.alloc(), *command, 1),
+            reads_in_turn(rt.alloc(), *command, 2),
+        );
+        let wanted = (Some(*first), Some(*second), Some(*third));
+        assert_eq!(rt; counts, wanted, "{command:?}");
+    }
+}
+
+/// An output has room for so many bytes.
+fn with_room(output: usize, room: usize) -> Plan {
+    Plan {
+        output,
+        room,
+        ..FINE
+    }
+}
+
+/// Whether a command looks for a certificate, which takes much longer than all else here.
+fn searches(command: Command) -> bool {
+    matches!(
+        command,
+        Command::Declare | Command::Guess | Command::GuessOrExplain | Command::Stuck
+    )
+}
+
+/// Whether with room for ever more bytes of a text just as many of them go out, with an answer that
+/// says that a write failed, until there is room for all. Where the command searches, every ninth room
+/// is tried.
+fn writes_in_turn(heap: Global, command: Command, output: usize, text: &[u8]) -> bool {
+    for room in 0..text.len() {
+        if searches(command) && room % 9 != 0 {
+            continue;
+        }
+        let left = left_by(heap, heap, command, &with_room(output, room));
+        let told = left.answer == Err(Fault::Device(DeviceFault::Write));
+        if !told || left.out.bytes() != &text[..room] {
+            return false;
+        }
+    }
+    let whole = left_by(heap, heap, command, &with_room(output, text.len()));
+    whole.answer.is_ok() && whole.out.bytes() == text
+}
+
+/// The tape of the halt, with its whole leader and trailer.
+const TAPE: &[u8] =
+    b"\x80\x80\x80\x80\x80\x80\x80\x80\x80\x80\x80\x80\x80\x80\x80\x80\x42\x00\x3c\x02\x02\x00\
+    \x80\x80\x80\x80\x80\x80\x80\x80\x80\x80\x80\x80\x80\x80\x80\x80";
+
+const LISTING: &[u8] = b"            *200\n0200  7402  HLT\n            $\n\n";
+
+const SUMMARY: &[u8] = b"HALT 0200 AC=0000 L=0 PC=0201 STEPS=1\n";
+
+const TRACED: &[u8] = b"0200 7402 HLT AC=0000 L=0\nHALT 0200 AC=0000 L=0 PC=0201 STEPS=1\n";
+
+const REPORTED: &[u8] = b"HALT 0203 AC=0301 L=0 PC=0204 STEPS=4\nPRINTED 301\nPUNCHED 301\n";
+
+const VERDICT: &[u8] = b"yes: 1 body cells, 0 variable cells, 0 entries, 1 halts\n";
+
+const REASON: &[u8] = b"no: V13 at 0200\n0200 7402 HLT\nV13 asks: a HLT is at a declared halt\n\
+    it halts, and no halt is declared there\nfact 0200 ac 0000-7777 link 01 offsets -\n";
+
+const PROPOSED: &[u8] = b"start 0200\nmain 0200\nstop 0200 / HLT\n";
+
+/// The certificate of the halt in version 2.
+const MIGRATED: &[u8] =
+    b"PDP8-CERTIFICATE 2\nfact 0200 ac 0000-7777 mq 0000-7777 link 01 offsets -\nend\n";
+
+/// Commands, the number of an output, and what goes there.
+const TEXTS: [(Command, usize, &[u8]); 16] = [
+    (Command::Assemble, 0, TAPE),
+    (Command::List, 0, LISTING),
+    (Command::Dump, 0, b"0200 7402 HLT\n"),
+    (Command::Run, 0, SUMMARY),
+    (Command::Trace, 0, TRACED),
+    (Command::Events, 0, SUMMARY),
+    (Command::Session, 0, REPORTED),
+    (Command::Session, 1, b"A"),
+    (Command::Session, 2, b"\xc1"),
+    (Command::Watch, 0, b"clean\n"),
+    (Command::Check, 0, VERDICT),
+    (Command::Explain, 0, REASON),
+    (Command::Declare, 0, PROPOSED),
+    (Command::Guess, 0, HALT_CERTIFICATE),
+    (Command::GuessOrExplain, 0, HALT_CERTIFICATE),
+    (Command::Migrate, 0, MIGRATED),
+];
+
+#[test]
+fn each_write_that_fails_leaves_a_front(rt: HostRuntime) {
+    for (command, output, text) in &TEXTS {
+        let told = writes_in_turn(rt.alloc(), *command, *output, text);
+        assert!(rt; told, "{command:?}, output {output}");
+    }
+}
+
+/// Whether each request for memory that is refused is answered so, with a front of a text at most, and
+/// without one where the command doesn't write as it goes, until none is refused.
+fn memory_in_turn(heap: Global, command: Command, output: usize, text: &[u8]) -> bool {
+    let goes_on = matches!(command, Command::Trace | Command::Session);
+    for count in 0..1000u64 {
+        let tight = Refusing::new(heap, count);
+        let left = left_by(&tight, heap, command, &with_room(output, FINE.room));
+        if !tight.has_refused() {
+            return count > 0 && left.answer.is_ok() && left.out.bytes() == text;
+        }
+        let fits = text.starts_with(left.out.bytes()) && (goes_on || left.total == 0);
+        if left.answer != Err(Fault::NoMemory) || !fits {
+            return false;
+        }
+    }
+    false
+}
+
+#[test]
+fn each_refusal_of_memory_is_told(rt: HostRuntime) {
+    for (command, output, text) in &TEXTS {
+        let told = memory_in_turn(rt.alloc(), *command, *output, text);
+        assert!(rt; told, "{command:?}, output {output}");
+    }
+}
+
+/// What is reported of a search that is stuck.
+const REPORT: &[u8] = b"pdp8: guess: Stuck 0200\n0200 7402 HLT\n\
+    V13 asks: a HLT is at a declared halt\nit halts, and no halt is declared there\n";
+
+#[test]
+fn a_report_that_fails_changes_no_answer(rt: HostRuntime) {
+    for more in 0..10usize {
+        let room = more * 15;
+        let left = left_by(rt.alloc(), rt.alloc(), Command::Stuck, &with_room(1, room));
+        assert_eq!(rt; left.answer, Ok(Status::Refused));
+        assert_eq!(rt; left.out.bytes(), &REPORT[..REPORT.len().min(room)]);
+    }
+    assert!(rt; memory_in_turn(rt.alloc(), Command::Stuck, 1, REPORT));
+}

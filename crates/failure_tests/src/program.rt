@@ -1,0 +1,130 @@
+//! The whole program where a file or a stream fails: what is written until then, what is told and the status.
+
+use crate::desk::{ROOMY, Rooms, run_program};
+
+/// What is told of a write that fails.
+const WRITE_FAULT: &[u8] = b"pdp8: device: WriteFault\n";
+
+/// Words with a file of which a read fails after some bytes.
+const FAILING_READS: [&str; 22] = [
+    "pdp8 run failing.bin",
+    "pdp8 run failing.bin --events step.ev",
+    "pdp8 run halt.bin --events failing.ev",
+    "pdp8 run failing.bin --trace",
+    "pdp8 run failing.bin --teletype",
+    "pdp8 run letter.bin --reader failing.tape --punch o",
+    "pdp8 run letter.bin --keys failing.ev --mark --teletype",
+    "pdp8 dump failing.bin",
+    "pdp8 assemble o failing.pal halt.pal",
+    "pdp8 assemble o bad.pal failing.pal",
+    "pdp8 list failing.pal",
+    "pdp8 list bad.pal failing.pal",
+    "pdp8 watch failing.bin halt.dcl step.ev",
+    "pdp8 watch halt.bin failing.dcl step.ev",
+    "pdp8 watch halt.bin halt.dcl failing.ev",
+    "pdp8 check halt.bin failing.dcl halt.cert",
+    "pdp8 check halt.bin halt.dcl failing.cert",
+    "pdp8 check halt.bin halt.dcl failing.cert --why",
+    "pdp8 declare failing.bin o",
+    "pdp8 guess failing.bin halt.dcl o",
+    "pdp8 guess halt.bin failing.dcl o --why",
+    "pdp8 migrate failing.cert o",
+];
+
+#[test]
+fn a_read_that_fails_is_told(rt: HostRuntime) {
+    for words in &FAILING_READS {
+        let end = run_program(rt.alloc(), words, ROOMY);
+        assert_eq!(rt; end.status, 3, "{words}");
+        assert_eq!(rt;
+            end.told.as_slice(),
+            b"pdp8: device: ReadFault\n".as_slice(),
+            "{words}"
+        );
+        assert!(rt; end.printed.is_empty() && end.written.is_empty(), "{words}");
+    }
+}
+
+/// Words by which something goes to a file.
+const TO_FILES: [&str; 6] = [
+    "pdp8 assemble o halt.pal",
+    "pdp8 declare halt.bin o",
+    "pdp8 guess halt.bin halt.dcl o",
+    "pdp8 guess halt.bin halt.dcl o --why",
+    "pdp8 migrate halt.cert o",
+    "pdp8 run letter.bin --punch o",
+];
+
+#[test]
+fn a_write_to_a_file_that_fails_is_told(rt: HostRuntime) {
+    for words in &TO_FILES {
+        let whole = run_program(rt.alloc(), words, ROOMY);
+        assert!(rt; whole.status == 0 && whole.told.is_empty(), "{words}");
+        for eighth in 0..8usize {
+            let written = whole.written.len().saturating_mul(eighth) / 8;
+            let end = run_program(rt.alloc(), words, Rooms { written, ..ROOMY });
+            assert!(rt;
+                end.status == 3 && end.told.as_slice() == WRITE_FAULT,
+                "{words}"
+            );
+            assert!(rt; whole.written.starts_with(&end.written), "{words}");
+        }
+    }
+}
+
+/// Words by which something is printed, and the status where all of it is.
+const PRINTING: [(&str, u8); 16] = [
+    ("pdp8 run halt.bin", 0),
+    ("pdp8 run halt.bin --trace", 0),
+    ("pdp8 run halt.bin --events step.ev", 0),
+    ("pdp8 run letter.bin --punch o", 0),
+    ("pdp8 run letter.bin --teletype", 0),
+    ("pdp8 dump halt.bin", 0),
+    ("pdp8 assemble - halt.pal", 0),
+    ("pdp8 list -", 0),
+    ("pdp8 watch halt.bin halt.dcl step.ev", 0),
+    ("pdp8 watch halt.bin wild.dcl step.ev", 1),
+    ("pdp8 check halt.bin halt.dcl halt.cert", 0),
+    ("pdp8 check halt.bin wild.dcl halt.cert --why", 1),
+    ("pdp8 declare halt.bin -", 0),
+    ("pdp8 guess halt.bin halt.dcl -", 0),
+    ("pdp8 migrate halt.cert -", 0),
+    ("pdp8 --version", 0),
+];
+
+#[test]
+fn an_output_that_fails_is_told(rt: HostRuntime) {
+    for (words, status) in &PRINTING {
+        let whole = run_program(rt.alloc(), words, ROOMY);
+        assert_eq!(rt; whole.status, *status, "{words}");
+        for eighth in 0..8usize {
+            let printed = whole.printed.len().saturating_mul(eighth) / 8;
+            let end = run_program(rt.alloc(), words, Rooms { printed, ..ROOMY });
+            assert!(rt;
+                end.status == 3 && end.told.as_slice() == WRITE_FAULT,
+                "{words}"
+            );
+            assert!(rt; whole.printed.starts_with(&end.printed), "{words}");
+        }
+    }
+}
+
+/// Words of which something is told, and the status.
+const TOLD: [(&str, u8); 7] = [
+    ("pdp8 run", 2),
+    ("pdp8 fly", 2),
+    ("pdp8 list bad.pal", 1),
+    ("pdp8 guess halt.bin wild.dcl o --why", 1),
+    ("pdp8 run absent", 3),
+    ("pdp8 run failing.bin", 3),
+    ("pdp8 run letter.bin --teletype", 3),
+];
+
+#[test]
+fn a_standard_error_that_fails_leaves_the_status(rt: HostRuntime) {
+    for (words, status) in &TOLD {
+        let end = run_program(rt.alloc(), words, Rooms { told: 0, ..ROOMY });
+        assert_eq!(rt; end.status, *status, "{words}");
+        assert!(rt; end.told.is_empty() && end.written.is_empty(), "{words}");
+    }
+}

@@ -1,0 +1,181 @@
+//! Tapes and certificates that come in pieces, from readers that fail, and from readers that never end.
+
+use crate::fixtures::{HELLO_CERTIFICATE, HELLO_WORDS, hello_tape, image};
+use bin_tape::{ByteSource, Failed, TapeFault, read_from, read_tape};
+use certificate::{Certificate, CertificateFault};
+use std::alloc::Global;
+use testing::memory::MemorySource;
+
+/// How many bytes a read gives at most.
+const PIECES: [usize; 3] = [1, 7, 512];
+
+/// Whether frames are told of so, whole and in pieces of each size; and where they are a tape, whether all give the
+/// same words.
+fn are_told(frames: &[u8], wanted: Option<TapeFault>) -> bool {
+    let whole = read_tape(frames);
+    for piece in PIECES {
+        let mut source = MemorySource::new(frames).in_pieces(piece.max(1));
+        if read_from(&mut source) != whole {
+            return false;
+        }
+    }
+    whole.err() == wanted
+}
+
+#[test]
+fn a_tape_that_is_cut_anywhere_is_told(rt: HostRuntime) {
+    let tape = hello_tape();
+    for count in 0..=88usize {
+        let wanted = match count {
+            0..=16 => Some(TapeFault::NoWord),
+            17..=72 => Some(TapeFault::Truncated),
+            _ => None,
+        };
+        assert!(rt; are_told(&tape[..count], wanted), "{count}");
+    }
+    assert!(rt; read_tape(&tape) == Ok(image(&HELLO_WORDS)));
+    let long = [0o200; 65_537];
+    assert!(rt; are_told(&long, Some(TapeFault::TooLong)));
+    assert!(rt; are_told(&long[..65_536], Some(TapeFault::NoWord)));
+}
+
+#[test]
+fn a_read_of_a_tape_that_fails_is_told(rt: HostRuntime) {
+    let tape = hello_tape();
+    for reads in 0..73usize {
+        let mut source = MemorySource::new(&tape).in_pieces(1).failing_after(reads);
+        assert!(rt;
+            read_from(&mut source) == Err(TapeFault::ReadFault),
+            "{reads}"
+        );
+        assert!(rt; source.failed());
+    }
+    // The 73rd frame begins the trailer, so the 74th isn't read.
+    let mut source = MemorySource::new(&tape).in_pieces(1).failing_after(73);
+    assert!(rt; read_from(&mut source).is_ok());
+    assert!(rt; !source.failed());
+}
+
+/// The fault of a certificate that comes in pieces of this size, of which a read fails after so many.
+fn told_of(
+    heap: Global,
+    text: &[u8],
+    piece: usize,
+    reads: usize,
+) -> (Option<CertificateFault>, bool) {
+    let mut source = MemorySource::new(text)
+        .in_pieces(piece.max(1))
+        .failing_after(reads);
+    let fault = Certificate::read_from(heap, &mut source).err();
+    (fault, source.failed())
+}
+
+#[test]
+fn a_certificate_that_is_cut_anywhere_is_told(rt: HostRuntime) {
+    let mut lines = 0usize;
+    for (cut, byte) in HELLO_CERTIFICATE.iter().enumerate() {
+        let wanted = match lines {
+            0 => CertificateFault::Version,
+            _ => CertificateFault::BadLine(lines.saturating_add(1)),
+        };
+        let front = &HELLO_CERTIFICATE[..cut];
+        for piece in PIECES {
+            let told = told_of(rt.alloc(), front, piece, usize::MAX);
+            assert_eq!(rt; told, (Some(wanted), false), "{cut}");
+        }
+        if *byte == b'\n' {
+            lines = lines.saturating_add(1);
+        }
+    }
+    assert_eq!(rt; lines, 35);
+}
+
+#[test]
+fn a_read_of_a_certificate_that_fails_is_told(rt: HostRuntime) {
+    let length = HELLO_CERTIFICATE.len();
+    for reads in 0..=length {
+        let told = told_of(rt.alloc(), HELLO_CERTIFICATE, 1, reads);
+        assert_eq!(rt; told, (Some(CertificateFault::ReadFault), true), "{reads}");
+    }
+    for piece in PIECES {
+        let told = told_of(
+            rt.alloc(),
+            HELLO_CERTIFICATE,
+            piece,
+            length.saturating_add(1),
+        );
+        assert_eq!(rt; told, (None, false), "{piece}");
+    }
+    // A fault is told before a failure.
+    let told = told_of(rt.alloc(), b"PDP8-CERTIFICATE 3\nmore", 1, 19);
+    assert_eq!(rt; told, (Some(CertificateFault::Version), false));
+}
+
+/// Gives some bytes and then one for ever, and counts what it gave.
+#[derive(Drop)]
+struct Endless {
+    front: &'static [u8],
+    byte: u8,
+    given: usize,
+}
+
+impl ByteSource for Endless {
+    ghost use Rattle.std.specs.Prelude.{None, false};
+
+    ghost remaining = { λ _. None };
+
+    ghost mark = { λ _. false };
+
+    ghost ended = { λ _. false };
+
+    fn read(&mut self, piece: &mut [u8]) -> Result<usize, Failed> {
+        piece.fill(self.byte);
+        let (front, rest) = self.front.split_at(self.front.len().min(piece.len()));
+        piece[..front.len()].copy_from_slice(front);
+        self.front = rest;
+        self.given = self.given.saturating_add(piece.len());
+        Ok(piece.len())
+    }
+
+    fn failed(&self) -> bool {
+        false
+    }
+}
+
+impl Endless {
+    fn new(front: &'static [u8], byte: u8) -> Endless {
+        Endless {
+            front,
+            byte,
+            given: 0,
+        }
+    }
+}
+
+/// Texts that never end, their faults, and how many bytes are read of them.
+const ENDLESS: [(&[u8], CertificateFault, usize); 3] = [
+    (b"PDP8-CERTIFICATE 3\n", CertificateFault::Version, 512),
+    (
+        b"PDP8-CERTIFICATE 1\nmore\n",
+        CertificateFault::BadLine(2),
+        512,
+    ),
+    (
+        b"PDP8-CERTIFICATE 1\n",
+        CertificateFault::TooMany,
+        1_048_577,
+    ),
+];
+
+#[test]
+fn no_more_is_read_than_the_answer_needs(rt: HostRuntime) {
+    let mut source = Endless::new(b"", 0o200);
+    assert!(rt; read_from(&mut source) == Err(TapeFault::TooLong));
+    assert_eq!(rt; source.given, 65_537);
+    for (front, fault, given) in &ENDLESS {
+        let mut source = Endless::new(front, b'x');
+        let told = Certificate::read_from(rt.alloc(), &mut source).err();
+        assert_eq!(rt; told, Some(*fault));
+        assert_eq!(rt; source.given, *given, "{fault}");
+    }
+}

@@ -1,0 +1,268 @@
+//! Calls that ask for memory, where a request is refused: the first, the second and so on, until a run ends without
+//! a refusal. Each refusal is told, and nothing else is told in its place.
+
+use crate::fixtures::{
+    HELLO, HELLO_CERTIFICATE, HELLO_DECLARED, HELLO_WORDS, PRINTED, hello_tape, image, rounds,
+};
+use analyser::{GuessFault, guess};
+use certificate::{Certificate, CertificateFault};
+use declaration::{Declaration, DeclarationFault};
+use instruct::Profile;
+use judge::{CertifyFault, certify};
+use pal_asm::{AssembleFault, assemble};
+use pal_text::{StatementFault, TextFault, statements};
+use peripherals::{EventsFault, Start, events};
+use policy::{Watched, watch};
+use std::alloc::{AllocError, Allocator, Global};
+use std::test::Fail;
+use testing::{MemorySource, Refusing};
+use word12::Word;
+
+/// A call.
+#[derive(Clone, Copy)]
+enum Call<'t> {
+    Events(&'t [u8]),
+    Statements(&'t [u8]),
+    Source(&'t [&'t [u8]]),
+    Declaration(&'t [u8]),
+    Certificate(&'t [u8]),
+    /// A certificate that is read in pieces.
+    Pieces(&'t [u8]),
+    /// HELLO, its declaration and its certificate.
+    Certification,
+    /// The guess of a certificate for HELLO.
+    Guess,
+    /// HELLO's run, which is watched.
+    Watch,
+    /// The same run where HELLO is certified.
+    Run,
+}
+
+/// How a call ends.
+#[derive(Clone, Copy, PartialEq, Eq, Debug)]
+enum Answer {
+    Done,
+    Fault,
+    NoMemory,
+    /// A refusal was answered by something else.
+    Untold,
+}
+
+/// How a call ends that has this fault or none.
+fn told<F: PartialEq + Copy>(fault: Option<F>, no_memory: F) -> Answer {
+    match fault {
+        None => Answer::Done,
+        Some(fault) if fault == no_memory => Answer::NoMemory,
+        Some(_) => Answer::Fault,
+    }
+}
+
+fn certification<A: Allocator + Copy>(alloc: A) -> Option<CertifyFault> {
+    certify(alloc, &hello_tape(), HELLO_DECLARED, HELLO_CERTIFICATE).err()
+}
+
+fn fault_in_pieces<A: Allocator + Copy>(alloc: A, text: &[u8]) -> Option<CertificateFault> {
+    let mut source = MemorySource::new(text).in_pieces(7);
+    Certificate::read_from(alloc, &mut source).err()
+}
+
+fn guess_answer<A: Allocator + Copy>(alloc: A, heap: Global) -> Answer {
+    let Ok(declared) = Declaration::parse(heap, HELLO_DECLARED) else {
+        return Answer::Fault;
+    };
+    let fault = guess(alloc, &image(&HELLO_WORDS), &declared).err();
+    told(fault, GuessFault::NoMemory)
+}
+
+fn watch_answer<A: Allocator + Copy>(alloc: A, heap: Global) -> Answer {
+    let Ok(declared) = Declaration::parse(heap, HELLO_DECLARED) else {
+        return Answer::Fault;
+    };
+    match watch(
+        alloc,
+        &image(&HELLO_WORDS),
+        &declared,
+        &Start::zero(),
+        &rounds(),
+    ) {
+        Ok(Watched::Clean) => Answer::Done,
+        Ok(_) => Answer::Fault,
+        Err(_) => Answer::NoMemory,
+    }
+}
+
+fn run_answer<A: Allocator + Copy>(alloc: A, heap: Global) -> Answer {
+    let Ok(certified) = certify(heap, &hello_tape(), HELLO_DECLARED, HELLO_CERTIFICATE) else {
+        return Answer::Fault;
+    };
+    let Ok(world) = certified.run(alloc, &Start::zero(), &rounds()) else {
+        return Answer::NoMemory;
+    };
+    if world.printed() == PRINTED.as_slice() {
+        Answer::Done
+    } else {
+        Answer::Fault
+    }
+}
+
+/// How a call ends that takes its memory from the first allocator. What it is given comes from the second.
+fn answer_of<A: Allocator + Copy>(alloc: A, heap: Global, call: &Call<'_>) -> Answer {
+    let no_part = TextFault::Statement(StatementFault::NoMemory);
+    let no_source = AssembleFault::NoMemory;
+    let no_lines = CertificateFault::NoMemory;
+    match call {
+        Call::Events(text) => told(events(alloc, text).err(), EventsFault::NoMemory),
+        Call::Statements(source) => told(statements(alloc, source).err(), no_part),
+        Call::Source(parts) => told(assemble(alloc, parts, Profile::Pdp8I).err(), no_source),
+        Call::Declaration(text) => told(
+            Declaration::parse(alloc, text).err(),
+            DeclarationFault::NoMemory,
+        ),
+        Call::Certificate(text) => told(Certificate::parse(alloc, text).err(), no_lines),
+        Call::Pieces(text) => told(fault_in_pieces(alloc, text), no_lines),
+        Call::Certification => told(certification(alloc), CertifyFault::NoMemory),
+        Call::Guess => guess_answer(alloc, heap),
+        Call::Watch => watch_answer(alloc, heap),
+        Call::Run => run_answer(alloc, heap),
+    }
+}
+
+/// How many requests a call makes where none is refused and how it ends then, if each refusal is told; else the
+/// request of which the refusal isn't told.
+fn in_turn(heap: Global, call: &Call<'_>) -> (u64, Answer) {
+    for count in 0..10_000u64 {
+        let tight = Refusing::new(heap, count);
+        let answer = answer_of(&tight, heap, call);
+        if !tight.has_refused() {
+            return (count, answer);
+        }
+        if answer != Answer::NoMemory {
+            return (count, Answer::Untold);
+        }
+    }
+    (0, Answer::Untold)
+}
+
+/// A text of events.
+const EVENTS: &[u8] = b"step 2\nkey 301\nstep 1000\nswitches 17\nstep 5000";
+
+/// A source with numbers of both kinds.
+const NUMBERS: &[u8] = b"DECIMAL;-10;OCTAL;10;300 5;1 2+1;$";
+
+/// Lines that end by a return with the eighth channel, by a rubout and by a line feed.
+const LINE_ENDS: &[u8] = b"*200\x8d\xff\x8aHLT\x8d\xff\x8a$\x8d\xff\x8a";
+
+/// A declaration of seven routines.
+const SUBS: &[u8] =
+    b"start 200\nmain 200\nsub 300 body 301 returns 0\nsub 400 body 401 returns 0 1\n\
+    sub 402 body 403 returns 0\nsub 404 body 405 returns\nsub 406 body 407 returns 0\n\
+    sub 410 body 411 returns 0\nsub 412 body 413 returns 0\n";
+
+/// Calls that are done where they get memory, and how often they ask at least.
+const DONE: [(Call<'static>, u64); 17] = [
+    (Call::Events(EVENTS), 3),
+    (Call::Statements(b"*10;TAD 20;$"), 1),
+    (Call::Statements(NUMBERS), 1),
+    (Call::Statements(b"A=5\nPAUSE\n"), 1),
+    (Call::Statements(b"TA\xffD"), 1),
+    (Call::Statements(HELLO), 1),
+    (Call::Source(&[NUMBERS]), 2),
+    (Call::Source(&[b"A=5\nPAUSE\n", b"TAD A\n$\n"]), 2),
+    (Call::Source(&[HELLO]), 2),
+    (Call::Source(&[b"*200\x8dHLT\x8d$\x8d"]), 2),
+    (Call::Source(&[LINE_ENDS]), 2),
+    (Call::Declaration(SUBS), 1),
+    (Call::Certificate(HELLO_CERTIFICATE), 1),
+    (Call::Pieces(HELLO_CERTIFICATE), 1),
+    (Call::Certification, 2),
+    (Call::Watch, 2),
+    (Call::Run, 1),
+];
+
+/// A declaration and a certificate with a fault behind what is kept of them.
+const BAD_SUB: &[u8] = b"start 200\nmain 200\nsub 300 body 301 returns 0\nmain 8\nsub 1";
+
+const UNENDED: &[u8] = b"PDP8-CERTIFICATE 1\nroutine 0214 rank 00 sites 0207 writes -\nend";
+
+/// Calls that have a fault where they get memory, for which they ask once at least: sources with one of each code.
+const FAULTY: [Call<'static>; 13] = [
+    Call::Events(b"step\nsteps"),
+    Call::Statements(b"?"),
+    Call::Statements(b"X,1\nX,2\nA=1;A=2\n8 ?\n"),
+    Call::Source(&[b"TAD 600"]),
+    Call::Source(&[b"X,1\nX,2"]),
+    Call::Source(&[b"A=1;A=2"]),
+    Call::Source(&[b"TAD Q"]),
+    Call::Source(&[b"8"]),
+    Call::Source(&[b"10000"]),
+    Call::Source(&[b"PAUSE"]),
+    Call::Declaration(BAD_SUB),
+    Call::Certificate(UNENDED),
+    Call::Pieces(UNENDED),
+];
+
+#[test]
+fn each_refusal_is_told(rt: HostRuntime) {
+    for (row, (call, least)) in DONE.iter().enumerate() {
+        let (count, answer) = in_turn(rt.alloc(), call);
+        assert!(rt; answer == Answer::Done && count >= *least, "row {row}");
+    }
+    for (row, call) in FAULTY.iter().enumerate() {
+        let (count, answer) = in_turn(rt.alloc(), call);
+        assert!(rt; answer == Answer::Fault && count > 0, "row {row}");
+    }
+}
+
+#[test]
+fn each_refusal_to_a_guess_is_told(rt: HostRuntime) {
+    let (count, answer) = in_turn(rt.alloc(), &Call::Guess);
+    assert!(rt; answer == Answer::Done && count > 20);
+}
+
+/// A line that isn't a routine's.
+const NO_ROUTINE: &[u8] = b"PDP8-CERTIFICATE 1\nroutine 0214 rank 00 sites 0207 writes - \nend\n";
+
+/// Calls that ask for memory just so often, and how they end.
+const COUNTED: [(Call<'static>, u64, Answer); 9] = [
+    (Call::Events(b"\nbad"), 0, Answer::Fault),
+    (Call::Events(b"step 1000000\nstep"), 1, Answer::Fault),
+    (Call::Source(&[]), 0, Answer::Fault),
+    (Call::Declaration(b"start 1\nmain 1"), 0, Answer::Done),
+    (Call::Declaration(b"sub 1"), 0, Answer::Fault),
+    (Call::Pieces(b"PDP8-CERTIFICATE 1\nend\n"), 0, Answer::Done),
+    (Call::Pieces(b"PDP8-CERTIFICATE 2\n"), 0, Answer::Fault),
+    (Call::Pieces(b""), 0, Answer::Fault),
+    (Call::Pieces(NO_ROUTINE), 0, Answer::Fault),
+];
+
+#[test]
+fn nothing_is_asked_for_that_is_not_kept(rt: HostRuntime) {
+    for (row, (call, count, wanted)) in COUNTED.iter().enumerate() {
+        let told = in_turn(rt.alloc(), call);
+        assert!(rt; told == (*count, *wanted), "row {row}");
+    }
+}
+
+/// 1,024 assignments, and then a line.
+fn too_many_symbols<A: Allocator>(alloc: A, last: &[u8]) -> Result<Vec<u8, A>, AllocError> {
+    let mut source = Vec::new(alloc);
+    for number in 0..1024u16 {
+        let digits = Word::new(number).unwrap_or(Word::ZERO).to_octal();
+        source.extend_from_slice(b"A")?;
+        source.extend_from_slice(&digits)?;
+        source.extend_from_slice(b"=1\n")?;
+    }
+    source.extend_from_slice(last)?;
+    Ok(source)
+}
+
+#[test]
+fn each_refusal_for_a_full_table_is_told(rt: HostRuntime) -> Result<(), Fail> {
+    for (last, wanted) in [(b"B=1\n".as_slice(), Answer::Fault), (b"$\n", Answer::Done)] {
+        let source = too_many_symbols(rt.alloc(), last)?;
+        let parts: [&[u8]; 1] = [&source];
+        let (count, answer) = in_turn(rt.alloc(), &Call::Source(&parts));
+        assert!(rt; answer == wanted && count > 1);
+    }
+    Ok(())
+}

@@ -1,7 +1,7 @@
 //! Tapes, certificates and listings that go out to writers with room for so many bytes, or for none.
 
 use crate::fixtures::{HELLO_CERTIFICATE, HELLO_WORDS, hello_tape, image};
-use bin_tape::{ByteSink, Failed, Image, WriteTapeFault, write_tape};
+use bin_tape::{ByteSink, Failed, WriteTapeFault, write_tape};
 use certificate::{Certificate, WriteFault};
 use instruct::Profile;
 use pal_asm::assemble;
@@ -47,7 +47,6 @@ fn a_front_of_a_tape_goes_out(rt: HostRuntime) {
     let mut sink = MemorySink::new(rt.alloc(), 88);
     assert!(rt; write_tape(&image, &mut sink) == Ok(()));
     assert!(rt; sink.bytes() == tape.as_slice());
-    assert!(rt; write_tape(&Image::empty(), &mut sink) == Err(WriteTapeFault::EmptyImage));
     let mut full = Full { failed: false };
     assert!(rt; write_tape(&image, &mut full) == Err(WriteTapeFault::WriteFault));
 }

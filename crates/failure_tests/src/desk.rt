@@ -291,16 +291,12 @@ pub const ROOMY: Rooms = Rooms {
     written: usize::MAX,
 };
 
-/// What the program leaves.
+/// What the program leaves: its status, and what went to standard output, to standard error and to files.
 #[derive(Drop)]
 pub struct Ended {
-    /// Its status.
     pub status: u8,
-    /// What went to standard output.
     pub printed: Vec<u8, Global>,
-    /// What went to standard error.
     pub told: Vec<u8, Global>,
-    /// What went to files.
     pub written: Vec<u8, Global>,
 }
 

@@ -5,6 +5,7 @@ use crate::fixtures::{
 };
 use analyser::{GuessFault, Turns, guess_within};
 use certificate::{Certificate, Version};
+use commands::status::{Fault, Status};
 use declaration::Declaration;
 use facts::{Equation, Fact, Name, Offsets, entails_return};
 use instruct::Profile;
@@ -134,6 +135,18 @@ fn what_refuses_a_program_is_told(rt: HostRuntime) -> Result<(), Fail> {
     Ok(())
 }
 
+#[test]
+fn faults_that_no_small_input_has_have_lines(rt: HostRuntime) -> Result<(), Fail> {
+    let (memory, turns) = (Fault::NoMemory, Fault::Guess(GuessFault::TurnsSpent));
+    assert!(rt; memory.status() == Status::Memory && turns.status() == Status::Refused);
+    let text = format!(in rt.alloc(); "{memory}, {turns}")?;
+    assert_eq!(rt;
+        text.as_str(),
+        "pdp8: memory: NoMemory, pdp8: guess: TurnsSpent"
+    );
+    Ok(())
+}
+
 /// The fault of a guess for HELLO within so many turns, and how many were spent.
 fn guessed_within(heap: Global, limit: u32) -> Option<(Option<GuessFault>, u32)> {
     let declared = Declaration::parse(heap, HELLO_DECLARED).ok()?;
@@ -236,7 +249,4 @@ fn a_return_brings_the_exit_and_keeps_what_is_not_written(rt: HostRuntime) {
     let none = WordSet::empty();
     assert!(rt; entails_return(&call, &exit, &none, &hello));
     assert!(rt; !entails_return(&call, &exit, &WordSet::one(word(0o224)), &hello));
-    // MQ is the exit's, and the offsets are the caller's.
-    call.set_offsets(Offsets::all());
-    assert!(rt; !entails_return(&call, &exit, &none, &hello));
 }

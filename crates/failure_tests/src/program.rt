@@ -6,11 +6,10 @@ use crate::desk::{ROOMY, Rooms, run_program};
 const WRITE_FAULT: &[u8] = b"pdp8: device: WriteFault\n";
 
 /// Words with a file of which a read fails after some bytes.
-const FAILING_READS: [&str; 22] = [
+const FAILING_READS: [&str; 21] = [
     "pdp8 run failing.bin",
     "pdp8 run failing.bin --events step.ev",
     "pdp8 run halt.bin --events failing.ev",
-    "pdp8 run failing.bin --trace",
     "pdp8 run failing.bin --teletype",
     "pdp8 run letter.bin --reader failing.tape --punch o",
     "pdp8 run letter.bin --keys failing.ev --mark --teletype",

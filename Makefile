@@ -6,7 +6,10 @@ BUILT = crates/pdp8/out/pdp8
 # How many checks the gate runs side by side: one for each processor.
 export RT_JOBS ?= $(shell nproc)
 
-.PHONY: help try run test cases edits install time bench fmt
+VERSION = 1.0
+DIST = pdp8-workbench-$(VERSION)
+
+.PHONY: help try run test cases edits install dist compare time bench fmt
 
 # Says what there is.
 help:
@@ -15,7 +18,9 @@ help:
 	@echo "make test      the gate: every proof from nothing, wrong edits, tests, all cases"
 	@echo "make cases     the cases of tests/cases/, README.md and docs/ against the program that is built"
 	@echo "make edits     the wrong edits that the gate leaves out; CRATES=\"facts judge\" for those of some crates"
-	@echo "make install   puts $(PROGRAM), its man page and its completions below PREFIX=$(PREFIX)"
+	@echo "make install   puts the program, its man page and its completions below PREFIX=$(PREFIX); PROGRAM=name for another name"
+	@echo "make dist      a tarball with the proved program, man page, completions, pages and examples"
+	@echo "make compare   compares with SIMH, palbart and the reference in Python, as far as they are installed (minutes)"
 	@echo "make time      times the first look, the first run and the gate with nothing kept (hours)"
 	@echo "make bench     times the program itself, beside others where they are installed"
 	@echo "make fmt       lays out the sources"
@@ -31,12 +36,15 @@ run:
 	@echo "Proving pdp8 and all below it. README.md says how long that takes from nothing; where nothing has changed it takes seconds."
 	python3 tests/prove.py
 
-# The gate: the page of definitions, whether each edit applies and that there aren't too many; every proof from nothing, the
-# edits in must-fail/, every test and the program; and then all cases, with the program that was proved.
+# The gate: the page of definitions, the links and lengths of pages, whether each edit applies and that there aren't too many;
+# every proof from nothing, the edits in must-fail/, every test and the program; and then, with the program that was proved,
+# whether pages, help, man page and completions agree, and all cases.
 test:
 	python3 tests/definitions.py
+	python3 tests/links.py
 	python3 tests/edits.py
 	rt ci
+	python3 tests/agreement.py $(BUILT)
 	python3 tests/cases.py $(BUILT)
 
 # All cases, with the program that is built.
@@ -48,11 +56,26 @@ cases:
 edits:
 	python3 tests/more_edits.py $(CRATES)
 
-# Puts the program, its man page and its completions for bash below $(PREFIX).
+# Puts the program, its man page and its completions for bash below $(PREFIX). SIMH's program has the name pdp8 too.
 install: run
+	@other=$$(command -v $(PROGRAM)); [ -z "$$other" ] || [ "$$other" = $(PREFIX)/bin/$(PROGRAM) ] || \
+	    echo "Another $(PROGRAM) is on the path: $$other. make install PROGRAM=name gives this one another name."
 	install -D -m 755 $(BUILT) $(PREFIX)/bin/$(PROGRAM)
 	install -D -m 644 share/pdp8.1 $(PREFIX)/share/man/man1/$(PROGRAM).1
 	install -D -m 644 share/pdp8.bash $(PREFIX)/share/bash-completion/completions/$(PROGRAM)
+
+# A tarball with what a user needs.
+dist: run
+	rm -rf $(DIST) && mkdir -p $(DIST)/bin $(DIST)/share
+	cp $(BUILT) $(DIST)/bin/pdp8
+	cp share/pdp8.1 share/pdp8.bash $(DIST)/share/
+	cp -r README.md CHANGELOG.md docs examples $(DIST)/
+	tar czf $(DIST).tar.gz $(DIST) && rm -rf $(DIST)
+	@echo "$(DIST).tar.gz"
+
+# The comparisons with SIMH, palbart and the reference in Python; what is missing on the machine is named.
+compare:
+	python3 tests/compare.py $(BUILT)
 
 # Times the first look, the first run and the gate, each in a fresh clone with nothing kept from earlier runs.
 time:

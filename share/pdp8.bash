@@ -1,9 +1,16 @@
 # Completions of pdp8 for bash.
 _pdp8() {
     local word=${COMP_WORDS[COMP_CWORD]} before=${COMP_WORDS[COMP_CWORD-1]} options=
+    local commands='assemble list dump run watch check declare guess migrate help'
     if [ "$COMP_CWORD" -eq 1 ]; then
-        COMPREPLY=($(compgen -W 'assemble list dump run watch declare guess check migrate help --help --version' -- "$word"))
+        COMPREPLY=($(compgen -W "$commands --help --version" -- "$word"))
         return
+    fi
+    # bash takes the = of --profile=8i for a word of its own.
+    if [ "$word" = = ]; then
+        word=
+    elif [ "$before" = = ]; then
+        before=${COMP_WORDS[COMP_CWORD-2]}
     fi
     case $before in
         --profile)
@@ -13,14 +20,14 @@ _pdp8() {
         --start | --steps | --switches)
             return
             ;;
-        help)
-            COMPREPLY=($(compgen -W 'assemble list dump run watch declare guess check migrate' -- "$word"))
-            return
-            ;;
     esac
     case ${COMP_WORDS[1]} in
+        help)
+            COMPREPLY=($(compgen -W "$commands" -- "$word"))
+            return
+            ;;
         assemble | list | dump) options='--profile --help' ;;
-        run) options='--start --steps --events --reader --punch --keys --mark --teletype --switches --trace --profile --help' ;;
+        run) options='--start --steps --trace --profile --events --reader --punch --keys --mark --teletype --switches --help' ;;
         check | guess) options='--why --help' ;;
         declare) options='--start --reads --profile --help' ;;
         watch | migrate) options='--help' ;;

@@ -1,4 +1,4 @@
-"""Compares `pdp8 assemble` and `pdp8 list` with the assembler in tests/reference on sources by chance, most of them
+"""Compares `pdp8 assemble` and `pdp8 list` with the assembler in reference on sources by chance, most of them
 with faults: the tape, the listing and the fault line must be the same to the byte.
 
 usage: assembler.py PROGRAM FOLDER COUNT SEED, where FOLDER takes what is made. Parts of sources on which they differ
@@ -9,7 +9,7 @@ import subprocess
 import sys
 from pathlib import Path
 
-sys.path.insert(0, str(Path(__file__).parent / "reference"))
+sys.path.insert(0, str(Path(__file__).parent.parent / "reference"))
 import pal  # noqa: E402
 import tape  # noqa: E402
 

@@ -1,5 +1,5 @@
 #!/usr/bin/env bash
-# Compares `pdp8 assemble` and `pdp8 list` with the assembler in tests/reference on sources by chance. No gate runs it.
+# Compares `pdp8 assemble` and `pdp8 list` with the assembler in reference on sources by chance. No gate runs it.
 # usage: tests/assembler.sh [COUNT [SEED]]; PDP8 names another program than this repository's.
 set -euo pipefail
 cd "$(dirname "$0")/.."

@@ -4,14 +4,16 @@ usage: tests/definitions.py                          names each difference; exit
        tests/definitions.py --write                  makes the page
        tests/definitions.py --compare BEFORE AFTER   the definitions that public contracts reach: which were lost or added
                                                      from one folder to the other, and which read otherwise
+       tests/definitions.py --behind CRATE::NAME..   each module with the definitions behind these names: those that the
+                                                     definitions of this name reach, themselves among them, or the
+                                                     contracts of the public functions of this name
 
 The page has each definition that a public contract reaches. A public contract is the clauses of a public function, or what
 a public type or trait says by ghost items, but for invariants; it reaches the definitions that it names and those that they
 name. A module in specs/inside/, or one whose first comment says that it serves private contracts, must not be reached.
 
 Each must have a comment that says more than its name: the lines right above it, without a blank line between, or the first
-comment of a module that has no other definition. A comment above one definition isn't taken to cover the next ones. Those
-that lack one yet are named in tests/uncommented.txt, one in a line, and no others may be.
+comment of a module that has no other definition. A comment above one definition isn't taken to cover the next ones.
 
 The crates stand in the order and under the headings of crates.txt, each with the first sentence of its src/lib.rt. The
 modules of a crate stand as its Lib.antt names them, but each after those that it uses."""
@@ -25,7 +27,6 @@ from rattle_sources import crates_of, functions_of, modules_of
 
 ROOT = os.path.dirname(os.path.dirname(os.path.abspath(__file__)))
 PAGE = "docs/DEFINITIONS.md"
-UNCOMMENTED = "tests/uncommented.txt"
 WIDTH = 120
 # What these hold is no contract on a caller's side: how a value is kept.
 INSIDE = ("invariant", "inverse")
@@ -38,7 +39,7 @@ FRONT = """\
 What is promised of the code is said in terms of the definitions below. The checker sees to it that the code keeps them; that \
 they say what a PDP-8, a tape or a safe program is, only a reader can see. So here is each definition that the contract of a \
 public function, type or trait reaches, with its comment, under its module. Each crate stands after those that it uses, and \
-so does each module of a crate. "No comment" says that a definition has none of its own: one above may speak of it too.
+so does each module of a crate.
 
 What isn't listed need not be believed: everything under `proofs/`, and the definitions that only private contracts cite.
 
@@ -96,21 +97,40 @@ class Definitions:
             if re.match(r" *pub record", text):
                 above |= bound_in(part) | {*re.findall(r"^\s+pub ([\w']+) :", part)}
 
+    def cited(self, function):
+        """The definitions that the contract of a function names."""
+        parameters = set(re.findall(r"(\w+):", function.head))
+        for text in [it[2] for it in function.clauses if it[1] not in INSIDE]:
+            yield from self.named(text, function.imports, None, parameters | bound_in(text))
+
+    def closed(self, ahead, why, found):
+        """Puts these definitions, and all that they name, into what is found, each with the reason why."""
+        ahead = list(ahead)
+        while ahead:
+            key = ahead.pop()
+            if key not in found:
+                found[key] = why
+                ahead += self.used(key)
+
     def reached(self):
         """Each definition that a public contract reaches, with a function whose contract does."""
         found = {}
         for crate, folder in self.folders.items():
             for function in functions_of(crate, folder):
-                parameters = set(re.findall(r"(\w+):", function.head))
-                texts = [it[2] for it in function.clauses if it[1] not in INSIDE]
-                ahead = []
-                for text in texts:
-                    ahead += self.named(text, function.imports, None, parameters | bound_in(text))
-                while ahead:
-                    key = ahead.pop()
-                    if key not in found:
-                        found[key] = f"{crate}::{function.name}"
-                        ahead += self.used(key)
+                self.closed(self.cited(function), f"{crate}::{function.name}", found)
+        return found
+
+    def behind(self, names):
+        """The definitions behind these names."""
+        found = {}
+        for name in names:
+            crate, _, rest = name.partition("::")
+            modules, folder = self.modules.get(crate, {}), self.folders.get(crate)
+            ahead = [(crate, it.name, rest) for it in modules.values() if rest in it.definitions]
+            called = [it for it in functions_of(crate, folder) if it.name == rest] if folder else []
+            if not ahead and not called:
+                raise KeyError(name)
+            self.closed(ahead + [key for it in called for key in self.cited(it)], name, found)
         return found
 
 
@@ -182,17 +202,9 @@ def wrapped(text, indent=""):
 
 
 def rows(module, definitions):
-    """A row for each of these definitions of a module; those without a comment that stand together share one."""
-    bare = []
-    for it in [*definitions, None]:
-        comment = comment_of(module, it) if it else ""
-        if bare and (comment or not it):
-            yield f"- {', '.join(bare)}: no comment"
-            bare = []
-        if comment:
-            yield wrapped(f"- `{it.name}`: {comment}", "  ")
-        elif it:
-            bare.append(f"`{it.name}`")
+    """A row for each of these definitions of a module."""
+    for it in definitions:
+        yield wrapped(f"- `{it.name}`: {comment_of(module, it) or 'no comment'}", "  ")
 
 
 def page(definitions, reached):
@@ -211,12 +223,6 @@ def page(definitions, reached):
     return "\n\n".join(it for it in parts if it) + "\n"
 
 
-def uncommented(root):
-    """The definitions that may lack a comment yet."""
-    with open(f"{root}/{UNCOMMENTED}", encoding="utf-8") as file:
-        return [tuple(it.split()) for it in file.read().splitlines() if it and not it.startswith("#")]
-
-
 def lacking(definitions, reached):
     """The reached definitions that have no comment, or one that says nothing."""
     for key in sorted(reached):
@@ -225,20 +231,15 @@ def lacking(definitions, reached):
 
 
 def differences(definitions, reached):
-    """What is wrong with the definitions, with the list of those without a comment, and with the page."""
+    """What is wrong with the definitions and with the page."""
     known = {it for _, crates in crates_in_order(definitions.root) for it in crates}
     for crate in sorted({it[0] for it in reached} - known):
         yield f"crates.txt has no crate {crate}"
     for key in sorted(reached):
         if definitions.modules[key[0]][key[1]].is_private:
             yield f"{key[0]}, {key[1]} serves private contracts, but {reached[key]} reaches {key[2]}"
-    listed, bare = uncommented(definitions.root), list(lacking(definitions, reached))
-    for key in bare:
-        if key not in listed:
-            yield f"{key[0]}, {key[1]}: {key[2]}, which {reached[key]} reaches, has no comment that says more than its name"
-    for at, key in enumerate(listed):
-        if key not in bare or key in listed[:at]:
-            yield f"{UNCOMMENTED}: {' '.join(key)} must leave the list: it has a comment, isn't reached or is named twice"
+    for key in lacking(definitions, reached):
+        yield f"{key[0]}, {key[1]}: {key[2]}, which {reached[key]} reaches, has no comment that says more than its name"
     if not os.path.isfile(f"{definitions.root}/{PAGE}"):
         yield f"there is no {PAGE}: tests/definitions.py --write makes it"
         return
@@ -266,9 +267,33 @@ def compared(before, after):
             yield "\n".join([f"CHANGED {new[0]}::{new[1]}", *gone, *come])
 
 
+def told_behind(definitions, names):
+    """A line for each module with definitions behind these names: how many there are, how many lines it has, and which."""
+    found = definitions.behind(names)
+    lines_of_all = 0
+    crates = [crate for _, crates in crates_in_order(definitions.root) for crate in crates if crate in definitions.modules]
+    modules = [(crate, it) for crate in crates for it in in_order(crate, definitions.modules[crate])]
+    shown = [(crate, it) for crate, it in modules if any(key[:2] == (crate, it.name) for key in found)]
+    for crate, module in shown:
+        taken = [it for it in module.definitions if (crate, module.name, it) in found]
+        file = f"crates/{crate}/specs/{module.name.replace('.', '/')}.antt"
+        with open(f"{definitions.root}/{file}", encoding="utf-8") as text:
+            count = len(text.readlines())
+        lines_of_all += count
+        yield wrapped(f"{crate} {module.name}: {len(taken)} of {len(module.definitions)} definitions, in {count} lines: {' '.join(taken)}", "    ")
+    yield f"behind {' '.join(names)}: {len(found)} definitions in {len(shown)} modules of {lines_of_all} lines"
+
+
 def main(words):
     if words[:1] == ["--compare"] and len(words) == 3:
         print("\n".join(sorted(compared(*words[1:]))))
+        return 0
+    if words[:1] == ["--behind"] and len(words) > 1:
+        try:
+            print("\n".join(told_behind(Definitions(ROOT), words[1:])))
+        except KeyError as error:
+            print(f"there is no definition and no public function {error.args[0]}", file=sys.stderr)
+            return 1
         return 0
     if words not in ([], ["--write"]):
         print(__doc__, file=sys.stderr)
@@ -280,7 +305,7 @@ def main(words):
             file.write(page(definitions, reached))
     found = list(differences(definitions, reached))
     print("".join(f"{it}\n" for it in found), end="")
-    print(f"definitions: {len(reached)} to believe, {len(uncommented(ROOT))} without a comment, {len(found)} differences")
+    print(f"definitions: {len(reached)} to believe, {len(found)} differences")
     return 1 if found else 0
 
 

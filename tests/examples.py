@@ -1,8 +1,8 @@
-"""Checks what stands in examples/ by other programs: Debian's palbart and SIMH, and the Python in tests/reference.
+"""Checks what stands in examples/ by other programs: Debian's palbart and SIMH, and the Python in reference.
 
 usage: examples.py PALBART SIMH EXAMPLES FOLDER [PROGRAM], where FOLDER takes what is made. Each source is assembled
 with palbart. The tape is run with its events, watched under its declaration and checked with its certificate by
-tests/reference, and what comes out must be NAME.run, NAME.watch and NAME.check; of DEC's loader `rim`, which breaks its declaration, the last two. Where SIMH is given it runs the tape
+reference, and what comes out must be NAME.run, NAME.watch and NAME.check; of DEC's loader `rim`, which breaks its declaration, the last two. Where SIMH is given it runs the tape
 with the same keys, frames and switches: AC, link and program counter at each halt, the memory at the end and the
 output must be the same. PROGRAM is a built `pdp8`, which is compared too in the commands that it has.
 """
@@ -11,7 +11,7 @@ import subprocess
 import sys
 from pathlib import Path
 
-sys.path.insert(0, str(Path(__file__).parent / "reference"))
+sys.path.insert(0, str(Path(__file__).parent.parent / "reference"))
 import check as judge  # noqa: E402
 import machine  # noqa: E402
 import palbart as assembler  # noqa: E402
@@ -59,7 +59,7 @@ def of_simh(simh, folder, name, told, happening):
 
 
 def compare_with_simh(simh, folder, name, world, happening):
-    """What differs between SIMH and tests/reference. The examples print nulls and bytes above 177 alone, which SIMH's
+    """What differs between SIMH and reference. The examples print nulls and bytes above 177 alone, which SIMH's
     own words never have."""
     told, registers = halts(world, happening)
     theirs, printed, punched, memory = of_simh(simh, folder, name, told, happening)

@@ -1,5 +1,5 @@
 #!/usr/bin/env bash
-# Checks examples/ by Debian's palbart and simh and by the Python in tests/reference: what stands there as expected must
+# Checks examples/ by Debian's palbart and simh and by the Python in reference: what stands there as expected must
 # come out. No gate runs it. Where PDP8 names a built program of this repository, that is compared too.
 set -euo pipefail
 cd "$(dirname "$0")/.."

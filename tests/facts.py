@@ -1,4 +1,4 @@
-"""Compares the facts of crates/facts with those in tests/reference on words, facts and places by chance: the first
+"""Compares the facts of crates/facts with those in reference on words, facts and places by chance: the first
 condition that a word breaks, its outcomes, the facts that these and a return entail, and what holds of every start.
 
 usage: facts.py make FOLDER COUNT SEED        writes files of cases to FOLDER
@@ -10,7 +10,7 @@ import sys
 from dataclasses import replace
 from pathlib import Path
 
-sys.path.insert(0, str(Path(__file__).parent / "reference"))
+sys.path.insert(0, str(Path(__file__).parent.parent / "reference"))
 import check  # noqa: E402
 import sets  # noqa: E402
 from facts import AC, Fact, Place, entails, joined, possible, post, supported, targets  # noqa: E402

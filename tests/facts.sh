@@ -1,5 +1,5 @@
 #!/usr/bin/env bash
-# Compares the facts of crates/facts with those in tests/reference on words, facts and places by chance. No gate runs it.
+# Compares the facts of crates/facts with those in reference on words, facts and places by chance. No gate runs it.
 # usage: tests/facts.sh [COUNT [SEED]]
 # The program that reads the cases is no crate of this repository: tests/facts/cases.rattle is built in a folder of its
 # own, over copies of the crates, and run unproved, with an eye on indexes and overflows.

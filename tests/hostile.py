@@ -1,5 +1,5 @@
 #!/usr/bin/env python3
-"""Gives pdp8 random, cut and mixed-up inputs, and sees that each run ends with an answer that docs/PROGRAM.md names.
+"""Gives pdp8 random, cut and mixed-up inputs, and sees that each run ends with an answer that docs/COMMANDS.md names.
 
 Each input comes from the programs of examples: tapes, sources, declarations, events and certificates, of which
 bytes are changed, left out, doubled, put in or exchanged with another file's, or from random bytes. A run that ends by a

@@ -1,7 +1,7 @@
 #!/usr/bin/env bash
 # Assembles examples/ and generated sources with Debian's palbart and with `pdp8 assemble`, and compares the images.
 # No gate runs it. usage: tests/palbart.sh [COUNT [SEED]]; PDP8 names another program than this repository's (for
-# instance tests/reference/pdp8.py), PALBART another palbart.
+# instance reference/pdp8.py), PALBART another palbart.
 set -euo pipefail
 cd "$(dirname "$0")/.."
 palbart=${PALBART:-/usr/bin/palbart}

@@ -1,8 +1,9 @@
 #!/usr/bin/env python3
 """Times the first look, the first run and the gate in a fresh clone, with nothing kept from earlier runs.
 
-The toolchain keeps what it proved in a folder beside its own. That folder is moved away before and put back after, whatever
-happens. Nothing else should run on the machine. A time is by the clock; the processor's minutes are those of all that ran.
+The toolchain keeps what it proved in a folder beside its own, each entry under a sum of all that it rests on. That folder is
+moved away before, and its entries are put beside the new ones after, whatever happens. Nothing else should run on the machine.
+A time is by the clock; the processor's minutes are those of all that ran.
 
 usage: tests/time.py try|run|test [PROCESSORS]    PROCESSORS is how many are used; without it all
 """
@@ -22,6 +23,18 @@ def kept_folder():
     """The folder in which the toolchain keeps what it proved."""
     page = subprocess.run(['rt', 'doc'], capture_output=True, text=True, check=True).stdout.strip()
     return os.path.join(os.path.dirname(os.path.dirname(page)), 'rattle-kept')
+
+
+def put_back(aside, kept):
+    """Moves the entries of a folder that was moved away to those that the run kept."""
+    for name in os.listdir(aside):
+        old, new = os.path.join(aside, name), os.path.join(kept, name)
+        if os.path.isdir(old) and os.path.isdir(new) and name == 'edits':
+            put_back(old, new)
+        elif not os.path.exists(new):
+            os.makedirs(kept, exist_ok=True)
+            os.rename(old, new)
+    shutil.rmtree(aside, ignore_errors=True)
 
 
 def timed(target, processors):
@@ -50,8 +63,7 @@ def main():
         status = timed(sys.argv[1], processors)
     finally:
         if os.path.isdir(aside):
-            shutil.rmtree(kept, ignore_errors=True)
-            os.rename(aside, kept)
+            put_back(aside, kept)
     sys.exit(status)
 
 

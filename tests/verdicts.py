@@ -1,4 +1,4 @@
-"""Compares the verdicts of `pdp8 check` with those of the checker in tests/reference on the programs of examples/ with
+"""Compares the verdicts of `pdp8 check` with those of the checker in reference on the programs of examples/ with
 something changed: a line of the certificate left out, a set with a word more or less, another digit, rank, site, offset,
 link or equation, the other version, another word on the tape, another declaration. The line of a yes or a no must be the
 same, and what isn't a certificate or a declaration for the one may not be one for the other. What is accepted is watched
@@ -14,7 +14,7 @@ import subprocess
 import sys
 from pathlib import Path
 
-sys.path.insert(0, str(Path(__file__).parent / "reference"))
+sys.path.insert(0, str(Path(__file__).parent.parent / "reference"))
 import check as judge  # noqa: E402
 import pal  # noqa: E402
 import sets  # noqa: E402

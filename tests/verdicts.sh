@@ -1,5 +1,5 @@
 #!/usr/bin/env bash
-# Compares the verdicts of `pdp8 check` with those of the checker in tests/reference on the programs of examples/ with
+# Compares the verdicts of `pdp8 check` with those of the checker in reference on the programs of examples/ with
 # something changed, and watches what is accepted. No gate runs it.
 # usage: tests/verdicts.sh [COUNT [SEED]]; PDP8 names another program than this repository's.
 set -euo pipefail

@@ -1,4 +1,4 @@
-"""Compares `pdp8 watch` with the watcher in tests/reference on programs, declarations and events by chance: what is
+"""Compares `pdp8 watch` with the watcher in reference on programs, declarations and events by chance: what is
 printed and what is said at fault must be the same to the byte.
 
 usage: watcher.py PROGRAM FOLDER COUNT SEED, where FOLDER takes what is made. Cases on which they differ stay there.
@@ -8,7 +8,7 @@ import subprocess
 import sys
 from pathlib import Path
 
-sys.path.insert(0, str(Path(__file__).parent / "reference"))
+sys.path.insert(0, str(Path(__file__).parent.parent / "reference"))
 import machine  # noqa: E402
 import tape  # noqa: E402
 import watch  # noqa: E402

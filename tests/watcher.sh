@@ -1,5 +1,5 @@
 #!/usr/bin/env bash
-# Compares `pdp8 watch` with the watcher in tests/reference on programs, declarations and events by chance. No gate runs
+# Compares `pdp8 watch` with the watcher in reference on programs, declarations and events by chance. No gate runs
 # it. usage: tests/watcher.sh [COUNT [SEED]]; PDP8 names another program than this repository's.
 set -euo pipefail
 cd "$(dirname "$0")/.."

@@ -41,7 +41,7 @@ pub record IsWrittenTape (tape : List ℕ) (image : List (Option ℕ)) : Type 0 
   pub has_word : IsEmptyImage image → ⊥
   pub is : tape ≡ written_tape image
 
--- A write failed.
+-- The answer to writing a tape is that a write failed; that the image has no word is another fault.
 abbrev pub failed_to_write : Result Unit WriteTapeFault → Bool
 failed_to_write (Ok done) = false
 failed_to_write (Err EmptyImage) = false

@@ -29,12 +29,12 @@ abbrev pub IsFactLine : Line → Statement → Words → Type 0
 IsFactLine (FactIs a r known) s offsets = (s ≡ stated r []) × (offsets ≡ known)
 IsFactLine _ s offsets = ⊥
 
--- It is an exit's that says this, but for its details.
+-- The line is an exit's that says this, but for its details.
 abbrev pub IsExitLine : Line → Statement → Type 0
 IsExitLine (ExitIs e o r) s = s ≡ stated r []
 IsExitLine _ s = ⊥
 
--- It is that of a routine.
+-- The line is a routine's with this rank, these sites and these written cells.
 abbrev pub IsRoutineLine : Line → Routine → Type 0
 IsRoutineLine (RoutineIs r) given = (given.rank ≡ r.rank) × (words given.sites ≡ r.sites) × (words given.writes ≡ r.writes)
 IsRoutineLine _ given = ⊥
@@ -45,7 +45,7 @@ pub record SaysFactAt (at : ℕ) (ls : List Line) (s : Statement) (offsets : Wor
   pub statement : fact_statement (drop at ls) ≡ Some (with_details s (drop (at + 1) ls))
   pub room : FitUnderFirst (drop at ls) → HasRoomUnder s (drop (at + 1) ls)
 
--- The same of an exit's line.
+-- The line at a place is an exit's, and this is what it says but for its details, for which there is room.
 pub record SaysExitAt (at : ℕ) (ls : List Line) (s : Statement) : Type 0 where
   pub fact : first_exit (drop at ls) ≡ fact_of (with_details s (drop (at + 1) ls)) everything
   pub statement : exit_statement (drop at ls) ≡ Some (with_details s (drop (at + 1) ls))

@@ -17,12 +17,14 @@ pub record Certificate : Type 0 where
   pub has_exit : ℕ → Words
   pub exit : ℕ → ℕ → Fact
 
--- Main has no sites.
+-- The addresses of the JMS words from which the certificate says that a routine is called; none for main, which isn't
+-- called.
 abbrev pub sites_of : Certificate → Routine → Words
 sites_of c None = nothing
 sites_of c (Some e) = c.sites e
 
--- Main has no written set.
+-- The cells that the certificate says a routine and its callees may write. For main, of which nothing is listed, it is
+-- the empty set.
 abbrev pub writes_of : Certificate → Routine → Words
 writes_of c None = nothing
 writes_of c (Some e) = c.writes e

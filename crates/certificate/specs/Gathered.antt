@@ -6,14 +6,16 @@ use Rattle.certificate.specs.declared.Version.{Version}
 use Rattle.certificate.specs.Spelling.{RoutineLine, FactLine, ExitLine, Lines}
 use Rattle.certificate.specs.Line.{Registers, Line, RoutineIs, FactIs, ExitIs, CellIs, EquationIs}
 
--- The tracked cells of a fact or an exit, by the lines after its own.
+-- The tracked cells of a fact or an exit, by the lines after its own: those up to the first line that is neither a
+-- cell's nor an equation's.
 abbrev pub cells_under : List Line → List TrackedCell
 cells_under [] = []
 cells_under (CellIs c ∷ ls) = c ∷ cells_under ls
 cells_under (EquationIs e ∷ ls) = cells_under ls
 cells_under (_ ∷ ls) = []
 
--- Its equations.
+-- The equations of a fact or an exit, by the lines after its own: those up to the first line that is neither a cell's
+-- nor an equation's.
 abbrev pub equations_under : List Line → List Equation
 equations_under [] = []
 equations_under (CellIs c ∷ ls) = equations_under ls
@@ -24,19 +26,21 @@ equations_under (_ ∷ ls) = []
 abbrev pub stated : Registers → List Line → Statement
 stated r ls = record { ac = r.ac; mq = r.mq; link = r.link; cells = cells_under ls; equations = equations_under ls }
 
--- The routines.
+-- What the lines of routines say, in their order; all other lines are passed over.
 abbrev pub routines_of : List Line → List RoutineLine
 routines_of [] = []
 routines_of (RoutineIs r ∷ ls) = r ∷ routines_of ls
 routines_of (_ ∷ ls) = routines_of ls
 
--- The facts.
+-- The facts in the order of their lines, each with the cells and equations that stand under it; all other lines are
+-- passed over.
 abbrev pub facts_of : List Line → List FactLine
 facts_of [] = []
 facts_of (FactIs a r offsets ∷ ls) = record { address = a; statement = stated r ls; offsets = offsets } ∷ facts_of ls
 facts_of (_ ∷ ls) = facts_of ls
 
--- The exits.
+-- The exits in the order of their lines, each with the cells and equations that stand under it; all other lines are
+-- passed over.
 abbrev pub exits_of : List Line → List ExitLine
 exits_of [] = []
 exits_of (ExitIs e o r ∷ ls) = record { entry = e; offset = o; statement = stated r ls } ∷ exits_of ls

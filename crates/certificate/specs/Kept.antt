@@ -11,10 +11,10 @@ pub record Kept : Type 0 where
   pub version : Version
   pub lines : Packed
 
--- What it says line by line.
+-- What a certificate that is kept so says line by line.
 abbrev pub meaning : Kept → Lines
 meaning c = gathered c.version (said_lines c.lines)
 
--- What it claims.
+-- The certificate that is kept so: what its lines claim of each routine, each address and each exit.
 abbrev pub claims : Kept → Certificate
 claims c = certificate_of (meaning c)

@@ -47,15 +47,19 @@ rank_text n = (48 + n / 8) ∷ (48 + n % 8) ∷ []
 abbrev pub words_text : Version → Registers → List ℕ
 words_text v r = codes " ac " ++ set_text r.ac ++ mq_text v r.mq ++ codes " link " ++ digits 2 r.link
 
--- The line of a routine, of a cell and of an equation.
+-- The spelling of a routine's line, without its line feed: the entry, the rank in two octal digits, the sites, and the
+-- cells that may be written.
 abbrev pub routine_line : RoutineLine → List ℕ
 routine_line r =
     codes "routine " ++ octal_text r.entry ++ codes " rank " ++ rank_text r.rank ++ codes " sites " ++ set_text r.sites ++
     codes " writes " ++ set_text r.writes
 
+-- The spelling of a tracked cell's line, without its line feed: the address, and the words that the cell may hold.
 abbrev pub cell_line : TrackedCell → List ℕ
 cell_line c = codes "cell " ++ octal_text c.address ++ codes " " ++ set_text c.set
 
+-- The spelling of an equation's line, without its line feed: the left name, the right one, and the word that is added
+-- to the right one.
 abbrev pub equation_line : Equation → List ℕ
 equation_line e = codes "equal " ++ name_text e.left ++ codes " " ++ name_text e.right ++ codes " " ++ octal_text e.more
 
@@ -76,9 +80,13 @@ registers_of s = record { ac = s.ac; mq = s.mq; link = s.link }
 abbrev pub details : Statement → List Line
 details s = map CellIs s.cells ++ map EquationIs s.equations
 
+-- The lines of a fact: its own, with the address, the registers and the offsets, and then those of its cells and its
+-- equations.
 abbrev pub lines_of_fact : FactLine → List Line
 lines_of_fact f = FactIs f.address (registers_of f.statement) f.offsets ∷ details f.statement
 
+-- The lines of an exit: its own, with the entry, the offset and the registers, and then those of its cells and its
+-- equations.
 abbrev pub lines_of_exit : ExitLine → List Line
 lines_of_exit e = ExitIs e.entry e.offset (registers_of e.statement) ∷ details e.statement
 

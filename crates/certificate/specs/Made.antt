@@ -21,17 +21,19 @@ fact_at a f = record { address = a; statement = statement_of f; offsets = offset
 abbrev pub exit_at : ℕ → ℕ → Fact → ExitLine
 exit_at e o f = record { entry = e; offset = o; statement = statement_of f }
 
--- The certificate without lines.
+-- The certificate of this version that says nothing yet: it has no routine, no fact and no exit.
 abbrev pub no_lines : Version → Lines
 no_lines v = record { version = v; routines = []; facts = []; exits = [] }
 
--- The certificate with a line more.
+-- The certificate with a routine's line more, after its other lines of routines.
 abbrev pub with_routine : Lines → RoutineLine → Lines
 with_routine c r = record c { routines = c.routines ++ r ∷ [] }
 
+-- The certificate with a fact more, after its other facts.
 abbrev pub with_fact : Lines → FactLine → Lines
 with_fact c f = record c { facts = c.facts ++ f ∷ [] }
 
+-- The certificate with an exit more, after its other exits.
 abbrev pub with_exit : Lines → ExitLine → Lines
 with_exit c x = record c { exits = c.exits ++ x ∷ [] }
 
@@ -56,6 +58,6 @@ pub record MayAddExit (c : Lines) (x : ExitLine) : Type 0 where
   pub statement : IsStatement c.version x.statement
   pub rises : Each (λ y. 8 * y.entry + y.offset < 8 * x.entry + x.offset) c.exits
 
--- The same certificate in version 2.
+-- The certificate with the same routines, facts and exits, in version 2, in which lines speak of MQ.
 abbrev pub migrated : Lines → Lines
 migrated c = record c { version = Two }

@@ -17,16 +17,17 @@ has_details (FactIs a r offsets) = true
 has_details (ExitIs e o r) = true
 has_details _ = false
 
+-- The line says that the text ends.
 abbrev pub is_end : Line → Bool
 is_end End = true
 is_end _ = false
 
--- One of the lines is so.
+-- One of the lines passes the test.
 abbrev pub any : (Line → Bool) → List Line → Bool
 any test [] = false
 any test (l ∷ ls) = test l || any test ls
 
--- How many of the lines are so.
+-- How many of the lines pass the test.
 abbrev pub how_many : (Line → Bool) → List Line → ℕ
 how_many test [] = 0
 how_many test (l ∷ ls) = (if test l then 1 else 0) + how_many test ls
@@ -35,11 +36,12 @@ how_many test (l ∷ ls) = (if test l then 1 else 0) + how_many test ls
 abbrev pub may_stand : List Line → Line → Bool
 may_stand before l = not (any is_end before) && (not (is_detail l) || any has_details before)
 
--- The lines of routines, facts and exits; and the cells and equations since the last of them.
+-- All lines but those of cells and equations: those of routines, of facts and of exits, and the end.
 abbrev pub heads : List Line → List Line
 heads [] = []
 heads (l ∷ ls) = if is_detail l then heads ls else l ∷ heads ls
 
+-- The cells and equations that stand after the last line of another kind.
 abbrev pub details_of_last : List Line → List Line
 details_of_last [] = []
 details_of_last (l ∷ ls) = if is_detail l then l ∷ details_of_last ls else []
@@ -66,14 +68,17 @@ fellows before l = if is_detail l then details_of_last before else heads before
 abbrev pub InOrder : List Line → Line → Type 0
 InOrder before l = next_place (fellows before l) ≤ place l
 
+-- The line is that of a routine: its entry, its rank, its sites and its written cells.
 abbrev pub is_routine : Line → Bool
 is_routine (RoutineIs r) = true
 is_routine _ = false
 
+-- The line is that of a tracked cell under a fact or an exit: its address and the words that it may hold.
 abbrev pub is_cell : Line → Bool
 is_cell (CellIs c) = true
 is_cell _ = false
 
+-- The line is that of an equation under a fact or an exit: two names and the word that is added.
 abbrev pub is_equation : Line → Bool
 is_equation (EquationIs e) = true
 is_equation _ = false
@@ -109,14 +114,14 @@ front v (l ∷ ls) = front v ls ++ ended (line_text v l)
 abbrev pub IsBad : Version → List Line → List ℕ → Type 0
 IsBad v before bytes = (l : Line) → Spells v l bytes → may_stand before l ≡ true → ⊥
 
--- They spell a line that may stand there but is out of order.
+-- The bytes spell a line that may stand after the lines but is out of order.
 pub record IsMisplaced (v : Version) (before : List Line) (bytes : List ℕ) : Type 0 where
   pub line : Line
   pub spells : Spells v line bytes
   pub stands : may_stand before line ≡ true
   pub order : InOrder before line → ⊥
 
--- They spell a line in order for which there is no room.
+-- The bytes spell a line that may stand after the lines, in order, but for which there is no room.
 pub record IsOneTooMany (v : Version) (before : List Line) (bytes : List ℕ) : Type 0 where
   pub line : Line
   pub spells : Spells v line bytes
@@ -124,12 +129,12 @@ pub record IsOneTooMany (v : Version) (before : List Line) (bytes : List ℕ) : 
   pub order : InOrder before line
   pub room : HasRoom before line → ⊥
 
--- They spell a line that comes next.
+-- The bytes spell this line, which may come next after the lines.
 pub record Continues (v : Version) (before : List Line) (bytes : List ℕ) (l : Line) : Type 0 where
   pub spells : Spells v l bytes
   pub next : IsNext v before l
 
--- They spell a line that comes next and isn't the end.
+-- The bytes spell a line that may come next after the lines and isn't the end.
 pub record IsOneMore (v : Version) (before : List Line) (bytes : List ℕ) : Type 0 where
   pub line : Line
   pub continues : Continues v before bytes line

@@ -35,16 +35,21 @@ StandApart n (r ∷ rs) = (n ≤ r.first) × (r.first ≤ r.last) × (r.last < 4
 abbrev pub set_at : List Run → ℕ → ℕ → Words
 set_at runs first count = set_of_runs (slice_range runs first (first + count))
 
--- The two sets of which the runs lie here.
+-- The first of two sets whose runs lie here, one set's after the other's: that of so many runs from the first place on.
 abbrev pub one_at : List Run → Spans → Words
 one_at runs s = set_at runs s.first s.one
 
+-- The second of two sets whose runs lie here: that of so many runs after those of the first set.
 abbrev pub other_at : List Run → Spans → Words
 other_at runs s = set_at runs (s.first + s.one) s.other
 
+-- What a packed routine's line says, where these are the runs of all sets: the first of its two sets is its sites, the
+-- second the cells that it may write.
 abbrev pub routine_at : List Run → PackedRoutine → RoutineLine
 routine_at runs r = record { entry = r.entry; rank = r.rank; sites = one_at runs r.sets; writes = other_at runs r.sets }
 
+-- What packed registers say, where these are the runs of all sets: the first of the two sets is the accumulator's, the
+-- second that of MQ; the links aren't kept as runs.
 abbrev pub registers_at : List Run → PackedRegisters → Registers
 registers_at runs r = record { ac = one_at runs r.sets; mq = other_at runs r.sets; link = links_of r.link }
 
@@ -57,6 +62,7 @@ said_at runs (packed.Cell a s) = CellIs (record { address = a; set = set_at runs
 said_at runs (packed.Equation e) = EquationIs (equation_of e)
 said_at runs packed.End = End
 
+-- What packed lines say, one by one in their order, where these are the runs of the sets of all of them.
 abbrev pub lines_in : List Run → List PackedLine → List Line
 lines_in runs ls = map (said_at runs) ls
 
@@ -65,7 +71,7 @@ pub record Packed : Type 0 where
   pub list : List PackedLine
   pub runs : List Run
 
--- What they say.
+-- What lines that are kept packed say, one by one in their order, by the runs that are kept with them.
 abbrev pub said_lines : Packed → List Line
 said_lines p = lines_in p.runs p.list
 
@@ -78,7 +84,7 @@ pub record IsSpan (s : Span) (first end : ℕ) : Type 0 where
 pub record AreWithin (n : ℕ) (s : Spans) : Type 0 where
   pub inside : s.first + s.one + s.other ≤ n
 
--- Those of a line's sets do.
+-- The runs of a packed line's sets lie among so many; an equation and the end have no set.
 abbrev pub LiesWithin : ℕ → PackedLine → Type 0
 LiesWithin n (packed.Routine r) = AreWithin n r.sets
 LiesWithin n (packed.Fact a r offsets) = AreWithin n r.sets

@@ -36,7 +36,8 @@ pub record Parts {A : Type 0} (text : List ℕ) (kept : KeptLines A) (progress :
   pub same : is_long ≡ false → line ≡ tail
   pub long : is_long ≡ true → 32768 < length tail
 
--- The same, whatever the text of the whole lines is.
+-- The bytes are whole lines that the parser has read, of whatever text, and a line so far, whose bytes it keeps unless
+-- there are too many.
 pub record Seen {A : Type 0} (p : Parser A) (bytes : List ℕ) : Type 0 where
   pub text : List ℕ
   pub parts : Parts text p.kept p.progress p.line.items p.is_long bytes

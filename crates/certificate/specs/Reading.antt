@@ -55,7 +55,7 @@ pub record IsStatement (v : Version) (s : Statement) : Type 0 where
   pub equations_rise : RiseFrom 0 (map place_of_equation s.equations)
   pub few_equations : length s.equations ≤ 32
 
--- A routine line's numbers.
+-- A routine line's entry is an address, and its rank is below 64.
 pub record IsRoutine (r : RoutineLine) : Type 0 where
   pub entry : r.entry < 4096
   pub rank : r.rank < 64

@@ -8,7 +8,7 @@ use Rattle.certificate.specs.Faults.{HasFault}
 abbrev pub Settles : List ℕ → CertificateFault → Type 0
 Settles bytes fault = (rest : List ℕ) → HasFault (bytes ++ rest) fault
 
--- They bring no answer. That a text is a certificate is never known of its front, since nothing may follow.
+-- The bytes bring no answer. That a text is a certificate is never known of its front, since nothing may follow.
 abbrev pub IsUnanswered : List ℕ → Type 0
 IsUnanswered bytes = (fault : CertificateFault) → Settles bytes fault → ⊥
 
@@ -25,7 +25,7 @@ is_read_fault (faults.Order n) = false
 is_read_fault faults.TooMany = false
 is_read_fault faults.NoMemory = false
 
--- A read failed.
+-- The answer to reading a certificate is that a read of the source failed, and no other fault.
 abbrev pub failed_to_read : {T : Type 0} → Result T CertificateFault → Bool
 failed_to_read (Ok _) = false
 failed_to_read (Err fault) = is_read_fault fault

@@ -116,7 +116,7 @@ exit_text v e =
     codes "exit " ++ octal_text e.entry ++ codes " " ++ (48 + e.offset) ∷
     (registers_text v e.statement ++ 10 ∷ details_text e.statement)
 
--- The first line.
+-- The first line of a certificate's text, without its line feed: a name and the version.
 abbrev pub version_text : Version → List ℕ
 version_text One = codes "PDP8-CERTIFICATE 1"
 version_text Two = codes "PDP8-CERTIFICATE 2"

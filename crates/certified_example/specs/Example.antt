@@ -23,7 +23,7 @@ image a =
     else (if a == 0o211 then Some 0o5610
     else None)))))))
 
--- The cells of main.
+-- The body of main: the cells from 0200 to 0206.
 abbrev pub main_cells : Words
 main_cells a =
     a == 0o200 || (a == 0o201 || (a == 0o202 || (a == 0o203 || (a == 0o204 || (a == 0o205 || a == 0o206)))))
@@ -55,16 +55,16 @@ declaration = record {
 abbrev pub knowing : (Name → Words) → Words → Fact
 knowing sets offsets = record { set = sets; mq = everything; link = everything; equations = []; offsets = offsets }
 
--- Nothing is known.
+-- Nothing is known of the accumulator, nor of any cell: each may hold any word.
 abbrev pub any : Name → Words
 any n = everything
 
--- The accumulator is 0.
+-- The accumulator is 0, and nothing is known of any cell.
 abbrev pub clear : Name → Words
 clear Ac = one 0
 clear (Cell a) = everything
 
--- The cell 0202 is 0000.
+-- The cell 0202 is 0000, and nothing is known of the accumulator, nor of any other cell.
 abbrev pub changed : Name → Words
 changed Ac = everything
 changed (Cell a) = if a == 0o202 then one 0 else everything

@@ -16,7 +16,7 @@ knowing_of ac cells = record { ac = ac; mq = everything; link = everything; cell
 abbrev pub in_main : ℕ → FactLine
 in_main a = record { address = a; statement = knowing_of everything []; offsets = nothing }
 
--- The lines.
+-- The small program's certificate line by line, in version 1: one routine, eight facts and one exit.
 abbrev pub lines : Lines
 lines = record {
   version = One;

@@ -18,6 +18,7 @@ unfoldable pub dump_below : Profile → List (Option ℕ) → ℕ → List ℕ
 dump_below profile image zero = []
 dump_below profile image (suc at) = dump_below profile image at ++ dump_line profile at (word_at image at)
 
+-- The lines of all 4096 addresses of an image, rising; an address that has no word has no line.
 abbrev pub dump_text : Profile → List (Option ℕ) → List ℕ
 dump_text profile image = dump_below profile image 4096
 

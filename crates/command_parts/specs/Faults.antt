@@ -35,52 +35,63 @@ abbrev pub fails_to_read : {T : Type 0} → Result T Fault → Bool
 fails_to_read (Err (Device Read)) = true
 fails_to_read _ = false
 
--- The answer's fault is the tape's, or the declaration's.
+-- The fault is the tape's: not that of a device that was read, nor of another input.
 abbrev pub is_fault_of_tape : Fault → Bool
 is_fault_of_tape (Tape fault) = true
 is_fault_of_tape _ = false
 
+-- The fault is the declaration's: not that of a device that was read, nor of another input.
 abbrev pub is_fault_of_declaration : Fault → Bool
 is_fault_of_declaration (Declared fault) = true
 is_fault_of_declaration _ = false
 
--- A read that failed is the device's fault; any other fault of a tape is the tape's.
+-- A fault of reading a tape as a fault of the command: a read that failed is the device's, and any other the tape's.
 abbrev pub fault_of_tape : TapeFault → Fault
 fault_of_tape ReadFault = Device Read
 fault_of_tape fault = Tape fault
 
--- The same of a text that wasn't read.
+-- Why a text wasn't read, as a fault of the command: a read that failed is the device's, and a want of memory is
+-- nobody's.
 abbrev pub fault_of_input : InputFault → Fault
 fault_of_input input_fault.ReadFailed = Device Read
 fault_of_input input_fault.NoMemory = fault.NoMemory
 
--- A want of memory is nobody's fault; any other fault of a text is the text's.
+-- A fault of a text of events as a fault of the command: a want of memory is nobody's, and any other is the text's.
 abbrev pub fault_of_events : EventsFault → Fault
 fault_of_events events_fault.NoMemory = fault.NoMemory
 fault_of_events fault = Events fault
 
+-- A fault of a declaration's text as a fault of the command: a want of memory is nobody's, and any other is the
+-- declaration's.
 abbrev pub fault_of_declaration : DeclarationFault → Fault
 fault_of_declaration declaration_fault.NoMemory = fault.NoMemory
 fault_of_declaration fault = Declared fault
 
+-- A fault of a certificate's text as a fault of the command: a want of memory is nobody's, a read that failed is the
+-- device's, and any other is the certificate's.
 abbrev pub fault_of_certificate : CertificateFault → Fault
 fault_of_certificate certificate_fault.NoMemory = fault.NoMemory
 fault_of_certificate certificate_fault.ReadFault = Device Read
 fault_of_certificate fault = Certificate fault
 
+-- Why no certificate was found, as a fault of the command: a want of memory is nobody's, and any other reason is the
+-- search's.
 abbrev pub fault_of_guess : GuessFault → Fault
 fault_of_guess guess_fault.NoMemory = fault.NoMemory
 fault_of_guess fault = Guess fault
 
+-- Why no declaration is proposed, as a fault of the command: a want of memory is nobody's, and any other reason is the
+-- proposer's.
 abbrev pub fault_of_proposal : ProposeFault → Fault
 fault_of_proposal propose_fault.NoMemory = fault.NoMemory
 fault_of_proposal fault = Declare fault
 
--- The text has this fault; a want of memory is none.
+-- The text of events has this fault, and it isn't a want of memory, which is no fault of a text.
 abbrev pub IsEventsFault : List ℕ → EventsFault → Type 0
 IsEventsFault text events_fault.NoMemory = ⊥
 IsEventsFault text fault = FailsAsEvents text fault
 
+-- The text of a declaration has this fault, and it isn't a want of memory, which is no fault of a text.
 abbrev pub IsDeclarationFault : List ℕ → DeclarationFault → Type 0
 IsDeclarationFault text declaration_fault.NoMemory = ⊥
 IsDeclarationFault text fault = FailsAsDeclaration text fault
@@ -98,7 +109,8 @@ IsEventsInputFault text (Device Read) = FailsInText most_event_bytes text
 IsEventsInputFault text fault.NoMemory = HasCome text
 IsEventsInputFault text _ = ⊥
 
--- The same of a declaration.
+-- Why a declaration's text wasn't read: it has this fault, a read failed, or memory was refused once some of it had
+-- come.
 abbrev pub IsDeclarationInputFault : Input → Fault → Type 0
 IsDeclarationInputFault text (Declared fault) = IfSome text.had (λ bytes. IsDeclarationFault bytes fault)
 IsDeclarationInputFault text (Device Read) = FailsInText most_declaration_bytes text
@@ -126,12 +138,14 @@ IsWriteFault _ = ⊥
 abbrev pub IsTapeFault : Input → Fault → Type 0
 IsTapeFault tape fault = IsTapeInputFault tape fault ⊎ (IsGoodTape tape.had × IsRunFault fault)
 
--- The same with a text of events, which is looked at after a good tape.
+-- Why a run of a tape by a text of events has no result: the tape's fault; after a good tape the text's; and after a
+-- good text that of the work, where a write failed or memory was refused.
 abbrev pub IsEventRunFault : Input → Input → Fault → Type 0
 IsEventRunFault tape text fault =
     IsTapeInputFault tape fault ⊎ (IsGoodTape tape.had × (IsEventsInputFault text fault ⊎ (IsGoodEvents text.had × IsRunFault fault)))
 
--- The same with a declaration between them: each input is looked at where those before it are good.
+-- Why a watched run has no result: the fault of the tape, the declaration, the text of events, or the work. Each is
+-- looked at, in this order, where those before it are good.
 abbrev pub IsWatchFault : Input → Input → Input → Fault → Type 0
 IsWatchFault tape text list fault =
     IsTapeInputFault tape fault ⊎ (IsGoodTape tape.had × (IsDeclarationInputFault text fault

@@ -41,6 +41,7 @@ pub record Input : Type 0 where
   pub had : Option (List ℕ)
   pub left : Option (List ℕ)
 
+-- A source that was read, made of whether a read failed, what it had, and what it has left.
 abbrev pub input : Bool → Option (List ℕ) → Option (List ℕ) → Input
 input failed had left = record { failed = failed; had = had; left = left }
 

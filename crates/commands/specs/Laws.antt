@@ -96,14 +96,14 @@ ReadIsMeant =
     IsAssembled profile (telling parts) tape → HasImage (Some tape) image →
     (symbols : List (Name × ℕ)) × Means (permanent_symbols profile) parts symbols image
 
--- A source that means an image with a word has a tape,
+-- A source that means an image with a word has a tape, the one that is written of that image.
 abbrev pub TapeIsThere : Type 0
 TapeIsThere =
     (profile : Profile) (parts : List (List ℕ)) (symbols : List (Name × ℕ)) (image : List (Option ℕ)) →
     Means (permanent_symbols profile) parts symbols image → (IsEmptyImage image → ⊥) →
     IsAssembled profile (telling parts) (written_tape image)
 
--- and one that means an image without a word has none.
+-- A source that means an image without a word has no tape.
 abbrev pub EmptyHasNoTape : Type 0
 EmptyHasNoTape =
     (profile : Profile) (parts : List (List ℕ)) (symbols : List (Name × ℕ)) (image : List (Option ℕ)) (tape : List ℕ) →
@@ -123,34 +123,36 @@ MayBeTold bad (Device device) = Unit {0}
 MayBeTold bad fault.NoMemory = Unit {0}
 MayBeTold bad _ = ⊥
 
--- A source that means an image is refused for nothing else.
+-- A source that means an image is refused a tape only since the image has no word, a device failed, or memory was
+-- refused.
 abbrev pub MeantIsWritten : Type 0
 MeantIsWritten =
     (profile : Profile) (parts : List (List ℕ)) (symbols : List (Name × ℕ)) (image : List (Option ℕ))
     (marks : List Bool) (left : List (Option (List ℕ))) (fault : Fault) →
     Means (permanent_symbols profile) parts symbols image → IsSourceFault profile marks (telling parts) left fault → MayMiss image fault
 
--- A source with a fault is told nothing else,
+-- A source with a fault is told, where it has no tape, nothing but that fault, a device that failed, or that memory was
+-- refused.
 abbrev pub FaultIsTold : Type 0
 FaultIsTold =
     (profile : Profile) (parts : List (List ℕ)) (fault : PalFault) (marks : List Bool) (left : List (Option (List ℕ))) (told : Fault) →
     IsFault (permanent_symbols profile) parts fault → IsSourceFault profile marks (telling parts) left told → MayBeTold fault told
 
--- and has no tape and no listing.
+-- A source with a fault has no tape and no listing.
 abbrev pub FaultIsNotWritten : Type 0
 FaultIsNotWritten =
     (profile : Profile) (parts : List (List ℕ)) (fault : PalFault) (text : List ℕ) →
     IsFault (permanent_symbols profile) parts fault →
     (IsAssembled profile (telling parts) text → ⊥) × (IsListing profile (telling parts) text → ⊥)
 
--- The same of a listing: a source that means an image is refused it only where a device failed or memory was refused,
+-- A source that means an image isn't refused its listing for any fault of the source.
 abbrev pub MeantIsListed : Type 0
 MeantIsListed =
     (profile : Profile) (parts : List (List ℕ)) (symbols : List (Name × ℕ)) (image : List (Option ℕ))
     (marks : List Bool) (left : List (Option (List ℕ))) (fault : PalFault) →
     Means (permanent_symbols profile) parts symbols image → IsListFault profile marks (telling parts) left (Source fault) → ⊥
 
--- and one with a fault is told no other.
+-- A source with a fault isn't refused its listing for any other fault of the source.
 abbrev pub FaultIsTheOne : Type 0
 FaultIsTheOne =
     (profile : Profile) (parts : List (List ℕ)) (fault told : PalFault) (marks : List Bool) (left : List (Option (List ℕ))) →
@@ -163,13 +165,15 @@ ChecksAreOne =
     IsCheckedSo (Some tape) (Some declaration) (Some certificate) line status →
     IsCheckedSo (Some tape) (Some declaration) (Some certificate) line' status' → (line ≡ line') × (status ≡ status')
 
--- To what `guess` writes `check` says yes,
+-- To what `guess` writes for a tape and a declaration, `check` says yes: where it has a verdict, that has the status of
+-- success.
 abbrev pub GuessIsAccepted : Type 0
 GuessIsAccepted =
     (tape declaration guess line : List ℕ) (status : Status) → IsGuess (Some tape) (Some declaration) guess →
     IsCheckedSo (Some tape) (Some declaration) (Some guess) line status → status ≡ Done
 
--- and to what `migrate` writes, where it has a verdict on that, it says what it says to the certificate that is migrated.
+-- Of what `migrate` writes of a certificate, where `check` has a verdict on both, it says what it says of the
+-- certificate itself, in line and status.
 abbrev pub MigratedIsCheckedAlike : Type 0
 MigratedIsCheckedAlike =
     (tape declaration certificate migrated line line' : List ℕ) (status status' : Status) → IsMigrated (Some certificate) migrated →

@@ -27,22 +27,24 @@ pub data Line : Type 0 where
   Machine : Profile → Line
   Reads : Words → Line
 
--- All of these words, each as it reads; none where one of them doesn't read.
+-- The list of a first word and of others as they read; none where one of them doesn't read.
 abbrev pub read_first : {X : Type 0} → Option X → Option (List X) → Option (List X)
 read_first None others = None
 read_first (Some x) None = None
 read_first (Some x) (Some xs) = Some (x ∷ xs)
 
+-- All of these words, each as it reads, in their order; none where one of them doesn't read. No words make an empty
+-- list.
 abbrev pub all_read : {X : Type 0} → (List ℕ → Option X) → List (List ℕ) → Option (List X)
 all_read read [] = Some []
 all_read read (word ∷ words) = read_first (read word) (all_read read words)
 
--- The same of one word or more.
+-- One word or more, each as it reads, in their order; none where there is no word, or one of them doesn't read.
 abbrev pub some_read : {X : Type 0} → (List ℕ → Option X) → List (List ℕ) → Option (List X)
 some_read read [] = None
 some_read read (word ∷ words) = all_read read (word ∷ words)
 
--- `-`
+-- The byte is a dash, `-`.
 abbrev pub is_dash : ℕ → Bool
 is_dash c = c == 45
 
@@ -61,6 +63,8 @@ abbrev pub range_split : List ℕ → Option ℕ → Option Words
 range_split word None = address_of word
 range_split word (Some n) = span (octal_word (take n word)) (octal_word (drop (n + 1) word))
 
+-- The cells of a range as a word spells it: one address, or where the word has a dash, those from the address before
+-- its first dash to the one after it, both included. None where that one is the lesser, or a part is no address.
 abbrev pub range_of : List ℕ → Option Words
 range_of word = range_split word (position is_dash word)
 
@@ -72,14 +76,16 @@ offset_of word = if length word == 1 then octal_word word else None
 abbrev pub any_of : List Words → Words
 any_of sets a = list_any (λ set. set a) sets
 
--- These offsets.
+-- The set of the offsets of this list.
 abbrev pub these : List ℕ → Words
 these offsets o = list_any (λ offset. offset == o) offsets
 
--- The cells of ranges, one or more, and of addresses.
+-- The cells of one or more ranges, which may be single addresses; none where there is no word, or one spells no range.
 abbrev pub ranges_of : List (List ℕ) → Option Words
 ranges_of words = option_map any_of (some_read range_of words)
 
+-- The cells at one or more addresses; none where there is no word, or one spells no address, as a range with a dash
+-- doesn't.
 abbrev pub addresses_of : List (List ℕ) → Option Words
 addresses_of words = option_map any_of (some_read address_of words)
 
@@ -143,5 +149,6 @@ abbrev pub line_by : List (List ℕ) → Option Line
 line_by [] = Some Nothing
 line_by (name ∷ rest) = named_line name rest
 
+-- What a line of a text says, by its words, which spaces and tabs part; none where the line is bad.
 abbrev pub line_of : List ℕ → Option Line
 line_of text = line_by (words_of text)

@@ -14,10 +14,11 @@ use Rattle.declaration.specs.declared.Routine.{Routine as KeptRoutine}
 use Rattle.declaration.specs.declared.DeclarationFault.{DeclarationFault}
 use Rattle.declaration.specs.declared.DeclarationFault.TheVariants.{BadLine, TwoStarts, TwoProfiles, NoStart, Overlap, EntryInAutoIndex, StartNotInMain, TooMany, HaltNotInBody, NoMemory}
 
--- A text has at most so many bytes, and at most so many routines.
+-- A text of a declaration has at most so many bytes.
 abbrev pub most_bytes : ℕ
 most_bytes = 16384
 
+-- A text declares at most so many routines, beside main.
 abbrev pub most_routines : ℕ
 most_routines = 64
 
@@ -33,39 +34,47 @@ pub record Contents : Type 0 where
   pub pause : Words
   pub reads : Option Words
 
--- What one line says of each.
+-- The start that this line gives, as a list: none where it gives another thing.
 abbrev pub start_in : Line → List ℕ
 start_in (Start a) = a ∷ []
 start_in _ = []
 
+-- The machine that this line names, as a list: none where it says another thing.
 abbrev pub profile_in : Line → List Profile
 profile_in (Machine p) = p ∷ []
 profile_in _ = []
 
+-- The cells that this line gives to main's body, no cell where it says another thing.
 abbrev pub main_in : Line → Words
 main_in (Main cells) = cells
 main_in _ = nothing
 
+-- The routine that this line declares, as a list: none where it says another thing.
 abbrev pub routine_in : Line → List Subroutine
 routine_in (Sub r) = r ∷ []
 routine_in _ = []
 
+-- The variable cells that this line gives, no cell where it says another thing.
 abbrev pub variable_in : Line → Words
 variable_in (Variables cells) = cells
 variable_in _ = nothing
 
+-- The cells that this line gives as stops, no cell where it says another thing.
 abbrev pub stop_in : Line → Words
 stop_in (Stops cells) = cells
 stop_in _ = nothing
 
+-- The cells that this line gives as pauses, no cell where it says another thing.
 abbrev pub pause_in : Line → Words
 pause_in (Pauses cells) = cells
 pause_in _ = nothing
 
+-- The cells that this line lists as those that may be read, no cell where it says another thing.
 abbrev pub reads_in : Line → Words
 reads_in (Reads cells) = cells
 reads_in _ = nothing
 
+-- The line lists cells that may be read, be it none.
 abbrev pub lists_reads : Line → Bool
 lists_reads (Reads cells) = true
 lists_reads _ = false
@@ -105,28 +114,32 @@ pub record Says (c : Contents) (d : Declaration) : Type 0 where
   pub pause : d.pause ≡ c.pause
   pub reads : d.reads ≡ c.reads
 
--- Some routine has this entry, and some body has this cell.
+-- Some routine has this cell as its entry.
 abbrev pub is_entry : Contents → Words
 is_entry c a = list_any (λ r. r.entry == a) c.routines
 
+-- The cell is in main's body or in that of some routine.
 abbrev pub in_bodies : Contents → Words
 in_bodies c a = c.main a || list_any (λ r. r.body a) c.routines
 
--- In how many bodies a cell is, and how many routines have an entry.
+-- In how many bodies the cell is: in main's, and in those of the routines, counted line by line.
 abbrev pub bodies_at : Contents → ℕ → ℕ
 bodies_at c a = (if c.main a then 1 else 0) + count_by (λ r. r.body a) c.routines
 
+-- How many routines have the cell as their entry, counted line by line.
 abbrev pub entries_at : Contents → ℕ → ℕ
 entries_at c a = count_by (λ r. r.entry == a) c.routines
 
--- A cell overlaps: it's in two bodies; an entry is in a body or among the variables; two entries are equal; a stop is a
--- pause.
+-- The cell is in two bodies or more.
 abbrev pub in_two_bodies : Contents → Words
 in_two_bodies c a = nat_le 2 (bodies_at c a)
 
+-- The cell is the entry of two routines or more.
 abbrev pub is_entry_twice : Contents → Words
 is_entry_twice c a = nat_le 2 (entries_at c a)
 
+-- A cell overlaps: it's in two bodies; it's an entry and in a body, or an entry and a variable; it's the entry of two
+-- routines; or it's both a stop and a pause.
 abbrev pub overlaps : Contents → Words
 overlaps c a =
     in_two_bodies c a || (is_entry c a && in_bodies c a) || (is_entry c a && c.variable a) || is_entry_twice c a

@@ -18,28 +18,31 @@ pub record IsStateOf (pl : Place) (start : Cells) (f : Fact) (s : State) (ks : C
   pub top : TopIsEntry pl.declaration ks
   pub means : Means pl start f s ks
 
--- A cell that the step reads is one that its word may read,
+-- From a state of a fact, where what its word writes is declared, a cell that the step reads is one that the word may
+-- read by the fact.
 abbrev pub ReadsAreForeseen : Type 0
 ReadsAreForeseen =
     (pl : Place) (start : Cells) (f : Fact) (s : State) (ks : Calls) (a : ℕ) →
     IsStateOf pl start f s ks → WritesAreDeclared pl f (instruction pl.declaration.profile s) →
     read_by (instruction pl.declaration.profile s) s.memory a ≡ true → may_read pl f (instruction pl.declaration.profile s) a ≡ true
 
--- one that it writes is one that it may write, a JMS's own cell apart,
+-- From a state of a fact, where what its word writes is declared, a cell that the step writes, a JMS's own cell apart,
+-- is one that the word may write by the fact.
 abbrev pub WritesAreForeseen : Type 0
 WritesAreForeseen =
     (pl : Place) (start : Cells) (f : Fact) (s : State) (ks : Calls) (a : ℕ) →
     IsStateOf pl start f s ks → WritesAreDeclared pl f (instruction pl.declaration.profile s) →
     written_by (instruction pl.declaration.profile s) s.memory a ≡ true → may_write pl f (instruction pl.declaration.profile s) a ≡ true
 
--- the one that a JMS calls is one that it may call,
+-- From a state of a fact, where what its word writes is declared, the cell that a JMS calls is one that it may call by
+-- the fact.
 abbrev pub CallsAreForeseen : Type 0
 CallsAreForeseen =
     (pl : Place) (start : Cells) (f : Fact) (s : State) (ks : Calls) (i : Bool) (c : ℕ) →
     IsStateOf pl start f s ks → WritesAreDeclared pl f (instruction pl.declaration.profile s) →
     instruction pl.declaration.profile s ≡ Jms i c → called pl f (Jms i c) (place i c s.memory) ≡ true
 
--- and a cell that is no entry holds a word that is possible there.
+-- In a state of a fact a cell that is no entry holds a word that is possible there by the fact.
 abbrev pub WordsAreForeseen : Type 0
 WordsAreForeseen =
     (pl : Place) (start : Cells) (f : Fact) (s : State) (ks : Calls) (a : ℕ) →

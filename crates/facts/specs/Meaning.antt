@@ -31,7 +31,8 @@ equation_of e = record { left = name_of e.left; right = Cell e.right; more = e.m
 abbrev pub offsets_of : Offsets → Words
 offsets_of o k = slice_index_or o.known k false
 
--- What a fact says.
+-- What a fact in code says, but for its offsets: the words of the accumulator and of MQ, the links, the tracked cells
+-- and the equations.
 abbrev pub statement_of : Fact → Statement
 statement_of f = record {
   ac = words f.ac;

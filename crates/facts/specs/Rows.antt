@@ -4,7 +4,7 @@ use Rattle.std.proofs.Common.{zero, suc}
 use Rattle.wordset.specs.Words.{Words, SameWords, between}
 use Rattle.facts.specs.declared.seen.Row.{Row}
 
--- The words of a row.
+-- The words from a row's first one to its last, both of them included; none where the last is below the first.
 abbrev pub row_words : Row → Words
 row_words r = between r.first r.last
 

@@ -4,12 +4,12 @@ use Rattle.wordset.specs.Words.{SameWords, SameLinks}
 use Rattle.facts.specs.Facts.{Name, Equation, Fact, Among, Entails, EntailsOffsets}
 use Rattle.facts.specs.Outcomes.{Outcome, Goes, CallsTo, Returns}
 
--- The same equations, in whatever order and however often.
+-- The two lists have the same equations, in whatever order and however often.
 pub record SameEquations (es gs : List Equation) : Type 0 where
   pub to : (e : Equation) → Among e es → Among e gs
   pub from : (e : Equation) → Among e gs → Among e es
 
--- The same words below 4096, links, equations and offsets.
+-- The two facts have the same words below 4096, links, equations and offsets.
 pub record SameFact (a b : Fact) : Type 0 where
   pub sets : (n : Name) → SameWords (a.set n) (b.set n)
   pub mq : SameWords a.mq b.mq
@@ -28,7 +28,8 @@ pub record EntailAlike (a b c : Fact) : Type 0 where
 abbrev pub SameLaw : Type 0
 SameLaw = (a b c : Fact) → SameFact a b → EntailAlike a b c
 
--- The same words below 4096, links and offsets, and one list of equations: what code says of a fact that it makes.
+-- The two facts have the same words below 4096, links and offsets, and one list of equations: what code says of a fact
+-- that it makes.
 pub record Agree (a b : Fact) : Type 0 where
   pub sets : (n : Name) → SameWords (a.set n) (b.set n)
   pub mq : SameWords a.mq b.mq

@@ -48,7 +48,7 @@ holds_before image f =
     each_below 4096 (f.set Ac) && (each_below 4096 f.mq && (each_below 2 f.link &&
     (each_below 4096 (λ a. has_each (image a) (f.set (Cell a))) && are_always image f.equations)))
 
--- The tape holds words.
+-- What the tape has at an address is a word, a number below 4096.
 abbrev pub AreTapeWords : Image → Type 0
 AreTapeWords image = (a w : ℕ) → image a ≡ Some w → w < 4096
 

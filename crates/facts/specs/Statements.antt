@@ -34,6 +34,7 @@ sets_of s (Cell a) = tracked a s.cells
 abbrev pub fact_of : Statement → Words → Fact
 fact_of s offsets = record { set = sets_of s; mq = s.mq; link = s.link; equations = s.equations; offsets = offsets }
 
--- Nothing is known.
+-- The fact that excludes nothing: all words of the accumulator, of MQ and of each cell, both links and all offsets are
+-- possible, and there is no equation.
 abbrev pub unknown : Fact
 unknown = record { set = λ n. everything; mq = everything; link = everything; equations = []; offsets = everything }

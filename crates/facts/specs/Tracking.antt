@@ -27,7 +27,7 @@ abbrev pub IsPlaceBelow : ℕ → Held → Type 0
 IsPlaceBelow n (Row first last) = Unit {0}
 IsPlaceBelow n (Whole place) = place < n
 
--- The same of a tracked cell in brief.
+-- Where the set of a tracked cell in brief stands whole, it stands at a place below n.
 abbrev pub IsEntryBelow : ℕ → Entry → Type 0
 IsEntryBelow n e = IsPlaceBelow n e.held
 

@@ -37,7 +37,7 @@ operations =
     ClearKeyboardFlagAndAccumulator ∷ ReadKeyboardBuffer ∷ TakeKeyboardByte ∷
     SkipOnPrinterFlag ∷ ClearPrinterFlag ∷ Print ∷ ClearPrinterFlagAndPrint ∷ []
 
--- Those that the 8/E has beside them.
+-- The operations that a PDP-8/E has beside those of a PDP-8/I: KCF and TFL.
 abbrev pub more_operations : Profile → List DeviceOperation
 more_operations Pdp8I = []
 more_operations Pdp8E = ClearKeyboardFlag ∷ SetPrinterFlag ∷ []

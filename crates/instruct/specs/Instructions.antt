@@ -37,10 +37,14 @@ pub data Meaning : Type 0 where
   Device : DeviceAction → Meaning
   Undefined : Meaning
 
+-- The profile is that of the PDP-8/E, and not that of the PDP-8/I.
 abbrev pub is_8e : Profile → Bool
 is_8e Pdp8I = false
 is_8e Pdp8E = true
 
+-- What each device operation does to the processor: RSF, PSF, KSF and TSF may skip; by RRB, alone or with RFC, and by
+-- KRS a byte is ored into the accumulator; KCC clears the accumulator; KRB clears it and takes a byte; all others, IOF
+-- among them, leave the processor.
 abbrev pub processor_action : DeviceOperation → DeviceAction
 processor_action DisableInterrupts = Leaves
 processor_action SkipOnReaderFlag = Skips
@@ -66,6 +70,8 @@ processor_action SetPrinterFlag = Leaves
 abbrev pub device_action : Profile → ℕ → Option DeviceAction
 device_action profile word = option_map processor_action (device_operation profile word)
 
+-- The meaning of a word by what it does to the processor as a device word; where it is no device word, it has no
+-- meaning.
 abbrev pub device_meaning : Option DeviceAction → Meaning
 device_meaning (Some action) = Device action
 device_meaning None = Undefined
@@ -76,6 +82,7 @@ is_group1 profile word =
     if has_bit 3 word then not (has_bit 2 word)
     else (has_bit 2 word || (not (has_bit 1 word) || is_8e profile))
 
+-- The meaning of a word by the operate of group 3 that it is; where it is none of the six, it has no meaning.
 abbrev pub mq_meaning : Option MqOperate → Meaning
 mq_meaning (Some operate) = Group3 operate
 mq_meaning None = Undefined

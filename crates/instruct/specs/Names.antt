@@ -41,12 +41,16 @@ abbrev pub spaced : List (List ℕ) → List ℕ
 spaced [] = codes "NOP"
 spaced (name ∷ names) = join_with_byte 32 (name ∷ names)
 
+-- The name of the rotate in a word of group 1, if there is one: RAR for 0010 and RAL for 0004, RTR and RTL with 0002
+-- beside them, and BSW for 0002 without either.
 abbrev pub rotate_names : ℕ → List (List ℕ)
 rotate_names word =
     if has_bit 3 word then (if has_bit 1 word then codes "RTR" else codes "RAR") ∷ []
     else (if has_bit 2 word then (if has_bit 1 word then codes "RTL" else codes "RAL") ∷ []
     else named_if (has_bit 1 word) (codes "BSW"))
 
+-- The names of what a word of group 1 does, each where its bit is set: CLA, CLL, CMA, CML, IAC, and the rotate. A word
+-- of which no such bit is set has none.
 abbrev pub group1_names : ℕ → List (List ℕ)
 group1_names word =
     named_if (has_bit 7 word) (codes "CLA") ++ named_if (has_bit 6 word) (codes "CLL") ++
@@ -58,7 +62,8 @@ abbrev pub or_skip : List (List ℕ) → List (List ℕ)
 or_skip [] = codes "SKP" ∷ []
 or_skip (name ∷ names) = name ∷ names
 
--- The tests; with 0010 the reversed ones, or SKP.
+-- The tests of a word of group 2, each where its bit is set: SMA, SZA and SNL; with 0010 instead SPA, SNA and SZL, the
+-- reversed ones, or SKP where none of them is chosen.
 abbrev pub test_names : ℕ → List (List ℕ)
 test_names word =
     if has_bit 3 word
@@ -67,11 +72,14 @@ test_names word =
     else named_if (has_bit 6 word) (codes "SMA") ++ named_if (has_bit 5 word) (codes "SZA") ++
     named_if (has_bit 4 word) (codes "SNL")
 
+-- The names of what a word of group 2 does, each where its bit is set: the tests, then CLA (0200), OSR (0004) and HLT
+-- (0002).
 abbrev pub group2_names : ℕ → List (List ℕ)
 group2_names word =
     test_names word ++ named_if (has_bit 7 word) (codes "CLA") ++ named_if (has_bit 2 word) (codes "OSR") ++
     named_if (has_bit 1 word) (codes "HLT")
 
+-- The name of each of the six operates of group 3; two of them have two words, with CLA first.
 abbrev pub group3_name : MqOperate → List ℕ
 group3_name Mql = codes "MQL"
 group3_name Mqa = codes "MQA"
@@ -80,11 +88,13 @@ group3_name Cam = codes "CAM"
 group3_name ClaMqa = codes "CLA MQA"
 group3_name ClaSwp = codes "CLA SWP"
 
--- A word without a name is shown by a question mark.
+-- The name of an operate of group 3, or a question mark where there is none.
 abbrev pub group3_name_if : Option MqOperate → List ℕ
 group3_name_if (Some operate) = group3_name operate
 group3_name_if None = codes "?"
 
+-- The mnemonic of each device operation; the one that reads the reader's byte and fetches the next frame is shown as
+-- RRB RFC.
 abbrev pub device_name : DeviceOperation → List ℕ
 device_name DisableInterrupts = codes "IOF"
 device_name SkipOnReaderFlag = codes "RSF"
@@ -106,10 +116,13 @@ device_name ClearPrinterFlagAndPrint = codes "TLS"
 device_name ClearKeyboardFlag = codes "KCF"
 device_name SetPrinterFlag = codes "TFL"
 
+-- The mnemonic of a device operation, or a question mark where there is none.
 abbrev pub device_name_if : Option DeviceOperation → List ℕ
 device_name_if (Some operation) = device_name operation
 device_name_if None = codes "?"
 
+-- The name of a word by its kind: as a memory reference, an operate word of group 1, 2 or 3, or a device word of the
+-- profile; a question mark for a word that isn't supported.
 abbrev pub name_by_kind : Instruction → Profile → ℕ → List ℕ
 name_by_kind Memory profile word = memory_name word
 name_by_kind Operate1 profile word = spaced (group1_names word)

@@ -16,9 +16,13 @@ abbrev pub counted : ℕ → ℕ × ℕ → ℕ × ℕ
 counted word s =
     if has_bit 0 word then ((s.0 + 1) % 4096, (if s.0 == 4095 then 1 - s.1 else s.1)) else s
 
+-- One rotate to the left: each bit of the accumulator moves up by one place, the highest goes out into the link, and
+-- the old link comes in at the lowest.
 abbrev pub left : ℕ × ℕ → ℕ × ℕ
 left s = (left_word s.0 s.1, left_link s.0)
 
+-- One rotate to the right: each bit of the accumulator moves down by one place, the lowest goes out into the link, and
+-- the old link comes in at the highest.
 abbrev pub right : ℕ × ℕ → ℕ × ℕ
 right s = (right_word s.0 s.1, right_link s.0)
 
@@ -33,6 +37,8 @@ rotated word s =
     else (if has_bit 2 word then (if has_bit 1 word then left (left s) else left s)
     else (if has_bit 1 word then (exchanged s.0, s.1) else s))
 
+-- What a word of group 1 makes of accumulator and link: the four stages in their order, which are to clear, to
+-- complement, to count and to rotate.
 abbrev pub operate1_of : ℕ → ℕ × ℕ → ℕ × ℕ
 operate1_of word s = rotated word (counted word (complemented word (cleared word s)))
 
@@ -41,7 +47,7 @@ abbrev pub any_test_holds : ℕ → ℕ → ℕ → Bool
 any_test_holds word ac link =
     (has_bit 6 word && nat_le 2048 ac) || ((has_bit 5 word && (ac == 0)) || (has_bit 4 word && (link == 1)))
 
--- It skips where a chosen test holds, or with 0010 where none does.
+-- A word of group 2 skips where a chosen test holds, or with 0010 where none does; so 0010 without a test always skips.
 abbrev pub skips_of : ℕ → ℕ → ℕ → Bool
 skips_of word ac link = if has_bit 3 word then not (any_test_holds word ac link) else any_test_holds word ac link
 
@@ -55,7 +61,7 @@ operate2_of word ac switches =
 abbrev pub is_halt : ℕ → Bool
 is_halt word = has_bit 1 word
 
--- It reads the switches with OSR.
+-- A word of group 2 reads the switches with OSR (0004).
 abbrev pub reads_switches_of : ℕ → Bool
 reads_switches_of word = has_bit 2 word
 
@@ -68,7 +74,8 @@ pub data MqOperate : Type 0 where
   ClaMqa : MqOperate
   ClaSwp : MqOperate
 
--- Their six words: MQL, MQA, SWP, CAM, CLA MQA and CLA SWP.
+-- The operates of group 3 by their words: MQL is 7421, MQA 7501, SWP 7521, CAM 7621, CLA MQA 7701 and CLA SWP 7721; any
+-- other word is none.
 abbrev pub mq_operate_of : ℕ → Option MqOperate
 mq_operate_of word =
     if word == 0o7421 then Some Mql
@@ -79,7 +86,7 @@ mq_operate_of word =
     else (if word == 0o7721 then Some ClaSwp
     else None)))))
 
--- What each makes of the accumulator and MQ, in this order.
+-- What each operate of group 3 makes of the pair of accumulator and MQ.
 abbrev pub mq_operate : MqOperate → ℕ × ℕ → ℕ × ℕ
 mq_operate Mql s = (0, s.0)
 mq_operate Mqa s = (bit_or s.0 s.1, s.1)
@@ -88,9 +95,12 @@ mq_operate Cam s = (0, 0)
 mq_operate ClaMqa s = (s.1, s.1)
 mq_operate ClaSwp s = (s.1, 0)
 
+-- What an operate of group 3 makes of the pair of accumulator and MQ; without an operate both stay as they are.
 abbrev pub mq_operate_if : Option MqOperate → ℕ × ℕ → ℕ × ℕ
 mq_operate_if (Some operate) s = mq_operate operate s
 mq_operate_if None s = s
 
+-- What a word of group 3 makes of the pair of accumulator and MQ; a word that is none of the six leaves both as they
+-- are.
 abbrev pub operate3_of : ℕ → ℕ × ℕ → ℕ × ℕ
 operate3_of word s = mq_operate_if (mq_operate_of word) s

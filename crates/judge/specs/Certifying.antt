@@ -49,10 +49,11 @@ pub record AreRead (tape declaration certificate : List ℕ) (p : Parts) : Type 
   pub is_text : certificate ≡ text (certified.meaning p.certificate)
   pub is_short : length certificate ≤ most_bytes
 
--- The bytes are a tape; they declare something.
+-- The bytes are a tape, whichever words it has.
 abbrev pub IsSomeTape : List ℕ → Type 0
 IsSomeTape tape = (image : List (Option ℕ)) × IsTapeOf tape image
 
+-- The text is that of a declaration, whichever it makes.
 abbrev pub DeclaresSomething : List ℕ → Type 0
 DeclaresSomething text = (d : Declaration) × Declares text d
 
@@ -74,7 +75,7 @@ IsRefused t d c (fault.Certificate f) = IsSomeTape t × DeclaresSomething d × H
 IsRefused t d c (fault.Refused r) = FailFirst t d c r
 IsRefused t d c fault.NoMemory = IsSomeTape t × (Fails d declaration.NoMemory ⊎ (DeclaresSomething d × AsksForMemory c))
 
--- A condition refuses.
+-- The fault is that a condition fails, and not one of the tape, of a text or of memory.
 abbrev pub IsRefusal : CertifyFault → Type 0
 IsRefusal (fault.Refused r) = ⊤
 IsRefusal _ = ⊥

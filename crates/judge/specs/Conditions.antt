@@ -77,7 +77,8 @@ pub record Covers (c : Certificate) (r e : ℕ) : Type 0 where
   pub entry : c.writes r e ≡ true
   pub own : c.writes e r ≡ false
 
--- Nothing of this is asked of main.
+-- Where the caller is a routine, what its callee may write, and the callee's entry, are in its written set, and its own
+-- entry isn't in the callee's. Of main none of this is asked.
 abbrev pub CoversCallee : Certificate → Routine → ℕ → Type 0
 CoversCallee c None e = Unit {0}
 CoversCallee c (Some r) e = Covers c r e
@@ -204,7 +205,8 @@ place_among V11 = 12
 place_among V4 = 13
 place_among V15 = 14
 
--- The order in which the conditions are asked: the first one, then by rising address, then by the place among those at one address.
+-- The order in which the conditions are asked: the first one, then by rising address, then by the place among those at
+-- one address.
 abbrev pub order : Condition → ℕ → ℕ
 order v a = if is_first_condition v then 0 else 16 * a + place_among v
 

@@ -23,14 +23,15 @@ pub record IsTrueAt (j : Case) (start : Cells) (t : State) (ls : Calls) : Type 0
   pub there : j.certificate.has_fact t.pc ≡ true
   pub means : Means (place_in j (current ls)) start (fact_at j t.pc) t ls
 
--- Wherever a declared run may go on, the fact there is true: in runs of the instruction table,
+-- Where every condition holds, the fact is true wherever a declared run of the instruction table leads from a start.
 abbrev pub FactsHoldInRuns : Type 0
 FactsHoldInRuns =
     (j : Case) → IsDeclared j.declaration → IsValid j →
     (s t : State) (ls : Calls) (answers : List Answer) →
     IsStart j.image j.declaration.start s → DeclaredRun j.declaration answers s [] t ls → IsTrueAt j s.memory t ls
 
--- and by lists of events, while the machine runs.
+-- Where every condition holds, the fact is true wherever declared events lead from a machine that is just loaded, while
+-- it runs.
 abbrev pub FactsHoldInEvents : Type 0
 FactsHoldInEvents =
     (j : Case) → IsDeclared j.declaration → IsValid j →
@@ -67,14 +68,15 @@ SameClaimsAreValidAlike =
     (image : Image) (d : Declaration) (c e : Certificate) → SetsAreOfWords c → SetsAreOfWords e → SameCertificate c e →
     IsValid (case_with image d c) → IsValid (case_with image d e)
 
--- A tape and two texts are judged in one way, whatever they are read as: where every condition holds of the one reading, it
--- holds of the other,
+-- A tape and two texts are judged in one way, whatever they are read as: where every condition holds of one reading,
+-- every one holds of the other.
 abbrev pub TextsAreValidAlike : Type 0
 TextsAreValidAlike =
     (tape declaration certificate : List ℕ) (p q : Parts) →
     AreRead tape declaration certificate p → AreRead tape declaration certificate q → IsValid (case_of p) → IsValid (case_of q)
 
--- and where a condition fails first of the one, so it does of the other.
+-- A tape and two texts are judged in one way, whatever they are read as: the condition that fails first of one reading
+-- fails first of the other, at the same address.
 abbrev pub TextsFailAlike : Type 0
 TextsFailAlike =
     (tape declaration certificate : List ℕ) (p q : Parts) →

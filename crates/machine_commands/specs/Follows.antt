@@ -30,6 +30,8 @@ abbrev pub end_at : Option ℕ → ℕ → End
 end_at (Some at) pc = Halted at
 end_at None pc = Bound pc
 
+-- The end of a run that isn't stuck, in this world: the HLT at which the machine is halted, or else its bound, with the
+-- program counter.
 abbrev pub end_of : WorldState → End
 end_of w = end_at w.halted_at w.state.pc
 

@@ -59,12 +59,15 @@ pub record IsRoundRun (options : RunOptions) (frames : Option (List ℕ)) (text 
   pub tape : HasImage frames image
   pub run : IsRunOf options true (rounds options.rounds) image text status
 
+-- The frames are a tape, and the text is what the run of its image by so many rounds, which ends at a halt, may be
+-- about to write: its whole text, or where a trace is asked for, that of some first events.
 pub record IsPartOfRoundRun (options : RunOptions) (frames : Option (List ℕ)) (text : List ℕ) : Type 0 where
   pub image : List (Option ℕ)
   pub tape : HasImage frames image
   pub part : IsPartOf options true (rounds options.rounds) image text
 
--- The same by the events that a list spells; such a run goes on after a halt.
+-- The frames are a tape, and the text is that of the run of its image by the events that a list spells; such a run goes
+-- on after a halt.
 pub record IsEventRun (options : RunOptions) (frames list : Option (List ℕ)) (text : List ℕ) (status : Status) : Type 0 where
   pub image : List (Option ℕ)
   pub tape : HasImage frames image
@@ -72,6 +75,8 @@ pub record IsEventRun (options : RunOptions) (frames list : Option (List ℕ)) (
   pub spelled : HasEvents list events
   pub run : IsRunOf options false events image text status
 
+-- The frames are a tape, and the text is what the run of its image by the events that a list spells, which goes on
+-- after a halt, may be about to write: its whole text, or where a trace is asked for, that of some first events.
 pub record IsPartOfEventRun (options : RunOptions) (frames list : Option (List ℕ)) (text : List ℕ) : Type 0 where
   pub image : List (Option ℕ)
   pub tape : HasImage frames image
@@ -86,7 +91,8 @@ pub record IsTraceOfRounds (options : RunOptions) (frames : Option (List ℕ)) (
   pub tape : HasImage frames image
   pub is : IsTraceToOutput options true (rounds options.rounds) image text
 
--- The same by the events that a list spells.
+-- The frames are a tape, a trace is asked for, and the text is that of the run of its image by the events that a list
+-- spells, or by those before one that prints or punches.
 pub record IsTraceOfEvents (options : RunOptions) (frames list : Option (List ℕ)) (text : List ℕ) : Type 0 where
   pub image : List (Option ℕ)
   pub tape : HasImage frames image

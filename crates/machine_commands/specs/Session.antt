@@ -154,6 +154,7 @@ pub record Taken : Type 0 where
   pub teletype : Option (List ℕ)
   pub punch : Option (List ℕ)
 
+-- What three sinks tell, made of what each of them tells: the report's, the teletype's and the punch's.
 abbrev pub taken : Option (List ℕ) → Option (List ℕ) → Option (List ℕ) → Taken
 taken report teletype punch = record { report = report; teletype = teletype; punch = punch }
 
@@ -173,6 +174,7 @@ pub record Failures : Type 0 where
   pub teletype : Bool
   pub punch : Bool
 
+-- Which of the sinks failed, made of whether each of them did: the report's, the teletype's and the punch's.
 abbrev pub failures : Bool → Bool → Bool → Failures
 failures report teletype punch = record { report = report; teletype = teletype; punch = punch }
 

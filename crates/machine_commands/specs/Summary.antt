@@ -13,6 +13,7 @@ end_text (Unsupported at) = codes "UNSUPPORTED " ++ octal_text at
 end_text (Halted at) = codes "HALT " ++ octal_text at
 end_text (Bound at) = codes "BOUND " ++ octal_text at
 
+-- The accumulator, the link and the program counter, as the first line of a summary shows them; MQ isn't shown.
 abbrev pub registers_text : State → List ℕ
 registers_text s =
     codes " AC=" ++ octal_text s.ac ++ (codes " L=" ++ link_text s.link) ++ codes " PC=" ++ octal_text s.pc
@@ -26,6 +27,7 @@ state_line end w steps =
 abbrev pub byte_text : ℕ → List ℕ
 byte_text b = 32 ∷ (48 + b / 64) ∷ (48 + b / 8 % 8) ∷ (48 + b % 8) ∷ []
 
+-- Bytes in their order, each after a space as three octal digits.
 abbrev pub bytes_text : List ℕ → List ℕ
 bytes_text [] = []
 bytes_text (b ∷ bs) = byte_text b ++ bytes_text bs
@@ -35,6 +37,8 @@ abbrev pub output_line : List ℕ → List ℕ → List ℕ
 output_line name [] = []
 output_line name (b ∷ bs) = name ++ bytes_text (b ∷ bs) ++ codes "\n"
 
+-- The whole summary of a run that ended so in this world, with so many instructions carried out: the first line, and a
+-- line each of what was printed and of what was punched, where there is any.
 abbrev pub summary : End → WorldState → ℕ → List ℕ
 summary end w steps =
     state_line end w steps ++ output_line (codes "PRINTED") w.devices.printer.output ++

@@ -45,6 +45,7 @@ pub record IsWatchedSo (frames text list : Option (List ℕ)) (line : List ℕ) 
   pub line_is : line ≡ watched_text watched
   pub status_is : status ≡ watched_status watched
 
--- The same with whichever status.
+-- The frames are a tape, the texts a declaration and a list of events, and the text is the line of what is seen of
+-- them, whichever status that has.
 abbrev pub IsWatched : Option (List ℕ) → Option (List ℕ) → Option (List ℕ) → List ℕ → Type 0
 IsWatched frames text list line = (status : Status) × IsWatchedSo frames text list line status

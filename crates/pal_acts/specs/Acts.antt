@@ -12,6 +12,7 @@ pub record PlacedAct : Type 0 where
   pub terms : List Join
   pub act : Act
 
+-- An act with its place and the terms of its expression, which are none where it has no expression.
 abbrev pub placed : Place → List Join → Act → PlacedAct
 placed p e a = record { place = p; terms = e; act = a }
 

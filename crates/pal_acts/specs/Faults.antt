@@ -48,7 +48,8 @@ Refuses permanent limit acts NoMemory = AsksForMemory permanent limit acts
 abbrev pub AsksForWord : Values → List PlacedAct → Type 0
 AsksForWord σ acts = Meets acts (λ before next. Encodes σ before × ((w : ℕ) × (word_of σ (location σ before) next.terms next.act ≡ Some (Ok w))))
 
--- The same where words are kept: once all symbols have their values, memory is asked for each word.
+-- A source of which the words are kept is refused so: by its fault, or where memory is refused at an act that asks for
+-- some; and once all symbols have their values, memory is asked for each word before the first one that has a fault.
 abbrev pub RefusesKeeping : List (Name × ℕ) → ℕ → List PlacedAct → Refused → Type 0
 RefusesKeeping permanent limit acts (Fault place code) = IsRefused permanent limit acts place code
 RefusesKeeping permanent limit acts NoMemory = AsksForMemory permanent limit acts ⊎ ((own : List (Name × ℕ)) × Defines permanent limit (reverse acts) own × AsksForWord (known permanent own) acts)

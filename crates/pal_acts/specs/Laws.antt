@@ -64,6 +64,8 @@ IsLawfulAct ns e (act.Wrong c) = ⊥
 IsLawfulAct ns e act.LastPause = ⊥
 IsLawfulAct ns e _ = Unit {0}
 
+-- Each of these acts, the newest first, is lawful with the names that have a value before it: the permanent ones and
+-- those that the acts before it define.
 abbrev pub IsLawful : List Name → List PlacedAct → Type 0
 IsLawful permanent [] = Unit {0}
 IsLawful permanent (a ∷ before) = IsLawfulAct (names permanent before) a.terms a.act × IsLawful permanent before

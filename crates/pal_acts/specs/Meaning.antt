@@ -39,7 +39,8 @@ module _ (permanent : List (Name × ℕ)) (limit : ℕ) (own : List (Name × ℕ
   taken here e act.Word = Ok own
   taken here e act.LastPause = Err PauseInLastPart
 
-  -- The same for an act after others, whose own symbols these are.
+  -- The own symbols after the next act, or its fault, where these acts, the newest first, stand before it and define
+  -- the own symbols that are given.
   abbrev pub next_taken : List PlacedAct → PlacedAct → Result (List (Name × ℕ)) Code
   next_taken before next = taken (location (known permanent own) before) next.terms next.act
 

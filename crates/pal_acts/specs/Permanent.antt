@@ -11,8 +11,8 @@ use Rattle.pal_acts.specs.Words.{named}
 abbrev pub symbol : String → String → Name × ℕ
 symbol characters value = (named (codes characters), octal_value (codes value))
 
--- Those of the PDP-8/I: the operations that take an address, I and Z; the operate instructions and their usual
--- combinations; ION and IOF; and the words of the reader, the punch, the keyboard and the printer.
+-- The permanent symbols of the PDP-8/I: the operations that take an address, I and Z; the operate instructions and
+-- their usual combinations; ION and IOF; and the words of the reader, the punch, the keyboard and the printer.
 unfoldable pub common_symbols : List (Name × ℕ)
 common_symbols =
     symbol "AND   " "0000" ∷ symbol "TAD   " "1000" ∷ symbol "ISZ   " "2000" ∷ symbol "DCA   " "3000"
@@ -29,12 +29,14 @@ common_symbols =
     ∷ symbol "KRB   " "6036" ∷ symbol "TSF   " "6041" ∷ symbol "TCF   " "6042" ∷ symbol "TPC   " "6044"
     ∷ symbol "TLS   " "6046" ∷ []
 
--- Those that the PDP-8/E has beside them: the words of MQ, BSW, KCF and TFL.
+-- The permanent symbols that the PDP-8/E has beside those of the PDP-8/I: the words of MQ, BSW, KCF and TFL.
 unfoldable pub further_symbols : List (Name × ℕ)
 further_symbols =
     symbol "MQL   " "7421" ∷ symbol "MQA   " "7501" ∷ symbol "SWP   " "7521" ∷ symbol "CAM   " "7621"
     ∷ symbol "BSW   " "7002" ∷ symbol "KCF   " "6030" ∷ symbol "TFL   " "6040" ∷ []
 
+-- The permanent symbols of a machine with their values: those of the PDP-8/I, and on the PDP-8/E the further ones after
+-- them.
 unfoldable pub permanent_symbols : Profile → List (Name × ℕ)
 permanent_symbols Pdp8I = common_symbols
 permanent_symbols Pdp8E = common_symbols ++ further_symbols

@@ -27,7 +27,7 @@ abbrev pub is_one_of : List Name → Sign → Term → Bool
 is_one_of ns Or (Symbol n) = has ns n
 is_one_of ns _ _ = false
 
--- The same of one symbol.
+-- What joins is this symbol, a mark as I or Z, and it begins an expression or follows a space.
 abbrev pub is_mark : Name → Join → Bool
 is_mark n j = is_one_of (n ∷ []) j.sign j.term
 
@@ -37,17 +37,19 @@ pub record Marked : Type 0 where
   pub zero : Bool
   pub address : List Join
 
+-- What follows an operation, made of whether I stands there, whether Z does, and the terms of the address.
 abbrev pub marked : Bool → Bool → List Join → Marked
 marked i z js = record { indirect = i; zero = z; address = js }
 
--- I, which is the mark of an indirect reference, and Z, that of page zero, in either order, each at most once; the rest is
--- the address. Here those that stood before are told too.
+-- I, which is the mark of an indirect reference, and Z, that of page zero, in either order, each at most once; the rest
+-- is the address. Whether each of them stood before is given.
 abbrev pub marks_after : Bool → Bool → List Join → Marked
 marks_after indirect zero [] = marked indirect zero []
 marks_after indirect zero (j ∷ js) =
     if not indirect && is_mark (named (codes "I     ")) j then marks_after true zero js else
     if not zero && is_mark (named (codes "Z     ")) j then marks_after indirect true js else marked indirect zero (j ∷ js)
 
+-- The marks and the address in all that follows an operation, where neither I nor Z stood before.
 abbrev pub marks : List Join → Marked
 marks js = marks_after false false js
 

@@ -30,6 +30,8 @@ meaning returned b =
     if nat_eq (code b) (char "\n") then (if returned then Ignored else LineEnd) else
     if nat_eq (code b) (char "\t") then Character (char " ") else Character (code b)
 
+-- What a byte means after these bytes, the newest first, by whether a carriage return stands before it with nothing
+-- between them but ignored bytes and line feeds.
 abbrev pub meaning_after : List ℕ → ℕ → Meaning
 meaning_after before b = meaning (returned before) b
 

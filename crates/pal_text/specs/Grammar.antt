@@ -19,6 +19,7 @@ abbrev pub is_joiner : Kind → Bool
 is_joiner kind.Space = true
 is_joiner k = is_sign k
 
+-- A token of this kind is one of the words DECIMAL, OCTAL and PAUSE, which direct the assembler.
 abbrev pub is_direction : Kind → Bool
 is_direction kind.Decimal = true
 is_direction kind.Octal = true
@@ -48,6 +49,8 @@ pub record Said : Type 0 where
   pub name : Option Token
   pub operand : List Token
 
+-- What a statement says, made of its form, the symbol that it assigns a value, if it does, and the tokens of its
+-- expression.
 abbrev pub says : Form → Option Token → List Token → Said
 says f name e = record { form = f; name = name; operand = e }
 

@@ -76,6 +76,8 @@ pub record Stays (front after : List ℕ) : Type 0 where
   pub pieces_are : pieces 0 0 (part_tokens (front ++ after)) ≡ pieces 0 0 (front_tokens front) ++ more
   pub read_so : AllByRecursion (ReadsSo (front_tokens front) (part_tokens (front ++ after))) (pieces 0 0 (front_tokens front))
 
+-- Where the tokens of a part's front end with the end of a statement, or there are none, the front is read in one way
+-- whatever bytes follow it.
 abbrev pub StatementsStay : Type 0
 StatementsStay = (front after : List ℕ) → EndsStatement (tokens (reverse front)) → Stays front after
 

@@ -13,15 +13,18 @@ abbrev pub is_begun : List ℕ → Bool
 is_begun [] = false
 is_begun (b ∷ before) = after (is_begun before) false (λ c. true) (meaning_after before b)
 
+-- The line of the bytes from the place `start` up to the one before `end`.
 abbrev pub line_of : ℕ → ℕ → Line
 line_of start end = record { start = start; end = end }
 
--- The lines that have ended.
+-- The lines that a line end has closed, each from after the line end before it up to its own, which is no part of it.
+-- An empty line counts.
 abbrev pub ended_lines : List ℕ → List Line
 ended_lines [] = []
 ended_lines (b ∷ before) = after (ended_lines before) (line_of (line_start before) (length before) ∷ ended_lines before) (λ c. ended_lines before) (meaning_after before b)
 
--- These and what stands after the last line end, where a byte of that isn't ignored.
+-- The lines that have ended and, where a byte that isn't ignored stands after the last line end, the one that it
+-- begins.
 abbrev pub lines : List ℕ → List Line
 lines before = if is_begun before then line_of (line_start before) (length before) ∷ ended_lines before else ended_lines before
 

@@ -31,6 +31,8 @@ pub record IsWithin (size : ℕ) (t : Token) : Type 0 where
 abbrev pub bytes_of : List ℕ → Token → List ℕ
 bytes_of source t = slice_range source t.start t.end
 
+-- The kind of a token of this part whose characters give it this one: a symbol is told by its name, whether it is
+-- DECIMAL, OCTAL, PAUSE or an ordinary one, and any other kind stays.
 abbrev pub with_name : List ℕ → Token → Kind → Kind
 with_name source t Symbol = named_kind (name (bytes_of source t))
 with_name source t k = k

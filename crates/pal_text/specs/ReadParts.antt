@@ -10,6 +10,6 @@ use Rattle.pal_text.specs.Lines.{all_lines}
 abbrev pub tokens_in : {A : Type 0} → Part A → List Token
 tokens_in part = part_tokens part.source.now
 
--- Its lines, up to where it ends.
+-- The lines of a part that was read, up to where the part ends.
 abbrev pub lines_in : {A : Type 0} → Part A → List Line
 lines_in part = all_lines (take part.stop part.source.now)

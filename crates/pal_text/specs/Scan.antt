@@ -1,4 +1,5 @@
--- How the tokens of a statement are read from its bytes. Lists of bytes and of tokens have the newest first here, but for what stands in a source or among a statement's own tokens.
+-- How the tokens of a statement are read from its bytes. Lists of bytes and of tokens have the newest first here, but for
+-- what stands in a source or among a statement's own tokens.
 use Rattle.std.specs.Prelude.{◌≡◌, ℕ, ◌+◌, ◌≤◌, ◌<◌, Bool, true, false, ◌||◌, if◌then◌else◌, List, [], ◌∷◌, ◌++◌, Option, Some, None, length, reverse, take, get_or, nat_eq}
 use Rattle.std.specs.List.{AllByRecursion}
 use Rattle.pal_text.specs.declared.tokens.Kind.{Kind}
@@ -15,7 +16,8 @@ use Rattle.pal_text.specs.Characters.{char, code, is_ignored, returned, in_comme
 use Rattle.pal_text.specs.Tokens.{is_space, kind_of, token, is_end}
 use Rattle.pal_text.specs.Adding.{added, tokens}
 
--- The same as `returned` after one more byte.
+-- Whether a line feed would follow a carriage return after one more byte, by whether it would before that: `returned`
+-- in one step.
 abbrev pub returned_by : Bool → ℕ → Bool
 returned_by before b = if nat_eq (code b) (char "\r") then true else if is_ignored (code b) || nat_eq (code b) (char "\n") then before else false
 

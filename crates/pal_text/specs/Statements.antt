@@ -12,6 +12,7 @@ use Rattle.pal_text.specs.declared.cut.Close.{Close}
 use Rattle.pal_text.specs.Tokens.{is_end}
 use Rattle.pal_text.specs.Grammar.{Said, IsStatement}
 
+-- A token of this kind is a dollar sign, which ends the part after its statement.
 abbrev pub is_dollar : Kind → Bool
 is_dollar Dollar = true
 is_dollar _ = false
@@ -22,6 +23,7 @@ pub record Piece : Type 0 where
   pub last : ℕ
   pub mark : Token
 
+-- The piece of the tokens from the place `first` up to the one before `last`, which this token at `last` ends.
 abbrev pub piece : ℕ → ℕ → Token → Piece
 piece first last mark = record { first = first; last = last; mark = mark }
 
@@ -50,6 +52,7 @@ abbrev pub last_end : ℕ → List Token → ℕ
 last_end n [] = n
 last_end n (t ∷ ts) = last_end t.end ts
 
+-- A part ends by this, after so many of its bytes.
 abbrev pub closed : Ending → ℕ → Close
 closed e n = record { ending = e; stop = n }
 

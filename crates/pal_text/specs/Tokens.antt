@@ -7,9 +7,11 @@ use Rattle.pal_text.specs.declared.tokens.Kind.TheVariants.{Symbol, Number, Mixe
 use Rattle.pal_text.specs.declared.tokens.Token.{Token}
 use Rattle.pal_text.specs.Characters.{char, line, in_comment, meaning_after, after}
 
+-- The code is that of a capital letter, A to Z; small letters are no letters here.
 abbrev pub is_letter : ℕ → Bool
 is_letter c = nat_le (char "A") c && nat_le c (char "Z")
 
+-- The code is that of a decimal digit, 0 to 9: 8 and 9 count as digits too.
 abbrev pub is_digit : ℕ → Bool
 is_digit c = nat_le (char "0") c && nat_le c (char "9")
 
@@ -28,6 +30,7 @@ kind_of c =
     if nat_eq c (char ";") then End else
     if nat_eq c (char "$") then Dollar else Other
 
+-- A token of this kind is a run of spaces; a tab is read as a space.
 abbrev pub is_space : Kind → Bool
 is_space Space = true
 is_space _ = false
@@ -61,12 +64,13 @@ runs (b ∷ before) =
     let here : Kind → List Token = λ k. with_next (token k (line before) (length before)) (runs before) in
     after (runs before) (here End) (λ c. if in_comment before || nat_eq c (char "/") then runs before else here (kind_of c)) (meaning_after before b)
 
+-- A token of this kind is a plus or a minus sign.
 abbrev pub is_sign : Kind → Bool
 is_sign Plus = true
 is_sign Minus = true
 is_sign _ = false
 
--- These end a statement.
+-- The end of a line or of the part, a semicolon and a dollar sign: these end a statement.
 abbrev pub is_end : Kind → Bool
 is_end End = true
 is_end Dollar = true
@@ -78,7 +82,8 @@ absorbs Comma = true
 absorbs Equals = true
 absorbs k = is_sign k || is_end k
 
--- Nor do those at the front of the part.
+-- A space after these tokens, the newest first, doesn't count: it follows one beside which spaces don't, or it stands
+-- at the front of the part.
 abbrev pub absorbs_after : List Token → Bool
 absorbs_after [] = true
 absorbs_after (t ∷ ts) = absorbs t.kind

@@ -24,6 +24,7 @@ pub record Writer : Type 0 where
   pub busy : Bool
   pub output : List ℕ
 
+-- The state of the four devices, and the word that the switches are set to.
 pub record Devices : Type 0 where
   pub keyboard : Keyboard
   pub printer : Writer
@@ -31,10 +32,12 @@ pub record Devices : Type 0 where
   pub punch : Writer
   pub switches : ℕ
 
--- When a program is loaded all flags are clear, all buffers and the switches are 0, and nothing is under way.
+-- The printer or the punch when a program is loaded: its flag is clear, it isn't busy, and it was given no byte.
 abbrev pub idle_writer : Writer
 idle_writer = record { flag = false; busy = false; output = [] }
 
+-- The devices when a program is loaded: all flags are clear, both buffers and the switches are 0, nothing is under way,
+-- and nothing was printed or punched.
 abbrev pub idle : Devices
 idle = record {
   keyboard = record { flag = false; buffer = 0 };
@@ -48,12 +51,15 @@ idle = record {
 abbrev pub given : ℕ → Writer → Writer
 given ac d = record d { busy = true; output = d.output ++ (ac % 256) ∷ [] }
 
+-- The printer or the punch with its flag set or cleared; whether it is busy, and its output, stay.
 abbrev pub with_writer_flag : Bool → Writer → Writer
 with_writer_flag flag d = record d { flag = flag }
 
+-- The tape reader with its flag set or cleared; its byte, and whether it waits for a frame, stay.
 abbrev pub with_reader_flag : Bool → Reader → Reader
 with_reader_flag flag d = record d { flag = flag }
 
+-- The keyboard with its flag set or cleared; the byte of the last key stays.
 abbrev pub with_keyboard_flag : Bool → Keyboard → Keyboard
 with_keyboard_flag flag d = record d { flag = flag }
 
@@ -74,10 +80,11 @@ answer_to v word =
     then Byte v.keyboard.buffer
     else Silent)))))
 
--- The words that drop the reader's byte and fetch the next frame, and those that clear the keyboard's flag.
+-- RFC, alone or with RRB: the words that drop the reader's byte and fetch the next frame.
 abbrev pub fetches : ℕ → Bool
 fetches word = word == word_of FetchReaderFrame || word == word_of ReadReaderBufferAndFetchFrame
 
+-- KCF, KCC and KRB: the words that clear the keyboard's flag.
 abbrev pub clears_keyboard : ℕ → Bool
 clears_keyboard word =
     word == word_of ClearKeyboardFlag ||

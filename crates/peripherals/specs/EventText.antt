@@ -9,10 +9,11 @@ use Rattle.peripherals.specs.declared.event_text.EventsFault.TheVariants.{BadLin
 use Rattle.streams.specs.Taking.{StandsAt}
 use Rattle.streams.specs.Text.{text_lines, words_of, octal_word, octal_byte, decimal_between}
 
--- A text has at most so many bytes, and at most so many events.
+-- A text of events has at most so many bytes.
 abbrev pub most_bytes : ℕ
 most_bytes = 65536
 
+-- A text spells at most so many events, and one line at most so many steps; a line of N steps counts as N events.
 abbrev pub most_events : ℕ
 most_events = 1000000
 
@@ -41,6 +42,7 @@ events_of_words (name ∷ []) = option_map (λ e. e ∷ []) (event_named name)
 events_of_words (name ∷ number ∷ []) = events_numbered name number
 events_of_words (_ ∷ _ ∷ _ ∷ _) = None
 
+-- The events that a line spells by its words: no event where it has no word, and no list of events where it is bad.
 abbrev pub line_events : List ℕ → Option (List Event)
 line_events line = events_of_words (words_of line)
 

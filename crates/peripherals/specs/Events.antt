@@ -6,7 +6,7 @@ use Rattle.peripherals.specs.declared.Event.{Event}
 use Rattle.peripherals.specs.declared.Event.TheVariants.{Step, Key, PrinterDone, ReaderDone, PunchDone, Switches, Continue}
 use Rattle.peripherals.specs.Devices.{Reader, Writer, Devices, idle, WorldState, Instructs}
 
--- A key is struck.
+-- A key is struck: the keyboard's flag is set and its buffer holds the byte, also where the last key wasn't taken yet.
 abbrev pub struck : ℕ → Devices → Devices
 struck byte v = record v { keyboard = record { flag = true; buffer = byte } }
 
@@ -18,6 +18,7 @@ done d = if d.busy then record d { busy = false; flag = true } else d
 abbrev pub read : ℕ → Reader → Reader
 read byte d = if d.fetching then record { flag = true; buffer = byte; fetching = false } else d
 
+-- The world with these devices in place of its own; the machine's state, and whether and where it is halted, stay.
 abbrev pub with_devices : WorldState → Devices → WorldState
 with_devices w v = record w { devices = v }
 

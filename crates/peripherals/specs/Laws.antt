@@ -16,12 +16,12 @@ abbrev pub EventsLeadToOneWorld : Type 0
 EventsLeadToOneWorld =
     (profile : Profile) (w : WorldState) (event : Event) (x y : WorldState) → Happens profile w event x → Happens profile w event y → x ≡ y
 
--- An event that isn't enabled changes nothing,
+-- An event that isn't enabled changes nothing.
 abbrev pub IdleEventsChangeNothing : Type 0
 IdleEventsChangeNothing =
     (profile : Profile) (w x : WorldState) (event : Event) → is_enabled w event ≡ false → Happens profile w event x → x ≡ w
 
--- nor does a step at a word that isn't supported.
+-- A step at a word that isn't supported changes nothing.
 abbrev pub UnsupportedStepsChangeNothing : Type 0
 UnsupportedStepsChangeNothing =
     (profile : Profile) (w x : WorldState) (word : ℕ) → seen_of profile w Step ≡ Unsupported word → Happens profile w Step x → x ≡ w

@@ -52,6 +52,7 @@ abbrev pub due : Plan → WorldState → Option Event → Option Event
 due plan w None = first_due plan plan.switches
 due plan w (Some last) = due_after plan w last
 
+-- The rounds still to come once one has begun; where none was to come, none is.
 abbrev pub one_less : ℕ → ℕ
 one_less zero = zero
 one_less (suc n) = n

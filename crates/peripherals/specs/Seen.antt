@@ -27,10 +27,13 @@ abbrev pub seen_of_step : Meaning → ℕ → Seen
 seen_of_step Undefined word = Unsupported word
 seen_of_step m word = if halts_after m then Halted else Ran
 
+-- What the caller is told of an event that is enabled: of a step what became of the instruction at the program counter,
+-- and of any other event that it was taken note of.
 abbrev pub seen_of_enabled : Profile → WorldState → Event → Seen
 seen_of_enabled profile w Step = seen_of_step (instruction profile w.state) (word_at_pc w)
 seen_of_enabled profile w _ = Changed
 
+-- What the caller is told of an event that comes in this world: that it isn't enabled, or else what it does.
 abbrev pub seen_of : Profile → WorldState → Event → Seen
 seen_of profile w e = if is_enabled w e then seen_of_enabled profile w e else NotEnabled
 

@@ -21,7 +21,7 @@ pub data Answer : Type 0 where
   Byte : ℕ → Answer
   Switches : ℕ → Answer
 
--- Addresses count modulo 4096.
+-- The address so many places further on, modulo 4096: 0000 comes after 7777.
 abbrev pub after : ℕ → ℕ → ℕ
 after pc more = (pc + more) % 4096
 

@@ -13,13 +13,15 @@ use Rattle.processor.specs.Machine.{State, Answer, Silent, Switches, Answers, Do
 abbrev pub state_of : Cpu → State
 state_of c = record { ac = c.ac; link = c.link; mq = c.mq; pc = c.pc; memory = cell_of c.memory }
 
--- The word at the program counter, the instruction that it is there, and the meaning of any word there.
+-- The word that the cell at the program counter holds.
 abbrev pub word_at_pc : Cpu → ℕ
 word_at_pc c = cell_of c.memory c.pc
 
+-- The meaning of the word at the program counter, by the processor's profile and where it stands.
 abbrev pub instruction_at_pc : Cpu → Meaning
 instruction_at_pc c = instruction c.profile (state_of c)
 
+-- The meaning that any word would have at the program counter, by the processor's profile.
 abbrev pub meaning_at_pc : Cpu → ℕ → Meaning
 meaning_at_pc c word = meaning_of c.profile c.pc word
 

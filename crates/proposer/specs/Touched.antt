@@ -51,7 +51,7 @@ pub record IsTouchedBy (access : Access) (pl : Place) (f : Fact) (at cell : ℕ)
   pub is_possible : possible pl f at word ≡ true
   pub touched : touches access pl f (meaning_at pl at word) cell ≡ true
 
--- The same at the address of some fact, which is in some body.
+-- At the address of some fact that is in some body, a word is possible that may do it to the cell.
 pub record IsTouched (access : Access) (j : Case) (cell : ℕ) : Type 0 where
   pub at : ℕ
   pub routine : Routine

@@ -15,7 +15,7 @@ pub record IsBeyond (set other : Words) (w : ℕ) : Type 0 where
   pub possible : set w ≡ true
   pub excluded : other w ≡ false
 
--- The same of a link.
+-- The link, 0 or 1, is in the one set, and not in the other.
 pub record IsLinkBeyond (set other : Words) (l : ℕ) : Type 0 where
   pub small : l < 2
   pub possible : set l ≡ true

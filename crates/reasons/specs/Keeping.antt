@@ -45,10 +45,11 @@ Keeps c pl f a V14 m = EntriesAreKept pl f m
 Keeps c pl f a V15 m = ReadsAreListed pl f m
 Keeps c pl f a _ m = Unit {0}
 
--- The same at a spot, of a call and of a word.
+-- A call of this entry from a spot keeps the condition, by what is claimed.
 abbrev pub KeepsCallHere : {A C : Type 0} → (C → Certificate) → Spot A C → Condition → ℕ → Type 0
 KeepsCallHere claims s v e = KeepsCall (claimed_by claims s) (here s) s.at v e
 
+-- A word at a spot keeps the condition, by the fact there and what is claimed.
 abbrev pub KeepsHere : {A C : Type 0} → (C → Certificate) → Spot A C → Condition → ℕ → Type 0
 KeepsHere claims s v w = Keeps (claimed_by claims s) (here s) (fact_of s) s.at v (meaning_at (here s) s.at w)
 
@@ -61,10 +62,11 @@ pub record WordsKeep (c : Certificate) (pl : Place) (f : Fact) (a : ℕ) (v : Co
   pub few : v ≡ V3 → how_many 4096 (possible pl f a) ≤ 64
   pub each : EachKeeps c pl f a v
 
--- The same at a spot.
+-- Each word that is possible at a spot keeps the condition, by the fact there and what is claimed.
 abbrev pub EachKeepsHere : {A C : Type 0} → (C → Certificate) → Spot A C → Condition → Type 0
 EachKeepsHere claims s v = EachKeeps (claimed_by claims s) (here s) (fact_of s) s.at v
 
+-- Each word that is possible at a spot keeps the condition, and where that asks for few words, few are possible.
 abbrev pub WordsKeepHere : {A C : Type 0} → (C → Certificate) → Spot A C → Condition → Type 0
 WordsKeepHere claims s v = WordsKeep (claimed_by claims s) (here s) (fact_of s) s.at v
 

@@ -28,13 +28,13 @@ is_call_of_lines (call.Enters l) = is_landing_of_lines l
 is_call_of_lines (call.Returns o l) = is_landing_of_lines l
 is_call_of_lines _ = true
 
--- The same of a return.
+-- The return is wrong since an exit line is missing or too narrow.
 abbrev pub is_return_of_lines : ReturnBreach → Bool
 is_return_of_lines return.OtherRoutine = false
 is_return_of_lines (return.NotDeclared o) = false
 is_return_of_lines _ = true
 
--- The same of a word.
+-- The word breaks the condition since a line is missing or too narrow.
 abbrev pub is_word_of_lines : Breach → Bool
 is_word_of_lines (breach.WritesUnlisted c) = true
 is_word_of_lines (breach.Calls e b) = is_call_of_lines b
@@ -48,7 +48,7 @@ is_of_lines (why.TooManyWords n) = false
 is_of_lines (why.ByWord w b) = is_word_of_lines b
 is_of_lines _ = true
 
--- It is a call to a routine of a rank that isn't lower.
+-- What is told is a call to a routine of a rank that isn't lower.
 abbrev pub is_of_rank : Reason → Bool
 is_of_rank (why.ByWord w (breach.Calls entry (call.NotLower rank own))) = true
 is_of_rank _ = false

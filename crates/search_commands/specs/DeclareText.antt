@@ -21,7 +21,8 @@ pub record IsDeclarationFor (options : DeclareOptions) (text : List ℕ) : Type 
   pub start_is : declaration.start ≡ options.start
   pub profile_is : declaration.profile ≡ options.profile
 
--- The same, and it lists no reads.
+-- The text declares a program that starts where it was asked to, on the machine that was asked for, and it lists no
+-- reads.
 abbrev pub IsBare : DeclareOptions → List ℕ → Type 0
 IsBare options text = (is : IsDeclarationFor options text) × (is.declaration.reads ≡ None)
 
@@ -44,6 +45,6 @@ pub record IsProposal (options : DeclareOptions) (frames : Option (List ℕ)) (s
   pub listed : status ≡ Done → options.reads ≡ true → is_some is.declaration.reads ≡ true
   pub needed : status ≡ Done → options.reads ≡ true → ListsNeeded image is.declaration
 
--- The same with whichever status.
+-- The frames are a tape, and the text is a declaration proposed for it, whichever status the command has.
 abbrev pub IsProposed : DeclareOptions → Option (List ℕ) → List ℕ → Type 0
 IsProposed options frames text = (status : Status) × IsProposal options frames status text

@@ -67,7 +67,7 @@ IsListFault profile marks sources left (Device Write) = Unit {0}
 IsListFault profile marks sources left fault.NoMemory = is_bad_number (length sources) ≡ false
 IsListFault profile marks sources left _ = ⊥
 
--- Why a source has no tape: for the same reasons, or since it has no word.
+-- Why a source has no tape: what keeps it from a listing too, or that its image has no word.
 abbrev pub IsSourceFault : Profile → List Bool → List (Option (List ℕ)) → List (Option (List ℕ)) → Fault → Type 0
 IsSourceFault profile marks sources left EmptyImage = MeansNothing profile sources
 IsSourceFault profile marks sources left fault = IsListFault profile marks sources left fault

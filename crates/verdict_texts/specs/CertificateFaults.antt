@@ -10,14 +10,16 @@ use Rattle.command_parts.specs.Faults.{IsDeclarationInputFault, IsRunFault, IsTa
 use Rattle.command_parts.specs.Inputs.{Input, IsGoodDeclaration, IsGoodTape}
 use Rattle.verdict_texts.specs.CertificateInputs.{FailsInCertificate, IsGoodCertificate}
 
--- The same of a certificate, where memory is refused only once a line has come that is kept.
+-- Why a certificate's text wasn't read: it has this fault, a read failed before the bytes given brought an answer, or
+-- memory was refused once a line had come that is kept.
 abbrev pub IsCertificateInputFault : Input → Fault → Type 0
 IsCertificateInputFault text (Certificate fault) = IfSome text.had (λ bytes. HasFault bytes fault)
 IsCertificateInputFault text (Device Read) = FailsInCertificate text
 IsCertificateInputFault text fault.NoMemory = Gave text.had text.left AsksForMemory
 IsCertificateInputFault text _ = ⊥
 
--- The same with a certificate in place of the events.
+-- Why a program isn't checked: the fault of the tape, the declaration, the certificate, or the work. Each is looked at,
+-- in this order, where those before it are good.
 abbrev pub IsCheckFault : Input → Input → Input → Fault → Type 0
 IsCheckFault tape text certificate fault =
     IsTapeInputFault tape fault ⊎ (IsGoodTape tape.had × (IsDeclarationInputFault text fault

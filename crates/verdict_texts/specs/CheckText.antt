@@ -61,7 +61,8 @@ yes_text d =
 abbrev pub no_text : Refusal → List ℕ
 no_text r = codes "no: " ++ condition_text r.condition ++ codes " at " ++ octal_text r.address ++ codes "\n"
 
--- What is checked.
+-- What the conditions are asked of: the words of a tape's image, a declaration, and the certificate that these lines
+-- make.
 abbrev pub checked_case : List (Option ℕ) → Declaration → Lines → Case
 checked_case image d c = record { image = image_of image; declaration = d; certificate = certificate_of c }
 
@@ -75,6 +76,8 @@ abbrev pub IsVerdict : Case → Result (Unit {0}) Refusal → Type 0
 IsVerdict j (Ok _) = IsYes j
 IsVerdict j (Err r) = IsFirst j r.condition r.address
 
+-- The line of a verdict: a yes with how many cells, entries and halts are declared, or a no with the condition that
+-- fails and its address.
 abbrev pub verdict_text : Declaration → Result (Unit {0}) Refusal → List ℕ
 verdict_text d (Ok _) = yes_text d
 verdict_text d (Err r) = no_text r
@@ -97,6 +100,7 @@ pub record IsCheckedSo (frames text certificate : Option (List ℕ)) (line : Lis
   pub line_is : line ≡ verdict_text declaration verdict
   pub status_is : status ≡ verdict_status verdict
 
--- The same with whichever status.
+-- The frames are a tape, the texts a declaration and a certificate, and the text is the line of their verdict,
+-- whichever status that has.
 abbrev pub IsChecked : Option (List ℕ) → Option (List ℕ) → Option (List ℕ) → List ℕ → Type 0
 IsChecked frames text certificate line = (status : Status) × IsCheckedSo frames text certificate line status

@@ -34,7 +34,7 @@ use Rattle.command_parts.specs.Inputs.{HasImage, HasDeclaration}
 use Rattle.verdict_texts.specs.CertificateInputs.{HasCertificate}
 use Rattle.command_parts.specs.LinkText.{link_text}
 
--- What a condition asks.
+-- What each condition asks, as `check --why` says it.
 abbrev pub asked_text : Condition → List ℕ
 asked_text condition.V1 = codes "there is a fact at the start, and it holds of every start"
 asked_text condition.V2 = codes "a fact is in a body, with offsets in routines alone; routine and exit lines are at entries"
@@ -52,10 +52,11 @@ asked_text condition.V13 = codes "a HLT is at a declared halt"
 asked_text condition.V14 = codes "no word writes an entry, save that a JMS enters it and ISZ may count the routine's own"
 asked_text condition.V15 = codes "each cell that a word may read is on the list of reads, or the routine's entry"
 
--- A text, an address in octal digits, and a text; the same of a number in decimal digits.
+-- A text, an address in four octal digits, and a text.
 abbrev pub around : List ℕ → ℕ → List ℕ → List ℕ
 around before at after = before ++ octal_text at ++ after
 
+-- A text, a number in decimal digits, and a text.
 abbrev pub around_number : List ℕ → ℕ → List ℕ → List ℕ
 around_number before number after = before ++ decimal number ++ after
 
@@ -64,10 +65,12 @@ abbrev pub name_text : Name → List ℕ
 name_text name.Accumulator = codes "AC"
 name_text (name.Cell a) = octal_text a
 
+-- An equation: the name on its left side, the address of the cell on its right side, and the word that is added to
+-- that, both in octal digits.
 abbrev pub equation_text : Equation → List ℕ
 equation_text e = name_text e.left ++ (codes " = " ++ octal_text e.right) ++ (codes " + " ++ octal_text e.more)
 
--- What is possible.
+-- What may be, as far as is known, though the fact or the exit line that is looked at excludes it.
 abbrev pub gap_text : Gap → List ℕ
 gap_text (gap.Accumulator w) = codes "AC may be " ++ octal_text w
 gap_text (gap.Mq w) = codes "MQ may be " ++ octal_text w
@@ -177,6 +180,7 @@ pub record IsExplainedSo (frames text certificate : Option (List ℕ)) (line : L
   pub line_is : line ≡ verdict_text declaration verdict ++ why_text declaration.profile image verdict reason ++ fact_shown lines verdict
   pub status_is : status ≡ verdict_status verdict
 
--- The same with whichever status.
+-- The frames are a tape, the texts a declaration and a certificate, and the text is the line of their verdict, why it
+-- is, and the fact there, whichever status the verdict has.
 abbrev pub IsExplained : Option (List ℕ) → Option (List ℕ) → Option (List ℕ) → List ℕ → Type 0
 IsExplained frames text certificate line = (status : Status) × IsExplainedSo frames text certificate line status

@@ -4,10 +4,11 @@
 use Rattle.std.specs.Prelude.{◌≡◌, ℕ, ◌+◌, ◌-◌, ◌/◌, ◌%◌, ◌<◌, ◌≤◌, ◌==◌, nat_le, nat_lt, Bool, true, false, not, ◌&&◌, ◌||◌, if◌then◌else◌, Option, Some, None, bit_and, bit_or}
 use Rattle.std.proofs.Common.{zero, suc}
 
--- Sums and differences of words are modulo 4096.
+-- The sum of two words modulo 4096.
 abbrev pub plus : ℕ → ℕ → ℕ
 plus a b = (a + b) % 4096
 
+-- The difference a - b of two words modulo 4096, which is a word also where b is the greater one.
 abbrev pub minus : ℕ → ℕ → ℕ
 minus a b = (a + (4096 - b % 4096)) % 4096
 
@@ -23,10 +24,11 @@ SameWords a b = (v : ℕ) → v < 4096 → a v ≡ b v
 abbrev pub IsWithin : Words → Words → Type 0
 IsWithin a b = (v : ℕ) → v < 4096 → a v ≡ true → b v ≡ true
 
--- The two sets have the same links, and each link of the one set is in the other.
+-- The two sets have the same links: they agree on 0 and 1, whatever they say of larger numbers.
 abbrev pub SameLinks : Words → Words → Type 0
 SameLinks a b = (k : ℕ) → k < 2 → a k ≡ b k
 
+-- Each link of the one set, 0 or 1, is in the other; larger numbers don't matter.
 abbrev pub IsLinkWithin : Words → Words → Type 0
 IsLinkWithin a b = (k : ℕ) → k < 2 → a k ≡ true → b k ≡ true
 
@@ -54,13 +56,15 @@ has_some set = some_below 4096 set
 abbrev pub has_link : Words → Bool
 has_link set = some_below 2 set
 
--- No word, every number, and every word alone.
+-- The set without any number.
 abbrev pub nothing : Words
 nothing v = false
 
+-- The set of all numbers, those from 4096 on too.
 abbrev pub everything : Words
 everything v = true
 
+-- The set of all words, and of no number from 4096 on.
 abbrev pub all_words : Words
 all_words v = nat_lt v 4096
 
@@ -80,21 +84,24 @@ with_word w a v = a v || v == w
 abbrev pub without : ℕ → Words → Words
 without w a v = if v == w then false else a v
 
--- The words of either set, of both, and of the one alone.
+-- The words that are in either of the two sets.
 abbrev pub union : Words → Words → Words
 union a b v = a v || b v
 
+-- The words that are in both sets.
 abbrev pub meet : Words → Words → Words
 meet a b v = a v && b v
 
+-- The words that are in the first set and not in the second.
 abbrev pub difference : Words → Words → Words
 difference a b v = a v && not (b v)
 
--- The one word of a set, where it has one and no other.
+-- This word of a set, if there is one, where the set has no other; and none otherwise.
 abbrev pub only_of : Words → Option ℕ → Option ℕ
 only_of set None = None
 only_of set (Some k) = if some_below 4096 (without k set) then None else Some k
 
+-- The one word of a set, where it has one and no other; none where it has no word, or more than one.
 unfoldable pub only : Words → Option ℕ
 only set = only_of set (first_below 4096 set)
 
@@ -106,7 +113,7 @@ shifted set k v = set (minus v k)
 abbrev pub mirrored : Words → Words
 mirrored set v = set (4095 - v)
 
--- All a + b.
+-- The words that are sums a + b, modulo 4096, of a word a of the one set and a word b of the other.
 abbrev pub sums : Words → Words → Words
 sums a b v = some_below 4096 (λ x. a x && b (minus v x))
 

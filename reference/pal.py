@@ -1,7 +1,7 @@
 """A second assembler of PAL III, written from the language's description alone, for comparing.
 
 `assemble(parts, profile)` takes the parts of a source as bytes and gives a `Program`, or raises a
-`Fault` with its code, part and line. It is made to be read beside docs/ASSEMBLER.md and is slow.
+`Fault` with its code, part and line. It is made to be read beside docs/PAL.md and is slow.
 """
 import re
 from dataclasses import dataclass

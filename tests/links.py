@@ -1,0 +1,52 @@
+#!/usr/bin/env python3
+"""Looks at the pages: each link to a file leads to one, each file or page that is named in a page is there, no page is too long,
+and no line of one has more than 600 characters.
+
+usage: tests/links.py    names each page and what is wrong with it; exit status 1 where anything is
+"""
+import os
+import re
+import subprocess
+import sys
+
+TOP = os.path.join(os.path.dirname(os.path.abspath(__file__)), '..')
+# How many bytes a page may have; the page of definitions is made by a script and has no limit.
+MOST = {'README.md': 10_000, 'docs/TUTORIAL.md': 8_000, 'docs/COMMANDS.md': 18_000, 'docs/PAL.md': 14_000, 'docs/DECLARATIONS.md': 14_000,
+        'docs/NO.md': 24_000, 'docs/FORMATS.md': 10_000, 'docs/MACHINE.md': 6_500, 'docs/ARCHIVE.md': 4_000, 'docs/THEOREM.md': 16_000,
+        'docs/PROVED.md': 20_000, 'docs/ARCHITECTURE.md': 10_000, 'CONTRIBUTING.md': 16_000, 'docs/DECISIONS.md': 16_000,
+        'docs/PERFORMANCE.md': 4_000, 'docs/DEFINITIONS.md': None}
+NAMED = re.compile(r'\b(?:docs|tests|bench|crates|examples|share)/[\w./-]*\w\.(?:md|py|sh|txt|rt|antt|pal)\b')
+
+
+def pages():
+    """The pages that git knows, or that are new."""
+    told = subprocess.run(['git', 'ls-files', '--cached', '--others', '--exclude-standard', '*.md'], cwd=TOP, capture_output=True, text=True, check=True)
+    return [path for path in told.stdout.split() if os.path.isfile(os.path.join(TOP, path))]
+
+
+def faults(path):
+    """What is wrong with a page."""
+    with open(os.path.join(TOP, path), encoding='utf-8') as file:
+        text = file.read()
+    prose = re.sub(r'```.*?```', '', text, flags=re.S)
+    for target in re.findall(r'\]\(([^)#\s]+)', prose):
+        if '://' not in target and not os.path.exists(os.path.join(TOP, os.path.dirname(path), target)):
+            yield f'links to {target}, which is not there'
+    for name in set(NAMED.findall(prose)):
+        if not os.path.exists(os.path.join(TOP, name)):
+            yield f'names {name}, which is not there'
+    yield from (f'line {number} has {len(line)} characters' for number, line in enumerate(text.splitlines(), 1) if len(line) > 600)
+    if path.startswith('docs/') and path not in MOST:
+        yield 'is a page with no limit on its length: put it into the table of this script'
+    if MOST.get(path) and len(text.encode()) > MOST[path]:
+        yield f'has {len(text.encode())} bytes, at most {MOST[path]}'
+
+
+def main():
+    wrong = [f'{path}: {fault}' for path in pages() for fault in faults(path)]
+    print('\n'.join([*wrong, f'links: {len(pages())} pages, {len(wrong)} faults']))
+    sys.exit(1 if wrong else 0)
+
+
+if __name__ == '__main__':
+    main()

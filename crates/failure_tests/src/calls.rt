@@ -1,10 +1,11 @@
 //! Calls of the libraries that no command makes, each once.
 
 use crate::fixtures::{
-    HELLO, HELLO_CERTIFICATE, HELLO_DECLARED, HELLO_WORDS, PRINTED, hello_tape, image, rounds, word,
+    HELLO, HELLO_CERTIFICATE, HELLO_DECLARED, HELLO_TAPE, HELLO_WORDS, PRINTED, image, rounds, word,
 };
 use analyser::{GuessFault, Turns, guess_within};
 use certificate::{Certificate, Version};
+use commands::status::{Fault, Status};
 use declaration::Declaration;
 use facts::{Equation, Fact, Name, Offsets, entails_return};
 use instruct::Profile;
@@ -44,27 +45,39 @@ fn a_source_has_words_and_symbols(rt: HostRuntime) -> Result<(), Fail> {
     Ok(())
 }
 
+/// Whether what a declaration lists is what HELLO's does.
+fn lists_are_told(hello: &Declaration<Global>) -> bool {
+    let sets = hello.main().count() == 12 && hello.variables().count() == 2;
+    let halts = hello.stops().is_empty() && hello.pauses().count() == 1;
+    let [routine] = hello.routines() else {
+        return false;
+    };
+    let (zero, offsets) = (Word::ZERO, routine.offsets());
+    let called = routine.entry() == word(0o214) && routine.body().count() == 5;
+    sets && halts && called && offsets.contains(zero) && !offsets.contains(word(1))
+}
+
+/// Whether what a declaration tells of one cell is what HELLO's does.
+fn cells_are_told(hello: &Declaration<Global>, entry: Word) -> bool {
+    hello.in_main(word(0o213))
+        && !hello.in_main(entry)
+        && hello.is_entry(entry)
+        && hello.in_body(entry, word(0o221))
+        && !hello.in_body(entry, word(0o213))
+        && hello.has_offset(entry, Word::ZERO)
+        && !hello.has_offset(entry, word(1))
+        && hello.is_variable(word(0o10))
+        && hello.is_pause(word(0o212))
+        && !hello.is_stop(word(0o212))
+        && hello.may_read(entry)
+}
+
 #[test]
 fn a_declaration_tells_what_it_declares(rt: HostRuntime) -> Result<(), Fail> {
     let hello = Declaration::parse(rt.alloc(), HELLO_DECLARED)?;
-    let (entry, zero) = (word(0o214), Word::ZERO);
-    assert_eq!(rt; hello.start(), word(0o200));
-    assert_eq!(rt; hello.profile(), Profile::Pdp8I);
-    assert_eq!(rt; hello.main().count(), 12);
-    assert_eq!(rt; hello.variables().count(), 2);
-    assert!(rt; hello.stops().is_empty() && hello.pauses().count() == 1);
-    assert!(rt; hello.in_main(word(0o213)) && !hello.in_main(entry));
-    assert!(rt; hello.is_entry(entry) && !hello.is_entry(word(0o215)));
-    assert!(rt; hello.in_body(entry, word(0o221)) && !hello.in_body(entry, word(0o213)));
-    assert!(rt; hello.has_offset(entry, zero) && !hello.has_offset(entry, word(1)));
-    assert!(rt; hello.is_variable(word(0o10)) && !hello.is_variable(word(0o11)));
-    assert!(rt; hello.is_pause(word(0o212)) && !hello.is_stop(word(0o212)));
-    assert!(rt; hello.reads().is_none() && !hello.reads_listed() && hello.may_read(zero));
-    assert_eq!(rt; hello.routines().len(), 1);
-    for routine in hello.routines() {
-        assert!(rt; routine.entry() == entry && routine.body().count() == 5);
-        assert!(rt; routine.offsets().contains(zero) && !routine.offsets().contains(word(1)));
-    }
+    assert!(rt; hello.start() == word(0o200) && hello.profile() == Profile::Pdp8I);
+    assert!(rt; hello.reads().is_none() && !hello.reads_listed());
+    assert!(rt; lists_are_told(&hello) && cells_are_told(&hello, word(0o214)));
     Ok(())
 }
 
@@ -90,7 +103,7 @@ fn start_with(registers: u16, is_set: bool, filled: u16) -> Start {
 
 #[test]
 fn a_certified_program_prints_the_same_from_any_start(rt: HostRuntime) -> Result<(), Fail> {
-    let certified = certify(rt.alloc(), &hello_tape(), HELLO_DECLARED, HELLO_CERTIFICATE)?;
+    let certified = certify(rt.alloc(), HELLO_TAPE, HELLO_DECLARED, HELLO_CERTIFICATE)?;
     assert!(rt; *certified.image() == image(&HELLO_WORDS));
     assert_eq!(rt; certified.declaration().start(), word(0o200));
     assert_eq!(rt; certified.certificate().version(), Version::One);
@@ -114,11 +127,23 @@ const REFUSED: [(&[u8], &[u8], &str); 3] = [
 #[test]
 fn what_refuses_a_program_is_told(rt: HostRuntime) -> Result<(), Fail> {
     for (declared, certificate, wanted) in &REFUSED {
-        let Err(fault) = certify(rt.alloc(), &hello_tape(), declared, certificate) else {
+        let Err(fault) = certify(rt.alloc(), HELLO_TAPE, declared, certificate) else {
             panic!(rt; "not {wanted}");
         };
         assert_eq!(rt; format!(in rt.alloc(); "{fault}")?.as_str(), *wanted);
     }
+    Ok(())
+}
+
+#[test]
+fn faults_that_no_small_input_has_have_lines(rt: HostRuntime) -> Result<(), Fail> {
+    let (memory, turns) = (Fault::NoMemory, Fault::Guess(GuessFault::TurnsSpent));
+    assert!(rt; memory.status() == Status::Memory && turns.status() == Status::Refused);
+    let text = format!(in rt.alloc(); "{memory}, {turns}")?;
+    assert_eq!(rt;
+        text.as_str(),
+        "pdp8: memory: NoMemory, pdp8: guess: TurnsSpent"
+    );
     Ok(())
 }
 
@@ -148,34 +173,36 @@ const TEXT: &[u8] = b"PDP8-CERTIFICATE 2\n\
     exit 0214 3 ac 0001 mq 0000-7777 link 0\n\
     end\n";
 
+/// Whether the fact at 0206 is told.
+fn fact_is_told(read: &Certificate<Global>, at: Word) -> bool {
+    let Some(fact) = read.fact(at) else {
+        return false;
+    };
+    let registers = fact.accumulator().count() == 6 && fact.mq().is_all();
+    let details = fact.cells().len() == 1 && fact.equations().len() == 1;
+    registers && details && fact.set(&Name::Cell(word(0o10))).count() == 5
+}
+
+/// Whether the routine and its exit are told.
+fn routine_is_told(read: &Certificate<Global>, entry: Word) -> bool {
+    let (Some(routine), Some(exit)) = (read.routine(entry), read.exit(entry, 3)) else {
+        return false;
+    };
+    routine.rank == 9
+        && routine.sites.only() == Some(word(0o207))
+        && routine.writes.count() == 2
+        && exit.accumulator().only() == Some(word(1))
+        && read.exit(entry, 1).is_none()
+}
+
 #[test]
 fn a_certificate_tells_its_lines(rt: HostRuntime) -> Result<(), Fail> {
     let read = Certificate::parse(rt.alloc(), TEXT)?;
     let (entry, at) = (word(0o214), word(0o206));
-    assert_eq!(rt; read.version(), Version::Two);
-    assert!(rt; read.names(entry) && !read.names(at));
-    assert_eq!(rt; read.next_claimed(0o207), Some(entry));
-    let routine = read.routine(entry).ok_or("no routine")?;
-    assert!(rt; routine.rank == 9 && routine.writes.count() == 2);
-    assert!(rt; routine.sites.only() == Some(word(0o207)));
-    let fact = read.fact(at).ok_or("no fact")?;
-    assert!(rt; fact.accumulator().count() == 6 && fact.mq().is_all());
-    assert!(rt; fact.cells().len() == 1 && fact.equations().len() == 1);
-    assert_eq!(rt; fact.set(&Name::Cell(word(0o10))).count(), 5);
-    assert!(rt; fact.offsets().is_empty() && read.fact(entry).is_none());
-    let exit = read.exit(entry, 3).ok_or("no exit")?;
-    assert!(rt; exit.accumulator().only() == Some(word(1)) && exit.cells().len() == 0);
-    assert!(rt; exit.offsets().contains(7) && read.exit(entry, 1).is_none());
+    assert!(rt; read.version() == Version::Two && read.next_claimed(0o207) == Some(entry));
+    assert!(rt; read.names(entry) && !read.names(at) && read.fact(entry).is_none());
+    assert!(rt; fact_is_told(&read, at) && routine_is_told(&read, entry));
     Ok(())
-}
-
-/// The equation of two cells, left = right + more.
-fn related(left: u16, right: u16, more: u16) -> Equation {
-    Equation {
-        left: Name::Cell(word(left)),
-        right: word(right),
-        more: word(more),
-    }
 }
 
 /// HELLO's fact at 0210, after it typed a letter: the pointer in 0010 and the count in 0224 go
@@ -186,7 +213,11 @@ fn after_a_letter() -> Fact {
     fact.set_link(Links::one(Link::CLEAR));
     fact.track(word(0o10), WordSet::range(word(0o225), word(0o231)));
     fact.track(word(0o224), WordSet::range(word(0o7773), word(0o7777)));
-    fact.relate(related(0o10, 0o224, 0o232));
+    fact.relate(Equation {
+        left: Name::Cell(word(0o10)),
+        right: word(0o224),
+        more: word(0o232),
+    });
     fact
 }
 
@@ -218,7 +249,4 @@ fn a_return_brings_the_exit_and_keeps_what_is_not_written(rt: HostRuntime) {
     let none = WordSet::empty();
     assert!(rt; entails_return(&call, &exit, &none, &hello));
     assert!(rt; !entails_return(&call, &exit, &WordSet::one(word(0o224)), &hello));
-    // MQ is the exit's, and the offsets are the caller's.
-    call.set_offsets(Offsets::all());
-    assert!(rt; !entails_return(&call, &exit, &none, &hello));
 }

@@ -1,7 +1,7 @@
 //! A runtime whose words, input and files are given, and which keeps what the program writes.
 
 use crate::fixtures::{HALT, HALT_CERTIFICATE, HALT_DECLARED, LETTER, UNDECLARED};
-use std::alloc::{AllocError, Allocator, Global};
+use std::alloc::{Allocator, Global};
 use std::cell::RefCell;
 use std::env::FillError;
 use std::fmt::Display;
@@ -48,16 +48,13 @@ impl Page {
     }
 
     fn add(&self, more: &[u8]) -> io::Result<()> {
-        match self.bytes.try_borrow_mut() {
-            Ok(bytes) if bytes.len() > self.room || more.len() > self.room - bytes.len() => {
-                Err(io::Error::from(ErrorKind::Other))
-            }
-            Ok(mut bytes) => match bytes.extend_from_slice(more) {
-                Ok(()) => Ok(()),
-                Err(AllocError) => Err(io::Error::from(ErrorKind::OutOfMemory)),
-            },
-            Err(_) => Err(io::Error::from(ErrorKind::Other)),
+        let Ok(mut bytes) = self.bytes.try_borrow_mut() else {
+            return Err(unsupported());
+        };
+        if more.len() > self.room.saturating_sub(bytes.len()) {
+            return Err(unsupported());
         }
+        bytes.extend_from_slice(more).map_err(|_| unsupported())
     }
 
     fn into_bytes(self) -> Vec<u8, Global> {
@@ -171,7 +168,7 @@ impl Env for Desk<'_> {
 fn add_text<D: Display + Drop>(alloc: Global, page: &Page, value: D) -> io::Result<()> {
     match format!(in alloc; "{value}") {
         Ok(text) => page.add(text.as_bytes()),
-        Err(_) => Err(io::Error::from(ErrorKind::OutOfMemory)),
+        Err(_) => Err(unsupported()),
     }
 }
 
@@ -291,16 +288,12 @@ pub const ROOMY: Rooms = Rooms {
     written: usize::MAX,
 };
 
-/// What the program leaves.
+/// What the program leaves: its status, and what went to standard output, to standard error and to files.
 #[derive(Drop)]
 pub struct Ended {
-    /// Its status.
     pub status: u8,
-    /// What went to standard output.
     pub printed: Vec<u8, Global>,
-    /// What went to standard error.
     pub told: Vec<u8, Global>,
-    /// What went to files.
     pub written: Vec<u8, Global>,
 }
 

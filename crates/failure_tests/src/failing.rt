@@ -251,75 +251,7 @@ fn reads_in_turn(heap: Global, command: Command, input: usize) -> Option<usize> 
     None
 }
 
-/// Commands, and how many reads of each input they make. A tape is read up to the first frame of its
-/// trailer, a text until its end was told.
-const READS: [(Command, usize, usize, usize); 15] = [
-    (Command::Assemble, 6, 7, 0),
-    (Command::List, 6, 7, 0),
-    (Command::Dump, 11, 0, 0),
-    (Command::Run, 11, 0, 0),
-    (Command::Trace, 11, 0, 0),
-    (Command::Events, 11, 6, 0),
-    (Command::Session, 17, 3, 2),
-    (Command::Watch, 11, 29, 6),
-    (Command::Check, 11, 29, 65),
-    (Command::Explain, 11, 20, 65),
-    (Command::Declare, 11, 0, 0),
-    (Command::Guess, 11, 29, 0),
-    (Command::GuessOrExplain, 11, 29, 0),
-    (Command::Stuck, 11, 20, 0),
-    (Command::Migrate, 65, 0, 0),
-];
-
-#[test]
-fn each_read_that_fails_is_told(rt: HostRuntime) {
-    for (command, first, second, third) in &READS {
-        let counts = (
-            reads_in_turn(rt.alloc(), *command, 0),
-            reads_in_turn(rt.alloc(), *command, 1),
-            reads_in_turn(rt.alloc(), *command, 2),
-        );
-        let wanted = (Some(*first), Some(*second), Some(*third));
-        assert_eq!(rt; counts, wanted, "{command:?}");
-    }
-}
-
-/// An output has room for so many bytes.
-fn with_room(output: usize, room: usize) -> Plan {
-    Plan {
-        output,
-        room,
-        ..FINE
-    }
-}
-
-/// Whether a command looks for a certificate, which takes much longer than all else here.
-fn searches(command: Command) -> bool {
-    matches!(
-        command,
-        Command::Declare | Command::Guess | Command::GuessOrExplain | Command::Stuck
-    )
-}
-
-/// Whether with room for ever more bytes of a text just as many of them go out, with an answer that
-/// says that a write failed, until there is room for all. Where the command searches, every ninth room
-/// is tried.
-fn writes_in_turn(heap: Global, command: Command, output: usize, text: &[u8]) -> bool {
-    for room in 0..text.len() {
-        if searches(command) && room % 9 != 0 {
-            continue;
-        }
-        let left = left_by(heap, heap, command, &with_room(output, room));
-        let told = left.answer == Err(Fault::Device(DeviceFault::Write));
-        if !told || left.out.bytes() != &text[..room] {
-            return false;
-        }
-    }
-    let whole = left_by(heap, heap, command, &with_room(output, text.len()));
-    whole.answer.is_ok() && whole.out.bytes() == text
-}
-
-/// The tape of the halt, with its whole leader and trailer.
+/// What goes out of the halt and of the program that prints and punches a letter.
 const TAPE: &[u8] =
     b"\x80\x80\x80\x80\x80\x80\x80\x80\x80\x80\x80\x80\x80\x80\x80\x80\x42\x00\x3c\x02\x02\x00\
     \x80\x80\x80\x80\x80\x80\x80\x80\x80\x80\x80\x80\x80\x80\x80\x80";
@@ -339,36 +271,80 @@ const REASON: &[u8] = b"no: V13 at 0200\n0200 7402 HLT\nV13 asks: a HLT is at a 
 
 const PROPOSED: &[u8] = b"start 0200\nmain 0200\nstop 0200 / HLT\n";
 
-/// The certificate of the halt in version 2.
 const MIGRATED: &[u8] =
     b"PDP8-CERTIFICATE 2\nfact 0200 ac 0000-7777 mq 0000-7777 link 01 offsets -\nend\n";
 
-/// Commands, the number of an output, and what goes there.
-const TEXTS: [(Command, usize, &[u8]); 16] = [
-    (Command::Assemble, 0, TAPE),
-    (Command::List, 0, LISTING),
-    (Command::Dump, 0, b"0200 7402 HLT\n"),
-    (Command::Run, 0, SUMMARY),
-    (Command::Trace, 0, TRACED),
-    (Command::Events, 0, SUMMARY),
-    (Command::Session, 0, REPORTED),
-    (Command::Session, 1, b"A"),
-    (Command::Session, 2, b"\xc1"),
-    (Command::Watch, 0, b"clean\n"),
-    (Command::Check, 0, VERDICT),
-    (Command::Explain, 0, REASON),
-    (Command::Declare, 0, PROPOSED),
-    (Command::Guess, 0, HALT_CERTIFICATE),
-    (Command::GuessOrExplain, 0, HALT_CERTIFICATE),
-    (Command::Migrate, 0, MIGRATED),
+/// Commands, how many reads of each input they make, and what goes to their first output. A tape is read up to the first
+/// frame of its trailer, a text until its end was told.
+const COMMANDS: [(Command, [usize; 3], &[u8]); 15] = [
+    (Command::Assemble, [6, 7, 0], TAPE),
+    (Command::List, [6, 7, 0], LISTING),
+    (Command::Dump, [11, 0, 0], b"0200 7402 HLT\n"),
+    (Command::Run, [11, 0, 0], SUMMARY),
+    (Command::Trace, [11, 0, 0], TRACED),
+    (Command::Events, [11, 6, 0], SUMMARY),
+    (Command::Session, [17, 3, 2], REPORTED),
+    (Command::Watch, [11, 29, 6], b"clean\n"),
+    (Command::Check, [11, 29, 65], VERDICT),
+    (Command::Explain, [11, 20, 65], REASON),
+    (Command::Declare, [11, 0, 0], PROPOSED),
+    (Command::Guess, [11, 29, 0], HALT_CERTIFICATE),
+    (Command::GuessOrExplain, [11, 29, 0], HALT_CERTIFICATE),
+    (Command::Stuck, [11, 20, 0], b""),
+    (Command::Migrate, [65, 0, 0], MIGRATED),
 ];
 
 #[test]
-fn each_write_that_fails_leaves_a_front(rt: HostRuntime) {
-    for (command, output, text) in &TEXTS {
-        let told = writes_in_turn(rt.alloc(), *command, *output, text);
-        assert!(rt; told, "{command:?}, output {output}");
+fn each_read_that_fails_is_told(rt: HostRuntime) {
+    for (command, reads, _) in &COMMANDS {
+        for (input, count) in reads.iter().enumerate() {
+            let told = reads_in_turn(rt.alloc(), *command, input);
+            assert!(rt; told == Some(*count), "{command:?}, input {input}");
+        }
     }
+}
+
+/// An output has room for so many bytes.
+fn with_room(output: usize, room: usize) -> Plan {
+    Plan {
+        output,
+        room,
+        ..FINE
+    }
+}
+
+/// Whether with room for ever more bytes of a text just as many of them go out, with an answer that
+/// says that a write failed, until there is room for all. Where the command looks for a certificate,
+/// which takes longer than all else here, every ninth room is tried.
+fn writes_in_turn(heap: Global, command: Command, output: usize, text: &[u8]) -> bool {
+    let searches = matches!(
+        command,
+        Command::Declare | Command::Guess | Command::GuessOrExplain
+    );
+    for room in 0..text.len() {
+        if searches && room % 9 != 0 {
+            continue;
+        }
+        let left = left_by(heap, heap, command, &with_room(output, room));
+        let told = left.answer == Err(Fault::Device(DeviceFault::Write));
+        if !told || left.out.bytes() != &text[..room] {
+            return false;
+        }
+    }
+    let whole = left_by(heap, heap, command, &with_room(output, text.len()));
+    whole.answer.is_ok() && whole.out.bytes() == text
+}
+
+#[test]
+fn each_write_that_fails_leaves_a_front(rt: HostRuntime) {
+    for (command, _, text) in &COMMANDS {
+        assert!(rt;
+            writes_in_turn(rt.alloc(), *command, 0, text),
+            "{command:?}"
+        );
+    }
+    assert!(rt; writes_in_turn(rt.alloc(), Command::Session, 1, b"A"));
+    assert!(rt; writes_in_turn(rt.alloc(), Command::Session, 2, b"\xc1"));
 }
 
 /// Whether each request for memory that is refused is answered so, with a front of a text at most, and
@@ -391,10 +367,14 @@ fn memory_in_turn(heap: Global, command: Command, output: usize, text: &[u8]) ->
 
 #[test]
 fn each_refusal_of_memory_is_told(rt: HostRuntime) {
-    for (command, output, text) in &TEXTS {
-        let told = memory_in_turn(rt.alloc(), *command, *output, text);
-        assert!(rt; told, "{command:?}, output {output}");
+    for (command, _, text) in &COMMANDS {
+        assert!(rt;
+            memory_in_turn(rt.alloc(), *command, 0, text),
+            "{command:?}"
+        );
     }
+    assert!(rt; memory_in_turn(rt.alloc(), Command::Session, 1, b"A"));
+    assert!(rt; memory_in_turn(rt.alloc(), Command::Session, 2, b"\xc1"));
 }
 
 /// What is reported of a search that is stuck.

@@ -16,6 +16,13 @@ pub static HELLO_WORDS: [u16; 26] = [
     0o0314, 0o0317,
 ];
 
+/// The tape, between a leader and a trailer; its checksum is 2177.
+pub static HELLO_TAPE: &[u8; 88] = b"\
+    \x80\x80\x80\x80\x80\x80\x80\x80\x80\x80\x80\x80\x80\x80\x80\x80\x42\x00\x3b\x00\x30\x26\
+    \x0a\x12\x18\x08\x0a\x13\x1a\x14\x0c\x08\x22\x0c\x12\x14\x2a\x06\x3c\x02\x2a\x00\x00\x00\
+    \x30\x21\x2a\x0d\x30\x26\x3a\x00\x2e\x0c\x02\x14\x3f\x3b\x00\x00\x03\x08\x03\x05\x03\x0c\
+    \x03\x0c\x03\x0f\x11\x3f\x80\x80\x80\x80\x80\x80\x80\x80\x80\x80\x80\x80\x80\x80\x80\x80";
+
 /// What it prints: 0000 and then HELLO.
 pub static PRINTED: [u8; 6] = [0o000, 0o310, 0o305, 0o314, 0o314, 0o317];
 
@@ -68,20 +75,6 @@ pub fn image(words: &[u16]) -> Image {
         address = address.increment();
     }
     image
-}
-
-/// The tape, between a leader and a trailer; its checksum is 2177.
-pub fn hello_tape() -> [u8; 88] {
-    let mut tape = [0o200; 88];
-    tape[16] = 0o102;
-    tape[17] = 0o000;
-    for (at, value) in HELLO_WORDS.iter().enumerate() {
-        tape[18 + 2 * at] = (*value / 64 % 64) as u8;
-        tape[19 + 2 * at] = (*value % 64) as u8;
-    }
-    tape[70] = 0o021;
-    tape[71] = 0o077;
-    tape
 }
 
 /// Rounds of a step, the printer's completion and the punch's, by which the program comes to its halt.

@@ -6,11 +6,10 @@ use crate::desk::{ROOMY, Rooms, run_program};
 const WRITE_FAULT: &[u8] = b"pdp8: device: WriteFault\n";
 
 /// Words with a file of which a read fails after some bytes.
-const FAILING_READS: [&str; 22] = [
+const FAILING_READS: [&str; 21] = [
     "pdp8 run failing.bin",
     "pdp8 run failing.bin --events step.ev",
     "pdp8 run halt.bin --events failing.ev",
-    "pdp8 run failing.bin --trace",
     "pdp8 run failing.bin --teletype",
     "pdp8 run letter.bin --reader failing.tape --punch o",
     "pdp8 run letter.bin --keys failing.ev --mark --teletype",
@@ -45,66 +44,49 @@ fn a_read_that_fails_is_told(rt: HostRuntime) {
     }
 }
 
-/// Words by which something goes to a file.
-const TO_FILES: [&str; 6] = [
-    "pdp8 assemble o halt.pal",
-    "pdp8 declare halt.bin o",
-    "pdp8 guess halt.bin halt.dcl o",
-    "pdp8 guess halt.bin halt.dcl o --why",
-    "pdp8 migrate halt.cert o",
-    "pdp8 run letter.bin --punch o",
-];
-
-#[test]
-fn a_write_to_a_file_that_fails_is_told(rt: HostRuntime) {
-    for words in &TO_FILES {
-        let whole = run_program(rt.alloc(), words, ROOMY);
-        assert!(rt; whole.status == 0 && whole.told.is_empty(), "{words}");
-        for eighth in 0..8usize {
-            let written = whole.written.len().saturating_mul(eighth) / 8;
-            let end = run_program(rt.alloc(), words, Rooms { written, ..ROOMY });
-            assert!(rt;
-                end.status == 3 && end.told.as_slice() == WRITE_FAULT,
-                "{words}"
-            );
-            assert!(rt; whole.written.starts_with(&end.written), "{words}");
-        }
-    }
-}
-
-/// Words by which something is printed, and the status where all of it is.
-const PRINTING: [(&str, u8); 16] = [
+/// Words by which something is printed or goes to a file, and the status where all of it goes out.
+const WRITING: [(&str, u8); 21] = [
     ("pdp8 run halt.bin", 0),
     ("pdp8 run halt.bin --trace", 0),
     ("pdp8 run halt.bin --events step.ev", 0),
     ("pdp8 run letter.bin --punch o", 0),
-    ("pdp8 run letter.bin --teletype", 0),
+    ("pdp8 run letter.bin --punch o --teletype", 0),
     ("pdp8 dump halt.bin", 0),
+    ("pdp8 assemble o halt.pal", 0),
     ("pdp8 assemble - halt.pal", 0),
     ("pdp8 list -", 0),
     ("pdp8 watch halt.bin halt.dcl step.ev", 0),
     ("pdp8 watch halt.bin wild.dcl step.ev", 1),
     ("pdp8 check halt.bin halt.dcl halt.cert", 0),
     ("pdp8 check halt.bin wild.dcl halt.cert --why", 1),
+    ("pdp8 declare halt.bin o", 0),
     ("pdp8 declare halt.bin -", 0),
+    ("pdp8 guess halt.bin halt.dcl o", 0),
+    ("pdp8 guess halt.bin halt.dcl o --why", 0),
     ("pdp8 guess halt.bin halt.dcl -", 0),
+    ("pdp8 migrate halt.cert o", 0),
     ("pdp8 migrate halt.cert -", 0),
     ("pdp8 --version", 0),
 ];
 
 #[test]
-fn an_output_that_fails_is_told(rt: HostRuntime) {
-    for (words, status) in &PRINTING {
+fn a_write_that_fails_is_told(rt: HostRuntime) {
+    for (words, status) in &WRITING {
         let whole = run_program(rt.alloc(), words, ROOMY);
         assert_eq!(rt; whole.status, *status, "{words}");
         for eighth in 0..8usize {
-            let printed = whole.printed.len().saturating_mul(eighth) / 8;
-            let end = run_program(rt.alloc(), words, Rooms { printed, ..ROOMY });
+            let rooms = Rooms {
+                printed: whole.printed.len().saturating_mul(eighth) / 8,
+                written: whole.written.len().saturating_mul(eighth) / 8,
+                ..ROOMY
+            };
+            let end = run_program(rt.alloc(), words, rooms);
             assert!(rt;
                 end.status == 3 && end.told.as_slice() == WRITE_FAULT,
                 "{words}"
             );
             assert!(rt; whole.printed.starts_with(&end.printed), "{words}");
+            assert!(rt; whole.written.starts_with(&end.written), "{words}");
         }
     }
 }

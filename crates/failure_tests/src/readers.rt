@@ -1,6 +1,6 @@
 //! Tapes and certificates that come in pieces, from readers that fail, and from readers that never end.
 
-use crate::fixtures::{HELLO_CERTIFICATE, HELLO_WORDS, hello_tape, image};
+use crate::fixtures::{HELLO_CERTIFICATE, HELLO_TAPE, HELLO_WORDS, image};
 use bin_tape::{ByteSource, Failed, TapeFault, read_from, read_tape};
 use certificate::{Certificate, CertificateFault};
 use std::alloc::Global;
@@ -24,16 +24,15 @@ fn are_told(frames: &[u8], wanted: Option<TapeFault>) -> bool {
 
 #[test]
 fn a_tape_that_is_cut_anywhere_is_told(rt: HostRuntime) {
-    let tape = hello_tape();
     for count in 0..=88usize {
         let wanted = match count {
             0..=16 => Some(TapeFault::NoWord),
             17..=72 => Some(TapeFault::Truncated),
             _ => None,
         };
-        assert!(rt; are_told(&tape[..count], wanted), "{count}");
+        assert!(rt; are_told(&HELLO_TAPE[..count], wanted), "{count}");
     }
-    assert!(rt; read_tape(&tape) == Ok(image(&HELLO_WORDS)));
+    assert!(rt; read_tape(HELLO_TAPE) == Ok(image(&HELLO_WORDS)));
     let long = [0o200; 65_537];
     assert!(rt; are_told(&long, Some(TapeFault::TooLong)));
     assert!(rt; are_told(&long[..65_536], Some(TapeFault::NoWord)));
@@ -41,9 +40,10 @@ fn a_tape_that_is_cut_anywhere_is_told(rt: HostRuntime) {
 
 #[test]
 fn a_read_of_a_tape_that_fails_is_told(rt: HostRuntime) {
-    let tape = hello_tape();
     for reads in 0..73usize {
-        let mut source = MemorySource::new(&tape).in_pieces(1).failing_after(reads);
+        let mut source = MemorySource::new(HELLO_TAPE)
+            .in_pieces(1)
+            .failing_after(reads);
         assert!(rt;
             read_from(&mut source) == Err(TapeFault::ReadFault),
             "{reads}"
@@ -51,7 +51,7 @@ fn a_read_of_a_tape_that_fails_is_told(rt: HostRuntime) {
         assert!(rt; source.failed());
     }
     // The 73rd frame begins the trailer, so the 74th isn't read.
-    let mut source = MemorySource::new(&tape).in_pieces(1).failing_after(73);
+    let mut source = MemorySource::new(HELLO_TAPE).in_pieces(1).failing_after(73);
     assert!(rt; read_from(&mut source).is_ok());
     assert!(rt; !source.failed());
 }

@@ -2,7 +2,7 @@
 //! a refusal. Each refusal is told, and nothing else is told in its place.
 
 use crate::fixtures::{
-    HELLO, HELLO_CERTIFICATE, HELLO_DECLARED, HELLO_WORDS, PRINTED, hello_tape, image, rounds,
+    HELLO, HELLO_CERTIFICATE, HELLO_DECLARED, HELLO_TAPE, HELLO_WORDS, PRINTED, image, rounds,
 };
 use analyser::{GuessFault, guess};
 use certificate::{Certificate, CertificateFault};
@@ -13,10 +13,8 @@ use pal_asm::{AssembleFault, assemble};
 use pal_text::{StatementFault, TextFault, statements};
 use peripherals::{EventsFault, Start, events};
 use policy::{Watched, watch};
-use std::alloc::{AllocError, Allocator, Global};
-use std::test::Fail;
+use std::alloc::{Allocator, Global};
 use testing::{MemorySource, Refusing};
-use word12::Word;
 
 /// A call.
 #[derive(Clone, Copy)]
@@ -57,10 +55,6 @@ fn told<F: PartialEq + Copy>(fault: Option<F>, no_memory: F) -> Answer {
     }
 }
 
-fn certification<A: Allocator + Copy>(alloc: A) -> Option<CertifyFault> {
-    certify(alloc, &hello_tape(), HELLO_DECLARED, HELLO_CERTIFICATE).err()
-}
-
 fn fault_in_pieces<A: Allocator + Copy>(alloc: A, text: &[u8]) -> Option<CertificateFault> {
     let mut source = MemorySource::new(text).in_pieces(7);
     Certificate::read_from(alloc, &mut source).err()
@@ -78,13 +72,8 @@ fn watch_answer<A: Allocator + Copy>(alloc: A, heap: Global) -> Answer {
     let Ok(declared) = Declaration::parse(heap, HELLO_DECLARED) else {
         return Answer::Fault;
     };
-    match watch(
-        alloc,
-        &image(&HELLO_WORDS),
-        &declared,
-        &Start::zero(),
-        &rounds(),
-    ) {
+    let tape = image(&HELLO_WORDS);
+    match watch(alloc, &tape, &declared, &Start::zero(), &rounds()) {
         Ok(Watched::Clean) => Answer::Done,
         Ok(_) => Answer::Fault,
         Err(_) => Answer::NoMemory,
@@ -92,7 +81,7 @@ fn watch_answer<A: Allocator + Copy>(alloc: A, heap: Global) -> Answer {
 }
 
 fn run_answer<A: Allocator + Copy>(alloc: A, heap: Global) -> Answer {
-    let Ok(certified) = certify(heap, &hello_tape(), HELLO_DECLARED, HELLO_CERTIFICATE) else {
+    let Ok(certified) = certify(heap, HELLO_TAPE, HELLO_DECLARED, HELLO_CERTIFICATE) else {
         return Answer::Fault;
     };
     let Ok(world) = certified.run(alloc, &Start::zero(), &rounds()) else {
@@ -120,7 +109,10 @@ fn answer_of<A: Allocator + Copy>(alloc: A, heap: Global, call: &Call<'_>) -> An
         ),
         Call::Certificate(text) => told(Certificate::parse(alloc, text).err(), no_lines),
         Call::Pieces(text) => told(fault_in_pieces(alloc, text), no_lines),
-        Call::Certification => told(certification(alloc), CertifyFault::NoMemory),
+        Call::Certification => told(
+            certify(alloc, HELLO_TAPE, HELLO_DECLARED, HELLO_CERTIFICATE).err(),
+            CertifyFault::NoMemory,
+        ),
         Call::Guess => guess_answer(alloc, heap),
         Call::Watch => watch_answer(alloc, heap),
         Call::Run => run_answer(alloc, heap),
@@ -143,11 +135,17 @@ fn in_turn(heap: Global, call: &Call<'_>) -> (u64, Answer) {
     (0, Answer::Untold)
 }
 
-/// A text of events.
+/// A text of events, a source with numbers of both kinds, and one of a hundred symbols.
 const EVENTS: &[u8] = b"step 2\nkey 301\nstep 1000\nswitches 17\nstep 5000";
 
-/// A source with numbers of both kinds.
 const NUMBERS: &[u8] = b"DECIMAL;-10;OCTAL;10;300 5;1 2+1;$";
+
+const SYMBOLS: &[u8] =
+    b"AA=1;AB=1;AC=1;AD=1;AE=1;AF=1;AG=1;AH=1;AJ=1;AK=1\nBA=1;BB=1;BC=1;BD=1;BE=1;BF=1;BG=1;BH=1;BJ=1;BK=1\n\
+    CA=1;CB=1;CC=1;CD=1;CE=1;CF=1;CG=1;CH=1;CJ=1;CK=1\nDA=1;DB=1;DC=1;DD=1;DE=1;DF=1;DG=1;DH=1;DJ=1;DK=1\n\
+    EA=1;EB=1;EC=1;ED=1;EE=1;EF=1;EG=1;EH=1;EJ=1;EK=1\nFA=1;FB=1;FC=1;FD=1;FE=1;FF=1;FG=1;FH=1;FJ=1;FK=1\n\
+    GA=1;GB=1;GC=1;GD=1;GE=1;GF=1;GG=1;GH=1;GJ=1;GK=1\nHA=1;HB=1;HC=1;HD=1;HE=1;HF=1;HG=1;HH=1;HJ=1;HK=1\n\
+    JA=1;JB=1;JC=1;JD=1;JE=1;JF=1;JG=1;JH=1;JJ=1;JK=1\nKA=1;KB=1;KC=1;KD=1;KE=1;KF=1;KG=1;KH=1;KJ=1;KK=1\n";
 
 /// Lines that end by a return with the eighth channel, by a rubout and by a line feed.
 const LINE_ENDS: &[u8] = b"*200\x8d\xff\x8aHLT\x8d\xff\x8a$\x8d\xff\x8a";
@@ -162,7 +160,6 @@ const SUBS: &[u8] =
 const DONE: [(Call<'static>, u64); 17] = [
     (Call::Events(EVENTS), 3),
     (Call::Statements(b"*10;TAD 20;$"), 1),
-    (Call::Statements(NUMBERS), 1),
     (Call::Statements(b"A=5\nPAUSE\n"), 1),
     (Call::Statements(b"TA\xffD"), 1),
     (Call::Statements(HELLO), 1),
@@ -171,6 +168,7 @@ const DONE: [(Call<'static>, u64); 17] = [
     (Call::Source(&[HELLO]), 2),
     (Call::Source(&[b"*200\x8dHLT\x8d$\x8d"]), 2),
     (Call::Source(&[LINE_ENDS]), 2),
+    (Call::Source(&[SYMBOLS]), 2),
     (Call::Declaration(SUBS), 1),
     (Call::Certificate(HELLO_CERTIFICATE), 1),
     (Call::Pieces(HELLO_CERTIFICATE), 1),
@@ -241,28 +239,4 @@ fn nothing_is_asked_for_that_is_not_kept(rt: HostRuntime) {
         let told = in_turn(rt.alloc(), call);
         assert!(rt; told == (*count, *wanted), "row {row}");
     }
-}
-
-/// 1,024 assignments, and then a line.
-fn too_many_symbols<A: Allocator>(alloc: A, last: &[u8]) -> Result<Vec<u8, A>, AllocError> {
-    let mut source = Vec::new(alloc);
-    for number in 0..1024u16 {
-        let digits = Word::new(number).unwrap_or(Word::ZERO).to_octal();
-        source.extend_from_slice(b"A")?;
-        source.extend_from_slice(&digits)?;
-        source.extend_from_slice(b"=1\n")?;
-    }
-    source.extend_from_slice(last)?;
-    Ok(source)
-}
-
-#[test]
-fn each_refusal_for_a_full_table_is_told(rt: HostRuntime) -> Result<(), Fail> {
-    for (last, wanted) in [(b"B=1\n".as_slice(), Answer::Fault), (b"$\n", Answer::Done)] {
-        let source = too_many_symbols(rt.alloc(), last)?;
-        let parts: [&[u8]; 1] = [&source];
-        let (count, answer) = in_turn(rt.alloc(), &Call::Source(&parts));
-        assert!(rt; answer == wanted && count > 1);
-    }
-    Ok(())
 }

@@ -1,6 +1,6 @@
 //! Tapes, certificates and listings that go out to writers with room for so many bytes, or for none.
 
-use crate::fixtures::{HELLO_CERTIFICATE, HELLO_WORDS, hello_tape, image};
+use crate::fixtures::{HELLO_CERTIFICATE, HELLO_TAPE, HELLO_WORDS, image};
 use bin_tape::{ByteSink, Failed, WriteTapeFault, write_tape};
 use certificate::{Certificate, WriteFault};
 use instruct::Profile;
@@ -35,18 +35,18 @@ impl ByteSink for Full {
 
 #[test]
 fn a_front_of_a_tape_goes_out(rt: HostRuntime) {
-    let (tape, image) = (hello_tape(), image(&HELLO_WORDS));
+    let image = image(&HELLO_WORDS);
     for room in 0..88usize {
         let mut sink = MemorySink::new(rt.alloc(), room);
         assert!(rt;
             write_tape(&image, &mut sink) == Err(WriteTapeFault::WriteFault),
             "{room}"
         );
-        assert!(rt; sink.bytes() == &tape[..room], "{room}");
+        assert!(rt; sink.bytes() == &HELLO_TAPE[..room], "{room}");
     }
     let mut sink = MemorySink::new(rt.alloc(), 88);
     assert!(rt; write_tape(&image, &mut sink) == Ok(()));
-    assert!(rt; sink.bytes() == tape.as_slice());
+    assert!(rt; sink.bytes() == HELLO_TAPE.as_slice());
     let mut full = Full { failed: false };
     assert!(rt; write_tape(&image, &mut full) == Err(WriteTapeFault::WriteFault));
 }

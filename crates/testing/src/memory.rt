@@ -36,7 +36,7 @@ impl<'a> MemorySource<'a> {
     }
 
     /// Gives at most so many bytes in each read.
-    pub fn in_pieces(self, piece: usize) -> MemorySource<'a>
+    pub fn in_pieces(mut self, piece: usize) -> MemorySource<'a>
         requires { 0 < piece }
         ensures piece { result.piece ≡ piece }
         ensures reads { result.reads ≡ self.entry.reads }
@@ -44,30 +44,20 @@ impl<'a> MemorySource<'a> {
         ensures mark { result.failed ≡ self.entry.failed }
         ensures ended { result.ended ≡ self.entry.ended }
     {
-        MemorySource {
-            rest: self.rest,
-            piece,
-            reads: self.reads,
-            failed: self.failed,
-            ended: self.ended,
-        }
+        self.piece = piece;
+        self
     }
 
     /// Fails at each read after so many.
-    pub fn failing_after(self, reads: usize) -> MemorySource<'a>
+    pub fn failing_after(mut self, reads: usize) -> MemorySource<'a>
         ensures piece { result.piece ≡ self.entry.piece }
         ensures reads { result.reads ≡ reads }
         ensures bytes { result.rest ≡ self.entry.rest }
         ensures mark { result.failed ≡ self.entry.failed }
         ensures ended { result.ended ≡ self.entry.ended }
     {
-        MemorySource {
-            rest: self.rest,
-            piece: self.piece,
-            reads,
-            failed: self.failed,
-            ended: self.ended,
-        }
+        self.reads = reads;
+        self
     }
 
     /// The bytes still to give.

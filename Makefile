@@ -13,7 +13,7 @@ DIST = pdp8-workbench-$(VERSION)
 
 # Says what there is.
 help:
-	@echo "make try       the first look: builds pdp8 without any proof and runs it on a stored tape (half a minute)"
+	@echo "make try       the first look: builds pdp8 without any proof and runs it on a stored tape (a minute)"
 	@echo "make run       proves pdp8 and all below it, builds it and runs it on that tape (see README.md for times)"
 	@echo "make test      the gate: every proof from nothing, wrong edits, tests, all cases"
 	@echo "make cases     the cases of tests/cases/, README.md and docs/ against the program that is built"
@@ -27,13 +27,13 @@ help:
 
 # Builds and runs the program without any proof.
 try:
-	@echo "Building pdp8 without any proof. This takes half a minute."
+	@echo "Building pdp8 without any proof. This takes a minute."
 	cd crates/pdp8 && rt try < stdin
 	@echo "Nothing was proved. make run proves the program before it runs it."
 
-# Proves the program and all below it side by side, builds it, and runs it on the stored tape.
+# Proves the program and all crates below it, side by side, builds it, and runs it on the stored tape.
 run:
-	@echo "Proving pdp8 and all below it. README.md says how long that takes from nothing; where nothing has changed it takes seconds."
+	@echo "Proving pdp8 and all below it. From nothing this takes up to an hour, and half a minute where nothing has changed."
 	python3 tests/prove.py
 
 # The gate: the page of definitions, the links and lengths of pages, whether each edit applies and that there aren't too many;

@@ -6,12 +6,12 @@ What isn't installed is named, and its comparisons are left out. SIMH and palbar
 usage: tests/compare.py [PDP8]    PDP8 is the built program; without it crates/pdp8/out/pdp8. Exit status 1 where anything differs
 """
 import os
-import shutil
 import subprocess
 import sys
 
 TOP = os.path.join(os.path.dirname(os.path.abspath(__file__)), '..')
-SIMH, PALBART = ('pdp8', 'the package simh'), ('palbart', 'the package palbart')
+# The variable that names each program, where it stands otherwise, and the package that has it.
+SIMH, PALBART = ('SIMH', '/usr/bin/pdp8', 'the package simh'), ('PALBART', '/usr/bin/palbart', 'the package palbart')
 # Each script, what it compares, and the programs that it needs.
 COMPARISONS = [
     ('assembler.sh', 'sources by chance with reference/', []),
@@ -26,11 +26,9 @@ COMPARISONS = [
 ]
 
 
-def is_missing(program):
-    """Whether a program isn't installed. SIMH's has the name of ours, so ours is left out of the path."""
-    ours = os.path.realpath(os.path.join(TOP, 'crates', 'pdp8', 'out'))
-    path = os.pathsep.join(it for it in os.environ['PATH'].split(os.pathsep) if os.path.realpath(it) != ours)
-    return not (shutil.which(program, path=path) or shutil.which(program, path='/usr/bin:/usr/lib/simh:/usr/lib/x86_64-linux-gnu/simh'))
+def is_missing(variable, path):
+    """Whether a program isn't there. SIMH's has the name of ours; the scripts see which of the two it is."""
+    return not os.access(os.environ.get(variable, path), os.X_OK)
 
 
 def main():
@@ -39,7 +37,7 @@ def main():
         sys.exit(f'{program} is not built: make run')
     failed = []
     for script, what, needed in COMPARISONS:
-        missing = [package for name, package in needed if is_missing(name)]
+        missing = [package for variable, path, package in needed if is_missing(variable, path)]
         if missing:
             print(f'{script}: left out, as {" and ".join(missing)} is missing ({what})', flush=True)
             continue

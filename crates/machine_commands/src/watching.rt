@@ -16,7 +16,7 @@ use std::alloc::{AllocError, Allocator};
 use streams::{ByteSink, ByteSource, put};
 
 /// The line for a broken rule.
-fn broken_line<A: Allocator>(alloc: A, event: usize, rule: Rule) -> Result<Vec<u8, A>, AllocError>
+pub(crate) fn broken_line<A: Allocator>(alloc: A, event: usize, rule: Rule) -> Result<Vec<u8, A>, AllocError>
     ensures { IfOk result (λ text. text.items ≡ broken_text event rule) }
 {
     let mut text = Vec::new(alloc);

@@ -127,6 +127,8 @@ pub enum Request<'a> {
         declaration: &'a str,
         /// The name of the file of events.
         events: &'a str,
+        /// Whether it is said what breaks a rule.
+        explained: bool,
     },
     /// To look for a run that breaks a declaration.
     Refute {
@@ -348,6 +350,13 @@ fn migrate_command<'a>(alloc: Global) -> Result<Command<'a>, AllocError> {
         .arg(certificate_out_word(alloc))
 }
 
+fn breach_word<'a>(alloc: Global) -> Arg<'a> {
+    Arg::new(alloc, "why")
+        .long("why")
+        .action(ArgAction::SetTrue)
+        .help("where a rule is broken, writes what the step is about to do")
+}
+
 fn watch_command<'a>(alloc: Global) -> Result<Command<'a>, AllocError> {
     let events = Arg::new(alloc, "EVENTS")
         .required(true)
@@ -357,7 +366,8 @@ fn watch_command<'a>(alloc: Global) -> Result<Command<'a>, AllocError> {
         .after_help("Example:\n  pdp8 watch hello.bin hello.declaration hello.events")
         .arg(tape_word(alloc))?
         .arg(declaration_word(alloc))?
-        .arg(events)
+        .arg(events)?
+        .arg(breach_word(alloc))
 }
 
 fn refute_command<'a>(alloc: Global) -> Result<Command<'a>, AllocError> {
@@ -381,7 +391,8 @@ fn refute_command<'a>(alloc: Global) -> Result<Command<'a>, AllocError> {
         .arg(declaration_word(alloc))?
         .arg(out)?
         .arg(steps)?
-        .arg(seed)
+        .arg(seed)?
+        .arg(breach_word(alloc))
 }
 
 fn command<'a>(alloc: Global) -> Result<Command<'a>, AllocError> {
@@ -490,6 +501,7 @@ fn watch_request<'a>(found: &ArgMatches<'a>) -> Result<Request<'a>, Refused> {
         tape,
         declaration,
         events,
+        explained: found.get_flag("why"),
     })
 }
 
@@ -540,15 +552,20 @@ fn refute_options(found: &ArgMatches<'_>) -> Result<RefuteOptions, Refused> {
     let steps = match found.get_str("steps") {
         None => SEARCH_STEPS,
         Some(text) => {
-            decimal_between(1, MOST_SEARCH_STEPS, text.as_bytes())
-                .ok_or(Refused::Steps(MOST_SEARCH_STEPS))?
+            decimal_between(1, MOST_SEARCH_STEPS, text.as_bytes()).ok_or(Refused::Steps(
+                MOST_SEARCH_STEPS,
+            ))?
         }
     };
     let seed = match found.get_str("seed") {
         None => SEED,
         Some(text) => decimal_between(0, MOST_SEED, text.as_bytes()).ok_or(Refused::Seed)?,
     };
-    Ok(RefuteOptions { steps, seed })
+    Ok(RefuteOptions {
+        steps,
+        seed,
+        explained: found.get_flag("why"),
+    })
 }
 
 fn refute_request<'a>(found: &ArgMatches<'a>) -> Result<Request<'a>, Refused> {

@@ -5,14 +5,16 @@ ghost use Rattle.command_parts.specs.Faults.{IsRefuteFault, is_fault_of_tape, fa
 ghost use Rattle.command_parts.specs.Inputs.{IsGoodTape, TakesAtMost, TakesTape, input};
 ghost use Rattle.command_parts.specs.Writes.{FrontOf, Writes, WritesNothingOr};
 ghost use Rattle.command_parts.specs.declared.status.Status.TheVariants.{Done, Refused};
-ghost use Rattle.machine_commands.specs.RefuteText.{IsLineOfWitness, IsWitnessText, WritesWitness, unbroken_text};
+ghost use Rattle.machine_commands.specs.RefuteText.{IsToldOfWitness, IsWitnessText, WritesWitness, unbroken_text};
 
+use crate::breach::breach_lines;
 use crate::watching::broken_line;
 use command_parts::inputs::{declaration_from, tape_from};
 use command_parts::status::{Fault, Status};
 use itoa::Buffer;
 pub use options::RefuteOptions;
-use refuter::refute_within;
+use policy::Watched;
+use refuter::{Witness, refute_within};
 use std::alloc::{AllocError, Allocator};
 use streams::{ByteSink, ByteSource, put};
 use turns::Turns;
@@ -30,8 +32,9 @@ fn unbroken_line<A: Allocator>(alloc: A, steps: u32) -> Result<Vec<u8, A>, Alloc
 
 /// Looks for a run of a tape's program that breaks its declaration, and writes it: to `out` the text
 /// of its events, of which the last one breaks a rule, and to `report` the line that `watch` writes
-/// of them; the status is `Refused` then. Where none is found in so many steps, `report` says so, and
-/// nothing goes to `out`; that one is found where there is one isn't promised.
+/// of them; the status is `Refused` then. Where it is to be explained, lines follow that say what that
+/// step is about to do, which are tested and not proved. Where none is found in so many steps, `report`
+/// says so, and nothing goes to `out`; that one is found where there is one isn't promised.
 ///
 /// # Errors
 ///
@@ -54,7 +57,7 @@ pub fn refute<A: Allocator + Copy, R: ByteSource, D: ByteSource, W: ByteSink, P:
     ensures statuses { IfOk result (λ status. (status ≡ Done) ⊎ (status ≡ Refused)) }
     // What is written is such a run, and the line that tells which event breaks which rule,
     ensures broken { IfOk result (λ status. status ≡ Refused → WritesWitness
-        (R.remaining tape.old) (D.remaining declaration.old)
+        (R.remaining tape.old) (D.remaining declaration.old) options.explained
         (W.taken out.old) (W.taken out.new) (P.taken report.old) (P.taken report.new)) }
     // or the line that says that none was found in so many steps, and nothing else.
     ensures unbroken { IfOk result (λ status. status ≡ Done → Writes
@@ -67,16 +70,16 @@ pub fn refute<A: Allocator + Copy, R: ByteSource, D: ByteSource, W: ByteSink, P:
         (D.remaining declaration.new))) }
     // Where a write of the run failed, a front of one went out, and nothing is reported,
     ensures front { W.mark out.new ≡ true → FrontOf
-        (IsWitnessText (R.remaining tape.old) (D.remaining declaration.old))
+        (IsWitnessText (R.remaining tape.old) (D.remaining declaration.old) options.explained)
         (W.taken out.old) (W.taken out.new) }
     ensures unreported { W.mark out.new ≡ true → report.new ≡ report.old }
     // where a write of the report failed, a front of such a line,
     ensures front_of_report { P.mark report.new ≡ true → FrontOf
-        (IsLineOfWitness (R.remaining tape.old) (D.remaining declaration.old) options)
+        (IsToldOfWitness (R.remaining tape.old) (D.remaining declaration.old) options)
         (P.taken report.old) (P.taken report.new) }
     // behind a whole run where there is one,
     ensures written_first { P.mark report.new ≡ true → WritesNothingOr
-        (IsWitnessText (R.remaining tape.old) (D.remaining declaration.old))
+        (IsWitnessText (R.remaining tape.old) (D.remaining declaration.old) options.explained)
         (W.taken out.old) (W.taken out.new) }
     // and any other fault leaves both as they were.
     ensures nothing { OnErr result (W.mark out.new ≡ false → P.mark report.new ≡ false →
@@ -101,13 +104,36 @@ pub fn refute<A: Allocator + Copy, R: ByteSource, D: ByteSource, W: ByteSink, P:
     let image = tape_from(tape)?;
     let promised = declaration_from(alloc, declaration)?;
     let mut turns = Turns::new(options.steps);
-    let Some(found) = refute_within(alloc, &image, &promised, u64::from(options.seed), &mut turns)? else {
+    let Some(found) = refute_within(
+        alloc,
+        &image,
+        &promised,
+        u64::from(options.seed),
+        &mut turns,
+    )?
+    else {
         let line = unbroken_line(alloc, options.steps)?;
         put(report, &line)?;
         return Ok(Status::Done);
     };
-    let line = broken_line(alloc, found.event, found.rule)?;
-    put(out, &found.text)?;
-    put(report, &line)?;
+    let Witness {
+        events,
+        text,
+        event,
+        rule,
+    } = found;
+    let mut told = broken_line(alloc, event, rule)?;
+    let watched = Watched::Broken { event, rule };
+    let why = breach_lines(
+        alloc,
+        &image,
+        &promised,
+        &events,
+        watched,
+        options.explained,
+    )?;
+    told.extend_from_slice(&why)?;
+    put(out, &text)?;
+    put(report, &told)?;
     Ok(Status::Refused)
 }

@@ -46,4 +46,6 @@ pub struct RefuteOptions {
     pub steps: u32,
     /// Where the random numbers begin: the same seed gives the same answer.
     pub seed: u32,
+    /// It is said what the step is about to do that breaks a rule.
+    pub explained: bool,
 }

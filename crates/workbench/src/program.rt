@@ -136,7 +136,8 @@ fn answer<R: Files + Input + Print + Eprint>(
             tape,
             declaration,
             events,
-        } => watch_from(rt, alloc, tape, declaration, events),
+            explained,
+        } => watch_from(rt, alloc, tape, declaration, events, *explained),
         Request::Check {
             tape,
             declaration,
@@ -216,12 +217,20 @@ fn watch_from<R: Files + Input + Print>(
     tape: &str,
     declaration: &str,
     events: &str,
+    explained: bool,
 ) -> Result<Status, Fault> {
     let mut frames = open_input(rt, tape)?;
     let mut text = open_input(rt, declaration)?;
     let mut list = open_input(rt, events)?;
     let mut out = Writes::new(io::writer(rt));
-    watch(alloc, &mut frames, &mut text, &mut list, &mut out)
+    watch(
+        alloc,
+        &mut frames,
+        &mut text,
+        &mut list,
+        explained,
+        &mut out,
+    )
 }
 
 /// Checks the certificate of a file, and says why the verdict is no where that is asked for.
@@ -290,10 +299,24 @@ fn refute_from<R: Files + Input + Print + Eprint>(
     let mut events = open_output(rt, out)?;
     if out == "-" {
         let mut report = tell_to(rt);
-        return refute(alloc, &mut frames, &mut text, options, &mut events, &mut report);
+        return refute(
+            alloc,
+            &mut frames,
+            &mut text,
+            options,
+            &mut events,
+            &mut report,
+        );
     }
     let mut report = Writes::new(io::writer(rt));
-    refute(alloc, &mut frames, &mut text, options, &mut events, &mut report)
+    refute(
+        alloc,
+        &mut frames,
+        &mut text,
+        options,
+        &mut events,
+        &mut report,
+    )
 }
 
 /// Runs a tape, in rounds or by the events of a file.

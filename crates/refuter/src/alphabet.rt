@@ -21,6 +21,10 @@ const CHANNEL_8: u16 = 0o200;
 pub(crate) struct Alphabet<A: Allocator> {
     bytes: Vec<u16, A>,
     words: Vec<u16, A>,
+    /// Bytes at which failed tests hint.
+    learned: Vec<u16, A>,
+    /// Words for the switches at which failed tests hint.
+    learned_words: Vec<u16, A>,
 }
 
 impl<A: Allocator + Copy> Alphabet<A> {
@@ -30,6 +34,8 @@ impl<A: Allocator + Copy> Alphabet<A> {
         let mut alphabet = Alphabet {
             bytes: Vec::new(alloc),
             words: Vec::new(alloc),
+            learned: Vec::new(alloc),
+            learned_words: Vec::new(alloc),
         };
         for byte in USUAL {
             alphabet.bytes.push(byte).map_err(|_| NoMemory)?;
@@ -62,18 +68,44 @@ impl<A: Allocator + Copy> Alphabet<A> {
         Ok(())
     }
 
-    /// A byte: mostly one that is likely.
-    pub(crate) fn byte(&self, random: &mut Random) -> u16 {
-        if random.once_in(8) {
-            return any_byte(random);
+    /// Forgets all bytes that were learned.
+    pub(crate) fn forget(&mut self) {
+        self.learned.clear();
+    }
+
+    /// Learns a byte.
+    pub(crate) fn learn(&mut self, byte: u16) -> Result<(), NoMemory> {
+        if self.learned.contains(&byte) {
+            return Ok(());
         }
-        random.pick(&self.bytes).unwrap_or(0)
+        self.learned.push(byte).map_err(|_| NoMemory)
+    }
+
+    /// Learns a word for the switches.
+    pub(crate) fn learn_word(&mut self, word: u16) -> Result<(), NoMemory> {
+        if self.learned_words.contains(&word) {
+            return Ok(());
+        }
+        self.learned_words.push(word).map_err(|_| NoMemory)
+    }
+
+    /// A byte: mostly one that was learned, or one of which the tape speaks.
+    pub(crate) fn byte(&self, random: &mut Random) -> u16 {
+        match random.below(8) {
+            0 => any_byte(random),
+            1 | 2 => random.pick(&self.bytes).unwrap_or(0),
+            _ => match random.pick(&self.learned) {
+                Some(byte) => byte,
+                None => random.pick(&self.bytes).unwrap_or(0),
+            },
+        }
     }
 
     /// A word for the switches.
-    pub(crate) fn word(&self, random: &mut Random) -> u16 {
+    fn word(&self, random: &mut Random) -> u16 {
         match random.below(8) {
-            0 | 1 | 2 | 3 => any_word(random),
+            0 | 1 => random.pick(&self.learned_words).unwrap_or(0),
+            2 | 3 => any_word(random),
             4 | 5 => random.pick(&self.words).unwrap_or(0),
             6 => self.byte(random),
             _ => high_bits(random.below(12)),

@@ -1,14 +1,21 @@
 //! Looks for a run that breaks a declaration.
 #![tactic(auto)]
 
+mod aiming;
 mod alphabet;
 mod asking;
+mod bits;
+mod hints;
+mod looks;
 mod pace;
 mod plan;
 mod random;
 mod running;
 mod script;
 mod search;
+mod seen;
+mod tree;
+mod votes;
 
 use crate::script::Script;
 use crate::search::{Program, Search};

@@ -14,11 +14,13 @@ mod running;
 mod script;
 mod search;
 mod seen;
+mod shorten;
 mod tree;
 mod votes;
 
 use crate::script::Script;
 use crate::search::{Program, Search};
+use crate::shorten::shortened;
 use bin_tape::Image;
 use declaration::Declaration;
 use peripherals::{Event, EventsFault, NoMemory, Start, events};
@@ -76,7 +78,8 @@ pub fn refute_within<A: Allocator + Copy, D: Allocator>(
     while turns.spent() < turns.limit() {
         let before = turns.spent();
         if let Some(found) = search.round(&program, turns)? {
-            if let Some(witness) = witness_of(alloc, &program, &found.script)? {
+            let script = shortened(alloc, &mut search, &program, found, turns)?;
+            if let Some(witness) = witness_of(alloc, &program, &script)? {
                 return Ok(Some(witness));
             }
         }

@@ -4,7 +4,7 @@ ghost use Rattle.std.specs.Prelude.{◌≡◌, ℕ, ◌<◌, None, [], IfOk, OnO
 ghost use Rattle.processor.specs.Runs.{Image as Words};
 ghost use Rattle.processor.specs.Machine.{instruction};
 ghost use Rattle.peripherals.specs.declared.Event.{Event};
-ghost use Rattle.peripherals.specs.Events.{Happens};
+ghost use Rattle.peripherals.specs.Events.{Happens, IsLoaded};
 ghost use Rattle.peripherals.specs.Loading.{image_of};
 ghost use Rattle.peripherals.specs.World.{view, profile_of};
 ghost use Rattle.policy.specs.declared.rules.Rule.{Rule};
@@ -104,6 +104,9 @@ impl<A: Allocator> Watcher<A> {
         A: Copy,
         ensures machine { machine_of result
             ≡ begun (image_of image.now) (meaning declaration.now) start.now }
+        // The instruction table's runs begin there.
+        ensures loaded { IsLoaded (image_of image.now) (meaning declaration.now).start
+            (machine_of result) }
         ensures calls { calls_of result ≡ [] }
         ensures profile { profile_of result.world ≡ (meaning declaration.now).profile }
     {

@@ -6,7 +6,7 @@ mod joined;
 mod program;
 
 pub use commands::{
-    assembling, checking, declaring, explaining, guessing, migrating, running, session, status,
-    stuck, watching,
+    assembling, checking, declaring, explaining, guessing, migrating, refuting, running, session,
+    status, stuck, watching,
 };
 pub use program::exit_status;

@@ -12,6 +12,7 @@ use commands::declaring::{DeclareOptions, declare};
 use commands::explaining::explain;
 use commands::guessing::guess;
 use commands::migrating::migrate;
+use commands::refuting::{RefuteOptions, refute};
 use commands::running::{RunOptions, dump, run, run_events};
 use commands::status::{DeviceFault, Fault, Status};
 use commands::stuck::guess_or_explain;
@@ -83,8 +84,11 @@ fn refuse<R: Print + Eprint>(rt: &R, refused: Refused) -> Status {
             "error: '--events' can't stand beside the words for the reader, the punch, the teletype and the switches"
         ),
         Refused::PunchToOutput => eprintln!(rt; "error: '--punch' takes the name of a file"),
-        Refused::Steps => eprintln!(rt;
-            "error: bad value for '--steps': it is a number from 1 to 1000000"
+        Refused::Steps(most) => eprintln!(rt;
+            "error: bad value for '--steps': it is a number from 1 to {most}"
+        ),
+        Refused::Seed => eprintln!(rt;
+            "error: bad value for '--seed': it is a number from 0 to 99999999"
         ),
         Refused::BothStandardInput => eprintln!(rt;
             "error: '-' stands for standard input in one place alone"
@@ -132,7 +136,8 @@ fn answer<R: Files + Input + Print + Eprint>(
             tape,
             declaration,
             events,
-        } => watch_from(rt, alloc, tape, declaration, events),
+            explained,
+        } => watch_from(rt, alloc, tape, declaration, events, *explained),
         Request::Check {
             tape,
             declaration,
@@ -146,6 +151,12 @@ fn answer<R: Files + Input + Print + Eprint>(
             out,
             explained,
         } => guess_from(rt, alloc, tape, declaration, out, *explained),
+        Request::Refute {
+            tape,
+            declaration,
+            out,
+            options,
+        } => refute_from(rt, alloc, tape, declaration, out, *options),
         Request::Migrate { certificate, out } => migrate_from(rt, alloc, certificate, out),
     }
 }
@@ -206,12 +217,20 @@ fn watch_from<R: Files + Input + Print>(
     tape: &str,
     declaration: &str,
     events: &str,
+    explained: bool,
 ) -> Result<Status, Fault> {
     let mut frames = open_input(rt, tape)?;
     let mut text = open_input(rt, declaration)?;
     let mut list = open_input(rt, events)?;
     let mut out = Writes::new(io::writer(rt));
-    watch(alloc, &mut frames, &mut text, &mut list, &mut out)
+    watch(
+        alloc,
+        &mut frames,
+        &mut text,
+        &mut list,
+        explained,
+        &mut out,
+    )
 }
 
 /// Checks the certificate of a file, and says why the verdict is no where that is asked for.
@@ -264,6 +283,40 @@ fn guess_from<R: Files + Input + Print + Eprint>(
         return guess_or_explain(alloc, &mut frames, &mut text, &mut certificate, &mut report);
     }
     guess(alloc, &mut frames, &mut text, &mut certificate)
+}
+
+/// Looks for a run of the tape of a file that breaks its declaration.
+fn refute_from<R: Files + Input + Print + Eprint>(
+    rt: &R,
+    alloc: Global,
+    tape: &str,
+    declaration: &str,
+    out: &str,
+    options: RefuteOptions,
+) -> Result<Status, Fault> {
+    let mut frames = open_input(rt, tape)?;
+    let mut text = open_input(rt, declaration)?;
+    let mut events = open_output(rt, out)?;
+    if out == "-" {
+        let mut report = tell_to(rt);
+        return refute(
+            alloc,
+            &mut frames,
+            &mut text,
+            options,
+            &mut events,
+            &mut report,
+        );
+    }
+    let mut report = Writes::new(io::writer(rt));
+    refute(
+        alloc,
+        &mut frames,
+        &mut text,
+        options,
+        &mut events,
+        &mut report,
+    )
 }
 
 /// Runs a tape, in rounds or by the events of a file.

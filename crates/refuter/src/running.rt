@@ -1,6 +1,10 @@
 //! One run: the operator gives what the program asks for, the devices get done, and the machine makes
 //! step after step until one breaks a rule.
 
+ghost use Rattle.std.specs.Prelude.{◌≡◌};
+ghost use Rattle.declaration.specs.Kept.{meaning};
+ghost use Rattle.peripherals.specs.World.{profile_of};
+
 use crate::asking::Ask;
 use crate::pace::Pace;
 use crate::plan::{Plan, Purpose};
@@ -156,7 +160,10 @@ impl<A: Allocator + Copy> Run<A> {
         watcher: &mut Watcher<A>,
         declaration: &Declaration<D>,
         event: Event,
-    ) -> Result<(), NoMemory> {
+    ) -> Result<(), NoMemory>
+        requires profile { profile_of watcher.old.world ≡ (meaning declaration.now).profile }
+        ensures profile { profile_of watcher.new.world ≡ (meaning declaration.now).profile }
+    {
         self.script.add(event)?;
         self.extent.add();
         self.idle = 0;
@@ -170,7 +177,10 @@ impl<A: Allocator + Copy> Run<A> {
         watcher: &mut Watcher<A>,
         declaration: &Declaration<D>,
         input: Input,
-    ) -> Result<(), NoMemory> {
+    ) -> Result<(), NoMemory>
+        requires profile { profile_of watcher.old.world ≡ (meaning declaration.now).profile }
+        ensures profile { profile_of watcher.new.world ≡ (meaning declaration.now).profile }
+    {
         self.inputs.push(input).map_err(|_| NoMemory)?;
         self.idle = 0;
         self.quiet = 0;
@@ -192,7 +202,10 @@ impl<A: Allocator + Copy> Run<A> {
         watcher: &mut Watcher<A>,
         declaration: &Declaration<D>,
         random: &mut Random,
-    ) -> Result<(), NoMemory> {
+    ) -> Result<(), NoMemory>
+        requires profile { profile_of watcher.old.world ≡ (meaning declaration.now).profile }
+        ensures profile { profile_of watcher.new.world ≡ (meaning declaration.now).profile }
+    {
         let panel = watcher.world().panel();
         if panel.printer.busy && self.pace.ends_printing(random) {
             self.give(watcher, declaration, Event::PrinterDone)?;
@@ -208,7 +221,10 @@ impl<A: Allocator + Copy> Run<A> {
         &mut self,
         watcher: &mut Watcher<A>,
         declaration: &Declaration<D>,
-    ) -> Result<Progress, NoMemory> {
+    ) -> Result<Progress, NoMemory>
+        requires profile { profile_of watcher.old.world ≡ (meaning declaration.now).profile }
+        ensures profile { profile_of watcher.new.world ≡ (meaning declaration.now).profile }
+    {
         self.script.add(Event::Step)?;
         self.extent.step();
         self.idle = self.idle.saturating_add(1);

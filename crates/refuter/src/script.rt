@@ -90,7 +90,9 @@ impl<A: Allocator> Script<A> {
             steps: self.steps,
             event,
         };
-        self.parts.push(part).map_err(|_| NoMemory)?;
+        let Ok(()) = self.parts.push(part) else {
+            return Err(NoMemory);
+        };
         self.steps = 0;
         Ok(())
     }
@@ -100,7 +102,9 @@ impl<A: Allocator> Script<A> {
         for part in &more.parts {
             let steps = self.steps.saturating_add(part.steps);
             let event = part.event;
-            self.parts.push(Part { steps, event }).map_err(|_| NoMemory)?;
+            let Ok(()) = self.parts.push(Part { steps, event }) else {
+                return Err(NoMemory);
+            };
             self.steps = 0;
         }
         self.steps = self.steps.saturating_add(more.steps);

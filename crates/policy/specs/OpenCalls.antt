@@ -1,4 +1,4 @@
--- What a watcher keeps: its machine and its call list. Private contracts alone cite this.
+-- What a watcher shows: its machine and its call list.
 use Rattle.std.specs.Prelude.{List, [], ◌∷◌}
 use Rattle.peripherals.specs.Devices.{WorldState}
 use Rattle.peripherals.specs.World.{view}

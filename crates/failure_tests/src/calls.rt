@@ -10,8 +10,8 @@ use declaration::Declaration;
 use facts::{Equation, Fact, Name, Offsets, entails_return};
 use instruct::Profile;
 use judge::certify;
-use pal_asm::{assemble, translate};
-use pal_text::statements;
+use pal_asm::{AssembleFault, Code, PalFault, assemble, translate};
+use pal_text::{TextFault, statements};
 use peripherals::Start;
 use std::alloc::Global;
 use std::test::Fail;
@@ -26,10 +26,32 @@ fn a_part_has_lines_statements_and_tokens(rt: HostRuntime) -> Result<(), Fail> {
     assert_eq!(rt; tokens.len(), 3);
     assert_eq!(rt; part.bytes(tokens[0]), b"TA\xffD".as_slice());
     assert_eq!(rt; part.bytes(tokens[2]), b"20".as_slice());
-    let lines = part.lines(rt.alloc())?;
-    assert_eq!(rt; lines.len(), 2);
-    assert_eq!(rt; part.line_bytes(lines[0]), b"TA\xffD 20".as_slice());
+    assert_eq!(rt; part.lines.len(), 2);
+    assert_eq!(rt; part.line_bytes(part.lines[0]), b"TA\xffD 20".as_slice());
     Ok(())
+}
+
+#[test]
+fn what_refuses_a_part_is_told(rt: HostRuntime) {
+    let long = [b' '; 65_537];
+    assert!(rt; statements(rt.alloc(), b"?").err() == Some(TextFault::Illegal(1)));
+    assert!(rt; statements(rt.alloc(), b"A=5\n5A\n?").err() == Some(TextFault::Illegal(2)));
+    assert!(rt; statements(rt.alloc(), &long).err() == Some(TextFault::TooLong));
+    assert!(rt; statements(rt.alloc(), &long[..65_536]).is_ok());
+}
+
+/// A source that refers to another page.
+const TOO_FAR: &[u8] = b"TAD 600";
+
+#[test]
+fn what_refuses_a_source_is_told(rt: HostRuntime) {
+    let fault = PalFault {
+        code: Code::IllegalReference,
+        part: 1,
+        line: 1,
+    };
+    let told = assemble(rt.alloc(), &[TOO_FAR], Profile::Pdp8I).err();
+    assert_eq!(rt; told, Some(AssembleFault::Source(fault)));
 }
 
 #[test]

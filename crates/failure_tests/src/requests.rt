@@ -10,7 +10,7 @@ use declaration::{Declaration, DeclarationFault};
 use instruct::Profile;
 use judge::{CertifyFault, certify};
 use pal_asm::{AssembleFault, assemble};
-use pal_text::{StatementFault, TextFault, statements};
+use pal_text::{TextFault, statements};
 use peripherals::{EventsFault, Start, events};
 use policy::{Watched, watch};
 use std::alloc::{Allocator, Global};
@@ -96,12 +96,11 @@ fn run_answer<A: Allocator + Copy>(alloc: A, heap: Global) -> Answer {
 
 /// How a call ends that takes its memory from the first allocator. What it is given comes from the second.
 fn answer_of<A: Allocator + Copy>(alloc: A, heap: Global, call: &Call<'_>) -> Answer {
-    let no_part = TextFault::Statement(StatementFault::NoMemory);
     let no_source = AssembleFault::NoMemory;
     let no_lines = CertificateFault::NoMemory;
     match call {
         Call::Events(text) => told(events(alloc, text).err(), EventsFault::NoMemory),
-        Call::Statements(source) => told(statements(alloc, source).err(), no_part),
+        Call::Statements(source) => told(statements(alloc, source).err(), TextFault::NoMemory),
         Call::Source(parts) => told(assemble(alloc, parts, Profile::Pdp8I).err(), no_source),
         Call::Declaration(text) => told(
             Declaration::parse(alloc, text).err(),
@@ -157,12 +156,14 @@ const SUBS: &[u8] =
     sub 410 body 411 returns 0\nsub 412 body 413 returns 0\n";
 
 /// Calls that are done where they get memory, and how often they ask at least.
-const DONE: [(Call<'static>, u64); 17] = [
+const DONE: [(Call<'static>, u64); 19] = [
     (Call::Events(EVENTS), 3),
-    (Call::Statements(b"*10;TAD 20;$"), 1),
-    (Call::Statements(b"A=5\nPAUSE\n"), 1),
-    (Call::Statements(b"TA\xffD"), 1),
-    (Call::Statements(HELLO), 1),
+    (Call::Statements(b"*10;TAD 20;$"), 4),
+    (Call::Statements(b"A=5\nPAUSE\n"), 4),
+    (Call::Statements(b"TA\xffD"), 4),
+    (Call::Statements(LINE_ENDS), 4),
+    (Call::Statements(HELLO), 4),
+    (Call::Statements(SYMBOLS), 4),
     (Call::Source(&[NUMBERS]), 2),
     (Call::Source(&[b"A=5\nPAUSE\n", b"TAD A\n$\n"]), 2),
     (Call::Source(&[HELLO]), 2),
@@ -220,10 +221,13 @@ fn each_refusal_to_a_guess_is_told(rt: HostRuntime) {
 /// A line that isn't a routine's.
 const NO_ROUTINE: &[u8] = b"PDP8-CERTIFICATE 1\nroutine 0214 rank 00 sites 0207 writes - \nend\n";
 
-/// Calls that ask for memory just so often, and how they end.
-const COUNTED: [(Call<'static>, u64, Answer); 9] = [
+/// Calls that ask for memory just so often, and how they end. A part has a token and a statement, and a line where a byte isn't
+/// ignored.
+const COUNTED: [(Call<'static>, u64, Answer); 11] = [
     (Call::Events(b"\nbad"), 0, Answer::Fault),
     (Call::Events(b"step 1000000\nstep"), 1, Answer::Fault),
+    (Call::Statements(b""), 2, Answer::Done),
+    (Call::Statements(b"\n"), 3, Answer::Done),
     (Call::Source(&[]), 0, Answer::Fault),
     (Call::Declaration(b"start 1\nmain 1"), 0, Answer::Done),
     (Call::Declaration(b"sub 1"), 0, Answer::Fault),

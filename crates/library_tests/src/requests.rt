@@ -2,7 +2,7 @@
 //! a refusal. Each refusal is told, and nothing else is told in its place.
 
 use crate::fixtures::{
-    HELLO, HELLO_CERTIFICATE, HELLO_DECLARED, HELLO_TAPE, HELLO_WORDS, PRINTED, image, rounds,
+    HELLO, HELLO_CERTIFICATE, HELLO_DECLARED, HELLO_TAPE, HELLO_WORDS, PRINTED, image, rounds, word,
 };
 use analyser::{GuessFault, guess};
 use certificate::{Certificate, CertificateFault};
@@ -14,6 +14,7 @@ use pal_text::{StatementFault, TextFault, statements};
 use peripherals::{EventsFault, Start, events};
 use policy::{Watched, watch};
 use std::alloc::{Allocator, Global};
+use std::test::Fail;
 use testing::{MemorySource, Refusing};
 
 /// A call.
@@ -239,4 +240,33 @@ fn nothing_is_asked_for_that_is_not_kept(rt: HostRuntime) {
         let told = in_turn(rt.alloc(), call);
         assert!(rt; told == (*count, *wanted), "row {row}");
     }
+}
+
+/// What is told of a declaration where it gets memory, if it asks for some, and each refusal is told.
+fn told_of(heap: Global, text: &[u8]) -> Option<DeclarationFault> {
+    let (count, answer) = in_turn(heap, &Call::Declaration(text));
+    if count == 0 || answer == Answer::Untold {
+        return None;
+    }
+    Declaration::parse(heap, text).err()
+}
+
+/// An entry that indirect references step, and one whose body is main's too.
+const INDEX_SUB: &[u8] = b"start 200\nmain 200\nsub 10 body 300 returns 0\n";
+
+const SHARED_SUB: &[u8] = b"start 200\nmain 200\nsub 300 body 200 returns 0\n";
+
+#[test]
+fn each_refusal_before_a_fault_of_routines_is_told(rt: HostRuntime) -> Result<(), Fail> {
+    let index = DeclarationFault::EntryInAutoIndex(word(0o10));
+    assert_eq!(rt; told_of(rt.alloc(), INDEX_SUB), Some(index));
+    let overlap = DeclarationFault::Overlap(word(0o200));
+    assert_eq!(rt; told_of(rt.alloc(), SHARED_SUB), Some(overlap));
+    let mut text = Vec::new(rt.alloc());
+    for _ in 0..65 {
+        text.extend_from_slice(b"sub 300 body 301 returns 0\n")?;
+    }
+    let many = told_of(rt.alloc(), &text);
+    assert_eq!(rt; many, Some(DeclarationFault::TooMany));
+    Ok(())
 }

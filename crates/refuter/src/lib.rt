@@ -5,7 +5,7 @@
 //! given doesn't rest on how it was found.
 #![tactic(auto)]
 
-ghost use Rattle.std.specs.Prelude.{◌≡◌, ◌≤◌, ◌<◌, IfOk, IfSome, IfNone};
+ghost use Rattle.std.specs.Prelude.{◌≡◌, ◌≤◌, ◌<◌, IfOk, IfSome, IfNone, true, false};
 ghost use Rattle.declaration.specs.Kept.{meaning};
 ghost use Rattle.peripherals.specs.Loading.{image_of};
 ghost use Rattle.refuter.specs.Witnesses.{Breaks, IsSpelled, IsLast};
@@ -24,6 +24,7 @@ mod script;
 mod search;
 mod seen;
 mod shorten;
+mod stepping;
 mod tree;
 mod votes;
 
@@ -35,7 +36,7 @@ use declaration::Declaration;
 use peripherals::{Event, EventsFault, NoMemory, Start, events};
 use policy::{Rule, Watched, watch};
 use std::alloc::Allocator;
-use turns::Turns;
+use turns::{GuessFault, Turns};
 
 /// A run that breaks a declaration: its events, their text, and which event breaks which rule.
 #[derive(Drop)]
@@ -104,16 +105,24 @@ fn witness_of<A: Allocator + Copy, D: Allocator>(
     }
 }
 
-/// Takes a turn, if none was taken since there were so many.
-fn take_one(before: u32, turns: &mut Turns)
+/// Takes a turn, if none was taken since so many were. False where none is left.
+fn takes_one(before: u32, turns: &mut Turns) -> Result<bool, NoMemory>
     requires rises { before ≤ turns.old.spent }
+    ensures taken { IfOk result (λ taken. taken ≡ true → before < turns.new.spent) }
+    ensures spent { IfOk result (λ taken. taken ≡ false → turns.new.spent ≡ turns.new.limit) }
     ensures limit { turns.new.limit ≡ turns.old.limit }
     ensures rises { turns.old.spent ≤ turns.new.spent }
     ensures within { turns.new.spent ≤ turns.new.limit }
-    ensures taken { before < turns.new.limit → before < turns.new.spent }
 {
-    if turns.spent() == before {
-        let _ = turns.take();
+    turns.are_within();
+    if turns.spent() > before {
+        return Ok(true);
+    }
+    match turns.take() {
+        Ok(()) => Ok(true),
+        Err(GuessFault::TurnsSpent) => Ok(false),
+        // No other fault comes.
+        Err(_) => Err(NoMemory),
     }
 }
 
@@ -175,10 +184,11 @@ pub fn refute_within<A: Allocator + Copy, D: Allocator>(
     let mut search = Search::new(alloc, &Program { image, declaration }, seed)?;
     while turns.spent() < turns.limit() {
         let before = turns.spent();
-        match try_once(alloc, &mut search, image, declaration, turns) {
-            Ok(None) => take_one(before, turns),
-            Ok(Some(witness)) => return Ok(Some(witness)),
-            Err(NoMemory) => return Err(NoMemory),
+        if let Some(witness) = try_once(alloc, &mut search, image, declaration, turns)? {
+            return Ok(Some(witness));
+        }
+        if !takes_one(before, turns)? {
+            return Ok(None);
         }
     }
     Ok(None)

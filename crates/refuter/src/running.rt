@@ -1,7 +1,7 @@
 //! One run: the operator gives what the program asks for, the devices get done, and the machine makes
 //! step after step until one breaks a rule.
 
-ghost use Rattle.std.specs.Prelude.{◌≡◌};
+ghost use Rattle.std.specs.Prelude.{◌≡◌, ◌≤◌};
 ghost use Rattle.declaration.specs.Kept.{meaning};
 ghost use Rattle.peripherals.specs.World.{profile_of};
 
@@ -10,10 +10,12 @@ use crate::pace::Pace;
 use crate::plan::{Plan, Purpose};
 use crate::random::Random;
 use crate::script::{Extent, Script};
+use crate::stepping::{Stepped, take_step};
 use declaration::Declaration;
 use peripherals::{Event, NoMemory};
 use policy::Watcher;
 use std::alloc::Allocator;
+use turns::Turns;
 use word12::Word;
 
 /// After so many steps without an input, a completion or a store a run is over: it waits.
@@ -164,7 +166,7 @@ impl<A: Allocator + Copy> Run<A> {
         requires profile { profile_of watcher.old.world ≡ (meaning declaration.now).profile }
         ensures profile { profile_of watcher.new.world ≡ (meaning declaration.now).profile }
     {
-        self.script.add(event)?;
+        self.script.add(&event)?;
         self.extent.add();
         self.idle = 0;
         watcher.next(declaration, event)?;
@@ -221,17 +223,21 @@ impl<A: Allocator + Copy> Run<A> {
         &mut self,
         watcher: &mut Watcher<A>,
         declaration: &Declaration<D>,
+        turns: &mut Turns,
     ) -> Result<Progress, NoMemory>
         requires profile { profile_of watcher.old.world ≡ (meaning declaration.now).profile }
         ensures profile { profile_of watcher.new.world ≡ (meaning declaration.now).profile }
+        ensures limit { turns.new.limit ≡ turns.old.limit }
+        ensures rises { turns.old.spent ≤ turns.new.spent }
+        ensures within { turns.new.spent ≤ turns.new.limit }
     {
-        self.script.add(Event::Step)?;
-        self.extent.step();
-        self.idle = self.idle.saturating_add(1);
-        self.quiet = self.quiet.saturating_add(1);
-        self.stale = self.stale.saturating_add(1);
-        if watcher.next(declaration, Event::Step)?.is_some() {
-            return Ok(Progress::Broken);
+        match take_step(watcher, declaration, turns)? {
+            Stepped::NoTurn => return Ok(Progress::Over),
+            Stepped::Broke => {
+                self.script.add_step();
+                return Ok(Progress::Broken);
+            }
+            Stepped::Kept => self.made_step(),
         }
         match watcher.world().halted_at() {
             None => Ok(self.goes_on(watcher)),
@@ -241,6 +247,15 @@ impl<A: Allocator + Copy> Run<A> {
                 Ok(Progress::GoesOn)
             }
         }
+    }
+
+    /// A step was made.
+    fn made_step(&mut self) {
+        self.script.add_step();
+        self.extent.step();
+        self.idle = self.idle.saturating_add(1);
+        self.quiet = self.quiet.saturating_add(1);
+        self.stale = self.stale.saturating_add(1);
     }
 
     /// Whether the run goes on, by how long nothing has happened.

@@ -80,15 +80,16 @@ impl<A: Allocator> Script<A> {
         self.steps
     }
 
-    /// Adds an event.
-    pub(crate) fn add(&mut self, event: Event) -> Result<(), NoMemory> {
-        if matches!(event, Event::Step) {
-            self.steps = self.steps.saturating_add(1);
-            return Ok(());
-        }
+    /// Adds a step.
+    pub(crate) fn add_step(&mut self) {
+        self.steps = self.steps.saturating_add(1);
+    }
+
+    /// Adds an event that is no step.
+    pub(crate) fn add(&mut self, event: &Event) -> Result<(), NoMemory> {
         let part = Part {
             steps: self.steps,
-            event,
+            event: *event,
         };
         let Ok(()) = self.parts.push(part) else {
             return Err(NoMemory);

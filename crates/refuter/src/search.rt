@@ -283,10 +283,10 @@ impl<A: Allocator + Copy> Search<A> {
         let extent = self.tree.extent(plan.base);
         let mut run = Run::new(self.alloc, plan, extent, &mut self.random);
         for _ in 0..MOST_STEPS {
-            if !self.prepare(program, &mut watcher, &mut run, plan)? || turns.take().is_err() {
+            if !self.prepare(program, &mut watcher, &mut run, plan)? {
                 return Ok(None);
             }
-            match self.step(program, &mut watcher, &mut run, plan)? {
+            match self.step(program, &mut watcher, &mut run, plan, turns)? {
                 Progress::GoesOn => {}
                 Progress::Over => return Ok(None),
                 Progress::Broken => return self.found(run),
@@ -416,12 +416,16 @@ impl<A: Allocator + Copy> Search<A> {
         watcher: &mut Watcher<A>,
         run: &mut Run<A>,
         plan: &Plan<A>,
+        turns: &mut Turns,
     ) -> Result<Progress, NoMemory>
         requires profile { profile_of watcher.old.world ≡ (meaning program.now.declaration.now).profile }
         ensures profile { profile_of watcher.new.world ≡ (meaning program.now.declaration.now).profile }
+        ensures limit { turns.new.limit ≡ turns.old.limit }
+        ensures rises { turns.old.spent ≤ turns.new.spent }
+        ensures within { turns.new.spent ≤ turns.new.limit }
     {
         let glance = self.glance(watcher);
-        let progress = run.step(watcher, program.declaration)?;
+        let progress = run.step(watcher, program.declaration, turns)?;
         if progress == Progress::GoesOn && plan.purpose != Purpose::Repeat {
             self.note(watcher, run, plan, &glance)?;
         }

@@ -9,8 +9,9 @@ use crate::plan::{Plan, Purpose};
 use crate::running::Input;
 use crate::script::{Part, Script};
 use crate::search::{Found, Program, Search};
+use crate::stepping::{Stepped, take_step};
 use declaration::Declaration;
-use peripherals::{Event, NoMemory, Start};
+use peripherals::{NoMemory, Start};
 use policy::Watcher;
 use std::alloc::Allocator;
 use turns::Turns;
@@ -191,8 +192,8 @@ fn replayed<A: Allocator + Copy, D: Allocator>(
             return Ok(Some(played));
         }
         if index < place || index - place >= size {
+            played.add(&event)?;
             watcher.next(declaration, event)?;
-            played.add(event)?;
         }
     }
     if breaks(
@@ -222,12 +223,13 @@ fn breaks<A: Allocator + Copy, D: Allocator>(
     ensures within { turns.new.spent ≤ turns.new.limit }
 {
     for _ in 0..steps {
-        if turns.take().is_err() {
-            return Ok(false);
-        }
-        played.add(Event::Step)?;
-        if watcher.next(declaration, Event::Step)?.is_some() {
-            return Ok(true);
+        match take_step(watcher, declaration, turns)? {
+            Stepped::Kept => played.add_step(),
+            Stepped::NoTurn => return Ok(false),
+            Stepped::Broke => {
+                played.add_step();
+                return Ok(true);
+            }
         }
     }
     Ok(false)

@@ -4,7 +4,7 @@ use crate::operator::{Session, has_operator, session_of, with_operator};
 use clap::error::ErrorKind;
 use clap::{Arg, ArgAction, ArgMatches, Command, Error};
 use instruct::Profile;
-use options::{DeclareOptions, RefuteOptions, RunOptions};
+use options::{DeclareOptions, RefuteOptions, RunOptions, VerifyOptions};
 use std::alloc::{AllocError, Global};
 use std::convert::AsStr;
 use streams::text::decimal_between;
@@ -141,6 +141,17 @@ pub enum Request<'a> {
         /// How it is looked for.
         options: RefuteOptions,
     },
+    /// To say whether a program keeps its declaration.
+    Verify {
+        /// The name of the tape's file.
+        tape: &'a str,
+        /// The name of the declaration's file; without one a declaration is proposed.
+        declaration: Option<&'a str>,
+        /// What the names of the files begin with to which goes what is found.
+        save: Option<&'a str>,
+        /// How the answer is looked for.
+        options: VerifyOptions,
+    },
 }
 
 /// Why nothing is done.
@@ -156,6 +167,8 @@ pub enum Refused {
     Switches(OctalFault),
     /// There are events, and an operator too.
     EventsAndOperator,
+    /// There is a declaration, and a start or a machine too.
+    DeclarationAndStart,
     /// The punch is to go to standard output.
     PunchToOutput,
     /// The value of `--steps` is no number from 1 to this one.
@@ -207,7 +220,7 @@ fn profile_word<'a>(alloc: Global) -> Arg<'a> {
 
 fn start_word<'a>(alloc: Global) -> Arg<'a> {
     Arg::new(alloc, "start").long("start").value_name("A").help(
-        "the octal address of the first instruction; 0200 without it",
+        "the octal address of the first instruction; leading zeros are allowed, 0200 without it",
     )
 }
 
@@ -292,6 +305,7 @@ fn certificate_out_word<'a>(alloc: Global) -> Arg<'a> {
 
 fn check_command<'a>(alloc: Global) -> Result<Command<'a>, AllocError> {
     let why = Arg::new(alloc, "why")
+        .short('w')
         .long("why")
         .action(ArgAction::SetTrue)
         .help("after a no, writes what the condition asks and what breaks it");
@@ -326,13 +340,14 @@ fn declare_command<'a>(alloc: Global) -> Result<Command<'a>, AllocError> {
 
 fn guess_command<'a>(alloc: Global) -> Result<Command<'a>, AllocError> {
     let why = Arg::new(alloc, "why")
+        .short('w')
         .long("why")
         .action(ArgAction::SetTrue)
         .help("where the search is stuck, writes what the condition asks and what breaks it");
     Command::new(alloc, "guess")
-        .about("Looks for a certificate that may show that no run breaks a declaration")
+        .about("Looks for a certificate that shows that no run breaks a declaration")
         .after_help(
-            "OUT is another file: it is emptied before an input is read, and stays empty where nothing is found.\n\nExample:\n  pdp8 guess hello.bin hello.declaration hello.certificate",
+            "OUT is another file: it is emptied before an input is read, and stays empty where nothing is found. check says yes to what is found: that is proved.\n\nExample:\n  pdp8 guess hello.bin hello.declaration hello.certificate",
         )
         .arg(tape_word(alloc))?
         .arg(declaration_word(alloc))?
@@ -350,8 +365,49 @@ fn migrate_command<'a>(alloc: Global) -> Result<Command<'a>, AllocError> {
         .arg(certificate_out_word(alloc))
 }
 
+fn search_steps_word<'a>(alloc: Global) -> Arg<'a> {
+    Arg::new(alloc, "steps").long("steps").value_name("N").help(
+        "how many steps are made at most in search of a run that breaks it; 20000000 without it",
+    )
+}
+
+fn seed_word<'a>(alloc: Global) -> Arg<'a> {
+    Arg::new(alloc, "seed")
+        .long("seed")
+        .value_name("S")
+        .help("where the random numbers begin; 1 without it")
+}
+
+fn verify_command<'a>(alloc: Global) -> Result<Command<'a>, AllocError> {
+    let declaration = Arg::new(alloc, "DECLARATION").help(
+        "the declaration, or - for standard input; without it one is proposed",
+    );
+    let save = Arg::new(alloc, "save").long("save").value_name("NAME").help(
+        "writes what is found to NAME.declaration, NAME.certificate or NAME.events",
+    );
+    let why = Arg::new(alloc, "why")
+        .short('w')
+        .long("why")
+        .action(ArgAction::SetTrue)
+        .help("after a no, or where it isn't known, writes why");
+    Command::new(alloc, "verify")
+        .about("Says whether a program keeps its declaration: yes, no or not known")
+        .after_help(
+            "Without DECLARATION one is proposed for the start and the machine that --start and --profile name; with one they are its own.\n\nExample:\n  pdp8 verify hello.bin hello.declaration",
+        )
+        .arg(tape_word(alloc))?
+        .arg(declaration)?
+        .arg(start_word(alloc))?
+        .arg(profile_word(alloc))?
+        .arg(search_steps_word(alloc))?
+        .arg(seed_word(alloc))?
+        .arg(save)?
+        .arg(why)
+}
+
 fn breach_word<'a>(alloc: Global) -> Arg<'a> {
     Arg::new(alloc, "why")
+        .short('w')
         .long("why")
         .action(ArgAction::SetTrue)
         .help("where a rule is broken, writes what the step is about to do")
@@ -374,14 +430,6 @@ fn refute_command<'a>(alloc: Global) -> Result<Command<'a>, AllocError> {
     let out = Arg::new(alloc, "OUT").required(true).help(
         "where the events go, or - for standard output; it is emptied first",
     );
-    let steps = Arg::new(alloc, "steps")
-        .long("steps")
-        .value_name("N")
-        .help("how many steps are made at most; 20000000 without it");
-    let seed = Arg::new(alloc, "seed")
-        .long("seed")
-        .value_name("S")
-        .help("where the random numbers begin; 1 without it");
     Command::new(alloc, "refute")
         .about("Looks for a run that breaks a declaration, and writes its events")
         .after_help(
@@ -390,8 +438,8 @@ fn refute_command<'a>(alloc: Global) -> Result<Command<'a>, AllocError> {
         .arg(tape_word(alloc))?
         .arg(declaration_word(alloc))?
         .arg(out)?
-        .arg(steps)?
-        .arg(seed)?
+        .arg(search_steps_word(alloc))?
+        .arg(seed_word(alloc))?
         .arg(breach_word(alloc))
 }
 
@@ -401,6 +449,7 @@ fn command<'a>(alloc: Global) -> Result<Command<'a>, AllocError> {
         .version(VERSION)
         .after_help(STATUSES)
         .subcommand_required(true)
+        .subcommand(verify_command(alloc)?)?
         .subcommand(run_command(alloc)?)?
         .subcommand(dump_command(alloc)?)?
         .subcommand(assemble_command(alloc)?)?
@@ -568,6 +617,28 @@ fn refute_options(found: &ArgMatches<'_>) -> Result<RefuteOptions, Refused> {
     })
 }
 
+fn verify_request<'a>(found: &ArgMatches<'a>) -> Result<Request<'a>, Refused> {
+    let tape = found.get_str("TAPE").unwrap_or("-");
+    let declaration = found.get_str("DECLARATION");
+    if tape == "-" && declaration == Some("-") {
+        return Err(Refused::BothStandardInput);
+    }
+    let asked = found.get_str("start").is_some() || found.get_str("profile").is_some();
+    if declaration.is_some() && asked {
+        return Err(Refused::DeclarationAndStart);
+    }
+    Ok(Request::Verify {
+        tape,
+        declaration,
+        save: found.get_str("save"),
+        options: VerifyOptions {
+            start: start_of(found)?,
+            profile: profile_of(found)?,
+            search: refute_options(found)?,
+        },
+    })
+}
+
 fn refute_request<'a>(found: &ArgMatches<'a>) -> Result<Request<'a>, Refused> {
     let tape = found.get_str("TAPE").unwrap_or("-");
     let declaration = found.get_str("DECLARATION").unwrap_or("-");
@@ -604,6 +675,7 @@ pub fn parse_words<'a, S: AsStr>(alloc: Global, words: &'a [S]) -> Result<Reques
         Some(("declare", found)) => declare_request(found),
         Some(("guess", found)) => guess_request(found),
         Some(("refute", found)) => refute_request(found),
+        Some(("verify", found)) => verify_request(found),
         Some(("migrate", found)) => Ok(migrate_request(found)),
         Some((_, found)) => run_request(found),
         None => Err(Refused::Memory),

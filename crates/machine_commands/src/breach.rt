@@ -181,7 +181,7 @@ fn lines_of<A: Allocator, D: Allocator, C: Allocator>(
 
 /// The lines behind the verdict of a watched run: what the step is about to do that breaks a rule. There
 /// are none where they aren't asked for, or no rule is broken.
-pub(crate) fn breach_lines<A: Allocator + Copy, D: Allocator>(
+pub fn breach_lines<A: Allocator + Copy, D: Allocator>(
     alloc: A,
     image: &Image,
     declaration: &Declaration<D>,

@@ -2,7 +2,7 @@
 //! run that breaks its declaration.
 #![tactic(auto)]
 
-mod breach;
+pub mod breach;
 pub mod follow;
 pub mod refuting;
 pub mod running;

@@ -49,3 +49,14 @@ pub struct RefuteOptions {
     /// It is said what the step is about to do that breaks a rule.
     pub explained: bool,
 }
+
+/// How it is found out whether a program keeps its declaration.
+#[derive(Clone, Copy, PartialEq, Eq, Debug)]
+pub struct VerifyOptions {
+    /// Where the program starts, if no declaration says it.
+    pub start: Word,
+    /// The machine that it's for, if no declaration says it.
+    pub profile: Profile,
+    /// How a run that breaks the declaration is looked for.
+    pub search: RefuteOptions,
+}

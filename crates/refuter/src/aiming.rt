@@ -63,7 +63,11 @@ impl<A: Allocator + Copy> Last<A> {
                 far.inputs.push(*input).map_err(|_| NoMemory)?;
             }
         }
-        Ok(Last { far, before, near_base: run.base })
+        Ok(Last {
+            far,
+            before,
+            near_base: run.base,
+        })
     }
 
     /// The place of the input so many back, from 1.
@@ -111,7 +115,12 @@ impl<A: Allocator + Copy> Last<A> {
             let input = if index == place { value } else { given };
             inputs.push(input).map_err(|_| NoMemory)?;
         }
-        Ok(Hint { base, inputs, goal, is_direct: self.is_direct(place) })
+        Ok(Hint {
+            base,
+            inputs,
+            goal,
+            is_direct: self.is_direct(place),
+        })
     }
 }
 
@@ -152,9 +161,18 @@ impl<A: Allocator + Copy> Aims<A> {
         if own > 1 && !is_full {
             return Ok(());
         }
-        let most = if miss.is_for_zero && is_full { MOST_BACK } else { 1 };
+        let most = if miss.is_for_zero && is_full {
+            MOST_BACK
+        } else {
+            1
+        };
         let last = Last::of(tree, run, most)?;
-        let mut aim = Aim { miss, is_full, goal, last };
+        let mut aim = Aim {
+            miss,
+            is_full,
+            goal,
+            last,
+        };
         for back in 1..most + 1 {
             aim.look_back(back, self, alphabet, random)?;
         }
@@ -196,11 +214,19 @@ impl<A: Allocator + Copy> Aim<A> {
             return Ok(());
         };
         let ac = self.miss.ac;
-        for (is_sum, target) in [(false, input.value.wrapping_sub(ac)), (true, input.value.wrapping_add(ac))] {
+        for (is_sum, target) in [
+            (false, input.value.wrapping_sub(ac)),
+            (true, input.value.wrapping_add(ac)),
+        ] {
             let target = target & 0o7777;
             let top = greatest(input.ask);
             if back == 1 || target <= top {
-                let pointer = Pointer { back, is_sum, input: input.value, value: target & top };
+                let pointer = Pointer {
+                    back,
+                    is_sum,
+                    input: input.value,
+                    value: target & top,
+                };
                 self.count(&pointer, input.ask, aims, alphabet)?;
                 self.follow(place, &pointer, aims, random)?;
             }
@@ -281,7 +307,10 @@ impl<A: Allocator + Copy> Aim<A> {
         if !aims.hints.is_new(self.last.mark(place, value)) {
             return Ok(());
         }
-        let goal = Goal { at: self.miss.at, distance: self.miss.distance() };
+        let goal = Goal {
+            at: self.miss.at,
+            distance: self.miss.distance(),
+        };
         let hint = self.last.hint(aims.alloc, place, value, goal)?;
         if self.came_nearer() {
             aims.hints.push_nearer(hint);

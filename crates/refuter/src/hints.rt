@@ -79,14 +79,19 @@ impl<A: Allocator + Copy> Hints<A> {
 
     /// A hint waits.
     pub(crate) fn push(&mut self, hint: Hint<A>) -> Result<(), NoMemory> {
-        let place = hint.goal.at.index() * 2 + (hint.is_direct as usize);
-        let Some(number) = self.queue_at(place, hint.is_direct)? else {
+        let Some(number) = self.queue_of_hint(&hint)? else {
             return Ok(());
         };
         if let Some(queue) = self.queues.get_mut(number) {
             let _oldest = queue.hints.push_back(hint);
         }
         Ok(())
+    }
+
+    /// The number of the queue in which a hint waits, if there is room for it.
+    fn queue_of_hint(&mut self, hint: &Hint<A>) -> Result<Option<usize>, NoMemory> {
+        let place = hint.goal.at.index() * 2 + (hint.is_direct as usize);
+        self.queue_at(place, hint.is_direct)
     }
 
     /// The number of the queue of a place, which is made where there is room for one more.
@@ -99,7 +104,9 @@ impl<A: Allocator + Copy> Hints<A> {
             return Ok(None);
         }
         let hints = HeapCircularBuffer::with_capacity(self.alloc, MOST_WAITING)?;
-        self.queues.push(Queue { is_direct, hints }).map_err(|_| NoMemory)?;
+        self.queues
+            .push(Queue { is_direct, hints })
+            .map_err(|_| NoMemory)?;
         if let Some(queue) = self.queue_of.get_mut(place) {
             *queue = Some(number);
         }

@@ -25,6 +25,7 @@ pub(crate) enum Look {
 
 /// The bits of group 2 that test the accumulator for 0 and its sign.
 const ZERO_BIT: u16 = 0o40;
+
 const SIGN_BIT: u16 = 0o100;
 
 impl Look {

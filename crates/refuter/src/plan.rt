@@ -49,7 +49,12 @@ impl<A: Allocator + Copy> Plan<A> {
 
     /// To follow a hint, and then some inputs more.
     pub(crate) fn by_hint(alloc: A, hint: Hint<A>, more: usize) -> Plan<A> {
-        let Hint { base, inputs, goal, .. } = hint;
+        let Hint {
+            base,
+            inputs,
+            goal,
+            ..
+        } = hint;
         let mut plan = Plan::of(alloc, Purpose::Grow, base, inputs);
         plan.goal = Some(goal);
         plan.more = more;

@@ -1,5 +1,7 @@
 //! Random numbers, the same for the same seed on every machine.
 
+ghost use Rattle.std.specs.Prelude.{◌≤◌};
+
 use rand_core::utils::NextWord;
 use rand_pcg::Pcg32;
 
@@ -21,8 +23,11 @@ impl Random {
     }
 
     /// A number below another one; 0 where that is 0.
-    pub(crate) fn below(&mut self, bound: usize) -> usize {
-        (self.words.next_word() as usize) % bound.max(1)
+    pub(crate) fn below(&mut self, bound: usize) -> usize
+        ensures { result ≤ bound }
+    {
+        let word = self.words.next_word() as usize;
+        if bound == 0 { 0 } else { word % bound }
     }
 
     /// True once in so many times.

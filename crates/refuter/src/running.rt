@@ -1,15 +1,21 @@
 //! One run: the operator gives what the program asks for, the devices get done, and the machine makes
 //! step after step until one breaks a rule.
 
+ghost use Rattle.std.specs.Prelude.{◌≡◌, ◌≤◌};
+ghost use Rattle.declaration.specs.Kept.{meaning};
+ghost use Rattle.peripherals.specs.World.{profile_of};
+
 use crate::asking::Ask;
 use crate::pace::Pace;
 use crate::plan::{Plan, Purpose};
 use crate::random::Random;
 use crate::script::{Extent, Script};
+use crate::stepping::{Stepped, take_step};
 use declaration::Declaration;
 use peripherals::{Event, NoMemory};
 use policy::Watcher;
 use std::alloc::Allocator;
+use turns::Turns;
 use word12::Word;
 
 /// After so many steps without an input, a completion or a store a run is over: it waits.
@@ -156,8 +162,11 @@ impl<A: Allocator + Copy> Run<A> {
         watcher: &mut Watcher<A>,
         declaration: &Declaration<D>,
         event: Event,
-    ) -> Result<(), NoMemory> {
-        self.script.add(event)?;
+    ) -> Result<(), NoMemory>
+        requires profile { profile_of watcher.old.world ≡ (meaning declaration.now).profile }
+        ensures profile { profile_of watcher.new.world ≡ (meaning declaration.now).profile }
+    {
+        self.script.add(&event)?;
         self.extent.add();
         self.idle = 0;
         watcher.next(declaration, event)?;
@@ -170,7 +179,10 @@ impl<A: Allocator + Copy> Run<A> {
         watcher: &mut Watcher<A>,
         declaration: &Declaration<D>,
         input: Input,
-    ) -> Result<(), NoMemory> {
+    ) -> Result<(), NoMemory>
+        requires profile { profile_of watcher.old.world ≡ (meaning declaration.now).profile }
+        ensures profile { profile_of watcher.new.world ≡ (meaning declaration.now).profile }
+    {
         self.inputs.push(input).map_err(|_| NoMemory)?;
         self.idle = 0;
         self.quiet = 0;
@@ -192,7 +204,10 @@ impl<A: Allocator + Copy> Run<A> {
         watcher: &mut Watcher<A>,
         declaration: &Declaration<D>,
         random: &mut Random,
-    ) -> Result<(), NoMemory> {
+    ) -> Result<(), NoMemory>
+        requires profile { profile_of watcher.old.world ≡ (meaning declaration.now).profile }
+        ensures profile { profile_of watcher.new.world ≡ (meaning declaration.now).profile }
+    {
         let panel = watcher.world().panel();
         if panel.printer.busy && self.pace.ends_printing(random) {
             self.give(watcher, declaration, Event::PrinterDone)?;
@@ -208,14 +223,21 @@ impl<A: Allocator + Copy> Run<A> {
         &mut self,
         watcher: &mut Watcher<A>,
         declaration: &Declaration<D>,
-    ) -> Result<Progress, NoMemory> {
-        self.script.add(Event::Step)?;
-        self.extent.step();
-        self.idle = self.idle.saturating_add(1);
-        self.quiet = self.quiet.saturating_add(1);
-        self.stale = self.stale.saturating_add(1);
-        if watcher.next(declaration, Event::Step)?.is_some() {
-            return Ok(Progress::Broken);
+        turns: &mut Turns,
+    ) -> Result<Progress, NoMemory>
+        requires profile { profile_of watcher.old.world ≡ (meaning declaration.now).profile }
+        ensures profile { profile_of watcher.new.world ≡ (meaning declaration.now).profile }
+        ensures limit { turns.new.limit ≡ turns.old.limit }
+        ensures rises { turns.old.spent ≤ turns.new.spent }
+        ensures within { turns.new.spent ≤ turns.new.limit }
+    {
+        match take_step(watcher, declaration, turns)? {
+            Stepped::NoTurn => return Ok(Progress::Over),
+            Stepped::Broke => {
+                self.script.add_step();
+                return Ok(Progress::Broken);
+            }
+            Stepped::Kept => self.made_step(),
         }
         match watcher.world().halted_at() {
             None => Ok(self.goes_on(watcher)),
@@ -225,6 +247,15 @@ impl<A: Allocator + Copy> Run<A> {
                 Ok(Progress::GoesOn)
             }
         }
+    }
+
+    /// A step was made.
+    fn made_step(&mut self) {
+        self.script.add_step();
+        self.extent.step();
+        self.idle = self.idle.saturating_add(1);
+        self.quiet = self.quiet.saturating_add(1);
+        self.stale = self.stale.saturating_add(1);
     }
 
     /// Whether the run goes on, by how long nothing has happened.

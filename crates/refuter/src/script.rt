@@ -80,17 +80,20 @@ impl<A: Allocator> Script<A> {
         self.steps
     }
 
-    /// Adds an event.
-    pub(crate) fn add(&mut self, event: Event) -> Result<(), NoMemory> {
-        if matches!(event, Event::Step) {
-            self.steps = self.steps.saturating_add(1);
-            return Ok(());
-        }
+    /// Adds a step.
+    pub(crate) fn add_step(&mut self) {
+        self.steps = self.steps.saturating_add(1);
+    }
+
+    /// Adds an event that is no step.
+    pub(crate) fn add(&mut self, event: &Event) -> Result<(), NoMemory> {
         let part = Part {
             steps: self.steps,
-            event,
+            event: *event,
         };
-        self.parts.push(part).map_err(|_| NoMemory)?;
+        let Ok(()) = self.parts.push(part) else {
+            return Err(NoMemory);
+        };
         self.steps = 0;
         Ok(())
     }
@@ -100,7 +103,9 @@ impl<A: Allocator> Script<A> {
         for part in &more.parts {
             let steps = self.steps.saturating_add(part.steps);
             let event = part.event;
-            self.parts.push(Part { steps, event }).map_err(|_| NoMemory)?;
+            let Ok(()) = self.parts.push(Part { steps, event }) else {
+                return Err(NoMemory);
+            };
             self.steps = 0;
         }
         self.steps = self.steps.saturating_add(more.steps);

@@ -1,5 +1,9 @@
 //! The search: run after run, until one breaks a rule.
 
+ghost use Rattle.std.specs.Prelude.{◌≡◌, ◌≤◌};
+ghost use Rattle.declaration.specs.Kept.{meaning};
+ghost use Rattle.peripherals.specs.World.{profile_of};
+
 use crate::aiming::{Aims, Miss};
 use crate::alphabet::Alphabet;
 use crate::asking::Ask;
@@ -95,7 +99,11 @@ impl<A: Allocator + Copy> Search<A> {
         &mut self,
         program: &Program<'_, D>,
         turns: &mut Turns,
-    ) -> Result<Option<Found<A>>, NoMemory> {
+    ) -> Result<Option<Found<A>>, NoMemory>
+        ensures limit { turns.new.limit ≡ turns.old.limit }
+        ensures rises { turns.old.spent ≤ turns.new.spent }
+        ensures within { turns.new.spent ≤ turns.new.limit }
+    {
         let before = turns.spent();
         if self.roamed / 3 <= before.saturating_sub(self.roamed) {
             let plan = self.plan_roaming()?;
@@ -176,7 +184,9 @@ impl<A: Allocator + Copy> Search<A> {
             Ask::Switches => 0o7777,
         };
         let value = if tries & 1 == 0 && tries / 2 <= mask {
-            let turn = (tries / 2).wrapping_mul(167).wrapping_add(state.wrapping_mul(61));
+            let turn = (tries / 2)
+                .wrapping_mul(167)
+                .wrapping_add(state.wrapping_mul(61));
             (turn & mask & 0o7777) as u16
         } else {
             self.alphabet.value(&mut self.random, ask)
@@ -236,7 +246,11 @@ impl<A: Allocator + Copy> Search<A> {
             let tail = self.tree.tail(state, count)?;
             plan.base = state;
             plan.given.clear();
-            for input in tail.inputs.iter().skip(tail.inputs.len().saturating_sub(count)) {
+            for input in tail
+                .inputs
+                .iter()
+                .skip(tail.inputs.len().saturating_sub(count))
+            {
                 plan.few.push(input.value).map_err(|_| NoMemory)?;
             }
         }
@@ -244,7 +258,11 @@ impl<A: Allocator + Copy> Search<A> {
             let ask = self.tree.ask(state);
             let any = self.alphabet.value(&mut self.random, ask);
             let last = plan.given.last().copied();
-            let value = if self.random.once_in(2) { any } else { last.unwrap_or(any) };
+            let value = if self.random.once_in(2) {
+                any
+            } else {
+                last.unwrap_or(any)
+            };
             plan.few.push(value).map_err(|_| NoMemory)?;
         }
         Ok(())
@@ -256,15 +274,19 @@ impl<A: Allocator + Copy> Search<A> {
         program: &Program<'_, D>,
         plan: &Plan<A>,
         turns: &mut Turns,
-    ) -> Result<Option<Found<A>>, NoMemory> {
+    ) -> Result<Option<Found<A>>, NoMemory>
+        ensures limit { turns.new.limit ≡ turns.old.limit }
+        ensures rises { turns.old.spent ≤ turns.new.spent }
+        ensures within { turns.new.spent ≤ turns.new.limit }
+    {
         let mut watcher = self.tree.watcher(program, plan.base)?;
         let extent = self.tree.extent(plan.base);
         let mut run = Run::new(self.alloc, plan, extent, &mut self.random);
         for _ in 0..MOST_STEPS {
-            if !self.prepare(program, &mut watcher, &mut run, plan)? || turns.take().is_err() {
+            if !self.prepare(program, &mut watcher, &mut run, plan)? {
                 return Ok(None);
             }
-            match self.step(program, &mut watcher, &mut run, plan)? {
+            match self.step(program, &mut watcher, &mut run, plan, turns)? {
                 Progress::GoesOn => {}
                 Progress::Over => return Ok(None),
                 Progress::Broken => return self.found(run),
@@ -275,7 +297,13 @@ impl<A: Allocator + Copy> Search<A> {
 
     /// The whole of a run that broke a rule, from the start.
     fn found(&self, run: Run<A>) -> Result<Option<Found<A>>, NoMemory> {
-        let Run { base, script: end, inputs: given, before_base, .. } = run;
+        let Run {
+            base,
+            script: end,
+            inputs: given,
+            before_base,
+            ..
+        } = run;
         let mut script = self.tree.script(base)?;
         script.append(&end)?;
         let Tail { mut inputs, .. } = self.tree.tail(base, usize::MAX)?;
@@ -292,7 +320,10 @@ impl<A: Allocator + Copy> Search<A> {
         watcher: &mut Watcher<A>,
         run: &mut Run<A>,
         plan: &Plan<A>,
-    ) -> Result<bool, NoMemory> {
+    ) -> Result<bool, NoMemory>
+        requires profile { profile_of watcher.old.world ≡ (meaning program.now.declaration.now).profile }
+        ensures profile { profile_of watcher.new.world ≡ (meaning program.now.declaration.now).profile }
+    {
         if let Some(ask) = self.ask(watcher, run, plan) {
             self.keep(watcher, run, ask)?;
             if !run.is_asked() {
@@ -331,24 +362,28 @@ impl<A: Allocator + Copy> Search<A> {
     }
 
     /// Keeps the state in which an input is asked for, if something new was seen.
-    fn keep(
-        &mut self,
-        watcher: &Watcher<A>,
-        run: &mut Run<A>,
-        ask: Ask,
-    ) -> Result<(), NoMemory> {
+    fn keep(&mut self, watcher: &Watcher<A>, run: &mut Run<A>, ask: Ask) -> Result<(), NoMemory> {
         if !run.news.is_any || !run.has_asked || !self.tree.has_room() || !run.extent.is_short() {
             return Ok(());
         }
-        let place = if run.news.is_step { None } else { Some(run.news.place) };
+        let place = if run.news.is_step {
+            None
+        } else {
+            Some(run.news.place)
+        };
         let mut inputs = Vec::new(self.alloc);
         for input in run.inputs.iter().skip(run.before_base) {
             inputs.push(*input).map_err(|_| NoMemory)?;
         }
-        let tail = Tail { base: run.base, inputs };
+        let tail = Tail {
+            base: run.base,
+            inputs,
+        };
         let script = run.take_script(self.alloc);
         run.before_base = run.inputs.len();
-        run.base = self.tree.keep(watcher, tail, script, run.extent, ask, place)?;
+        run.base = self
+            .tree
+            .keep(watcher, tail, script, run.extent, ask, place)?;
         Ok(())
     }
 
@@ -356,13 +391,22 @@ impl<A: Allocator + Copy> Search<A> {
     fn glance(&self, watcher: &Watcher<A>) -> Glance {
         let cpu = watcher.world().cpu();
         let word = cpu.memory.get(cpu.pc);
-        let look = self.looks.get(word.index()).copied().unwrap_or(Look::Nothing);
+        let look = self
+            .looks
+            .get(word.index())
+            .copied()
+            .unwrap_or(Look::Nothing);
         let place = match look {
             Look::Address => effective_address(&cpu.memory, word, cpu.pc),
             Look::Stored => target(word, cpu.pc),
             _ => Word::ZERO,
         };
-        Glance { at: cpu.pc, ac: cpu.ac, look, place }
+        Glance {
+            at: cpu.pc,
+            ac: cpu.ac,
+            look,
+            place,
+        }
     }
 
     /// Makes a step, and notes what is new.
@@ -372,9 +416,16 @@ impl<A: Allocator + Copy> Search<A> {
         watcher: &mut Watcher<A>,
         run: &mut Run<A>,
         plan: &Plan<A>,
-    ) -> Result<Progress, NoMemory> {
+        turns: &mut Turns,
+    ) -> Result<Progress, NoMemory>
+        requires profile { profile_of watcher.old.world ≡ (meaning program.now.declaration.now).profile }
+        ensures profile { profile_of watcher.new.world ≡ (meaning program.now.declaration.now).profile }
+        ensures limit { turns.new.limit ≡ turns.old.limit }
+        ensures rises { turns.old.spent ≤ turns.new.spent }
+        ensures within { turns.new.spent ≤ turns.new.limit }
+    {
         let glance = self.glance(watcher);
-        let progress = run.step(watcher, program.declaration)?;
+        let progress = run.step(watcher, program.declaration, turns)?;
         if progress == Progress::GoesOn && plan.purpose != Purpose::Repeat {
             self.note(watcher, run, plan, &glance)?;
         }
@@ -444,7 +495,14 @@ impl<A: Allocator + Copy> Search<A> {
             return Ok(());
         }
         let goal = plan.goal;
-        self.aims.miss(&self.tree, run, miss, goal, &mut self.alphabet, &mut self.random)
+        self.aims.miss(
+            &self.tree,
+            run,
+            miss,
+            goal,
+            &mut self.alphabet,
+            &mut self.random,
+        )
     }
 }
 

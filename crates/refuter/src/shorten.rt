@@ -1,12 +1,17 @@
 //! Makes a run that breaks a rule shorter: what isn't needed is taken out, first half of it, then a
 //! quarter, and so on down to each input and each event by itself.
 
+ghost use Rattle.std.specs.Prelude.{◌≡◌, ◌≤◌};
+ghost use Rattle.declaration.specs.Kept.{meaning};
+ghost use Rattle.peripherals.specs.World.{profile_of};
+
 use crate::plan::{Plan, Purpose};
 use crate::running::Input;
 use crate::script::{Part, Script};
 use crate::search::{Found, Program, Search};
+use crate::stepping::{Stepped, take_step};
 use declaration::Declaration;
-use peripherals::{Event, NoMemory, Start};
+use peripherals::{NoMemory, Start};
 use policy::Watcher;
 use std::alloc::Allocator;
 use turns::Turns;
@@ -24,9 +29,18 @@ pub(crate) fn shortened<A: Allocator + Copy, D: Allocator>(
     program: &Program<'_, D>,
     found: Found<A>,
     turns: &mut Turns,
-) -> Result<Script<A>, NoMemory> {
+) -> Result<Script<A>, NoMemory>
+    ensures limit { turns.new.limit ≡ turns.old.limit }
+    ensures rises { turns.old.spent ≤ turns.new.spent }
+    ensures within { turns.new.spent ≤ turns.new.limit }
+{
     let last = turns.spent().saturating_add(MOST_STEPS);
-    let plan = Plan::of(alloc, Purpose::Repeat, 0, without(alloc, &found.inputs, 0, 0)?);
+    let plan = Plan::of(
+        alloc,
+        Purpose::Repeat,
+        0,
+        without(alloc, &found.inputs, 0, 0)?,
+    );
     let mut best = found;
     if let Some(prompt) = search.follow(program, &plan, turns)? {
         best = prompt;
@@ -61,7 +75,11 @@ fn halve_inputs<A: Allocator + Copy, D: Allocator>(
     found: &mut Found<A>,
     last: u32,
     turns: &mut Turns,
-) -> Result<(), NoMemory> {
+) -> Result<(), NoMemory>
+    ensures limit { turns.new.limit ≡ turns.old.limit }
+    ensures rises { turns.old.spent ≤ turns.new.spent }
+    ensures within { turns.new.spent ≤ turns.new.limit }
+{
     let mut size = found.inputs.len();
     for _ in 0..HALVINGS {
         size = size.saturating_add(1) / 2;
@@ -82,7 +100,11 @@ fn take_out_inputs<A: Allocator + Copy, D: Allocator>(
     size: usize,
     last: u32,
     turns: &mut Turns,
-) -> Result<(), NoMemory> {
+) -> Result<(), NoMemory>
+    ensures limit { turns.new.limit ≡ turns.old.limit }
+    ensures rises { turns.old.spent ≤ turns.new.spent }
+    ensures within { turns.new.spent ≤ turns.new.limit }
+{
     let mut place = 0usize;
     for _ in 0..found.inputs.len() {
         if place >= found.inputs.len() || turns.spent() >= last {
@@ -105,7 +127,11 @@ fn halve_events<A: Allocator + Copy, D: Allocator>(
     script: &mut Script<A>,
     last: u32,
     turns: &mut Turns,
-) -> Result<(), NoMemory> {
+) -> Result<(), NoMemory>
+    ensures limit { turns.new.limit ≡ turns.old.limit }
+    ensures rises { turns.old.spent ≤ turns.new.spent }
+    ensures within { turns.new.spent ≤ turns.new.limit }
+{
     let mut size = script.parts().len();
     for _ in 0..HALVINGS {
         size = size.saturating_add(1) / 2;
@@ -125,7 +151,11 @@ fn take_out_events<A: Allocator + Copy, D: Allocator>(
     size: usize,
     last: u32,
     turns: &mut Turns,
-) -> Result<(), NoMemory> {
+) -> Result<(), NoMemory>
+    ensures limit { turns.new.limit ≡ turns.old.limit }
+    ensures rises { turns.old.spent ≤ turns.new.spent }
+    ensures within { turns.new.spent ≤ turns.new.limit }
+{
     let mut place = 0usize;
     for _ in 0..script.parts().len() {
         if place >= script.parts().len() || turns.spent() >= last {
@@ -147,7 +177,11 @@ fn replayed<A: Allocator + Copy, D: Allocator>(
     place: usize,
     size: usize,
     turns: &mut Turns,
-) -> Result<Option<Script<A>>, NoMemory> {
+) -> Result<Option<Script<A>>, NoMemory>
+    ensures limit { turns.new.limit ≡ turns.old.limit }
+    ensures rises { turns.old.spent ≤ turns.new.spent }
+    ensures within { turns.new.spent ≤ turns.new.limit }
+{
     let declaration = program.declaration;
     let mut watcher = Watcher::new(alloc, program.image, declaration, &Start::zero());
     let mut played = Script::new(alloc);
@@ -158,11 +192,17 @@ fn replayed<A: Allocator + Copy, D: Allocator>(
             return Ok(Some(played));
         }
         if index < place || index - place >= size {
+            played.add(&event)?;
             watcher.next(declaration, event)?;
-            played.add(event)?;
         }
     }
-    if breaks(&mut watcher, declaration, script.last_steps(), &mut played, turns)? {
+    if breaks(
+        &mut watcher,
+        declaration,
+        script.last_steps(),
+        &mut played,
+        turns,
+    )? {
         return Ok(Some(played));
     }
     Ok(None)
@@ -175,14 +215,21 @@ fn breaks<A: Allocator + Copy, D: Allocator>(
     steps: u32,
     played: &mut Script<A>,
     turns: &mut Turns,
-) -> Result<bool, NoMemory> {
+) -> Result<bool, NoMemory>
+    requires profile { profile_of watcher.old.world ≡ (meaning declaration.now).profile }
+    ensures profile { profile_of watcher.new.world ≡ (meaning declaration.now).profile }
+    ensures limit { turns.new.limit ≡ turns.old.limit }
+    ensures rises { turns.old.spent ≤ turns.new.spent }
+    ensures within { turns.new.spent ≤ turns.new.limit }
+{
     for _ in 0..steps {
-        if turns.take().is_err() {
-            return Ok(false);
-        }
-        played.add(Event::Step)?;
-        if watcher.next(declaration, Event::Step)?.is_some() {
-            return Ok(true);
+        match take_step(watcher, declaration, turns)? {
+            Stepped::Kept => played.add_step(),
+            Stepped::NoTurn => return Ok(false),
+            Stepped::Broke => {
+                played.add_step();
+                return Ok(true);
+            }
         }
     }
     Ok(false)

@@ -1,5 +1,9 @@
 //! The tree of kept states: those in which a program asks for an input after something new was seen.
 
+ghost use Rattle.std.specs.Prelude.{◌≡◌, IfOk};
+ghost use Rattle.declaration.specs.Kept.{meaning};
+ghost use Rattle.peripherals.specs.World.{profile_of};
+
 use crate::asking::Ask;
 use crate::random::Random;
 use crate::running::Input;
@@ -129,9 +133,23 @@ impl<A: Allocator + Copy> Tree<A> {
             group_of: Vec::from_elem(alloc, None, 4096)?,
             bytes: 0,
         };
-        tree.groups.push(Group { states: Vec::new(alloc) }).map_err(|_| NoMemory)?;
-        let tail = Tail { base: 0, inputs: Vec::new(alloc) };
-        tree.keep(&watcher, tail, Script::new(alloc), Extent::NONE, Ask::Key, None)?;
+        tree.groups
+            .push(Group {
+                states: Vec::new(alloc),
+            })
+            .map_err(|_| NoMemory)?;
+        let tail = Tail {
+            base: 0,
+            inputs: Vec::new(alloc),
+        };
+        tree.keep(
+            &watcher,
+            tail,
+            Script::new(alloc),
+            Extent::NONE,
+            Ask::Key,
+            None,
+        )?;
         Ok(tree)
     }
 
@@ -161,7 +179,15 @@ impl<A: Allocator + Copy> Tree<A> {
             .saturating_add(machine.cells.len().saturating_mul(2))
             .saturating_add(machine.calls.len().saturating_mul(4));
         let Tail { base, inputs } = tail;
-        let kept = Kept { parent: base, script, inputs, extent, machine, ask, tries: 0 };
+        let kept = Kept {
+            parent: base,
+            script,
+            inputs,
+            extent,
+            machine,
+            ask,
+            tries: 0,
+        };
         self.states.push(kept).map_err(|_| NoMemory)?;
         self.put_in_group(number, place)?;
         Ok(number)
@@ -198,7 +224,10 @@ impl<A: Allocator + Copy> Tree<A> {
         &self,
         program: &Program<'_, D>,
         number: usize,
-    ) -> Result<Watcher<A>, NoMemory> {
+    ) -> Result<Watcher<A>, NoMemory>
+        ensures profile { IfOk result (λ watcher. profile_of watcher.world
+            ≡ (meaning program.now.declaration.now).profile) }
+    {
         let Some(kept) = self.states.get(number) else {
             return Ok(Watcher::new(
                 self.alloc,

@@ -1,5 +1,7 @@
 //! At which bytes the failed tests hint, counted for each test.
 
+ghost use Rattle.std.specs.Prelude.{◌<◌};
+
 use crate::alphabet::Alphabet;
 use crate::random::Random;
 use indexmap::IndexMap;
@@ -137,7 +139,9 @@ pub(crate) struct Pointer {
 
 impl Pointer {
     /// The number of its kind.
-    fn kind(&self) -> usize {
+    fn kind(&self) -> usize
+        ensures { result < 10 }
+    {
         let back = self.back.saturating_sub(1).min(MOST_BACK - 1);
         back * 2 + (self.is_sum as usize)
     }

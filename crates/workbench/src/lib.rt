@@ -4,6 +4,7 @@
 mod files;
 mod joined;
 mod program;
+mod saving;
 
 pub use commands::{
     assembling, checking, declaring, explaining, guessing, migrating, refuting, running, session,

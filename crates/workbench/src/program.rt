@@ -4,6 +4,7 @@ ghost use Rattle.std.specs.Prelude.{◌≤◌};
 
 use crate::files::{open_input, open_inputs, open_output};
 use crate::joined::{hold_session, tell_to};
+use crate::saving::{save_answer, save_proposed};
 use clap::Error;
 use command_line::{Refused, Request, parse_words};
 use commands::assembling::{assemble, list};
@@ -16,6 +17,7 @@ use commands::refuting::{RefuteOptions, refute};
 use commands::running::{RunOptions, dump, run, run_events};
 use commands::status::{DeviceFault, Fault, Status};
 use commands::stuck::guess_or_explain;
+use commands::verifying::{VerifyOptions, answer_status, verify, verify_proposed};
 use commands::watching::watch;
 use instruct::Profile;
 use std::alloc::Global;
@@ -82,6 +84,9 @@ fn refuse<R: Print + Eprint>(rt: &R, refused: Refused) -> Status {
         Refused::Switches(fault) => { eprintln!(rt; "error: bad value for '--switches': {fault}") }
         Refused::EventsAndOperator => eprintln!(rt;
             "error: '--events' can't stand beside the words for the reader, the punch, the teletype and the switches"
+        ),
+        Refused::DeclarationAndStart => eprintln!(rt;
+            "error: a declaration has its own start and machine: '--start' and '--profile' can't stand beside it"
         ),
         Refused::PunchToOutput => eprintln!(rt; "error: '--punch' takes the name of a file"),
         Refused::Steps(most) => eprintln!(rt;
@@ -157,6 +162,12 @@ fn answer<R: Files + Input + Print + Eprint>(
             out,
             options,
         } => refute_from(rt, alloc, tape, declaration, out, *options),
+        Request::Verify {
+            tape,
+            declaration,
+            save,
+            options,
+        } => verify_from(rt, alloc, tape, *declaration, *save, options),
         Request::Migrate { certificate, out } => migrate_from(rt, alloc, certificate, out),
     }
 }
@@ -283,6 +294,28 @@ fn guess_from<R: Files + Input + Print + Eprint>(
         return guess_or_explain(alloc, &mut frames, &mut text, &mut certificate, &mut report);
     }
     guess(alloc, &mut frames, &mut text, &mut certificate)
+}
+
+/// Says whether the program of a file's tape keeps its declaration, or the one that is proposed for it.
+fn verify_from<R: Files + Input + Print>(
+    rt: &R,
+    alloc: Global,
+    tape: &str,
+    declaration: Option<&str>,
+    save: Option<&str>,
+    options: &VerifyOptions,
+) -> Result<Status, Fault> {
+    let mut frames = open_input(rt, tape)?;
+    let mut out = Writes::new(io::writer(rt));
+    let Some(declaration) = declaration else {
+        let proposed = verify_proposed(alloc, &mut frames, *options, &mut out)?;
+        save_proposed(rt, alloc, save, &proposed)?;
+        return Ok(answer_status(&proposed.answer));
+    };
+    let mut text = open_input(rt, declaration)?;
+    let answer = verify(alloc, &mut frames, &mut text, options.search, &mut out)?;
+    save_answer(rt, alloc, save, &answer)?;
+    Ok(answer_status(&answer))
 }
 
 /// Looks for a run of the tape of a file that breaks its declaration.

@@ -433,7 +433,7 @@ fn refute_command<'a>(alloc: Global) -> Result<Command<'a>, AllocError> {
     Command::new(alloc, "refute")
         .about("Looks for a run that breaks a declaration, and writes its events")
         .after_help(
-            "OUT is another file: it is emptied before an input is read, and stays empty where nothing is found. The same seed gives the same answer.\n\nExample:\n  pdp8 refute hello.bin hello.declaration hello.events && pdp8 watch hello.bin hello.declaration hello.events",
+            "OUT is another file: it is emptied before an input is read, and stays empty where nothing is found. The same seed gives the same answer.\n\nExample:\n  pdp8 refute hello.bin hello.declaration found.events --why",
         )
         .arg(tape_word(alloc))?
         .arg(declaration_word(alloc))?

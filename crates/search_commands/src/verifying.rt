@@ -84,7 +84,13 @@ fn refuted<A: Allocator + Copy, D: Allocator>(
     ensures faults { IfErr result IsMemoryFault }
 {
     let mut turns = Turns::new(options.steps);
-    match refute_within(alloc, image, declaration, u64::from(options.seed), &mut turns)? {
+    match refute_within(
+        alloc,
+        image,
+        declaration,
+        u64::from(options.seed),
+        &mut turns,
+    )? {
         Some(found) => Ok(Answer::No(found)),
         None => Ok(Answer::NotKnown(lack)),
     }
@@ -341,7 +347,13 @@ pub fn verify_proposed<A: Allocator + Copy, R: ByteSource, W: ByteSink>(
         ..
     } = proposal;
     let answer = answer_by(alloc, &image, &declaration, verdict, &options.search)?;
-    let told = told_of(alloc, &image, &declaration, &answer, options.search.explained)?;
+    let told = told_of(
+        alloc,
+        &image,
+        &declaration,
+        &answer,
+        options.search.explained,
+    )?;
     put(out, &told)?;
     Ok(Proposed { text, answer })
 }

@@ -7,6 +7,7 @@ ghost use Rattle.machine_commands.specs.WatchText.{IsWatched, IsWatchedSo, broke
 ghost use Rattle.command_parts.specs.Writes.{FrontOf, Writes};
 ghost use Rattle.command_parts.specs.declared.status.Fault.TheVariants.{NoMemory};
 
+use crate::breach::breach_lines;
 use command_parts::inputs::{declaration_from, events_from, tape_from};
 use command_parts::status::{Fault, Status};
 use itoa::Buffer;
@@ -16,7 +17,11 @@ use std::alloc::{AllocError, Allocator};
 use streams::{ByteSink, ByteSource, put};
 
 /// The line for a broken rule.
-fn broken_line<A: Allocator>(alloc: A, event: usize, rule: Rule) -> Result<Vec<u8, A>, AllocError>
+pub(crate) fn broken_line<A: Allocator>(
+    alloc: A,
+    event: usize,
+    rule: Rule,
+) -> Result<Vec<u8, A>, AllocError>
     ensures { IfOk result (λ text. text.items ≡ broken_text event rule) }
 {
     let mut text = Vec::new(alloc);
@@ -54,7 +59,8 @@ fn watched_status(watched: Watched) -> Status
 
 /// Runs a tape by a list of events, from the declared start with all registers and all cells that
 /// aren't on the tape 0, and writes whether each of its steps is legal, or which event is the first
-/// that isn't and the least rule that it breaks; then the status is `Refused`.
+/// that isn't and the least rule that it breaks; then the status is `Refused`. Where it is to be
+/// explained, lines follow that say what that step is about to do, which are tested and not proved.
 ///
 /// # Errors
 ///
@@ -67,6 +73,7 @@ pub fn watch<A: Allocator + Copy, R: ByteSource, D: ByteSource, E: ByteSource, W
     tape: &mut R,
     declaration: &mut D,
     list: &mut E,
+    explained: bool,
     out: &mut W,
 ) -> Result<Status, Fault>
     requires readable { R.mark tape.old ≡ false }
@@ -75,17 +82,18 @@ pub fn watch<A: Allocator + Copy, R: ByteSource, D: ByteSource, E: ByteSource, W
     requires writable { W.mark out.old ≡ false }
     // What is written is what is seen of the run.
     ensures watched { IfOk result (λ status. Writes
-        (λ line. IsWatchedSo (R.remaining tape.old) (D.remaining declaration.old)
-        (E.remaining list.old) line status)
+        (λ told. IsWatchedSo (R.remaining tape.old) (D.remaining declaration.old)
+        (E.remaining list.old) explained told status)
         (W.taken out.old) (W.taken out.new)) }
     // A fault is that of the first input that has one.
     ensures faults { IfErr result (IsWatchFault
         (input (R.mark tape.new) (R.remaining tape.old) (R.remaining tape.new))
         (input (D.mark declaration.new) (D.remaining declaration.old) (D.remaining declaration.new))
         (input (E.mark list.new) (E.remaining list.old) (E.remaining list.new))) }
-    // Where a write failed, a front of the line went out,
+    // Where a write failed, a front of that went out,
     ensures front { W.mark out.new ≡ true → FrontOf
-        (IsWatched (R.remaining tape.old) (D.remaining declaration.old) (E.remaining list.old))
+        (IsWatched (R.remaining tape.old) (D.remaining declaration.old) (E.remaining list.old)
+        explained)
         (W.taken out.old) (W.taken out.new) }
     // and any other fault leaves the output as it was.
     ensures nothing { OnErr result (W.mark out.new ≡ false → W.taken out.new ≡ W.taken out.old) }
@@ -120,7 +128,9 @@ pub fn watch<A: Allocator + Copy, R: ByteSource, D: ByteSource, E: ByteSource, W
     let promised = declaration_from(alloc, declaration)?;
     let happened = events_from(alloc, list)?;
     let watched = policy::watch(alloc, &image, &promised, &Start::zero(), &happened)?;
-    let text = watched_line(alloc, watched)?;
+    let mut text = watched_line(alloc, watched)?;
+    let why = breach_lines(alloc, &image, &promised, &happened, watched, explained)?;
+    text.extend_from_slice(&why)?;
     put(out, &text)?;
     Ok(watched_status(watched))
 }

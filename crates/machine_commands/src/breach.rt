@@ -198,8 +198,10 @@ pub fn breach_lines<A: Allocator + Copy, D: Allocator>(
         return Ok(Vec::new(alloc));
     }
     let mut watcher = Watcher::new(alloc, image, declaration, &Start::zero());
-    for happened in events.iter().take(event) {
-        watcher.next(declaration, *happened)?;
+    for index in 0..event {
+        if let Some(happened) = events.get(index) {
+            watcher.next(declaration, *happened)?;
+        }
     }
     Ok(lines_of(alloc, declaration, &watcher, rule)?)
 }

@@ -26,7 +26,7 @@ KINDS = {
                    '|TooMany|HaltNotInBody [0-7]{4}',
     'certificate': 'Version|BadLine \\d+|Order \\d+|TooMany',
     'events': 'BadLine \\d+|TooMany',
-    'guess': 'TurnsSpent|TooLong|Stuck [0-7]{4}',
+    'guess': 'TurnsSpent|Stuck [0-7]{4}',
     'declare': 'Undeclarable [A-Z][A-Za-z]*( [0-7]+)?|Mismatch',
 }
 FAULT = re.compile('pdp8: (?:%s)\n' % '|'.join(f'{kind}: (?:{names})' for kind, names in KINDS.items()))

@@ -1,10 +1,9 @@
 -- What a search came to.
-use Rattle.std.specs.Prelude.{◌≡◌, ◌<◌, ◌≤◌, ◌⊎◌, ℕ, ⊤, true, length, List, Option}
+use Rattle.std.specs.Prelude.{◌≡◌, ◌<◌, ℕ, ⊤, true, List, Option}
 use Rattle.declaration.specs.Declaration.{Declaration, Routine}
 use Rattle.declaration.specs.Kept as declared
 use Rattle.certificate.specs.Certificate.{Certificate}
-use Rattle.certificate.specs.Kept.{Kept, claims, meaning}
-use Rattle.certificate.specs.Spelling.{text}
+use Rattle.certificate.specs.Kept.{Kept, claims}
 use Rattle.analyser.specs.Accepted.{IsAccepted}
 use Rattle.analyser.specs.declared.Attempt.{Attempt}
 use Rattle.analyser.specs.declared.Attempt.TheVariants.{Found, Stuck}
@@ -13,11 +12,6 @@ use Rattle.analyser.specs.declared.Attempt.TheVariants.{Found, Stuck}
 abbrev pub claimed_by : {A : Type 0} → Attempt A → Kept
 claimed_by (Found c) = c
 claimed_by (Stuck at c) = c
-
--- What was found has no more bytes than are read of a certificate; nothing is said of a draft.
-abbrev pub IsShortIfFound : {A : Type 0} → Attempt A → Type 0
-IsShortIfFound (Found c) = length (text (meaning c)) ≤ 1048576
-IsShortIfFound (Stuck at c) = ⊤
 
 -- The judge accepts what was found; nothing is said of a draft.
 abbrev pub IsAcceptedIfFound : {A : Type 0} → List (Option ℕ) → declared.Kept → Attempt A → Type 0
@@ -34,10 +28,10 @@ pub record StandsRight (d : Declaration) (c : Certificate) (a : ℕ) : Type 0 wh
   pub routine : c.listed a ≡ true → d.entry a ≡ true
   pub exits : (o : ℕ) → o < 8 → c.has_exit a o ≡ true → d.entry a ≡ true
 
--- A draft's lines are where they may be, and where it is stuck it has a fact, or that is an entry.
+-- A draft's lines are where they may be, and where it is stuck it has a fact.
 pub record IsDraft (d : Declaration) (at : ℕ) (c : Certificate) : Type 0 where
   pub stands : (a : ℕ) → a < 4096 → StandsRight d c a
-  pub there : (c.has_fact at ≡ true) ⊎ (d.entry at ≡ true)
+  pub there : c.has_fact at ≡ true
 
 -- This is promised of a draft; nothing is said here of what was found.
 abbrev pub IsDraftIfStuck : {A : Type 0} → Declaration → Attempt A → Type 0

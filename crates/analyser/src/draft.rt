@@ -57,8 +57,7 @@ fn stands_right<A: Allocator, D: Allocator>(
     draft.routine(at).is_none() && !has_exit(draft, at, fact)
 }
 
-/// Whether all lines are where they may be, and there is a fact where the draft is stuck, or that is
-/// an entry.
+/// Whether all lines are where they may be, and there is a fact where the draft is stuck.
 pub(crate) fn is_draft<A: Allocator, D: Allocator>(
     declaration: &Declaration<D>,
     draft: &Certificate<A>,
@@ -72,5 +71,5 @@ pub(crate) fn is_draft<A: Allocator, D: Allocator>(
             return false;
         }
     }
-    declaration.is_entry(stuck) || draft.fact_into(stuck, &mut fact)
+    draft.fact_into(stuck, &mut fact)
 }

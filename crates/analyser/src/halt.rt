@@ -1,7 +1,8 @@
 //! Why a search comes to a halt though turns are left.
 
-ghost use Rattle.std.specs.Prelude.{◌≢◌};
+ghost use Rattle.std.specs.Prelude.{◌≡◌, ◌≢◌};
 ghost use Rattle.turns.specs.declared.GuessFault.TheVariants.{TurnsSpent};
+ghost use Rattle.analyser.specs.Halts.{fault_of};
 
 use turns::GuessFault;
 use word12::Word;
@@ -18,7 +19,8 @@ pub(crate) enum Halt {
 impl Halt {
     /// The fault that is told.
     pub(crate) fn fault(&self) -> GuessFault
-        ensures { result ≢ TurnsSpent }
+        ensures same { result ≡ fault_of self.now }
+        ensures left { result ≢ TurnsSpent }
     {
         match self {
             Halt::Stuck(at) => GuessFault::Stuck(*at),

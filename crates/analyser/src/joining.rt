@@ -110,7 +110,7 @@ fn add_moved<A: Allocator>(
 fn grow(line: &mut Line, known: &Known<'_>, limits: &Limits, pace: Pace) {
     let cell = line.tracked.cell;
     let old = line.tracked.set;
-    let set = old.union(&left_to(known, &Name::Cell(cell)));
+    let set = old.union(&left_to(known, &Name::Cell(cell), limits));
     let growths = line.growths.saturating_add(1);
     let counted = limits.counted.contains(cell);
     line.tracked.set = widened(&old, &set, growths, counted, limits, pace);
@@ -217,14 +217,14 @@ impl<A: Allocator> Kept<A> {
         moved: &mut Vec<Moved, A>,
     ) -> Result<bool, Halt> {
         let grew = !self.covers_registers(known);
-        self.mq = self.mq.union(&known.mq());
+        self.mq = limits.smoothed(&self.mq.union(&known.mq()));
         self.link = self.link.union(known.link());
         self.offsets = joined_offsets(self.offsets, known.offsets());
         if self.covers_accumulator(known) {
             return Ok(grew);
         }
         add_moved(moved, Name::Accumulator, &self.ac, known)?;
-        let set = self.ac.union(&left_to(known, &Name::Accumulator));
+        let set = self.ac.union(&left_to(known, &Name::Accumulator, limits));
         self.growths = self.growths.saturating_add(1);
         self.ac = widened(&self.ac, &set, self.growths, false, limits, pace);
         Ok(true)

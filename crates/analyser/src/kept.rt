@@ -6,7 +6,7 @@ ghost use Rattle.certificate.specs.Reading.{place_of_equation};
 ghost use Rattle.analyser.specs.Claimed.{cell_of, said_of, has_room};
 
 use crate::halt::Halt;
-use crate::widening::smoothed;
+use crate::widening::Limits;
 use facts::{Equation, Fact, Known, Name, Offsets, TrackedCell};
 use std::alloc::Allocator;
 use word12::Word;
@@ -25,9 +25,11 @@ pub(crate) struct Line {
     pub(crate) growths: u32,
 }
 
-/// A fact, and how often the accumulator's words grew.
+/// A fact, how often the accumulator's words grew, and of which instruction it is told: the one where it
+/// holds, or for an exit the return that was met first.
 #[derive(Drop)]
 pub(crate) struct Kept<A: Allocator> {
+    pub(crate) at: Word,
     pub(crate) ac: WordSet,
     pub(crate) mq: WordSet,
     pub(crate) link: Links,
@@ -39,12 +41,12 @@ pub(crate) struct Kept<A: Allocator> {
 
 /// The words that are left to a name by one step along its equations, or all of its words where the
 /// equations contradict; filled where they are ragged.
-pub(crate) fn left_to(known: &Known<'_>, name: &Name) -> WordSet {
+pub(crate) fn left_to(known: &Known<'_>, name: &Name, limits: &Limits) -> WordSet {
     let narrowed = known.narrowed(name);
     if narrowed.is_empty() {
-        smoothed(&known.set(name))
+        limits.smoothed(&known.set(name))
     } else {
-        smoothed(&narrowed)
+        limits.smoothed(&narrowed)
     }
 }
 
@@ -93,11 +95,12 @@ fn first_from(equations: &[Equation], from: usize) -> Option<Equation> {
 }
 
 impl<A: Allocator + Copy> Kept<A> {
-    /// What is known, without cells and equations.
-    pub(crate) fn bare(alloc: A, known: &Known<'_>) -> Kept<A> {
+    /// What is known at an instruction, without cells and equations.
+    pub(crate) fn bare(alloc: A, at: Word, known: &Known<'_>, limits: &Limits) -> Kept<A> {
         Kept {
-            ac: left_to(known, &Name::Accumulator),
-            mq: known.mq(),
+            at,
+            ac: left_to(known, &Name::Accumulator, limits),
+            mq: limits.smoothed(&known.mq()),
             link: known.link(),
             offsets: known.offsets(),
             growths: 0,
@@ -106,19 +109,30 @@ impl<A: Allocator + Copy> Kept<A> {
         }
     }
 
-    /// What is known, of the tracked cells alone.
-    pub(crate) fn of(alloc: A, tracked: &WordSet, known: &Known<'_>) -> Result<Kept<A>, Halt> {
-        let mut kept = Kept::bare(alloc, known);
-        kept.take_cells(tracked, known)?;
+    /// What is known at an instruction, of the tracked cells alone.
+    pub(crate) fn of(
+        alloc: A,
+        at: Word,
+        tracked: &WordSet,
+        known: &Known<'_>,
+        limits: &Limits,
+    ) -> Result<Kept<A>, Halt> {
+        let mut kept = Kept::bare(alloc, at, known, limits);
+        kept.take_cells(tracked, known, limits)?;
         kept.take_equations(tracked, known)?;
         Ok(kept)
     }
 
     /// Adds what is known of the tracked cells.
-    fn take_cells(&mut self, tracked: &WordSet, known: &Known<'_>) -> Result<(), Halt> {
+    fn take_cells(
+        &mut self,
+        tracked: &WordSet,
+        known: &Known<'_>,
+        limits: &Limits,
+    ) -> Result<(), Halt> {
         let mut next = 0usize;
         while let Some(cell) = tracked.first_from(next) {
-            self.track(cell, left_to(known, &Name::Cell(cell)), 0)?;
+            self.track(cell, left_to(known, &Name::Cell(cell), limits), 0)?;
             next = cell.index() + 1;
         }
         Ok(())
@@ -155,6 +169,7 @@ impl<A: Allocator + Copy> Kept<A> {
     /// The part that speaks of the accumulator and of written cells, its equations in rising order.
     pub(crate) fn written(&self, alloc: A, cells: &WordSet) -> Result<Kept<A>, Halt> {
         let mut kept = Kept {
+            at: self.at,
             ac: self.ac,
             mq: self.mq,
             link: self.link,

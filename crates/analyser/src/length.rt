@@ -1,10 +1,7 @@
 //! Whether the text of a certificate is short enough to be read again.
 
-ghost use Rattle.std.specs.Prelude.{◌≡◌, ◌≤◌, [], length, true, false, IfOk};
-ghost use Rattle.certificate.specs.Spelling.{text};
-ghost use Rattle.certificate.specs.Kept.{meaning};
+ghost use Rattle.std.specs.Prelude.{◌≡◌, false};
 
-use crate::halt::Halt;
 use certificate::Certificate;
 use std::alloc::Allocator;
 use streams::{ByteSink, Failed};
@@ -12,33 +9,29 @@ use streams::{ByteSink, Failed};
 /// The most bytes that are read of a certificate.
 const MOST_BYTES: usize = 1_048_576;
 
-/// The bytes taken so far, with room for those of a certificate, whether memory was refused, and
-/// whether a write failed.
+/// A sink that counts bytes and keeps none, and takes no more than are read of a certificate.
 #[derive(Drop)]
-struct Text<A: Allocator> {
-    bytes: Vec<u8, A>,
-    refused: bool,
+struct Count {
+    bytes: usize,
     failed: bool,
 }
 
-impl<A: Allocator> Text<A> {
-    /// Takes its memory from this allocator.
-    fn new(alloc: A) -> Text<A>
-        ensures taken { result.bytes.items ≡ [] }
-        ensures unmarked { result.failed ≡ false }
+impl Count {
+    /// None was taken yet.
+    fn new() -> Count
+        ensures { result.failed ≡ false }
     {
-        Text {
-            bytes: Vec::new(alloc),
-            refused: false,
+        Count {
+            bytes: 0,
             failed: false,
         }
     }
 }
 
-impl<A: Allocator> ByteSink for Text<A> {
-    ghost use Rattle.std.specs.Prelude.{Some};
+impl ByteSink for Count {
+    ghost use Rattle.std.specs.Prelude.{None};
 
-    ghost taken = { λ sink. Some sink.bytes.items };
+    ghost taken = { λ sink. None };
 
     ghost mark = { λ sink. sink.failed };
 
@@ -47,18 +40,12 @@ impl<A: Allocator> ByteSink for Text<A> {
         if count == 0 {
             return Ok(0);
         }
-        if count > MOST_BYTES.saturating_sub(self.bytes.len()) {
+        if count > MOST_BYTES.saturating_sub(self.bytes) {
             self.failed = true;
             return Err(Failed);
         }
-        match self.bytes.extend_from_slice(piece) {
-            Ok(()) => Ok(count),
-            Err(_) => {
-                self.refused = true;
-                self.failed = true;
-                Err(Failed)
-            }
-        }
+        self.bytes = self.bytes.saturating_add(count);
+        Ok(count)
     }
 
     fn failed(&self) -> bool {
@@ -66,23 +53,7 @@ impl<A: Allocator> ByteSink for Text<A> {
     }
 }
 
-/// Whether the text of a certificate is seen to have at most 1,048,576 bytes.
-pub(crate) fn is_short<A: Allocator, C: Allocator>(
-    alloc: A,
-    certificate: &Certificate<C>,
-) -> Result<bool, Halt>
-    ensures { IfOk result (λ short. short ≡ true →
-        length (text (meaning certificate.now)) ≤ 1048576) }
-{
-    let mut sink = Text::new(alloc);
-    match certificate.write(&mut sink) {
-        Ok(()) => Ok(sink.bytes.len() <= MOST_BYTES),
-        Err(_) => {
-            if sink.refused {
-                Err(Halt::NoMemory)
-            } else {
-                Ok(false)
-            }
-        }
-    }
+/// Whether the text of a certificate has at most 1,048,576 bytes.
+pub(crate) fn is_short<A: Allocator>(certificate: &Certificate<A>) -> bool {
+    certificate.write(&mut Count::new()).is_ok()
 }

@@ -1,15 +1,16 @@
 //! Guesses at why a program is safe: certificates, which `judge` then tests.
 #![tactic(auto)]
 
-ghost use Rattle.std.specs.Prelude.{◌≡◌, ◌≢◌, ◌≤◌, length, IfErr, IfOk};
+ghost use Rattle.std.specs.Prelude.{◌≡◌, ◌≢◌, ◌≤◌, IfErr, IfOk};
 ghost use Rattle.declaration.specs.Kept.{meaning as declared};
-ghost use Rattle.certificate.specs.Kept.{meaning};
-ghost use Rattle.certificate.specs.Spelling.{text};
+ghost use Rattle.certificate.specs.Kept.{claims, meaning};
 ghost use Rattle.certificate.specs.Reading.{AreLines};
+ghost use Rattle.judge.specs.Judged.{judged};
+ghost use Rattle.turns.specs.Counts.{IsSpentUp};
 ghost use Rattle.turns.specs.declared.GuessFault.TheVariants.{TurnsSpent};
 ghost use Rattle.analyser.specs.Accepted.{IsAccepted};
-ghost use Rattle.analyser.specs.Attempts.{IsAcceptedIfFound, IsDraftIfStuck, IsShortIfFound, claimed_by};
-ghost use Rattle.turns.specs.Counts.{IsSpentUp};
+ghost use Rattle.analyser.specs.Attempts.{IsAcceptedIfFound, IsDraftIfStuck, claimed_by};
+ghost use Rattle.analyser.specs.Halts.{IsRefused};
 ghost use Rattle.analyser.specs.Versions.{version_of};
 
 mod draft;
@@ -21,6 +22,7 @@ mod length;
 mod making;
 mod needs;
 mod program;
+mod ranks;
 mod search;
 mod table;
 mod widening;
@@ -30,6 +32,7 @@ use crate::halt::Halt;
 use crate::length::is_short;
 use crate::program::Program;
 use crate::search::Search;
+use crate::widening::{MANY_RUNS, ONE_RUN};
 use bin_tape::Image;
 use certificate::{Certificate, Version};
 use declaration::Declaration;
@@ -39,7 +42,7 @@ use std::alloc::Allocator;
 pub use turns::{GuessFault, Turns};
 use word12::Word;
 
-/// The turns that `guess` allows.
+/// The turns that `guess` has.
 const MOST_TURNS: u32 = 2_000_000;
 
 /// What a search came to.
@@ -62,22 +65,6 @@ fn version_of(profile: Profile) -> Version
     }
 }
 
-/// A certificate, if its text is short enough to be read again.
-fn short<A: Allocator + Copy>(
-    alloc: A,
-    certificate: Certificate<A>,
-) -> Result<Certificate<A>, GuessFault>
-    ensures same { IfOk result (λ c. c ≡ certificate) }
-    ensures short { IfOk result (λ c. length (text (meaning c)) ≤ 1048576) }
-    ensures left { IfErr result (λ fault. fault ≢ TurnsSpent) }
-{
-    match is_short(alloc, &certificate) {
-        Ok(true) => Ok(certificate),
-        Ok(false) => Err(GuessFault::TooLong),
-        Err(halt) => Err(halt.fault()),
-    }
-}
-
 /// A certificate, if the judge accepts it.
 fn accepted<A: Allocator, D: Allocator>(
     image: &Image,
@@ -86,6 +73,8 @@ fn accepted<A: Allocator, D: Allocator>(
 ) -> Result<Certificate<A>, GuessFault>
     ensures same { IfOk result (λ c. c ≡ certificate) }
     ensures accepted { IfOk result (IsAccepted image.now declaration.now) }
+    ensures refused { IfErr result
+        (IsRefused (judged image.now declaration.now (claims certificate))) }
     ensures left { IfErr result (λ fault. fault ≢ TurnsSpent) }
 {
     match judge(image, declaration, &certificate) {
@@ -94,27 +83,8 @@ fn accepted<A: Allocator, D: Allocator>(
     }
 }
 
-/// A certificate, if its text is short enough to be read again and the judge accepts it.
-fn tested<A: Allocator + Copy, D: Allocator>(
-    alloc: A,
-    image: &Image,
-    declaration: &Declaration<D>,
-    certificate: Certificate<A>,
-) -> Result<Certificate<A>, GuessFault>
-    ensures same { IfOk result (λ c. c ≡ certificate) }
-    ensures accepted { IfOk result (IsAccepted image.now declaration.now) }
-    ensures short { IfOk result (λ c. length (text (meaning c)) ≤ 1048576) }
-    ensures left { IfErr result (λ fault. fault ≢ TurnsSpent) }
-{
-    match short(alloc, certificate) {
-        Ok(certificate) => accepted(image, declaration, certificate),
-        Err(fault) => Err(fault),
-    }
-}
-
 /// Searches, and gives the certificate of what was found.
 fn found_by<A: Allocator + Copy, D: Allocator>(
-    alloc: A,
     search: &mut Search<A>,
     program: &Program<'_, D>,
     version: Version,
@@ -122,7 +92,6 @@ fn found_by<A: Allocator + Copy, D: Allocator>(
 ) -> Result<Certificate<A>, GuessFault>
     ensures lines { IfOk result (λ c. AreLines (meaning c)) }
     ensures version { IfOk result (λ c. (meaning c).version ≡ version) }
-    ensures short { IfOk result (λ c. length (text (meaning c)) ≤ 1048576) }
     ensures accepted { IfOk result
         (IsAccepted program.now.image.now program.now.declaration.now) }
     ensures limit { turns.new.limit ≡ turns.old.limit }
@@ -132,8 +101,37 @@ fn found_by<A: Allocator + Copy, D: Allocator>(
 {
     search.run_all(program, turns)?;
     match search.finish(program, version) {
-        Ok(certificate) => tested(alloc, program.image, program.declaration, certificate),
+        Ok(certificate) => accepted(program.image, program.declaration, certificate),
         Err(halt) => Err(halt.fault()),
+    }
+}
+
+/// Searches, and gives the certificate of what was found. Where its text is too long to be read again,
+/// one more search fills all sets, and what it finds takes the place of that certificate.
+fn found_within<A: Allocator + Copy, D: Allocator>(
+    search: &mut Search<A>,
+    program: &Program<'_, D>,
+    version: Version,
+    turns: &mut Turns,
+) -> Result<Certificate<A>, GuessFault>
+    ensures lines { IfOk result (λ c. AreLines (meaning c)) }
+    ensures version { IfOk result (λ c. (meaning c).version ≡ version) }
+    ensures accepted { IfOk result
+        (IsAccepted program.now.image.now program.now.declaration.now) }
+    ensures limit { turns.new.limit ≡ turns.old.limit }
+    ensures rises { turns.old.spent ≤ turns.new.spent }
+    ensures within { turns.new.spent ≤ turns.new.limit }
+    ensures spent { IfErr result (IsSpentUp turns.new) }
+{
+    let certificate = found_by(search, program, version, turns)?;
+    if is_short(&certificate) {
+        return Ok(certificate);
+    }
+    let filled = Program::of(program.image, program.declaration, ONE_RUN);
+    match found_by(search, &filled, version, turns) {
+        Ok(shorter) => Ok(shorter),
+        Err(GuessFault::NoMemory) => Err(GuessFault::NoMemory),
+        Err(_) => Ok(certificate),
     }
 }
 
@@ -146,7 +144,6 @@ fn drafted_by<A: Allocator + Copy, D: Allocator>(
 ) -> Result<Attempt<A>, GuessFault>
     ensures lines { IfOk result (λ a. AreLines (meaning (claimed_by a))) }
     ensures version { IfOk result (λ a. (meaning (claimed_by a)).version ≡ version) }
-    ensures short { IfOk result IsShortIfFound }
     ensures accepted { IfOk result
         (IsAcceptedIfFound program.now.image.now program.now.declaration.now) }
     ensures draft { IfOk result (IsDraftIfStuck (declared program.now.declaration.now)) }
@@ -164,14 +161,14 @@ fn drafted_by<A: Allocator + Copy, D: Allocator>(
 
 /// Looks for facts, exits and written sets that show a tape's words safe under a declaration. What
 /// is found is a certificate that the judge accepts, of version 1 for a PDP-8/I and of version 2 for a
-/// PDP-8/E: no run of the program breaks the declaration. That one is found isn't promised.
+/// PDP-8/E: no run of the program breaks the declaration. That one is found isn't promised. A turn is
+/// one `post`, taken right before it.
 ///
 /// # Errors
 ///
-/// `TurnsSpent` with all turns spent, `Stuck` at an instruction that the judge would refuse or at
-/// an entry whose routine calls itself by way of others or leads to one that does (and at the address of a fact or the entry of
-/// an exit that has no line in a certificate, or where the judge refuses what was found), `TooLong` for
-/// what no checker would read, and `NoMemory`.
+/// `TurnsSpent` with all turns spent; `Stuck` at an instruction that the judge would refuse, at the
+/// least of the calls that go round in a circle, or where the judge refuses what was found; and
+/// `NoMemory`.
 pub fn guess_within<A: Allocator + Copy, D: Allocator>(
     alloc: A,
     image: &Image,
@@ -183,22 +180,46 @@ pub fn guess_within<A: Allocator + Copy, D: Allocator>(
     ensures lines { IfOk result (λ c. AreLines (meaning c)) }
     ensures version { IfOk result (λ c. (meaning c).version ≡
         version_of (declared declaration.now).profile) }
-    ensures short { IfOk result (λ c. length (text (meaning c)) ≤ 1048576) }
     ensures limit { turns.new.limit ≡ turns.old.limit }
     ensures rises { turns.old.spent ≤ turns.new.spent }
     ensures within { turns.new.spent ≤ turns.new.limit }
     ensures spent { IfErr result (IsSpentUp turns.new) }
 {
     turns.are_within();
-    let program = Program::of(image, declaration);
+    let program = Program::of(image, declaration, MANY_RUNS);
     let Ok(mut search) = Search::new(alloc) else {
         return Err(GuessFault::NoMemory);
     };
     let version = version_of(declaration.profile());
-    found_by(alloc, &mut search, &program, version, turns)
+    found_within(&mut search, &program, version, turns)
 }
 
-/// Looks for a guess within 2,000,000 turns.
+/// Looks for a guess within 2,000,000 turns, and tells how many were taken.
+///
+/// # Errors
+///
+/// As `guess_within`.
+pub fn guess_counted<A: Allocator + Copy, D: Allocator>(
+    alloc: A,
+    image: &Image,
+    declaration: &Declaration<D>,
+) -> (Result<Certificate<A>, GuessFault>, Turns)
+    // The judge accepts it, so the program is safe.
+    ensures accepted { IfOk result.0 (IsAccepted image.now declaration.now) }
+    ensures lines { IfOk result.0 (λ c. AreLines (meaning c)) }
+    ensures version { IfOk result.0 (λ c. (meaning c).version ≡
+        version_of (declared declaration.now).profile) }
+    // There are 2,000,000 turns, and only where all are spent is it told that they are.
+    ensures limit { result.1.limit ≡ 2000000 }
+    ensures within { result.1.spent ≤ result.1.limit }
+    ensures spent { IfErr result.0 (IsSpentUp result.1) }
+{
+    let mut turns = Turns::new(MOST_TURNS);
+    let found = guess_within(alloc, image, declaration, &mut turns);
+    (found, turns)
+}
+
+/// Looks for a guess within 2,000,000 turns, as `guess_counted` does.
 ///
 /// # Errors
 ///
@@ -213,10 +234,9 @@ pub fn guess<A: Allocator + Copy, D: Allocator>(
     ensures lines { IfOk result (λ c. AreLines (meaning c)) }
     ensures version { IfOk result (λ c. (meaning c).version ≡
         version_of (declared declaration.now).profile) }
-    ensures short { IfOk result (λ c. length (text (meaning c)) ≤ 1048576) }
 {
-    let mut turns = Turns::new(MOST_TURNS);
-    guess_within(alloc, image, declaration, &mut turns)
+    let (found, _turns) = guess_counted(alloc, image, declaration);
+    found
 }
 
 /// Looks for a guess as `guess_within` does, and gives a draft of one where it is stuck: a certificate
@@ -234,30 +254,57 @@ pub fn guess_or_draft_within<A: Allocator + Copy, D: Allocator>(
     // The judge accepts what is found.
     ensures accepted { IfOk result (IsAcceptedIfFound image.now declaration.now) }
     // A draft's facts stand in bodies and its routine and exit lines at entries, and it has a fact
-    // where it is stuck, or that is an entry.
+    // where it is stuck.
     ensures draft { IfOk result (IsDraftIfStuck (declared declaration.now)) }
     ensures lines { IfOk result (λ a. AreLines (meaning (claimed_by a))) }
     ensures version { IfOk result (λ a. (meaning (claimed_by a)).version ≡
         version_of (declared declaration.now).profile) }
-    ensures short { IfOk result IsShortIfFound }
     ensures limit { turns.new.limit ≡ turns.old.limit }
     ensures rises { turns.old.spent ≤ turns.new.spent }
     ensures within { turns.new.spent ≤ turns.new.limit }
     ensures spent { IfErr result (IsSpentUp turns.new) }
 {
     turns.are_within();
-    let program = Program::of(image, declaration);
+    let program = Program::of(image, declaration, MANY_RUNS);
     let Ok(mut search) = Search::new(alloc) else {
         return Err(GuessFault::NoMemory);
     };
     let version = version_of(declaration.profile());
-    match found_by(alloc, &mut search, &program, version, turns) {
+    match found_within(&mut search, &program, version, turns) {
         Ok(certificate) => Ok(Attempt::Found(certificate)),
         Err(fault) => drafted_by(&mut search, &program, version, &fault),
     }
 }
 
-/// Looks for a guess, or a draft of one, within 2,000,000 turns.
+/// Looks for a guess, or a draft of one, within 2,000,000 turns, and tells how many were taken.
+///
+/// # Errors
+///
+/// As `guess_or_draft_within`.
+pub fn guess_or_draft_counted<A: Allocator + Copy, D: Allocator>(
+    alloc: A,
+    image: &Image,
+    declaration: &Declaration<D>,
+) -> (Result<Attempt<A>, GuessFault>, Turns)
+    // The judge accepts what is found.
+    ensures accepted { IfOk result.0 (IsAcceptedIfFound image.now declaration.now) }
+    // A draft's facts stand in bodies and its routine and exit lines at entries, and it has a fact
+    // where it is stuck.
+    ensures draft { IfOk result.0 (IsDraftIfStuck (declared declaration.now)) }
+    ensures lines { IfOk result.0 (λ a. AreLines (meaning (claimed_by a))) }
+    ensures version { IfOk result.0 (λ a. (meaning (claimed_by a)).version ≡
+        version_of (declared declaration.now).profile) }
+    // There are 2,000,000 turns, and only where all are spent is it told that they are.
+    ensures limit { result.1.limit ≡ 2000000 }
+    ensures within { result.1.spent ≤ result.1.limit }
+    ensures spent { IfErr result.0 (IsSpentUp result.1) }
+{
+    let mut turns = Turns::new(MOST_TURNS);
+    let attempt = guess_or_draft_within(alloc, image, declaration, &mut turns);
+    (attempt, turns)
+}
+
+/// Looks for a guess, or a draft of one, within 2,000,000 turns, as `guess_or_draft_counted` does.
 ///
 /// # Errors
 ///
@@ -270,13 +317,12 @@ pub fn guess_or_draft<A: Allocator + Copy, D: Allocator>(
     // The judge accepts what is found.
     ensures accepted { IfOk result (IsAcceptedIfFound image.now declaration.now) }
     // A draft's facts stand in bodies and its routine and exit lines at entries, and it has a fact
-    // where it is stuck, or that is an entry.
+    // where it is stuck.
     ensures draft { IfOk result (IsDraftIfStuck (declared declaration.now)) }
     ensures lines { IfOk result (λ a. AreLines (meaning (claimed_by a))) }
     ensures version { IfOk result (λ a. (meaning (claimed_by a)).version ≡
         version_of (declared declaration.now).profile) }
-    ensures short { IfOk result IsShortIfFound }
 {
-    let mut turns = Turns::new(MOST_TURNS);
-    guess_or_draft_within(alloc, image, declaration, &mut turns)
+    let (attempt, _turns) = guess_or_draft_counted(alloc, image, declaration);
+    attempt
 }

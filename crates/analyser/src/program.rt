@@ -109,9 +109,14 @@ fn add_cell(cells: &mut WordSet, cell: Word) {
 }
 
 impl<'a, D: Allocator> Program<'a, D> {
-    /// A tape's words and a declaration. The cells that facts speak of are the variables that
-    /// instructions name, then those in bodies, then those on the tape; at most 64.
-    pub(crate) fn of(image: &'a Image, declaration: &'a Declaration<D>) -> Program<'a, D>
+    /// A tape's words and a declaration, with sets of at most so many runs. The cells that facts speak
+    /// of are the variables that instructions name, then those in bodies, then those on the tape; at
+    /// most 64.
+    pub(crate) fn of(
+        image: &'a Image,
+        declaration: &'a Declaration<D>,
+        most_runs: usize,
+    ) -> Program<'a, D>
         ensures image { result.image.now ≡ image.now }
         ensures declaration { result.declaration.now ≡ declaration.now }
     {
@@ -131,6 +136,7 @@ impl<'a, D: Allocator> Program<'a, D> {
             limits: Limits {
                 counted: counted(image, &bodies),
                 landmarks: landmarks(image, declaration, &bodies),
+                most_runs,
             },
         }
     }

@@ -28,7 +28,10 @@ const SOON_QUICK_GROWTHS: u32 = 4;
 const SOON_LANDMARK_GROWTHS: u32 = 10;
 
 /// A set in more runs is filled.
-const MOST_RUNS: usize = 48;
+pub(crate) const MANY_RUNS: usize = 48;
+
+/// In a search for what takes fewer bytes every set in several runs is filled.
+pub(crate) const ONE_RUN: usize = 1;
 
 /// How soon sets are widened.
 #[derive(Clone, Copy)]
@@ -43,18 +46,25 @@ pub(crate) enum Pace {
     Patient,
 }
 
-/// The cells that ISZ counts by name, and words at which sets may end: the program's constants, and
-/// the ends of what may be written and read.
+/// The cells that ISZ counts by name, words at which sets may end (the program's constants, and
+/// the ends of what may be written and read), and how many runs a set may have.
 #[derive(Clone, Copy)]
 pub(crate) struct Limits {
     pub(crate) counted: WordSet,
     pub(crate) landmarks: WordSet,
+    pub(crate) most_runs: usize,
 }
 
-/// How many runs of words follow each other a set has, at least where few are asked for.
-fn has_many_runs(set: &WordSet) -> bool {
-    let less = set.shift(Word::ZERO.increment());
-    set.minus(&less).count() > MOST_RUNS
+impl Limits {
+    /// A set, filled where it has too many runs.
+    pub(crate) fn smoothed(&self, set: &WordSet) -> WordSet {
+        let after = set.shift(Word::ZERO.increment());
+        if set.minus(&after).count() > self.most_runs {
+            filled(set)
+        } else {
+            *set
+        }
+    }
 }
 
 /// From the least word of a set to its greatest.
@@ -65,15 +75,6 @@ fn filled(set: &WordSet) -> WordSet {
             None => *set,
             Some(high) => WordSet::range(low, high),
         },
-    }
-}
-
-/// A set, filled where it is ragged.
-pub(crate) fn smoothed(set: &WordSet) -> WordSet {
-    if has_many_runs(set) {
-        filled(set)
-    } else {
-        *set
     }
 }
 
@@ -144,7 +145,7 @@ fn quickly(
     limits: &Limits,
     steps: Steps,
 ) -> WordSet {
-    let smooth = smoothed(set);
+    let smooth = limits.smoothed(set);
     if growths < steps.first {
         return smooth;
     }
@@ -158,25 +159,25 @@ fn quickly(
 }
 
 /// A set that grew, widened only after hundreds of growths.
-fn patiently(set: &WordSet, growths: u32, counted: bool) -> WordSet {
+fn patiently(set: &WordSet, growths: u32, counted: bool, limits: &Limits) -> WordSet {
     if growths >= MOST_GROWTHS {
         return WordSet::all();
     }
     if counted && growths >= COUNT_GROWTHS && is_negative(set) {
         return up_to_the_end(set);
     }
-    smoothed(set)
+    limits.smoothed(set)
 }
 
 /// A set that grew, widened after few growths.
-fn soon(set: &WordSet, growths: u32, counted: bool) -> WordSet {
+fn soon(set: &WordSet, growths: u32, counted: bool, limits: &Limits) -> WordSet {
     if growths >= SOON_GROWTHS {
         return WordSet::all();
     }
     if counted && growths >= SOON_COUNT_GROWTHS && is_negative(set) {
         return up_to_the_end(set);
     }
-    smoothed(set)
+    limits.smoothed(set)
 }
 
 /// A set that grew out of another so often.
@@ -189,8 +190,8 @@ pub(crate) fn widened(
     pace: Pace,
 ) -> WordSet {
     match pace {
-        Pace::Patient => patiently(set, growths, counted),
-        Pace::Soon => soon(set, growths, counted),
+        Pace::Patient => patiently(set, growths, counted, limits),
+        Pace::Soon => soon(set, growths, counted, limits),
         Pace::Quick => {
             let steps = Steps {
                 first: QUICK_GROWTHS,

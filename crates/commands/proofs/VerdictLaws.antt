@@ -1,5 +1,5 @@
 -- Bytes have one verdict, and so has what a certificate is migrated to.
-use Rattle.std.proofs.Common.{ℕ, ◌≡◌, true, List, [], ◌∷◌, take, Option, Some, refl, sym, ap, ◌∙◌, subst, arith}
+use Rattle.std.proofs.Common.{ℕ, ◌≡◌, ◌≤◌, true, List, [], ◌∷◌, length, take, Option, Some, refl, sym, ap, ◌∙◌, subst, arith}
 use Rattle.std.specs.Prelude.{Result, Ok, Err}
 use Rattle.wordset.specs.Words.{Words, SameWords, everything, has_some}
 use Rattle.wordset.proofs.Tests.{some_from}
@@ -11,6 +11,7 @@ use Rattle.facts.specs.Statements.{Statement}
 use Rattle.certificate.specs.declared.Version.{Version}
 use Rattle.certificate.specs.declared.Version.TheVariants.{One, Two}
 use Rattle.certificate.specs.Exact.{SameCertificate, SameLines}
+use Rattle.certificate.specs.Faults.{most_bytes}
 use Rattle.certificate.specs.Made.{migrated}
 use Rattle.certificate.specs.Reading.{AreLines, Each, FitsVersion, IsExit, IsFactLine, IsStatement, certificate_of}
 use Rattle.certificate.specs.Spelling.{ExitLine, FactLine, Lines, text}
@@ -25,7 +26,7 @@ use Rattle.facts.specs.declared.Condition.{Condition}
 use Rattle.search_commands.specs.GuessText.{IsGuess}
 use Rattle.verdict_texts.specs.CheckText.{IsCheckedSo, IsVerdict, checked_case, verdict_status, verdict_text, yes_text}
 use Rattle.verdict_texts.specs.CertificateInputs.{IsTextOf}
-use Rattle.commands.specs.Laws.{ChecksAreOne, GuessIsAccepted, MigratedIsCheckedAlike}
+use Rattle.commands.specs.Laws.{ChecksAreOne, GuessIsAccepted, GuessIsRead, MigratedIsCheckedAlike}
 use Rattle.command_parts.specs.declared.status.Status.{Status}
 use Rattle.command_parts.specs.declared.status.Status.TheVariants.{Done}
 
@@ -86,15 +87,15 @@ checks_are_one t d c line line' status status' x y =
 
 -- ---- what is guessed
 
--- what is guessed is checked so
-guess_checked : (t d guess : List ℕ) (g : IsGuess (Some t) (Some d) guess) → IsCheckedSo (Some t) (Some d) (Some guess) (yes_text g.declaration) Done
-guess_checked t d guess g = record {
+-- what is guessed is checked so, where it is read
+guess_checked : (t d guess : List ℕ) (g : IsGuess (Some t) (Some d) guess) → length guess ≤ most_bytes → IsCheckedSo (Some t) (Some d) (Some guess) (yes_text g.declaration) Done
+guess_checked t d guess g few = record {
   image = g.image;
   tape = g.tape;
   declaration = g.declaration;
   declares = g.declares;
   lines = g.lines;
-  claims = record { lines_are = g.lines_are; of_words = g.of_words; text_is = g.guess_is; few = g.short };
+  claims = record { lines_are = g.lines_are; of_words = g.of_words; text_is = g.guess_is; few = few };
   verdict = Ok tt;
   is = g.accepted;
   line_is = refl;
@@ -103,7 +104,10 @@ guess_checked t d guess g = record {
 
 pub guess_is_accepted : GuessIsAccepted
 guess_is_accepted t d guess line status g checked =
-    sym (checks_are_one t d guess (yes_text g.declaration) line Done status (guess_checked t d guess g) checked).1
+    sym (checks_are_one t d guess (yes_text g.declaration) line Done status (guess_checked t d guess g checked.claims.few) checked).1
+
+pub guess_is_read : GuessIsRead
+guess_is_read t d guess g few = (yes_text g.declaration, guess_checked t d guess g few)
 
 -- ---- what is migrated
 

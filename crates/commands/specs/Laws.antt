@@ -1,6 +1,6 @@
 -- A run of any events has an answer, and so has one with an operator; and what sources mean, what is written of them and what
 -- is read of that is one.
-use Rattle.std.specs.Prelude.{ℕ, ◌≡◌, ◌<◌, Bool, true, Option, Some, List, IfSome, map, ⊤}
+use Rattle.std.specs.Prelude.{ℕ, ◌≡◌, ◌<◌, ◌≤◌, Bool, true, Option, Some, List, IfSome, length, map, ⊤}
 use Rattle.std.specs.List.{AllByRecursion}
 use Rattle.peripherals.specs.declared.Event.{Event}
 use Rattle.peripherals.specs.declared.Event.TheVariants.{Step, Key, PrinterDone, ReaderDone, PunchDone, Switches, Continue}
@@ -16,6 +16,7 @@ use Rattle.pal_text.specs.declared.names.Name.{Name}
 use Rattle.pal_acts.specs.Permanent.{permanent_symbols}
 use Rattle.pal_asm.specs.Sources.{Means, IsFault}
 use Rattle.pal_asm.specs.declared.fault.PalFault.{PalFault}
+use Rattle.certificate.specs.Faults.{most_bytes}
 use Rattle.search_commands.specs.GuessText.{IsGuess}
 use Rattle.verdict_commands.specs.MigrateText.{IsMigrated}
 use Rattle.verdict_texts.specs.CheckText.{IsCheckedSo}
@@ -171,6 +172,12 @@ abbrev pub GuessIsAccepted : Type 0
 GuessIsAccepted =
     (tape declaration guess line : List ℕ) (status : Status) → IsGuess (Some tape) (Some declaration) guess →
     IsCheckedSo (Some tape) (Some declaration) (Some guess) line status → status ≡ Done
+
+-- What `guess` writes is read by `check`, if it has no more bytes than are read of a certificate, and has a verdict then: yes.
+abbrev pub GuessIsRead : Type 0
+GuessIsRead =
+    (tape declaration guess : List ℕ) → IsGuess (Some tape) (Some declaration) guess → length guess ≤ most_bytes →
+    (line : List ℕ) × IsCheckedSo (Some tape) (Some declaration) (Some guess) line Done
 
 -- Of what `migrate` writes of a certificate, where `check` has a verdict on both, it says what it says of the
 -- certificate itself, in line and status.

@@ -1,6 +1,6 @@
 //! Laws over the definitions alone. Each is the contract of a function that does nothing.
 
-ghost use Rattle.commands.specs.Laws.{ChecksAreOne, EmptyHasNoTape, FaultIsNotWritten, FaultIsTheOne, FaultIsTold, GuessIsAccepted, MeantIsListed, MeantIsRead, MeantIsWritten, MigratedIsCheckedAlike, ReadIsMeant, RunsAreOne, RunsEnd, SessionsAreOne, SessionsEnd, TapeIsOne, TapeIsThere};
+ghost use Rattle.commands.specs.Laws.{ChecksAreOne, EmptyHasNoTape, FaultIsNotWritten, FaultIsTheOne, FaultIsTold, GuessIsAccepted, GuessIsRead, MeantIsListed, MeantIsRead, MeantIsWritten, MigratedIsCheckedAlike, ReadIsMeant, RunsAreOne, RunsEnd, SessionsAreOne, SessionsEnd, TapeIsOne, TapeIsThere};
 
 use pal_asm::laws::{meant_are_words, sources_have_one_answer};
 
@@ -48,10 +48,11 @@ pub fn assemblies_are_exact()
 }
 
 /// The bytes of a tape, a declaration and a certificate have one verdict. To what `guess` writes it is
-/// yes, and to what `migrate` writes, unless it's longer than what is read, it is that of the certificate
-/// which was migrated.
+/// yes, and to what `migrate` writes it is that of the certificate which was migrated, unless it's longer
+/// than what is read.
 pub fn checks_are_one()
     ensures one { ChecksAreOne }
     ensures guessed { GuessIsAccepted }
+    ensures read { GuessIsRead }
     ensures migrated { MigratedIsCheckedAlike }
 {}

@@ -3,7 +3,7 @@
 use crate::fixtures::{
     HELLO, HELLO_CERTIFICATE, HELLO_DECLARED, HELLO_TAPE, HELLO_WORDS, PRINTED, image, rounds, word,
 };
-use analyser::{GuessFault, Turns, guess_within};
+use analyser::{GuessFault, Turns, guess_counted, guess_or_draft_counted, guess_within};
 use certificate::{Certificate, Version};
 use declaration::Declaration;
 use facts::{Equation, Fact, Name, Offsets, entails_return};
@@ -12,6 +12,7 @@ use judge::certify;
 use pal_asm::{AssembleFault, Code, PalFault, assemble, translate};
 use pal_text::{TextFault, statements};
 use peripherals::Start;
+use proposer::{Verdict, propose};
 use std::alloc::Global;
 use std::test::Fail;
 use word12::{Link, Word};
@@ -156,20 +157,80 @@ fn what_refuses_a_program_is_told(rt: HostRuntime) -> Result<(), Fail> {
     Ok(())
 }
 
-/// The fault of a guess for HELLO within so many turns, and how many were spent.
-fn guessed_within(heap: Global, limit: u32) -> Option<(Option<GuessFault>, u32)> {
-    let declared = Declaration::parse(heap, HELLO_DECLARED).ok()?;
+/// The fault of a guess for some words within so many turns, and how many were spent.
+fn guessed_within(
+    heap: Global,
+    words: &[u16],
+    declared: &[u8],
+    limit: u32,
+) -> Option<(Option<GuessFault>, u32)> {
+    let declared = Declaration::parse(heap, declared).ok()?;
     let mut turns = Turns::new(limit);
-    let found = guess_within(heap, &image(&HELLO_WORDS), &declared, &mut turns);
+    let found = guess_within(heap, &image(words), &declared, &mut turns);
     Some((found.err(), turns.spent()))
 }
 
 #[test]
 fn turns_are_spent(rt: HostRuntime) {
-    let spent = guessed_within(rt.alloc(), 1);
+    let spent = guessed_within(rt.alloc(), &HELLO_WORDS, HELLO_DECLARED, 1);
     assert_eq!(rt; spent, Some((Some(GuessFault::TurnsSpent), 1)));
-    let found = guessed_within(rt.alloc(), 100);
+    let found = guessed_within(rt.alloc(), &HELLO_WORDS, HELLO_DECLARED, 100);
     assert!(rt; found.is_some_and(|(fault, spent)| fault.is_none() && spent < 100));
+}
+
+/// CLA and HLT: a word each whose outcomes are asked for.
+const TWO_WORDS: &[u8] = b"start 200\nmain 200-201\nstop 201\n";
+
+/// TAD 0300 and HLT: the first word reads what isn't on the list, so its outcomes aren't asked for.
+const UNREAD: &[u8] = b"start 200\nmain 200-201\nstop 201\nread 301\n";
+
+#[test]
+fn a_turn_is_a_word_whose_outcomes_are_asked_for(rt: HostRuntime) {
+    for limit in 0..2u32 {
+        let spent = guessed_within(rt.alloc(), &[0o7200, 0o7402], TWO_WORDS, limit);
+        assert_eq!(rt; spent, Some((Some(GuessFault::TurnsSpent), limit)));
+    }
+    let found = guessed_within(rt.alloc(), &[0o7200, 0o7402], TWO_WORDS, 2);
+    assert_eq!(rt; found, Some((None, 2)));
+    let stuck = guessed_within(rt.alloc(), &[0o1300, 0o7402], UNREAD, 0);
+    assert_eq!(rt; stuck, Some((Some(GuessFault::Stuck(word(0o200))), 0)));
+}
+
+#[test]
+fn a_guess_has_two_million_turns(rt: HostRuntime) -> Result<(), Fail> {
+    let declared = Declaration::parse(rt.alloc(), TWO_WORDS)?;
+    let tape = image(&[0o7200, 0o7402]);
+    let (found, turns) = guess_counted(rt.alloc(), &tape, &declared);
+    assert!(rt; found.is_ok() && turns.spent() == 2 && turns.limit() == 2_000_000);
+    let (attempt, turns) = guess_or_draft_counted(rt.alloc(), &tape, &declared);
+    assert!(rt; attempt.is_ok() && turns.spent() == 2 && turns.limit() == 2_000_000);
+    Ok(())
+}
+
+/// CLA; TAD 0206; DCA 0207; DCA I 0207; HLT; and behind a cell 0300: it clears cell 0300.
+const CLEARING: [u16; 7] = [0o7200, 0o1206, 0o3207, 0o3607, 0o7402, 0o0000, 0o0300];
+
+/// Whether a certificate is found for what is proposed within so many turns, how many variables it has,
+/// and how many turns were spent.
+fn proposed_within(heap: Global, limit: u32) -> Option<(bool, usize, u32)> {
+    let mut turns = Turns::new(limit);
+    let tape = image(&CLEARING);
+    let found = propose(heap, &tape, word(0o200), Profile::Pdp8I, &mut turns).ok()?;
+    let is_safe = matches!(&found.verdict, Verdict::Safe(_));
+    Some((
+        is_safe,
+        found.declaration.variables().count(),
+        turns.spent(),
+    ))
+}
+
+#[test]
+fn what_is_shown_stays_where_turns_run_out(rt: HostRuntime) {
+    // Each of the five words takes a turn, first with all variables but 0206, then with 0207 and 0300.
+    assert_eq!(rt; proposed_within(rt.alloc(), 10), Some((true, 2, 10)));
+    assert_eq!(rt; proposed_within(rt.alloc(), 9), Some((true, 4090, 9)));
+    assert_eq!(rt; proposed_within(rt.alloc(), 5), Some((true, 4090, 5)));
+    assert_eq!(rt; proposed_within(rt.alloc(), 4), Some((false, 4090, 4)));
 }
 
 /// Two facts, the first one with a tracked cell and an equation, and an exit of a routine.

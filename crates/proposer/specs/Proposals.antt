@@ -1,5 +1,5 @@
 -- What is promised of a proposal.
-use Rattle.std.specs.Prelude.{◌≡◌, ◌≤◌, ℕ, ⊤, length, List, Option, None, is_some, true}
+use Rattle.std.specs.Prelude.{◌≡◌, ℕ, Bool, ⊤, List, Option, None, is_some, true, false}
 use Rattle.instruct.specs.declared.Profile.{Profile}
 use Rattle.peripherals.specs.Loading.{image_of}
 use Rattle.declaration.specs.Declaration.{IsDeclared}
@@ -8,7 +8,7 @@ use Rattle.declaration.specs.Text.{Declares, ListsRoutines}
 use Rattle.policy.specs.Runs.{IsSafe}
 use Rattle.certificate.specs.Kept as certified
 use Rattle.certificate.specs.Reading.{AreLines}
-use Rattle.certificate.specs.Spelling.{Lines, text}
+use Rattle.certificate.specs.Spelling.{Lines}
 use Rattle.judge.specs.Conditions.{IsValid}
 use Rattle.judge.specs.Judged.{judged}
 use Rattle.declaration.specs.declared.DeclarationFault.TheVariants as declaration_fault
@@ -30,9 +30,14 @@ pub record Fits {A : Type 0} (at : ℕ) (machine : Profile) (p : Proposal A) : T
   pub text : Declares p.text.items (meaning p.declaration)
   pub routines : ListsRoutines p.text.items (routines_of p.declaration)
 
--- A certificate in the version of the declared machine, of which the text isn't longer than what is read of one.
+-- A certificate in the version of the declared machine.
 abbrev pub IsFor : Kept → Lines → Type 0
-IsFor d ls = AreLines ls × (ls.version ≡ version_of (meaning d).profile) × (length (text ls) ≤ 1048576)
+IsFor d ls = AreLines ls × (ls.version ≡ version_of (meaning d).profile)
+
+-- A certificate is found.
+abbrev pub is_safe : {A : Type 0} → Verdict A → Bool
+is_safe (Safe c) = true
+is_safe _ = false
 
 -- With a certificate the program keeps the declaration in every run, and every condition holds of that certificate.
 abbrev pub IsShown : {A : Type 0} → List (Option ℕ) → Kept → Verdict A → Type 0

@@ -1,5 +1,5 @@
 -- Which cells a word touches, and where a fact of a body stands as the code keeps it; it serves private contracts.
-use Rattle.std.specs.Prelude.{ℕ, ◌≡◌, ◌<◌, true, Some, None, List, Option}
+use Rattle.std.specs.Prelude.{ℕ, ◌≡◌, ◌<◌, ◌==◌, Bool, true, false, Some, None, List, Option}
 use Rattle.instruct.specs.Instructions.{Meaning}
 use Rattle.wordset.specs.Words.{Words, nothing}
 use Rattle.wordset.specs.Lanes.{words}
@@ -39,9 +39,20 @@ place_with image declaration b = record {
   sites = sites_with b;
 }
 
--- The body has the address, and what is claimed of its routine.
+-- The certificate has the routine's line; main needs none.
+abbrev pub has_line : Certificate → Routine → Bool
+has_line c None = true
+has_line c (Some e) = c.listed e
+
+-- The cell is the routine's own entry.
+abbrev pub is_own : Routine → ℕ → Bool
+is_own None cell = false
+is_own (Some e) cell = cell == e
+
+-- The body has the address, and what is claimed of its routine, which has a line.
 pub record IsBody (d : Declaration) (c : Certificate) (a : ℕ) (b : Body) : Type 0 where
   pub body : d.body (routine_with b) a ≡ true
+  pub line : has_line c (routine_with b) ≡ true
   pub sites : sites_with b ≡ sites_of c (routine_with b)
 
 -- At the address of this fact a word is possible that may do it to the cell.
@@ -51,9 +62,20 @@ pub record IsTouchedBy (access : Access) (pl : Place) (f : Fact) (at cell : ℕ)
   pub is_possible : possible pl f at word ≡ true
   pub touched : touches access pl f (meaning_at pl at word) cell ≡ true
 
--- At the address of some fact that is in some body, a word is possible that may do it to the cell.
-pub record IsTouched (access : Access) (j : Case) (cell : ℕ) : Type 0 where
-  pub at : ℕ
+-- All that this word may do it to is among these cells.
+abbrev pub HasTouched : Access → Place → Fact → ℕ → Words → ℕ → Type 0
+HasTouched access pl f at cells word =
+    (cell : ℕ) → cell < 4096 → touches access pl f (meaning_at pl at word) cell ≡ true → cells cell ≡ true
+
+-- The fact at the address is in the body of main or of a routine that has a line, a word is possible there that may do it
+-- to the cell, and that isn't the routine's own entry.
+pub record IsTouchedFrom (access : Access) (j : Case) (at cell : ℕ) : Type 0 where
   pub routine : Routine
   pub inside : IsIn j routine at
+  pub line : has_line j.certificate routine ≡ true
   pub by : IsTouchedBy access (place_in j routine) (fact_at j at) at cell
+  pub other : is_own routine cell ≡ false
+
+-- The cell is touched from some address.
+abbrev pub IsTouched : Access → Case → ℕ → Type 0
+IsTouched access j cell = (at : ℕ) × (at < 4096) × IsTouchedFrom access j at cell

@@ -1,18 +1,17 @@
 //! Proposes declarations: what a program may do, from its tape and its start alone.
 #![tactic(auto)]
 
-ghost use Rattle.std.specs.Prelude.{ℕ, ◌≡◌, ◌≢◌, ◌≤◌, length, List, Option, IfOk, IfErr, None, is_some, true};
+ghost use Rattle.std.specs.Prelude.{ℕ, ◌≡◌, ◌≢◌, ◌≤◌, List, Option, IfOk, IfErr, None, is_some, true};
 ghost use Rattle.analyser.specs.Versions.{version_of};
 ghost use Rattle.turns.specs.declared.GuessFault.TheVariants as guess_fault;
 ghost use Rattle.certificate.specs.Kept as certified;
 ghost use Rattle.certificate.specs.Reading.{AreLines};
-ghost use Rattle.certificate.specs.Spelling.{text};
 ghost use Rattle.declaration.specs.Kept.{Kept, meaning, routines_of};
 ghost use Rattle.declaration.specs.Text.{Declares, ListsRoutines};
 ghost use Rattle.judge.specs.Judged.{judged};
 ghost use Rattle.proposer.specs.Needed.{ReadsAreNeeded};
 ghost use Rattle.proposer.specs.declared.Verdict.TheVariants.{TurnsSpent};
-ghost use Rattle.proposer.specs.Proposals.{AreNeeded, Fits, IsListed, IsShown, IsSpentUp, IsTold};
+ghost use Rattle.proposer.specs.Proposals.{AreNeeded, Fits, IsListed, IsShown, IsSpentUp, IsTold, is_safe};
 
 mod map;
 mod steps;
@@ -47,8 +46,6 @@ pub enum Verdict<A: Allocator> {
     Stuck(Word),
     /// No certificate is found with all turns that there were.
     TurnsSpent,
-    /// The text of the certificate that is found has more bytes than are read of one.
-    TooLong,
 }
 
 /// A proposed declaration, its text, and what is known of it.
@@ -96,18 +93,8 @@ pub fn propose<A: Allocator + Copy>(
     ensures within { turns.new.spent ≤ turns.new.limit }
 {
     let map = Map::of(image, start, profile);
-    let mut proposal = widened(alloc, image, &map, turns)?;
-    for _cut in 0..MOST_CUTS {
-        let Some(cells) = proposal.spare(image) else {
-            return Ok(proposal);
-        };
-        let tighter = attempt(alloc, image, &map, &cells, turns)?;
-        if !tighter.is_safe() {
-            return Ok(proposal);
-        }
-        proposal = tighter;
-    }
-    Ok(proposal)
+    let proposal = widened(alloc, image, &map, turns)?;
+    cut_down(alloc, image, &map, proposal, turns)
 }
 
 /// Proposes what a program may do as [`propose`] does, and lists the cells that it may read by the facts
@@ -227,6 +214,45 @@ fn widened<A: Allocator + Copy>(
     attempt(alloc, image, map, &cells, turns)
 }
 
+/// A proposal with fewer variables, as far as its certificate and those that are found then show that
+/// they are enough.
+fn cut_down<A: Allocator + Copy>(
+    alloc: A,
+    image: &Image,
+    map: &Map,
+    proposal: Proposal<A>,
+    turns: &mut Turns,
+) -> Result<Proposal<A>, ProposeFault>
+    requires fits { Fits map.now.start map.now.profile proposal }
+    requires shown { IsShown image.now proposal.declaration proposal.verdict }
+    requires unlisted { (meaning proposal.declaration).reads ≡ None }
+    requires spent { IsSpentUp turns.old proposal.verdict }
+    ensures fits { IfOk result (Fits map.now.start map.now.profile) }
+    ensures shown { IfOk result (λ p. IsShown image.now p.declaration p.verdict) }
+    // Of a proposal with a certificate one with a certificate is made, also where turns run out.
+    ensures safe { IfOk result (λ p. is_safe proposal.verdict ≡ true → is_safe p.verdict ≡ true) }
+    ensures unlisted { IfOk result (λ p. (meaning p.declaration).reads ≡ None) }
+    ensures spent { IfOk result (λ p. IsSpentUp turns.new p.verdict) }
+    ensures faults { IfErr result IsTold }
+    ensures limit { turns.new.limit ≡ turns.old.limit }
+    ensures rises { turns.old.spent ≤ turns.new.spent }
+    ensures within { turns.new.spent ≤ turns.new.limit }
+{
+    turns.are_within();
+    let mut proposal = proposal;
+    for _cut in 0..MOST_CUTS {
+        let Some(cells) = proposal.spare(image) else {
+            return Ok(proposal);
+        };
+        let tighter = attempt(alloc, image, map, &cells, turns)?;
+        if !tighter.is_safe() {
+            return Ok(proposal);
+        }
+        proposal = tighter;
+    }
+    Ok(proposal)
+}
+
 /// The proposal with these variables.
 fn attempt<A: Allocator + Copy>(
     alloc: A,
@@ -335,7 +361,6 @@ fn accepted<A: Allocator>(
     requires lines { AreLines (certified.meaning certificate) }
     requires version { (certified.meaning certificate).version ≡
         version_of (meaning declaration.now).profile }
-    requires short { length (text (certified.meaning certificate)) ≤ 1048576 }
     ensures shown { IfOk result (IsShown image.now declaration.now) }
     ensures listed { (d : Kept) → is_some (meaning d).reads ≡ true → IfOk result (IsListed d) }
     ensures needed { ReadsAreNeeded
@@ -359,14 +384,15 @@ fn unfound<A: Allocator>(fault: GuessFault) -> Result<Verdict<A>, ProposeFault>
     match fault {
         GuessFault::Stuck(at) => Ok(Verdict::Stuck(at)),
         GuessFault::TurnsSpent => Ok(Verdict::TurnsSpent),
-        GuessFault::TooLong => Ok(Verdict::TooLong),
         GuessFault::NoMemory => Err(ProposeFault::NoMemory),
     }
 }
 
 impl<A: Allocator> Proposal<A> {
     /// Whether a certificate is found that the judge accepts.
-    fn is_safe(&self) -> bool {
+    fn is_safe(&self) -> bool
+        ensures { result ≡ is_safe self.now.verdict }
+    {
         matches!(&self.verdict, Verdict::Safe(_))
     }
 

@@ -1,8 +1,9 @@
 //! Which cells a program may change, and which it may read.
 
-ghost use Rattle.std.specs.Prelude.{ℕ, ◌≡◌, ◌<◌, true, IfSome};
-ghost use Rattle.wordset.specs.Words.{SameWords, IsWithin};
+ghost use Rattle.std.specs.Prelude.{ℕ, ◌≡◌, ◌<◌, ◌↔◌, ◌&&◌, not, true, option_map, IfSome, Some};
+ghost use Rattle.wordset.specs.Words.{SameWords};
 ghost use Rattle.wordset.specs.Lanes.{words};
+ghost use Rattle.declaration.specs.Declaration.{Routine as MainOrEntry};
 ghost use Rattle.declaration.specs.Kept as declared;
 ghost use Rattle.facts.specs.Meaning.{meaning};
 ghost use Rattle.facts.specs.Outcomes.{meaning_at};
@@ -10,7 +11,7 @@ ghost use Rattle.facts.specs.Places.{place_of, routine_of, sites_of};
 ghost use Rattle.certificate.specs.Kept.{claims};
 ghost use Rattle.judge.specs.Judged.{judged};
 ghost use Rattle.proposer.specs.Needed.{ReadsAreNeeded};
-ghost use Rattle.proposer.specs.Touched.{IsBody, IsTouched, IsTouchedBy, place_with, routine_with, sites_with, touches};
+ghost use Rattle.proposer.specs.Touched.{IsBody, IsTouched, IsTouchedBy, IsTouchedFrom, has_line, is_own, place_with, routine_with, sites_with, touches};
 ghost use Rattle.proposer.specs.declared.variables.Access.TheVariants.{Read};
 
 use crate::map::Map;
@@ -73,7 +74,8 @@ impl Body {
 
     /// Cells but the routine's own entry.
     fn without_own(&self, cells: WordSet) -> WordSet
-        ensures { IsWithin (words result) (words cells) }
+        ensures { (cell : ℕ) → words result cell ≡
+            (words cells cell && not (is_own (routine_with self.now) cell)) }
     {
         match self {
             Body::Main => cells,
@@ -104,8 +106,10 @@ fn body_at<A: Allocator, D: Allocator>(
     certificate: &Certificate<A>,
     at: Word,
 ) -> Option<Body>
-    ensures { IfSome result
+    ensures found { IfSome result
         (IsBody (declared.meaning declaration.now) (claims certificate.now) at) }
+    ensures only { (r : MainOrEntry) → (declared.meaning declaration.now).body r at ≡ true →
+        has_line (claims certificate.now) r ≡ true → option_map routine_with result ≡ Some r }
 {
     let Some(owner) = declaration.owner_of(at) else {
         return None;
@@ -141,7 +145,7 @@ impl Access {
 
 /// The cells to which some possible word may do it at the address of a fact.
 fn touched_at<D: Allocator>(access: Access, fact: &Fact, at: Word, place: &Place<'_, D>) -> WordSet
-    ensures { (cell : ℕ) → cell < 4096 → words result cell ≡ true →
+    ensures { (cell : ℕ) → cell < 4096 → (words result cell ≡ true) ↔
         IsTouchedBy access (place_of place.now) (meaning fact.now) at cell }
 {
     let possible = place.possible_words(fact, at);
@@ -164,8 +168,8 @@ fn touched_from<A: Allocator, D: Allocator>(
     at: Word,
     fact: &mut Fact,
 ) -> WordSet
-    ensures { (cell : ℕ) → cell < 4096 → words result cell ≡ true →
-        IsTouched access (judged image.now declaration.now (claims certificate.now)) cell }
+    ensures { (cell : ℕ) → cell < 4096 → (words result cell ≡ true) ↔
+        IsTouchedFrom access (judged image.now declaration.now (claims certificate.now)) at cell }
 {
     let Some(body) = body_at(declaration, certificate, at) else {
         return WordSet::empty();
@@ -184,7 +188,7 @@ fn touched<A: Allocator, D: Allocator>(
     declaration: &Declaration<D>,
     certificate: &Certificate<A>,
 ) -> WordSet
-    ensures { (cell : ℕ) → cell < 4096 → words result cell ≡ true →
+    ensures { (cell : ℕ) → cell < 4096 → (words result cell ≡ true) ↔
         IsTouched access (judged image.now declaration.now (claims certificate.now)) cell }
 {
     let mut fact = Fact::any();
@@ -213,7 +217,7 @@ pub(crate) fn read<A: Allocator, D: Allocator>(
     declaration: &Declaration<D>,
     certificate: &Certificate<A>,
 ) -> WordSet
-    ensures { (cell : ℕ) → cell < 4096 → words result cell ≡ true →
+    ensures { (cell : ℕ) → cell < 4096 → (words result cell ≡ true) ↔
         IsTouched Read (judged image.now declaration.now (claims certificate.now)) cell }
 {
     touched(Access::Read, image, declaration, certificate)

@@ -1,7 +1,5 @@
 -- What is told of an address at which a search is stuck.
-use Rattle.std.specs.Prelude.{◌≡◌, ◌⊎◌, ℕ, Bool, true, false, Some}
-use Rattle.declaration.specs.Declaration.{Declaration}
-use Rattle.facts.specs.declared.Condition.TheVariants.{V7}
+use Rattle.std.specs.Prelude.{◌≡◌, ℕ, Bool, true, false}
 use Rattle.judge.specs.declared.judging.Refusal.{Refusal}
 use Rattle.reasons.specs.declared.breach.Landing.{Landing}
 use Rattle.reasons.specs.declared.breach.Landing.TheVariants.{NoFact, OtherBody, Excluded}
@@ -20,10 +18,12 @@ is_landing_of_lines NoFact = true
 is_landing_of_lines OtherBody = false
 is_landing_of_lines (Excluded g) = true
 
--- The call is wrong since a line is missing or too narrow.
+-- The call is wrong since a line is missing or too narrow. A rank that isn't lower is no such thing: where there are ranks, a
+-- draft has them.
 abbrev pub is_call_of_lines : CallBreach → Bool
 is_call_of_lines call.NoEntry = false
 is_call_of_lines call.TooHigh = false
+is_call_of_lines (call.NotLower rank own) = false
 is_call_of_lines (call.Enters l) = is_landing_of_lines l
 is_call_of_lines (call.Returns o l) = is_landing_of_lines l
 is_call_of_lines _ = true
@@ -48,15 +48,6 @@ is_of_lines (why.TooManyWords n) = false
 is_of_lines (why.ByWord w b) = is_word_of_lines b
 is_of_lines _ = true
 
--- What is told is a call to a routine of a rank that isn't lower.
-abbrev pub is_of_rank : Reason → Bool
-is_of_rank (why.ByWord w (breach.Calls entry (call.NotLower rank own))) = true
-is_of_rank _ = false
-
--- It is told of the address at which the search is stuck, and isn't that a line is missing or too narrow; or of a call in the
--- body of the routine of which that address is the entry, and is then its rank or not that a line is missing.
-abbrev pub IsToldOf : Declaration → ℕ → Refusal → Reason → Type 0
-IsToldOf d at refusal reason =
-    ((refusal.address ≡ at) × (is_of_lines reason ≡ false)) ⊎
-    ((refusal.condition ≡ V7) × (d.body (Some at) refusal.address ≡ true)
-    × ((is_of_rank reason ≡ true) ⊎ (is_of_lines reason ≡ false)))
+-- It is told of the address at which the search is stuck, and isn't that a line is missing or too narrow.
+abbrev pub IsToldOf : ℕ → Refusal → Reason → Type 0
+IsToldOf at refusal reason = (refusal.address ≡ at) × (is_of_lines reason ≡ false)

@@ -1,11 +1,9 @@
 //! Why a search for a certificate is stuck at an address, by a draft of what it found until then.
 
-ghost use Rattle.std.specs.Prelude.{◌≡◌, ◌⊎◌, false, true, IfSome, Some};
-ghost use Rattle.declaration.specs.Kept as declared;
-ghost use Rattle.facts.specs.declared.Condition.TheVariants.{V7};
+ghost use Rattle.std.specs.Prelude.{◌≡◌, false, IfSome};
 ghost use Rattle.judge.specs.Judged.{judged};
 ghost use Rattle.reasons.specs.Reasons.{Explains};
-ghost use Rattle.reasons.specs.Stuck.{IsToldOf, is_of_lines, is_of_rank, is_call_of_lines, is_landing_of_lines, is_return_of_lines, is_word_of_lines};
+ghost use Rattle.reasons.specs.Stuck.{IsToldOf, is_of_lines, is_call_of_lines, is_landing_of_lines, is_return_of_lines, is_word_of_lines};
 
 use crate::breach::{Breach, CallBreach, Landing, ReturnBreach};
 use crate::reason::{Reason, why};
@@ -50,9 +48,8 @@ impl CallBreach {
         ensures { result ≡ is_call_of_lines self.now }
     {
         match self {
-            CallBreach::NoEntry | CallBreach::TooHigh => false,
+            CallBreach::NoEntry | CallBreach::TooHigh | CallBreach::NotLower(_, _) => false,
             CallBreach::NotListed
-            | CallBreach::NotLower(_, _)
             | CallBreach::Writes(_)
             | CallBreach::EntryNotWritten
             | CallBreach::WritesCaller
@@ -100,27 +97,6 @@ impl Reason {
             _ => true,
         }
     }
-
-    /// Whether it is a call to a routine of a rank that isn't lower.
-    fn is_of_rank(&self) -> bool
-        ensures { result ≡ is_of_rank self.now }
-    {
-        matches!(
-            self,
-            Reason::ByWord(_, Breach::Calls(_, CallBreach::NotLower(_, _)))
-        )
-    }
-
-    /// Whether it is told of a call: its rank, or anything but that a line is missing or too narrow.
-    fn is_told_of_calls(&self) -> bool
-        ensures { result ≡ true →
-            (is_of_rank self.now ≡ true) ⊎ (is_of_lines self.now ≡ false) }
-    {
-        if self.is_of_rank() {
-            return true;
-        }
-        !self.is_of_lines()
-    }
 }
 
 /// Why a condition fails at an address, if it isn't that lines are missing or too narrow.
@@ -142,68 +118,9 @@ fn why_by_words<A: Allocator, C: Claims>(
     Some(reason)
 }
 
-/// The first condition that fails at an address, not for want of lines, and why.
-fn why_here<A: Allocator, C: Claims>(
-    image: &Image,
-    declaration: &Declaration<A>,
-    claims: &C,
-    at: Word,
-) -> Option<(Refusal, Reason)>
-    ensures explained { IfSome result (λ found. Explains
-        (judged image.now declaration.now (C.claims claims.now))
-        found.0.condition found.0.address found.1) }
-    ensures here { IfSome result (λ found. found.0.address ≡ at) }
-    ensures by_words { IfSome result (λ found. is_of_lines found.1 ≡ false) }
-{
-    for condition in ORDER {
-        let refusal = Refusal {
-            condition,
-            address: at,
-        };
-        if let Some(reason) = why_by_words(image, declaration, claims, &refusal) {
-            return Some((refusal, reason));
-        }
-    }
-    None
-}
-
-/// The first call in the body of the routine of an entry that isn't of a lower rank, or else may not
-/// be made.
-fn why_around<A: Allocator, C: Claims>(
-    image: &Image,
-    declaration: &Declaration<A>,
-    claims: &C,
-    entry: Word,
-) -> Option<(Refusal, Reason)>
-    ensures explained { IfSome result (λ found. Explains
-        (judged image.now declaration.now (C.claims claims.now))
-        found.0.condition found.0.address found.1) }
-    ensures calls { IfSome result (λ found. found.0.condition ≡ V7) }
-    ensures inside { IfSome result (λ found.
-        (declared.meaning declaration.now).body (Some entry) found.0.address ≡ true) }
-    ensures told { IfSome result (λ found.
-        (is_of_rank found.1 ≡ true) ⊎ (is_of_lines found.1 ≡ false)) }
-{
-    for index in 0..4096usize {
-        let refusal = Refusal {
-            condition: Condition::V7,
-            address: Word::from_index(index),
-        };
-        if declaration.in_body(entry, refusal.address) {
-            if let Some(reason) = why(image, declaration, claims, &refusal) {
-                if reason.is_told_of_calls() {
-                    return Some((refusal, reason));
-                }
-            }
-        }
-    }
-    None
-}
-
-/// Why a search is stuck at an address, by a draft of what it found until then: a condition that
-/// fails there, and not for want of a line, and why; or, where the address is an entry, a call in its routine's body. That
-/// lines are missing or too narrow isn't told, since a draft lacks what wasn't come to; but of a call,
-/// that its rank isn't lower, since ranks are given once all facts are found.
+/// Why a search is stuck at an address, by a draft of what it found until then: the first condition that
+/// fails there, and why. That lines are missing or too narrow isn't told, since a draft lacks what wasn't come to; but of a call,
+/// that its rank isn't lower, since a draft has ranks as far as there are.
 ///
 /// No memory is taken, so none can be refused.
 pub fn why_stuck<A: Allocator, C: Claims>(
@@ -216,12 +133,17 @@ pub fn why_stuck<A: Allocator, C: Claims>(
     ensures explained { IfSome result (λ found. Explains
         (judged image.now declaration.now (C.claims claims.now))
         found.0.condition found.0.address found.1) }
-    // It is told of that address, or of a call in the body of its routine.
-    ensures place { IfSome result (λ found.
-        IsToldOf (declared.meaning declaration.now) at found.0 found.1) }
+    // It is told of that address, and isn't that a line is missing or too narrow.
+    ensures place { IfSome result (λ found. IsToldOf at found.0 found.1) }
 {
-    if let Some(found) = why_here(image, declaration, claims, at) {
-        return Some(found);
+    for condition in ORDER {
+        let refusal = Refusal {
+            condition,
+            address: at,
+        };
+        if let Some(reason) = why_by_words(image, declaration, claims, &refusal) {
+            return Some((refusal, reason));
+        }
     }
-    why_around(image, declaration, claims, at)
+    None
 }

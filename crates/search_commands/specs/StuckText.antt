@@ -26,14 +26,14 @@ stuck_text profile image at told =
     (codes "pdp8: guess: Stuck " ++ octal_text at) ++ codes "\n" ++ told_text profile image told
 
 -- These are the lines of a search that is stuck somewhere. The draft's facts stand in bodies and its routine and exit lines
--- at entries, and it has a fact there, or there is an entry. The condition that is told fails by the draft, since what is
--- told is so: at that address, and not because a line is missing or too narrow, or at a call in its routine.
+-- at entries, and it has a fact there. The condition that is told fails by the draft at that address, since what is told is
+-- so, and not because a line is missing or too narrow.
 pub record IsReport (image : List (Option ℕ)) (d : Declaration) (draft : Lines) (report : List ℕ) : Type 0 where
   pub at : ℕ
   pub is_draft : IsDraft d at (certificate_of draft)
   pub told : Option (Refusal × Reason)
   pub why : IfSome told (λ found. Explains (checked_case image d draft) found.0.condition found.0.address found.1)
-  pub place : IfSome told (λ found. IsToldOf d at found.0 found.1)
+  pub place : IfSome told (λ found. IsToldOf at found.0 found.1)
   pub report_is : report ≡ stuck_text d.profile image at told
 
 -- The frames are a tape, the text is that of a declaration; these are the lines of a search that is stuck, by some draft of a

@@ -54,9 +54,6 @@ fn push_verdict<A: Allocator, B: Allocator>(
         Verdict::TurnsSpent => {
             text.extend_from_slice(b"/ No certificate is found within the turns that there are")?
         }
-        Verdict::TooLong => text.extend_from_slice(
-            b"/ No certificate is found that is short enough",
-        )?,
     }
     text.extend_from_slice(b".\n")
 }

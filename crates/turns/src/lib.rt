@@ -16,12 +16,9 @@ pub enum GuessFault {
     #[error("TurnsSpent")]
     TurnsSpent,
     /// At this address an instruction was met that the judge would refuse, or the judge refuses there
-    /// what was found.
+    /// what was found. Of the calls that go round in a circle it is the least.
     #[error("Stuck {0}")]
     Stuck(Word),
-    /// The text of what was found has more than the 1,048,576 bytes that are read of a certificate.
-    #[error("TooLong")]
-    TooLong,
     /// A growth of the table was refused.
     #[error("NoMemory")]
     NoMemory,
@@ -42,7 +39,7 @@ pub enum ProposeFault {
     NoMemory,
 }
 
-/// Turns: so many were taken, of so many at most.
+/// Turns: so many were taken, of so many at most. A search takes one for each `post`.
 #[derive(Drop)]
 pub struct Turns {
     spent: u32,

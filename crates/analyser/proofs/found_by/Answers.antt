@@ -6,5 +6,5 @@ use Rattle.analyser.proofs.found_by.Goals as goal
 
 pub returns-in-Ok-clause-lines : goal.returns-in-Ok-clause-lines
 returns-in-Ok-clause-lines g c =
-    IfOk-weaker c.tested.result (λ made. made ≡ c.in-Ok.certificate) (λ made. AreLines (meaning made))
-    (λ made same. subst (λ x. AreLines (meaning x)) (sym same) c.in-Ok.ensures.lines) c.tested.ensures.same
+    IfOk-weaker c.accepted.result (λ made. made ≡ c.in-Ok.certificate) (λ made. AreLines (meaning made))
+    (λ made same. subst (λ x. AreLines (meaning x)) (sym same) c.in-Ok.ensures.lines) c.accepted.ensures.same

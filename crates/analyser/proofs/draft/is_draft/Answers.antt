@@ -1,4 +1,4 @@
-use Rattle.std.proofs.Common.{inl, inr, sym, ◌∙◌, arith}
+use Rattle.std.proofs.Common.{sym, ◌∙◌, arith}
 use Rattle.declaration.specs.Kept.{meaning as declared}
 use Rattle.certificate.specs.Kept.{claims}
 use Rattle.analyser.specs.Attempts.{StandsRight}
@@ -10,14 +10,8 @@ loop-index-preserved g c =
     one_more (StandsRight (declared c.args.declaration.now) (claims c.args.draft.now)) c.loop-index.index c.from_index.result c.loop-index.invariant c.from_index.ensures
     (c.stands_right.ensures c.if-not-stands_right.false)
 
-pub returns-then-is_entry : goal.returns-then-is_entry
-returns-then-is_entry g c = λ yes. record {
+pub returns : goal.returns
+returns g c = λ yes. record {
   stands = λ a lt. c.loop-index.invariant a (omega (arith, c.loop-index-test.false));
-  there = inr (sym c.is_entry.ensures ∙ yes);
-}
-
-pub returns-else-is_entry : goal.returns-else-is_entry
-returns-else-is_entry g c = λ yes. record {
-  stands = λ a lt. c.loop-index.invariant a (omega (arith, c.loop-index-test.false));
-  there = inl (sym c.fact_into.ensures.there ∙ yes);
+  there = sym c.fact_into.ensures.there ∙ yes;
 }

@@ -8,4 +8,4 @@ use Rattle.proposer.proofs.variables.lists_needed.Goals as goal
 pub returns-in-Some : goal.returns-in-Some
 returns-in-Some g c = λ yes cells cell same lt is.
     is_read (judged c.args.image.now c.args.declaration.now (claims c.args.certificate.now)) cell
-    (c.read.ensures cell lt (c.is_subset.ensures.0 yes cell lt (ap (λ (u : Words). u cell) (some_is (c.in-Some.ensures ∙ same)) ∙ is)))
+    ((c.read.ensures cell lt).0 (c.is_subset.ensures.0 yes cell lt (ap (λ (u : Words). u cell) (some_is (c.in-Some.ensures ∙ same)) ∙ is)))

@@ -1,10 +1,27 @@
+use Rattle.std.proofs.Common.{arith}
 use Rattle.wordset.specs.Lanes.{words}
 use Rattle.certificate.specs.Kept.{claims}
 use Rattle.judge.specs.Judged.{judged}
-use Rattle.proposer.specs.Touched.{IsTouched}
-use Rattle.proposer.proofs.TouchLemmas.{in_either}
+use Rattle.proposer.specs.Touched.{IsTouched, IsTouchedFrom}
+use Rattle.proposer.proofs.TouchLemmas.{AreGathered, first_of, in_either, next_below, second_of}
 use Rattle.proposer.proofs.variables.touched.Goals as goal
 
 pub loop-index-preserved : goal.loop-index-preserved
 loop-index-preserved g c =
-    in_either (IsTouched c.args.access (judged c.args.image.now c.args.declaration.now (claims c.args.certificate.now))) _ (words c.loop-index.cells) (words c.touched_from-found.result) c.union-cells.ensures c.loop-index.invariant c.touched_from-found.ensures
+    let j = judged c.args.image.now c.args.declaration.now (claims c.args.certificate.now) in
+    let both = words c.union-cells.result in
+    record {
+      only =
+          in_either (IsTouched c.args.access j) both (words c.loop-index.cells) (words c.touched_from-found.result) c.union-cells.ensures c.loop-index.invariant.only
+          (λ cell lt is. (c.from_index-at.result, omega (arith, c.from_index-at.ensures, c.loop-index-test.true), (c.touched_from-found.ensures cell lt).0 is));
+      all =
+          next_below (AreGathered c.args.access j both) c.loop-index.index c.from_index-at.result
+          (λ a lt cell small t. first_of both (words c.loop-index.cells) (words c.touched_from-found.result) c.union-cells.ensures cell (c.loop-index.invariant.all a lt cell small t)) c.from_index-at.ensures
+          (λ cell small t. second_of both (words c.loop-index.cells) (words c.touched_from-found.result) c.union-cells.ensures cell ((c.touched_from-found.ensures cell small).1 t));
+    }
+
+pub returns : goal.returns
+returns g c = λ cell lt. (
+  c.loop-index.invariant.only cell lt,
+  λ t. c.loop-index.invariant.all t.0 (omega (arith, t.1, c.loop-index-test.false)) cell lt t.2,
+)

@@ -4,7 +4,7 @@ PROGRAM ?= pdp8
 BUILT = crates/pdp8/out/pdp8
 
 # How many checks the gate runs side by side: one for each processor.
-export RT_JOBS ?= $(shell nproc)
+LANES ?= $(shell nproc)
 
 VERSION = 1.0
 DIST = pdp8-workbench-$(VERSION)
@@ -43,7 +43,7 @@ test:
 	python3 tests/definitions.py
 	python3 tests/links.py
 	python3 tests/edits.py
-	rt ci
+	RT_JOBS=$(LANES) rt ci
 	python3 tests/agreement.py $(BUILT)
 	python3 tests/cases.py $(BUILT)
 

@@ -11,17 +11,17 @@ mkdir -p "$work/crates/wordset_speed/src"
 for crate in word12 instruct wordset; do
     cp -r "$top/crates/$crate" "$work/crates/"
 done
-# Of the crate `set_tests` the plain bodies alone.
-mkdir -p "$work/crates/set_tests/src" "$work/crates/set_tests/specs" "$work/crates/set_tests/proofs"
-cp "$top/crates/set_tests/src/plain.rt" "$work/crates/set_tests/src/"
-printf '#![tactic(auto)]\n\npub mod plain;\n' >"$work/crates/set_tests/src/lib.rt"
-: >"$work/crates/set_tests/specs/Lib.antt"
-cp -r "$top/crates/set_tests/proofs/plain" "$top/crates/set_tests/proofs/PlainLemmas.antt" "$work/crates/set_tests/proofs/"
-echo 'pub mod PlainLemmas' >"$work/crates/set_tests/proofs/Lib.antt"
+# Of the crate `library_tests` the plain bodies alone.
+mkdir -p "$work/crates/library_tests/src" "$work/crates/library_tests/specs" "$work/crates/library_tests/proofs"
+cp "$top/crates/library_tests/src/plain.rt" "$work/crates/library_tests/src/"
+printf '#![tactic(auto)]\n\npub mod plain;\n' >"$work/crates/library_tests/src/lib.rt"
+: >"$work/crates/library_tests/specs/Lib.antt"
+cp -r "$top/crates/library_tests/proofs/plain" "$top/crates/library_tests/proofs/PlainLemmas.antt" "$work/crates/library_tests/proofs/"
+echo 'pub mod PlainLemmas' >"$work/crates/library_tests/proofs/Lib.antt"
 cp "$top/bench/wordset/speed.rattle" "$work/crates/wordset_speed/src/main.rt"
 grep -E '^(word12|instruct|wordset):' "$top/crates.txt" >"$work/crates.txt"
-echo 'set_tests: word12 wordset' >>"$work/crates.txt"
-echo 'wordset_speed: word12 wordset set_tests anyhow' >>"$work/crates.txt"
+echo 'library_tests: word12 wordset' >>"$work/crates.txt"
+echo 'wordset_speed: word12 wordset library_tests anyhow' >>"$work/crates.txt"
 rustc -O -o "$work/lanes" "$top/bench/wordset/lanes.rs"
 # Building runs the program once, whose lines are left out.
 (cd "$work/crates/wordset_speed" && rt run >"$work/built" 2>&1) || { cat "$work/built"; exit 1; }

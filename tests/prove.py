@@ -2,8 +2,8 @@
 """Proves the program and all crates below it from nothing, builds it as crates/pdp8/out/pdp8, and runs it on the stored tape.
 
 This is the gate's own run, rt ci, over copies of these crates alone, without tests and without edits that must fail. What it
-proves is kept for the gate on this machine, and what a gate proved isn't proved again. RT_JOBS says how many crates are
-proved side by side; without it as many as there are processors.
+proves is kept for the gate on this machine, and what a gate proved isn't proved again. A crate that no other waits beside gets
+several processors, as far as memory allows; RT_JOBS=N proves N crates side by side with one processor each.
 
 usage: tests/prove.py
 """
@@ -45,8 +45,7 @@ def copied(room):
 def main():
     with tempfile.TemporaryDirectory() as room:
         copied(room)
-        jobs = os.environ.get('RT_JOBS') or str(len(os.sched_getaffinity(0)))
-        status = subprocess.run(['rt', 'ci'], cwd=room, env={**os.environ, 'RT_JOBS': jobs}, check=False).returncode
+        status = subprocess.run(['rt', 'ci'], cwd=room, check=False).returncode
         built = os.path.join(room, 'crates', PROGRAM, 'out', PROGRAM)
         if status or not os.path.isfile(built):
             sys.exit(status or 1)

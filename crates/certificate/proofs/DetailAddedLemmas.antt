@@ -8,7 +8,6 @@ use Rattle.certificate.specs.declared.packed.Run.{Run}
 use Rattle.certificate.specs.declared.packed.Span.{Span}
 use Rattle.certificate.specs.declared.details.Detail.{Detail}
 use Rattle.certificate.specs.declared.details.Detail.TheVariants as detail
-use Rattle.std.specs.Prelude.{IfOk, Result, Ok, Err}
 use Rattle.certificate.specs.declared.Version.{Version}
 use Rattle.certificate.specs.Line.{Line, IsLine, SameLine, line_text}
 use Rattle.certificate.specs.Order.{is_detail, is_end, Spells}
@@ -40,6 +39,10 @@ row_there runs i n d one within is small =
     rw one (ap (take (i + 1 - i)) (drop_more runs i d b) ∙ (let k : i + 1 - i ≡ 1 = omega arith in rw (k, ← is) refl)) in
     ap set_of_runs there ∙ one_run d small
 
+-- A run more.
+pub one_longer : (old new : List Run) (r : Run) → new ≡ old ++ r ∷ [] → length new ≡ length old + 1
+one_longer old new r e = ap length e ∙ length-append old (r ∷ [])
+
 -- The run that was added lies there.
 pub run_laid : (old new : List Run) (r : Run) (s : Span) → r.last < 4096 → new ≡ old ++ r ∷ [] → IsSpan s (length old) (length new) →
     IsLaid new s (between r.first r.last)
@@ -52,16 +55,10 @@ run_laid old new r s small e span = record {
     first = span.first_is
 
     ends : s.first + s.count ≡ length old + 1
-    ends = span.ends ∙ (ap length e ∙ length-append old (r ∷ []))
+    ends = span.ends ∙ one_longer old new r e
 
     there : slice_range new s.first (s.first + s.count) ≡ r ∷ []
     there = rw (ends, first, e) (ap (take (length old + 1 - length old)) (drop_at old (r ∷ []) (length old) refl) ∙ take_all (length old + 1 - length old) (r ∷ []) (omega arith))
-
-pub run_laid_if : {E : Type 0} (old new : List Run) (r : Run) (o : Result Span E) (n m : ℕ) → n ≡ length old → m ≡ length new → r.last < 4096 →
-    new ≡ old ++ r ∷ [] → IfOk o (λ s. IsSpan s n m) → IfOk o (λ s. IsLaid new s (between r.first r.last))
-run_laid_if old new r (Ok s) n m first last small e span =
-    run_laid old new r s small e (record { first_is = span.first_is ∙ first; ends = span.ends ∙ last })
-run_laid_if old new r (Err f) n m first last small e span = tt
 
 -- Bytes that spell a line spell no other.
 pub one_line : (v : Version) (l : Line) (bytes : List ℕ) → Spells v l bytes → (m : Line) → IsLine v m → bytes ≡ line_text v m → SameLine l m

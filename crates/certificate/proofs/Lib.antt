@@ -32,3 +32,5 @@ pub mod ServedLemmas
 pub mod DetailAddedLemmas
 pub mod AddingLemmas
 mod ReadBackLemmas
+pub mod DecideLemmas
+mod AnswerLemmas

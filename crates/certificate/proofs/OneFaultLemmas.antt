@@ -11,7 +11,7 @@ use Rattle.certificate.specs.Reading.{place_of_equation}
 use Rattle.certificate.specs.Line.{Line, RoutineIs, FactIs, ExitIs, CellIs, EquationIs, End, IsLine, line_text, SameLine, ended, all_ended}
 use Rattle.certificate.specs.Order.{is_detail, has_details, is_end, any, how_many, may_stand, heads, details_of_last, place, next_place, fellows, InOrder, is_routine, is_cell, is_equation, HasRoom, IsNext, AreInOrder, front, IsBad, IsMisplaced, IsOneTooMany}
 use Rattle.certificate.specs.Faults.{most_bytes, NoFeed, IsText, HasLine, HasFaultyLine, HasNoVersion, HasRest, IsCut, IsTooLong, HasFault}
-use Rattle.certificate.specs.Exact.{Alike, FaultLaw}
+use Rattle.certificate.specs.Exact.{Alike}
 use Rattle.certificate.proofs.TextLemmas.{seam}
 use Rattle.certificate.proofs.OneLineLemmas.{line_one, line_feed, version_feed, first_one}
 use Rattle.certificate.proofs.OneTextLemmas.{version_one, routine_kept, cell_kept, equation_kept}
@@ -37,7 +37,7 @@ same_back (EquationIs a) (EquationIs b) h = sym h
 same_back End End h = tt
 same_back l m h = absurd h
 
-alike_self : (ls : List Line) → Alike SameLine ls ls
+pub alike_self : (ls : List Line) → Alike SameLine ls ls
 alike_self [] = tt
 alike_self (l ∷ ls) = (same_self l, alike_self ls)
 
@@ -135,7 +135,7 @@ last_same (l ∷ ls) (m ∷ ms) h =
     (h.0, last_same ls ms h.1) tt
 
 -- What may come next.
-stand_same : (b c : List Line) (l m : Line) → Alike SameLine b c → SameLine l m → may_stand b l ≡ may_stand c m
+pub stand_same : (b c : List Line) (l m : Line) → Alike SameLine b c → SameLine l m → may_stand b l ≡ may_stand c m
 stand_same b c l m h g =
     rw (any_same is_end end_kept b c h, any_same has_details has_kept b c h, detail_kept l m g) refl
 
@@ -495,6 +495,3 @@ one_fault bytes f g h k =
     let p = found bytes f h in
     let q = found bytes g k in
     sym p.1 ∙ (one_found bytes p.0 q.0 ∙ q.1)
-
-pub fault_law : FaultLaw
-fault_law = record { none = no_fault; one = one_fault }

@@ -36,6 +36,7 @@ pub record RunsSofar (old new : List Run) (set : Words) (n : ℕ) : Type 0 where
   pub more : List Run
   pub is : new ≡ old ++ more
   pub few : n ≤ 4096
+  pub count : length more ≤ n
   pub below : (v : ℕ) → v < n → joined nothing more v ≡ set v
   pub above : (v : ℕ) → n ≤ v → joined nothing more v ≡ false
 
@@ -44,12 +45,19 @@ no_runs old set = record {
   more = [];
   is = sym (append-nil old);
   few = omega arith;
+  count = omega arith;
   below = λ v h. absurd (omega arith);
   above = λ v h. refl;
 }
 
 pub runs_begin : (old new : List Run) (set : Words) (n : ℕ) → RunsSofar old new set n → Begins old new
 runs_begin old new set n s = (s.more, s.is)
+
+pub few_runs : (old new : List Run) (set : Words) (n : ℕ) → RunsSofar old new set n → length new ≤ length old + 4096
+few_runs old new set n s =
+    let p : length s.more ≤ n = s.count in
+    let q : n ≤ 4096 = s.few in
+    let e : length new ≡ length old + length s.more = ap length s.is ∙ length-append old s.more in omega arith
 
 pub in_between : (low high v : ℕ) → low ≤ v → v ≤ high → between low high v ≡ true
 in_between low high v a b = grind (arith, nat_tests)
@@ -78,6 +86,8 @@ run_added old now new set others n run s f l are e = record {
   more = s.more ++ run ∷ [];
   is = e ∙ (ap (λ x. x ++ run ∷ []) s.is ∙ append_assoc old s.more (run ∷ []));
   few = (let q : run.last < 4096 = l.small in omega arith);
+  count = (let p : length s.more ≤ n = s.count in let q : n ≤ run.first = f.reached in let o : run.first ≤ run.last = l.order in
+      omega (arith, length-append s.more (run ∷ [])));
   below = λ v h. at v ∙ elim (cases_lt v n) [
     | inl a ↦ (let q : n ≤ run.first = f.reached in
         or_with _ _ (set v) false (s.below v a) (below_between run.first run.last v (omega arith)) ∙ or_false (set v))

@@ -9,6 +9,7 @@ use Rattle.facts.specs.Statements.{TrackedCell, Statement}
 use Rattle.certificate.specs.declared.Version.{Version}
 use Rattle.certificate.specs.declared.Version.TheVariants.{One, Two}
 use Rattle.certificate.specs.Spelling.{RoutineLine, FactLine, ExitLine, Lines, begins, ends, mark, marks, set_text, digits, offsets_text, cell_text, equation_text, mq_text, registers_text, details_text, routine_text, fact_text, exit_text, version_text, text}
+use Rattle.certificate.specs.Line.{Registers, Line, RoutineIs, FactIs, ExitIs, CellIs, EquationIs, End, SameRegisters, SameLine, rank_text, words_text, equation_line, line_text}
 use Rattle.certificate.specs.Exact.{Alike, SameRoutineLine, SameCell, SameStatement, SameFactLine, SameExitLine, SameLines, SpellingLaw}
 use Rattle.certificate.proofs.DigitLemmas.{digits_same, some_same}
 use Rattle.certificate.proofs.OneLineLemmas.{line_one}
@@ -132,6 +133,45 @@ same_text c d e =
     go : (a b c d e f g h : List ℕ) → a ≡ b → c ≡ d → e ≡ f → g ≡ h →
         a ++ 10 ∷ (c ++ e ++ g ++ codes "end" ++ 10 ∷ []) ≡ b ++ 10 ∷ (d ++ f ++ h ++ codes "end" ++ 10 ∷ [])
     go a b c d e f g h p q r s = rw (p, q, r, s) refl
+
+-- Lines that say the same have one spelling.
+words_same : (v : Version) (r s : Registers) → SameRegisters r s → words_text v r ≡ words_text v s
+words_same v r s e =
+    go (set_text r.ac) (set_text s.ac) (mq_text v r.mq) (mq_text v s.mq) (digits 2 r.link) (digits 2 s.link)
+    (set_same r.ac s.ac e.ac) (mq_same v r.mq s.mq e.mq) (digits_same 2 r.link s.link e.link)
+  where
+    go : (a b c d f g : List ℕ) → a ≡ b → c ≡ d → f ≡ g → codes " ac " ++ a ++ c ++ codes " link " ++ f ≡ codes " ac " ++ b ++ d ++ codes " link " ++ g
+    go a b c d f g p q r = rw (p, q, r) refl
+
+pub same_line_text : (v : Version) (l m : Line) → SameLine l m → line_text v l ≡ line_text v m
+same_line_text v (RoutineIs r) (RoutineIs s) e =
+    go (octal_text r.entry) (octal_text s.entry) (rank_text r.rank) (rank_text s.rank)
+    (set_text r.sites) (set_text s.sites) (set_text r.writes) (set_text s.writes)
+    (ap octal_text e.0) (ap rank_text e.1) (set_same r.sites s.sites e.2) (set_same r.writes s.writes e.3)
+  where
+    go : (a b c d f g h k : List ℕ) → a ≡ b → c ≡ d → f ≡ g → h ≡ k →
+        codes "routine " ++ a ++ codes " rank " ++ c ++ codes " sites " ++ f ++ codes " writes " ++ h ≡
+        codes "routine " ++ b ++ codes " rank " ++ d ++ codes " sites " ++ g ++ codes " writes " ++ k
+    go a b c d f g h k p q r s = rw (p, q, r, s) refl
+same_line_text v (FactIs a r m) (FactIs b s n) e =
+    go (octal_text a) (octal_text b) (words_text v r) (words_text v s) (offsets_text m) (offsets_text n)
+    (ap octal_text e.0) (words_same v r s e.1) (offsets_same m n e.2)
+  where
+    go : (a b c d f g : List ℕ) → a ≡ b → c ≡ d → f ≡ g → codes "fact " ++ a ++ c ++ codes " offsets " ++ f ≡ codes "fact " ++ b ++ d ++ codes " offsets " ++ g
+    go a b c d f g p q r = rw (p, q, r) refl
+same_line_text v (ExitIs a o r) (ExitIs b q s) e =
+    go (octal_text a) (octal_text b) o q (words_text v r) (words_text v s) (ap octal_text e.0) e.1 (words_same v r s e.2)
+  where
+    go : (a b : List ℕ) (m n : ℕ) (c d : List ℕ) → a ≡ b → m ≡ n → c ≡ d → codes "exit " ++ a ++ codes " " ++ (48 + m) ∷ c ≡ codes "exit " ++ b ++ codes " " ++ (48 + n) ∷ d
+    go a b m n c d p q r = rw (p, q, r) refl
+same_line_text v (CellIs a) (CellIs b) e =
+    go (octal_text a.address) (octal_text b.address) (set_text a.set) (set_text b.set) (ap octal_text e.0) (set_same a.set b.set e.1)
+  where
+    go : (a b c d : List ℕ) → a ≡ b → c ≡ d → codes "cell " ++ a ++ codes " " ++ c ≡ codes "cell " ++ b ++ codes " " ++ d
+    go a b c d p q = rw (p, q) refl
+same_line_text v (EquationIs a) (EquationIs b) e = ap equation_line e
+same_line_text v End End e = refl
+same_line_text v l m e = absurd e
 
 pub spelling_law : SpellingLaw
 spelling_law = record { line = line_one; lines = text_one; text = same_text }

@@ -1,5 +1,5 @@
 -- One spelling has one meaning: which certificates say the same, and what holds of the texts that they have.
-use Rattle.std.specs.Prelude.{◌≡◌, ℕ, ◌<◌, ◌≤◌, List, [], ◌∷◌, length}
+use Rattle.std.specs.Prelude.{◌≡◌, ℕ, ◌<◌, ◌≤◌, ◌⊎◌, List, [], ◌∷◌, length}
 use Rattle.wordset.specs.Words.{SameWords, SameLinks}
 use Rattle.facts.specs.Statements.{TrackedCell, Statement}
 use Rattle.facts.specs.Same.{Agree}
@@ -91,11 +91,16 @@ pub record ReadingLaw : Type 0 where
   pub text : (c : Lines) → AreLines c → length (text c) ≤ most_bytes → IsText c.version (text c)
   pub lines : (v : Version) (bytes : List ℕ) → IsText v bytes → IsSpelled v bytes
 
--- A text of lines in order has no fault, and no text has two.
+-- The text is that of a certificate of some version, or it has a fault.
+abbrev pub IsAnswered : List ℕ → Type 0
+IsAnswered bytes = ((v : Version) × IsText v bytes) ⊎ ((fault : CertificateFault) × HasFault bytes fault)
+
+-- A text of lines in order has no fault, no text has two, and each text is one of lines in order or has a fault.
 pub record FaultLaw : Type 0 where
   pub none : (v : Version) (bytes : List ℕ) (fault : CertificateFault) →
       IsText v bytes → HasFault bytes fault → ⊥
   pub one : (bytes : List ℕ) (f g : CertificateFault) → HasFault bytes f → HasFault bytes g → f ≡ g
+  pub some : (bytes : List ℕ) → IsAnswered bytes
 
 -- The text of this certificate is one of lines in order, and each certificate that has this text is of the same version and
 -- claims the same.

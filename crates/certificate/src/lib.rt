@@ -54,8 +54,8 @@ pub enum Version {
     Two,
 }
 
-/// What is claimed of a routine: its rank below 64, the addresses of the JMS words that call it, and
-/// the cells that it and its callees may write.
+/// What is claimed of a routine: its rank, below 64 in a certificate, the addresses of the JMS words
+/// that call it, and the cells that it and its callees may write.
 #[derive(Clone, Copy, PartialEq, Eq, Debug)]
 pub struct Routine {
     /// Its rank.
@@ -233,7 +233,7 @@ impl<A: Allocator> Certificate<A> {
     }
 
     /// Whether there is a fact at an address, which the lent one then says; else it's left as it is. So
-    /// the same one can be asked for many, each of some 35,000 bytes.
+    /// one lent fact serves for many questions.
     pub fn fact_into(&self, at: Word, fact: &mut Fact) -> bool
         ensures there { result ≡ (claims self.now).has_fact at }
         ensures fact { result ≡ true → fact_meaning fact.new ≡ (claims self.now).fact at }
@@ -349,7 +349,7 @@ pub fn read_back_law()
     ensures { ReadBackLaw }
 {}
 
-/// A certificate's text has no fault, and no text has two.
+/// A certificate's text has no fault, no text has two, and each text is a certificate's or has one.
 pub fn fault_law()
     ensures { FaultLaw }
 {}

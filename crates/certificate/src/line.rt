@@ -24,7 +24,7 @@ use wordset::{Links, WordSet};
 #[derive(Clone, Copy)]
 pub struct RoutineLine {
     pub entry: Word,
-    pub rank: usize,
+    pub rank: u8,
     pub sites: WordSet,
     pub writes: WordSet,
 }
@@ -102,7 +102,7 @@ fn read_routine(version: Version, line: &[u8]) -> Option<Line>
     fields.skip(b"routine ");
     let entry = fields.word();
     fields.skip(b" rank ");
-    let rank = fields.rank();
+    let rank = fields.rank() as u8;
     fields.skip(b" sites ");
     let sites = fields.set();
     fields.skip(b" writes ");

@@ -60,7 +60,7 @@ impl<A: Allocator> Certificate<A> {
         prove!(index < 4096);
         let line = Line::Routine(RoutineLine {
             entry,
-            rank: routine.rank,
+            rank: routine.rank as u8,
             sites: routine.sites,
             writes: routine.writes,
         });

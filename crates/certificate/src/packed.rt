@@ -35,7 +35,7 @@ pub struct Run {
 /// Where the runs of a set lie among those of all: so many from `first` on.
 #[derive(Clone, Copy)]
 pub struct Span {
-    pub first: u32,
+    pub first: usize,
     pub count: u16,
 }
 
@@ -43,7 +43,7 @@ pub struct Span {
 /// so many of the other.
 #[derive(Clone, Copy)]
 pub struct Spans {
-    pub first: u32,
+    pub first: usize,
     pub one: u16,
     pub other: u16,
 }
@@ -114,9 +114,11 @@ pub fn last_before(others: &WordSet, low: Word) -> Word
     }
 }
 
-/// Adds the runs of a set in rising order; where that's refused, some of them.
+/// Adds the runs of a set in rising order, of which there are at most 4096; where that's refused,
+/// some of them.
 fn push_runs<A: Allocator>(runs: &mut Vec<Run, A>, set: &WordSet) -> Result<(), AllocError>
     ensures front { Begins runs.old.items runs.new.items }
+    ensures few { OnOk result (length runs.new.items ≤ length runs.old.items + 4096) }
     ensures whole { OnOk result
         (set_of_runs (drop (length runs.old.items) runs.new.items) ≡ words set.now) }
 {
@@ -130,17 +132,15 @@ fn push_runs<A: Allocator>(runs: &mut Vec<Run, A>, set: &WordSet) -> Result<(), 
     Ok(())
 }
 
-/// The places from one number up to another as they're kept, where the numbers aren't too great.
-fn kept_span(first: usize, end: usize) -> Result<Span, AllocError>
-    requires { first ≤ end }
-    ensures { IfOk result (λ span. IsSpan span first end) }
+/// The places from one number up to another, of which there are at most 4096.
+fn span_between(first: usize, end: usize) -> Span
+    requires order { first ≤ end }
+    requires few { end ≤ first + 4096 }
+    ensures { IsSpan result first end }
 {
-    let Ok(count) = u16::try_from(end - first) else {
-        return Err(AllocError);
-    };
-    match u32::try_from(first) {
-        Ok(first) => Ok(Span { first, count }),
-        Err(_) => Err(AllocError),
+    Span {
+        first,
+        count: (end - first) as u16,
     }
 }
 
@@ -153,7 +153,7 @@ fn lay<A: Allocator>(runs: &mut Vec<Run, A>, set: &WordSet) -> Result<Span, Allo
 {
     let first = runs.len();
     push_runs(runs, set)?;
-    kept_span(first, runs.len())
+    Ok(span_between(first, runs.len()))
 }
 
 /// Adds a run, and tells where it lies.
@@ -165,7 +165,7 @@ fn lay_run<A: Allocator>(runs: &mut Vec<Run, A>, run: Run) -> Result<Span, Alloc
     let last = run.last.index();
     prove!(last < 4096);
     runs.push(run)?;
-    kept_span(first, runs.len())
+    Ok(span_between(first, runs.len()))
 }
 
 /// The line packed, after its run was added.
@@ -228,13 +228,10 @@ fn pack_routine<A: Allocator>(
     ensures front { Begins runs.old.items runs.new.items }
     ensures packed { IfOk result (λ l. IsPacked runs.new.items l (RoutineIs (routine_of routine.now))) }
 {
-    let Ok(rank) = u8::try_from(routine.rank) else {
-        return Err(AllocError);
-    };
     let sets = lay_two(runs, &routine.sites, &routine.writes)?;
     Ok(PackedLine::Routine(PackedRoutine {
         entry: routine.entry,
-        rank,
+        rank: routine.rank,
         sets,
     }))
 }
@@ -314,7 +311,7 @@ fn one_in(runs: &[Run], sets: Spans) -> WordSet
     requires { AreWithin (length runs.now) sets }
     ensures { words result ≡ one_at runs.now sets }
 {
-    set_in(runs, sets.first as usize, usize::from(sets.one))
+    set_in(runs, sets.first, usize::from(sets.one))
 }
 
 /// The other one.
@@ -322,7 +319,7 @@ fn other_in(runs: &[Run], sets: Spans) -> WordSet
     requires { AreWithin (length runs.now) sets }
     ensures { words result ≡ other_at runs.now sets }
 {
-    let first = sets.first as usize + usize::from(sets.one);
+    let first = sets.first + usize::from(sets.one);
     set_in(runs, first, usize::from(sets.other))
 }
 
@@ -389,7 +386,7 @@ fn begin(runs: &[Run], registers: &PackedRegisters, offsets: Offsets, fact: &mut
     ensures statement { statement_of fact.new ≡ stated (registers_at runs.now registers.now) [] }
     ensures offsets { offsets_of fact.new.offsets ≡ offsets_of offsets }
 {
-    let first = registers.sets.first as usize;
+    let first = registers.sets.first;
     let one = usize::from(registers.sets.one);
     fact.forget();
     put_accumulator(runs, first, one, fact);
@@ -408,7 +405,7 @@ fn track(runs: &[Run], cell: Word, span: Span, fact: &mut Fact)
     } }
     ensures offsets { offsets_of fact.new.offsets ≡ offsets_of fact.old.offsets }
 {
-    let first = span.first as usize;
+    let first = span.first;
     if span.count == 1 {
         let run = runs[first];
         let last = run.last.index();
@@ -430,10 +427,7 @@ fn track_several(runs: &[Run], cell: Word, span: Span, fact: &mut Fact)
     } }
     ensures offsets { offsets_of fact.new.offsets ≡ offsets_of fact.old.offsets }
 {
-    fact.track(
-        cell,
-        set_in(runs, span.first as usize, usize::from(span.count)),
-    );
+    fact.track(cell, set_in(runs, span.first, usize::from(span.count)));
 }
 
 /// Whether a line is a cell or an equation, which the lent fact then says too.

@@ -51,9 +51,9 @@ fn read_source<A: Allocator + Copy, R: ByteSource>(
 }
 
 impl<A: Allocator + Copy> Certificate<A> {
-    /// The certificate whose text a source gives, as [`Certificate::parse`] has it of all its bytes.
-    /// It reads on up to the end of the source, since nothing may follow the text, and stops at the
-    /// first fault: 512 bytes at a time, and never more than may be a certificate's and one.
+    /// The certificate whose text a source gives, as [`Certificate::parse`] has it of all its bytes: a
+    /// byte that follows the text is a fault. At most one byte more is taken than a certificate may
+    /// have, and at most 511 past the one that brings the answer.
     ///
     /// # Errors
     ///

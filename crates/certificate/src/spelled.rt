@@ -184,7 +184,7 @@ impl LineText {
         ensures { Adds self.old.bytes.items self.new.bytes.items
             (set_text (one_at runs.now sets)) }
     {
-        self.set_in(runs, sets.first as usize, usize::from(sets.one));
+        self.set_in(runs, sets.first, usize::from(sets.one));
     }
 
     /// Adds the other one.
@@ -193,7 +193,7 @@ impl LineText {
         ensures { Adds self.old.bytes.items self.new.bytes.items
             (set_text (other_at runs.now sets)) }
     {
-        let first = sets.first as usize + usize::from(sets.one);
+        let first = sets.first + usize::from(sets.one);
         self.set_in(runs, first, usize::from(sets.other));
     }
 
@@ -352,7 +352,7 @@ impl LineText {
         self.text(b"cell ");
         self.word(cell);
         self.text(b" ");
-        self.set_in(runs, span.first as usize, usize::from(span.count));
+        self.set_in(runs, span.first, usize::from(span.count));
     }
 
     /// Adds the line of an equation.

@@ -55,7 +55,9 @@ pub fn with_operator<'a>(alloc: Global, run: Command<'a>) -> Result<Command<'a>,
     let switches = Arg::new(alloc, "switches")
         .long("switches")
         .value_name("W")
-        .help("the octal word that the switches are set to; 0000 without it");
+        .help(
+            "the octal word that the switches are set to; leading zeros are allowed, 0000 without it",
+        );
     run.arg(reader)?
         .arg(punch)?
         .arg(keys)?

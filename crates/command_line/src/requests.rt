@@ -180,7 +180,7 @@ fn profile_word<'a>(alloc: Global) -> Arg<'a> {
 
 fn start_word<'a>(alloc: Global) -> Arg<'a> {
     Arg::new(alloc, "start").long("start").value_name("A").help(
-        "the octal address of the first instruction; 0200 without it",
+        "the octal address of the first instruction; leading zeros are allowed, 0200 without it",
     )
 }
 
@@ -303,9 +303,9 @@ fn guess_command<'a>(alloc: Global) -> Result<Command<'a>, AllocError> {
         .action(ArgAction::SetTrue)
         .help("where the search is stuck, writes what the condition asks and what breaks it");
     Command::new(alloc, "guess")
-        .about("Looks for a certificate that may show that no run breaks a declaration")
+        .about("Looks for a certificate that shows that no run breaks a declaration")
         .after_help(
-            "OUT is another file: it is emptied before an input is read, and stays empty where nothing is found.\n\nExample:\n  pdp8 guess hello.bin hello.declaration hello.certificate",
+            "OUT is another file: it is emptied before an input is read, and stays empty where nothing is found. check says yes to what is found: that is proved.\n\nExample:\n  pdp8 guess hello.bin hello.declaration hello.certificate",
         )
         .arg(tape_word(alloc))?
         .arg(declaration_word(alloc))?

@@ -2,7 +2,7 @@
 
 ghost use Rattle.commands.specs.Laws.{ChecksAreOne, EmptyHasNoTape, FaultIsNotWritten, FaultIsTheOne, FaultIsTold, GuessIsAccepted, GuessIsRead, MeantIsListed, MeantIsRead, MeantIsWritten, MigratedIsCheckedAlike, ReadIsMeant, RunsAreOne, RunsEnd, SessionsAreOne, SessionsEnd, TapeIsOne, TapeIsThere};
 
-use pal_asm::laws::{answers_are_one, meant_are_words};
+use pal_asm::laws::{meant_are_words, sources_have_one_answer};
 
 /// From every image each list of events has a run, with its text and its status, and has no other.
 /// So what a run is said to write is there, whatever the tape does.
@@ -30,7 +30,7 @@ pub fn sources_are_read_back()
     ensures read { MeantIsRead }
     ensures meant { ReadIsMeant }
 {
-    answers_are_one();
+    sources_have_one_answer();
     meant_are_words();
 }
 
@@ -44,7 +44,7 @@ pub fn assemblies_are_exact()
     ensures listed { MeantIsListed }
     ensures one { FaultIsTheOne }
 {
-    answers_are_one();
+    sources_have_one_answer();
 }
 
 /// The bytes of a tape, a declaration and a certificate have one verdict. To what `guess` writes it is

@@ -8,6 +8,7 @@ pub mod Coded
 pub mod Whole
 pub mod Defined
 pub mod First
+pub mod Answered
 pub mod Bounds
 pub mod Told
 pub mod PermanentLemmas

@@ -1,6 +1,6 @@
--- What follows from the definitions: symbols are those of the whole source, a source has at most one meaning or one fault, and
--- not both, and each permanent symbol has one value. A list of acts has the newest first where its symbols are meant.
-use Rattle.std.specs.Prelude.{◌≡◌, ℕ, ◌≤◌, Bool, true, ◌&&◌, not, if◌then◌else◌, List, [], ◌∷◌, ◌++◌, length, Option, Some, unwrap_or, codes}
+-- What follows from the definitions: symbols are those of the whole source, a source has one meaning or one fault, and not
+-- both, and each permanent symbol has one value. A list of acts has the newest first where its symbols are meant.
+use Rattle.std.specs.Prelude.{◌≡◌, ℕ, ◌≤◌, Bool, true, ◌&&◌, not, if◌then◌else◌, List, [], ◌∷◌, ◌++◌, length, Option, Some, unwrap_or, codes, ◌⊎◌}
 use Rattle.std.specs.List.{AllByRecursion, list_all}
 use Rattle.std.specs.Map.{keys_of}
 use Rattle.instruct.specs.declared.Profile.{Profile}
@@ -102,6 +102,12 @@ NotBoth = (permanent : List (Name × ℕ)) (limit : ℕ) (acts : List PlacedAct)
 abbrev pub OneFault : Type 0
 OneFault = (permanent : List (Name × ℕ)) (limit : ℕ) (acts : List PlacedAct) (place there : Place) (code other : Code)
     → IsRefused permanent limit acts place code → IsRefused permanent limit acts there other → (place ≡ there) × (code ≡ other)
+
+-- Each source has a meaning or a fault.
+abbrev pub EachSourceIsAnswered : Type 0
+EachSourceIsAnswered =
+    (permanent : List (Name × ℕ)) (limit : ℕ) (acts : List PlacedAct) → ((own : List (Name × ℕ)) × (image : List (Option ℕ)) × IsSource permanent limit acts own image)
+    ⊎ ((place : Place) × (code : Code) × IsRefused permanent limit acts place code)
 
 -- No name stands twice among these.
 abbrev pub no_name_twice : List Name → Bool

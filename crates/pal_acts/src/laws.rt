@@ -1,6 +1,6 @@
 //! Laws over the definitions alone. Each is the contract of a function that does nothing.
 
-ghost use Rattle.pal_acts.specs.Laws.{SymbolsAreOfTheWhole, NotBoth, OneFault, OneSource, PermanentOnce, ReferencesPermanent};
+ghost use Rattle.pal_acts.specs.Laws.{SymbolsAreOfTheWhole, NotBoth, OneFault, OneSource, EachSourceIsAnswered, PermanentOnce, ReferencesPermanent};
 
 /// The symbols of a source are those of the whole of it: each name has one value wherever it is given
 /// one, in the order of definition, and what needs a value at once names only what has one before it.
@@ -8,19 +8,13 @@ pub fn symbols_are_of_the_whole()
     ensures { SymbolsAreOfTheWhole }
 {}
 
-/// A source has at most one list of own symbols and at most one image.
-pub fn one_source()
-    ensures { OneSource }
-{}
-
-/// A source that has a meaning has no fault.
-pub fn not_both()
-    ensures { NotBoth }
-{}
-
-/// A source has at most one fault, at one place.
-pub fn one_fault()
-    ensures { OneFault }
+/// Each source has one answer: it has one list of own symbols and one image, or it has one fault, at
+/// one place, and not both.
+pub fn sources_have_one_answer()
+    ensures meaning { OneSource }
+    ensures fault { OneFault }
+    ensures either { NotBoth }
+    ensures some { EachSourceIsAnswered }
 {}
 
 /// No permanent symbol stands twice in the list of a profile.

@@ -3,6 +3,7 @@ pub mod Terms
 pub mod Within
 pub mod Turned
 pub mod One
+pub mod Answered
 pub mod Bounded
 pub mod EachAct
 pub mod Spoken

@@ -1,4 +1,4 @@
--- What the definitions of meanings, faults and listings leave open: nothing.
+-- What the definitions of meanings, faults and listings leave open: nothing. Want of memory isn't a fault of a source.
 use Rattle.std.specs.Prelude.{◌≡◌, ℕ, List, [], ◌∷◌, Option, ◌⊎◌}
 use Rattle.std.specs.List.{AllByRecursion}
 use Rattle.instruct.specs.declared.Profile.{Profile}
@@ -26,6 +26,12 @@ FaultIsOne = (permanent : List (Name × ℕ)) (parts : List (List ℕ)) (fault f
 abbrev pub MeaningIsNoFault : Type 0
 MeaningIsNoFault = (permanent : List (Name × ℕ)) (parts : List (List ℕ)) (own : List (Name × ℕ)) (image : List (Option ℕ)) (fault : PalFault)
     → Means permanent parts own image → IsFault permanent parts fault → ⊥
+
+-- Each source, of whatever parts, means something or has a fault.
+abbrev pub EachSourceIsAnswered : Type 0
+EachSourceIsAnswered =
+    (permanent : List (Name × ℕ)) (parts : List (List ℕ)) → ((own : List (Name × ℕ)) × (image : List (Option ℕ)) × Means permanent parts own image)
+    ⊎ ((fault : PalFault) × IsFault permanent parts fault)
 
 -- What a source means can stand on a tape: each word of its image is below 4096.
 abbrev pub MeantAreWords : Type 0

@@ -1,12 +1,13 @@
 //! Laws over the definitions alone. Each is the contract of a function that does nothing.
 
-ghost use Rattle.pal_asm.specs.Laws.{MeaningIsOne, FaultIsOne, MeaningIsNoFault, MeantAreWords, ListingIsOne, WordsAreListed};
+ghost use Rattle.pal_asm.specs.Laws.{MeaningIsOne, FaultIsOne, MeaningIsNoFault, EachSourceIsAnswered, MeantAreWords, ListingIsOne, WordsAreListed};
 
-/// A source has one meaning or one fault at most, and not both.
-pub fn answers_are_one()
+/// Each source has one answer: it means one image with its symbols, or it has one fault, and not both.
+pub fn sources_have_one_answer()
     ensures meaning { MeaningIsOne }
     ensures fault { FaultIsOne }
     ensures either { MeaningIsNoFault }
+    ensures some { EachSourceIsAnswered }
 {}
 
 /// What a source means holds words that a tape can have.

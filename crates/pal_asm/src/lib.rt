@@ -18,6 +18,6 @@ mod statement;
 pub mod translation;
 
 pub use fault::{AssembleFault, PalFault, WriteFault};
-pub use pal_acts::SymbolTable;
+pub use pal_acts::{Code, SymbolTable};
 pub use program::{Program, assemble};
 pub use translation::{Translation, translate};

@@ -16,7 +16,7 @@ use Rattle.pal_text.specs.declared.reader.Next.TheVariants.{End}
 use Rattle.pal_text.specs.declared.reader.Next.TheVariants as found_next
 use Rattle.pal_text.specs.declared.fault.StatementFault.{StatementFault}
 use Rattle.pal_text.specs.declared.fault.StatementFault.TheVariants.{Illegal, NoMemory}
-use Rattle.pal_text.specs.declared.fault.TextFault.TheVariants.{Statement as Faulty}
+use Rattle.pal_text.specs.Faults.{fault_of}
 use Rattle.pal_text.specs.Names.{part_tokens}
 use Rattle.pal_text.specs.Order.{IsPlaced}
 use Rattle.pal_text.specs.Parts.{past, IsIllegal, IsFault}
@@ -95,7 +95,7 @@ breaks_next source n line close statements going b r =
     open'.1 line (subst P (sym b.1) (subst Q (sym b.3) (here p (rest source (p.last + 1)) b.2)))
 
 faults_next : (source : List ℕ) (n : ℕ) (close : Option Close) (statements : List Statement) (e : StatementFault) → close ≡ None → StopsAt source n e → Reached (part_tokens source) (length source) n close statements
-    → IsFault source (Faulty e)
+    → IsFault source (fault_of e)
 faults_next source n close statements (Illegal line) going b r = breaks_next source n line close statements going b r
 faults_next source n close statements NoMemory going b r = tt
 
@@ -195,7 +195,7 @@ found_at old new source o found same is h =
 pub ended_so : (old new : Progress) (o : Next) (c : Close) → o ≡ End c → Finds old o new → old.close ≡ Some c
 ended_so old new o c is h = let P : Next → Type 0 = λ x. Finds old x new in let k = subst P is h in k.0
 
-pub fault_at : (old : Progress) (source : List ℕ) (statements : List Statement) (e : StatementFault) → old.source ≡ source → BreaksNext old e → Reached (part_tokens source) (length source) old.count old.close statements → IsFault source (Faulty e)
+pub fault_at : (old : Progress) (source : List ℕ) (statements : List Statement) (e : StatementFault) → old.source ≡ source → BreaksNext old e → Reached (part_tokens source) (length source) old.count old.close statements → IsFault source (fault_of e)
 fault_at old source statements e same h r = let P : List ℕ → Type 0 = λ x. StopsAt x old.count e in faults_next source old.count old.close statements e h.0 (subst P same h.1) r
 
 pub on_ok : {X E : Type 0} (r : Result X E) (P : Type 0) → OnOk r P → is_ok r ≡ true → P

@@ -9,6 +9,7 @@ pub mod Cuts
 pub mod Rises
 pub mod Ends
 pub mod Unique
+pub mod Answered
 pub mod Told
 pub mod Placed
 pub mod Apart

@@ -7,9 +7,8 @@ use Rattle.pal_text.specs.declared.tokens.Token.{Token}
 use Rattle.pal_text.specs.declared.cut.Statement.{Statement}
 use Rattle.pal_text.specs.declared.cut.Ending.{Ending}
 use Rattle.pal_text.specs.declared.lines.Line.{Line}
-use Rattle.pal_text.specs.declared.fault.StatementFault.TheVariants.{Illegal, NoMemory}
 use Rattle.pal_text.specs.declared.fault.TextFault.{TextFault}
-use Rattle.pal_text.specs.declared.fault.TextFault.TheVariants as text
+use Rattle.pal_text.specs.declared.fault.TextFault.TheVariants.{Illegal, TooLong, NoMemory}
 use Rattle.pal_text.specs.Names.{IsWithin, part_tokens}
 use Rattle.pal_text.specs.Order.{IsOrdered}
 use Rattle.pal_text.specs.Parts.{IsPart, IsIllegal, IsFault}
@@ -21,16 +20,16 @@ matched (Ok x) P Q F G ok err p f = p x ok
 matched (Err e) P Q F G ok err p f = f e err
 
 -- a part with a reading is refused for its length or for want of memory alone
-pub silent : (source : List ℕ) (tokens : List Token) (ss : List Statement) (lines : List Line) (end : Ending) → IsPart source tokens ss lines end → (e : TextFault) → IsFault source e → (e ≡ text.TooLong) ⊎ (e ≡ text.Statement NoMemory)
-silent source tokens ss lines end h (text.Statement (Illegal n)) f = absurd (no_fault source tokens ss lines end n h f)
-silent source tokens ss lines end h text.TooLong f = inl refl
-silent source tokens ss lines end h (text.Statement NoMemory) f = inr refl
+pub silent : (source : List ℕ) (tokens : List Token) (ss : List Statement) (lines : List Line) (end : Ending) → IsPart source tokens ss lines end → (e : TextFault) → IsFault source e → (e ≡ TooLong) ⊎ (e ≡ NoMemory)
+silent source tokens ss lines end h (Illegal n) f = absurd (no_fault source tokens ss lines end n h f)
+silent source tokens ss lines end h TooLong f = inl refl
+silent source tokens ss lines end h NoMemory f = inr refl
 
 -- and one with a fault names no other line
-pub tells_only : (source : List ℕ) (line : ℕ) → IsIllegal source line → (e : TextFault) → IsFault source e → (e ≡ text.Statement (Illegal line)) ⊎ ((e ≡ text.TooLong) ⊎ (e ≡ text.Statement NoMemory))
-tells_only source line h (text.Statement (Illegal n)) f = inl (ap (λ k. text.Statement (Illegal k)) (one_line source n line f h))
-tells_only source line h text.TooLong f = inr (inl refl)
-tells_only source line h (text.Statement NoMemory) f = inr (inr refl)
+pub tells_only : (source : List ℕ) (line : ℕ) → IsIllegal source line → (e : TextFault) → IsFault source e → (e ≡ Illegal line) ⊎ ((e ≡ TooLong) ⊎ (e ≡ NoMemory))
+tells_only source line h (Illegal n) f = inl (ap Illegal (one_line source n line f h))
+tells_only source line h TooLong f = inr (inl refl)
+tells_only source line h NoMemory f = inr (inr refl)
 
 pub ok_also : {X E : Type 0} (r : Result X E) (P Q : X → Type 0) → IfOk r P → ((x : X) → P x → Q x) → IfOk r Q
 ok_also (Ok x) P Q h f = f x h

@@ -1,5 +1,5 @@
 -- What the manual says of tokens and statements: it follows from their definitions.
-use Rattle.std.specs.Prelude.{◌≡◌, ◌≢◌, ℕ, ◌+◌, ◌-◌, Bool, true, false, ◌||◌, ◌&&◌, if◌then◌else◌, List, [], ◌∷◌, ◌++◌, length, map, reverse, nat_lt, nat_le, nat_eq}
+use Rattle.std.specs.Prelude.{◌≡◌, ◌≢◌, ℕ, ◌+◌, ◌-◌, Bool, true, false, ◌||◌, ◌&&◌, if◌then◌else◌, List, [], ◌∷◌, ◌++◌, length, map, reverse, nat_lt, nat_le, nat_eq, ◌⊎◌}
 use Rattle.std.specs.List.{AllByRecursion}
 use Rattle.pal_text.specs.declared.characters.Meaning.TheVariants.{LineEnd}
 use Rattle.pal_text.specs.declared.tokens.Kind.{Kind}
@@ -94,3 +94,9 @@ IllegalIsOne = (source : List ℕ) (line line' : ℕ) → IsIllegal source line 
 abbrev pub ReadingIsNotIllegal : Type 0
 ReadingIsNotIllegal = (source : List ℕ) (tokens : List Token) (statements : List Statement) (lines : List Line) (ending : Ending) (line : ℕ)
     → IsPart source tokens statements lines ending → IsIllegal source line → ⊥
+
+-- Each part, however long, has a reading or a first line with a statement that has no form.
+abbrev pub EachPartIsAnswered : Type 0
+EachPartIsAnswered =
+    (source : List ℕ) → ((tokens : List Token) × (statements : List Statement) × (lines : List Line) × (ending : Ending) × IsPart source tokens statements lines ending)
+    ⊎ ((line : ℕ) × IsIllegal source line)

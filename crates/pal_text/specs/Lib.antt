@@ -6,6 +6,7 @@ pub mod Grammar
 pub mod Reading
 pub mod Statements
 pub mod Lines
+pub mod Faults
 pub mod Parts
 pub mod Order
 pub mod Progress

@@ -4,9 +4,8 @@ use Rattle.pal_text.specs.declared.tokens.Token.{Token}
 use Rattle.pal_text.specs.declared.cut.Statement.{Statement}
 use Rattle.pal_text.specs.declared.cut.Ending.{Ending}
 use Rattle.pal_text.specs.declared.lines.Line.{Line}
-use Rattle.pal_text.specs.declared.fault.StatementFault.TheVariants.{Illegal, NoMemory}
 use Rattle.pal_text.specs.declared.fault.TextFault.{TextFault}
-use Rattle.pal_text.specs.declared.fault.TextFault.TheVariants as text
+use Rattle.pal_text.specs.declared.fault.TextFault.TheVariants.{Illegal, TooLong, NoMemory}
 use Rattle.pal_text.specs.Names.{part_tokens}
 use Rattle.pal_text.specs.Statements.{pieces, closed, Stand, Breaks}
 use Rattle.pal_text.specs.Lines.{all_lines}
@@ -29,6 +28,6 @@ past n (s ∷ ss) = past (s.last + 1) ss
 
 -- What a refusal of a part that isn't too long says of it.
 abbrev pub IsFault : List ℕ → TextFault → Type 0
-IsFault source text.TooLong = ⊥
-IsFault source (text.Statement (Illegal n)) = IsIllegal source n
-IsFault source (text.Statement NoMemory) = Unit {0}
+IsFault source (Illegal n) = IsIllegal source n
+IsFault source TooLong = ⊥
+IsFault source NoMemory = Unit {0}

@@ -1,7 +1,7 @@
 //! Why a part is refused.
 
 ghost use Rattle.std.specs.Prelude.{◌≡◌};
-ghost use Rattle.pal_text.specs.declared.fault.TextFault.TheVariants.{Statement};
+ghost use Rattle.pal_text.specs.Faults.{fault_of};
 
 use thiserror::Error;
 
@@ -19,18 +19,24 @@ pub enum StatementFault {
 /// Why a part is refused.
 #[derive(Clone, Copy, PartialEq, Eq, Debug, Error)]
 pub enum TextFault {
+    /// The first statement that has no form is on this line, counted from 1.
+    #[error("Illegal {0}")]
+    Illegal(usize),
     /// The part has more than 65,536 bytes.
     #[error("TooLong")]
     TooLong,
-    /// A statement isn't read. Where it has no form, it is the first of those.
-    #[error(transparent)]
-    Statement(StatementFault),
+    /// Memory was refused.
+    #[error("NoMemory")]
+    NoMemory,
 }
 
 impl From<StatementFault> for TextFault {
-    ghost from_gives = { λ fault result. result ≡ Statement fault };
+    ghost from_gives = { λ fault result. result ≡ fault_of fault };
 
     fn from(fault: StatementFault) -> TextFault {
-        TextFault::Statement(fault)
+        match fault {
+            StatementFault::Illegal(line) => TextFault::Illegal(line),
+            StatementFault::NoMemory => TextFault::NoMemory,
+        }
     }
 }

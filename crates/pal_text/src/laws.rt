@@ -1,6 +1,6 @@
 //! Laws over the definitions alone. Each is the contract of a function that does nothing.
 
-ghost use Rattle.pal_text.specs.Laws.{TokensSpellAgain, IgnoredAddNothing, CommentsAddNothing, StatementsStay, ReadingIsOne, IllegalIsOne, ReadingIsNotIllegal};
+ghost use Rattle.pal_text.specs.Laws.{TokensSpellAgain, IgnoredAddNothing, CommentsAddNothing, StatementsStay, ReadingIsOne, IllegalIsOne, ReadingIsNotIllegal, EachPartIsAnswered};
 
 /// The slice of a token that is no space and has a character, so that it ends neither a line nor the
 /// part, read as a part of its own, is that token again.
@@ -27,10 +27,11 @@ pub fn statements_stay()
     ensures { StatementsStay }
 {}
 
-/// A part has at most one reading, or at most one first line with a statement that has no form, and
-/// not both.
+/// Each part has one answer, however long it is: it has one reading, or one first line with a
+/// statement that has no form, and not both.
 pub fn parts_have_one_answer()
     ensures reading { ReadingIsOne }
     ensures illegal { IllegalIsOne }
     ensures either { ReadingIsNotIllegal }
+    ensures some { EachPartIsAnswered }
 {}

@@ -1,8 +1,8 @@
 //! The text of a PAL III source: its characters, lines, tokens and statements.
 //!
 //! A source is read part by part. A part is a list of bytes; a [`Reader`] gives its statements one
-//! after another, and [`statements`] all of them with their tokens, or the first fault of its form.
-//! What numbers and symbols are worth is not looked at here.
+//! after another, and [`statements`] all of them with their tokens and the lines of the part, or the
+//! first fault of its form. What numbers and symbols are worth is not looked at here.
 #![tactic(auto)]
 
 pub mod characters;

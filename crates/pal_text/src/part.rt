@@ -1,17 +1,18 @@
 //! A part of a source, read.
 
-ghost use Rattle.std.specs.Prelude.{◌≡◌, ◌⊎◌, ◌≢◌, ◌↔◌, ◌≤◌, ◌<◌, ◌+◌, ◌++◌, ◌∷◌, [], length, reverse, take, slice_range, IfOk, OnOk, OnErr, IfErr, MatchResult, Err, None, ℕ, List};
+ghost use Rattle.std.specs.Prelude.{◌≡◌, ◌⊎◌, ◌↔◌, ◌≤◌, ◌<◌, ◌+◌, ◌++◌, ◌∷◌, [], length, reverse, take, slice_range, IfOk, OnOk, IfErr, MatchResult, Err, None, ℕ, List};
 ghost use Rattle.std.specs.List.{AllByRecursion};
 ghost use Rattle.pal_text.specs.Order.{IsOrdered, IsPlaced, IsLineWithin};
 ghost use Rattle.pal_text.specs.Names.{IsWithin, bytes_of, part_tokens};
-ghost use Rattle.pal_text.specs.ReadParts.{tokens_in, lines_in};
+ghost use Rattle.pal_text.specs.Lines.{all_lines};
+ghost use Rattle.pal_text.specs.ReadParts.{tokens_in};
+ghost use Rattle.pal_text.specs.Faults.{fault_of};
 ghost use Rattle.pal_text.specs.Statements.{closed, pieces, Stand};
 ghost use Rattle.pal_text.specs.Parts.{IsPart, IsIllegal, IsFault, past};
 ghost use Rattle.pal_text.specs.declared.tokens.Token.{Token as Tokened};
 ghost use Rattle.pal_text.specs.declared.cut.Statement.{Statement as Stated};
 ghost use Rattle.pal_text.specs.declared.cut.Ending.{Ending as Ended};
 ghost use Rattle.pal_text.specs.declared.lines.Line.{Line as Lined};
-ghost use Rattle.pal_text.specs.declared.fault.TextFault.TheVariants.{Statement as Faulty};
 
 use crate::cut::{Close, Ending, Statement};
 use crate::fault::{StatementFault, TextFault};
@@ -24,12 +25,14 @@ use std::alloc::{AllocError, Allocator};
 pub const LONGEST: usize = 65_536;
 
 /// A part of a source: its bytes, the statements up to the one by which it ends, the tokens up to
-/// the one that ends that statement, what ends the part, and after how many of its bytes.
+/// the one that ends that statement, the lines up to there, what ends the part, and after how many
+/// of its bytes.
 #[derive(Drop)]
 pub struct Part<'s, A: Allocator + Copy> {
     pub source: &'s [u8],
     pub tokens: Vec<Token, A>,
     pub statements: Vec<Statement, A>,
+    pub lines: Vec<Line, A>,
     pub ending: Ending,
     pub stop: usize,
 }
@@ -51,22 +54,6 @@ impl<'s, A: Allocator + Copy> Part<'s, A> {
         ensures { result.now ≡ slice_range self.now.tokens.items statement.first statement.last }
     {
         &self.tokens[statement.first..statement.last]
-    }
-
-    /// The lines of the part up to where it ends. That must be within its bytes, as it is in a part
-    /// that was read.
-    ///
-    /// # Errors
-    ///
-    /// Where memory was refused, which is wanted only where there is a line.
-    pub fn lines(&self, alloc: A) -> Result<Vec<Line, A>, AllocError>
-        requires { self.now.stop ≤ length self.now.source.now }
-        ensures lines { IfOk result (λ lines. lines.items ≡ lines_in self.now) }
-        ensures within { IfOk result (λ lines. AllByRecursion
-            (IsLineWithin (length self.now.source.now)) lines.items) }
-        ensures refused { OnErr result (lines_in self.now ≢ []) }
-    {
-        lines_of(alloc, &self.source[..self.stop])
     }
 
     /// The bytes of a line, as a slice of the source. The line must stand within the part's bytes,
@@ -114,7 +101,7 @@ fn gather<A: Allocator + Copy>(
         take (past 0 statements.new.items) (part_tokens reader.old.source)) }
     ensures placed { OnOk result (AllByRecursion (IsPlaced tokens.new.items)
         statements.new.items) }
-    ensures fault { IfErr result (λ fault. IsFault reader.old.source (Faulty fault)) }
+    ensures fault { IfErr result (λ fault. IsFault reader.old.source (fault_of fault)) }
 {
     loop {
         match reader.read_next()? {
@@ -133,7 +120,8 @@ fn read_part<'s, A: Allocator + Copy>(alloc: A, source: &'s [u8]) -> Result<Part
     requires { length source.now ≤ 65536 }
     ensures source { IfOk result (λ part. part.source.now ≡ source.now) }
     ensures part { IfOk result (λ part. IsPart source.now (tokens_in part) part.statements.items
-        (lines_in part) part.ending) }
+        part.lines.items part.ending) }
+    ensures lines { IfOk result (λ part. part.lines.items ≡ all_lines (take part.stop source.now)) }
     ensures tokens { IfOk result (λ part. part.tokens.items ≡
         take (past 0 part.statements.items) (part_tokens source.now)) }
     ensures placed { IfOk result (λ part. AllByRecursion (IsPlaced part.tokens.items)
@@ -148,10 +136,14 @@ fn read_part<'s, A: Allocator + Copy>(alloc: A, source: &'s [u8]) -> Result<Part
     let mut tokens = Vec::new(alloc);
     let mut statements = Vec::new(alloc);
     let close = gather(&mut reader, &mut tokens, &mut statements)?;
+    let Ok(lines) = lines_of(alloc, &source[..close.stop]) else {
+        return Err(TextFault::NoMemory);
+    };
     Ok(Part {
         source,
         tokens,
         statements,
+        lines,
         ending: close.ending,
         stop: close.stop,
     })
@@ -170,7 +162,8 @@ pub fn statements<'s, A: Allocator + Copy>(
 ) -> Result<Part<'s, A>, TextFault>
     ensures source { IfOk result (λ part. part.source.now ≡ source.now) }
     ensures part { IfOk result (λ part. IsPart source.now (tokens_in part) part.statements.items
-        (lines_in part) part.ending) }
+        part.lines.items part.ending) }
+    ensures lines { IfOk result (λ part. part.lines.items ≡ all_lines (take part.stop source.now)) }
     ensures tokens { IfOk result (λ part. part.tokens.items ≡
         take (past 0 part.statements.items) (tokens_in part)) }
     ensures stop { IfOk result (λ part. part.stop ≤ length source.now) }
@@ -184,17 +177,17 @@ pub fn statements<'s, A: Allocator + Copy>(
     ensures placed { IfOk result (λ part. AllByRecursion (IsPlaced part.tokens.items)
         part.statements.items) }
     ensures lines_within { IfOk result (λ part. AllByRecursion (IsLineWithin (length source.now))
-        (lines_in part)) }
+        part.lines.items) }
     ensures too_long { (result ≡ Err TextFault.TooLong) ↔ (65536 < length source.now) }
     ensures part_told { (tokens : List Tokened) (told : List Stated) (lines : List Lined)
         (ending : Ended) → IsPart source.now tokens told lines ending →
         MatchResult result (λ part. (tokens_in part ≡ tokens) × (part.statements.items ≡ told) ×
-        (lines_in part ≡ lines) × (part.ending ≡ ending)) (λ fault. (fault ≡ TextFault.TooLong) ⊎
-        (fault ≡ TextFault.Statement StatementFault.NoMemory)) }
+        (part.lines.items ≡ lines) × (part.ending ≡ ending)) (λ fault.
+        (fault ≡ TextFault.TooLong) ⊎ (fault ≡ TextFault.NoMemory)) }
     ensures illegal_told { (line : ℕ) → IsIllegal source.now line →
-        MatchResult result (λ _. ⊥) (λ fault. (fault ≡ TextFault.Statement (StatementFault.Illegal line)) ⊎
-        ((fault ≡ TextFault.TooLong) ⊎ (fault ≡ TextFault.Statement StatementFault.NoMemory))) }
-    ensures illegal { (line : ℕ) → result ≡ Err (TextFault.Statement (StatementFault.Illegal line)) →
+        MatchResult result (λ _. ⊥) (λ fault. (fault ≡ TextFault.Illegal line) ⊎
+        ((fault ≡ TextFault.TooLong) ⊎ (fault ≡ TextFault.NoMemory))) }
+    ensures illegal { (line : ℕ) → result ≡ Err (TextFault.Illegal line) →
         IsIllegal source.now line }
 {
     if source.len() > LONGEST {

@@ -1,13 +1,13 @@
 //! The world: the machine with its devices, driven by events.
 
-ghost use Rattle.std.specs.Prelude.{ℕ, ◌≡◌, ◌<◌, None, IsTrue, IfOk, OnOk, OnErr, ◌||◌};
+ghost use Rattle.std.specs.Prelude.{ℕ, ◌≡◌, ◌<◌, None, IsTrue, IfOk, OnOk, OnErr, ◌||◌, []};
 ghost use Rattle.processor.specs.Cells.{cell_of, AreWords};
 ghost use Rattle.processor.specs.Steps.{state_of};
 ghost use Rattle.peripherals.specs.declared.Event.{Event};
 ghost use Rattle.peripherals.specs.Events.{Happens, IsLoaded, completed};
 ghost use Rattle.peripherals.specs.Loading.{image_of, laid, loaded};
 ghost use Rattle.peripherals.specs.Seen.{seen_of, puts_out};
-ghost use Rattle.peripherals.specs.World.{view, profile_of, prints, punches, put_out};
+ghost use Rattle.peripherals.specs.World.{view, profile_of, devices_of, prints, punches, put_out};
 
 use crate::devices::{Keyboard, Panel};
 use crate::{Event, NoMemory, Seen, Start};
@@ -107,6 +107,33 @@ impl<A: Allocator> World<A> {
             punched: Vec::new(alloc),
             halted_at: None,
         }
+    }
+
+    /// A world of these parts, which has put out nothing. It takes no memory; the allocator is kept for
+    /// what is printed and punched.
+    pub fn of(alloc: A, cpu: Cpu, panel: Panel, halted_at: Option<Word>) -> World<A>
+    where
+        A: Copy,
+        ensures state { (view result).state ≡ state_of cpu }
+        ensures devices { (view result).devices ≡ devices_of panel [] [] }
+        ensures halted { (view result).halted_at ≡ halted_at }
+        ensures profile { profile_of result ≡ cpu.profile }
+    {
+        World {
+            cpu,
+            panel,
+            printed: Vec::new(alloc),
+            punched: Vec::new(alloc),
+            halted_at,
+        }
+    }
+
+    /// The devices, apart from what they have put out, and the switches.
+    pub fn panel(&self) -> Panel
+        ensures { let devices = (view self.now).devices in
+            devices ≡ devices_of result devices.printer.output devices.punch.output }
+    {
+        self.panel
     }
 
     /// The processor, with its memory.

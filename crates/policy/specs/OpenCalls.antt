@@ -1,4 +1,4 @@
--- What a watcher keeps: its machine and its call list. Private contracts alone cite this.
+-- What a watcher shows: its machine and its call list.
 use Rattle.std.specs.Prelude.{List, [], ◌∷◌}
 use Rattle.peripherals.specs.Devices.{WorldState}
 use Rattle.peripherals.specs.World.{view}
@@ -19,9 +19,10 @@ put_on (c ∷ cs) ks = put_on cs (call_of c ∷ ks)
 abbrev pub open_calls : List KeptCall → Calls
 open_calls cs = put_on cs []
 
--- The machine that is watched, and its call list.
+-- The machine that is watched, as the event table sees it.
 abbrev pub machine_of : {A : Type 0} → Watcher A → WorldState
 machine_of w = view w.world
 
+-- The calls that haven't returned, the last call first.
 abbrev pub calls_of : {A : Type 0} → Watcher A → Calls
 calls_of w = open_calls w.calls.items

@@ -6,6 +6,7 @@ ghost use Rattle.processor.specs.Cells.{cell_of};
 ghost use Rattle.processor.specs.Machine.{instruction};
 ghost use Rattle.processor.specs.Runs.{Image};
 ghost use Rattle.processor.specs.Steps.{state_of};
+ghost use Rattle.policy.specs.Actions.{action_of};
 ghost use Rattle.policy.specs.Calls.{current};
 ghost use Rattle.policy.specs.Rules.{KeepsCode, IsLegal};
 ghost use Rattle.declaration.specs.Kept.{meaning};
@@ -14,7 +15,7 @@ ghost use Rattle.policy.specs.Watching.{IsLeastBroken};
 ghost use Rattle.policy.specs.OpenCalls.{open_calls};
 ghost use Rattle.policy.specs.Decided.{is_own, may_write, writes, calls_entry, finds_call, is_return, returns, may_load, reads, broken_by_reference, least_broken};
 
-use crate::actions::{Action, Reference, next_action};
+use crate::actions::{Action, Reference};
 use crate::rules::Rule;
 use declaration::Declaration;
 use instruct::Operation;
@@ -231,14 +232,18 @@ fn broken_by<A: Allocator>(
     }
 }
 
-/// The least rule that the next step breaks; none where it keeps all of them.
+/// The least rule that the next step breaks, which is about to do this; none where it keeps all of
+/// them.
 ///
 /// It doesn't look whether fixed code is as the tape had it: its caller knows that it is.
 pub fn broken_rule<A: Allocator>(
     declaration: &Declaration<A>,
     cpu: &Cpu,
+    action: &Action,
     calls: &[Call],
 ) -> Option<Rule>
+    requires { action.now ≡ action_of
+        (instruction (meaning declaration.now).profile (state_of cpu.now)) (cell_of cpu.now.memory) }
     ensures legal { let d = meaning declaration.now in
         (image : Image) → KeepsCode image d (cell_of cpu.now.memory) → result ≡ None
         → IsLegal image d (state_of cpu.now) (open_calls calls.now) }
@@ -248,6 +253,5 @@ pub fn broken_rule<A: Allocator>(
         → IsLeastBroken image d (state_of cpu.now) (open_calls calls.now) rule }
 {
     cpu.memory.are_words();
-    let action = next_action(cpu, declaration.profile());
-    broken_by(declaration, &action, cpu, calls)
+    broken_by(declaration, action, cpu, calls)
 }

@@ -8,7 +8,8 @@ mod rules;
 mod runs;
 mod watcher;
 
-pub use declaration::{Declaration, DeclarationFault, Offsets, Routine};
+pub use declaration::{Declaration, DeclarationFault, Offsets, Owner, Routine};
+pub use legality::Call;
 pub use rules::Rule;
 pub use runs::run_declared;
-pub use watcher::{Watched, watch};
+pub use watcher::{Watched, Watcher, watch};

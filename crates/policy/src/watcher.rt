@@ -2,12 +2,14 @@
 
 ghost use Rattle.std.specs.Prelude.{◌≡◌, ℕ, ◌<◌, None, [], IfOk, OnOk, OnErr};
 ghost use Rattle.processor.specs.Runs.{Image as Words};
+ghost use Rattle.processor.specs.Machine.{instruction};
 ghost use Rattle.peripherals.specs.declared.Event.{Event};
-ghost use Rattle.peripherals.specs.Events.{Happens};
+ghost use Rattle.peripherals.specs.Events.{Happens, IsLoaded};
 ghost use Rattle.peripherals.specs.Loading.{image_of};
 ghost use Rattle.peripherals.specs.World.{view, profile_of};
 ghost use Rattle.policy.specs.declared.rules.Rule.{Rule};
 ghost use Rattle.declaration.specs.Declaration.{IsDeclared};
+ghost use Rattle.policy.specs.Actions.{action_of};
 ghost use Rattle.policy.specs.Calls.{calls_after};
 ghost use Rattle.policy.specs.Rules.{KeepsCode};
 ghost use Rattle.policy.specs.Runs.{IsSafe};
@@ -42,9 +44,13 @@ pub enum Watched {
     },
 }
 
-/// A world, and beside it the calls that haven't returned, the last call last.
+/// A machine that is watched: its world, and beside it the calls that haven't returned, the last call
+/// last.
+///
+/// It takes one event after the other, and tells the rule that a step would break. `watch` does so
+/// with a list of events.
 #[derive(Drop)]
-struct Watcher<A: Allocator> {
+pub struct Watcher<A: Allocator> {
     world: World<A>,
     calls: Vec<Call, A>,
 }
@@ -86,9 +92,69 @@ fn follow_calls<A: Allocator, D: Allocator>(
 }
 
 impl<A: Allocator> Watcher<A> {
-    /// Carries out the next instruction, and follows it with the call list.
-    fn carry_out<D: Allocator>(&mut self, declaration: &Declaration<D>) -> Result<(), NoMemory>
+    /// Watches a declared run from its begin: the tape's words lie over the given start, the machine
+    /// stands at the declared start, and no call is open. It takes no memory.
+    pub fn new<D: Allocator>(
+        alloc: A,
+        image: &Image,
+        declaration: &Declaration<D>,
+        start: &Start,
+    ) -> Watcher<A>
+    where
+        A: Copy,
+        ensures machine { machine_of result
+            ≡ begun (image_of image.now) (meaning declaration.now) start.now }
+        // The instruction table's runs begin there.
+        ensures loaded { IsLoaded (image_of image.now) (meaning declaration.now).start
+            (machine_of result) }
+        ensures calls { calls_of result ≡ [] }
+        ensures profile { profile_of result.world ≡ (meaning declaration.now).profile }
+    {
+        Watcher {
+            world: World::load(
+                alloc,
+                image,
+                declaration.start(),
+                start,
+                declaration.profile(),
+            ),
+            calls: Vec::new(alloc),
+        }
+    }
+
+    /// Watches a run on from a world, in which these calls are open, the last call last.
+    pub fn resume(world: World<A>, calls: Vec<Call, A>) -> Watcher<A>
+        ensures machine { machine_of result ≡ view world }
+        ensures calls { calls_of result ≡ open_calls calls.items }
+        ensures profile { profile_of result.world ≡ profile_of world }
+    {
+        Watcher { world, calls }
+    }
+
+    /// The machine and its devices.
+    pub fn world(&self) -> &World<A>
+        ensures machine { view result.now ≡ machine_of self.now }
+        ensures profile { profile_of result.now ≡ profile_of self.now.world }
+    {
+        &self.world
+    }
+
+    /// The calls that haven't returned, the last call last.
+    pub fn calls(&self) -> &[Call]
+        ensures { open_calls result.now ≡ calls_of self.now }
+    {
+        &self.calls
+    }
+
+    /// Carries out the next instruction, which is about to do this, and follows it with the call list.
+    fn carry_out<D: Allocator>(
+        &mut self,
+        declaration: &Declaration<D>,
+        action: &Action,
+    ) -> Result<(), NoMemory>
         requires profile { profile_of self.old.world ≡ (meaning declaration.now).profile }
+        requires action { let s = (machine_of self.old).state in
+            action.now ≡ action_of (instruction (meaning declaration.now).profile s) s.memory }
         ensures happens { OnOk result (Happens (meaning declaration.now).profile
             (machine_of self.old) Event.Step (machine_of self.new)) }
         ensures calls { let machine = machine_of self.old in
@@ -99,10 +165,8 @@ impl<A: Allocator> Watcher<A> {
         ensures only_growth { OnErr result
             (TakesMemory (meaning declaration.now) (machine_of self.old)) }
     {
-        let cpu = self.world.cpu();
-        let action = next_action(cpu, declaration.profile());
-        let after = cpu.pc.increment();
-        match follow_calls(&mut self.calls, declaration, &action, after) {
+        let after = self.world.cpu().pc.increment();
+        match follow_calls(&mut self.calls, declaration, action, after) {
             Err(NoMemory) => Err(NoMemory),
             Ok(()) => {
                 match self.world.apply(Event::Step) {
@@ -124,10 +188,12 @@ impl<A: Allocator> Watcher<A> {
         ensures only_growth { OnErr result
             (GrowsAt (meaning declaration.now) (machine_of self.old) (calls_of self.old)) }
     {
-        match broken_rule(declaration, self.world.cpu(), &self.calls) {
+        let cpu = self.world.cpu();
+        let action = next_action(cpu, declaration.profile());
+        match broken_rule(declaration, cpu, &action, &self.calls) {
             Some(rule) => Ok(Some(rule)),
             None => {
-                match self.carry_out(declaration) {
+                match self.carry_out(declaration, &action) {
                     Ok(()) => Ok(None),
                     Err(NoMemory) => Err(NoMemory),
                 }
@@ -156,13 +222,19 @@ impl<A: Allocator> Watcher<A> {
         }
     }
 
-    /// Takes one event: it happens as in a declared run, or it's a step that breaks a rule.
-    fn follow<D: Allocator>(
+    /// Takes one event: it happens as in a declared run, or it's a step that breaks a rule, which is
+    /// told and not carried out. The declaration is the same for all events.
+    ///
+    /// # Errors
+    ///
+    /// `NoMemory` where room for a call on the call list, or for a byte that is printed or punched, was
+    /// refused.
+    pub fn next<D: Allocator>(
         &mut self,
         declaration: &Declaration<D>,
         event: Event,
     ) -> Result<Option<Rule>, NoMemory>
-        requires { profile_of self.old.world ≡ (meaning declaration.now).profile }
+        requires profile { profile_of self.old.world ≡ (meaning declaration.now).profile }
         ensures watches { IfOk result (Watches (meaning declaration.now)
             (machine_of self.old) (calls_of self.old) event
             (machine_of self.new) (calls_of self.new)) }
@@ -210,7 +282,7 @@ fn watch_events<A: Allocator, D: Allocator>(
 {
     declaration.is_declared();
     for index in 0..events.len() {
-        match watcher.follow(declaration, events[index]) {
+        match watcher.next(declaration, events[index]) {
             Ok(None) => {}
             Ok(Some(rule)) => return Ok(Watched::Broken { event: index, rule }),
             Err(NoMemory) => return Err(NoMemory),
@@ -258,16 +330,6 @@ pub fn watch<A: Allocator + Copy, D: Allocator>(
     ensures only_growth { let words = image_of image.now in let d = meaning declaration.now in
         OnErr result (LegalStepTakesMemory words d events.now (begun words d start.now)) }
 {
-    let world = World::load(
-        alloc,
-        image,
-        declaration.start(),
-        start,
-        declaration.profile(),
-    );
-    let mut watcher = Watcher {
-        world,
-        calls: Vec::new(alloc),
-    };
+    let mut watcher = Watcher::new(alloc, image, declaration, start);
     watch_events(&mut watcher, declaration, events)
 }

@@ -11,8 +11,7 @@ ghost use Rattle.command_parts.specs.Inputs.{TakesAtMost};
 ghost use Rattle.source_commands.specs.SourceTexts.{AreRead, EachTakesAtMost, HasLeft, IsShort, IsPartFault, ArePartsFault, IsLongAt, LeavesThoseAfter, is_bad_number};
 
 use command_parts::status::Fault;
-use pal_acts::Code;
-use pal_asm::PalFault;
+use pal_asm::{Code, PalFault};
 use std::alloc::{AllocError, Allocator};
 use streams::{ByteSource, read_at_most};
 

@@ -1,4 +1,4 @@
-use Rattle.certificate.proofs.OneFaultLemmas.{fault_law}
+use Rattle.certificate.proofs.AnswerLemmas.{fault_law}
 use Rattle.certificate.proofs.fault_law.Goals as goal
 
 pub returns : goal.returns

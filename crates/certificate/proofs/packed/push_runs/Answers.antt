@@ -1,7 +1,7 @@
 use Rattle.std.proofs.Common.{◌∙◌, ap}
 use Rattle.wordset.specs.Words.{Words, difference}
 use Rattle.wordset.specs.Lanes.{words}
-use Rattle.certificate.proofs.PackedLemmas.{no_runs, run_added, all_runs}
+use Rattle.certificate.proofs.PackedLemmas.{no_runs, run_added, all_runs, few_runs}
 use Rattle.certificate.proofs.packed.push_runs.Goals as goal
 
 pub loop-first-init : goal.loop-first-init
@@ -14,3 +14,6 @@ loop-first-preserved g c =
 
 pub returns-clause-whole : goal.returns-clause-whole
 returns-clause-whole g c = all_runs _ _ _ _ c.loop-first.invariant c.in_default.ensures
+
+pub returns-clause-few : goal.returns-clause-few
+returns-clause-few g c = few_runs _ _ _ _ c.loop-first.invariant

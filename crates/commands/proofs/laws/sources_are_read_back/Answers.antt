@@ -4,8 +4,8 @@ use Rattle.commands.proofs.laws.sources_are_read_back.Goals as goal
 pub returns : goal.returns
 returns c = record {
   there = tape_is_there c.meant_are_words.ensures;
-  empty = empty_has_no_tape c.answers_are_one.ensures.meaning;
-  tape = tape_is_one c.answers_are_one.ensures.meaning;
-  read = meant_is_read c.answers_are_one.ensures.meaning;
+  empty = empty_has_no_tape c.sources_have_one_answer.ensures.meaning;
+  tape = tape_is_one c.sources_have_one_answer.ensures.meaning;
+  read = meant_is_read c.sources_have_one_answer.ensures.meaning;
   meant = read_is_meant;
 }

@@ -1,7 +1,7 @@
 use Rattle.std.proofs.Common.{◌≡◌, ◌∙◌, ap, ◌∷◌, ◌++◌, [], length}
 use Rattle.std.specs.Prelude.{not}
 use Rattle.pal_text.specs.Names.{part_tokens}
-use Rattle.pal_text.specs.declared.fault.TextFault.TheVariants.{Statement as Faulty}
+use Rattle.pal_text.specs.Faults.{fault_of}
 use Rattle.pal_text.specs.Parts.{IsFault}
 use Rattle.pal_text.proofs.Rises.{part_tokens_within}
 use Rattle.pal_text.proofs.Ends.{stop_within}
@@ -10,7 +10,7 @@ use Rattle.pal_text.proofs.part.gather.Goals as goal
 
 pub returns-in_err-found-clause-fault : goal.returns-in_err-found-clause-fault
 returns-in_err-found-clause-fault g c =
-    told_on c.from_residual.result c.in_err-found.field-0.0 (λ e. IsFault c.args.reader.now.source (Faulty e)) c.from_residual.ensures.1
+    told_on c.from_residual.result c.in_err-found.field-0.0 (λ e. IsFault c.args.reader.now.source (fault_of e)) c.from_residual.ensures.1
     (fault_at c.loop-found.reader c.args.reader.now.source c.loop-found.statements.items c.in_err-found.field-0.0 c.loop-found.invariant.0 c.in_err-found.ensures.fault c.loop-found.invariant.1)
 
 pub loop-found-preserved : goal.loop-found-preserved

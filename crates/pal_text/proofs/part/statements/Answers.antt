@@ -1,8 +1,8 @@
 use Rattle.std.proofs.Common.{◌≡◌, ◌⊎◌}
 use Rattle.std.specs.Prelude.{length, reverse, take}
-use Rattle.pal_text.specs.declared.fault.StatementFault.TheVariants.{Illegal, NoMemory}
-use Rattle.pal_text.specs.declared.fault.TextFault.TheVariants.{TooLong, Statement}
-use Rattle.pal_text.specs.ReadParts.{tokens_in, lines_in}
+use Rattle.pal_text.specs.declared.fault.TextFault.TheVariants.{Illegal, TooLong, NoMemory}
+use Rattle.pal_text.specs.Lines.{all_lines}
+use Rattle.pal_text.specs.ReadParts.{tokens_in}
 use Rattle.std.specs.List.{AllByRecursion}
 use Rattle.pal_text.specs.Names.{IsWithin, part_tokens}
 use Rattle.pal_text.specs.Order.{IsOrdered, IsLineWithin}
@@ -24,19 +24,19 @@ returns-clause-within g c =
 
 pub returns-clause-part_told : goal.returns-clause-part_told
 returns-clause-part_told g c tokens told lines end k =
-    matched c.read_part.result (λ part. IsPart c.args.source.now (tokens_in part) part.statements.items (lines_in part) part.ending)
-    (λ part. (tokens_in part ≡ tokens) × (part.statements.items ≡ told) × (lines_in part ≡ lines) × (part.ending ≡ end)) (IsFault c.args.source.now) (λ e. (e ≡ TooLong) ⊎ (e ≡ Statement NoMemory))
-    c.read_part.ensures.part c.read_part.ensures.fault (λ part h. agrees c.args.source.now (tokens_in part) tokens part.statements.items told (lines_in part) lines part.ending end h k)
+    matched c.read_part.result (λ part. IsPart c.args.source.now (tokens_in part) part.statements.items part.lines.items part.ending)
+    (λ part. (tokens_in part ≡ tokens) × (part.statements.items ≡ told) × (part.lines.items ≡ lines) × (part.ending ≡ end)) (IsFault c.args.source.now) (λ e. (e ≡ TooLong) ⊎ (e ≡ NoMemory))
+    c.read_part.ensures.part c.read_part.ensures.fault (λ part h. agrees c.args.source.now (tokens_in part) tokens part.statements.items told part.lines.items lines part.ending end h k)
     (silent c.args.source.now tokens told lines end k)
 
 pub returns-clause-illegal_told : goal.returns-clause-illegal_told
 returns-clause-illegal_told g c line k =
-    matched c.read_part.result (λ part. IsPart c.args.source.now (tokens_in part) part.statements.items (lines_in part) part.ending)
-    (λ part. ⊥) (IsFault c.args.source.now) (λ e. (e ≡ Statement (Illegal line)) ⊎ ((e ≡ TooLong) ⊎ (e ≡ Statement NoMemory)))
-    c.read_part.ensures.part c.read_part.ensures.fault (λ part h. no_fault c.args.source.now (tokens_in part) part.statements.items (lines_in part) part.ending line h k)
+    matched c.read_part.result (λ part. IsPart c.args.source.now (tokens_in part) part.statements.items part.lines.items part.ending)
+    (λ part. ⊥) (IsFault c.args.source.now) (λ e. (e ≡ Illegal line) ⊎ ((e ≡ TooLong) ⊎ (e ≡ NoMemory)))
+    c.read_part.ensures.part c.read_part.ensures.fault (λ part h. no_fault c.args.source.now (tokens_in part) part.statements.items part.lines.items part.ending line h k)
     (tells_only c.args.source.now line k)
 
 pub returns-clause-lines_within : goal.returns-clause-lines_within
 returns-clause-lines_within g c =
-    ok_also c.read_part.result (λ part. IsPart c.args.source.now (tokens_in part) part.statements.items (lines_in part) part.ending) (λ part. AllByRecursion (IsLineWithin (length c.args.source.now)) (lines_in part))
-    c.read_part.ensures.part (λ part h. lines_within_by c.args.source.now h.stop (lines_in part) h.lines_are)
+    ok_also c.read_part.result (λ part. part.lines.items ≡ all_lines (take part.stop c.args.source.now)) (λ part. AllByRecursion (IsLineWithin (length c.args.source.now)) part.lines.items)
+    c.read_part.ensures.lines (λ part h. lines_within_by c.args.source.now part.stop part.lines.items h)

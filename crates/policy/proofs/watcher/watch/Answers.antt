@@ -14,52 +14,52 @@ returns-clause-clean g c =
     let image = image_of c.args.image.now in
     let d = meaning c.args.declaration.now in
     let first = loaded image d.start c.args.start.now in
-    let is : view c.load-world.result ≡ first = rw c.start.ensures at c.load-world.ensures.view in
+    let is : view c.new-watcher.result.world ≡ first = c.new-watcher.ensures.machine in
     IfOk-weaker c.watch_events.result _ _ (λ told tells. tells_clean image d c.args.events.now first told tells)
-    (told_of c.watch_events.result image d c.args.start.now c.args.events.now (view c.load-world.result) is c.watch_events.ensures.tells)
+    (told_of c.watch_events.result image d c.args.start.now c.args.events.now (view c.new-watcher.result.world) is c.watch_events.ensures.tells)
 
 pub returns-clause-broken : goal.returns-clause-broken
 returns-clause-broken g c =
     let image = image_of c.args.image.now in
     let d = meaning c.args.declaration.now in
     let first = loaded image d.start c.args.start.now in
-    let is : view c.load-world.result ≡ first = rw c.start.ensures at c.load-world.ensures.view in
+    let is : view c.new-watcher.result.world ≡ first = c.new-watcher.ensures.machine in
     IfOk-weaker c.watch_events.result _ _ (λ told tells n r. tells_broken image d c.args.events.now first told n r tells)
-    (told_of c.watch_events.result image d c.args.start.now c.args.events.now (view c.load-world.result) is c.watch_events.ensures.tells)
+    (told_of c.watch_events.result image d c.args.start.now c.args.events.now (view c.new-watcher.result.world) is c.watch_events.ensures.tells)
 
 pub returns-clause-only_clean : goal.returns-clause-only_clean
 returns-clause-only_clean g c =
     let image = image_of c.args.image.now in
     let d = meaning c.args.declaration.now in
     let first = loaded image d.start c.args.start.now in
-    let is : view c.load-world.result ≡ first = rw c.start.ensures at c.load-world.ensures.view in
+    let is : view c.new-watcher.result.world ≡ first = c.new-watcher.ensures.machine in
     IfOk-weaker c.watch_events.result _ _ (λ told tells. clean_tells image d c.args.events.now first told tells)
-    (told_of c.watch_events.result image d c.args.start.now c.args.events.now (view c.load-world.result) is c.watch_events.ensures.tells)
+    (told_of c.watch_events.result image d c.args.start.now c.args.events.now (view c.new-watcher.result.world) is c.watch_events.ensures.tells)
 
 pub returns-clause-only_broken : goal.returns-clause-only_broken
 returns-clause-only_broken g c =
     let image = image_of c.args.image.now in
     let d = meaning c.args.declaration.now in
     let first = loaded image d.start c.args.start.now in
-    let is : view c.load-world.result ≡ first = rw c.start.ensures at c.load-world.ensures.view in
+    let is : view c.new-watcher.result.world ≡ first = c.new-watcher.ensures.machine in
     IfOk-weaker c.watch_events.result _ _ (λ told tells n r. broken_tells image d c.args.events.now first told n r tells)
-    (told_of c.watch_events.result image d c.args.start.now c.args.events.now (view c.load-world.result) is c.watch_events.ensures.tells)
+    (told_of c.watch_events.result image d c.args.start.now c.args.events.now (view c.new-watcher.result.world) is c.watch_events.ensures.tells)
 
 pub returns-clause-safe : goal.returns-clause-safe
 returns-clause-safe g c =
     let image = image_of c.args.image.now in
     let d = meaning c.args.declaration.now in
     let first = loaded image d.start c.args.start.now in
-    let is : view c.load-world.result ≡ first = rw c.start.ensures at c.load-world.ensures.view in
+    let is : view c.new-watcher.result.world ≡ first = c.new-watcher.ensures.machine in
     let clean : IsSafe image d → IsClean image d c.args.events.now first = λ safe.
     subst (λ (w : WorldState). IsClean image d c.args.events.now w) is
-    (safe_clean image d c.args.events.now (view c.load-world.result) (rw c.start.ensures at c.load-world.ensures.start) safe) in
+    (safe_clean image d c.args.events.now (view c.new-watcher.result.world) c.new-watcher.ensures.loaded safe) in
     IfOk-weaker c.watch_events.result _ _ (λ told tells safe. clean_tells image d c.args.events.now first told tells (clean safe))
-    (told_of c.watch_events.result image d c.args.start.now c.args.events.now (view c.load-world.result) is c.watch_events.ensures.tells)
+    (told_of c.watch_events.result image d c.args.start.now c.args.events.now (view c.new-watcher.result.world) is c.watch_events.ensures.tells)
 
 pub returns-clause-only_growth : goal.returns-clause-only_growth
 returns-clause-only_growth g c =
     let image = image_of c.args.image.now in
     let d = meaning c.args.declaration.now in
-    let is : view c.load-world.result ≡ loaded image d.start c.args.start.now = rw c.start.ensures at c.load-world.ensures.view in
-    on_err_weaker c.watch_events.result (λ grown. growth_of image d c.args.start.now c.args.events.now (view c.load-world.result) is grown) c.watch_events.ensures.only_growth
+    let is : view c.new-watcher.result.world ≡ loaded image d.start c.args.start.now = c.new-watcher.ensures.machine in
+    on_err_weaker c.watch_events.result (λ grown. growth_of image d c.args.start.now c.args.events.now (view c.new-watcher.result.world) is grown) c.watch_events.ensures.only_growth

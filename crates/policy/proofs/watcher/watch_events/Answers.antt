@@ -29,7 +29,7 @@ loop-index-preserved g c =
     take_more c.args.events.now c.loop-index.index c.index-events-index.result c.loop-index-test.true ∙ ap (λ (e : Event). take c.loop-index.index c.args.events.now ++ e ∷ []) (sym c.index-events-index.is) in
     let goes = rw c.in-Ok-None.field-0-is at c.in-Ok-None.ensures.watches in (
       c.in-Ok-None.ensures.profile,
-      taken_more (meaning c.args.declaration.now) c.is_declared.ensures c.args.events.now (view c.args.watcher.now.world) c.loop-index.index c.index-events-index.result (view c.loop-index.watcher.world) (view c.follow.new.self.world) (open_calls c.loop-index.watcher.calls.items) (open_calls c.follow.new.self.calls.items)
+      taken_more (meaning c.args.declaration.now) c.is_declared.ensures c.args.events.now (view c.args.watcher.now.world) c.loop-index.index c.index-events-index.result (view c.loop-index.watcher.world) (view c.next.new.self.world) (open_calls c.loop-index.watcher.calls.items) (open_calls c.next.new.self.calls.items)
           is more c.loop-index.invariant.1 goes,
     )
 

@@ -1,0 +1,28 @@
+use Rattle.std.proofs.Common.{◌≡◌, ◌&&◌, ◌||◌, ◌∙◌, ap, sym, arith}
+use Rattle.wordset.specs.Bits.{ors_of_parts}
+use Rattle.wordset.specs.Lanes.{words}
+use Rattle.wordset.proofs.Tests.{some_none, more_yes, more_no}
+use Rattle.library_tests.proofs.PlainLemmas.{some_all}
+use Rattle.library_tests.proofs.plain.or_any.Goals as goal
+use Rattle.library_tests.proofs.plain.or_any.Goals.{then-contains, else-contains}
+use Rattle.wordset.proofs.SetLemmas.{same_words}
+
+pub loop-v-init : goal.loop-v-init
+loop-v-init c = λ v h. same_words c.empty-found.ensures v h ∙ sym (some_none (λ x. words c.args.set.now x && ors_of_parts c.args.mask x v))
+
+pub loop-v-preserved : goal.loop-v-preserved
+loop-v-preserved c =
+    let at : c.from_index-word.result ≡ c.loop-v.v = c.from_index-word.ensures in
+    let a = words c.args.set.now in
+    elim c.if-contains.branch [
+      | then-contains w ↦
+          λ v h. ap (λ s. words s v) w.found-is
+          ∙ more_yes c.loop-v.v a (λ x. ors_of_parts c.args.mask x v) (words c.loop-v.found v) (words w.union-found.result v) (c.loop-v.invariant v h) (ap a (sym at) ∙ sym w.if-contains.ensures)
+          (w.union-found.ensures v h ∙ ap (λ p. words c.loop-v.found v || p) (w.or_parts.ensures v h ∙ ap (λ x. ors_of_parts c.args.mask x v) at))
+      | else-contains w ↦
+          λ v h. ap (λ s. words s v) w.found-is
+          ∙ more_no c.loop-v.v a (λ x. ors_of_parts c.args.mask x v) (words c.loop-v.found v) (c.loop-v.invariant v h) (ap a (sym at) ∙ sym w.if-contains.ensures)
+    ]
+
+pub returns : goal.returns
+returns c = λ v h. c.loop-v.invariant v h ∙ some_all c.loop-v.v (λ x. words c.args.set.now x && ors_of_parts c.args.mask x v) (omega arith)

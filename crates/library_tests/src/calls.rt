@@ -1,0 +1,322 @@
+//! Calls of the libraries that no command makes, each once.
+
+use crate::fixtures::{
+    HELLO, HELLO_CERTIFICATE, HELLO_DECLARED, HELLO_TAPE, HELLO_WORDS, PRINTED, image, rounds, word,
+};
+use analyser::{GuessFault, Turns, guess_counted, guess_or_draft_counted, guess_within};
+use certificate::{Certificate, Version};
+use declaration::Declaration;
+use facts::{Equation, Fact, Name, Offsets, entails_return};
+use instruct::Profile;
+use judge::certify;
+use pal_asm::{AssembleFault, Code, PalFault, assemble, translate};
+use pal_text::{TextFault, statements};
+use peripherals::Start;
+use proposer::{Verdict, propose};
+use std::alloc::Global;
+use std::test::Fail;
+use word12::{Link, Word};
+use wordset::{Links, WordSet};
+
+#[test]
+fn a_part_has_lines_statements_and_tokens(rt: HostRuntime) -> Result<(), Fail> {
+    let part = statements(rt.alloc(), b"TA\xffD 20\r\n$")?;
+    assert_eq!(rt; part.statements.len(), 2);
+    let tokens = part.tokens_of(part.statements[0]);
+    assert_eq!(rt; tokens.len(), 3);
+    assert_eq!(rt; part.bytes(tokens[0]), b"TA\xffD".as_slice());
+    assert_eq!(rt; part.bytes(tokens[2]), b"20".as_slice());
+    assert_eq!(rt; part.lines.len(), 2);
+    assert_eq!(rt; part.line_bytes(part.lines[0]), b"TA\xffD 20".as_slice());
+    Ok(())
+}
+
+#[test]
+fn what_refuses_a_part_is_told(rt: HostRuntime) {
+    let long = [b' '; 65_537];
+    assert!(rt; statements(rt.alloc(), b"?").err() == Some(TextFault::Illegal(1)));
+    assert!(rt; statements(rt.alloc(), b"A=5\n5A\n?").err() == Some(TextFault::Illegal(2)));
+    assert!(rt; statements(rt.alloc(), &long).err() == Some(TextFault::TooLong));
+    assert!(rt; statements(rt.alloc(), &long[..65_536]).is_ok());
+}
+
+/// A source that refers to another page.
+const TOO_FAR: &[u8] = b"TAD 600";
+
+#[test]
+fn what_refuses_a_source_is_told(rt: HostRuntime) {
+    let fault = PalFault {
+        code: Code::IllegalReference,
+        part: 1,
+        line: 1,
+    };
+    let told = assemble(rt.alloc(), &[TOO_FAR], Profile::Pdp8I).err();
+    assert_eq!(rt; told, Some(AssembleFault::Source(fault)));
+}
+
+#[test]
+fn a_source_has_words_and_symbols(rt: HostRuntime) -> Result<(), Fail> {
+    let program = assemble(rt.alloc(), &[HELLO], Profile::Pdp8I)?;
+    let translation = translate(rt.alloc(), &[HELLO], Profile::Pdp8I)?;
+    assert!(rt; *program.image() == image(&HELLO_WORDS));
+    assert!(rt; *translation.image() == *program.image());
+    let (symbols, same) = (program.symbols(), translation.symbols());
+    assert!(rt; symbols.len() == 6 && same.len() == 6);
+    assert!(rt; symbols.get(&pal_text::Name::new(b"LOOP")).copied() == Some(word(0o206)));
+    assert!(rt; same.get(&pal_text::Name::new(b"LEFT")).copied() == Some(word(0o224)));
+    Ok(())
+}
+
+/// Whether what a declaration lists is what HELLO's does.
+fn lists_are_told(hello: &Declaration<Global>) -> bool {
+    let sets = hello.main().count() == 12 && hello.variables().count() == 2;
+    let halts = hello.stops().is_empty() && hello.pauses().count() == 1;
+    let [routine] = hello.routines() else {
+        return false;
+    };
+    let (zero, offsets) = (Word::ZERO, routine.offsets());
+    let called = routine.entry() == word(0o214) && routine.body().count() == 5;
+    sets && halts && called && offsets.contains(zero) && !offsets.contains(word(1))
+}
+
+/// Whether what a declaration tells of one cell is what HELLO's does.
+fn cells_are_told(hello: &Declaration<Global>, entry: Word) -> bool {
+    hello.in_main(word(0o213))
+        && !hello.in_main(entry)
+        && hello.is_entry(entry)
+        && hello.in_body(entry, word(0o221))
+        && !hello.in_body(entry, word(0o213))
+        && hello.has_offset(entry, Word::ZERO)
+        && !hello.has_offset(entry, word(1))
+        && hello.is_variable(word(0o10))
+        && hello.is_pause(word(0o212))
+        && !hello.is_stop(word(0o212))
+        && hello.may_read(entry)
+}
+
+#[test]
+fn a_declaration_tells_what_it_declares(rt: HostRuntime) -> Result<(), Fail> {
+    let hello = Declaration::parse(rt.alloc(), HELLO_DECLARED)?;
+    assert!(rt; hello.start() == word(0o200) && hello.profile() == Profile::Pdp8I);
+    assert!(rt; hello.reads().is_none() && !hello.reads_listed());
+    assert!(rt; lists_are_told(&hello) && cells_are_told(&hello, word(0o214)));
+    Ok(())
+}
+
+/// What AC and MQ hold at a start, whether the link is set, and what each cell holds.
+const STARTS: [(u16, bool, u16); 4] = [
+    (0, false, 0),
+    (0o1234, true, 0o7402),
+    (0o7777, true, 0o5555),
+    (0o4000, false, 0o7777),
+];
+
+/// That start.
+fn start_with(registers: u16, is_set: bool, filled: u16) -> Start {
+    let mut start = Start::zero();
+    start.ac = word(registers);
+    start.mq = word(registers);
+    start.link = if is_set { Link::SET } else { Link::CLEAR };
+    for address in 0..4096 {
+        start.memory.set(Word::from_index(address), word(filled));
+    }
+    start
+}
+
+#[test]
+fn a_certified_program_prints_the_same_from_any_start(rt: HostRuntime) -> Result<(), Fail> {
+    let certified = certify(rt.alloc(), HELLO_TAPE, HELLO_DECLARED, HELLO_CERTIFICATE)?;
+    assert!(rt; *certified.image() == image(&HELLO_WORDS));
+    assert_eq!(rt; certified.declaration().start(), word(0o200));
+    assert_eq!(rt; certified.certificate().version(), Version::One);
+    for (registers, is_set, filled) in &STARTS {
+        let start = start_with(*registers, *is_set, *filled);
+        let world = certified.run(rt.alloc(), &start, &rounds())?;
+        assert_eq!(rt; world.halted_at(), Some(word(0o212)));
+        assert_eq!(rt; world.cpu().pc, word(0o213));
+        assert!(rt; world.printed() == PRINTED.as_slice() && world.punched().is_empty());
+    }
+    Ok(())
+}
+
+/// Declarations of HELLO, certificates, and what refuses the program.
+const REFUSED: [(&[u8], &[u8], &str); 3] = [
+    (b"main 9", HELLO_CERTIFICATE, "declaration: BadLine 1"),
+    (HELLO_DECLARED, b"", "certificate: Version"),
+    (HELLO_DECLARED, b"PDP8-CERTIFICATE 1\nend\n", "V1 at 0200"),
+];
+
+#[test]
+fn what_refuses_a_program_is_told(rt: HostRuntime) -> Result<(), Fail> {
+    for (declared, certificate, wanted) in &REFUSED {
+        let Err(fault) = certify(rt.alloc(), HELLO_TAPE, declared, certificate) else {
+            panic!(rt; "not {wanted}");
+        };
+        assert_eq!(rt; format!(in rt.alloc(); "{fault}")?.as_str(), *wanted);
+    }
+    Ok(())
+}
+
+/// The fault of a guess for some words within so many turns, and how many were spent.
+fn guessed_within(
+    heap: Global,
+    words: &[u16],
+    declared: &[u8],
+    limit: u32,
+) -> Option<(Option<GuessFault>, u32)> {
+    let declared = Declaration::parse(heap, declared).ok()?;
+    let mut turns = Turns::new(limit);
+    let found = guess_within(heap, &image(words), &declared, &mut turns);
+    Some((found.err(), turns.spent()))
+}
+
+#[test]
+fn turns_are_spent(rt: HostRuntime) {
+    let spent = guessed_within(rt.alloc(), &HELLO_WORDS, HELLO_DECLARED, 1);
+    assert_eq!(rt; spent, Some((Some(GuessFault::TurnsSpent), 1)));
+    let found = guessed_within(rt.alloc(), &HELLO_WORDS, HELLO_DECLARED, 100);
+    assert!(rt; found.is_some_and(|(fault, spent)| fault.is_none() && spent < 100));
+}
+
+/// CLA and HLT: a word each whose outcomes are asked for.
+const TWO_WORDS: &[u8] = b"start 200\nmain 200-201\nstop 201\n";
+
+/// TAD 0300 and HLT: the first word reads what isn't on the list, so its outcomes aren't asked for.
+const UNREAD: &[u8] = b"start 200\nmain 200-201\nstop 201\nread 301\n";
+
+#[test]
+fn a_turn_is_a_word_whose_outcomes_are_asked_for(rt: HostRuntime) {
+    for limit in 0..2u32 {
+        let spent = guessed_within(rt.alloc(), &[0o7200, 0o7402], TWO_WORDS, limit);
+        assert_eq!(rt; spent, Some((Some(GuessFault::TurnsSpent), limit)));
+    }
+    let found = guessed_within(rt.alloc(), &[0o7200, 0o7402], TWO_WORDS, 2);
+    assert_eq!(rt; found, Some((None, 2)));
+    let stuck = guessed_within(rt.alloc(), &[0o1300, 0o7402], UNREAD, 0);
+    assert_eq!(rt; stuck, Some((Some(GuessFault::Stuck(word(0o200))), 0)));
+}
+
+#[test]
+fn a_guess_has_two_million_turns(rt: HostRuntime) -> Result<(), Fail> {
+    let declared = Declaration::parse(rt.alloc(), TWO_WORDS)?;
+    let tape = image(&[0o7200, 0o7402]);
+    let (found, turns) = guess_counted(rt.alloc(), &tape, &declared);
+    assert!(rt; found.is_ok() && turns.spent() == 2 && turns.limit() == 2_000_000);
+    let (attempt, turns) = guess_or_draft_counted(rt.alloc(), &tape, &declared);
+    assert!(rt; attempt.is_ok() && turns.spent() == 2 && turns.limit() == 2_000_000);
+    Ok(())
+}
+
+/// CLA; TAD 0206; DCA 0207; DCA I 0207; HLT; and behind a cell 0300: it clears cell 0300.
+const CLEARING: [u16; 7] = [0o7200, 0o1206, 0o3207, 0o3607, 0o7402, 0o0000, 0o0300];
+
+/// Whether a certificate is found for what is proposed within so many turns, how many variables it has,
+/// and how many turns were spent.
+fn proposed_within(heap: Global, limit: u32) -> Option<(bool, usize, u32)> {
+    let mut turns = Turns::new(limit);
+    let tape = image(&CLEARING);
+    let found = propose(heap, &tape, word(0o200), Profile::Pdp8I, &mut turns).ok()?;
+    let is_safe = matches!(&found.verdict, Verdict::Safe(_));
+    Some((
+        is_safe,
+        found.declaration.variables().count(),
+        turns.spent(),
+    ))
+}
+
+#[test]
+fn what_is_shown_stays_where_turns_run_out(rt: HostRuntime) {
+    // Each of the five words takes a turn, first with all variables but 0206, then with 0207 and 0300.
+    assert_eq!(rt; proposed_within(rt.alloc(), 10), Some((true, 2, 10)));
+    assert_eq!(rt; proposed_within(rt.alloc(), 9), Some((true, 4090, 9)));
+    assert_eq!(rt; proposed_within(rt.alloc(), 5), Some((true, 4090, 5)));
+    assert_eq!(rt; proposed_within(rt.alloc(), 4), Some((false, 4090, 4)));
+}
+
+/// Two facts, the first one with a tracked cell and an equation, and an exit of a routine.
+const TEXT: &[u8] = b"PDP8-CERTIFICATE 2\n\
+    routine 0214 rank 11 sites 0207 writes 0010,0224\n\
+    fact 0206 ac 0305,0310-0314 mq 0000-7777 link 01 offsets -\n\
+    cell 0010 0225-0231\n\
+    equal 0010 0224 0231\n\
+    fact 0215 ac 0000 mq 0001 link 1 offsets 02\n\
+    exit 0214 3 ac 0001 mq 0000-7777 link 0\n\
+    end\n";
+
+/// Whether the fact at 0206 is told.
+fn fact_is_told(read: &Certificate<Global>, at: Word) -> bool {
+    let Some(fact) = read.fact(at) else {
+        return false;
+    };
+    let registers = fact.accumulator().count() == 6 && fact.mq().is_all();
+    let details = fact.cells().len() == 1 && fact.equations().len() == 1;
+    registers && details && fact.set(&Name::Cell(word(0o10))).count() == 5
+}
+
+/// Whether the routine and its exit are told.
+fn routine_is_told(read: &Certificate<Global>, entry: Word) -> bool {
+    let (Some(routine), Some(exit)) = (read.routine(entry), read.exit(entry, 3)) else {
+        return false;
+    };
+    routine.rank == 9
+        && routine.sites.only() == Some(word(0o207))
+        && routine.writes.count() == 2
+        && exit.accumulator().only() == Some(word(1))
+        && read.exit(entry, 1).is_none()
+}
+
+#[test]
+fn a_certificate_tells_its_lines(rt: HostRuntime) -> Result<(), Fail> {
+    let read = Certificate::parse(rt.alloc(), TEXT)?;
+    let (entry, at) = (word(0o214), word(0o206));
+    assert!(rt; read.version() == Version::Two && read.next_claimed(0o207) == Some(entry));
+    assert!(rt; read.names(entry) && !read.names(at) && read.fact(entry).is_none());
+    assert!(rt; fact_is_told(&read, at) && routine_is_told(&read, entry));
+    Ok(())
+}
+
+/// HELLO's fact at 0210, after it typed a letter: the pointer in 0010 and the count in 0224 go
+/// together.
+fn after_a_letter() -> Fact {
+    let mut fact = Fact::any();
+    fact.set_accumulator(WordSet::one(Word::ZERO));
+    fact.set_link(Links::one(Link::CLEAR));
+    fact.track(word(0o10), WordSet::range(word(0o225), word(0o231)));
+    fact.track(word(0o224), WordSet::range(word(0o7773), word(0o7777)));
+    fact.relate(Equation {
+        left: Name::Cell(word(0o10)),
+        right: word(0o224),
+        more: word(0o232),
+    });
+    fact
+}
+
+#[test]
+fn a_fact_tells_what_it_was_told(rt: HostRuntime) {
+    let mut fact = after_a_letter();
+    assert!(rt; fact.accumulator().only() == Some(Word::ZERO) && fact.mq().is_all());
+    assert_eq!(rt; fact.link(), Links::one(Link::CLEAR));
+    assert!(rt; fact.cells().len() == 2 && !fact.is_full_of_cells());
+    assert!(rt; fact.equations().len() == 1 && !fact.is_full_of_equations());
+    assert_eq!(rt; fact.set(&Name::Cell(word(0o10))).count(), 5);
+    assert!(rt; fact.set(&Name::Cell(word(0o11))).is_all() && fact.offsets().is_empty());
+    fact.set_mq(WordSet::range(word(3), word(5)));
+    let mut offsets = Offsets::none();
+    offsets.insert(7);
+    fact.set_offsets(offsets);
+    assert!(rt; fact.mq().count() == 3 && fact.offsets() == offsets);
+}
+
+#[test]
+fn a_return_brings_the_exit_and_keeps_what_is_not_written(rt: HostRuntime) {
+    let hello = after_a_letter();
+    let mut call = after_a_letter();
+    call.set_accumulator(WordSet::range(word(0o305), word(0o317)));
+    let mut exit = Fact::any();
+    exit.set_accumulator(WordSet::one(Word::ZERO));
+    exit.set_link(Links::one(Link::CLEAR));
+    exit.set_offsets(Offsets::all());
+    let none = WordSet::empty();
+    assert!(rt; entails_return(&call, &exit, &none, &hello));
+    assert!(rt; !entails_return(&call, &exit, &WordSet::one(word(0o224)), &hello));
+}

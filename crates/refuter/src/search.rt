@@ -282,7 +282,7 @@ impl<A: Allocator + Copy> Search<A> {
         let mut watcher = self.tree.watcher(program, plan.base)?;
         let extent = self.tree.extent(plan.base);
         let mut run = Run::new(self.alloc, plan, extent, &mut self.random);
-        for _ in 0..MOST_STEPS {
+        for _step in 0..MOST_STEPS {
             if !self.prepare(program, &mut watcher, &mut run, plan)? {
                 return Ok(None);
             }

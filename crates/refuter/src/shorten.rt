@@ -81,7 +81,7 @@ fn halve_inputs<A: Allocator + Copy, D: Allocator>(
     ensures within { turns.new.spent ≤ turns.new.limit }
 {
     let mut size = found.inputs.len();
-    for _ in 0..HALVINGS {
+    for _halving in 0..HALVINGS {
         size = size.saturating_add(1) / 2;
         take_out_inputs(alloc, search, program, found, size, last, turns)?;
         if size <= 1 {
@@ -106,7 +106,7 @@ fn take_out_inputs<A: Allocator + Copy, D: Allocator>(
     ensures within { turns.new.spent ≤ turns.new.limit }
 {
     let mut place = 0usize;
-    for _ in 0..found.inputs.len() {
+    for _try in 0..found.inputs.len() {
         if place >= found.inputs.len() || turns.spent() >= last {
             break;
         }
@@ -133,7 +133,7 @@ fn halve_events<A: Allocator + Copy, D: Allocator>(
     ensures within { turns.new.spent ≤ turns.new.limit }
 {
     let mut size = script.parts().len();
-    for _ in 0..HALVINGS {
+    for _halving in 0..HALVINGS {
         size = size.saturating_add(1) / 2;
         take_out_events(alloc, program, script, size, last, turns)?;
         if size <= 1 {
@@ -157,7 +157,7 @@ fn take_out_events<A: Allocator + Copy, D: Allocator>(
     ensures within { turns.new.spent ≤ turns.new.limit }
 {
     let mut place = 0usize;
-    for _ in 0..script.parts().len() {
+    for _try in 0..script.parts().len() {
         if place >= script.parts().len() || turns.spent() >= last {
             break;
         }
@@ -222,7 +222,7 @@ fn breaks<A: Allocator + Copy, D: Allocator>(
     ensures rises { turns.old.spent ≤ turns.new.spent }
     ensures within { turns.new.spent ≤ turns.new.limit }
 {
-    for _ in 0..steps {
+    for _step in 0..steps {
         match take_step(watcher, declaration, turns)? {
             Stepped::Kept => played.add_step(),
             Stepped::NoTurn => return Ok(false),

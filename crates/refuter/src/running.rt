@@ -186,7 +186,7 @@ impl<A: Allocator + Copy> Run<A> {
         self.inputs.push(input).map_err(|_| NoMemory)?;
         self.idle = 0;
         self.quiet = 0;
-        let word = Word::from_index(input.value as usize);
+        let word = Word::from_index((input.value & 0o7777) as usize);
         let event = match input.ask {
             Ask::Key => Event::Key(word.low_byte()),
             Ask::Frame => Event::ReaderDone(word.low_byte()),

@@ -104,6 +104,7 @@ impl<A: Allocator + Copy> Search<A> {
         ensures rises { turns.old.spent ≤ turns.new.spent }
         ensures within { turns.new.spent ≤ turns.new.limit }
     {
+        turns.are_within();
         let before = turns.spent();
         if self.roamed / 3 <= before.saturating_sub(self.roamed) {
             let plan = self.plan_roaming()?;
@@ -279,10 +280,11 @@ impl<A: Allocator + Copy> Search<A> {
         ensures rises { turns.old.spent ≤ turns.new.spent }
         ensures within { turns.new.spent ≤ turns.new.limit }
     {
+        turns.are_within();
         let mut watcher = self.tree.watcher(program, plan.base)?;
         let extent = self.tree.extent(plan.base);
         let mut run = Run::new(self.alloc, plan, extent, &mut self.random);
-        for _ in 0..MOST_STEPS {
+        for _step in 0..MOST_STEPS {
             if !self.prepare(program, &mut watcher, &mut run, plan)? {
                 return Ok(None);
             }

@@ -34,6 +34,7 @@ pub(crate) fn shortened<A: Allocator + Copy, D: Allocator>(
     ensures rises { turns.old.spent ≤ turns.new.spent }
     ensures within { turns.new.spent ≤ turns.new.limit }
 {
+    turns.are_within();
     let last = turns.spent().saturating_add(MOST_STEPS);
     let plan = Plan::of(
         alloc,
@@ -80,8 +81,9 @@ fn halve_inputs<A: Allocator + Copy, D: Allocator>(
     ensures rises { turns.old.spent ≤ turns.new.spent }
     ensures within { turns.new.spent ≤ turns.new.limit }
 {
+    turns.are_within();
     let mut size = found.inputs.len();
-    for _ in 0..HALVINGS {
+    for _halving in 0..HALVINGS {
         size = size.saturating_add(1) / 2;
         take_out_inputs(alloc, search, program, found, size, last, turns)?;
         if size <= 1 {
@@ -105,8 +107,9 @@ fn take_out_inputs<A: Allocator + Copy, D: Allocator>(
     ensures rises { turns.old.spent ≤ turns.new.spent }
     ensures within { turns.new.spent ≤ turns.new.limit }
 {
+    turns.are_within();
     let mut place = 0usize;
-    for _ in 0..found.inputs.len() {
+    for _try in 0..found.inputs.len() {
         if place >= found.inputs.len() || turns.spent() >= last {
             break;
         }
@@ -132,8 +135,9 @@ fn halve_events<A: Allocator + Copy, D: Allocator>(
     ensures rises { turns.old.spent ≤ turns.new.spent }
     ensures within { turns.new.spent ≤ turns.new.limit }
 {
+    turns.are_within();
     let mut size = script.parts().len();
-    for _ in 0..HALVINGS {
+    for _halving in 0..HALVINGS {
         size = size.saturating_add(1) / 2;
         take_out_events(alloc, program, script, size, last, turns)?;
         if size <= 1 {
@@ -156,8 +160,9 @@ fn take_out_events<A: Allocator + Copy, D: Allocator>(
     ensures rises { turns.old.spent ≤ turns.new.spent }
     ensures within { turns.new.spent ≤ turns.new.limit }
 {
+    turns.are_within();
     let mut place = 0usize;
-    for _ in 0..script.parts().len() {
+    for _try in 0..script.parts().len() {
         if place >= script.parts().len() || turns.spent() >= last {
             break;
         }
@@ -182,6 +187,7 @@ fn replayed<A: Allocator + Copy, D: Allocator>(
     ensures rises { turns.old.spent ≤ turns.new.spent }
     ensures within { turns.new.spent ≤ turns.new.limit }
 {
+    turns.are_within();
     let declaration = program.declaration;
     let mut watcher = Watcher::new(alloc, program.image, declaration, &Start::zero());
     let mut played = Script::new(alloc);
@@ -222,7 +228,8 @@ fn breaks<A: Allocator + Copy, D: Allocator>(
     ensures rises { turns.old.spent ≤ turns.new.spent }
     ensures within { turns.new.spent ≤ turns.new.limit }
 {
-    for _ in 0..steps {
+    turns.are_within();
+    for _step in 0..steps {
         match take_step(watcher, declaration, turns)? {
             Stepped::Kept => played.add_step(),
             Stepped::NoTurn => return Ok(false),

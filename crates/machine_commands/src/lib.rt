@@ -2,7 +2,6 @@
 //! run that breaks its declaration.
 #![tactic(auto)]
 
-pub mod breach;
 pub mod follow;
 pub mod refuting;
 pub mod running;

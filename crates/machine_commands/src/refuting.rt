@@ -7,7 +7,6 @@ ghost use Rattle.command_parts.specs.Writes.{FrontOf, Writes, WritesNothingOr};
 ghost use Rattle.command_parts.specs.declared.status.Status.TheVariants.{Done, Refused};
 ghost use Rattle.machine_commands.specs.RefuteText.{IsToldOfWitness, IsWitnessText, WritesWitness, unbroken_text};
 
-use crate::breach::breach_lines;
 use crate::watching::broken_line;
 use command_parts::inputs::{declaration_from, tape_from};
 use command_parts::status::{Fault, Status};
@@ -18,6 +17,7 @@ use refuter::{Witness, refute_within};
 use std::alloc::{AllocError, Allocator};
 use streams::{ByteSink, ByteSource, put};
 use turns::Turns;
+use watch_texts::breach_lines;
 
 /// The line that says in how many steps nothing was found.
 fn unbroken_line<A: Allocator>(alloc: A, steps: u32) -> Result<Vec<u8, A>, AllocError>

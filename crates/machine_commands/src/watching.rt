@@ -7,7 +7,6 @@ ghost use Rattle.machine_commands.specs.WatchText.{IsWatched, IsWatchedSo, broke
 ghost use Rattle.command_parts.specs.Writes.{FrontOf, Writes};
 ghost use Rattle.command_parts.specs.declared.status.Fault.TheVariants.{NoMemory};
 
-use crate::breach::breach_lines;
 use command_parts::inputs::{declaration_from, events_from, tape_from};
 use command_parts::status::{Fault, Status};
 use itoa::Buffer;
@@ -15,6 +14,7 @@ use peripherals::Start;
 use policy::{Rule, Watched};
 use std::alloc::{AllocError, Allocator};
 use streams::{ByteSink, ByteSource, put};
+use watch_texts::breach_lines;
 
 /// The line for a broken rule.
 pub(crate) fn broken_line<A: Allocator>(

@@ -17,7 +17,6 @@ use command_parts::status::{Fault, Status};
 use command_parts::text::push_place;
 use declaration::Declaration;
 use itoa::Buffer;
-use machine_commands::breach::breach_lines;
 pub use options::{RefuteOptions, VerifyOptions};
 use policy::{Rule, Watched};
 use proposer::{Proposal, Verdict, propose};
@@ -28,6 +27,7 @@ use streams::{ByteSink, ByteSource, put};
 use turns::Turns;
 use verdict_texts::reason_text::push_why;
 use verdict_texts::verdict::verdict_line;
+use watch_texts::breach_lines;
 use word12::Word;
 
 /// How many turns a proposal has at most.

@@ -1,4 +1,5 @@
-//! The lines that say what a step that breaks a rule is about to do.
+//! The lines that say what a step that breaks a rule is about to do. They are tested and not proved.
+#![tactic(auto)]
 
 ghost use Rattle.std.specs.Prelude.{◌≡◌, false, [], IfOk};
 

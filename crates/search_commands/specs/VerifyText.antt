@@ -1,5 +1,5 @@
 -- What `verify` says, and when it is true.
-use Rattle.std.specs.Prelude.{ℕ, ◌≡◌, ◌++◌, ⊤, ⊥, Bool, false, codes, decimal, List, [], Option, Some}
+use Rattle.std.specs.Prelude.{ℕ, ◌≡◌, ◌++◌, ⊤, Bool, false, codes, decimal, List, [], Option, Some}
 use Rattle.word12.specs.Words.{octal_text}
 use Rattle.peripherals.specs.Loading.{image_of}
 use Rattle.declaration.specs.Declaration.{Declaration}
@@ -9,7 +9,6 @@ use Rattle.certificate.specs.Kept.{meaning}
 use Rattle.certificate.specs.Reading.{AreLines}
 use Rattle.refuter.specs.Witnesses.{Breaks, IsLast, IsSpelled}
 use Rattle.verdict_texts.specs.CheckText.{IsYes, checked_case, yes_text}
-use Rattle.options.specs.declared.DeclareOptions.{DeclareOptions}
 use Rattle.options.specs.declared.VerifyOptions.{VerifyOptions}
 use Rattle.command_parts.specs.declared.status.Status.{Status}
 use Rattle.command_parts.specs.declared.status.Status.TheVariants.{Done, Refused}
@@ -71,8 +70,8 @@ pub record IsVerified {A : Type 0} (frames text : Option (List ℕ)) (explained 
   pub is : IsTold declaration answer explained told
 
 -- This is told of the one or the other answer.
-abbrev pub IsSomeAnswer : {A : Type 0} → Option (List ℕ) → Option (List ℕ) → Bool → List ℕ → Type 0
-IsSomeAnswer {A = A} frames text explained told = (answer : Answer A) × IsVerified frames text explained answer told
+abbrev pub IsSomeAnswer : (A : Type 0) → Option (List ℕ) → Option (List ℕ) → Bool → List ℕ → Type 0
+IsSomeAnswer A frames text explained told = (answer : Answer A) × IsVerified frames text explained answer told
 
 -- The frames are a tape, and the text that is proposed declares a program that starts where it was asked to, on the machine
 -- that was asked for; the answer is true of them, and this is told of it.
@@ -82,5 +81,5 @@ pub record IsProposedAnswer {A : Type 0} (frames : Option (List ℕ)) (options :
   pub profile_is : verified.declaration.profile ≡ options.profile
 
 -- This is told of the one or the other answer for a declaration that is proposed.
-abbrev pub IsSomeProposedAnswer : {A : Type 0} → Option (List ℕ) → VerifyOptions → List ℕ → Type 0
-IsSomeProposedAnswer {A = A} frames options told = (p : Proposed A) × IsProposedAnswer frames options p told
+abbrev pub IsSomeProposedAnswer : (A : Type 0) → Option (List ℕ) → VerifyOptions → List ℕ → Type 0
+IsSomeProposedAnswer A frames options told = (p : Proposed A) × IsProposedAnswer frames options p told

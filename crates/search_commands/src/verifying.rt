@@ -96,6 +96,17 @@ fn refuted<A: Allocator + Copy, D: Allocator>(
     }
 }
 
+/// Why it isn't known, where no certificate was found; a want of memory is told as one.
+fn lack_of(fault: GuessFault) -> Result<Lack, Fault>
+    ensures { IfErr result IsMemoryFault }
+{
+    match fault {
+        GuessFault::Stuck(at) => Ok(Lack::Stuck(at)),
+        GuessFault::TurnsSpent => Ok(Lack::TurnsSpent),
+        GuessFault::NoMemory => Err(Fault::NoMemory),
+    }
+}
+
 /// The answer for a declaration that was given.
 fn answer_of<A: Allocator + Copy, D: Allocator>(
     alloc: A,
@@ -106,13 +117,15 @@ fn answer_of<A: Allocator + Copy, D: Allocator>(
     ensures answer { IfOk result (IsAnswer image.now (meaning declaration.now)) }
     ensures faults { IfErr result IsMemoryFault }
 {
-    let lack = match guess(alloc, image, declaration) {
-        Ok(certificate) => return Ok(Answer::Yes(certificate)),
-        Err(GuessFault::Stuck(at)) => Lack::Stuck(at),
-        Err(GuessFault::TurnsSpent) => Lack::TurnsSpent,
-        Err(GuessFault::NoMemory) => return Err(Fault::NoMemory),
-    };
-    refuted(alloc, image, declaration, options, lack)
+    match guess(alloc, image, declaration) {
+        Ok(certificate) => Ok(Answer::Yes(certificate)),
+        Err(fault) => {
+            match lack_of(fault) {
+                Ok(lack) => refuted(alloc, image, declaration, options, lack),
+                Err(fault) => Err(fault),
+            }
+        }
+    }
 }
 
 /// The line that says why it isn't known.
@@ -157,6 +170,31 @@ fn answer_line<A: Allocator + Copy, D: Allocator>(
     }
 }
 
+/// What a draft lacks at the address where the search is stuck.
+fn draft_lines<A: Allocator, D: Allocator, C: Allocator>(
+    alloc: A,
+    image: &Image,
+    declaration: &Declaration<D>,
+    draft: &Certificate<C>,
+    at: Word,
+) -> Result<Vec<u8, A>, AllocError> {
+    let told = why_stuck(image, declaration, draft, at);
+    let mut text = Vec::new(alloc);
+    match &told {
+        None => {}
+        Some((refusal, reason)) => {
+            push_why(
+                &mut text,
+                declaration.profile(),
+                image,
+                &Err(*refusal),
+                &Some(*reason),
+            )?;
+        }
+    }
+    Ok(text)
+}
+
 /// What the search for a certificate lacks, by the draft of what it found: the lines of `guess --why`
 /// behind its first one.
 fn lacking_lines<A: Allocator + Copy, D: Allocator>(
@@ -164,19 +202,13 @@ fn lacking_lines<A: Allocator + Copy, D: Allocator>(
     image: &Image,
     declaration: &Declaration<D>,
 ) -> Result<Vec<u8, A>, AllocError> {
-    let mut text = Vec::new(alloc);
-    if let Ok(Attempt::Stuck(at, draft)) = guess_or_draft(alloc, image, declaration) {
-        if let Some((refusal, reason)) = why_stuck(image, declaration, &draft, at) {
-            push_why(
-                &mut text,
-                declaration.profile(),
-                image,
-                &Err(refusal),
-                &Some(reason),
-            )?;
-        }
+    let Ok(attempt) = guess_or_draft(alloc, image, declaration) else {
+        return Ok(Vec::new(alloc));
+    };
+    match &attempt {
+        Attempt::Found(_) => Ok(Vec::new(alloc)),
+        Attempt::Stuck(at, draft) => draft_lines(alloc, image, declaration, draft, *at),
     }
-    Ok(text)
 }
 
 /// The lines behind an answer that say why: what the step is about to do that breaks a rule, or what the
@@ -256,7 +288,7 @@ pub fn verify<A: Allocator + Copy, R: ByteSource, D: ByteSource, W: ByteSink>(
         (D.remaining declaration.new))) }
     // Where a write failed, a front of such a text went out,
     ensures front { W.mark out.new ≡ true → FrontOf
-        (IsSomeAnswer (R.remaining tape.old) (D.remaining declaration.old) options.explained)
+        (IsSomeAnswer A (R.remaining tape.old) (D.remaining declaration.old) options.explained)
         (W.taken out.old) (W.taken out.new) }
     // and any other fault leaves the output as it was.
     ensures nothing { OnErr result (W.mark out.new ≡ false → W.taken out.new ≡ W.taken out.old) }
@@ -327,7 +359,7 @@ pub fn verify_proposed<A: Allocator + Copy, R: ByteSource, W: ByteSink>(
         (input (R.mark tape.new) (R.remaining tape.old) (R.remaining tape.new))) }
     // Where a write failed, a front of such a text went out,
     ensures front { W.mark out.new ≡ true → FrontOf
-        (IsSomeProposedAnswer (R.remaining tape.old) options)
+        (IsSomeProposedAnswer A (R.remaining tape.old) options)
         (W.taken out.old) (W.taken out.new) }
     // and any other fault leaves the output as it was.
     ensures nothing { OnErr result (W.mark out.new ≡ false → W.taken out.new ≡ W.taken out.old) }

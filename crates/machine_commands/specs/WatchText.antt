@@ -32,8 +32,14 @@ abbrev pub IsSeen : List (Option ℕ) → Declaration → List Event → Watched
 IsSeen image d events Clean = IsClean (image_of image) d events (fresh image d.start)
 IsSeen image d events (Broken n r) = BreaksAt (image_of image) d events (fresh image d.start) n r
 
--- The frames are a tape, the texts a declaration and a list of events; what is told is the line of what is seen of them,
--- and behind it, only where it is to be explained, some lines more, of which nothing is said here.
+-- What is told of a watched run: the line of what is seen, and behind it, only where it is to be explained, some lines more,
+-- of which nothing is said here.
+pub record IsTold (watched : Watched) (explained : Bool) (told : List ℕ) : Type 0 where
+  pub why : List ℕ
+  pub plain : explained ≡ false → why ≡ []
+  pub told_is : told ≡ watched_text watched ++ why
+
+-- The frames are a tape, the texts a declaration and a list of events; this is told of what is seen of them.
 pub record IsWatchedSo (frames text list : Option (List ℕ)) (explained : Bool) (told : List ℕ) (status : Status) : Type 0 where
   pub image : List (Option ℕ)
   pub tape : HasImage frames image
@@ -43,9 +49,7 @@ pub record IsWatchedSo (frames text list : Option (List ℕ)) (explained : Bool)
   pub spells : HasEvents list events
   pub watched : Watched
   pub sees : IsSeen image declaration events watched
-  pub why : List ℕ
-  pub plain : explained ≡ false → why ≡ []
-  pub told_is : told ≡ watched_text watched ++ why
+  pub is : IsTold watched explained told
   pub status_is : status ≡ watched_status watched
 
 -- The frames are a tape, the texts a declaration and a list of events, and this is told of them, whichever status that

@@ -7,7 +7,7 @@ ghost use Rattle.command_parts.specs.Writes.{FrontOf, Writes, WritesNothingOr};
 ghost use Rattle.command_parts.specs.declared.status.Status.TheVariants.{Done, Refused};
 ghost use Rattle.machine_commands.specs.RefuteText.{IsToldOfWitness, IsWitnessText, WritesWitness, unbroken_text};
 
-use crate::watching::broken_line;
+use crate::watching::told_of;
 use command_parts::inputs::{declaration_from, tape_from};
 use command_parts::status::{Fault, Status};
 use itoa::Buffer;
@@ -17,7 +17,6 @@ use refuter::{Witness, refute_within};
 use std::alloc::{AllocError, Allocator};
 use streams::{ByteSink, ByteSource, put};
 use turns::Turns;
-use watch_texts::breach_lines;
 
 /// The line that says in how many steps nothing was found.
 fn unbroken_line<A: Allocator>(alloc: A, steps: u32) -> Result<Vec<u8, A>, AllocError>
@@ -122,9 +121,8 @@ pub fn refute<A: Allocator + Copy, R: ByteSource, D: ByteSource, W: ByteSink, P:
         event,
         rule,
     } = found;
-    let mut told = broken_line(alloc, event, rule)?;
     let watched = Watched::Broken { event, rule };
-    let why = breach_lines(
+    let told = told_of(
         alloc,
         &image,
         &promised,
@@ -132,7 +130,6 @@ pub fn refute<A: Allocator + Copy, R: ByteSource, D: ByteSource, W: ByteSink, P:
         watched,
         options.explained,
     )?;
-    told.extend_from_slice(&why)?;
     put(out, &text)?;
     put(report, &told)?;
     Ok(Status::Refused)

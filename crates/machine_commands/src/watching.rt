@@ -3,25 +3,23 @@
 ghost use Rattle.std.specs.Prelude.{◌≡◌, ◌||◌, ◌⊎◌, false, true, Err, IfOk, IfErr, OnErr};
 ghost use Rattle.command_parts.specs.Faults.{IsWatchFault, is_fault_of_declaration, is_fault_of_tape, fails_to_read, fails_to_write};
 ghost use Rattle.command_parts.specs.Inputs.{HasCome, IsGoodDeclaration, IsGoodEvents, IsGoodTape, TakesAtMost, TakesTape, input};
-ghost use Rattle.machine_commands.specs.WatchText.{IsWatched, IsWatchedSo, broken_text, watched_status, watched_text};
+ghost use Rattle.machine_commands.specs.WatchText.{IsTold, IsWatched, IsWatchedSo, broken_text, watched_status, watched_text};
 ghost use Rattle.command_parts.specs.Writes.{FrontOf, Writes};
-ghost use Rattle.command_parts.specs.declared.status.Fault.TheVariants.{NoMemory};
+ghost use Rattle.command_parts.specs.declared.status.Fault.TheVariants.{NoMemory as Wanted};
 
+use bin_tape::Image;
 use command_parts::inputs::{declaration_from, events_from, tape_from};
 use command_parts::status::{Fault, Status};
+use declaration::Declaration;
 use itoa::Buffer;
-use peripherals::Start;
+use peripherals::{Event, NoMemory, Start};
 use policy::{Rule, Watched};
 use std::alloc::{AllocError, Allocator};
 use streams::{ByteSink, ByteSource, put};
 use watch_texts::breach_lines;
 
 /// The line for a broken rule.
-pub(crate) fn broken_line<A: Allocator>(
-    alloc: A,
-    event: usize,
-    rule: Rule,
-) -> Result<Vec<u8, A>, AllocError>
+fn broken_line<A: Allocator>(alloc: A, event: usize, rule: Rule) -> Result<Vec<u8, A>, AllocError>
     ensures { IfOk result (λ text. text.items ≡ broken_text event rule) }
 {
     let mut text = Vec::new(alloc);
@@ -45,6 +43,24 @@ fn watched_line<A: Allocator>(alloc: A, watched: Watched) -> Result<Vec<u8, A>, 
         }
         Watched::Broken { event, rule } => broken_line(alloc, event, rule),
     }
+}
+
+/// What is told of a watched run: the line that says what was seen, and behind it, if it is to be
+/// explained, what the step is about to do that breaks a rule.
+pub(crate) fn told_of<A: Allocator + Copy, D: Allocator>(
+    alloc: A,
+    image: &Image,
+    declaration: &Declaration<D>,
+    events: &[Event],
+    watched: Watched,
+    explained: bool,
+) -> Result<Vec<u8, A>, NoMemory>
+    ensures { IfOk result (λ text. IsTold watched explained text.items) }
+{
+    let mut text = watched_line(alloc, watched)?;
+    let why = breach_lines(alloc, image, declaration, events, watched, explained)?;
+    text.extend_from_slice(&why)?;
+    Ok(text)
 }
 
 /// A run that breaks a rule is refused.
@@ -115,7 +131,7 @@ pub fn watch<A: Allocator + Copy, R: ByteSource, D: ByteSource, E: ByteSource, W
     ensures list_after_declaration { (list.new ≡ list.old) ⊎
         IsGoodDeclaration (D.remaining declaration.old) }
     // and memory that is refused after the events were begun is wanted for them or after them.
-    ensures wanted { result ≡ Err NoMemory → (list.new ≡ list.old) ⊎
+    ensures wanted { result ≡ Err Wanted → (list.new ≡ list.old) ⊎
         (HasCome (input (E.mark list.new) (E.remaining list.old) (E.remaining list.new)) ⊎
         IsGoodEvents (E.remaining list.old)) }
     // No input is read past its limit.
@@ -128,9 +144,7 @@ pub fn watch<A: Allocator + Copy, R: ByteSource, D: ByteSource, E: ByteSource, W
     let promised = declaration_from(alloc, declaration)?;
     let happened = events_from(alloc, list)?;
     let watched = policy::watch(alloc, &image, &promised, &Start::zero(), &happened)?;
-    let mut text = watched_line(alloc, watched)?;
-    let why = breach_lines(alloc, &image, &promised, &happened, watched, explained)?;
-    text.extend_from_slice(&why)?;
+    let text = told_of(alloc, &image, &promised, &happened, watched, explained)?;
     put(out, &text)?;
     Ok(watched_status(watched))
 }

@@ -1,8 +1,8 @@
 //! Looks for a run that breaks a declaration.
 //!
 //! An operator by chance gives what a program asks for, and the machine is watched, until a step breaks a
-//! rule. What was found is made shorter, written, read again and watched once more: so what is given
-//! doesn't rest on how it was found.
+//! rule. What was found is made shorter, written as a text, read again and watched once more: so what is
+//! given doesn't rest on how it was found.
 #![tactic(auto)]
 
 ghost use Rattle.std.specs.Prelude.{◌≡◌, ◌≤◌, ◌<◌, IfOk, IfSome, IfNone, true, false};
@@ -38,8 +38,7 @@ use policy::{Rule, Watched, watch};
 use std::alloc::Allocator;
 use turns::{GuessFault, Turns};
 
-/// A run that breaks a declaration: its events, the text that spells them, and which event breaks
-/// which rule.
+/// A run that breaks a declaration: its events, their text, and which event breaks which rule.
 #[derive(Drop)]
 pub struct Witness<A: Allocator> {
     /// The events, of which the last one breaks the rule.

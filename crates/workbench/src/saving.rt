@@ -11,12 +11,7 @@ use streams::put;
 use streams::standard::Writes;
 
 /// Makes or empties the file with this name and ending.
-fn make<R: Files>(
-    rt: &R,
-    alloc: Global,
-    name: &str,
-    ending: &str,
-) -> Result<Writes<R::File>, Fault>
+fn make<R: Files>(rt: &R, alloc: Global, name: &str, ending: &str) -> Result<Writes<R::File>, Fault>
     ensures { IfOk result (λ output. output.failed ≡ false) }
 {
     let mut path = String::new(alloc);

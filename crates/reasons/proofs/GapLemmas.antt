@@ -1,8 +1,12 @@
 -- What one fact leaves possible and another excludes.
-use Rattle.std.proofs.Common.{◌≡◌, ℕ, ◌<◌, true, List, [], ◌∷◌, length, get_or, drop, map, inl, inr, refl, sym, ◌∙◌, subst, zero, suc}
-use Rattle.std.proofs.lemmas.Bool.{true≢false}
-use Rattle.wordset.specs.Words.{Words, everything}
-use Rattle.facts.specs.Facts.{Ac, Cell, Fact, Among, Equation, Knows}
+use Rattle.std.proofs.Common.{◌≡◌, ℕ, ◌<◌, true, Option, Some, None, List, [], ◌∷◌, length, get_or, drop, map, inl, inr, refl, sym, ◌∙◌, subst, zero, suc}
+use Rattle.std.specs.Prelude.{IfSome}
+use Rattle.std.proofs.lemmas.Bool.{eq-eqb, true≢false}
+use Rattle.wordset.specs.Words.{Words, IsWithin, everything}
+use Rattle.processor.specs.Runs.{Image}
+use Rattle.facts.specs.Facts.{Ac, Cell, Fact, Among, Equation, Knows, narrowed, tape_word}
+use Rattle.facts.specs.Starts.{has_each}
+use Rattle.facts.specs.Statements.{TrackedCell, cell_at, tracked}
 use Rattle.facts.specs.Same.{Agree}
 use Rattle.facts.specs.Changes.{with_offsets}
 use Rattle.facts.specs.Meaning.{equation_of}
@@ -10,6 +14,8 @@ use Rattle.facts.specs.declared.names.Equation.{Equation as CodeEquation}
 use Rattle.facts.proofs.Alike.{narrowed_same, only_same}
 use Rattle.facts.proofs.AgreeLemmas.{agree_sym, same_fact, narrowed_agree}
 use Rattle.facts.proofs.EntailLemmas.{drop_item}
+use Rattle.facts.proofs.Starting.{each_from}
+use Rattle.facts.proofs.TrackingLemmas.{entry_within}
 use Rattle.reasons.specs.Gaps.{IsLinkBeyond, IsGap}
 use Rattle.reasons.specs.declared.gap.Gap.{Gap}
 use Rattle.reasons.specs.declared.gap.Gap.TheVariants as gap
@@ -56,3 +62,21 @@ exit_gap k f b g all same h = subst (λ x. IsGap k (with_offsets everything x) g
     whole (gap.Cell c w) q = record { small = q.small; possible = q.possible; excluded = q.excluded }
     whole (gap.Equation e) q = (q.0, q.1)
     whole (gap.Offset o) q = absurd (true≢false (sym (all o q.0) ∙ q.2))
+
+-- What is within all that the entries of a cell leave is within each entry.
+pub within_entry : (f : Fact) (cells : List TrackedCell) (i : ℕ) → i < length cells →
+    IsWithin (narrowed f (Cell (cell_at cells i).address)) (tracked (cell_at cells i).address cells) → IsWithin (narrowed f (Cell (cell_at cells i).address)) (cell_at cells i).set
+within_entry f cells i lt within v small is =
+    entry_within cells i (cell_at cells i).address (cell_at cells i).set lt refl (λ w low h. h) v small (within v small is)
+
+-- So is what a cell may hold at a start.
+pub start_entry : (image : Image) (cells : List TrackedCell) (i : ℕ) → i < length cells → IfSome (image (cell_at cells i).address) (λ w. w < 4096) →
+    IsWithin (tape_word (image (cell_at cells i).address)) (tracked (cell_at cells i).address cells) → has_each (image (cell_at cells i).address) (cell_at cells i).set ≡ true
+start_entry image cells i lt word within = each_of (image (cell_at cells i).address) word within
+  where
+    set_of : (v : ℕ) → v < 4096 → tracked (cell_at cells i).address cells v ≡ true → (cell_at cells i).set v ≡ true
+    set_of v small h = entry_within cells i (cell_at cells i).address (cell_at cells i).set lt refl (λ w low g. g) v small h
+
+    each_of : (o : Option ℕ) → IfSome o (λ w. w < 4096) → IsWithin (tape_word o) (tracked (cell_at cells i).address cells) → has_each o (cell_at cells i).set ≡ true
+    each_of None small h = each_from 4096 (cell_at cells i).set (λ v lt. set_of v lt (h v lt refl))
+    each_of (Some w) small h = set_of w small (h w small (eq-eqb w w refl))

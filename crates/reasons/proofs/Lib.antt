@@ -3,4 +3,5 @@ pub mod FoundLemmas
 pub mod GapLemmas
 pub mod LineLemmas
 pub mod SetLemmas
+mod ByLinesLemmas
 mod RefuteLemmas

@@ -1,8 +1,10 @@
 -- What is told of an address at which a search is stuck.
-use Rattle.std.specs.Prelude.{◌≡◌, ◌⊎◌, ℕ, Bool, true, false, Some}
-use Rattle.declaration.specs.Declaration.{Declaration}
-use Rattle.facts.specs.declared.Condition.TheVariants.{V7}
+use Rattle.std.specs.Prelude.{◌≡◌, ◌⊎◌, ℕ, Bool, true, false, Some, List, [], ◌∷◌}
+use Rattle.facts.specs.declared.Condition.{Condition}
+use Rattle.facts.specs.declared.Condition.TheVariants.{V3, V4, V5, V7, V9, V10, V11, V12, V13, V14, V15}
+use Rattle.judge.specs.Conditions.{Case}
 use Rattle.judge.specs.declared.judging.Refusal.{Refusal}
+use Rattle.reasons.specs.Reasons.{Explains}
 use Rattle.reasons.specs.declared.breach.Landing.{Landing}
 use Rattle.reasons.specs.declared.breach.Landing.TheVariants.{NoFact, OtherBody, Excluded}
 use Rattle.reasons.specs.declared.breach.CallBreach.{CallBreach}
@@ -53,10 +55,31 @@ abbrev pub is_of_rank : Reason → Bool
 is_of_rank (why.ByWord w (breach.Calls entry (call.NotLower rank own))) = true
 is_of_rank _ = false
 
--- It is told of the address at which the search is stuck, and isn't that a line is missing or too narrow; or of a call in the
--- body of the routine of which that address is the entry, and is then its rank or not that a line is missing.
-abbrev pub IsToldOf : Declaration → ℕ → Refusal → Reason → Type 0
-IsToldOf d at refusal reason =
-    ((refusal.address ≡ at) × (is_of_lines reason ≡ false)) ⊎
-    ((refusal.condition ≡ V7) × (d.body (Some at) refusal.address ≡ true)
+-- The order in which the conditions are asked at the address where a search is stuck: first those that a word breaks by
+-- itself, then those on calls and returns, then those on where a run goes on. The others fail by lines alone.
+abbrev pub stuck_order : List Condition
+stuck_order = V3 ∷ V5 ∷ V14 ∷ V13 ∷ V15 ∷ V7 ∷ V9 ∷ V12 ∷ V4 ∷ V10 ∷ V11 ∷ []
+
+-- If the condition fails at the address, it is for want of lines alone: whatever explains it is that one is missing or too
+-- narrow.
+abbrev pub FailsByLinesAlone : Case → ℕ → Condition → Type 0
+FailsByLinesAlone j a v = (reason : Reason) → Explains j v a reason → is_of_lines reason ≡ true
+
+-- So it is with each condition of the list.
+abbrev pub EachByLines : Case → ℕ → List Condition → Type 0
+EachByLines j a [] = Unit {0}
+EachByLines j a (u ∷ us) = FailsByLinesAlone j a u × EachByLines j a us
+
+-- So it is with each condition of the list that comes before v.
+abbrev pub EachBeforeByLines : Case → ℕ → Condition → List Condition → Type 0
+EachBeforeByLines j a v [] = Unit {0}
+EachBeforeByLines j a v (u ∷ us) = (u ≡ v) ⊎ (FailsByLinesAlone j a u × EachBeforeByLines j a v us)
+
+-- It is told of the address at which the search is stuck, isn't that a line is missing or too narrow, and no condition that is
+-- asked before fails there but by lines; or no condition does, and it is told of a call in the body of the routine of which
+-- that address is the entry, and is its rank or not that a line is missing.
+abbrev pub IsToldOf : Case → ℕ → Refusal → Reason → Type 0
+IsToldOf j at refusal reason =
+    ((refusal.address ≡ at) × (is_of_lines reason ≡ false) × EachBeforeByLines j at refusal.condition stuck_order) ⊎
+    (EachByLines j at stuck_order × (refusal.condition ≡ V7) × (j.declaration.body (Some at) refusal.address ≡ true)
     × ((is_of_rank reason ≡ true) ⊎ (is_of_lines reason ≡ false)))

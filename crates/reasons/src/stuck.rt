@@ -1,14 +1,15 @@
 //! Why a search for a certificate is stuck at an address, by a draft of what it found until then.
 
-ghost use Rattle.std.specs.Prelude.{◌≡◌, ◌⊎◌, false, true, IfSome, Some};
+ghost use Rattle.std.specs.Prelude.{◌≡◌, ◌⊎◌, false, true, IfNone, IfSome, Some};
 ghost use Rattle.declaration.specs.Kept as declared;
 ghost use Rattle.facts.specs.declared.Condition.TheVariants.{V7};
 ghost use Rattle.judge.specs.Judged.{judged};
 ghost use Rattle.reasons.specs.Reasons.{Explains};
-ghost use Rattle.reasons.specs.Stuck.{IsToldOf, is_of_lines, is_of_rank, is_call_of_lines, is_landing_of_lines, is_return_of_lines, is_word_of_lines};
+ghost use Rattle.reasons.specs.Stuck.{EachBeforeByLines, EachByLines, FailsByLinesAlone, IsToldOf, stuck_order, is_of_lines, is_of_rank, is_call_of_lines, is_landing_of_lines, is_return_of_lines, is_word_of_lines};
 
 use crate::breach::{Breach, CallBreach, Landing, ReturnBreach};
-use crate::reason::{Reason, why};
+use crate::reason::{Reason, why, why_words};
+use crate::spot::Sought;
 use bin_tape::Image;
 use declaration::Declaration;
 use facts::Condition;
@@ -124,25 +125,30 @@ impl Reason {
 }
 
 /// Why a condition fails at an address, if it isn't that lines are missing or too narrow.
-fn why_by_words<A: Allocator, C: Claims>(
+fn why_but_for_lines<A: Allocator, C: Claims>(
     image: &Image,
     declaration: &Declaration<A>,
     claims: &C,
-    refusal: &Refusal,
+    condition: Condition,
+    at: Word,
 ) -> Option<Reason>
     ensures explained { IfSome result (Explains
-        (judged image.now declaration.now (C.claims claims.now))
-        refusal.now.condition refusal.now.address) }
-    ensures by_words { IfSome result (λ reason. is_of_lines reason ≡ false) }
+        (judged image.now declaration.now (C.claims claims.now)) condition at) }
+    ensures others { IfSome result (λ reason. is_of_lines reason ≡ false) }
+    ensures none { IfNone result (FailsByLinesAlone
+        (judged image.now declaration.now (C.claims claims.now)) at condition) }
 {
-    let reason = why(image, declaration, claims, refusal)?;
-    if reason.is_of_lines() {
-        return None;
-    }
-    Some(reason)
+    why_words(
+        image,
+        declaration,
+        claims,
+        condition,
+        at,
+        Sought::NotOfLines,
+    )
 }
 
-/// The first condition that fails at an address, not for want of lines, and why.
+/// The first condition in the order that fails at an address, and not for want of lines, and why.
 fn why_here<A: Allocator, C: Claims>(
     image: &Image,
     declaration: &Declaration<A>,
@@ -153,14 +159,19 @@ fn why_here<A: Allocator, C: Claims>(
         (judged image.now declaration.now (C.claims claims.now))
         found.0.condition found.0.address found.1) }
     ensures here { IfSome result (λ found. found.0.address ≡ at) }
-    ensures by_words { IfSome result (λ found. is_of_lines found.1 ≡ false) }
+    ensures others { IfSome result (λ found. is_of_lines found.1 ≡ false) }
+    ensures first { IfSome result (λ found. EachBeforeByLines
+        (judged image.now declaration.now (C.claims claims.now)) at found.0.condition
+        stuck_order) }
+    ensures none { IfNone result (EachByLines
+        (judged image.now declaration.now (C.claims claims.now)) at stuck_order) }
 {
     for condition in ORDER {
-        let refusal = Refusal {
-            condition,
-            address: at,
-        };
-        if let Some(reason) = why_by_words(image, declaration, claims, &refusal) {
+        if let Some(reason) = why_but_for_lines(image, declaration, claims, condition, at) {
+            let refusal = Refusal {
+                condition,
+                address: at,
+            };
             return Some((refusal, reason));
         }
     }
@@ -200,10 +211,11 @@ fn why_around<A: Allocator, C: Claims>(
     None
 }
 
-/// Why a search is stuck at an address, by a draft of what it found until then: a condition that
-/// fails there, and not for want of a line, and why; or, where the address is an entry, a call in its routine's body. That
-/// lines are missing or too narrow isn't told, since a draft lacks what wasn't come to; but of a call,
-/// that its rank isn't lower, since ranks are given once all facts are found.
+/// Why a search is stuck at an address, by a draft of what it found until then: the first condition,
+/// in an order of their own, that fails there and not for want of a line, and why; or, where the address
+/// is an entry and there is none, a call in its routine's body. That lines are missing or too narrow
+/// isn't told, since a draft lacks what wasn't come to; but of a call, that its rank isn't lower, since
+/// ranks are given once all facts are found.
 ///
 /// No memory is taken, so none can be refused.
 pub fn why_stuck<A: Allocator, C: Claims>(
@@ -216,9 +228,13 @@ pub fn why_stuck<A: Allocator, C: Claims>(
     ensures explained { IfSome result (λ found. Explains
         (judged image.now declaration.now (C.claims claims.now))
         found.0.condition found.0.address found.1) }
-    // It is told of that address, or of a call in the body of its routine.
-    ensures place { IfSome result (λ found.
-        IsToldOf (declared.meaning declaration.now) at found.0 found.1) }
+    // It is told of that address, and none that is asked before fails there but for lines; or of a call
+    // in the body of its routine, where none at all does.
+    ensures place { IfSome result (λ found. IsToldOf
+        (judged image.now declaration.now (C.claims claims.now)) at found.0 found.1) }
+    // Where nothing is told, no condition fails there but for lines.
+    ensures none { IfNone result (EachByLines
+        (judged image.now declaration.now (C.claims claims.now)) at stuck_order) }
 {
     if let Some(found) = why_here(image, declaration, claims, at) {
         return Some(found);

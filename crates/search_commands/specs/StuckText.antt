@@ -1,5 +1,5 @@
 -- What `guess --why` reports of a search that is stuck: the line of the fault, and behind it the lines of `check --why`.
-use Rattle.std.specs.Prelude.{ℕ, ◌≡◌, ◌++◌, codes, List, [], Option, Some, None, IfSome, Err}
+use Rattle.std.specs.Prelude.{ℕ, ◌≡◌, ◌++◌, codes, List, [], Option, Some, None, IfNone, IfSome, Err}
 use Rattle.word12.specs.Words.{octal_text}
 use Rattle.instruct.specs.declared.Profile.{Profile}
 use Rattle.analyser.specs.Attempts.{IsDraft}
@@ -9,7 +9,7 @@ use Rattle.certificate.specs.Spelling.{Lines}
 use Rattle.declaration.specs.Declaration.{Declaration}
 use Rattle.judge.specs.declared.judging.Refusal.{Refusal}
 use Rattle.reasons.specs.Reasons.{Explains}
-use Rattle.reasons.specs.Stuck.{IsToldOf}
+use Rattle.reasons.specs.Stuck.{EachByLines, IsToldOf, stuck_order}
 use Rattle.reasons.specs.declared.reason.Reason.{Reason}
 use Rattle.verdict_texts.specs.CheckText.{checked_case}
 use Rattle.command_parts.specs.Inputs.{HasDeclaration, HasImage}
@@ -27,13 +27,15 @@ stuck_text profile image at told =
 
 -- These are the lines of a search that is stuck somewhere. The draft's facts stand in bodies and its routine and exit lines
 -- at entries, and it has a fact there, or there is an entry. The condition that is told fails by the draft, since what is
--- told is so: at that address, and not because a line is missing or too narrow, or at a call in its routine.
+-- told is so: at that address, and not because a line is missing or too narrow, or at a call in its routine. Where none is
+-- told, each that fails there does so by lines alone.
 pub record IsReport (image : List (Option ℕ)) (d : Declaration) (draft : Lines) (report : List ℕ) : Type 0 where
   pub at : ℕ
   pub is_draft : IsDraft d at (certificate_of draft)
   pub told : Option (Refusal × Reason)
   pub why : IfSome told (λ found. Explains (checked_case image d draft) found.0.condition found.0.address found.1)
-  pub place : IfSome told (λ found. IsToldOf d at found.0 found.1)
+  pub place : IfSome told (λ found. IsToldOf (checked_case image d draft) at found.0 found.1)
+  pub none : IfNone told (EachByLines (checked_case image d draft) at stuck_order)
   pub report_is : report ≡ stuck_text d.profile image at told
 
 -- The frames are a tape, the text is that of a declaration; these are the lines of a search that is stuck, by some draft of a

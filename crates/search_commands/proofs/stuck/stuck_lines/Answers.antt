@@ -12,5 +12,6 @@ returns g c =
       told = c.why_stuck-told.result;
       why = c.why_stuck-told.ensures.explained;
       place = c.why_stuck-told.ensures.place;
+      none = c.why_stuck-told.ensures.none;
       report_is = is;
     }

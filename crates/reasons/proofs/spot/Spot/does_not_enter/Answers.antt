@@ -6,11 +6,12 @@ use Rattle.reasons.specs.Spots.{claimed_by, fact_of, here}
 use Rattle.reasons.proofs.BreachLemmas.{misses_equally}
 use Rattle.reasons.proofs.spot.Spot.does_not_enter.Goals as goal
 
-pub returns-in-Some : goal.returns-in-Some
-returns-in-Some g c =
+pub returns-in-Some-clause-found : goal.returns-in-Some-clause-found
+returns-in-Some-clause-found g c =
     let s = c.args.self.now in
     let e = c.args.entry in (
       refl,
+      c.in-Some.ensures.found.0,
       misses_equally (claimed_by g.C.Claims.claims s) (here s).declaration (Some e) (Some e) c.increment.result (plus e 1) (known_of c.entering-known.result)
-          (with_offsets (one 0) (fact_of s)) (with_offsets (one 0) (fact_of s)) c.in-Some.landing refl c.increment.ensures c.entering-known.ensures refl c.in-Some.ensures,
+          (with_offsets (one 0) (fact_of s)) (with_offsets (one 0) (fact_of s)) c.in-Some.landing refl c.increment.ensures c.entering-known.ensures refl c.in-Some.ensures.found.1,
     )

@@ -1,29 +1,33 @@
 use Rattle.std.proofs.Common.{sym, ap, ◌∙◌}
+use Rattle.std.proofs.lemmas.Bool.{false≢true}
 use Rattle.wordset.specs.Words.{Words}
 use Rattle.facts.specs.Meaning.{known_of, meaning}
 use Rattle.reasons.specs.Spots.{fact_of}
 use Rattle.reasons.proofs.GapLemmas.{gap_agrees, exit_gap}
 use Rattle.reasons.proofs.spot.Spot.returns_by.Goals as goal
 
-pub returns-then-not-has_offset : goal.returns-then-not-has_offset
-returns-then-not-has_offset g c = (
+pub returns-then-not-has_offset-clause-found : goal.returns-then-not-has_offset-clause-found
+returns-then-not-has_offset-clause-found g c = (
+  λ is. absurd (false≢true is),
   c.requires,
   ap (λ (s : Words). s c.args.offset) (sym c.offsets.ensures) ∙ sym c.contains.ensures ∙ c.if-not-contains.false,
   sym (rw c.from_index-declared.ensures at c.has_offset.ensures) ∙ c.if-not-has_offset.true,
 )
 
-pub returns-in_default : goal.returns-in_default
-returns-in_default g c = (
+pub returns-in_default-clause-found : goal.returns-in_default-clause-found
+returns-in_default-clause-found g c = (
+  λ is. sym c.counts_lines.ensures ∙ c.if-not-counts_lines.false,
   c.requires,
   ap (λ (s : Words). s c.args.offset) (sym c.offsets.ensures) ∙ sym c.contains.ensures ∙ c.if-not-contains.false,
   sym c.in_default.ensures.there,
 )
 
-pub returns-in-Some-gap_between : goal.returns-in-Some-gap_between
-returns-in-Some-gap_between g c = (
+pub returns-in-Some-gap_between-clause-found : goal.returns-in-Some-gap_between-clause-found
+returns-in-Some-gap_between-clause-found g c = (
+  λ is. sym c.counts_lines.ensures ∙ c.if-not-counts_lines.false,
   c.requires,
   ap (λ (s : Words). s c.args.offset) (sym c.offsets.ensures) ∙ sym c.contains.ensures ∙ c.if-not-contains.false,
   sym c.in-Some.ensures.there,
   exit_gap (fact_of c.args.self.now) (meaning c.in-Some.exit) _ _ c.in-Some.ensures.offsets c.in-Some.ensures.fact
-      (gap_agrees (known_of c.of.result) (fact_of c.args.self.now) (meaning c.in-Some.exit) _ c.of.ensures.same c.in-Some-gap_between.ensures),
+      (gap_agrees (known_of c.of.result) (fact_of c.args.self.now) (meaning c.in-Some.exit) _ c.of.ensures.same c.in-Some-gap_between.ensures.found),
 )

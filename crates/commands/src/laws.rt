@@ -47,7 +47,7 @@ pub fn assemblies_are_exact()
     answers_are_one();
 }
 
-/// The bytes of a tape, a declaration and a certificate have one verdict. To what `guess` writes it is
+/// The bytes of a tape, a declaration and a certificate have at most one verdict. To what `guess` writes it is
 /// yes, and to what `migrate` writes, unless it's longer than what is read, it is that of the certificate
 /// which was migrated.
 pub fn checks_are_one()

@@ -1,4 +1,5 @@
-//! The program `pdp8`: its words, its files and its exit status.
+//! The program `pdp8`: its words, its files and its exit status. Which files it opens, and in which
+//! order, is tested and not proved.
 #![tactic(auto)]
 
 mod files;

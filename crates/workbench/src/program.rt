@@ -31,6 +31,8 @@ static RUN_STANDARD_INPUT: [&str; 3] = ["pdp8", "run", "-"];
 /// input. Faults and the text for bad words go to standard error, help to standard output; where
 /// standard error fails, the status of a fault or of bad words is the same. Under `--teletype` the
 /// summary goes there too, and where that fails the status is 3.
+///
+/// That the status is at most 4 is proved; all else said here is tested.
 pub fn exit_status<R: Env + Files + Input + Print + Eprint + AllocGlobal>(rt: &R) -> u8
     ensures { result ≤ 4 }
 {

@@ -4,7 +4,7 @@ use crate::operator::{Session, has_operator, session_of, with_operator};
 use clap::error::ErrorKind;
 use clap::{Arg, ArgAction, ArgMatches, Command, Error};
 use instruct::Profile;
-use options::{DeclareOptions, RunOptions};
+use options::{DeclareOptions, RefuteOptions, RunOptions, VerifyOptions};
 use std::alloc::{AllocError, Global};
 use std::convert::AsStr;
 use streams::text::decimal_between;
@@ -15,6 +15,18 @@ const ROUNDS: u32 = 100_000;
 
 /// The most rounds that may be asked for.
 const MOST_ROUNDS: u32 = 1_000_000;
+
+/// How many steps a search for a run makes without `--steps`.
+const SEARCH_STEPS: u32 = 20_000_000;
+
+/// The most steps that may be asked for of a search.
+const MOST_SEARCH_STEPS: u32 = 100_000_000;
+
+/// The seed of a search without `--seed`.
+const SEED: u32 = 1;
+
+/// The greatest seed.
+const MOST_SEED: u32 = 99_999_999;
 
 /// What `--version` prints after the program's name.
 const VERSION: &str = "1.0";
@@ -115,6 +127,30 @@ pub enum Request<'a> {
         declaration: &'a str,
         /// The name of the file of events.
         events: &'a str,
+        /// Whether it is said what breaks a rule.
+        explained: bool,
+    },
+    /// To look for a run that breaks a declaration.
+    Refute {
+        /// The name of the tape's file.
+        tape: &'a str,
+        /// The name of the declaration's file.
+        declaration: &'a str,
+        /// The name of the file that the events go to.
+        out: &'a str,
+        /// How it is looked for.
+        options: RefuteOptions,
+    },
+    /// To say whether a program keeps its declaration.
+    Verify {
+        /// The name of the tape's file.
+        tape: &'a str,
+        /// The name of the declaration's file; without one a declaration is proposed.
+        declaration: Option<&'a str>,
+        /// What the names of the files begin with to which goes what is found.
+        save: Option<&'a str>,
+        /// How the answer is looked for.
+        options: VerifyOptions,
     },
 }
 
@@ -131,10 +167,14 @@ pub enum Refused {
     Switches(OctalFault),
     /// There are events, and an operator too.
     EventsAndOperator,
+    /// There is a declaration, and a start or a machine too.
+    DeclarationAndStart,
     /// The punch is to go to standard output.
     PunchToOutput,
-    /// The value of `--steps` is no number from 1 to 1,000,000.
-    Steps,
+    /// The value of `--steps` is no number from 1 to this one.
+    Steps(u32),
+    /// The value of `--seed` is no number from 0 to 99,999,999.
+    Seed,
     /// The value of `--profile` is neither `8i` nor `8e`.
     Profile,
     /// Two inputs are to come from standard input.
@@ -265,6 +305,7 @@ fn certificate_out_word<'a>(alloc: Global) -> Arg<'a> {
 
 fn check_command<'a>(alloc: Global) -> Result<Command<'a>, AllocError> {
     let why = Arg::new(alloc, "why")
+        .short('w')
         .long("why")
         .action(ArgAction::SetTrue)
         .help("after a no, writes what the condition asks and what breaks it");
@@ -299,6 +340,7 @@ fn declare_command<'a>(alloc: Global) -> Result<Command<'a>, AllocError> {
 
 fn guess_command<'a>(alloc: Global) -> Result<Command<'a>, AllocError> {
     let why = Arg::new(alloc, "why")
+        .short('w')
         .long("why")
         .action(ArgAction::SetTrue)
         .help("where the search is stuck, writes what the condition asks and what breaks it");
@@ -323,6 +365,54 @@ fn migrate_command<'a>(alloc: Global) -> Result<Command<'a>, AllocError> {
         .arg(certificate_out_word(alloc))
 }
 
+fn search_steps_word<'a>(alloc: Global) -> Arg<'a> {
+    Arg::new(alloc, "steps").long("steps").value_name("N").help(
+        "how many steps are made at most in search of a run that breaks it; 20000000 without it",
+    )
+}
+
+fn seed_word<'a>(alloc: Global) -> Arg<'a> {
+    Arg::new(alloc, "seed")
+        .long("seed")
+        .value_name("S")
+        .help("where the random numbers begin; 1 without it")
+}
+
+fn verify_command<'a>(alloc: Global) -> Result<Command<'a>, AllocError> {
+    let declaration = Arg::new(alloc, "DECLARATION").help(
+        "the declaration, or - for standard input; without it one is proposed",
+    );
+    let save = Arg::new(alloc, "save").long("save").value_name("NAME").help(
+        "writes what is found to NAME.declaration, NAME.certificate or NAME.events",
+    );
+    let why = Arg::new(alloc, "why")
+        .short('w')
+        .long("why")
+        .action(ArgAction::SetTrue)
+        .help("after a no, or where it isn't known, writes why");
+    Command::new(alloc, "verify")
+        .about("Says whether a program keeps its declaration: yes, no or not known")
+        .after_help(
+            "Without DECLARATION one is proposed for the start and the machine that --start and --profile name; with one they are its own.\n\nExample:\n  pdp8 verify hello.bin hello.declaration",
+        )
+        .arg(tape_word(alloc))?
+        .arg(declaration)?
+        .arg(start_word(alloc))?
+        .arg(profile_word(alloc))?
+        .arg(search_steps_word(alloc))?
+        .arg(seed_word(alloc))?
+        .arg(save)?
+        .arg(why)
+}
+
+fn breach_word<'a>(alloc: Global) -> Arg<'a> {
+    Arg::new(alloc, "why")
+        .short('w')
+        .long("why")
+        .action(ArgAction::SetTrue)
+        .help("where a rule is broken, writes what the step is about to do")
+}
+
 fn watch_command<'a>(alloc: Global) -> Result<Command<'a>, AllocError> {
     let events = Arg::new(alloc, "EVENTS")
         .required(true)
@@ -332,7 +422,25 @@ fn watch_command<'a>(alloc: Global) -> Result<Command<'a>, AllocError> {
         .after_help("Example:\n  pdp8 watch hello.bin hello.declaration hello.events")
         .arg(tape_word(alloc))?
         .arg(declaration_word(alloc))?
-        .arg(events)
+        .arg(events)?
+        .arg(breach_word(alloc))
+}
+
+fn refute_command<'a>(alloc: Global) -> Result<Command<'a>, AllocError> {
+    let out = Arg::new(alloc, "OUT").required(true).help(
+        "where the events go, or - for standard output; it is emptied first",
+    );
+    Command::new(alloc, "refute")
+        .about("Looks for a run that breaks a declaration, and writes its events")
+        .after_help(
+            "OUT is another file: it is emptied before an input is read, and stays empty where nothing is found. The same seed gives the same answer.\n\nExample:\n  pdp8 refute hello.bin hello.declaration found.events --why",
+        )
+        .arg(tape_word(alloc))?
+        .arg(declaration_word(alloc))?
+        .arg(out)?
+        .arg(search_steps_word(alloc))?
+        .arg(seed_word(alloc))?
+        .arg(breach_word(alloc))
 }
 
 fn command<'a>(alloc: Global) -> Result<Command<'a>, AllocError> {
@@ -341,6 +449,7 @@ fn command<'a>(alloc: Global) -> Result<Command<'a>, AllocError> {
         .version(VERSION)
         .after_help(STATUSES)
         .subcommand_required(true)
+        .subcommand(verify_command(alloc)?)?
         .subcommand(run_command(alloc)?)?
         .subcommand(dump_command(alloc)?)?
         .subcommand(assemble_command(alloc)?)?
@@ -349,6 +458,7 @@ fn command<'a>(alloc: Global) -> Result<Command<'a>, AllocError> {
         .subcommand(check_command(alloc)?)?
         .subcommand(declare_command(alloc)?)?
         .subcommand(guess_command(alloc)?)?
+        .subcommand(refute_command(alloc)?)?
         .subcommand(migrate_command(alloc)?)
 }
 
@@ -368,7 +478,9 @@ pub(crate) fn run_options(found: &ArgMatches<'_>) -> Result<RunOptions, Refused>
     let start = start_of(found)?;
     let rounds = match found.get_str("steps") {
         None => ROUNDS,
-        Some(text) => { decimal_between(1, MOST_ROUNDS, text.as_bytes()).ok_or(Refused::Steps)? }
+        Some(text) => {
+            decimal_between(1, MOST_ROUNDS, text.as_bytes()).ok_or(Refused::Steps(MOST_ROUNDS))?
+        }
     };
     Ok(RunOptions {
         start,
@@ -438,6 +550,7 @@ fn watch_request<'a>(found: &ArgMatches<'a>) -> Result<Request<'a>, Refused> {
         tape,
         declaration,
         events,
+        explained: found.get_flag("why"),
     })
 }
 
@@ -483,6 +596,63 @@ fn guess_request<'a>(found: &ArgMatches<'a>) -> Result<Request<'a>, Refused> {
     })
 }
 
+/// How a run that breaks a declaration is looked for.
+fn refute_options(found: &ArgMatches<'_>) -> Result<RefuteOptions, Refused> {
+    let steps = match found.get_str("steps") {
+        None => SEARCH_STEPS,
+        Some(text) => {
+            decimal_between(1, MOST_SEARCH_STEPS, text.as_bytes()).ok_or(Refused::Steps(
+                MOST_SEARCH_STEPS,
+            ))?
+        }
+    };
+    let seed = match found.get_str("seed") {
+        None => SEED,
+        Some(text) => decimal_between(0, MOST_SEED, text.as_bytes()).ok_or(Refused::Seed)?,
+    };
+    Ok(RefuteOptions {
+        steps,
+        seed,
+        explained: found.get_flag("why"),
+    })
+}
+
+fn verify_request<'a>(found: &ArgMatches<'a>) -> Result<Request<'a>, Refused> {
+    let tape = found.get_str("TAPE").unwrap_or("-");
+    let declaration = found.get_str("DECLARATION");
+    if tape == "-" && declaration == Some("-") {
+        return Err(Refused::BothStandardInput);
+    }
+    let asked = found.get_str("start").is_some() || found.get_str("profile").is_some();
+    if declaration.is_some() && asked {
+        return Err(Refused::DeclarationAndStart);
+    }
+    Ok(Request::Verify {
+        tape,
+        declaration,
+        save: found.get_str("save"),
+        options: VerifyOptions {
+            start: start_of(found)?,
+            profile: profile_of(found)?,
+            search: refute_options(found)?,
+        },
+    })
+}
+
+fn refute_request<'a>(found: &ArgMatches<'a>) -> Result<Request<'a>, Refused> {
+    let tape = found.get_str("TAPE").unwrap_or("-");
+    let declaration = found.get_str("DECLARATION").unwrap_or("-");
+    if tape == "-" && declaration == "-" {
+        return Err(Refused::BothStandardInput);
+    }
+    Ok(Request::Refute {
+        tape,
+        declaration,
+        out: found.get_str("OUT").unwrap_or("-"),
+        options: refute_options(found)?,
+    })
+}
+
 fn migrate_request<'a>(found: &ArgMatches<'a>) -> Request<'a> {
     Request::Migrate {
         certificate: found.get_str("CERTIFICATE").unwrap_or("-"),
@@ -504,6 +674,8 @@ pub fn parse_words<'a, S: AsStr>(alloc: Global, words: &'a [S]) -> Result<Reques
         Some(("check", found)) => check_request(found),
         Some(("declare", found)) => declare_request(found),
         Some(("guess", found)) => guess_request(found),
+        Some(("refute", found)) => refute_request(found),
+        Some(("verify", found)) => verify_request(found),
         Some(("migrate", found)) => Ok(migrate_request(found)),
         Some((_, found)) => run_request(found),
         None => Err(Refused::Memory),

@@ -47,9 +47,9 @@ pub fn assemblies_are_exact()
     sources_have_one_answer();
 }
 
-/// The bytes of a tape, a declaration and a certificate have one verdict. To what `guess` writes it is
-/// yes, and to what `migrate` writes it is that of the certificate which was migrated, unless it's longer
-/// than what is read.
+/// The bytes of a tape, a declaration and a certificate have at most one verdict. To what `guess` writes
+/// it is yes, and to what `migrate` writes it is that of the certificate which was migrated, unless it's
+/// longer than what is read.
 pub fn checks_are_one()
     ensures one { ChecksAreOne }
     ensures guessed { GuessIsAccepted }

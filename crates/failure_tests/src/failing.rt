@@ -144,7 +144,7 @@ fn promised<A: Allocator + Copy>(
     match command {
         Command::Watch => {
             let mut events = plan.source(2, b"step\n");
-            watch(alloc, &mut tape, &mut text, &mut events, out)
+            watch(alloc, &mut tape, &mut text, &mut events, false, out)
         }
         Command::Check => check(alloc, &mut tape, &mut text, &mut certificate, out),
         Command::Explain => {

@@ -4,6 +4,7 @@ ghost use Rattle.std.specs.Prelude.{◌≤◌};
 
 use crate::files::{open_input, open_inputs, open_output};
 use crate::joined::{hold_session, tell_to};
+use crate::saving::{save_answer, save_proposed};
 use clap::Error;
 use command_line::{Refused, Request, parse_words};
 use commands::assembling::{assemble, list};
@@ -12,9 +13,11 @@ use commands::declaring::{DeclareOptions, declare};
 use commands::explaining::explain;
 use commands::guessing::guess;
 use commands::migrating::migrate;
+use commands::refuting::{RefuteOptions, refute};
 use commands::running::{RunOptions, dump, run, run_events};
 use commands::status::{DeviceFault, Fault, Status};
 use commands::stuck::guess_or_explain;
+use commands::verifying::{VerifyOptions, answer_status, verify, verify_proposed};
 use commands::watching::watch;
 use instruct::Profile;
 use std::alloc::Global;
@@ -31,6 +34,8 @@ static RUN_STANDARD_INPUT: [&str; 3] = ["pdp8", "run", "-"];
 /// input. Faults and the text for bad words go to standard error, help to standard output; where
 /// standard error fails, the status of a fault or of bad words is the same. Under `--teletype` the
 /// summary goes there too, and where that fails the status is 3.
+///
+/// That the status is at most 4 is proved; all else said here is tested.
 pub fn exit_status<R: Env + Files + Input + Print + Eprint + AllocGlobal>(rt: &R) -> u8
     ensures { result ≤ 4 }
 {
@@ -82,9 +87,15 @@ fn refuse<R: Print + Eprint>(rt: &R, refused: Refused) -> Status {
         Refused::EventsAndOperator => eprintln!(rt;
             "error: '--events' can't stand beside the words for the reader, the punch, the teletype and the switches"
         ),
+        Refused::DeclarationAndStart => eprintln!(rt;
+            "error: a declaration has its own start and machine: '--start' and '--profile' can't stand beside it"
+        ),
         Refused::PunchToOutput => eprintln!(rt; "error: '--punch' takes the name of a file"),
-        Refused::Steps => eprintln!(rt;
-            "error: bad value for '--steps': it is a number from 1 to 1000000"
+        Refused::Steps(most) => eprintln!(rt;
+            "error: bad value for '--steps': it is a number from 1 to {most}"
+        ),
+        Refused::Seed => eprintln!(rt;
+            "error: bad value for '--seed': it is a number from 0 to 99999999"
         ),
         Refused::BothStandardInput => eprintln!(rt;
             "error: '-' stands for standard input in one place alone"
@@ -132,7 +143,8 @@ fn answer<R: Files + Input + Print + Eprint>(
             tape,
             declaration,
             events,
-        } => watch_from(rt, alloc, tape, declaration, events),
+            explained,
+        } => watch_from(rt, alloc, tape, declaration, events, *explained),
         Request::Check {
             tape,
             declaration,
@@ -146,6 +158,18 @@ fn answer<R: Files + Input + Print + Eprint>(
             out,
             explained,
         } => guess_from(rt, alloc, tape, declaration, out, *explained),
+        Request::Refute {
+            tape,
+            declaration,
+            out,
+            options,
+        } => refute_from(rt, alloc, tape, declaration, out, *options),
+        Request::Verify {
+            tape,
+            declaration,
+            save,
+            options,
+        } => verify_from(rt, alloc, tape, *declaration, *save, options),
         Request::Migrate { certificate, out } => migrate_from(rt, alloc, certificate, out),
     }
 }
@@ -206,12 +230,20 @@ fn watch_from<R: Files + Input + Print>(
     tape: &str,
     declaration: &str,
     events: &str,
+    explained: bool,
 ) -> Result<Status, Fault> {
     let mut frames = open_input(rt, tape)?;
     let mut text = open_input(rt, declaration)?;
     let mut list = open_input(rt, events)?;
     let mut out = Writes::new(io::writer(rt));
-    watch(alloc, &mut frames, &mut text, &mut list, &mut out)
+    watch(
+        alloc,
+        &mut frames,
+        &mut text,
+        &mut list,
+        explained,
+        &mut out,
+    )
 }
 
 /// Checks the certificate of a file, and says why the verdict is no where that is asked for.
@@ -264,6 +296,62 @@ fn guess_from<R: Files + Input + Print + Eprint>(
         return guess_or_explain(alloc, &mut frames, &mut text, &mut certificate, &mut report);
     }
     guess(alloc, &mut frames, &mut text, &mut certificate)
+}
+
+/// Says whether the program of a file's tape keeps its declaration, or the one that is proposed for it.
+fn verify_from<R: Files + Input + Print>(
+    rt: &R,
+    alloc: Global,
+    tape: &str,
+    declaration: Option<&str>,
+    save: Option<&str>,
+    options: &VerifyOptions,
+) -> Result<Status, Fault> {
+    let mut frames = open_input(rt, tape)?;
+    let mut out = Writes::new(io::writer(rt));
+    let Some(declaration) = declaration else {
+        let proposed = verify_proposed(alloc, &mut frames, *options, &mut out)?;
+        save_proposed(rt, alloc, save, &proposed)?;
+        return Ok(answer_status(&proposed.answer));
+    };
+    let mut text = open_input(rt, declaration)?;
+    let answer = verify(alloc, &mut frames, &mut text, options.search, &mut out)?;
+    save_answer(rt, alloc, save, &answer)?;
+    Ok(answer_status(&answer))
+}
+
+/// Looks for a run of the tape of a file that breaks its declaration.
+fn refute_from<R: Files + Input + Print + Eprint>(
+    rt: &R,
+    alloc: Global,
+    tape: &str,
+    declaration: &str,
+    out: &str,
+    options: RefuteOptions,
+) -> Result<Status, Fault> {
+    let mut frames = open_input(rt, tape)?;
+    let mut text = open_input(rt, declaration)?;
+    let mut events = open_output(rt, out)?;
+    if out == "-" {
+        let mut report = tell_to(rt);
+        return refute(
+            alloc,
+            &mut frames,
+            &mut text,
+            options,
+            &mut events,
+            &mut report,
+        );
+    }
+    let mut report = Writes::new(io::writer(rt));
+    refute(
+        alloc,
+        &mut frames,
+        &mut text,
+        options,
+        &mut events,
+        &mut report,
+    )
 }
 
 /// Runs a tape, in rounds or by the events of a file.

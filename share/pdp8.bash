@@ -27,12 +27,14 @@ _pdp8() {
             return
             ;;
         verify) options='--start --profile --steps --seed --save --why --help' ;;
-        assemble | list | dump) options='--profile --help' ;;
+        assemble) options='--output --profile --help' ;;
+        list | dump) options='--profile --help' ;;
         run) options='--start --steps --trace --profile --events --reader --punch --keys --mark --teletype --switches --help' ;;
-        watch | check | guess) options='--why --help' ;;
-        refute) options='--steps --seed --why --help' ;;
-        declare) options='--start --reads --profile --help' ;;
-        migrate) options='--help' ;;
+        watch | check) options='--why --help' ;;
+        guess) options='--output --why --help' ;;
+        refute) options='--output --steps --seed --why --help' ;;
+        declare) options='--output --start --reads --profile --help' ;;
+        migrate) options='--output --help' ;;
     esac
     if [[ $word == -* ]]; then
         COMPREPLY=($(compgen -W "$options" -- "$word"))

@@ -2,7 +2,9 @@
 #![tactic(auto)]
 
 mod operator;
+mod outputs;
 mod requests;
 
 pub use operator::{Joined, Session};
-pub use requests::{Refused, Request, parse_words};
+pub use outputs::Destination;
+pub use requests::{Refused, Request, parse_arguments};

@@ -1,4 +1,4 @@
-//! The words of a run with an operator.
+//! The options of a run with an operator.
 
 use crate::requests::{Refused, run_options, share_standard_input};
 use clap::{Arg, ArgAction, ArgMatches, Command};
@@ -6,7 +6,7 @@ use options::SessionOptions;
 use std::alloc::{AllocError, Global};
 use word12::Word;
 
-/// A run with an operator, as the words ask for it.
+/// A run with an operator, as the options ask for it.
 #[derive(Clone, Copy, Debug)]
 pub struct Session<'a> {
     /// The name of the tape's file.
@@ -30,7 +30,7 @@ pub struct Joined<'a> {
     pub teletype: bool,
 }
 
-/// Adds the words for the reader, the punch, the teletype and the switches.
+/// Adds the options for the reader, the punch, the teletype and the switches.
 pub fn with_operator<'a>(alloc: Global, run: Command<'a>) -> Result<Command<'a>, AllocError> {
     let reader = Arg::new(alloc, "reader")
         .long("reader")
@@ -86,7 +86,7 @@ fn switches_of(found: &ArgMatches<'_>) -> Result<Option<Word>, Refused> {
     }
 }
 
-/// The run with an operator that the words of `run` ask for.
+/// The run with an operator that the options of `run` ask for.
 pub fn session_of<'a>(tape: &'a str, found: &ArgMatches<'a>) -> Result<Session<'a>, Refused> {
     let reader = found.get_str("reader");
     let keys = found.get_str("keys");

@@ -1,6 +1,7 @@
-//! The program's words.
+//! What the command line asks for.
 
 use crate::operator::{Session, has_operator, session_of, with_operator};
+use crate::outputs::{Destination, destination_of, out_operand, output_option};
 use clap::error::ErrorKind;
 use clap::{Arg, ArgAction, ArgMatches, Command, Error};
 use instruct::Profile;
@@ -34,12 +35,12 @@ const VERSION: &str = "1.0";
 /// What stands below the list of commands.
 const STATUSES: &str = "Exit status:
   0  done
-  1  an input was refused, a run got stuck or broke a rule, a condition failed, or no certificate was found
-  2  bad words
+  1  an input was refused, a run got stuck or broke a rule, a condition failed, no certificate was found, or verify's answer is no or not known
+  2  a bad command line
   3  a file or a stream failed
   4  memory was refused
 
-Files are opened in the order of the words; - is standard input, and for OUT standard output.
+Files are opened in the order of the operands; - is standard input, and for OUT standard output.
 
 Example:
   pdp8 assemble hello.bin hello.pal && pdp8 run hello.bin";
@@ -67,8 +68,8 @@ pub enum Request<'a> {
     },
     /// To assemble a source.
     Assemble {
-        /// The name of the file that the tape goes to.
-        out: &'a str,
+        /// Where the tape goes.
+        out: Destination<'a>,
         /// The names of the files of the parts, in order.
         sources: Vec<&'a str>,
         /// Whose permanent symbols there are.
@@ -96,8 +97,8 @@ pub enum Request<'a> {
     Declare {
         /// The name of the tape's file.
         tape: &'a str,
-        /// The name of the file that the declaration goes to.
-        out: &'a str,
+        /// Where the declaration goes.
+        out: Destination<'a>,
         /// What it's proposed for.
         options: DeclareOptions,
     },
@@ -107,8 +108,8 @@ pub enum Request<'a> {
         tape: &'a str,
         /// The name of the declaration's file.
         declaration: &'a str,
-        /// The name of the file that the certificate goes to.
-        out: &'a str,
+        /// Where the certificate goes.
+        out: Destination<'a>,
         /// Whether it is said why the search is stuck.
         explained: bool,
     },
@@ -116,8 +117,8 @@ pub enum Request<'a> {
     Migrate {
         /// The name of the certificate's file.
         certificate: &'a str,
-        /// The name of the file that the migrated certificate goes to.
-        out: &'a str,
+        /// Where the migrated certificate goes.
+        out: Destination<'a>,
     },
     /// To watch a run.
     Watch {
@@ -136,8 +137,8 @@ pub enum Request<'a> {
         tape: &'a str,
         /// The name of the declaration's file.
         declaration: &'a str,
-        /// The name of the file that the events go to.
-        out: &'a str,
+        /// Where the events go.
+        out: Destination<'a>,
         /// How it is looked for.
         options: RefuteOptions,
     },
@@ -157,9 +158,9 @@ pub enum Request<'a> {
 /// Why nothing is done.
 #[derive(Drop)]
 pub enum Refused {
-    /// The words are bad, or ask for help.
-    Words(Error),
-    /// A word is no text.
+    /// The command line is bad, or asks for help.
+    CommandLine(Error),
+    /// An argument is no text.
     NotText,
     /// The value of `--start` is no address.
     Start(OctalFault),
@@ -179,6 +180,8 @@ pub enum Refused {
     Profile,
     /// Two inputs are to come from standard input.
     BothStandardInput,
+    /// The result is to go to an input.
+    OutputIsInput,
     /// Memory was refused.
     Memory,
 }
@@ -188,7 +191,7 @@ impl From<Error> for Refused {
         if error.kind() == ErrorKind::OutOfMemory {
             Refused::Memory
         } else {
-            Refused::Words(error)
+            Refused::CommandLine(error)
         }
     }
 }
@@ -205,20 +208,20 @@ impl From<OctalFault> for Refused {
     }
 }
 
-fn tape_word<'a>(alloc: Global) -> Arg<'a> {
+fn tape_operand<'a>(alloc: Global) -> Arg<'a> {
     Arg::new(alloc, "TAPE")
         .required(true)
         .help("the tape, or - for standard input")
 }
 
-fn profile_word<'a>(alloc: Global) -> Arg<'a> {
+fn profile_option<'a>(alloc: Global) -> Arg<'a> {
     Arg::new(alloc, "profile")
         .long("profile")
         .value_name("P")
         .help("8i or 8e: whose instructions are meant; 8i without it")
 }
 
-fn start_word<'a>(alloc: Global) -> Arg<'a> {
+fn start_option<'a>(alloc: Global) -> Arg<'a> {
     Arg::new(alloc, "start").long("start").value_name("A").help(
         "the octal address of the first instruction; leading zeros are allowed, 0200 without it",
     )
@@ -240,12 +243,12 @@ fn run_command<'a>(alloc: Global) -> Result<Command<'a>, AllocError> {
     let run = Command::new(alloc, "run")
         .about("Runs a tape and writes where it ended and what it printed and punched")
         .after_help("Example:\n  pdp8 run hello.bin --start 200 --trace")
-        .arg(tape_word(alloc))?
-        .arg(start_word(alloc))?
+        .arg(tape_operand(alloc))?
+        .arg(start_option(alloc))?
         .arg(steps)?
         .arg(events)?
         .arg(trace)?
-        .arg(profile_word(alloc))?;
+        .arg(profile_option(alloc))?;
     with_operator(alloc, run)
 }
 
@@ -253,54 +256,54 @@ fn dump_command<'a>(alloc: Global) -> Result<Command<'a>, AllocError> {
     Command::new(alloc, "dump")
         .about("Writes address, word and name for each word on a tape")
         .after_help("Example:\n  pdp8 dump hello.bin")
-        .arg(tape_word(alloc))?
-        .arg(profile_word(alloc))
+        .arg(tape_operand(alloc))?
+        .arg(profile_option(alloc))
 }
 
-fn source_words<'a>(alloc: Global) -> Arg<'a> {
-    Arg::new(alloc, "SOURCE").required(true).num_args(1..).help(
+fn source_operands<'a>(alloc: Global) -> Arg<'a> {
+    Arg::new(alloc, "SOURCE").num_args(1..).help(
         "the parts of the source, in order; - for standard input in one place",
     )
 }
 
 fn assemble_command<'a>(alloc: Global) -> Result<Command<'a>, AllocError> {
     let out = Arg::new(alloc, "OUT").required(true).help(
-        "where the tape goes, or - for standard output; it is emptied first",
+        "where the tape goes, or - for standard output; it is emptied first. With -o it is the first part of the source",
     );
     Command::new(alloc, "assemble")
+        .override_usage("pdp8 assemble [OPTIONS] [-o] <OUT> <SOURCE>...")
         .about("Assembles a PAL III source and writes its tape")
         .after_help(
-            "OUT comes first, and is emptied before a source is read, also where the source is refused.\n\nExample:\n  pdp8 assemble hello.bin hello.pal",
+            "Without -o OUT comes first, and is emptied before a source is read, also where the source is refused.\n\nExample:\n  pdp8 assemble -o hello.bin hello.pal",
         )
         .arg(out)?
-        .arg(source_words(alloc))?
-        .arg(profile_word(alloc))
+        .arg(source_operands(alloc).required_unless_present("output")?)?
+        .arg(output_option(alloc))?
+        .arg(profile_option(alloc))
 }
 
 fn list_command<'a>(alloc: Global) -> Result<Command<'a>, AllocError> {
     Command::new(alloc, "list")
         .about("Assembles a PAL III source and writes its listing")
         .after_help("Example:\n  pdp8 list hello.pal")
-        .arg(source_words(alloc))?
-        .arg(profile_word(alloc))
+        .arg(source_operands(alloc).required(true))?
+        .arg(profile_option(alloc))
 }
 
-fn declaration_word<'a>(alloc: Global) -> Arg<'a> {
+fn declaration_operand<'a>(alloc: Global) -> Arg<'a> {
     Arg::new(alloc, "DECLARATION")
         .required(true)
         .help("the declaration, or - for standard input")
 }
 
-fn certificate_word<'a>(alloc: Global) -> Arg<'a> {
+fn certificate_operand<'a>(alloc: Global) -> Arg<'a> {
     Arg::new(alloc, "CERTIFICATE")
         .required(true)
         .help("the certificate, or - for standard input")
 }
 
-fn certificate_out_word<'a>(alloc: Global) -> Arg<'a> {
-    Arg::new(alloc, "OUT").required(true).help(
-        "where the certificate goes, or - for standard output; it is emptied first",
-    )
+fn certificate_out_operand<'a>(alloc: Global) -> Result<Arg<'a>, AllocError> {
+    out_operand(alloc, "where the certificate goes, or - for standard output; it is emptied first")
 }
 
 fn check_command<'a>(alloc: Global) -> Result<Command<'a>, AllocError> {
@@ -312,30 +315,33 @@ fn check_command<'a>(alloc: Global) -> Result<Command<'a>, AllocError> {
     Command::new(alloc, "check")
         .about("Writes whether a certificate shows that no run breaks its declaration")
         .after_help("Example:\n  pdp8 check hello.bin hello.declaration hello.certificate --why")
-        .arg(tape_word(alloc))?
-        .arg(declaration_word(alloc))?
-        .arg(certificate_word(alloc))?
+        .arg(tape_operand(alloc))?
+        .arg(declaration_operand(alloc))?
+        .arg(certificate_operand(alloc))?
         .arg(why)
 }
 
 fn declare_command<'a>(alloc: Global) -> Result<Command<'a>, AllocError> {
-    let out = Arg::new(alloc, "OUT").required(true).help(
+    let out = out_operand(
+        alloc,
         "where the declaration goes, or - for standard output; it is emptied first",
-    );
+    )?;
     let reads = Arg::new(alloc, "reads")
         .long("reads")
         .action(ArgAction::SetTrue)
         .help("also lists the cells that the program may read");
     Command::new(alloc, "declare")
+        .override_usage("pdp8 declare [OPTIONS] <TAPE> [-o] <OUT>")
         .about("Proposes a declaration: what the program of a tape may do")
         .after_help(
-            "OUT is another file: it is emptied before the tape is read. Where no certificate is found the declaration is written all the same, behind comments that say why if there is room for them, and the status is 1.\n\nExample:\n  pdp8 declare hello.bin hello.declaration",
+            "The operand OUT is emptied before the tape is read. Where no certificate is found the declaration is written all the same, behind comments that say why if there is room for them, and the status is 1.\n\nExample:\n  pdp8 declare hello.bin hello.declaration",
         )
-        .arg(tape_word(alloc))?
+        .arg(tape_operand(alloc))?
         .arg(out)?
-        .arg(start_word(alloc))?
+        .arg(output_option(alloc))?
+        .arg(start_option(alloc))?
         .arg(reads)?
-        .arg(profile_word(alloc))
+        .arg(profile_option(alloc))
 }
 
 fn guess_command<'a>(alloc: Global) -> Result<Command<'a>, AllocError> {
@@ -345,33 +351,37 @@ fn guess_command<'a>(alloc: Global) -> Result<Command<'a>, AllocError> {
         .action(ArgAction::SetTrue)
         .help("where the search is stuck, writes what the condition asks and what breaks it");
     Command::new(alloc, "guess")
+        .override_usage("pdp8 guess [OPTIONS] <TAPE> <DECLARATION> [-o] <OUT>")
         .about("Looks for a certificate that shows that no run breaks a declaration")
         .after_help(
-            "OUT is another file: it is emptied before an input is read, and stays empty where nothing is found. check says yes to what is found: that is proved.\n\nExample:\n  pdp8 guess hello.bin hello.declaration hello.certificate",
+            "The operand OUT is emptied before an input is read, and stays empty where nothing is found. check says yes to what is found: that is proved.\n\nExample:\n  pdp8 guess hello.bin hello.declaration hello.certificate",
         )
-        .arg(tape_word(alloc))?
-        .arg(declaration_word(alloc))?
-        .arg(certificate_out_word(alloc))?
+        .arg(tape_operand(alloc))?
+        .arg(declaration_operand(alloc))?
+        .arg(certificate_out_operand(alloc)?)?
+        .arg(output_option(alloc))?
         .arg(why)
 }
 
 fn migrate_command<'a>(alloc: Global) -> Result<Command<'a>, AllocError> {
     Command::new(alloc, "migrate")
+        .override_usage("pdp8 migrate [OPTIONS] <CERTIFICATE> [-o] <OUT>")
         .about("Writes a certificate in version 2, which says what MQ may hold")
         .after_help(
-            "OUT is another file: it is emptied before the certificate is read, also where that is refused.\n\nExample:\n  pdp8 migrate hello.certificate hello-2.certificate",
+            "The operand OUT is emptied before the certificate is read, also where that is refused.\n\nExample:\n  pdp8 migrate hello.certificate hello-2.certificate",
         )
-        .arg(certificate_word(alloc))?
-        .arg(certificate_out_word(alloc))
+        .arg(certificate_operand(alloc))?
+        .arg(certificate_out_operand(alloc)?)?
+        .arg(output_option(alloc))
 }
 
-fn search_steps_word<'a>(alloc: Global) -> Arg<'a> {
+fn search_steps_option<'a>(alloc: Global) -> Arg<'a> {
     Arg::new(alloc, "steps").long("steps").value_name("N").help(
         "how many steps are made at most in search of a run that breaks it; 20000000 without it",
     )
 }
 
-fn seed_word<'a>(alloc: Global) -> Arg<'a> {
+fn seed_option<'a>(alloc: Global) -> Arg<'a> {
     Arg::new(alloc, "seed")
         .long("seed")
         .value_name("S")
@@ -395,17 +405,17 @@ fn verify_command<'a>(alloc: Global) -> Result<Command<'a>, AllocError> {
         .after_help(
             "Without DECLARATION one is proposed for the start and the machine that --start and --profile name; with one they are its own.\n\nExample:\n  pdp8 verify hello.bin hello.declaration",
         )
-        .arg(tape_word(alloc))?
+        .arg(tape_operand(alloc))?
         .arg(declaration)?
-        .arg(start_word(alloc))?
-        .arg(profile_word(alloc))?
-        .arg(search_steps_word(alloc))?
-        .arg(seed_word(alloc))?
+        .arg(start_option(alloc))?
+        .arg(profile_option(alloc))?
+        .arg(search_steps_option(alloc))?
+        .arg(seed_option(alloc))?
         .arg(save)?
         .arg(why)
 }
 
-fn breach_word<'a>(alloc: Global) -> Arg<'a> {
+fn breach_option<'a>(alloc: Global) -> Arg<'a> {
     Arg::new(alloc, "why")
         .short('w')
         .long("why")
@@ -420,31 +430,35 @@ fn watch_command<'a>(alloc: Global) -> Result<Command<'a>, AllocError> {
     Command::new(alloc, "watch")
         .about("Writes whether a run keeps its declaration, or where it first breaks which rule")
         .after_help("Example:\n  pdp8 watch hello.bin hello.declaration hello.events")
-        .arg(tape_word(alloc))?
-        .arg(declaration_word(alloc))?
+        .arg(tape_operand(alloc))?
+        .arg(declaration_operand(alloc))?
         .arg(events)?
-        .arg(breach_word(alloc))
+        .arg(breach_option(alloc))
 }
 
 fn refute_command<'a>(alloc: Global) -> Result<Command<'a>, AllocError> {
-    let out = Arg::new(alloc, "OUT").required(true).help(
+    let out = out_operand(
+        alloc,
         "where the events go, or - for standard output; it is emptied first",
-    );
+    )?;
     Command::new(alloc, "refute")
+        .override_usage("pdp8 refute [OPTIONS] <TAPE> <DECLARATION> [-o] <OUT>")
         .about("Looks for a run that breaks a declaration, and writes its events")
         .after_help(
-            "OUT is another file: it is emptied before an input is read, and stays empty where nothing is found. The same seed gives the same answer.\n\nExample:\n  pdp8 refute hello.bin hello.declaration found.events --why",
+            "The operand OUT is emptied before an input is read, and stays empty where nothing is found. The same seed gives the same answer.\n\nExample:\n  pdp8 refute hello.bin hello.declaration found.events --why",
         )
-        .arg(tape_word(alloc))?
-        .arg(declaration_word(alloc))?
+        .arg(tape_operand(alloc))?
+        .arg(declaration_operand(alloc))?
         .arg(out)?
-        .arg(search_steps_word(alloc))?
-        .arg(seed_word(alloc))?
-        .arg(breach_word(alloc))
+        .arg(output_option(alloc))?
+        .arg(search_steps_option(alloc))?
+        .arg(seed_option(alloc))?
+        .arg(breach_option(alloc))
 }
 
 fn command<'a>(alloc: Global) -> Result<Command<'a>, AllocError> {
     Command::new(alloc, "pdp8")
+        .bin_name("pdp8")?
         .about("A workbench for PDP-8 paper tapes")
         .version(VERSION)
         .after_help(STATUSES)
@@ -514,11 +528,13 @@ pub(crate) fn share_standard_input(names: &[&str]) -> bool {
 /// The names of a source's parts.
 fn source_names<'a>(alloc: Global, found: &ArgMatches<'a>) -> Result<Vec<&'a str>, Refused> {
     let mut names = Vec::new(alloc);
-    if let Some(given) = found.get_strs("SOURCE") {
-        if share_standard_input(given) {
-            return Err(Refused::BothStandardInput);
-        }
-        names.extend_from_slice(given)?;
+    // With -o the first operand is a part of the source too.
+    if found.get_str("output").is_some() {
+        names.extend_from_slice(found.get_strs("OUT").unwrap_or(&[]))?;
+    }
+    names.extend_from_slice(found.get_strs("SOURCE").unwrap_or(&[]))?;
+    if share_standard_input(&names) {
+        return Err(Refused::BothStandardInput);
     }
     Ok(names)
 }
@@ -526,7 +542,7 @@ fn source_names<'a>(alloc: Global, found: &ArgMatches<'a>) -> Result<Vec<&'a str
 fn assemble_request<'a>(alloc: Global, found: &ArgMatches<'a>) -> Result<Request<'a>, Refused> {
     let sources = source_names(alloc, found)?;
     Ok(Request::Assemble {
-        out: found.get_str("OUT").unwrap_or("-"),
+        out: destination_of(found, &sources)?,
         sources,
         profile: profile_of(found)?,
     })
@@ -571,9 +587,10 @@ fn check_request<'a>(found: &ArgMatches<'a>) -> Result<Request<'a>, Refused> {
 }
 
 fn declare_request<'a>(found: &ArgMatches<'a>) -> Result<Request<'a>, Refused> {
+    let tape = found.get_str("TAPE").unwrap_or("-");
     Ok(Request::Declare {
-        tape: found.get_str("TAPE").unwrap_or("-"),
-        out: found.get_str("OUT").unwrap_or("-"),
+        tape,
+        out: destination_of(found, &[tape])?,
         options: DeclareOptions {
             start: start_of(found)?,
             profile: profile_of(found)?,
@@ -591,7 +608,7 @@ fn guess_request<'a>(found: &ArgMatches<'a>) -> Result<Request<'a>, Refused> {
     Ok(Request::Guess {
         tape,
         declaration,
-        out: found.get_str("OUT").unwrap_or("-"),
+        out: destination_of(found, &[tape, declaration])?,
         explained: found.get_flag("why"),
     })
 }
@@ -648,21 +665,25 @@ fn refute_request<'a>(found: &ArgMatches<'a>) -> Result<Request<'a>, Refused> {
     Ok(Request::Refute {
         tape,
         declaration,
-        out: found.get_str("OUT").unwrap_or("-"),
+        out: destination_of(found, &[tape, declaration])?,
         options: refute_options(found)?,
     })
 }
 
-fn migrate_request<'a>(found: &ArgMatches<'a>) -> Request<'a> {
-    Request::Migrate {
-        certificate: found.get_str("CERTIFICATE").unwrap_or("-"),
-        out: found.get_str("OUT").unwrap_or("-"),
-    }
+fn migrate_request<'a>(found: &ArgMatches<'a>) -> Result<Request<'a>, Refused> {
+    let certificate = found.get_str("CERTIFICATE").unwrap_or("-");
+    Ok(Request::Migrate {
+        certificate,
+        out: destination_of(found, &[certificate])?,
+    })
 }
 
-/// Reads the program's words, its own name among them.
-pub fn parse_words<'a, S: AsStr>(alloc: Global, words: &'a [S]) -> Result<Request<'a>, Refused> {
-    let matches = command(alloc)?.try_get_matches_from(words)?;
+/// Reads the program's arguments, its own name before them.
+pub fn parse_arguments<'a, S: AsStr>(
+    alloc: Global,
+    arguments: &'a [S],
+) -> Result<Request<'a>, Refused> {
+    let matches = command(alloc)?.try_get_matches_from(arguments)?;
     match matches.subcommand() {
         Some(("dump", found)) => Ok(Request::Dump {
             tape: found.get_str("TAPE").unwrap_or("-"),
@@ -676,7 +697,7 @@ pub fn parse_words<'a, S: AsStr>(alloc: Global, words: &'a [S]) -> Result<Reques
         Some(("guess", found)) => guess_request(found),
         Some(("refute", found)) => refute_request(found),
         Some(("verify", found)) => verify_request(found),
-        Some(("migrate", found)) => Ok(migrate_request(found)),
+        Some(("migrate", found)) => migrate_request(found),
         Some((_, found)) => run_request(found),
         None => Err(Refused::Memory),
     }

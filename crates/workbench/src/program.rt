@@ -1,4 +1,4 @@
-//! The program: from its words to its status.
+//! The program: from its arguments to its status.
 
 ghost use Rattle.std.specs.Prelude.{◌≤◌};
 
@@ -6,7 +6,7 @@ use crate::files::{open_input, open_inputs, open_output};
 use crate::joined::{hold_session, tell_to};
 use crate::saving::{save_answer, save_proposed};
 use clap::Error;
-use command_line::{Refused, Request, parse_words};
+use command_line::{Destination, Refused, Request, parse_arguments};
 use commands::assembling::{assemble, list};
 use commands::checking::check;
 use commands::declaring::{DeclareOptions, declare};
@@ -26,14 +26,14 @@ use std::rt::{Env, Files};
 use std::{env, io};
 use streams::standard::Writes;
 
-/// The words that stand for no words at all.
+/// The arguments that stand for none at all.
 static RUN_STANDARD_INPUT: [&str; 3] = ["pdp8", "run", "-"];
 
-/// Does what the program's words ask for, and says with which status it ends: 0 done, 1 refused, 2
-/// bad words, 3 a device's fault, 4 want of memory. Without words it runs the tape on standard
-/// input. Faults and the text for bad words go to standard error, help to standard output; where
-/// standard error fails, the status of a fault or of bad words is the same. Under `--teletype` the
-/// summary goes there too, and where that fails the status is 3.
+/// Does what the program's arguments ask for, and says with which status it ends: 0 done, 1 refused, 2
+/// a bad command line, 3 a device's fault, 4 want of memory. Without arguments it runs the tape on
+/// standard input. Faults and what is wrong with a command line go to standard error, help to standard
+/// output; where standard error fails, the status is the same. Under `--teletype` the summary goes
+/// there too, and where that fails the status is 3.
 ///
 /// That the status is at most 4 is proved; all else said here is tested.
 pub fn exit_status<R: Env + Files + Input + Print + Eprint + AllocGlobal>(rt: &R) -> u8
@@ -44,13 +44,13 @@ pub fn exit_status<R: Env + Files + Input + Print + Eprint + AllocGlobal>(rt: &R
         Ok(arguments) => arguments,
         Err(error) => return refuse(rt, refusal_of(error.kind())).code(),
     };
-    let Ok(words) = arguments.collect::<Vec<String>>(alloc) else {
+    let Ok(given) = arguments.collect::<Vec<String>>(alloc) else {
         return tell(rt, Fault::NoMemory).code();
     };
-    let request = if words.len() < 2 {
-        parse_words(alloc, RUN_STANDARD_INPUT.as_slice())
+    let request = if given.len() < 2 {
+        parse_arguments(alloc, RUN_STANDARD_INPUT.as_slice())
     } else {
-        parse_words(alloc, words.as_slice())
+        parse_arguments(alloc, given.as_slice())
     };
     match request {
         Ok(request) => match answer(rt, alloc, &request) {
@@ -61,7 +61,7 @@ pub fn exit_status<R: Env + Files + Input + Print + Eprint + AllocGlobal>(rt: &R
     }
 }
 
-/// Why the command line's words weren't copied: one is no text, or memory was refused.
+/// Why the arguments weren't copied: one is no text, or memory was refused.
 fn refusal_of(kind: ErrorKind) -> Refused {
     match kind {
         ErrorKind::InvalidData => Refused::NotText,
@@ -76,16 +76,16 @@ fn tell<R: Eprint>(rt: &R, fault: Fault) -> Status {
     }
 }
 
-/// Says why the words are bad, or gives the help that they ask for.
+/// Says why the command line is bad, or gives the help that it asks for.
 fn refuse<R: Print + Eprint>(rt: &R, refused: Refused) -> Status {
     let told = match refused {
         Refused::Memory => return tell(rt, Fault::NoMemory),
-        Refused::Words(error) => return say(rt, &error),
-        Refused::NotText => eprintln!(rt; "error: a word of the command line isn't text"),
+        Refused::CommandLine(error) => return say(rt, &error),
+        Refused::NotText => eprintln!(rt; "error: an argument isn't text"),
         Refused::Start(fault) => eprintln!(rt; "error: bad value for '--start': {fault}"),
         Refused::Switches(fault) => { eprintln!(rt; "error: bad value for '--switches': {fault}") }
         Refused::EventsAndOperator => eprintln!(rt;
-            "error: '--events' can't stand beside the words for the reader, the punch, the teletype and the switches"
+            "error: '--events' can't stand beside the options for the reader, the punch, the teletype and the switches"
         ),
         Refused::DeclarationAndStart => eprintln!(rt;
             "error: a declaration has its own start and machine: '--start' and '--profile' can't stand beside it"
@@ -100,6 +100,9 @@ fn refuse<R: Print + Eprint>(rt: &R, refused: Refused) -> Status {
         Refused::BothStandardInput => eprintln!(rt;
             "error: '-' stands for standard input in one place alone"
         ),
+        Refused::OutputIsInput => eprintln!(rt;
+            "error: OUT is also an input: the result goes to a file of its own"
+        ),
         Refused::Profile => eprintln!(rt; "error: bad value for '--profile': it is 8i or 8e"),
     };
     match told {
@@ -107,10 +110,10 @@ fn refuse<R: Print + Eprint>(rt: &R, refused: Refused) -> Status {
     }
 }
 
-/// Says what is wrong with the words, on standard error, or gives help, on standard output.
-fn say<R: Print + Eprint>(rt: &R, words: &Error) -> Status {
-    let written = words.print(rt);
-    if words.use_stderr() {
+/// Says what is wrong with the command line, on standard error, or gives help, on standard output.
+fn say<R: Print + Eprint>(rt: &R, text: &Error) -> Status {
+    let written = text.print(rt);
+    if text.use_stderr() {
         return Status::Words;
     }
     match written {
@@ -119,7 +122,7 @@ fn say<R: Print + Eprint>(rt: &R, words: &Error) -> Status {
     }
 }
 
-/// Opens the files of a request, in the order of its words, and carries it out.
+/// Opens the files of a request, in the order of its operands, and carries it out.
 fn answer<R: Files + Input + Print + Eprint>(
     rt: &R,
     alloc: Global,
@@ -137,7 +140,7 @@ fn answer<R: Files + Input + Print + Eprint>(
             out,
             sources,
             profile,
-        } => assemble_to(rt, alloc, out, sources, *profile),
+        } => assemble_to(rt, alloc, *out, sources, *profile),
         Request::List { sources, profile } => list_from(rt, alloc, sources, *profile),
         Request::Watch {
             tape,
@@ -151,26 +154,26 @@ fn answer<R: Files + Input + Print + Eprint>(
             certificate,
             explained,
         } => check_from(rt, alloc, tape, declaration, certificate, *explained),
-        Request::Declare { tape, out, options } => declare_from(rt, alloc, tape, out, *options),
+        Request::Declare { tape, out, options } => declare_from(rt, alloc, tape, *out, *options),
         Request::Guess {
             tape,
             declaration,
             out,
             explained,
-        } => guess_from(rt, alloc, tape, declaration, out, *explained),
+        } => guess_from(rt, alloc, tape, declaration, *out, *explained),
         Request::Refute {
             tape,
             declaration,
             out,
             options,
-        } => refute_from(rt, alloc, tape, declaration, out, *options),
+        } => refute_from(rt, alloc, tape, declaration, *out, *options),
         Request::Verify {
             tape,
             declaration,
             save,
             options,
         } => verify_from(rt, alloc, tape, *declaration, *save, options),
-        Request::Migrate { certificate, out } => migrate_from(rt, alloc, certificate, out),
+        Request::Migrate { certificate, out } => migrate_from(rt, alloc, certificate, *out),
     }
 }
 
@@ -203,7 +206,7 @@ fn migrate_from<R: Files + Input + Print>(
     rt: &R,
     alloc: Global,
     certificate: &str,
-    out: &str,
+    out: Destination<'_>,
 ) -> Result<Status, Fault> {
     let mut text = open_input(rt, certificate)?;
     let mut migrated = open_output(rt, out)?;
@@ -214,7 +217,7 @@ fn migrate_from<R: Files + Input + Print>(
 fn assemble_to<R: Files + Input + Print>(
     rt: &R,
     alloc: Global,
-    out: &str,
+    out: Destination<'_>,
     sources: &[&str],
     profile: Profile,
 ) -> Result<Status, Fault> {
@@ -270,7 +273,7 @@ fn declare_from<R: Files + Input + Print>(
     rt: &R,
     alloc: Global,
     tape: &str,
-    out: &str,
+    out: Destination<'_>,
     options: DeclareOptions,
 ) -> Result<Status, Fault> {
     let mut frames = open_input(rt, tape)?;
@@ -285,7 +288,7 @@ fn guess_from<R: Files + Input + Print + Eprint>(
     alloc: Global,
     tape: &str,
     declaration: &str,
-    out: &str,
+    out: Destination<'_>,
     explained: bool,
 ) -> Result<Status, Fault> {
     let mut frames = open_input(rt, tape)?;
@@ -326,13 +329,13 @@ fn refute_from<R: Files + Input + Print + Eprint>(
     alloc: Global,
     tape: &str,
     declaration: &str,
-    out: &str,
+    out: Destination<'_>,
     options: RefuteOptions,
 ) -> Result<Status, Fault> {
     let mut frames = open_input(rt, tape)?;
     let mut text = open_input(rt, declaration)?;
     let mut events = open_output(rt, out)?;
-    if out == "-" {
+    if out.name() == "-" {
         let mut report = tell_to(rt);
         return refute(
             alloc,

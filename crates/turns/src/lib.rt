@@ -4,6 +4,10 @@
 ghost use Rattle.std.specs.Prelude.{◌≡◌, ◌≤◌, ◌+◌, OnOk, IfErr};
 ghost use Rattle.turns.specs.Counts.{IsSpentUp};
 
+mod stepping;
+
+pub use stepping::{Stepped, take_step};
+
 use declaration::DeclarationFault;
 use std::marker::Model;
 use thiserror::Error;

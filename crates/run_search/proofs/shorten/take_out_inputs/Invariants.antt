@@ -1,5 +1,5 @@
 use Rattle.std.proofs.Common.{◌≡◌, ◌≤◌}
-use Rattle.refuter.proofs.shorten.take_out_events.Given as goal
+use Rattle.run_search.proofs.shorten.take_out_inputs.Given as goal
 
 abbrev pub invariant-loop-try : goal.invariant-loop-try
 invariant-loop-try g l = record {

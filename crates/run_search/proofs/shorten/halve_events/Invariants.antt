@@ -1,5 +1,5 @@
 use Rattle.std.proofs.Common.{◌≡◌, ◌≤◌}
-use Rattle.refuter.proofs.shorten.halve_inputs.Given as goal
+use Rattle.run_search.proofs.shorten.halve_events.Given as goal
 
 abbrev pub invariant-loop-halving : goal.invariant-loop-halving
 invariant-loop-halving g l = record {

@@ -13,6 +13,7 @@ use crate::random::Random;
 use crate::running::{Input, Progress, Run};
 use crate::script::Script;
 use crate::seen::Seen;
+use crate::shorten::shortened;
 use crate::tree::{Tail, Tree};
 use bin_tape::Image;
 use declaration::Declaration;
@@ -35,14 +36,16 @@ const MOST_CHANGED: usize = 400;
 
 /// A program with its declaration.
 #[derive(Drop)]
-pub(crate) struct Program<'a, D: Allocator> {
-    pub(crate) image: &'a Image,
-    pub(crate) declaration: &'a Declaration<D>,
+pub struct DeclaredProgram<'a, D: Allocator> {
+    /// What is on its tape.
+    pub image: &'a Image,
+    /// What it may do.
+    pub declaration: &'a Declaration<D>,
 }
 
-/// What was learned so far.
+/// A search for a run that breaks a rule, with what it learned so far.
 #[derive(Drop)]
-pub(crate) struct Search<A: Allocator> {
+pub struct RunSearch<A: Allocator> {
     alloc: A,
     random: Random,
     alphabet: Alphabet<A>,
@@ -74,14 +77,18 @@ struct Glance {
     place: Word,
 }
 
-impl<A: Allocator + Copy> Search<A> {
-    /// Before the first run.
-    pub(crate) fn new<D: Allocator>(
+impl<A: Allocator + Copy> RunSearch<A> {
+    /// Before the first run. The same seed gives the same runs.
+    ///
+    /// # Errors
+    ///
+    /// `NoMemory` where memory was refused.
+    pub fn new<D: Allocator>(
         alloc: A,
-        program: &Program<'_, D>,
+        program: &DeclaredProgram<'_, D>,
         seed: u64,
-    ) -> Result<Search<A>, NoMemory> {
-        Ok(Search {
+    ) -> Result<RunSearch<A>, NoMemory> {
+        Ok(RunSearch {
             alloc,
             random: Random::new(seed),
             alphabet: Alphabet::of(alloc, program.image)?,
@@ -94,10 +101,32 @@ impl<A: Allocator + Copy> Search<A> {
         })
     }
 
-    /// One run: a quarter of all steps go to long runs from the start, the others to runs from kept states.
-    pub(crate) fn round<D: Allocator>(
+    /// One run. If it breaks a rule, what is told are its events as a text, without those that aren't
+    /// needed, as far as that was found out. A turn is taken for each step.
+    ///
+    /// # Errors
+    ///
+    /// `NoMemory` where a growth was refused.
+    pub fn try_run<D: Allocator>(
         &mut self,
-        program: &Program<'_, D>,
+        program: &DeclaredProgram<'_, D>,
+        turns: &mut Turns,
+    ) -> Result<Option<Vec<u8, A>>, NoMemory>
+        ensures limit { turns.new.limit ≡ turns.old.limit }
+        ensures rises { turns.old.spent ≤ turns.new.spent }
+        ensures within { turns.new.spent ≤ turns.new.limit }
+    {
+        let Some(found) = self.round(program, turns)? else {
+            return Ok(None);
+        };
+        let script = shortened(self.alloc, self, program, found, turns)?;
+        Ok(Some(script.text(self.alloc)?))
+    }
+
+    /// One run: a quarter of all steps go to long runs from the start, the others to runs from kept states.
+    fn round<D: Allocator>(
+        &mut self,
+        program: &DeclaredProgram<'_, D>,
         turns: &mut Turns,
     ) -> Result<Option<Found<A>>, NoMemory>
         ensures limit { turns.new.limit ≡ turns.old.limit }
@@ -272,7 +301,7 @@ impl<A: Allocator + Copy> Search<A> {
     /// Runs by a plan, until a rule is broken or the run is over.
     pub(crate) fn follow<D: Allocator>(
         &mut self,
-        program: &Program<'_, D>,
+        program: &DeclaredProgram<'_, D>,
         plan: &Plan<A>,
         turns: &mut Turns,
     ) -> Result<Option<Found<A>>, NoMemory>
@@ -318,7 +347,7 @@ impl<A: Allocator + Copy> Search<A> {
     /// Gives what the next step asks for, and lets devices get done. False where the run is over.
     fn prepare<D: Allocator>(
         &mut self,
-        program: &Program<'_, D>,
+        program: &DeclaredProgram<'_, D>,
         watcher: &mut Watcher<A>,
         run: &mut Run<A>,
         plan: &Plan<A>,
@@ -414,7 +443,7 @@ impl<A: Allocator + Copy> Search<A> {
     /// Makes a step, and notes what is new.
     fn step<D: Allocator>(
         &mut self,
-        program: &Program<'_, D>,
+        program: &DeclaredProgram<'_, D>,
         watcher: &mut Watcher<A>,
         run: &mut Run<A>,
         plan: &Plan<A>,

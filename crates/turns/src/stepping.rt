@@ -3,17 +3,17 @@
 ghost use Rattle.std.specs.Prelude.{◌≡◌, ◌≢◌, ◌≤◌, ◌+◌, IfOk};
 ghost use Rattle.declaration.specs.Kept.{meaning};
 ghost use Rattle.peripherals.specs.World.{profile_of};
-ghost use Rattle.refuter.specs.declared.stepping.Stepped.TheVariants.{NoTurn};
+ghost use Rattle.turns.specs.declared.stepping.Stepped.TheVariants.{NoTurn};
 
+use crate::Turns;
 use declaration::Declaration;
 use peripherals::{Event, NoMemory};
 use policy::Watcher;
 use std::alloc::Allocator;
-use turns::Turns;
 
 /// What came of a step.
 #[derive(Clone, Copy, PartialEq, Eq)]
-pub(crate) enum Stepped {
+pub enum Stepped {
     /// It was made, and kept the rules.
     Kept,
     /// It was tried, and breaks a rule.
@@ -24,7 +24,7 @@ pub(crate) enum Stepped {
 
 /// Takes a turn, and then tries a step of a machine that is watched. No other function of the search
 /// does so.
-pub(crate) fn take_step<A: Allocator, D: Allocator>(
+pub fn take_step<A: Allocator, D: Allocator>(
     watcher: &mut Watcher<A>,
     declaration: &Declaration<D>,
     turns: &mut Turns,

@@ -8,7 +8,7 @@ use crate::asking::Ask;
 use crate::random::Random;
 use crate::running::Input;
 use crate::script::{Extent, Script};
-use crate::search::Program;
+use crate::search::DeclaredProgram;
 use declaration::Declaration;
 use peripherals::{NoMemory, Panel, Start, World};
 use policy::{Call, Watcher};
@@ -121,7 +121,7 @@ impl<A: Allocator + Copy> Tree<A> {
     /// The tree with the start alone.
     pub(crate) fn new<D: Allocator>(
         alloc: A,
-        program: &Program<'_, D>,
+        program: &DeclaredProgram<'_, D>,
     ) -> Result<Tree<A>, NoMemory> {
         let watcher = Watcher::new(alloc, program.image, program.declaration, &Start::zero());
         let mut tree = Tree {
@@ -222,7 +222,7 @@ impl<A: Allocator + Copy> Tree<A> {
     /// A watched machine in a kept state.
     pub(crate) fn watcher<D: Allocator>(
         &self,
-        program: &Program<'_, D>,
+        program: &DeclaredProgram<'_, D>,
         number: usize,
     ) -> Result<Watcher<A>, NoMemory>
         ensures profile { IfOk result (λ watcher. profile_of watcher.world

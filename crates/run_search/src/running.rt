@@ -10,12 +10,11 @@ use crate::pace::Pace;
 use crate::plan::{Plan, Purpose};
 use crate::random::Random;
 use crate::script::{Extent, Script};
-use crate::stepping::{Stepped, take_step};
 use declaration::Declaration;
 use peripherals::{Event, NoMemory};
 use policy::Watcher;
 use std::alloc::Allocator;
-use turns::Turns;
+use turns::{Stepped, Turns, take_step};
 use word12::Word;
 
 /// After so many steps without an input, a completion or a store a run is over: it waits.

@@ -8,13 +8,12 @@ ghost use Rattle.peripherals.specs.World.{profile_of};
 use crate::plan::{Plan, Purpose};
 use crate::running::Input;
 use crate::script::{Part, Script};
-use crate::search::{Found, Program, Search};
-use crate::stepping::{Stepped, take_step};
+use crate::search::{Found, DeclaredProgram, RunSearch};
 use declaration::Declaration;
 use peripherals::{NoMemory, Start};
 use policy::Watcher;
 use std::alloc::Allocator;
-use turns::Turns;
+use turns::{Stepped, Turns, take_step};
 
 /// The most steps that are made to shorten a run.
 const MOST_STEPS: u32 = 2_000_000;
@@ -25,8 +24,8 @@ const HALVINGS: usize = 20;
 /// A run that breaks a rule, with as few inputs and events as were found in so many steps.
 pub(crate) fn shortened<A: Allocator + Copy, D: Allocator>(
     alloc: A,
-    search: &mut Search<A>,
-    program: &Program<'_, D>,
+    search: &mut RunSearch<A>,
+    program: &DeclaredProgram<'_, D>,
     found: Found<A>,
     turns: &mut Turns,
 ) -> Result<Script<A>, NoMemory>
@@ -71,8 +70,8 @@ fn without<A: Allocator>(
 /// Takes inputs out, fewer and fewer at a time. All come as soon as they are asked for.
 fn halve_inputs<A: Allocator + Copy, D: Allocator>(
     alloc: A,
-    search: &mut Search<A>,
-    program: &Program<'_, D>,
+    search: &mut RunSearch<A>,
+    program: &DeclaredProgram<'_, D>,
     found: &mut Found<A>,
     last: u32,
     turns: &mut Turns,
@@ -96,8 +95,8 @@ fn halve_inputs<A: Allocator + Copy, D: Allocator>(
 /// Takes inputs out, so many at a time, wherever a rule is broken without them.
 fn take_out_inputs<A: Allocator + Copy, D: Allocator>(
     alloc: A,
-    search: &mut Search<A>,
-    program: &Program<'_, D>,
+    search: &mut RunSearch<A>,
+    program: &DeclaredProgram<'_, D>,
     found: &mut Found<A>,
     size: usize,
     last: u32,
@@ -126,7 +125,7 @@ fn take_out_inputs<A: Allocator + Copy, D: Allocator>(
 /// Takes events that are no steps out, fewer and fewer at a time. All others stay where they are.
 fn halve_events<A: Allocator + Copy, D: Allocator>(
     alloc: A,
-    program: &Program<'_, D>,
+    program: &DeclaredProgram<'_, D>,
     script: &mut Script<A>,
     last: u32,
     turns: &mut Turns,
@@ -150,7 +149,7 @@ fn halve_events<A: Allocator + Copy, D: Allocator>(
 /// Takes events that are no steps out, so many at a time, wherever a rule is broken without them.
 fn take_out_events<A: Allocator + Copy, D: Allocator>(
     alloc: A,
-    program: &Program<'_, D>,
+    program: &DeclaredProgram<'_, D>,
     script: &mut Script<A>,
     size: usize,
     last: u32,
@@ -177,7 +176,7 @@ fn take_out_events<A: Allocator + Copy, D: Allocator>(
 /// A script without so many events from a place on, up to the step that breaks a rule, if one does.
 fn replayed<A: Allocator + Copy, D: Allocator>(
     alloc: A,
-    program: &Program<'_, D>,
+    program: &DeclaredProgram<'_, D>,
     script: &Script<A>,
     place: usize,
     size: usize,

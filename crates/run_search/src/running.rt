@@ -17,10 +17,10 @@ use std::alloc::Allocator;
 use turns::{Stepped, Turns, take_step};
 use word12::Word;
 
-/// After so many steps without an input, a completion or a store a run is over: it waits.
+/// After so many events without an input, a completion or a store a run is over: it waits.
 const MOST_IDLE: u32 = 400;
 
-/// After so many steps without an input and without anything new a run is over.
+/// After so many events without an input and without anything new a run is over.
 const MOST_QUIET: u32 = 30_000;
 
 /// An input that was given.
@@ -77,11 +77,12 @@ pub(crate) struct Run<A: Allocator> {
     pub(crate) news: News,
     /// Whether the program has asked for an input yet.
     pub(crate) has_asked: bool,
-    /// Steps since something happened, since something was new or asked for, and since something was new.
-    idle: u32,
-    quiet: u32,
-    stale: u32,
-    /// After so many steps without anything new the run is over when an input is asked for.
+    /// How many events there were when something last happened, when something was last new or asked for,
+    /// and when something was last new.
+    stirred: u32,
+    last_asked: u32,
+    last_new: u32,
+    /// After so many events without anything new the run is over when an input is asked for.
     most_stale: u32,
 }
 
@@ -122,9 +123,9 @@ impl<A: Allocator + Copy> Run<A> {
             pace,
             news: News::NONE,
             has_asked: plan.base == 0,
-            idle: 0,
-            quiet: 0,
-            stale: 0,
+            stirred: extent.events,
+            last_asked: extent.events,
+            last_new: extent.events,
             most_stale,
         }
     }
@@ -136,23 +137,23 @@ impl<A: Allocator + Copy> Run<A> {
 
     /// Something happened.
     pub(crate) fn stirs(&mut self) {
-        self.idle = 0;
+        self.stirred = self.extent.events;
     }
 
     /// Something new is seen.
     pub(crate) fn sees_new(&mut self) {
-        self.idle = 0;
-        self.quiet = 0;
+        self.stirred = self.extent.events;
+        self.last_asked = self.extent.events;
     }
 
     /// The program asks for an input. False where the run is over, since nothing was new for long.
     pub(crate) fn is_asked(&mut self) -> bool {
         self.has_asked = true;
         if self.news.is_any {
-            self.stale = 0;
+            self.last_new = self.extent.events;
         }
         self.news = News::NONE;
-        self.stale <= self.most_stale && self.extent.is_short()
+        self.since(self.last_new) <= self.most_stale && self.extent.is_short()
     }
 
     /// Gives the machine an event that is no step.
@@ -167,7 +168,7 @@ impl<A: Allocator + Copy> Run<A> {
     {
         self.script.add(&event)?;
         self.extent.add();
-        self.idle = 0;
+        self.stirs();
         watcher.next(declaration, event)?;
         Ok(())
     }
@@ -183,8 +184,7 @@ impl<A: Allocator + Copy> Run<A> {
         ensures profile { profile_of watcher.new.world ≡ (meaning declaration.now).profile }
     {
         self.inputs.push(input).map_err(|_| NoMemory)?;
-        self.idle = 0;
-        self.quiet = 0;
+        self.sees_new();
         let word = Word::from_index((input.value & 0o7777) as usize);
         let event = match input.ask {
             Ask::Key => Event::Key(word.low_byte()),
@@ -252,14 +252,16 @@ impl<A: Allocator + Copy> Run<A> {
     fn made_step(&mut self) {
         self.script.add_step();
         self.extent.step();
-        self.idle = self.idle.saturating_add(1);
-        self.quiet = self.quiet.saturating_add(1);
-        self.stale = self.stale.saturating_add(1);
+    }
+
+    /// How many events there were since there were so many.
+    fn since(&self, events: u32) -> u32 {
+        self.extent.events.saturating_sub(events)
     }
 
     /// Whether the run goes on, by how long nothing has happened.
     fn goes_on(&self, watcher: &Watcher<A>) -> Progress {
-        if self.quiet > MOST_QUIET || self.waits(watcher) {
+        if self.since(self.last_asked) > MOST_QUIET || self.waits(watcher) {
             Progress::Over
         } else {
             Progress::GoesOn
@@ -268,7 +270,7 @@ impl<A: Allocator + Copy> Run<A> {
 
     /// Whether nothing has happened for long, and no completion is still to come.
     fn waits(&self, watcher: &Watcher<A>) -> bool {
-        if self.idle <= MOST_IDLE || self.purpose == Purpose::Roam {
+        if self.since(self.stirred) <= MOST_IDLE || self.purpose == Purpose::Roam {
             return false;
         }
         let panel = watcher.world().panel();

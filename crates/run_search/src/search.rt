@@ -314,10 +314,11 @@ impl<A: Allocator + Copy> RunSearch<A> {
         let extent = self.tree.extent(plan.base);
         let mut run = Run::new(self.alloc, plan, extent, &mut self.random);
         for _step in 0..MOST_STEPS {
-            if !self.prepare(program, &mut watcher, &mut run, plan)? {
+            let glance = self.glance(&watcher);
+            if !self.prepare(program, &mut watcher, &mut run, plan, &glance)? {
                 return Ok(None);
             }
-            match self.step(program, &mut watcher, &mut run, plan, turns)? {
+            match self.step(program, &mut watcher, &mut run, plan, &glance, turns)? {
                 Progress::GoesOn => {}
                 Progress::Over => return Ok(None),
                 Progress::Broken => return self.found(run),
@@ -351,11 +352,12 @@ impl<A: Allocator + Copy> RunSearch<A> {
         watcher: &mut Watcher<A>,
         run: &mut Run<A>,
         plan: &Plan<A>,
+        glance: &Glance,
     ) -> Result<bool, NoMemory>
         requires profile { profile_of watcher.old.world ≡ (meaning program.now.declaration.now).profile }
         ensures profile { profile_of watcher.new.world ≡ (meaning program.now.declaration.now).profile }
     {
-        if let Some(ask) = self.ask(watcher, run, plan) {
+        if let Some(ask) = self.ask(watcher, run, plan, glance) {
             self.keep(watcher, run, ask)?;
             if !run.is_asked() {
                 return Ok(false);
@@ -372,21 +374,25 @@ impl<A: Allocator + Copy> RunSearch<A> {
     }
 
     /// The input that the next step asks for and that comes now.
-    fn ask(&mut self, watcher: &Watcher<A>, run: &mut Run<A>, plan: &Plan<A>) -> Option<Ask> {
-        let cpu = watcher.world().cpu();
-        let word = cpu.memory.get(cpu.pc);
-        let Some(Look::Asks(ask)) = self.looks.get(word.index()) else {
+    fn ask(
+        &mut self,
+        watcher: &Watcher<A>,
+        run: &mut Run<A>,
+        plan: &Plan<A>,
+        glance: &Glance,
+    ) -> Option<Ask> {
+        let Look::Asks(ask) = glance.look else {
             return None;
         };
         if !ask.is_wanted(&watcher.world().panel()) {
             return None;
         }
         if matches!(ask, Ask::Switches) {
-            return Some(*ask);
+            return Some(ask);
         }
         let looks_away = plan.purpose == Purpose::Roam && self.random.once_in(8);
         if run.pace.gives_input() && !looks_away {
-            Some(*ask)
+            Some(ask)
         } else {
             None
         }
@@ -447,6 +453,7 @@ impl<A: Allocator + Copy> RunSearch<A> {
         watcher: &mut Watcher<A>,
         run: &mut Run<A>,
         plan: &Plan<A>,
+        glance: &Glance,
         turns: &mut Turns,
     ) -> Result<Progress, NoMemory>
         requires profile { profile_of watcher.old.world ≡ (meaning program.now.declaration.now).profile }
@@ -455,10 +462,9 @@ impl<A: Allocator + Copy> RunSearch<A> {
         ensures rises { turns.old.spent ≤ turns.new.spent }
         ensures within { turns.new.spent ≤ turns.new.limit }
     {
-        let glance = self.glance(watcher);
         let progress = run.step(watcher, program.declaration, turns)?;
         if progress == Progress::GoesOn && plan.purpose != Purpose::Repeat {
-            self.note(watcher, run, plan, &glance)?;
+            self.note(watcher, run, plan, glance)?;
         }
         Ok(progress)
     }

@@ -1,9 +1,11 @@
 //! The command line of `pdp8`: its commands, operands and options, and what they ask for.
 #![tactic(auto)]
 
+mod commands;
 mod operator;
 mod outputs;
 mod requests;
+mod table;
 
 pub use operator::{Joined, Session};
 pub use outputs::Destination;

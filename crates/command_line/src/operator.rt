@@ -1,9 +1,8 @@
 //! The options of a run with an operator.
 
 use crate::requests::{Refused, run_options, share_standard_input};
-use clap::{Arg, ArgAction, ArgMatches, Command};
+use clap::ArgMatches;
 use options::SessionOptions;
-use std::alloc::{AllocError, Global};
 use word12::Word;
 
 /// A run with an operator, as the options ask for it.
@@ -28,42 +27,6 @@ pub struct Joined<'a> {
     pub keys: Option<&'a str>,
     /// What is printed goes to standard output.
     pub teletype: bool,
-}
-
-/// Adds the options for the reader, the punch, the teletype and the switches.
-pub fn with_operator<'a>(alloc: Global, run: Command<'a>) -> Result<Command<'a>, AllocError> {
-    let reader = Arg::new(alloc, "reader")
-        .long("reader")
-        .value_name("FILE")
-        .help("the frames in the reader, or - for standard input");
-    let punch = Arg::new(alloc, "punch")
-        .long("punch")
-        .value_name("FILE")
-        .help("where the punched bytes go; it is emptied first");
-    let keys = Arg::new(alloc, "keys")
-        .long("keys")
-        .value_name("FILE")
-        .help("the keys that are struck, or - for standard input");
-    let mark = Arg::new(alloc, "mark")
-        .long("mark")
-        .action(ArgAction::SetTrue)
-        .help("sets channel 8 of each key");
-    let teletype = Arg::new(alloc, "teletype")
-        .long("teletype")
-        .action(ArgAction::SetTrue)
-        .help("what is printed goes to standard output, all else to standard error");
-    let switches = Arg::new(alloc, "switches")
-        .long("switches")
-        .value_name("W")
-        .help(
-            "the octal word that the switches are set to; leading zeros are allowed, 0000 without it",
-        );
-    run.arg(reader)?
-        .arg(punch)?
-        .arg(keys)?
-        .arg(mark)?
-        .arg(teletype)?
-        .arg(switches)
 }
 
 /// Whether a run has an operator.

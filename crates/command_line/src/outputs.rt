@@ -1,8 +1,7 @@
 //! Where the result of a command goes.
 
 use crate::requests::Refused;
-use clap::{Arg, ArgMatches};
-use std::alloc::{AllocError, Global};
+use clap::ArgMatches;
 
 /// Where a result goes: the name of a file, or `-` for standard output.
 #[derive(Clone, Copy, PartialEq, Eq, Debug)]
@@ -21,25 +20,6 @@ impl<'a> Destination<'a> {
             Destination::EmptiedFirst(name) | Destination::MadeLast(name) => name,
         }
     }
-}
-
-/// The option `-o`.
-pub fn output_option<'a>(alloc: Global) -> Arg<'a> {
-    Arg::new(alloc, "output")
-        .short('o')
-        .long("output")
-        .value_name("OUT")
-        .help(
-            "where the result goes, or - for standard output, in place of the operand OUT; the file is made when there is a result, and else stays as it was",
-        )
-}
-
-/// The operand OUT, which is left out where `-o` is used.
-pub fn out_operand<'a>(alloc: Global, help: &'a str) -> Result<Arg<'a>, AllocError> {
-    Arg::new(alloc, "OUT")
-        .help(help)
-        .required_unless_present("output")?
-        .conflicts_with("output")
 }
 
 /// Where the result goes: the value of `-o`, else the operand OUT. It is no input.

@@ -28,13 +28,14 @@ _pdp8() {
             ;;
         verify) options='--start --profile --steps --seed --save --why --help' ;;
         assemble) options='--output --profile --help' ;;
-        list | dump) options='--profile --help' ;;
-        run) options='--start --steps --trace --profile --events --reader --punch --keys --mark --teletype --switches --help' ;;
+        list) options='--profile --help' ;;
+        dump) options='--profile --why --help' ;;
+        run) options='--start --steps --trace --profile --events --reader --punch --keys --mark --teletype --switches --why --help' ;;
         watch | check) options='--why --help' ;;
         guess) options='--output --why --help' ;;
         refute) options='--output --steps --seed --why --help' ;;
-        declare) options='--output --start --reads --profile --help' ;;
-        migrate) options='--output --help' ;;
+        declare) options='--output --start --reads --profile --why --help' ;;
+        migrate) options='--output --why --help' ;;
     esac
     if [[ $word == -* ]]; then
         COMPREPLY=($(compgen -W "$options" -- "$word"))

@@ -237,6 +237,13 @@ const WHY_BROKEN: Argument = Argument {
     help: "where a rule is broken, writes what the step is about to do",
 };
 
+const WHY_INPUT: Argument = Argument {
+    name: "why",
+    short: Some('w'),
+    form: Form::Flag,
+    help: "where an input is refused, writes what is wrong with it",
+};
+
 static VERIFY_ARGUMENTS: [Argument; 8] = [
     TAPE,
     PROPOSED,
@@ -248,7 +255,7 @@ static VERIFY_ARGUMENTS: [Argument; 8] = [
     WHY_VERIFY,
 ];
 
-static RUN_ARGUMENTS: [Argument; 12] = [
+static RUN_ARGUMENTS: [Argument; 13] = [
     TAPE,
     START,
     ROUNDS,
@@ -261,11 +268,13 @@ static RUN_ARGUMENTS: [Argument; 12] = [
     MARK,
     TELETYPE,
     SWITCHES,
+    WHY_INPUT,
 ];
 
-static DUMP_ARGUMENTS: [Argument; 2] = [
+static DUMP_ARGUMENTS: [Argument; 3] = [
     TAPE,
     PROFILE,
+    WHY_INPUT,
 ];
 
 static ASSEMBLE_ARGUMENTS: [Argument; 4] = [
@@ -294,13 +303,14 @@ static CHECK_ARGUMENTS: [Argument; 4] = [
     WHY_CHECK,
 ];
 
-static DECLARE_ARGUMENTS: [Argument; 6] = [
+static DECLARE_ARGUMENTS: [Argument; 7] = [
     TAPE,
     DECLARATION_OUT,
     OUTPUT,
     START,
     READS,
     PROFILE,
+    WHY_INPUT,
 ];
 
 static GUESS_ARGUMENTS: [Argument; 5] = [
@@ -321,10 +331,11 @@ static REFUTE_ARGUMENTS: [Argument; 7] = [
     WHY_BROKEN,
 ];
 
-static MIGRATE_ARGUMENTS: [Argument; 3] = [
+static MIGRATE_ARGUMENTS: [Argument; 4] = [
     CERTIFICATE,
     CERTIFICATE_OUT,
     OUTPUT,
+    WHY_INPUT,
 ];
 
 static ENTRIES: [Entry; 11] = [

@@ -2,11 +2,13 @@
 #![tactic(auto)]
 
 mod commands;
+mod names;
 mod operator;
 mod outputs;
 mod requests;
 mod table;
 
+pub use names::FileNames;
 pub use operator::{Joined, Session};
 pub use outputs::Destination;
-pub use requests::{Refused, Request, parse_arguments};
+pub use requests::{CommandLine, Refused, Request, parse_arguments};

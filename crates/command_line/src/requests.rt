@@ -395,27 +395,50 @@ fn migrate_request<'a>(found: &ArgMatches<'a>) -> Result<Request<'a>, Refused> {
     })
 }
 
+/// A command line that can be carried out.
+#[derive(Drop, Debug)]
+pub struct CommandLine<'a> {
+    /// What is asked for.
+    pub request: Request<'a>,
+    /// Whether `--why` is given.
+    pub explained: bool,
+}
+
+/// The request of a command with what was found behind it.
+fn request_of<'a>(
+    alloc: Global,
+    command: &str,
+    found: &ArgMatches<'a>,
+) -> Result<Request<'a>, Refused> {
+    match command {
+        "dump" => Ok(Request::Dump {
+            tape: found.get_str("TAPE").unwrap_or("-"),
+            profile: profile_of(found)?,
+        }),
+        "assemble" => assemble_request(alloc, found),
+        "list" => list_request(alloc, found),
+        "watch" => watch_request(found),
+        "check" => check_request(found),
+        "declare" => declare_request(found),
+        "guess" => guess_request(found),
+        "refute" => refute_request(found),
+        "verify" => verify_request(found),
+        "migrate" => migrate_request(found),
+        _ => run_request(found),
+    }
+}
+
 /// Reads the program's arguments, its own name before them.
 pub fn parse_arguments<'a, S: AsStr>(
     alloc: Global,
     arguments: &'a [S],
-) -> Result<Request<'a>, Refused> {
+) -> Result<CommandLine<'a>, Refused> {
     let matches = command(alloc)?.try_get_matches_from(arguments)?;
     match matches.subcommand() {
-        Some(("dump", found)) => Ok(Request::Dump {
-            tape: found.get_str("TAPE").unwrap_or("-"),
-            profile: profile_of(found)?,
+        Some((name, found)) => Ok(CommandLine {
+            request: request_of(alloc, name, found)?,
+            explained: found.get_flag("why"),
         }),
-        Some(("assemble", found)) => assemble_request(alloc, found),
-        Some(("list", found)) => list_request(alloc, found),
-        Some(("watch", found)) => watch_request(found),
-        Some(("check", found)) => check_request(found),
-        Some(("declare", found)) => declare_request(found),
-        Some(("guess", found)) => guess_request(found),
-        Some(("refute", found)) => refute_request(found),
-        Some(("verify", found)) => verify_request(found),
-        Some(("migrate", found)) => migrate_request(found),
-        Some((_, found)) => run_request(found),
         None => Err(Refused::Memory),
     }
 }

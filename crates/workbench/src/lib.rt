@@ -2,6 +2,7 @@
 //! order, is tested and not proved.
 #![tactic(auto)]
 
+mod faults;
 mod files;
 mod joined;
 mod program;

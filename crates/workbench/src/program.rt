@@ -2,6 +2,7 @@
 
 ghost use Rattle.std.specs.Prelude.{◌≤◌};
 
+use crate::faults::explain_fault;
 use crate::files::{open_input, open_inputs, open_output};
 use crate::joined::{hold_session, tell_to};
 use crate::saving::{save_answer, save_proposed};
@@ -53,9 +54,15 @@ pub fn exit_status<R: Env + Files + Input + Print + Eprint + AllocGlobal>(rt: &R
         parse_arguments(alloc, given.as_slice())
     };
     match request {
-        Ok(request) => match answer(rt, alloc, &request) {
+        Ok(line) => match answer(rt, alloc, &line.request) {
             Ok(status) => status.code(),
-            Err(fault) => tell(rt, fault).code(),
+            Err(fault) => {
+                let status = tell(rt, fault);
+                if line.explained {
+                    explain_fault(rt, alloc, fault, &line.request.names());
+                }
+                status.code()
+            }
         },
         Err(refused) => refuse(rt, refused).code(),
     }

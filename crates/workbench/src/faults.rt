@@ -1,0 +1,83 @@
+//! What is said below the line of a fault under `--why`. The file is looked at once more for it; it is
+//! tested and not proved.
+
+use crate::files::open_input;
+use command_line::FileNames;
+use commands::status::{DeviceFault, Fault};
+use fault_texts::{FaultyFile, push_fault};
+use std::alloc::Global;
+use std::rt::Files;
+use streams::read_at_most;
+
+/// How much of a file is looked at: a byte more than any input may have.
+const MOST: usize = 1_048_577;
+
+/// The input that has a fault, if it is one of the inputs that have a name.
+fn faulty_input<'a>(fault: Fault, names: &FileNames<'a>) -> Option<&'a str> {
+    match fault {
+        Fault::Tape(_) => names.tape,
+        Fault::Declared(_) => names.declaration,
+        Fault::Certificate(_) => names.certificate,
+        Fault::Events(_) => names.events,
+        _ => None,
+    }
+}
+
+/// What is in a file.
+fn bytes_of<R: Files + Input>(rt: &R, alloc: Global, name: &str) -> Result<Vec<u8>, Fault> {
+    let mut input = open_input(rt, name)?;
+    Ok(read_at_most(alloc, &mut input, MOST)?)
+}
+
+/// Says which of the inputs can't be opened or read.
+fn tell_unread<R: Files + Input + Eprint>(rt: &R, alloc: Global, names: &FileNames<'_>) {
+    for name in names.inputs() {
+        let Some(name) = name else {
+            continue;
+        };
+        if name == "-" {
+            continue;
+        }
+        if let Err(Fault::Device(_)) = bytes_of(rt, alloc, name) {
+            let _ = eprintln!(rt; "{name}: it can't be opened or read");
+            return;
+        }
+    }
+}
+
+/// Says below the line of a fault which file has it, where, and what may stand there. Of standard input,
+/// which can't be read twice, it says nothing.
+pub fn explain_fault<R: Files + Input + Eprint>(
+    rt: &R,
+    alloc: Global,
+    fault: Fault,
+    names: &FileNames<'_>,
+) {
+    match fault {
+        Fault::Device(DeviceFault::Read) => return tell_unread(rt, alloc, names),
+        Fault::Device(DeviceFault::Write) => {
+            if let Some(name) = names.output {
+                let _ = eprintln!(rt; "{name}: it can't be made or written");
+            }
+            return;
+        }
+        _ => {}
+    }
+    let Some(name) = faulty_input(fault, names) else {
+        return;
+    };
+    if name == "-" {
+        return;
+    }
+    let Ok(bytes) = bytes_of(rt, alloc, name) else {
+        return;
+    };
+    let mut text = String::new(alloc);
+    let file = FaultyFile {
+        name,
+        bytes: &bytes,
+    };
+    if push_fault(&mut text, fault, &file).is_ok() {
+        let _ = rt.eprint(&text);
+    }
+}

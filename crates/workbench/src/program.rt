@@ -129,7 +129,8 @@ fn say<R: Print + Eprint>(rt: &R, text: &Error) -> Status {
     }
 }
 
-/// Opens the files of a request, in the order of its operands, and carries it out.
+/// Opens the files of a request, in the order of its operands, and carries it out. Each command has a
+/// frame of its own on the stack, since they are large.
 fn answer<R: Files + Input + Print + Eprint>(
     rt: &R,
     alloc: Global,
@@ -185,6 +186,7 @@ fn answer<R: Files + Input + Print + Eprint>(
 }
 
 /// Names the words of the tape of a file.
+#[inline(never)]
 fn dump_from<R: Files + Input + Print>(
     rt: &R,
     alloc: Global,
@@ -197,6 +199,7 @@ fn dump_from<R: Files + Input + Print>(
 }
 
 /// Lists the source whose parts are in these files.
+#[inline(never)]
 fn list_from<R: Files + Input + Print>(
     rt: &R,
     alloc: Global,
@@ -209,6 +212,7 @@ fn list_from<R: Files + Input + Print>(
 }
 
 /// Migrates the certificate of a file.
+#[inline(never)]
 fn migrate_from<R: Files + Input + Print>(
     rt: &R,
     alloc: Global,
@@ -221,6 +225,7 @@ fn migrate_from<R: Files + Input + Print>(
 }
 
 /// Assembles the parts of these files into a tape.
+#[inline(never)]
 fn assemble_to<R: Files + Input + Print>(
     rt: &R,
     alloc: Global,
@@ -234,6 +239,7 @@ fn assemble_to<R: Files + Input + Print>(
 }
 
 /// Watches a run of the tape of a file.
+#[inline(never)]
 fn watch_from<R: Files + Input + Print>(
     rt: &R,
     alloc: Global,
@@ -257,6 +263,7 @@ fn watch_from<R: Files + Input + Print>(
 }
 
 /// Checks the certificate of a file, and says why the verdict is no where that is asked for.
+#[inline(never)]
 fn check_from<R: Files + Input + Print>(
     rt: &R,
     alloc: Global,
@@ -276,6 +283,7 @@ fn check_from<R: Files + Input + Print>(
 }
 
 /// Proposes a declaration for the tape of a file.
+#[inline(never)]
 fn declare_from<R: Files + Input + Print>(
     rt: &R,
     alloc: Global,
@@ -290,6 +298,7 @@ fn declare_from<R: Files + Input + Print>(
 
 /// Guesses a certificate for the tape of a file, and says on standard error why the search is stuck
 /// where that is asked for.
+#[inline(never)]
 fn guess_from<R: Files + Input + Print + Eprint>(
     rt: &R,
     alloc: Global,
@@ -309,6 +318,7 @@ fn guess_from<R: Files + Input + Print + Eprint>(
 }
 
 /// Says whether the program of a file's tape keeps its declaration, or the one that is proposed for it.
+#[inline(never)]
 fn verify_from<R: Files + Input + Print>(
     rt: &R,
     alloc: Global,
@@ -331,6 +341,7 @@ fn verify_from<R: Files + Input + Print>(
 }
 
 /// Looks for a run of the tape of a file that breaks its declaration.
+#[inline(never)]
 fn refute_from<R: Files + Input + Print + Eprint>(
     rt: &R,
     alloc: Global,
@@ -365,6 +376,7 @@ fn refute_from<R: Files + Input + Print + Eprint>(
 }
 
 /// Runs a tape, in rounds or by the events of a file.
+#[inline(never)]
 fn run_from<R: Files + Input + Print>(
     rt: &R,
     alloc: Global,

@@ -1,10 +1,13 @@
 //! The lines for people below the line of a fault: which file, which place or line, and what may stand
-//! there. They are tested and not proved.
+//! there; and what a declaration leaves out. They are tested and not proved.
 #![tactic(auto)]
 
 mod forms;
 mod lines;
+mod omissions;
 mod tapes;
+
+pub use omissions::push_omissions;
 
 use crate::forms::{certificate_form, declaration_form, event_form};
 use crate::lines::push_numbered;

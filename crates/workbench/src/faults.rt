@@ -3,8 +3,9 @@
 
 use crate::files::open_input;
 use command_line::FileNames;
+use command_parts::inputs::{declaration_from, tape_from};
 use commands::status::{DeviceFault, Fault};
-use fault_texts::{FaultyFile, push_fault};
+use fault_texts::{FaultyFile, push_fault, push_omissions};
 use std::alloc::Global;
 use std::rt::Files;
 use streams::read_at_most;
@@ -42,6 +43,37 @@ fn tell_unread<R: Files + Input + Eprint>(rt: &R, alloc: Global, names: &FileNam
             let _ = eprintln!(rt; "{name}: it can't be opened or read");
             return;
         }
+    }
+}
+
+/// What the tape and the declaration of these files show by themselves.
+fn omissions_of<R: Files + Input>(
+    rt: &R,
+    alloc: Global,
+    tape: &str,
+    declaration: &str,
+) -> Result<Vec<u8>, Fault> {
+    let image = tape_from(&mut open_input(rt, tape)?)?;
+    let promised = declaration_from(alloc, &mut open_input(rt, declaration)?)?;
+    let mut text = Vec::new(alloc);
+    push_omissions(&mut text, &image, &promised)?;
+    Ok(text)
+}
+
+/// What the tape and the declaration of these files show by themselves, as lines for people. Of standard
+/// input, which can't be read twice, and of a file with a fault it says nothing.
+pub fn omissions<R: Files + Input>(
+    rt: &R,
+    alloc: Global,
+    tape: &str,
+    declaration: &str,
+) -> Vec<u8> {
+    if tape == "-" || declaration == "-" {
+        return Vec::new(alloc);
+    }
+    match omissions_of(rt, alloc, tape, declaration) {
+        Ok(text) => text,
+        Err(_) => Vec::new(alloc),
     }
 }
 

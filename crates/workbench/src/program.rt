@@ -2,7 +2,7 @@
 
 ghost use Rattle.std.specs.Prelude.{◌≤◌};
 
-use crate::faults::explain_fault;
+use crate::faults::{explain_fault, omissions};
 use crate::files::{open_input, open_inputs, open_output};
 use crate::joined::{hold_session, tell_to};
 use crate::saving::{save_answer, save_proposed};
@@ -18,13 +18,14 @@ use commands::refuting::{RefuteOptions, refute};
 use commands::running::{RunOptions, dump, run, run_events};
 use commands::status::{DeviceFault, Fault, Status};
 use commands::stuck::guess_or_explain;
-use commands::verifying::{VerifyOptions, answer_status, verify, verify_proposed};
+use commands::verifying::{Answer, VerifyOptions, answer_status, verify, verify_proposed};
 use commands::watching::watch;
 use instruct::Profile;
 use std::alloc::Global;
 use std::io::ErrorKind;
 use std::rt::{Env, Files};
 use std::{env, io};
+use streams::put;
 use streams::standard::Writes;
 
 /// The arguments that stand for none at all.
@@ -312,7 +313,13 @@ fn guess_from<R: Files + Input + Print + Eprint>(
     let mut certificate = open_output(rt, out)?;
     if explained {
         let mut report = tell_to(rt);
-        return guess_or_explain(alloc, &mut frames, &mut text, &mut certificate, &mut report);
+        let status =
+            guess_or_explain(alloc, &mut frames, &mut text, &mut certificate, &mut report)?;
+        if status == Status::Refused {
+            let lines = omissions(rt, alloc, tape, declaration);
+            put(&mut tell_to(rt), &lines)?;
+        }
+        return Ok(status);
     }
     guess(alloc, &mut frames, &mut text, &mut certificate)
 }
@@ -336,6 +343,10 @@ fn verify_from<R: Files + Input + Print>(
     };
     let mut text = open_input(rt, declaration)?;
     let answer = verify(alloc, &mut frames, &mut text, options.search, &mut out)?;
+    if options.search.explained && matches!(answer, Answer::NotKnown(_)) {
+        let lines = omissions(rt, alloc, tape, declaration);
+        put(&mut Writes::new(io::writer(rt)), &lines)?;
+    }
     save_answer(rt, alloc, save, &answer)?;
     Ok(answer_status(&answer))
 }

@@ -137,7 +137,8 @@ fn push_omission<A: Allocator>(
 }
 
 /// Adds what the tape and the declaration show by themselves, of at most eight instructions in the order of
-/// their addresses: each instruction, what it would break if a run came there, and what to add.
+/// their addresses: each instruction, what it would break if a run came there, and what to add. One address
+/// is left out, of which all is said elsewhere.
 ///
 /// # Errors
 ///
@@ -146,10 +147,14 @@ pub fn push_omissions<A: Allocator, D: Allocator>(
     text: &mut Vec<u8, A>,
     image: &Image,
     declaration: &Declaration<D>,
+    left_out: Option<Word>,
 ) -> Result<(), AllocError> {
     let mut found = 0usize;
     for index in 0..4096usize {
         let at = Word::from_index(index);
+        if left_out == Some(at) {
+            continue;
+        }
         let Some(omission) = omitted_at(image, declaration, at) else {
             continue;
         };

@@ -9,6 +9,7 @@ use fault_texts::{FaultyFile, push_fault, push_omissions};
 use std::alloc::Global;
 use std::rt::Files;
 use streams::read_at_most;
+use word12::Word;
 
 /// How much of a file is looked at: a byte more than any input may have.
 const MOST: usize = 1_048_577;
@@ -52,29 +53,38 @@ fn omissions_of<R: Files + Input>(
     alloc: Global,
     tape: &str,
     declaration: &str,
+    stuck: Option<Word>,
 ) -> Result<Vec<u8>, Fault> {
     let image = tape_from(&mut open_input(rt, tape)?)?;
     let promised = declaration_from(alloc, &mut open_input(rt, declaration)?)?;
     let mut text = Vec::new(alloc);
-    push_omissions(&mut text, &image, &promised)?;
+    push_omissions(&mut text, &image, &promised, stuck)?;
     Ok(text)
 }
 
-/// What the tape and the declaration of these files show by themselves, as lines for people. Of standard
-/// input, which can't be read twice, and of a file with a fault it says nothing.
+/// What the tape and the declaration of these files show by themselves, as lines for people, apart from
+/// what is said of the address where a search is stuck. Of standard input, which can't be read twice, and
+/// of a file with a fault it says nothing.
 pub fn omissions<R: Files + Input>(
     rt: &R,
     alloc: Global,
     tape: &str,
     declaration: &str,
+    stuck: Option<Word>,
 ) -> Vec<u8> {
     if tape == "-" || declaration == "-" {
         return Vec::new(alloc);
     }
-    match omissions_of(rt, alloc, tape, declaration) {
+    match omissions_of(rt, alloc, tape, declaration, stuck) {
         Ok(text) => text,
         Err(_) => Vec::new(alloc),
     }
+}
+
+/// The address in the line `pdp8: guess: Stuck 0210`.
+pub fn stuck_address(report: &[u8]) -> Option<Word> {
+    let digits = report.strip_prefix(b"pdp8: guess: Stuck ")?.get(..4)?;
+    Word::from_octal(digits).ok()
 }
 
 /// Says below the line of a fault which file has it, where, and what may stand there. Of standard input,

@@ -2,7 +2,7 @@
 
 ghost use Rattle.std.specs.Prelude.{◌≤◌};
 
-use crate::faults::{explain_fault, omissions};
+use crate::faults::{explain_fault, omissions, stuck_address};
 use crate::files::{open_input, open_inputs, open_output};
 use crate::joined::{hold_session, tell_to};
 use crate::saving::{save_answer, save_proposed};
@@ -18,7 +18,7 @@ use commands::refuting::{RefuteOptions, refute};
 use commands::running::{RunOptions, dump, run, run_events};
 use commands::status::{DeviceFault, Fault, Status};
 use commands::stuck::guess_or_explain;
-use commands::verifying::{Answer, VerifyOptions, answer_status, verify, verify_proposed};
+use commands::verifying::{Answer, Lack, VerifyOptions, answer_status, verify, verify_proposed};
 use commands::watching::watch;
 use instruct::Profile;
 use std::alloc::Global;
@@ -312,12 +312,14 @@ fn guess_from<R: Files + Input + Print + Eprint>(
     let mut text = open_input(rt, declaration)?;
     let mut certificate = open_output(rt, out)?;
     if explained {
-        let mut report = tell_to(rt);
+        let mut report = Vec::new(alloc);
+        let mut lines = Writes::new(&mut report);
         let status =
-            guess_or_explain(alloc, &mut frames, &mut text, &mut certificate, &mut report)?;
+            guess_or_explain(alloc, &mut frames, &mut text, &mut certificate, &mut lines)?;
         if status == Status::Refused {
-            let lines = omissions(rt, alloc, tape, declaration);
-            put(&mut tell_to(rt), &lines)?;
+            let others = omissions(rt, alloc, tape, declaration, stuck_address(&report));
+            report.extend_from_slice(&others)?;
+            let _ = put(&mut tell_to(rt), &report);
         }
         return Ok(status);
     }
@@ -343,9 +345,11 @@ fn verify_from<R: Files + Input + Print>(
     };
     let mut text = open_input(rt, declaration)?;
     let answer = verify(alloc, &mut frames, &mut text, options.search, &mut out)?;
-    if options.search.explained && matches!(answer, Answer::NotKnown(_)) {
-        let lines = omissions(rt, alloc, tape, declaration);
-        put(&mut Writes::new(io::writer(rt)), &lines)?;
+    if let Answer::NotKnown(Lack::Stuck(at)) = &answer {
+        if options.search.explained {
+            let others = omissions(rt, alloc, tape, declaration, Some(*at));
+            put(&mut Writes::new(io::writer(rt)), &others)?;
+        }
     }
     save_answer(rt, alloc, save, &answer)?;
     Ok(answer_status(&answer))

@@ -271,37 +271,15 @@ static RUN_ARGUMENTS: [Argument; 13] = [
     WHY_INPUT,
 ];
 
-static DUMP_ARGUMENTS: [Argument; 3] = [
-    TAPE,
-    PROFILE,
-    WHY_INPUT,
-];
+static DUMP_ARGUMENTS: [Argument; 3] = [TAPE, PROFILE, WHY_INPUT];
 
-static ASSEMBLE_ARGUMENTS: [Argument; 4] = [
-    TAPE_OUT,
-    OTHER_SOURCES,
-    OUTPUT,
-    PROFILE,
-];
+static ASSEMBLE_ARGUMENTS: [Argument; 4] = [TAPE_OUT, OTHER_SOURCES, OUTPUT, PROFILE];
 
-static LIST_ARGUMENTS: [Argument; 2] = [
-    SOURCE,
-    PROFILE,
-];
+static LIST_ARGUMENTS: [Argument; 2] = [SOURCE, PROFILE];
 
-static WATCH_ARGUMENTS: [Argument; 4] = [
-    TAPE,
-    DECLARATION,
-    EVENTS,
-    WHY_BROKEN,
-];
+static WATCH_ARGUMENTS: [Argument; 4] = [TAPE, DECLARATION, EVENTS, WHY_BROKEN];
 
-static CHECK_ARGUMENTS: [Argument; 4] = [
-    TAPE,
-    DECLARATION,
-    CERTIFICATE,
-    WHY_CHECK,
-];
+static CHECK_ARGUMENTS: [Argument; 4] = [TAPE, DECLARATION, CERTIFICATE, WHY_CHECK];
 
 static DECLARE_ARGUMENTS: [Argument; 7] = [
     TAPE,
@@ -313,13 +291,7 @@ static DECLARE_ARGUMENTS: [Argument; 7] = [
     WHY_INPUT,
 ];
 
-static GUESS_ARGUMENTS: [Argument; 5] = [
-    TAPE,
-    DECLARATION,
-    CERTIFICATE_OUT,
-    OUTPUT,
-    WHY_GUESS,
-];
+static GUESS_ARGUMENTS: [Argument; 5] = [TAPE, DECLARATION, CERTIFICATE_OUT, OUTPUT, WHY_GUESS];
 
 static REFUTE_ARGUMENTS: [Argument; 7] = [
     TAPE,
@@ -331,12 +303,7 @@ static REFUTE_ARGUMENTS: [Argument; 7] = [
     WHY_BROKEN,
 ];
 
-static MIGRATE_ARGUMENTS: [Argument; 4] = [
-    CERTIFICATE,
-    CERTIFICATE_OUT,
-    OUTPUT,
-    WHY_INPUT,
-];
+static MIGRATE_ARGUMENTS: [Argument; 4] = [CERTIFICATE, CERTIFICATE_OUT, OUTPUT, WHY_INPUT];
 
 static ENTRIES: [Entry; 11] = [
     Entry {

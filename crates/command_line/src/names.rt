@@ -117,7 +117,9 @@ impl<'a> Request<'a> {
                 ..none
             },
             Request::Verify {
-                tape, declaration, ..
+                tape,
+                declaration,
+                ..
             } => FileNames {
                 tape: Some(tape),
                 declaration: *declaration,

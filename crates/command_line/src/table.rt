@@ -67,7 +67,9 @@ impl Argument {
             Form::Operand => operand.required(true),
             Form::OptionalOperand => operand,
             Form::ResultOperand => {
-                operand.required_unless_present("output")?.conflicts_with("output")?
+                operand
+                    .required_unless_present("output")?
+                    .conflicts_with("output")?
             }
             Form::Operands => operand.required(true).num_args(1..),
             Form::OtherOperands => operand.required_unless_present("output")?.num_args(1..),

@@ -7,13 +7,12 @@ mod lines;
 mod omissions;
 mod tapes;
 
-pub use omissions::push_omissions;
-
 use crate::forms::{certificate_form, declaration_form, event_form};
 use crate::lines::push_numbered;
 use certificate::CertificateFault;
 use command_parts::status::Fault;
 use declaration::DeclarationFault;
+pub use omissions::push_omissions;
 use peripherals::{EventsFault, NoMemory};
 use std::alloc::Allocator;
 use std::fmt::Write;
@@ -78,13 +77,25 @@ fn push_declaration<A: Allocator>(
         DeclarationFault::BadLine(number) => push_bad_line(text, file, number, declaration_form),
         DeclarationFault::TwoStarts(number) => {
             push_numbered(text, file, number)?;
-            writeln!(text, "a line before it is a start too; one alone may stand there").map_err(|_| NoMemory)
+            writeln!(
+                text,
+                "a line before it is a start too; one alone may stand there"
+            )
+            .map_err(|_| NoMemory)
         }
         DeclarationFault::TwoProfiles(number) => {
             push_numbered(text, file, number)?;
-            writeln!(text, "a line before it is a profile too; one alone may stand there").map_err(|_| NoMemory)
+            writeln!(
+                text,
+                "a line before it is a profile too; one alone may stand there"
+            )
+            .map_err(|_| NoMemory)
         }
-        DeclarationFault::NoStart => push_said(text, file, "no line says where the program starts, as `start 0200` does"),
+        DeclarationFault::NoStart => push_said(
+            text,
+            file,
+            "no line says where the program starts, as `start 0200` does",
+        ),
         DeclarationFault::Overlap(at) => {
             let name = file.name;
             let cell = at.value();
@@ -103,7 +114,11 @@ fn push_declaration<A: Allocator>(
             )
             .map_err(|_| NoMemory)
         }
-        DeclarationFault::StartNotInMain => push_said(text, file, "the start is in no `main` line: add it there"),
+        DeclarationFault::StartNotInMain => push_said(
+            text,
+            file,
+            "the start is in no `main` line: add it there",
+        ),
         DeclarationFault::HaltNotInBody(at) => {
             let name = file.name;
             let cell = at.value();
@@ -113,7 +128,11 @@ fn push_declaration<A: Allocator>(
             )
             .map_err(|_| NoMemory)
         }
-        DeclarationFault::TooMany => push_said(text, file, "it has more than 64 `sub` lines or more than 16384 bytes"),
+        DeclarationFault::TooMany => push_said(
+            text,
+            file,
+            "it has more than 64 `sub` lines or more than 16384 bytes",
+        ),
         DeclarationFault::NoMemory => Ok(()),
     }
 }
@@ -126,7 +145,11 @@ fn push_certificate<A: Allocator>(
 ) -> Result<(), NoMemory> {
     match fault {
         CertificateFault::Version => {
-            push_said(text, file, "its first line is neither `PDP8-CERTIFICATE 1` nor `PDP8-CERTIFICATE 2`: is it a certificate?")
+            push_said(
+                text,
+                file,
+                "its first line is neither `PDP8-CERTIFICATE 1` nor `PDP8-CERTIFICATE 2`: is it a certificate?",
+            )
         }
         CertificateFault::BadLine(number) => push_bad_line(text, file, number, certificate_form),
         CertificateFault::Order(number) => {
@@ -138,7 +161,11 @@ fn push_certificate<A: Allocator>(
             .map_err(|_| NoMemory)
         }
         CertificateFault::TooMany => {
-            push_said(text, file, "it has more than 64 routines, more than 1048576 bytes, or more than 64 cells or 32 equations in a fact or an exit")
+            push_said(
+                text,
+                file,
+                "it has more than 64 routines, more than 1048576 bytes, or more than 64 cells or 32 equations in a fact or an exit",
+            )
         }
         CertificateFault::NoMemory | CertificateFault::ReadFault => Ok(()),
     }
@@ -152,7 +179,11 @@ fn push_events<A: Allocator>(
 ) -> Result<(), NoMemory> {
     match fault {
         EventsFault::BadLine(number) => push_bad_line(text, file, number, event_form),
-        EventsFault::TooMany => push_said(text, file, "it has more than 1000000 events or more than 65536 bytes"),
+        EventsFault::TooMany => push_said(
+            text,
+            file,
+            "it has more than 1000000 events or more than 65536 bytes",
+        ),
         EventsFault::NoMemory => Ok(()),
     }
 }

@@ -103,10 +103,14 @@ fn push_omission<A: Allocator>(
             text.extend_from_slice(b" is in a body, and the tape has no word there")?;
         }
         Omission::Unsupported => {
-            text.extend_from_slice(b"it is no word that the machine has: is it data? Then take it out of the body")?;
+            text.extend_from_slice(
+                b"it is no word that the machine has: is it data? Then take it out of the body",
+            )?;
         }
         Omission::OfThe8e => {
-            text.extend_from_slice(b"the PDP-8/E alone has this word: add `profile 8e` if the program is for one")?;
+            text.extend_from_slice(
+                b"the PDP-8/E alone has this word: add `profile 8e` if the program is for one",
+            )?;
         }
         Omission::Stores(cell) => {
             push_place(text, b"it stores into ", cell)?;
@@ -128,7 +132,11 @@ fn push_omission<A: Allocator>(
             text.extend_from_slice(b", which isn't in the same body: add it there")?;
         }
         Omission::Halts => {
-            push_place(text, b"it halts, and no halt is declared there: add `stop ", at)?;
+            push_place(
+                text,
+                b"it halts, and no halt is declared there: add `stop ",
+                at,
+            )?;
             push_place(text, b"`, or `pause ", at)?;
             text.extend_from_slice(b"` if the operator may go on")?;
         }

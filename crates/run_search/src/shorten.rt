@@ -8,7 +8,7 @@ ghost use Rattle.peripherals.specs.World.{profile_of};
 use crate::plan::{Plan, Purpose};
 use crate::running::Input;
 use crate::script::{Part, Script};
-use crate::search::{Found, DeclaredProgram, RunSearch};
+use crate::search::{DeclaredProgram, Found, RunSearch};
 use declaration::Declaration;
 use peripherals::{NoMemory, Start};
 use policy::Watcher;

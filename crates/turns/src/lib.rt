@@ -6,10 +6,9 @@ ghost use Rattle.turns.specs.Counts.{IsSpentUp};
 
 mod stepping;
 
-pub use stepping::{Stepped, take_step};
-
 use declaration::DeclarationFault;
 use std::marker::Model;
+pub use stepping::{Stepped, take_step};
 use thiserror::Error;
 use word12::Word;
 

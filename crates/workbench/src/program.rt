@@ -314,8 +314,7 @@ fn guess_from<R: Files + Input + Print + Eprint>(
     if explained {
         let mut report = Vec::new(alloc);
         let mut lines = Writes::new(&mut report);
-        let status =
-            guess_or_explain(alloc, &mut frames, &mut text, &mut certificate, &mut lines)?;
+        let status = guess_or_explain(alloc, &mut frames, &mut text, &mut certificate, &mut lines)?;
         if status == Status::Refused {
             let others = omissions(rt, alloc, tape, declaration, stuck_address(&report));
             report.extend_from_slice(&others)?;

@@ -1,6 +1,6 @@
 //! The commands of `pdp8`, their operands and options, as help shows them.
 
-use crate::table::{Argument, Entry, Form, with_commands};
+use crate::table::{Argument, Entry, Form, with_entry};
 use clap::Command;
 use std::alloc::{AllocError, Global};
 
@@ -305,85 +305,82 @@ static REFUTE_ARGUMENTS: [Argument; 7] = [
 
 static MIGRATE_ARGUMENTS: [Argument; 4] = [CERTIFICATE, CERTIFICATE_OUT, OUTPUT, WHY_INPUT];
 
-static ENTRIES: [Entry; 11] = [
-    Entry {
-        name: "verify",
-        usage: None,
-        about: "Says whether a program keeps its declaration: yes, no or not known",
-        after_help: "Without DECLARATION one is proposed for the start and the machine that --start and --profile name; with one they are its own.\n\nExample:\n  pdp8 verify hello.bin hello.declaration",
-        arguments: &VERIFY_ARGUMENTS,
-    },
-    Entry {
-        name: "run",
-        usage: None,
-        about: "Runs a tape and writes where it ended and what it printed and punched",
-        after_help: "Example:\n  pdp8 run hello.bin --start 200 --trace",
-        arguments: &RUN_ARGUMENTS,
-    },
-    Entry {
-        name: "dump",
-        usage: None,
-        about: "Writes address, word and name for each word on a tape",
-        after_help: "Example:\n  pdp8 dump hello.bin",
-        arguments: &DUMP_ARGUMENTS,
-    },
-    Entry {
-        name: "assemble",
-        usage: Some("pdp8 assemble [OPTIONS] [-o] <OUT> <SOURCE>..."),
-        about: "Assembles a PAL III source and writes its tape",
-        after_help: "Without -o OUT comes first, and is emptied before a source is read, also where the source is refused.\n\nExample:\n  pdp8 assemble -o hello.bin hello.pal",
-        arguments: &ASSEMBLE_ARGUMENTS,
-    },
-    Entry {
-        name: "list",
-        usage: None,
-        about: "Assembles a PAL III source and writes its listing",
-        after_help: "Example:\n  pdp8 list hello.pal",
-        arguments: &LIST_ARGUMENTS,
-    },
-    Entry {
-        name: "watch",
-        usage: None,
-        about: "Writes whether a run keeps its declaration, or where it first breaks which rule",
-        after_help: "Example:\n  pdp8 watch hello.bin hello.declaration hello.events",
-        arguments: &WATCH_ARGUMENTS,
-    },
-    Entry {
-        name: "check",
-        usage: None,
-        about: "Writes whether a certificate shows that no run breaks its declaration",
-        after_help: "Example:\n  pdp8 check hello.bin hello.declaration hello.certificate --why",
-        arguments: &CHECK_ARGUMENTS,
-    },
-    Entry {
-        name: "declare",
-        usage: Some("pdp8 declare [OPTIONS] <TAPE> [-o] <OUT>"),
-        about: "Proposes a declaration: what the program of a tape may do",
-        after_help: "The operand OUT is emptied before the tape is read. Where no certificate is found the declaration is written all the same, behind comments that say why if there is room for them, and the status is 1.\n\nExample:\n  pdp8 declare hello.bin -o hello.declaration",
-        arguments: &DECLARE_ARGUMENTS,
-    },
-    Entry {
-        name: "guess",
-        usage: Some("pdp8 guess [OPTIONS] <TAPE> <DECLARATION> [-o] <OUT>"),
-        about: "Looks for a certificate that shows that no run breaks a declaration",
-        after_help: "The operand OUT is emptied before an input is read, and stays empty where nothing is found. check says yes to what is found: that is proved.\n\nExample:\n  pdp8 guess hello.bin hello.declaration -o hello.certificate",
-        arguments: &GUESS_ARGUMENTS,
-    },
-    Entry {
-        name: "refute",
-        usage: Some("pdp8 refute [OPTIONS] <TAPE> <DECLARATION> [-o] <OUT>"),
-        about: "Looks for a run that breaks a declaration, and writes its events",
-        after_help: "The operand OUT is emptied before an input is read, and stays empty where nothing is found. The same seed gives the same answer.\n\nExample:\n  pdp8 refute hello.bin hello.declaration -o found.events --why",
-        arguments: &REFUTE_ARGUMENTS,
-    },
-    Entry {
-        name: "migrate",
-        usage: Some("pdp8 migrate [OPTIONS] <CERTIFICATE> [-o] <OUT>"),
-        about: "Writes a certificate in version 2, which says what MQ may hold",
-        after_help: "The operand OUT is emptied before the certificate is read, also where that is refused.\n\nExample:\n  pdp8 migrate hello.certificate -o hello-2.certificate",
-        arguments: &MIGRATE_ARGUMENTS,
-    },
-];
+static VERIFY: Entry = Entry {
+    name: "verify",
+    usage: None,
+    about: "Says whether a program keeps its declaration: yes, no or not known",
+    after_help: "Without DECLARATION one is proposed for the start and the machine that --start and --profile name; with one they are its own.\n\nExample:\n  pdp8 verify hello.bin hello.declaration",
+};
+
+static RUN: Entry = Entry {
+    name: "run",
+    usage: None,
+    about: "Runs a tape and writes where it ended and what it printed and punched",
+    after_help: "Example:\n  pdp8 run hello.bin --start 200 --trace",
+};
+
+static DUMP: Entry = Entry {
+    name: "dump",
+    usage: None,
+    about: "Writes address, word and name for each word on a tape",
+    after_help: "Example:\n  pdp8 dump hello.bin",
+};
+
+static ASSEMBLE: Entry = Entry {
+    name: "assemble",
+    usage: Some("pdp8 assemble [OPTIONS] [-o] <OUT> <SOURCE>..."),
+    about: "Assembles a PAL III source and writes its tape",
+    after_help: "Without -o OUT comes first, and is emptied before a source is read, also where the source is refused.\n\nExample:\n  pdp8 assemble -o hello.bin hello.pal",
+};
+
+static LIST: Entry = Entry {
+    name: "list",
+    usage: None,
+    about: "Assembles a PAL III source and writes its listing",
+    after_help: "Example:\n  pdp8 list hello.pal",
+};
+
+static WATCH: Entry = Entry {
+    name: "watch",
+    usage: None,
+    about: "Writes whether a run keeps its declaration, or where it first breaks which rule",
+    after_help: "Example:\n  pdp8 watch hello.bin hello.declaration hello.events",
+};
+
+static CHECK: Entry = Entry {
+    name: "check",
+    usage: None,
+    about: "Writes whether a certificate shows that no run breaks its declaration",
+    after_help: "Example:\n  pdp8 check hello.bin hello.declaration hello.certificate --why",
+};
+
+static DECLARE: Entry = Entry {
+    name: "declare",
+    usage: Some("pdp8 declare [OPTIONS] <TAPE> [-o] <OUT>"),
+    about: "Proposes a declaration: what the program of a tape may do",
+    after_help: "The operand OUT is emptied before the tape is read. Where no certificate is found the declaration is written all the same, behind comments that say why if there is room for them, and the status is 1.\n\nExample:\n  pdp8 declare hello.bin -o hello.declaration",
+};
+
+static GUESS: Entry = Entry {
+    name: "guess",
+    usage: Some("pdp8 guess [OPTIONS] <TAPE> <DECLARATION> [-o] <OUT>"),
+    about: "Looks for a certificate that shows that no run breaks a declaration",
+    after_help: "The operand OUT is emptied before an input is read, and stays empty where nothing is found. check says yes to what is found: that is proved.\n\nExample:\n  pdp8 guess hello.bin hello.declaration -o hello.certificate",
+};
+
+static REFUTE: Entry = Entry {
+    name: "refute",
+    usage: Some("pdp8 refute [OPTIONS] <TAPE> <DECLARATION> [-o] <OUT>"),
+    about: "Looks for a run that breaks a declaration, and writes its events",
+    after_help: "The operand OUT is emptied before an input is read, and stays empty where nothing is found. The same seed gives the same answer.\n\nExample:\n  pdp8 refute hello.bin hello.declaration -o found.events --why",
+};
+
+static MIGRATE: Entry = Entry {
+    name: "migrate",
+    usage: Some("pdp8 migrate [OPTIONS] <CERTIFICATE> [-o] <OUT>"),
+    about: "Writes a certificate in version 2, which says what MQ may hold",
+    after_help: "The operand OUT is emptied before the certificate is read, also where that is refused.\n\nExample:\n  pdp8 migrate hello.certificate -o hello-2.certificate",
+};
 
 /// The program with all its commands.
 pub(crate) fn command<'a>(alloc: Global) -> Result<Command<'a>, AllocError> {
@@ -393,5 +390,15 @@ pub(crate) fn command<'a>(alloc: Global) -> Result<Command<'a>, AllocError> {
         .version(VERSION)
         .after_help(STATUSES)
         .subcommand_required(true);
-    with_commands(alloc, program, &ENTRIES)
+    let program = with_entry(alloc, program, &VERIFY, &VERIFY_ARGUMENTS)?;
+    let program = with_entry(alloc, program, &RUN, &RUN_ARGUMENTS)?;
+    let program = with_entry(alloc, program, &DUMP, &DUMP_ARGUMENTS)?;
+    let program = with_entry(alloc, program, &ASSEMBLE, &ASSEMBLE_ARGUMENTS)?;
+    let program = with_entry(alloc, program, &LIST, &LIST_ARGUMENTS)?;
+    let program = with_entry(alloc, program, &WATCH, &WATCH_ARGUMENTS)?;
+    let program = with_entry(alloc, program, &CHECK, &CHECK_ARGUMENTS)?;
+    let program = with_entry(alloc, program, &DECLARE, &DECLARE_ARGUMENTS)?;
+    let program = with_entry(alloc, program, &GUESS, &GUESS_ARGUMENTS)?;
+    let program = with_entry(alloc, program, &REFUTE, &REFUTE_ARGUMENTS)?;
+    with_entry(alloc, program, &MIGRATE, &MIGRATE_ARGUMENTS)
 }

@@ -17,7 +17,7 @@ pub struct FileNames<'a> {
     pub reader: Option<&'a str>,
     /// That of the keys.
     pub keys: Option<&'a str>,
-    /// That of the result, or of what is punched.
+    /// That of the result, where it is the only output.
     pub output: Option<&'a str>,
 }
 
@@ -60,7 +60,6 @@ impl<'a> Request<'a> {
                 tape: Some(session.tape),
                 reader: session.joined.reader,
                 keys: session.joined.keys,
-                output: session.joined.punch,
                 ..none
             },
             Request::Dump { tape, .. } => FileNames {
@@ -104,16 +103,19 @@ impl<'a> Request<'a> {
                 declaration,
                 out,
                 ..
-            }
-            | Request::Refute {
-                tape,
-                declaration,
-                out,
-                ..
             } => FileNames {
                 tape: Some(tape),
                 declaration: Some(declaration),
                 output: Some(out.name()),
+                ..none
+            },
+            Request::Refute {
+                tape,
+                declaration,
+                ..
+            } => FileNames {
+                tape: Some(tape),
+                declaration: Some(declaration),
                 ..none
             },
             Request::Verify {

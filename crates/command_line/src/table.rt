@@ -46,8 +46,6 @@ pub(crate) struct Entry {
     pub(crate) about: &'static str,
     /// What stands below its options.
     pub(crate) after_help: &'static str,
-    /// Its arguments.
-    pub(crate) arguments: &'static [Argument],
 }
 
 impl Argument {
@@ -81,30 +79,27 @@ impl Argument {
 }
 
 impl Entry {
-    /// The command for clap.
-    fn built<'a>(&self, alloc: Global) -> Result<Command<'a>, AllocError> {
+    /// The command for clap, with these arguments.
+    fn built<'a>(&self, alloc: Global, arguments: &[Argument]) -> Result<Command<'a>, AllocError> {
         let mut command = Command::new(alloc, self.name)
             .about(self.about)
             .after_help(self.after_help);
         if let Some(usage) = self.usage {
             command = command.override_usage(usage);
         }
-        for argument in self.arguments {
+        for argument in arguments {
             command = command.arg(argument.built(alloc)?)?;
         }
         Ok(command)
     }
 }
 
-/// Adds commands in turn.
-pub(crate) fn with_commands<'a>(
+/// Adds a command with its arguments.
+pub(crate) fn with_entry<'a>(
     alloc: Global,
     program: Command<'a>,
-    entries: &[Entry],
+    entry: &Entry,
+    arguments: &[Argument],
 ) -> Result<Command<'a>, AllocError> {
-    let mut program = program;
-    for entry in entries {
-        program = program.subcommand(entry.built(alloc)?)?;
-    }
-    Ok(program)
+    program.subcommand(entry.built(alloc, arguments)?)
 }

@@ -55,15 +55,8 @@ pub(crate) fn push_said<A: Allocator>(
     writeln!(text, "{name}: {said}").map_err(|_| NoMemory)
 }
 
-/// Adds the line of a file that has this number, and which form it should have.
-fn push_bad_line<A: Allocator>(
-    text: &mut String<A>,
-    file: &FaultyFile<'_>,
-    number: usize,
-    form: fn(&[u8]) -> &'static str,
-) -> Result<(), NoMemory> {
-    let line = push_numbered(text, file, number)?;
-    let form = form(line);
+/// Adds the line that says which form a line has.
+fn push_form<A: Allocator>(text: &mut String<A>, form: &str) -> Result<(), NoMemory> {
     writeln!(text, "{form}").map_err(|_| NoMemory)
 }
 
@@ -74,22 +67,23 @@ fn push_declaration<A: Allocator>(
     file: &FaultyFile<'_>,
 ) -> Result<(), NoMemory> {
     match fault {
-        DeclarationFault::BadLine(number) => push_bad_line(text, file, number, declaration_form),
+        DeclarationFault::BadLine(number) => {
+            let line = push_numbered(text, file, number)?;
+            push_form(text, declaration_form(line))
+        }
         DeclarationFault::TwoStarts(number) => {
             push_numbered(text, file, number)?;
-            writeln!(
+            push_form(
                 text,
-                "a line before it is a start too; one alone may stand there"
+                "a line before it is a start too; one alone may stand there",
             )
-            .map_err(|_| NoMemory)
         }
         DeclarationFault::TwoProfiles(number) => {
             push_numbered(text, file, number)?;
-            writeln!(
+            push_form(
                 text,
-                "a line before it is a profile too; one alone may stand there"
+                "a line before it is a profile too; one alone may stand there",
             )
-            .map_err(|_| NoMemory)
         }
         DeclarationFault::NoStart => push_said(
             text,
@@ -151,14 +145,16 @@ fn push_certificate<A: Allocator>(
                 "its first line is neither `PDP8-CERTIFICATE 1` nor `PDP8-CERTIFICATE 2`: is it a certificate?",
             )
         }
-        CertificateFault::BadLine(number) => push_bad_line(text, file, number, certificate_form),
+        CertificateFault::BadLine(number) => {
+            let line = push_numbered(text, file, number)?;
+            push_form(text, certificate_form(line))
+        }
         CertificateFault::Order(number) => {
             push_numbered(text, file, number)?;
-            writeln!(
+            push_form(
                 text,
-                "it is out of order or there twice: routines come first, then facts, then exits, each by rising addresses; under a fact or an exit its cells, then its equations"
+                "it is out of order or there twice: routines come first, then facts, then exits, each by rising addresses; under a fact or an exit its cells, then its equations",
             )
-            .map_err(|_| NoMemory)
         }
         CertificateFault::TooMany => {
             push_said(
@@ -178,7 +174,10 @@ fn push_events<A: Allocator>(
     file: &FaultyFile<'_>,
 ) -> Result<(), NoMemory> {
     match fault {
-        EventsFault::BadLine(number) => push_bad_line(text, file, number, event_form),
+        EventsFault::BadLine(number) => {
+            let line = push_numbered(text, file, number)?;
+            push_form(text, event_form(line))
+        }
         EventsFault::TooMany => push_said(
             text,
             file,

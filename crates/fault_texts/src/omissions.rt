@@ -169,7 +169,7 @@ pub fn push_omissions<A: Allocator, D: Allocator>(
         if found == 0 {
             text.extend_from_slice(b"whatever a certificate says, if a run comes there:\n")?;
         }
-        found += 1;
+        found = found.saturating_add(1);
         if found > MOST {
             return text.extend_from_slice(b"and more\n");
         }

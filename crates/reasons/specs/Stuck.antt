@@ -22,8 +22,8 @@ is_landing_of_lines NoFact = true
 is_landing_of_lines OtherBody = false
 is_landing_of_lines (Excluded g) = true
 
--- The call is wrong since a line is missing or too narrow. A rank that isn't lower is no such thing: where there are ranks, a
--- draft has them.
+-- The call is wrong by lines: one is missing or too narrow, or lets the callee write the caller's entry. A rank that isn't
+-- lower is no such thing: where there are ranks, a draft has them.
 abbrev pub is_call_of_lines : CallBreach → Bool
 is_call_of_lines call.NoEntry = false
 is_call_of_lines call.TooHigh = false
@@ -46,18 +46,18 @@ is_word_of_lines (breach.Returns e b) = is_return_of_lines b
 is_word_of_lines (breach.GoesOn a l) = is_landing_of_lines l
 is_word_of_lines _ = false
 
--- What is told is that a line is missing or too narrow: a certificate with more lines, or wider ones, needn't have it.
+-- What is told is of lines: that one is missing, misplaced or too narrow, or lets too much be written, so that a certificate
+-- with other lines needn't have it.
 abbrev pub is_of_lines : Reason → Bool
 is_of_lines (why.TooManyWords n) = false
 is_of_lines (why.ByWord w b) = is_word_of_lines b
 is_of_lines _ = true
 
--- It is told of the address at which the search is stuck, and isn't that a line is missing or too narrow.
+-- It is told of the address at which the search is stuck, and isn't of lines.
 abbrev pub IsToldOf : ℕ → Refusal → Reason → Type 0
 IsToldOf at refusal reason = (refusal.address ≡ at) × (is_of_lines reason ≡ false)
 
--- If the condition fails at the address, it is for want of lines alone: whatever explains it is that one is missing or too
--- narrow.
+-- If the condition fails at the address it does so by lines alone: whatever explains that is of lines.
 abbrev pub FailsByLinesAlone : Case → ℕ → Condition → Type 0
 FailsByLinesAlone j a v = (reason : Reason) → Explains j v a reason → is_of_lines reason ≡ true
 

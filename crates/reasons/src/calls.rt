@@ -1,9 +1,9 @@
 //! What a call breaks.
 
-ghost use Rattle.std.specs.Prelude.{◌≡◌, ◌<◌, IfNone, IfSome};
+ghost use Rattle.std.specs.Prelude.{◌≡◌, ◌<◌, true, false, IfNone, IfSome};
 ghost use Rattle.facts.specs.declared.Condition.TheVariants.{V7, V8, V9, V10, V11};
 ghost use Rattle.reasons.specs.Keeping.{IsLowerHere, KeepsCallHere, KeepsCallsHere, KeepsHere, ReturnLandsHere};
-ghost use Rattle.reasons.specs.Spots.{BreaksHere, CallBreaksHere};
+ghost use Rattle.reasons.specs.Spots.{BreaksHere, CallBreaksHere, claimed_by, counts_lines};
 
 use crate::breach::{Breach, CallBreach};
 use crate::spot::Spot;
@@ -68,10 +68,20 @@ impl<A: Allocator, C: Claims> Spot<'_, A, C> {
         if !self.place.declaration.is_entry(entry) {
             return Some(CallBreach::NoEntry);
         }
-        if self.counts_lines() && self.claims.routine(entry).is_none() {
+        if self.is_unlisted(entry) {
             return Some(CallBreach::NotListed);
         }
         self.is_not_lower(entry)
+    }
+
+    /// Whether an entry has no routine line, where lines count.
+    fn is_unlisted(&self, entry: Word) -> bool
+        ensures yes { result ≡ true → (counts_lines self.now.sought ≡ true) ×
+            ((claimed_by C.claims self.now).listed entry ≡ false) }
+        ensures no { result ≡ false → counts_lines self.now.sought ≡ true →
+            (claimed_by C.claims self.now).listed entry ≡ true }
+    {
+        self.counts_lines() && self.claims.routine(entry).is_none()
     }
 
     /// Why the rank of a listed callee isn't lower than that of the running routine, if that is listed.

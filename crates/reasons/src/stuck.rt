@@ -15,8 +15,7 @@ use std::alloc::Allocator;
 use word12::Word;
 
 /// The conditions in the order in which they are asked: first those that a word breaks by itself, then
-/// those on calls and returns, then those on where a run goes on. The four others fail only where a line
-/// is missing or too narrow.
+/// those on calls and returns, then those on where a run goes on. The four others fail by lines alone.
 const ORDER: [Condition; 11] = [
     Condition::V3,
     Condition::V5,

@@ -78,10 +78,10 @@ pub fn why_stuck<A: Allocator, C: Claims>(
     ensures none { IfNone result (EachFailsByLinesAlone
         (judged image.now declaration.now (C.claims claims.now)) at) }
 {
-    for condition in ORDER {
-        if let Some(reason) = why_by_words(image, declaration, claims, condition, at) {
+    for condition in &ORDER {
+        if let Some(reason) = why_by_words(image, declaration, claims, *condition, at) {
             let refusal = Refusal {
-                condition,
+                condition: *condition,
                 address: at,
             };
             return Some((refusal, reason));

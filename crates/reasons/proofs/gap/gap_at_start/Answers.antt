@@ -8,3 +8,6 @@ returns-clause-none c =
     none_weaker c.equation_gap_at_start.result _ _
     (λ always. start_allowed (image_of c.args.image.now) c.args.fact.now c.in_default.ensures.none c.in_default-cell_gap_at_start.ensures.none always)
     c.equation_gap_at_start.ensures.none
+
+pub returns-in-Some-clause-found : goal.returns-in-Some-clause-found
+returns-in-Some-clause-found c = c.in-Some.ensures.found (image_of c.args.image.now)

@@ -15,10 +15,10 @@ pub returns-in_err-own-clause-none : goal.returns-in_err-own-clause-none
 returns-in_err-own-clause-none g c =
     rw c.from_residual-in_err-own.ensures (lower_in_unlisted (claimed_by g.C.Claims.claims c.args.self.now) (here c.args.self.now).routine c.in_ok-running.running c.args.entry c.in_ok-running.ensures c.in_err-own.ensures.listed)
 
-pub returns-then-callee_rank-lt-own_rank-clause-none : goal.returns-then-callee_rank-lt-own_rank-clause-none
-returns-then-callee_rank-lt-own_rank-clause-none g c =
+pub returns-then-callee-own-clause-none : goal.returns-then-callee-own-clause-none
+returns-then-callee-own-clause-none g c =
     let claims = claimed_by g.C.Claims.claims c.args.self.now in
-    let less : claims.rank c.args.entry < claims.rank c.in_ok-running.running = omega (arith, c.in_ok-callee.ensures.rank, c.in_ok-own.ensures.rank, c.if-callee_rank-lt-own_rank.true) in
+    let less : claims.rank c.args.entry < claims.rank c.in_ok-running.running = omega (arith, c.in_ok-callee.ensures.rank, c.in_ok-own.ensures.rank, c.if-callee-own.true) in
     lower_in_routine claims (here c.args.self.now).routine c.in_ok-running.running c.args.entry c.in_ok-running.ensures less
 
 pub returns-clause-found : goal.returns-clause-found
@@ -27,6 +27,6 @@ returns-clause-found g c = (
   tt,
   (
     sym c.in_ok-callee.ensures.listed,
-    (c.in_ok-running.running, sym c.in_ok-running.ensures, (sym c.in_ok-own.ensures.listed, sym c.in_ok-callee.ensures.rank, sym c.in_ok-own.ensures.rank, omega (arith, c.if-callee_rank-lt-own_rank.false))),
+    (c.in_ok-running.running, sym c.in_ok-running.ensures, (sym c.in_ok-own.ensures.listed, sym c.in_ok-callee.ensures.rank, sym c.in_ok-own.ensures.rank, omega (arith, c.if-callee-own.false))),
   ),
 )

@@ -1,5 +1,5 @@
 -- Where a fact arrives, one that agrees arrives too.
-use Rattle.std.proofs.Common.{◌≡◌, ℕ, ◌<◌, Bool, List, [], ◌∷◌, ◌∙◌, subst}
+use Rattle.std.proofs.Common.{◌≡◌, ℕ, Bool, List, [], ◌∷◌, ◌∙◌, subst}
 use Rattle.declaration.specs.Declaration.{Routine}
 use Rattle.facts.specs.Facts.{Fact, Place}
 use Rattle.facts.specs.Outcomes.{Outcome, Goes, CallsTo, Returns}

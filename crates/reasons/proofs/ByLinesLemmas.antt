@@ -3,18 +3,17 @@ use Rattle.std.proofs.Common.{◌≡◌, ℕ, zero, suc, ◌+◌, ◌<◌, ◌�
 use Rattle.std.proofs.lemmas.Bool.{cases_lt, false≢true, true≢false}
 use Rattle.wordset.specs.Words.{how_many}
 use Rattle.declaration.specs.Declaration.{Routine}
-use Rattle.facts.specs.Conditions.{called, returned_through}
+use Rattle.facts.specs.Conditions.{called}
 use Rattle.facts.specs.Facts.{Fact, Place, possible}
 use Rattle.facts.specs.Outcomes.{Outcome, Goes, CallsTo, Returns, meaning_at, outcomes_at}
 use Rattle.facts.specs.declared.Condition.{Condition}
 use Rattle.facts.specs.declared.Condition.TheVariants.{V1, V2, V3, V6, V8}
 use Rattle.certificate.specs.Certificate.{Certificate}
-use Rattle.judge.specs.Conditions.{Case, EachOutcome, IsIn, fact_at, place_in}
+use Rattle.judge.specs.Conditions.{Case, EachOutcome, fact_at, place_in}
 use Rattle.reasons.specs.Breaches.{Breaks, CallBreaks, Misses, OutcomeMisses, ReturnBreaks, SomeOutcome, condition_of, condition_of_call}
 use Rattle.reasons.specs.Keeping.{Arrives, IsLowerIfListed, Keeps, KeepsAt, KeepsCall, OutcomeArrives, ReturnsThrough}
-use Rattle.reasons.specs.Reasons.{Explains}
-use Rattle.reasons.specs.Spots.{IsSought, counts_lines}
-use Rattle.reasons.specs.Stuck.{EachFailsByLinesAlone, FailsByLinesAlone, NoneFailsBefore, place_asked, is_call_of_lines, is_landing_of_lines, is_of_lines, is_return_of_lines, is_word_of_lines}
+use Rattle.reasons.specs.Spots.{IsSought}
+use Rattle.reasons.specs.Stuck.{EachFailsByLinesAlone, FailsByLinesAlone, NoneFailsBefore, place_asked, is_call_of_lines, is_landing_of_lines, is_return_of_lines, is_word_of_lines}
 use Rattle.reasons.specs.declared.breach.Breach.{Breach}
 use Rattle.reasons.specs.declared.breach.Breach.TheVariants as breach
 use Rattle.reasons.specs.declared.breach.CallBreach.{CallBreach}
@@ -23,7 +22,6 @@ use Rattle.reasons.specs.declared.breach.Landing.{Landing}
 use Rattle.reasons.specs.declared.breach.Landing.TheVariants.{NoFact, OtherBody, Excluded}
 use Rattle.reasons.specs.declared.breach.ReturnBreach.{ReturnBreach}
 use Rattle.reasons.specs.declared.breach.ReturnBreach.TheVariants as return
-use Rattle.reasons.specs.declared.reason.Reason.{Reason}
 use Rattle.reasons.specs.declared.reason.Reason.TheVariants as why
 use Rattle.reasons.specs.declared.spot.Sought.TheVariants.{NotOfLines}
 use Rattle.reasons.specs.declared.stuck.TheConstants.{ORDER}
@@ -146,41 +144,43 @@ Counted : ℕ → List Condition → Type 0
 Counted n [] = Unit {0}
 Counted n (u ∷ us) = (place_asked u ≡ n) × Counted (suc n) us
 
-counted_at : (us : List Condition) (n i : ℕ) (v : Condition) → Counted n us → i < length us → v ≡ get_or us i v → place_asked v ≡ n + i
+counted_at : (us : List Condition) (n i : ℕ) → Counted n us → i < length us → place_asked (get_or us i V1) ≡ n + i
 unfolding Counted
-counted_at [] n i v h lt is = absurd (omega (arith, lt))
-counted_at (u ∷ us) n zero v h lt is = let here : place_asked v ≡ n = ap place_asked is ∙ h.0 in omega (arith, here)
-counted_at (u ∷ us) n (suc i) v h lt is = let there : place_asked v ≡ suc n + i = counted_at us (suc n) i v h.1 (omega (arith, lt)) is in omega (arith, there)
+counted_at [] n i h lt = absurd (omega (arith, lt))
+counted_at (u ∷ us) n zero h lt = let here : place_asked u ≡ n = h.0 in omega (arith, here)
+counted_at (u ∷ us) n (suc i) h lt = let there : place_asked (get_or us i V1) ≡ suc n + i = counted_at us (suc n) i h.1 (omega (arith, lt)) in omega (arith, there)
 
 order_is_counted : Counted 0 ORDER
 unfolding Counted
 order_is_counted = (refl, (refl, (refl, (refl, (refl, (refl, (refl, (refl, (refl, (refl, (refl, tt)))))))))))
 
--- The place of the condition that is asked in this turn is its number.
-pub place_of_turn : (i : ℕ) (v : Condition) → i < 11 → v ≡ get_or ORDER i v → place_asked v ≡ i
-place_of_turn i v lt is = let here : place_asked v ≡ 0 + i = counted_at ORDER 0 i v order_is_counted lt is in omega (arith, here)
-
--- A condition with a place below 11 is asked in that turn.
-pub asked_in_turn : (u : Condition) (i : ℕ) (v : Condition) → i < 11 → place_asked u ≡ i → v ≡ get_or ORDER i v → u ≡ v
-asked_in_turn u i v lt place is = sym (subst (λ k. v ≡ get_or ORDER k v) (sym place) is ∙ at_own u (subst (λ k. k < 11) (sym place) lt))
-  where
-    at_own : (w : Condition) → place_asked w < 11 → get_or ORDER (place_asked w) v ≡ w
-    at_own V1 below = absurd (omega (arith, below))
-    at_own V2 below = absurd (omega (arith, below))
-    at_own V6 below = absurd (omega (arith, below))
-    at_own V8 below = absurd (omega (arith, below))
-    at_own _ below = refl
-
 -- ---- the turns
+
+-- The condition that is asked in a turn.
+abbrev pub in_turn : ℕ → Condition
+in_turn i = get_or ORDER i V1
+
+-- Its place is the turn's number,
+place_in_turn : (i : ℕ) → i < 11 → place_asked (in_turn i) ≡ i
+place_in_turn i lt = let here : place_asked (in_turn i) ≡ 0 + i = counted_at ORDER 0 i order_is_counted lt in omega (arith, here)
+
+-- and each condition that has its place among the first eleven is asked in that turn.
+asked_in_turn : (u : Condition) → place_asked u < 11 → in_turn (place_asked u) ≡ u
+asked_in_turn V1 lt = absurd (omega (arith, lt))
+asked_in_turn V2 lt = absurd (omega (arith, lt))
+asked_in_turn V6 lt = absurd (omega (arith, lt))
+asked_in_turn V8 lt = absurd (omega (arith, lt))
+asked_in_turn _ lt = refl
 
 -- Whatever has its place before this turn fails by lines alone.
 abbrev pub Passed : Case → ℕ → ℕ → Type 0
 Passed j a i = (u : Condition) → place_asked u < i → FailsByLinesAlone j a u
 
-pub passed_one : (j : Case) (a i : ℕ) (v : Condition) → i < 11 → v ≡ get_or ORDER i v → FailsByLinesAlone j a v → Passed j a i → Passed j a (i + 1)
-passed_one j a i v lt is fails passed u less = elim (cases_lt (place_asked u) i) [
+pub passed_one : (j : Case) (a i : ℕ) → i < 11 → FailsByLinesAlone j a (in_turn i) → Passed j a i → Passed j a (i + 1)
+passed_one j a i lt fails passed u less = elim (cases_lt (place_asked u) i) [
   | inl h ↦ passed u h
-  | inr h ↦ (let here : place_asked u ≡ i = omega (arith, h, less) in subst (FailsByLinesAlone j a) (sym (asked_in_turn u i v lt here is)) fails)
+  | inr h ↦ (let here : i ≡ place_asked u = omega (arith, h, less) in
+      subst (FailsByLinesAlone j a) (ap in_turn here ∙ asked_in_turn u (omega (arith, here, lt))) fails)
 ]
 
 pub passed_all : (j : Case) (a i : ℕ) → 11 ≤ i → Passed j a i → EachFailsByLinesAlone j a
@@ -189,5 +189,5 @@ passed_all j a i le passed u = elim (cases_lt (place_asked u) 11) [
   | inr h ↦ fails_by_lines j u a false (others_kept j a u h)
 ]
 
-pub none_before : (j : Case) (a i : ℕ) (v : Condition) → i < 11 → v ≡ get_or ORDER i v → Passed j a i → NoneFailsBefore j a v
-none_before j a i v lt is passed u less = passed u (let here : place_asked v ≡ i = place_of_turn i v lt is in omega (arith, here, less))
+pub none_before : (j : Case) (a i : ℕ) → i < 11 → Passed j a i → NoneFailsBefore j a (in_turn i)
+none_before j a i lt passed u less = passed u (let here : place_asked (in_turn i) ≡ i = place_in_turn i lt in omega (arith, here, less))

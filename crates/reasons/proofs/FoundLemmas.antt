@@ -2,7 +2,7 @@
 use Rattle.std.proofs.Common.{◌≡◌, ℕ, ◌+◌, ◌<◌, ◌≤◌, Bool, true, false, ◌&&◌, ◌⊎◌, Option, Some, None, List, [], ◌∷◌, inl, inr, refl, sym, ap, ◌∙◌, subst, arith, if◌then◌else◌, lit≤}
 use Rattle.std.specs.Prelude.{IfNone, is_some}
 use Rattle.std.proofs.lemmas.Bool.{true≢false}
-use Rattle.instruct.specs.Instructions.{Meaning, Jms, Jmp, meaning_of}
+use Rattle.instruct.specs.Instructions.{Meaning, Jms, Jmp}
 use Rattle.wordset.specs.Words.{Words, one, plus}
 use Rattle.declaration.specs.Declaration.{Routine, IsDeclared, IsListed}
 use Rattle.facts.specs.Facts.{Fact, Place, joined}

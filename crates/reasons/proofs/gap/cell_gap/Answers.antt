@@ -1,7 +1,6 @@
 use Rattle.std.proofs.Common.{◌<◌, length, arith, ap, subst, sym}
 use Rattle.wordset.specs.Words.{SameWords}
 use Rattle.wordset.specs.Lanes.{words}
-use Rattle.facts.specs.Facts.{narrowed}
 use Rattle.facts.specs.Meaning.{known_of, tracked_cells}
 use Rattle.facts.specs.Showing.{EachWithin}
 use Rattle.facts.specs.Statements.{TrackedCell, tracked}

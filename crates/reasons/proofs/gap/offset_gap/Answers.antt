@@ -1,4 +1,4 @@
-use Rattle.std.proofs.Common.{◌≡◌, ℕ, ◌<◌, true, arith, sym, ap, ◌∙◌}
+use Rattle.std.proofs.Common.{◌≡◌, true, arith, sym, ap, ◌∙◌}
 use Rattle.wordset.specs.Words.{Words}
 use Rattle.facts.specs.Meaning.{offsets_of}
 use Rattle.reasons.proofs.SetLemmas.{below_next}

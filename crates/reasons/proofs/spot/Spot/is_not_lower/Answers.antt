@@ -1,4 +1,4 @@
-use Rattle.std.proofs.Common.{◌<◌, ◌∙◌, arith, refl, sym}
+use Rattle.std.proofs.Common.{◌<◌, arith, refl, sym}
 use Rattle.reasons.specs.Spots.{claimed_by, here}
 use Rattle.reasons.proofs.FoundLemmas.{lower_in_main, lower_in_routine, lower_in_unlisted, lower_of_unlisted}
 use Rattle.reasons.proofs.spot.Spot.is_not_lower.Goals as goal

@@ -1,4 +1,4 @@
-use Rattle.std.proofs.Common.{◌≡◌, Some, None, sym, ◌∙◌, subst}
+use Rattle.std.proofs.Common.{◌∙◌, subst}
 use Rattle.reasons.specs.Keeping.{ReturnsThroughHere}
 use Rattle.reasons.proofs.FoundLemmas.{none_some, some_is}
 use Rattle.reasons.proofs.spot.Spot.returns_wrongly.Goals as goal

@@ -74,6 +74,19 @@ pub enum Request<'a> {
         /// Whose permanent symbols there are.
         profile: Profile,
     },
+    /// To write a source of a tape.
+    Source {
+        /// The name of the tape's file.
+        tape: &'a str,
+        /// The name of the file that the source goes to.
+        out: &'a str,
+        /// The name of the declaration's file, if there is one.
+        declaration: Option<&'a str>,
+        /// Where the program starts, without a declaration.
+        start: Word,
+        /// For which machine it is, without a declaration.
+        profile: Profile,
+    },
     /// To list a source.
     List {
         /// The names of the files of the parts, in order.
@@ -285,6 +298,26 @@ fn list_command<'a>(alloc: Global) -> Result<Command<'a>, AllocError> {
         .arg(profile_word(alloc))
 }
 
+fn source_command<'a>(alloc: Global) -> Result<Command<'a>, AllocError> {
+    let out = Arg::new(alloc, "OUT").required(true).help(
+        "where the source goes, or - for standard output; it is emptied first",
+    );
+    let declaration = Arg::new(alloc, "declaration")
+        .long("declaration")
+        .value_name("FILE")
+        .help("the declaration, whose bodies are the code, or - for standard input");
+    Command::new(alloc, "source")
+        .about("Writes a PAL III source of a tape, from which assemble makes the same words")
+        .after_help(
+            "OUT is another file: it is emptied before the tape is read. Without a declaration control is followed from the start, for the machine of --profile; with one they are its own.\n\nExample:\n  pdp8 source hello.bin found.pal",
+        )
+        .arg(tape_word(alloc))?
+        .arg(out)?
+        .arg(start_word(alloc))?
+        .arg(declaration)?
+        .arg(profile_word(alloc))
+}
+
 fn declaration_word<'a>(alloc: Global) -> Arg<'a> {
     Arg::new(alloc, "DECLARATION")
         .required(true)
@@ -454,6 +487,7 @@ fn command<'a>(alloc: Global) -> Result<Command<'a>, AllocError> {
         .subcommand(dump_command(alloc)?)?
         .subcommand(assemble_command(alloc)?)?
         .subcommand(list_command(alloc)?)?
+        .subcommand(source_command(alloc)?)?
         .subcommand(watch_command(alloc)?)?
         .subcommand(check_command(alloc)?)?
         .subcommand(declare_command(alloc)?)?
@@ -536,6 +570,25 @@ fn list_request<'a>(alloc: Global, found: &ArgMatches<'a>) -> Result<Request<'a>
     let sources = source_names(alloc, found)?;
     Ok(Request::List {
         sources,
+        profile: profile_of(found)?,
+    })
+}
+
+fn source_request<'a>(found: &ArgMatches<'a>) -> Result<Request<'a>, Refused> {
+    let tape = found.get_str("TAPE").unwrap_or("-");
+    let declaration = found.get_str("declaration");
+    if tape == "-" && declaration == Some("-") {
+        return Err(Refused::BothStandardInput);
+    }
+    let asked = found.get_str("start").is_some() || found.get_str("profile").is_some();
+    if declaration.is_some() && asked {
+        return Err(Refused::DeclarationAndStart);
+    }
+    Ok(Request::Source {
+        tape,
+        out: found.get_str("OUT").unwrap_or("-"),
+        declaration,
+        start: start_of(found)?,
         profile: profile_of(found)?,
     })
 }
@@ -670,6 +723,7 @@ pub fn parse_words<'a, S: AsStr>(alloc: Global, words: &'a [S]) -> Result<Reques
         }),
         Some(("assemble", found)) => assemble_request(alloc, found),
         Some(("list", found)) => list_request(alloc, found),
+        Some(("source", found)) => source_request(found),
         Some(("watch", found)) => watch_request(found),
         Some(("check", found)) => check_request(found),
         Some(("declare", found)) => declare_request(found),

@@ -127,7 +127,7 @@ impl Reach {
             let Some(spot) = self.next() else {
                 return;
             };
-            self.visit(image, spot);
+            self.visit(image, &spot);
         }
     }
 
@@ -167,12 +167,12 @@ impl Reach {
     }
 
     /// Goes on so many cells later.
-    fn advance(&mut self, image: &Image, spot: Spot, by: usize) {
+    fn advance(&mut self, image: &Image, spot: &Spot, by: usize) {
         let to = spot.at.add(Word::from_index(by % 4096));
         self.meet(image, to, spot.offset);
     }
 
-    fn visit(&mut self, image: &Image, spot: Spot) {
+    fn visit(&mut self, image: &Image, spot: &Spot) {
         let Some(word) = image.get(spot.at) else {
             return;
         };
@@ -191,7 +191,7 @@ impl Reach {
     }
 
     /// Goes on from a word of group 2. Its bits 0010 to 0100 say when it skips: 0010 alone always.
-    fn test(&mut self, image: &Image, spot: Spot, word: Word) {
+    fn test(&mut self, image: &Image, spot: &Spot, word: Word) {
         if halts(word) {
             self.halts.insert(spot.at);
             return;
@@ -218,7 +218,7 @@ impl Reach {
     }
 
     /// Goes on from a memory reference.
-    fn refer(&mut self, image: &Image, spot: Spot, word: Word) {
+    fn refer(&mut self, image: &Image, spot: &Spot, word: Word) {
         let named = target(word, spot.at);
         match Operation::of(word) {
             Operation::Jms => self.call(image, spot, word),
@@ -227,10 +227,7 @@ impl Reach {
                 self.meet(image, spot.at.increment(), spot.offset.saturating_add(1));
             }
             operation => {
-                self.data.insert(named);
-                if operation != Operation::And && operation != Operation::Tad {
-                    self.stored.insert(named);
-                }
+                self.note_operand(operation, named, refers_indirectly(word));
                 self.advance(image, spot, 1);
                 if operation == Operation::Isz {
                     self.advance(image, spot, 2);
@@ -239,8 +236,17 @@ impl Reach {
         }
     }
 
+    /// Notes that a cell is named as an operand or as the pointer to one.
+    fn note_operand(&mut self, operation: Operation, named: Word, is_pointer: bool) {
+        self.data.insert(named);
+        let is_read = operation == Operation::And || operation == Operation::Tad;
+        if !is_read && !is_pointer {
+            self.stored.insert(named);
+        }
+    }
+
     /// Goes on from a call: at the routine, and where it is known to return.
-    fn call(&mut self, image: &Image, spot: Spot, word: Word) {
+    fn call(&mut self, image: &Image, spot: &Spot, word: Word) {
         let entry = match self.address(image, spot.at, word) {
             Some(entry) if image.get(entry).is_some() => entry,
             _ => {
@@ -261,7 +267,7 @@ impl Reach {
     }
 
     /// Goes on from a jump. One through the entry of a routine is its return.
-    fn jump(&mut self, image: &Image, spot: Spot, word: Word) {
+    fn jump(&mut self, image: &Image, spot: &Spot, word: Word) {
         let named = target(word, spot.at);
         if refers_indirectly(word) && self.entries.contains(named) {
             self.note_return(named, spot.offset);

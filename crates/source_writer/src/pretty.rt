@@ -94,11 +94,12 @@ impl Outline {
         if self.entries.contains(at) {
             text.extend_from_slice(b"/Routine ")?;
             self.push_symbol(text, at)?;
-            text.extend_from_slice(b"\n")?;
-        } else if declared.main.contains(at) && !declared.main.contains(previous(at)) {
-            text.extend_from_slice(b"/Main program\n")?;
+            return text.extend_from_slice(b"\n");
         }
-        Ok(())
+        match declared.main.least() {
+            Some(first) if first == at => text.extend_from_slice(b"/Main program\n"),
+            _ => Ok(()),
+        }
     }
 
     /// Adds what stands before the line of a cell: an empty line where something new begins, a heading,

@@ -31,11 +31,11 @@ fn push_comment<A: Allocator>(
     if width < 8 {
         text.extend_from_slice(b"\t")?;
     }
-    text.extend_from_slice(if width < 16 {
-        b"\t/"
+    if width < 16 {
+        text.extend_from_slice(b"\t/")?;
     } else {
-        b" /"
-    })?;
+        text.extend_from_slice(b" /")?;
+    }
     text.extend_from_slice(remark)
 }
 
@@ -43,10 +43,10 @@ impl Outline {
     /// Adds the first line.
     fn push_title<A: Allocator>(&self, text: &mut Vec<u8, A>) -> Result<(), AllocError> {
         text.extend_from_slice(b"/From a tape, for the ")?;
-        text.extend_from_slice(match self.profile {
-            Profile::Pdp8I => b"PDP-8/I",
-            Profile::Pdp8E => b"PDP-8/E",
-        })?;
+        match self.profile {
+            Profile::Pdp8I => text.extend_from_slice(b"PDP-8/I")?,
+            Profile::Pdp8E => text.extend_from_slice(b"PDP-8/E")?,
+        }
         text.extend_from_slice(b". Start: ")?;
         text.extend_from_slice(&self.start.to_octal())?;
         text.extend_from_slice(b"\n")
@@ -142,7 +142,8 @@ impl Outline {
         text.extend_from_slice(b"\t")?;
         let before = text.len();
         self.push_statement(text, image, at, word)?;
-        push_comment(text, text.len().saturating_sub(before), remark)?;
+        let width = text.len().saturating_sub(before);
+        push_comment(text, width, remark)?;
         text.extend_from_slice(b"\n")
     }
 

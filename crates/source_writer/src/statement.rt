@@ -17,11 +17,12 @@ impl Outline {
         text: &mut Vec<u8, A>,
         cell: Word,
     ) -> Result<(), AllocError> {
-        text.push(if self.entries.contains(cell) {
+        let letter = if self.entries.contains(cell) {
             b'S'
         } else {
             b'L'
-        })?;
+        };
+        text.push(letter)?;
         text.extend_from_slice(&cell.to_octal())
     }
 
@@ -75,11 +76,10 @@ impl Outline {
         word: Word,
     ) -> Result<(), AllocError> {
         text.extend_from_slice(Operation::of(word).mnemonic().as_bytes())?;
-        text.extend_from_slice(if refers_indirectly(word) {
-            b" I "
-        } else {
-            b" "
-        })?;
+        if refers_indirectly(word) {
+            text.extend_from_slice(b" I")?;
+        }
+        text.extend_from_slice(b" ")?;
         match self.operand(image, at, word) {
             Operand::Here => text.extend_from_slice(b"."),
             Operand::Previous => text.extend_from_slice(b".-1"),

@@ -39,7 +39,8 @@ static int refused(void) {
 void *malloc(size_t size) { return next_malloc ? (refused() ? 0 : next_malloc(size)) : 0; }
 void *realloc(void *old, size_t size) { return refused() ? 0 : next_realloc(old, size); }
 '''
-COMMANDS = ['assemble OUT hello.pal', 'list hello.pal', 'dump TAPE', 'run TAPE', 'run TAPE --trace --steps 20', 'run TAPE --events hello.events',
+COMMANDS = ['assemble OUT hello.pal', 'list hello.pal', 'source TAPE OUT', 'source TAPE OUT --declaration hello.declaration', 'dump TAPE',
+            'run TAPE', 'run TAPE --trace --steps 20', 'run TAPE --events hello.events',
             'run TAPE --teletype --punch OUT', 'watch TAPE hello.declaration hello.events', 'watch TAPE halts.declaration hello.events --why',
             'refute TAPE halts.declaration OUT --steps 2000', 'refute TAPE hello.declaration OUT --steps 100', 'check TAPE hello.declaration hello.certificate',
             'check TAPE rim.declaration hello.certificate --why', 'declare TAPE OUT', 'guess TAPE hello.declaration OUT',

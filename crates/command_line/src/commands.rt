@@ -83,6 +83,20 @@ const DECLARATION_OUT: Argument = Argument {
     help: "where the declaration goes, or - for standard output; it is emptied first",
 };
 
+const SOURCE_OUT: Argument = Argument {
+    name: "OUT",
+    short: None,
+    form: Form::ResultOperand,
+    help: "where the source goes, or - for standard output; it is emptied first",
+};
+
+const DECLARATION_FILE: Argument = Argument {
+    name: "declaration",
+    short: None,
+    form: Form::Value("FILE"),
+    help: "the declaration, whose bodies are the code, or - for standard input",
+};
+
 const CERTIFICATE_OUT: Argument = Argument {
     name: "OUT",
     short: None,
@@ -277,6 +291,16 @@ static ASSEMBLE_ARGUMENTS: [Argument; 4] = [TAPE_OUT, OTHER_SOURCES, OUTPUT, PRO
 
 static LIST_ARGUMENTS: [Argument; 2] = [SOURCE, PROFILE];
 
+static SOURCE_ARGUMENTS: [Argument; 7] = [
+    TAPE,
+    SOURCE_OUT,
+    OUTPUT,
+    START,
+    DECLARATION_FILE,
+    PROFILE,
+    WHY_INPUT,
+];
+
 static WATCH_ARGUMENTS: [Argument; 4] = [TAPE, DECLARATION, EVENTS, WHY_BROKEN];
 
 static CHECK_ARGUMENTS: [Argument; 4] = [TAPE, DECLARATION, CERTIFICATE, WHY_CHECK];
@@ -340,6 +364,13 @@ static LIST: Entry = Entry {
     after_help: "Example:\n  pdp8 list hello.pal",
 };
 
+static SOURCE_OF_TAPE: Entry = Entry {
+    name: "source",
+    usage: Some("pdp8 source [OPTIONS] <TAPE> [-o] <OUT>"),
+    about: "Writes a PAL III source of a tape, from which assemble makes the same words",
+    after_help: "The operand OUT is emptied before the tape is read. Without a declaration control is followed from the start, for the machine of --profile; with one they are its own.\n\nExample:\n  pdp8 source hello.bin -o found.pal",
+};
+
 static WATCH: Entry = Entry {
     name: "watch",
     usage: None,
@@ -395,6 +426,7 @@ pub(crate) fn command<'a>(alloc: Global) -> Result<Command<'a>, AllocError> {
     let program = with_entry(alloc, program, &DUMP, &DUMP_ARGUMENTS)?;
     let program = with_entry(alloc, program, &ASSEMBLE, &ASSEMBLE_ARGUMENTS)?;
     let program = with_entry(alloc, program, &LIST, &LIST_ARGUMENTS)?;
+    let program = with_entry(alloc, program, &SOURCE_OF_TAPE, &SOURCE_ARGUMENTS)?;
     let program = with_entry(alloc, program, &WATCH, &WATCH_ARGUMENTS)?;
     let program = with_entry(alloc, program, &CHECK, &CHECK_ARGUMENTS)?;
     let program = with_entry(alloc, program, &DECLARE, &DECLARE_ARGUMENTS)?;

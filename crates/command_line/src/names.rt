@@ -71,6 +71,17 @@ impl<'a> Request<'a> {
                 ..none
             },
             Request::List { .. } => none,
+            Request::Source {
+                tape,
+                declaration,
+                out,
+                ..
+            } => FileNames {
+                tape: Some(tape),
+                declaration: *declaration,
+                output: Some(out.name()),
+                ..none
+            },
             Request::Watch {
                 tape,
                 declaration,

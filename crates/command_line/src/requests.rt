@@ -60,6 +60,19 @@ pub enum Request<'a> {
         /// Whose permanent symbols there are.
         profile: Profile,
     },
+    /// To write a source of a tape.
+    Source {
+        /// The name of the tape's file.
+        tape: &'a str,
+        /// Where the source goes.
+        out: Destination<'a>,
+        /// The name of the declaration's file, if there is one.
+        declaration: Option<&'a str>,
+        /// Where the program starts, without a declaration.
+        start: Word,
+        /// For which machine it is, without a declaration.
+        profile: Profile,
+    },
     /// To list a source.
     List {
         /// The names of the files of the parts, in order.
@@ -273,6 +286,25 @@ fn list_request<'a>(alloc: Global, found: &ArgMatches<'a>) -> Result<Request<'a>
     })
 }
 
+fn source_request<'a>(found: &ArgMatches<'a>) -> Result<Request<'a>, Refused> {
+    let tape = found.get_str("TAPE").unwrap_or("-");
+    let declaration = found.get_str("declaration");
+    if tape == "-" && declaration == Some("-") {
+        return Err(Refused::BothStandardInput);
+    }
+    let asked = found.get_str("start").is_some() || found.get_str("profile").is_some();
+    if declaration.is_some() && asked {
+        return Err(Refused::DeclarationAndStart);
+    }
+    Ok(Request::Source {
+        tape,
+        out: destination_of(found, &[tape, declaration.unwrap_or("-")])?,
+        declaration,
+        start: start_of(found)?,
+        profile: profile_of(found)?,
+    })
+}
+
 fn watch_request<'a>(found: &ArgMatches<'a>) -> Result<Request<'a>, Refused> {
     let inputs = ["TAPE", "DECLARATION", "EVENTS"].map(|name| found.get_str(name).unwrap_or("-"));
     let [tape, declaration, events] = inputs;
@@ -417,6 +449,7 @@ fn request_of<'a>(
         }),
         "assemble" => assemble_request(alloc, found),
         "list" => list_request(alloc, found),
+        "source" => source_request(found),
         "watch" => watch_request(found),
         "check" => check_request(found),
         "declare" => declare_request(found),

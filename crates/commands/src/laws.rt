@@ -1,6 +1,6 @@
 //! Laws over the definitions alone. Each is the contract of a function that does nothing.
 
-ghost use Rattle.commands.specs.Laws.{ChecksAreOne, EmptyHasNoTape, FaultIsNotWritten, FaultIsTheOne, FaultIsTold, GuessIsAccepted, GuessIsRead, MeantIsListed, MeantIsRead, MeantIsWritten, MigratedIsCheckedAlike, ReadIsMeant, RunsAreOne, RunsEnd, SessionsAreOne, SessionsEnd, TapeIsOne, TapeIsThere};
+ghost use Rattle.commands.specs.Laws.{AssembledIsWritten, ChecksAreOne, EmptyHasNoTape, FaultIsNotWritten, FaultIsTheOne, FaultIsTold, GuessIsAccepted, GuessIsRead, MeantIsListed, MeantIsRead, MeantIsWritten, MigratedIsCheckedAlike, ReadIsMeant, RunsAreOne, RunsEnd, SessionsAreOne, SessionsEnd, TapeIsOne, TapeIsThere, WrittenIsAssembled};
 
 use pal_asm::laws::{meant_are_words, sources_have_one_answer};
 
@@ -29,6 +29,16 @@ pub fn sources_are_read_back()
     ensures tape { TapeIsOne }
     ensures read { MeantIsRead }
     ensures meant { ReadIsMeant }
+{
+    sources_have_one_answer();
+    meant_are_words();
+}
+
+/// From a tape to its source and back is one way: of the source that `source` writes of a tape `assemble`
+/// makes the tape that is written of that tape's image, and no other.
+pub fn written_sources_come_back()
+    ensures there { WrittenIsAssembled }
+    ensures only { AssembledIsWritten }
 {
     sources_have_one_answer();
     meant_are_words();

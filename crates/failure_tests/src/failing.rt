@@ -12,6 +12,7 @@ use commands::guessing::guess;
 use commands::migrating::migrate;
 use commands::running::{RunOptions, dump, run, run_events};
 use commands::session::{Outputs, SessionOptions, run_session};
+use commands::sourcing::{declared_source, source};
 use commands::status::{DeviceFault, Fault, Status};
 use commands::stuck::guess_or_explain;
 use commands::watching::watch;
@@ -26,6 +27,8 @@ use word12::Word;
 enum Command {
     Assemble,
     List,
+    Source,
+    DeclaredSource,
     Dump,
     Run,
     Trace,
@@ -118,6 +121,13 @@ fn answered<A: Allocator + Copy>(
     match command {
         Command::Assemble => assemble(alloc, &mut parts, Profile::Pdp8I, out),
         Command::List => list(alloc, &mut parts, Profile::Pdp8I, out),
+        Command::Source => source(
+            alloc,
+            &mut tape,
+            Word::from_index(0o200),
+            Profile::Pdp8I,
+            out,
+        ),
         Command::Dump => dump(alloc, &mut tape, Profile::Pdp8I, out),
         Command::Run => run(alloc, &mut tape, options(false), out),
         Command::Trace => run(alloc, &mut tape, options(true), out),
@@ -159,6 +169,7 @@ fn promised<A: Allocator + Copy>(
             };
             declare(alloc, &mut tape, options, out)
         }
+        Command::DeclaredSource => declared_source(alloc, &mut tape, &mut text, out),
         Command::Guess => guess(alloc, &mut tape, &mut text, out),
         _ => migrate(alloc, &mut plan.source(0, HALT_CERTIFICATE), out),
     }
@@ -258,6 +269,12 @@ const TAPE: &[u8] =
 
 const LISTING: &[u8] = b"            *200\n0200  7402  HLT\n            $\n\n";
 
+const SOURCE: &[u8] =
+    b"/From a tape, for the PDP-8/I. Start: 0200\n\n*0200\n\tHLT\t\t/start\n$\n";
+
+const DECLARED_SOURCE: &[u8] = b"/From a tape, for the PDP-8/I. Start: 0200\n\n\
+    /Main program\n*0200\n\tHLT\t\t/start, stop\n$\n";
+
 const SUMMARY: &[u8] = b"HALT 0200 AC=0000 L=0 PC=0201 STEPS=1\n";
 
 const TRACED: &[u8] = b"0200 7402 HLT AC=0000 L=0\nHALT 0200 AC=0000 L=0 PC=0201 STEPS=1\n";
@@ -276,9 +293,11 @@ const MIGRATED: &[u8] =
 
 /// Commands, how many reads of each input they make, and what goes to their first output. A tape is read up to the first
 /// frame of its trailer, a text until its end was told.
-const COMMANDS: [(Command, [usize; 3], &[u8]); 15] = [
+const COMMANDS: [(Command, [usize; 3], &[u8]); 17] = [
     (Command::Assemble, [6, 7, 0], TAPE),
     (Command::List, [6, 7, 0], LISTING),
+    (Command::Source, [11, 0, 0], SOURCE),
+    (Command::DeclaredSource, [11, 29, 0], DECLARED_SOURCE),
     (Command::Dump, [11, 0, 0], b"0200 7402 HLT\n"),
     (Command::Run, [11, 0, 0], SUMMARY),
     (Command::Trace, [11, 0, 0], TRACED),

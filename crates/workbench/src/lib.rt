@@ -10,6 +10,6 @@ mod saving;
 
 pub use commands::{
     assembling, checking, declaring, explaining, guessing, migrating, refuting, running, session,
-    status, stuck, watching,
+    sourcing, status, stuck, watching,
 };
 pub use program::exit_status;

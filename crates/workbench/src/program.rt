@@ -16,6 +16,7 @@ use commands::guessing::guess;
 use commands::migrating::migrate;
 use commands::refuting::{RefuteOptions, refute};
 use commands::running::{RunOptions, dump, run, run_events};
+use commands::sourcing::{declared_source, source};
 use commands::status::{DeviceFault, Fault, Status};
 use commands::stuck::guess_or_explain;
 use commands::verifying::{Answer, Lack, VerifyOptions, answer_status, verify, verify_proposed};
@@ -27,6 +28,7 @@ use std::rt::{Env, Files};
 use std::{env, io};
 use streams::put;
 use streams::standard::Writes;
+use word12::Word;
 
 /// The arguments that stand for none at all.
 static RUN_STANDARD_INPUT: [&str; 3] = ["pdp8", "run", "-"];
@@ -151,6 +153,13 @@ fn answer<R: Files + Input + Print + Eprint>(
             profile,
         } => assemble_to(rt, alloc, *out, sources, *profile),
         Request::List { sources, profile } => list_from(rt, alloc, sources, *profile),
+        Request::Source {
+            tape,
+            out,
+            declaration,
+            start,
+            profile,
+        } => source_from(rt, alloc, tape, *out, *declaration, *start, *profile),
         Request::Watch {
             tape,
             declaration,
@@ -210,6 +219,28 @@ fn list_from<R: Files + Input + Print>(
     let mut parts = open_inputs(rt, alloc, sources)?;
     let mut out = Writes::new(io::writer(rt));
     list(alloc, &mut parts, profile, &mut out)
+}
+
+/// Writes a source of the tape of a file. A declaration is opened before the file that the source goes
+/// to is made.
+#[inline(never)]
+fn source_from<R: Files + Input + Print>(
+    rt: &R,
+    alloc: Global,
+    tape: &str,
+    out: Destination<'_>,
+    declaration: Option<&str>,
+    start: Word,
+    profile: Profile,
+) -> Result<Status, Fault> {
+    let mut frames = open_input(rt, tape)?;
+    let Some(declaration) = declaration else {
+        let mut text = open_output(rt, out)?;
+        return source(alloc, &mut frames, start, profile, &mut text);
+    };
+    let mut promise = open_input(rt, declaration)?;
+    let mut text = open_output(rt, out)?;
+    declared_source(alloc, &mut frames, &mut promise, &mut text)
 }
 
 /// Migrates the certificate of a file.

@@ -73,6 +73,8 @@ pub enum Request<'a> {
         sources: Vec<&'a str>,
         /// Whose permanent symbols there are.
         profile: Profile,
+        /// Whether it is said what is wrong with a source that is refused.
+        explained: bool,
     },
     /// To list a source.
     List {
@@ -80,6 +82,8 @@ pub enum Request<'a> {
         sources: Vec<&'a str>,
         /// Whose permanent symbols there are.
         profile: Profile,
+        /// Whether it is said what is wrong with a source that is refused.
+        explained: bool,
     },
     /// To check a certificate.
     Check {
@@ -263,6 +267,14 @@ fn source_words<'a>(alloc: Global) -> Arg<'a> {
     )
 }
 
+fn faults_word<'a>(alloc: Global) -> Arg<'a> {
+    Arg::new(alloc, "why")
+        .short('w')
+        .long("why")
+        .action(ArgAction::SetTrue)
+        .help("below a fault, writes all that are found, with their lines and what to change")
+}
+
 fn assemble_command<'a>(alloc: Global) -> Result<Command<'a>, AllocError> {
     let out = Arg::new(alloc, "OUT").required(true).help(
         "where the tape goes, or - for standard output; it is emptied first",
@@ -274,7 +286,8 @@ fn assemble_command<'a>(alloc: Global) -> Result<Command<'a>, AllocError> {
         )
         .arg(out)?
         .arg(source_words(alloc))?
-        .arg(profile_word(alloc))
+        .arg(profile_word(alloc))?
+        .arg(faults_word(alloc))
 }
 
 fn list_command<'a>(alloc: Global) -> Result<Command<'a>, AllocError> {
@@ -282,7 +295,8 @@ fn list_command<'a>(alloc: Global) -> Result<Command<'a>, AllocError> {
         .about("Assembles a PAL III source and writes its listing")
         .after_help("Example:\n  pdp8 list hello.pal")
         .arg(source_words(alloc))?
-        .arg(profile_word(alloc))
+        .arg(profile_word(alloc))?
+        .arg(faults_word(alloc))
 }
 
 fn declaration_word<'a>(alloc: Global) -> Arg<'a> {
@@ -529,6 +543,7 @@ fn assemble_request<'a>(alloc: Global, found: &ArgMatches<'a>) -> Result<Request
         out: found.get_str("OUT").unwrap_or("-"),
         sources,
         profile: profile_of(found)?,
+        explained: found.get_flag("why"),
     })
 }
 
@@ -537,6 +552,7 @@ fn list_request<'a>(alloc: Global, found: &ArgMatches<'a>) -> Result<Request<'a>
     Ok(Request::List {
         sources,
         profile: profile_of(found)?,
+        explained: found.get_flag("why"),
     })
 }
 

@@ -116,8 +116,10 @@ fn answered<A: Allocator + Copy>(
     let mut parts = [plan.source(0, PARTS[0]), plan.source(1, PARTS[1])];
     let mut tape = plan.source(0, HALT);
     match command {
-        Command::Assemble => assemble(alloc, &mut parts, Profile::Pdp8I, out),
-        Command::List => list(alloc, &mut parts, Profile::Pdp8I, out),
+        Command::Assemble => {
+            assemble(alloc, &mut parts, Profile::Pdp8I, None, &mut String::new(alloc), out)
+        }
+        Command::List => list(alloc, &mut parts, Profile::Pdp8I, None, &mut String::new(alloc), out),
         Command::Dump => dump(alloc, &mut tape, Profile::Pdp8I, out),
         Command::Run => run(alloc, &mut tape, options(false), out),
         Command::Trace => run(alloc, &mut tape, options(true), out),

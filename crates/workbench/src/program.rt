@@ -2,12 +2,13 @@
 
 ghost use Rattle.std.specs.Prelude.{◌≤◌};
 
-use crate::files::{open_input, open_inputs, open_output};
+use crate::files::{open_input, open_output};
 use crate::joined::{hold_session, tell_to};
 use crate::saving::{save_answer, save_proposed};
+use crate::sources::{assemble_to, list_from};
+use crate::telling::tell;
 use clap::Error;
 use command_line::{Refused, Request, parse_words};
-use commands::assembling::{assemble, list};
 use commands::checking::check;
 use commands::declaring::{DeclareOptions, declare};
 use commands::explaining::explain;
@@ -66,13 +67,6 @@ fn refusal_of(kind: ErrorKind) -> Refused {
     match kind {
         ErrorKind::InvalidData => Refused::NotText,
         _ => Refused::Memory,
-    }
-}
-
-/// Writes the line of a fault to standard error.
-fn tell<R: Eprint>(rt: &R, fault: Fault) -> Status {
-    match eprintln!(rt; "{fault}") {
-        Ok(()) | Err(_) => fault.status(),
     }
 }
 
@@ -137,8 +131,13 @@ fn answer<R: Files + Input + Print + Eprint>(
             out,
             sources,
             profile,
-        } => assemble_to(rt, alloc, out, sources, *profile),
-        Request::List { sources, profile } => list_from(rt, alloc, sources, *profile),
+            explained,
+        } => assemble_to(rt, alloc, out, sources, *profile, *explained),
+        Request::List {
+            sources,
+            profile,
+            explained,
+        } => list_from(rt, alloc, sources, *profile, *explained),
         Request::Watch {
             tape,
             declaration,
@@ -186,18 +185,6 @@ fn dump_from<R: Files + Input + Print>(
     dump(alloc, &mut frames, profile, &mut out)
 }
 
-/// Lists the source whose parts are in these files.
-fn list_from<R: Files + Input + Print>(
-    rt: &R,
-    alloc: Global,
-    sources: &[&str],
-    profile: Profile,
-) -> Result<Status, Fault> {
-    let mut parts = open_inputs(rt, alloc, sources)?;
-    let mut out = Writes::new(io::writer(rt));
-    list(alloc, &mut parts, profile, &mut out)
-}
-
 /// Migrates the certificate of a file.
 fn migrate_from<R: Files + Input + Print>(
     rt: &R,
@@ -208,19 +195,6 @@ fn migrate_from<R: Files + Input + Print>(
     let mut text = open_input(rt, certificate)?;
     let mut migrated = open_output(rt, out)?;
     migrate(alloc, &mut text, &mut migrated)
-}
-
-/// Assembles the parts of these files into a tape.
-fn assemble_to<R: Files + Input + Print>(
-    rt: &R,
-    alloc: Global,
-    out: &str,
-    sources: &[&str],
-    profile: Profile,
-) -> Result<Status, Fault> {
-    let mut tape = open_output(rt, out)?;
-    let mut parts = open_inputs(rt, alloc, sources)?;
-    assemble(alloc, &mut parts, profile, &mut tape)
 }
 
 /// Watches a run of the tape of a file.

@@ -1,0 +1,161 @@
+//! Sources that are assembled or listed, and what is told of their faults.
+
+use crate::files::{open_inputs, open_output, open_parts};
+use crate::telling::{tell, tell_with};
+use commands::assembling::{assemble, list};
+use commands::status::{DeviceFault, Fault, Status};
+use instruct::Profile;
+use pal_asm::PalFault;
+use source_texts::push_size_fault;
+use std::alloc::Global;
+use std::io;
+use std::rt::Files;
+use streams::ByteSource;
+use streams::standard::Writes;
+
+/// An input as it is named in a sentence.
+fn input_name<'n>(name: &'n str) -> &'n str {
+    if name == "-" { "standard input" } else { name }
+}
+
+/// An output as it is named in a sentence.
+fn output_name<'n>(name: &'n str) -> &'n str {
+    if name == "-" { "standard output" } else { name }
+}
+
+/// The name of the part that can't be opened, behind so many that are open.
+fn unopened<'n>(names: &'n [&'n str], opened: usize) -> &'n str {
+    match names.get(opened) {
+        Some(name) => input_name(name),
+        None => "a source",
+    }
+}
+
+/// The name of the first part of which a read failed.
+fn unread<'n, S: ByteSource>(names: &'n [&'n str], parts: &[S]) -> &'n str {
+    for (index, part) in parts.iter().enumerate() {
+        if part.failed() {
+            return match names.get(index) {
+                Some(name) => input_name(name),
+                None => "a source",
+            };
+        }
+    }
+    "a source"
+}
+
+/// Writes the line of a fault to standard error, and below it, where a device failed, of which file.
+fn tell_of<R: Eprint>(rt: &R, fault: Fault, name: &str, happened: &str) -> Status {
+    let status = tell(rt, fault);
+    if status != Status::Device {
+        return status;
+    }
+    match eprintln!(rt; "{name} {happened}") {
+        Ok(()) | Err(_) => status,
+    }
+}
+
+/// Writes the line of a size fault to standard error, and below it what it means, if there is memory.
+fn tell_size<R: Eprint>(rt: &R, alloc: Global, fault: PalFault, names: &[&str]) -> Status {
+    let mut told = String::new(alloc);
+    match push_size_fault(&mut told, names, fault) {
+        Ok(()) | Err(_) => tell_with(rt, Fault::Source(fault), &told),
+    }
+}
+
+/// Writes the line of a fault to standard error, and below it what is wrong: of a source these lines.
+fn tell_all<R: Eprint, S: ByteSource>(
+    rt: &R,
+    alloc: Global,
+    fault: Fault,
+    names: &[&str],
+    parts: &[S],
+    out: &str,
+    told: &str,
+) -> Status {
+    match fault {
+        Fault::Source(fault) if fault.line == 0 => tell_size(rt, alloc, fault, names),
+        Fault::Source(_) => tell_with(rt, fault, told),
+        Fault::EmptyImage => tell_with(rt, fault, "no statement is a word: list shows what the source has\n"),
+        Fault::Device(DeviceFault::Read) => tell_of(rt, fault, unread(names, parts), "can't be read"),
+        Fault::Device(DeviceFault::Write) => tell_of(rt, fault, output_name(out), "can't be written"),
+        _ => tell(rt, fault),
+    }
+}
+
+/// Lists the source whose parts are in these files, and tells below the line of a fault what is wrong.
+fn list_or_tell<R: Files + Input + Print + Eprint>(
+    rt: &R,
+    alloc: Global,
+    names: &[&str],
+    profile: Profile,
+) -> Status {
+    let mut parts = Vec::new(alloc);
+    if let Err(fault) = open_parts(rt, names, &mut parts) {
+        return tell_of(rt, fault, unopened(names, parts.len()), "can't be opened");
+    }
+    let mut out = Writes::new(io::writer(rt));
+    let mut told = String::new(alloc);
+    match list(alloc, &mut parts, profile, Some(names), &mut told, &mut out) {
+        Ok(status) => status,
+        Err(fault) => tell_all(rt, alloc, fault, names, &parts, "-", &told),
+    }
+}
+
+/// Assembles the parts of these files into a tape, and tells below the line of a fault what is wrong.
+fn assemble_or_tell<R: Files + Input + Print + Eprint>(
+    rt: &R,
+    alloc: Global,
+    out: &str,
+    names: &[&str],
+    profile: Profile,
+) -> Status {
+    let mut tape = match open_output(rt, out) {
+        Ok(tape) => tape,
+        Err(fault) => return tell_of(rt, fault, output_name(out), "can't be made"),
+    };
+    let mut parts = Vec::new(alloc);
+    if let Err(fault) = open_parts(rt, names, &mut parts) {
+        return tell_of(rt, fault, unopened(names, parts.len()), "can't be opened");
+    }
+    let mut told = String::new(alloc);
+    match assemble(alloc, &mut parts, profile, Some(names), &mut told, &mut tape) {
+        Ok(status) => status,
+        Err(fault) => tell_all(rt, alloc, fault, names, &parts, out, &told),
+    }
+}
+
+/// Lists the source whose parts are in these files.
+pub fn list_from<R: Files + Input + Print + Eprint>(
+    rt: &R,
+    alloc: Global,
+    names: &[&str],
+    profile: Profile,
+    explained: bool,
+) -> Result<Status, Fault> {
+    if explained {
+        return Ok(list_or_tell(rt, alloc, names, profile));
+    }
+    let mut parts = open_inputs(rt, alloc, names)?;
+    let mut out = Writes::new(io::writer(rt));
+    let mut told = String::new(alloc);
+    list(alloc, &mut parts, profile, None, &mut told, &mut out)
+}
+
+/// Assembles the parts of these files into a tape.
+pub fn assemble_to<R: Files + Input + Print + Eprint>(
+    rt: &R,
+    alloc: Global,
+    out: &str,
+    names: &[&str],
+    profile: Profile,
+    explained: bool,
+) -> Result<Status, Fault> {
+    if explained {
+        return Ok(assemble_or_tell(rt, alloc, out, names, profile));
+    }
+    let mut tape = open_output(rt, out)?;
+    let mut parts = open_inputs(rt, alloc, names)?;
+    let mut told = String::new(alloc);
+    assemble(alloc, &mut parts, profile, None, &mut told, &mut tape)
+}

@@ -27,7 +27,8 @@ _pdp8() {
             return
             ;;
         verify) options='--start --profile --steps --seed --save --why --help' ;;
-        assemble | list | dump) options='--profile --help' ;;
+        assemble | list) options='--profile --why --help' ;;
+        dump) options='--profile --help' ;;
         run) options='--start --steps --trace --profile --events --reader --punch --keys --mark --teletype --switches --help' ;;
         watch | check | guess) options='--why --help' ;;
         refute) options='--steps --seed --why --help' ;;

@@ -59,7 +59,7 @@ fn about_character(code: u8) -> Words {
     match code {
         b'a'..=b'z' => Words {
             wrong: "isn't in capitals",
-            advice: "write all letters as capitals, but in comments",
+            advice: "letters are capitals, save in comments",
         },
         b'(' | b')' | b'[' | b']' => Words {
             wrong: "means nothing: literals are left out here",
@@ -100,16 +100,16 @@ pub(crate) fn about(kind: Kind, code: u8) -> Words {
             advice: "leave it out",
         },
         Kind::Comma => Words {
-            wrong: "isn't behind a symbol",
+            wrong: "has no place here",
             advice: "a tag is a symbol and a comma, in front of all else in its statement",
         },
         Kind::Equals => Words {
-            wrong: "isn't behind one symbol",
+            wrong: "has no place here",
             advice: "an assignment is a symbol, = and its value, and no more",
         },
         Kind::Star => Words {
-            wrong: "isn't in front",
-            advice: "* sets the location, in front of an expression; nothing multiplies",
+            wrong: "has no place here",
+            advice: "* sets the location, in front of all but tags; nothing multiplies",
         },
         Kind::Plus | Kind::Minus => Words {
             wrong: "has no term in front of it",

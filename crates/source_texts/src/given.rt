@@ -22,9 +22,9 @@ fn push_other_advice<A: Allocator + Copy>(
     let first = written(source, one);
     let second = written(source, other);
     if first == second {
-        text.push_str("it got that one on ")?;
+        text.push_str("it got that value on ")?;
         push_line_of(alloc, text, source, one, other.part)?;
-        return text.push_str(": a symbol has one value in the whole source, so use another symbol");
+        return text.push_str("; a symbol has one in the whole source: use another symbol");
     }
     let name = Name::new(first);
     let letters = letters_of(&name);
@@ -34,7 +34,7 @@ fn push_other_advice<A: Allocator + Copy>(
     push_line_of(alloc, text, source, one, other.part)?;
     text.push_str(", and so is ")?;
     push_written(text, source, other)?;
-    text.push_str(". Use symbols that differ in six characters")
+    text.push_str(": use symbols that differ in their first six")
 }
 
 /// What is told of a symbol that is given another value than it has: this one.

@@ -165,15 +165,22 @@ fn wrong_of<A: Allocator>(
     Ok(wrong)
 }
 
-/// What to change of a reference that can't name its address.
-fn advice_of(reference: &Reference<'_>, is_same_page: bool) -> &'static str {
+/// Adds what to change of a reference, by this operation, that can't name its address.
+fn push_advice<A: Allocator>(
+    text: &mut String<A>,
+    reference: &Reference<'_>,
+    is_same_page: bool,
+    operation: &[u8],
+) -> Result<(), AllocError> {
     if reference.is_on_page_zero && is_same_page {
-        "leave out Z: the address is on the page of this word"
-    } else if reference.is_indirect {
-        "what I goes by has to be on the page of this word or on page zero: write a word there that has the address"
-    } else {
-        "write a word with that address on this page, with a tag, and refer to the tag by I: JMP I TAG"
+        return text.push_str("leave out Z: the address is on the page of this word");
     }
+    if reference.is_indirect {
+        return text.push_str("I goes by a word on this page or on page zero: write one there that has the address");
+    }
+    text.push_str("write a word with that address on this page, with a tag, and refer to it by I, as in ")?;
+    push_characters(text, operation)?;
+    text.push_str(" I TAG")
 }
 
 /// What is told of a reference that can't name its address; `known` has the values of the whole source.
@@ -194,11 +201,16 @@ pub(crate) fn about_reference<A: Allocator + Copy>(
     };
     let (start, end) = span_of(address);
     let wrong = wrong_of(alloc, reference.is_on_page_zero, here, bytes, address, value)?;
-    let advice = advice_of(&reference, value.page() == here.page());
+    let mut advice = String::new(alloc);
+    let operation = match faulty.body() {
+        [first, ..] => bytes_between(bytes, first.start, first.end),
+        [] => &[],
+    };
+    push_advice(&mut advice, &reference, value.page() == here.page(), operation)?;
     Ok(Some(Finding {
         start,
         end,
         wrong,
-        advice: String::from_str(alloc, advice)?,
+        advice,
     }))
 }

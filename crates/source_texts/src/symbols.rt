@@ -3,7 +3,7 @@
 use crate::lines::{bytes_between, line_at, push_characters};
 use crate::meanings::{Meanings, Spot};
 use instruct::Profile;
-use pal_acts::{Name, permanent_table};
+use pal_acts::{Name, SymbolTable, permanent_table};
 use std::alloc::{AllocError, Allocator};
 use strsim::osa_distance;
 
@@ -126,25 +126,59 @@ pub(crate) fn moves_location(name: &Name) -> bool {
     matches!(letters_of(name), "PAGE" | "TEXT" | "ZBLOCK" | "FIELD")
 }
 
-/// A symbol of the source's own whose name is one edit from this one: a character more or less, another
-/// one, or two exchanged.
-fn similar<A: Allocator + Copy>(
-    alloc: A,
-    known: &Meanings<'_, A>,
-    name: &Name,
-) -> Result<Option<Name>, AllocError> {
-    let wanted = letters_of(name);
-    if wanted.len() < 3 {
-        return Ok(None);
+/// By how many edits a symbol may differ from this one that is near it.
+fn most_edits(wanted: &str) -> usize {
+    match wanted.len() {
+        0..=2 => 0,
+        3..=4 => 1,
+        _ => 2,
     }
-    for at in 0..known.symbols.own.len() {
-        if let Some((other, _)) = known.symbols.own.get_index(at) {
-            if osa_distance(alloc, wanted, letters_of(other))? == 1 {
-                return Ok(Some(*other));
+}
+
+/// The symbol of a table that is nearest to this one, if one is near: it differs by a character or two that
+/// are more, less, others or exchanged.
+fn nearest<A: Allocator + Copy>(
+    alloc: A,
+    table: &SymbolTable<A>,
+    wanted: &str,
+) -> Result<Option<Name>, AllocError> {
+    let mut found = None;
+    let mut least = most_edits(wanted).saturating_add(1);
+    for at in 0..table.len() {
+        if let Some((name, _)) = table.get_index(at) {
+            let edits = osa_distance(alloc, wanted, letters_of(name))?;
+            if edits < least {
+                found = Some(*name);
+                least = edits;
             }
         }
     }
-    Ok(None)
+    Ok(found)
+}
+
+/// Adds the question whether another symbol is meant, one of the source's own or else a permanent one, if one
+/// is near to this one.
+fn push_nearest<A: Allocator + Copy>(
+    alloc: A,
+    text: &mut String<A>,
+    source: &Source<'_>,
+    known: &Meanings<'_, A>,
+    wanted: &str,
+    part: usize,
+) -> Result<(), AllocError> {
+    if let Some(own) = nearest(alloc, &known.symbols.own, wanted)? {
+        if let Some(spot) = known.spot(&own) {
+            text.push_str("is ")?;
+            push_written(text, source, spot)?;
+            text.push_str(" of ")?;
+            push_line_of(alloc, text, source, spot, part)?;
+            text.push_str(" meant? Else ")?;
+        }
+    } else if let Some(permanent) = nearest(alloc, known.symbols.permanent, wanted)? {
+        let letters = letters_of(&permanent);
+        write!(text, "is {letters} meant? Else ")?;
+    }
+    Ok(())
 }
 
 /// Whether the PDP-8/E has a permanent symbol of this name.
@@ -167,9 +201,7 @@ pub(crate) fn push_undefined_advice<A: Allocator + Copy>(
     if is_of_the_8e(alloc, name)? {
         return text.push_str("it is a symbol of the PDP-8/E: --profile 8e has it");
     }
-    if let Some(other) = similar(alloc, known, name)? {
-        push_defined(alloc, text, source, known, &other, part)?;
-        text.push_str(" differs in one character; if another symbol is meant, ")?;
-    }
-    text.push_str("give it a value, by a tag or an assignment")
+    let letters = letters_of(name);
+    push_nearest(alloc, text, source, known, letters, part)?;
+    write!(text, "give {letters} a value, by a tag or an assignment")
 }

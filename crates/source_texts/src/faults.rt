@@ -246,26 +246,3 @@ pub fn push_faults<A: Allocator + Copy>(
     }
     text.push_str("there may be more: mend these first\n")
 }
-
-/// Adds what is told of a source that has no parts or too many, or a part that is too long.
-///
-/// # Errors
-///
-/// Memory was refused.
-pub fn push_size_fault<A: Allocator>(
-    text: &mut String<A>,
-    names: &[&str],
-    fault: PalFault,
-) -> Result<(), AllocError> {
-    match names.get(fault.part.wrapping_sub(1)) {
-        Some(name) => {
-            write!(text, "{name}: TL: the part has more than 65536 bytes\n")?;
-            text.push_str("cut it into parts, in order, each but the last with PAUSE at its end\n")
-        }
-        None => {
-            let count = names.len();
-            write!(text, "TL: the source has {count} parts, and 16 are the most\n")?;
-            text.push_str("join some of them, without the PAUSE between them\n")
-        }
-    }
-}

@@ -14,4 +14,4 @@ mod references;
 mod statement;
 mod symbols;
 
-pub use faults::{push_faults, push_size_fault};
+pub use faults::push_faults;

@@ -6,7 +6,6 @@ use commands::assembling::{assemble, list};
 use commands::status::{DeviceFault, Fault, Status};
 use instruct::Profile;
 use pal_asm::PalFault;
-use source_texts::push_size_fault;
 use std::alloc::Global;
 use std::io;
 use std::rt::Files;
@@ -55,18 +54,26 @@ fn tell_of<R: Eprint>(rt: &R, fault: Fault, name: &str, happened: &str) -> Statu
     }
 }
 
-/// Writes the line of a size fault to standard error, and below it what it means, if there is memory.
-fn tell_size<R: Eprint>(rt: &R, alloc: Global, fault: PalFault, names: &[&str]) -> Status {
-    let mut told = String::new(alloc);
-    match push_size_fault(&mut told, names, fault) {
-        Ok(()) | Err(_) => tell_with(rt, Fault::Source(fault), &told),
+/// Writes the line of the fault of a size to standard error, and below it what is too long or too many.
+fn tell_size<R: Eprint>(rt: &R, fault: PalFault, names: &[&str]) -> Status {
+    let status = tell(rt, Fault::Source(fault));
+    let count = names.len();
+    let told = match names.get(fault.part.wrapping_sub(1)) {
+        Some(name) => eprintln!(rt;
+            "{name}: TL: the part has more than 65536 bytes\ncut it into parts, in order, each but the last with PAUSE at its end"
+        ),
+        None => eprintln!(rt;
+            "TL: the source has {count} parts, and 16 are the most\njoin some of them, without the PAUSE between them"
+        ),
+    };
+    match told {
+        Ok(()) | Err(_) => status,
     }
 }
 
 /// Writes the line of a fault to standard error, and below it what is wrong: of a source these lines.
 fn tell_all<R: Eprint, S: ByteSource>(
     rt: &R,
-    alloc: Global,
     fault: Fault,
     names: &[&str],
     parts: &[S],
@@ -74,7 +81,7 @@ fn tell_all<R: Eprint, S: ByteSource>(
     told: &str,
 ) -> Status {
     match fault {
-        Fault::Source(fault) if fault.line == 0 => tell_size(rt, alloc, fault, names),
+        Fault::Source(fault) if fault.line == 0 => tell_size(rt, fault, names),
         Fault::Source(_) => tell_with(rt, fault, told),
         Fault::EmptyImage => tell_with(rt, fault, "no statement is a word: list shows what the source has\n"),
         Fault::Device(DeviceFault::Read) => tell_of(rt, fault, unread(names, parts), "can't be read"),
@@ -98,7 +105,7 @@ fn list_or_tell<R: Files + Input + Print + Eprint>(
     let mut told = String::new(alloc);
     match list(alloc, &mut parts, profile, Some(names), &mut told, &mut out) {
         Ok(status) => status,
-        Err(fault) => tell_all(rt, alloc, fault, names, &parts, "-", &told),
+        Err(fault) => tell_all(rt, fault, names, &parts, "-", &told),
     }
 }
 
@@ -121,7 +128,7 @@ fn assemble_or_tell<R: Files + Input + Print + Eprint>(
     let mut told = String::new(alloc);
     match assemble(alloc, &mut parts, profile, Some(names), &mut told, &mut tape) {
         Ok(status) => status,
-        Err(fault) => tell_all(rt, alloc, fault, names, &parts, out, &told),
+        Err(fault) => tell_all(rt, fault, names, &parts, out, &told),
     }
 }
 

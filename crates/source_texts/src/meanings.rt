@@ -44,7 +44,7 @@ pub(crate) fn number_of(is_decimal: bool, digits: &[u8]) -> Result<Word, Code> {
     for byte in digits {
         let code = *byte % 0o200;
         if code.is_ascii_digit() {
-            let digit = usize::from(code - b'0');
+            let digit = usize::from(code.saturating_sub(b'0'));
             if digit >= base {
                 return Err(Code::IllegalCharacter);
             }
@@ -155,9 +155,10 @@ impl<'p, A: Allocator + Copy> Meanings<'p, A> {
 
     /// Takes the tags of a statement.
     fn take_tags(&mut self, part: usize, bytes: &[u8], tags: &[Token]) -> Result<(), AllocError> {
+        let here = self.here;
         for token in tags {
             if token.kind == Kind::Symbol {
-                self.define_token(part, bytes, *token, self.here)?;
+                self.define_token(part, bytes, *token, here)?;
             }
         }
         Ok(())
@@ -220,7 +221,7 @@ impl<'p, A: Allocator + Copy> Meanings<'p, A> {
             Err(_) => return Ok(false),
         };
         for statement in &read.statements {
-            if stop.part == part + 1 && stop.line == statement.line {
+            if stop.part == part.saturating_add(1) && stop.line == statement.line {
                 return Ok(false);
             }
             let tokens = tokens_from(&read.tokens, statement.first);

@@ -63,8 +63,8 @@ pub(crate) fn push_written<A: Allocator>(
 
 /// The characters of a name that count.
 pub(crate) fn letters_of(name: &Name) -> &str {
-    match str::from_utf8(&name.letters) {
-        Ok(letters) => letters.trim_end(),
+    match str::from_utf8(name.letters.trim_ascii_end()) {
+        Ok(letters) => letters,
         Err(_) => "",
     }
 }

@@ -133,13 +133,12 @@ pub(crate) fn tokens_from(tokens: &[Token], at: usize) -> &[Token] {
 /// How many tokens the tags at the front of a statement have: each a symbol and a comma.
 pub(crate) fn count_tag_tokens(tokens: &[Token]) -> usize {
     let mut count = 0usize;
-    let mut rest = tokens;
-    while let [first, second, more @ ..] = rest {
-        if first.kind != Kind::Symbol || second.kind != Kind::Comma {
-            break;
+    for (at, token) in tokens.iter().enumerate() {
+        match token.kind {
+            Kind::Symbol if at % 2 == 0 => {}
+            Kind::Comma if at % 2 == 1 => count = at + 1,
+            _ => break,
         }
-        count = count.saturating_add(2);
-        rest = more;
     }
     count
 }

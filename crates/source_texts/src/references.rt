@@ -86,7 +86,10 @@ fn reference_of<'t>(bytes: &[u8], tokens: &'t [Token]) -> Reference<'t> {
         is_on_page_zero: false,
         address: tokens,
     };
-    while let [space, mark, rest @ ..] = found.address {
+    for _ in 0..2 {
+        let [space, mark, rest @ ..] = found.address else {
+            break;
+        };
         if space.kind != Kind::Space {
             break;
         }

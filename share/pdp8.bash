@@ -27,8 +27,8 @@ _pdp8() {
             return
             ;;
         verify) options='--start --profile --steps --seed --save --why --help' ;;
-        assemble) options='--output --profile --help' ;;
-        list) options='--profile --help' ;;
+        assemble) options='--output --profile --why --help' ;;
+        list) options='--profile --why --help' ;;
         source) options='--output --start --declaration --profile --why --help' ;;
         dump) options='--profile --why --help' ;;
         run) options='--start --steps --trace --profile --events --reader --punch --keys --mark --teletype --switches --why --help' ;;

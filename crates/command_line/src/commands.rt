@@ -251,6 +251,13 @@ const WHY_BROKEN: Argument = Argument {
     help: "where a rule is broken, writes what the step is about to do",
 };
 
+const WHY_SOURCE: Argument = Argument {
+    name: "why",
+    short: Some('w'),
+    form: Form::Flag,
+    help: "below a fault, writes all that are found, with their lines and what to change",
+};
+
 const WHY_INPUT: Argument = Argument {
     name: "why",
     short: Some('w'),
@@ -287,9 +294,9 @@ static RUN_ARGUMENTS: [Argument; 13] = [
 
 static DUMP_ARGUMENTS: [Argument; 3] = [TAPE, PROFILE, WHY_INPUT];
 
-static ASSEMBLE_ARGUMENTS: [Argument; 4] = [TAPE_OUT, OTHER_SOURCES, OUTPUT, PROFILE];
+static ASSEMBLE_ARGUMENTS: [Argument; 5] = [TAPE_OUT, OTHER_SOURCES, OUTPUT, PROFILE, WHY_SOURCE];
 
-static LIST_ARGUMENTS: [Argument; 2] = [SOURCE, PROFILE];
+static LIST_ARGUMENTS: [Argument; 3] = [SOURCE, PROFILE, WHY_SOURCE];
 
 static SOURCE_ARGUMENTS: [Argument; 7] = [
     TAPE,

@@ -59,6 +59,8 @@ pub enum Request<'a> {
         sources: Vec<&'a str>,
         /// Whose permanent symbols there are.
         profile: Profile,
+        /// Whether it is said what is wrong with a source that is refused.
+        explained: bool,
     },
     /// To write a source of a tape.
     Source {
@@ -79,6 +81,8 @@ pub enum Request<'a> {
         sources: Vec<&'a str>,
         /// Whose permanent symbols there are.
         profile: Profile,
+        /// Whether it is said what is wrong with a source that is refused.
+        explained: bool,
     },
     /// To check a certificate.
     Check {
@@ -275,6 +279,7 @@ fn assemble_request<'a>(alloc: Global, found: &ArgMatches<'a>) -> Result<Request
         out: destination_of(found, &sources)?,
         sources,
         profile: profile_of(found)?,
+        explained: found.get_flag("why"),
     })
 }
 
@@ -283,6 +288,7 @@ fn list_request<'a>(alloc: Global, found: &ArgMatches<'a>) -> Result<Request<'a>
     Ok(Request::List {
         sources,
         profile: profile_of(found)?,
+        explained: found.get_flag("why"),
     })
 }
 

@@ -119,8 +119,24 @@ fn answered<A: Allocator + Copy>(
     let mut parts = [plan.source(0, PARTS[0]), plan.source(1, PARTS[1])];
     let mut tape = plan.source(0, HALT);
     match command {
-        Command::Assemble => assemble(alloc, &mut parts, Profile::Pdp8I, out),
-        Command::List => list(alloc, &mut parts, Profile::Pdp8I, out),
+        Command::Assemble => {
+            assemble(
+                alloc,
+                &mut parts,
+                Profile::Pdp8I,
+                None,
+                &mut String::new(alloc),
+                out,
+            )
+        }
+        Command::List => list(
+            alloc,
+            &mut parts,
+            Profile::Pdp8I,
+            None,
+            &mut String::new(alloc),
+            out,
+        ),
         Command::Source => source(
             alloc,
             &mut tape,
@@ -269,8 +285,7 @@ const TAPE: &[u8] =
 
 const LISTING: &[u8] = b"            *200\n0200  7402  HLT\n            $\n\n";
 
-const SOURCE: &[u8] =
-    b"/From a tape, for the PDP-8/I. Start: 0200\n\n*0200\n\tHLT\t\t/start\n$\n";
+const SOURCE: &[u8] = b"/From a tape, for the PDP-8/I. Start: 0200\n\n*0200\n\tHLT\t\t/start\n$\n";
 
 const DECLARED_SOURCE: &[u8] = b"/From a tape, for the PDP-8/I. Start: 0200\n\n\
     /Main program\n*0200\n\tHLT\t\t/start, stop\n$\n";
@@ -394,6 +409,45 @@ fn each_refusal_of_memory_is_told(rt: HostRuntime) {
     }
     assert!(rt; memory_in_turn(rt.alloc(), Command::Session, 1, b"A"));
     assert!(rt; memory_in_turn(rt.alloc(), Command::Session, 2, b"\xc1"));
+}
+
+/// A source with two faults.
+static FAULTY: &[u8] = b"TAD 8\nJMP Q\n$\n";
+
+/// What is told of it below the line of the first.
+const FAULTS: &str = "bad.pal:1:5: IC: 8 isn't octal\nTAD 8\n    ^\n\
+    numbers are octal until a statement DECIMAL: write 10, or that statement before it\n\
+    bad.pal:2:5: UA: Q has no value\nJMP Q\n    ^\ngive Q a value, by a tag or an assignment\n";
+
+/// What `list` answers of it with memory from this allocator, and whether just that is told.
+fn faults_told<A: Allocator + Copy>(alloc: A, heap: Global) -> (Result<Status, Fault>, bool) {
+    let mut told = String::new(alloc);
+    let mut parts = [FINE.source(0, FAULTY)];
+    let mut out = FINE.sink(0, heap);
+    let names = ["bad.pal"];
+    let answer = list(
+        alloc,
+        &mut parts,
+        Profile::Pdp8I,
+        Some(&names),
+        &mut told,
+        &mut out,
+    );
+    (answer, told.as_str() == FAULTS && out.bytes().is_empty())
+}
+
+#[test]
+fn each_refusal_of_memory_for_faults_is_told(rt: HostRuntime) {
+    for count in 0..1000u64 {
+        let tight = Refusing::new(rt.alloc(), count);
+        let (answer, is_whole) = faults_told(&tight, rt.alloc());
+        if !tight.has_refused() {
+            assert!(rt; matches!(answer, Err(Fault::Source(_))) && is_whole);
+            return;
+        }
+        assert_eq!(rt; answer, Err(Fault::NoMemory), "{count}");
+    }
+    assert!(rt; false, "memory is always refused");
 }
 
 /// What is reported of a search that is stuck.

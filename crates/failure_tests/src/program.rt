@@ -44,6 +44,32 @@ fn a_read_that_fails_is_told(rt: HostRuntime) {
     }
 }
 
+/// Words that ask why, with a file of which a read fails, and what is told below the fault.
+const FAILING_WHYS: [(&str, &[u8]); 3] = [
+    (
+        "pdp8 assemble o failing.pal halt.pal -w",
+        b"pdp8: device: ReadFault\nfailing.pal can't be read\n",
+    ),
+    (
+        "pdp8 list bad.pal failing.pal --why",
+        b"pdp8: device: ReadFault\nfailing.pal can't be read\n",
+    ),
+    (
+        "pdp8 list halt.pal absent --why",
+        b"pdp8: device: ReadFault\nabsent can't be opened\n",
+    ),
+];
+
+#[test]
+fn a_file_whose_read_fails_is_named(rt: HostRuntime) {
+    for (words, told) in &FAILING_WHYS {
+        let end = run_program(rt.alloc(), words, ROOMY);
+        assert_eq!(rt; end.status, 3, "{words}");
+        assert_eq!(rt; end.told.as_slice(), *told, "{words}");
+        assert!(rt; end.printed.is_empty() && end.written.is_empty(), "{words}");
+    }
+}
+
 /// Words by which something is printed or goes to a file, and the status where all of it goes out.
 const WRITING: [(&str, u8); 21] = [
     ("pdp8 run halt.bin", 0),
@@ -92,10 +118,12 @@ fn a_write_that_fails_is_told(rt: HostRuntime) {
 }
 
 /// Words of which something is told, and the status.
-const TOLD: [(&str, u8); 7] = [
+const TOLD: [(&str, u8); 9] = [
     ("pdp8 run", 2),
     ("pdp8 fly", 2),
     ("pdp8 list bad.pal", 1),
+    ("pdp8 list bad.pal --why", 1),
+    ("pdp8 list absent --why", 3),
     ("pdp8 guess halt.bin wild.dcl o --why", 1),
     ("pdp8 run absent", 3),
     ("pdp8 run failing.bin", 3),

@@ -27,11 +27,7 @@ impl Outline {
     }
 
     /// Adds the address of a cell, by its symbol if it has one.
-    fn push_cell<A: Allocator>(
-        &self,
-        text: &mut Vec<u8, A>,
-        cell: Word,
-    ) -> Result<(), AllocError> {
+    fn push_cell<A: Allocator>(&self, text: &mut Vec<u8, A>, cell: Word) -> Result<(), AllocError> {
         if self.tagged.contains(cell) {
             self.push_symbol(text, cell)
         } else {

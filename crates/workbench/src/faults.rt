@@ -41,7 +41,7 @@ fn tell_unread<R: Files + Input + Eprint>(rt: &R, alloc: Global, names: &FileNam
             continue;
         }
         if let Err(Fault::Device(_)) = bytes_of(rt, alloc, name) {
-            let _ = eprintln!(rt; "{name}: it can't be opened or read");
+            let _ = eprintln!(rt; "{name} can't be opened or read");
             return;
         }
     }
@@ -99,7 +99,7 @@ pub fn explain_fault<R: Files + Input + Eprint>(
         Fault::Device(DeviceFault::Read) => return tell_unread(rt, alloc, names),
         Fault::Device(DeviceFault::Write) => {
             if let Some(name) = names.output {
-                let _ = eprintln!(rt; "{name}: it can't be made or written");
+                let _ = eprintln!(rt; "{name} can't be made or written");
             }
             return;
         }

@@ -40,6 +40,29 @@ pub fn open_input<R: Files + Input>(
     Ok(Reads::new(input_of(rt, name)?))
 }
 
+/// Opens the parts of a source in order, up to the first that can't be opened, and puts them behind those
+/// that are open.
+///
+/// # Errors
+///
+/// As for [`open_input`], and `NoMemory`.
+pub fn open_parts<R: Files + Input>(
+    rt: &R,
+    names: &[&str],
+    parts: &mut Vec<Reads<Either<R::Reader, R::File>>>,
+) -> Result<(), Fault>
+    requires { AllByRecursion (λ input. input.failed ≡ false) parts.old.items }
+    ensures { AllByRecursion (λ input. input.failed ≡ false) parts.new.items }
+{
+    for name in names {
+        let input = open_input(rt, name)?;
+        if parts.push(input).is_err() {
+            return Err(Fault::NoMemory);
+        }
+    }
+    Ok(())
+}
+
 /// Opens the parts of a source, in order.
 ///
 /// # Errors
@@ -53,12 +76,7 @@ pub fn open_inputs<R: Files + Input>(
     ensures { IfOk result (λ inputs. AllByRecursion (λ input. input.failed ≡ false) inputs.items) }
 {
     let mut inputs = Vec::new(alloc);
-    for name in names {
-        let input = open_input(rt, name)?;
-        if inputs.push(input).is_err() {
-            return Err(Fault::NoMemory);
-        }
-    }
+    open_parts(rt, names, &mut inputs)?;
     Ok(inputs)
 }
 

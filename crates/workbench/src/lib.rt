@@ -7,6 +7,8 @@ mod files;
 mod joined;
 mod program;
 mod saving;
+mod sources;
+mod telling;
 
 pub use commands::{
     assembling, checking, declaring, explaining, guessing, migrating, refuting, running, session,

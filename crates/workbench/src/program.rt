@@ -3,12 +3,13 @@
 ghost use Rattle.std.specs.Prelude.{◌≤◌};
 
 use crate::faults::{explain_fault, omissions, stuck_address};
-use crate::files::{open_input, open_inputs, open_output};
+use crate::files::{open_input, open_output};
 use crate::joined::{hold_session, tell_to};
 use crate::saving::{save_answer, save_proposed};
+use crate::sources::{assemble_to, list_from};
+use crate::telling::tell;
 use clap::Error;
 use command_line::{Destination, Refused, Request, parse_arguments};
-use commands::assembling::{assemble, list};
 use commands::checking::check;
 use commands::declaring::{DeclareOptions, declare};
 use commands::explaining::explain;
@@ -79,13 +80,6 @@ fn refusal_of(kind: ErrorKind) -> Refused {
     }
 }
 
-/// Writes the line of a fault to standard error.
-fn tell<R: Eprint>(rt: &R, fault: Fault) -> Status {
-    match eprintln!(rt; "{fault}") {
-        Ok(()) | Err(_) => fault.status(),
-    }
-}
-
 /// Says why the command line is bad, or gives the help that it asks for.
 fn refuse<R: Print + Eprint>(rt: &R, refused: Refused) -> Status {
     let told = match refused {
@@ -151,8 +145,13 @@ fn answer<R: Files + Input + Print + Eprint>(
             out,
             sources,
             profile,
-        } => assemble_to(rt, alloc, *out, sources, *profile),
-        Request::List { sources, profile } => list_from(rt, alloc, sources, *profile),
+            explained,
+        } => assemble_to(rt, alloc, *out, sources, *profile, *explained),
+        Request::List {
+            sources,
+            profile,
+            explained,
+        } => list_from(rt, alloc, sources, *profile, *explained),
         Request::Source {
             tape,
             out,
@@ -208,19 +207,6 @@ fn dump_from<R: Files + Input + Print>(
     dump(alloc, &mut frames, profile, &mut out)
 }
 
-/// Lists the source whose parts are in these files.
-#[inline(never)]
-fn list_from<R: Files + Input + Print>(
-    rt: &R,
-    alloc: Global,
-    sources: &[&str],
-    profile: Profile,
-) -> Result<Status, Fault> {
-    let mut parts = open_inputs(rt, alloc, sources)?;
-    let mut out = Writes::new(io::writer(rt));
-    list(alloc, &mut parts, profile, &mut out)
-}
-
 /// Writes a source of the tape of a file. A declaration is opened before the file that the source goes
 /// to is made.
 #[inline(never)]
@@ -254,20 +240,6 @@ fn migrate_from<R: Files + Input + Print>(
     let mut text = open_input(rt, certificate)?;
     let mut migrated = open_output(rt, out)?;
     migrate(alloc, &mut text, &mut migrated)
-}
-
-/// Assembles the parts of these files into a tape.
-#[inline(never)]
-fn assemble_to<R: Files + Input + Print>(
-    rt: &R,
-    alloc: Global,
-    out: Destination<'_>,
-    sources: &[&str],
-    profile: Profile,
-) -> Result<Status, Fault> {
-    let mut tape = open_output(rt, out)?;
-    let mut parts = open_inputs(rt, alloc, sources)?;
-    assemble(alloc, &mut parts, profile, &mut tape)
 }
 
 /// Watches a run of the tape of a file.

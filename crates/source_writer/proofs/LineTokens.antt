@@ -7,11 +7,10 @@ use Rattle.bin_tape.specs.declared.word.TapeWord.TheVariants.{Origin, Data}
 use Rattle.pal_text.specs.declared.tokens.Kind.{Kind}
 use Rattle.pal_text.specs.declared.tokens.Kind.TheVariants as kind
 use Rattle.pal_text.specs.declared.tokens.Token.{Token}
-use Rattle.pal_text.specs.declared.scan.Brings.TheVariants.{Feed, End, One}
 use Rattle.pal_text.specs.Characters.{code, returned, in_comment, line}
 use Rattle.pal_text.specs.Tokens.{token, is_end}
 use Rattle.pal_text.specs.Adding.{added, tokens}
-use Rattle.pal_text.specs.Scan.{brings, mark_kind, Closes, IsCut}
+use Rattle.pal_text.specs.Scan.{brings, of_kind, mark_kind, Closes, IsCut}
 use Rattle.pal_text.proofs.Apart.{added_apart}
 use Rattle.pal_text.proofs.Steps.{Grows, one_grows, feed_closes, end_closes}
 use Rattle.source_writer.specs.Plain.{plain_line}
@@ -30,9 +29,9 @@ record Stands (f : List ℕ) (n : ℕ) (s b : List Token) : Type 0 where
   returned_is : returned f ≡ false
 
 -- one character more
-one_stands : (f : List ℕ) (c n : ℕ) (k : Kind) (s b : List Token) → IsCut b → brings (code c) ≡ One k → Stands f n s b → Stands (c ∷ f) n (added (token k n (length f)) s) b
-one_stands f c n k s b cut brought h =
-    let g : Grows f c k = one_grows f c k h.comment_is brought in
+one_stands : (f : List ℕ) (c n : ℕ) (k : Kind) (s b : List Token) → IsCut b → (in_comment f ≡ false → Grows f c k) → Stands f n s b → Stands (c ∷ f) n (added (token k n (length f)) s) b
+one_stands f c n k s b cut grows h =
+    let g : Grows f c k = grows h.comment_is in
     record {
       tokens_are = g.tokens_are ∙ ap (λ l. added (token k l (length f)) (tokens f)) h.line_is ∙ ap (added (token k n (length f))) h.tokens_are ∙ added_apart (token k n (length f)) s b cut;
       line_is = g.line_is ∙ h.line_is;
@@ -40,7 +39,7 @@ one_stands f c n k s b cut brought h =
       returned_is = g.returned_is;
     }
 
-digit_brings : (d : ℕ) → d < 8 → brings (code (48 + d)) ≡ One kind.Number
+digit_brings : (d : ℕ) → d < 8 → brings (code (48 + d)) ≡ of_kind kind.Number
 digit_brings zero h = refl
 digit_brings (suc zero) h = refl
 digit_brings (suc (suc zero)) h = refl
@@ -50,6 +49,9 @@ digit_brings (suc (suc (suc (suc (suc zero))))) h = refl
 digit_brings (suc (suc (suc (suc (suc (suc zero)))))) h = refl
 digit_brings (suc (suc (suc (suc (suc (suc (suc zero))))))) h = refl
 digit_brings (suc (suc (suc (suc (suc (suc (suc (suc d)))))))) h = absurd (omega arith)
+
+digit_grows : (f : List ℕ) (d : ℕ) → d < 8 → in_comment f ≡ false → Grows f (48 + d) kind.Number
+digit_grows f d h c = one_grows f (48 + d) kind.Number c (digit_brings d h)
 
 -- the token of a number on line n from one place to another
 abbrev pub number_token : ℕ → ℕ → ℕ → Token
@@ -70,10 +72,10 @@ digits_stand f v n s b small cut fresh h =
     let P : List Token → Type 0 = λ l. Stands ((48 + v / 512) ∷ f) n l b in
     let Q : ℕ → Type 0 = λ e. Stands (digits v f) n (number_token n (length f) e ∷ s) b in
     let one : Stands ((48 + v / 512) ∷ f) n (token kind.Number n (length f) ∷ s) b =
-    subst P (fresh n (length f)) (one_stands f (48 + v / 512) n kind.Number s b cut (digit_brings (v / 512) (omega arith)) h) in
-    let two = one_stands ((48 + v / 512) ∷ f) (48 + v / 64 % 8) n kind.Number (token kind.Number n (length f) ∷ s) b cut (digit_brings (v / 64 % 8) (omega arith)) one in
-    let three = one_stands ((48 + v / 64 % 8) ∷ (48 + v / 512) ∷ f) (48 + v / 8 % 8) n kind.Number _ b cut (digit_brings (v / 8 % 8) (omega arith)) two in
-    let four = one_stands ((48 + v / 8 % 8) ∷ (48 + v / 64 % 8) ∷ (48 + v / 512) ∷ f) (48 + v % 8) n kind.Number _ b cut (digit_brings (v % 8) (omega arith)) three in
+    subst P (fresh n (length f)) (one_stands f (48 + v / 512) n kind.Number s b cut (digit_grows f (v / 512) (omega arith)) h) in
+    let two = one_stands ((48 + v / 512) ∷ f) (48 + v / 64 % 8) n kind.Number (token kind.Number n (length f) ∷ s) b cut (digit_grows ((48 + v / 512) ∷ f) (v / 64 % 8) (omega arith)) one in
+    let three = one_stands ((48 + v / 64 % 8) ∷ (48 + v / 512) ∷ f) (48 + v / 8 % 8) n kind.Number _ b cut (digit_grows ((48 + v / 64 % 8) ∷ (48 + v / 512) ∷ f) (v / 8 % 8) (omega arith)) two in
+    let four = one_stands ((48 + v / 8 % 8) ∷ (48 + v / 64 % 8) ∷ (48 + v / 512) ∷ f) (48 + v % 8) n kind.Number _ b cut (digit_grows ((48 + v / 8 % 8) ∷ (48 + v / 64 % 8) ∷ (48 + v / 512) ∷ f) (v % 8) (omega arith)) three in
     subst Q end_is four
 
 -- the token of a line feed, and of a star
@@ -130,7 +132,7 @@ lines (Data v) f small h =
 lines (Origin a) f small h =
     let n : ℕ = line f in
     let b : List Token = tokens f in
-    let star : Stands (42 ∷ f) n (star_token n (length f) ∷ []) b = one_stands f 42 n kind.Star [] b h.cut refl (stands_none f h) in
+    let star : Stands (42 ∷ f) n (star_token n (length f) ∷ []) b = one_stands f 42 n kind.Star [] b h.cut (λ e. one_grows f 42 kind.Star e refl) (stands_none f h) in
     let four = digits_stand (42 ∷ f) a n (star_token n (length f) ∷ []) b small h.cut (λ n at. refl) star in
     let all = ended (digits a (42 ∷ f)) n (length (42 ∷ f)) (length (42 ∷ f) + 4) (star_token n (length f) ∷ []) b h.cut four in
     let begin : length (42 ∷ f) ≡ length f + 1 = omega arith in

@@ -34,7 +34,7 @@ line_act (Origin a) n = placed (place 1 n) (number_alone a) act.Origin
 line_act (Data v) n = placed (place 1 n) (number_alone v) act.Word
 
 -- the acts of lines, the newest first
-pub acts : List TapeWord → List PlacedAct
+unfoldable pub acts : List TapeWord → List PlacedAct
 acts [] = []
 acts (w ∷ before) = line_act w (line (front_of before)) ∷ acts before
 
@@ -140,8 +140,7 @@ module _ (σ : Values) where
 -- the acts of an image are a source of it
 pub acts_mean : (permanent : List (Name × ℕ)) (image : List (Option ℕ)) → HoldsWords image → IsSource permanent 1024 (reverse (acts (words_below image 4096))) [] image
 acts_mean permanent image h =
-    let as : List PlacedAct = acts (words_below image 4096) in
-    let back : reverse (reverse as) ≡ as = reverse-reverse as in
+    let back : reverse (reverse (acts (words_below image 4096))) ≡ acts (words_below image 4096) = reverse-reverse (acts (words_below image 4096)) in
     let σ : Values = known permanent [] in
     record {
       defines = subst (λ l. Defines permanent 1024 l []) (sym back) (acts_define permanent (words_below image 4096));

@@ -1,6 +1,6 @@
 -- The lines of a plain source, address by address, and how long they are.
 use Rattle.std.proofs.Common.{◌≡◌, ◌∙◌, sym, ap, refl, ℕ, zero, suc, ◌+◌, ◌*◌, ◌≤◌, List, [], ◌∷◌, ◌++◌, length, arith, add-one, append_assoc, append-nil, length-append, Bool, true, false}
-use Rattle.std.specs.Prelude.{Option, Some, None, is_none, is_some, not, codes}
+use Rattle.std.specs.Prelude.{Option, Some, None, is_none, is_some, not, codes, Result, Ok, Err, OnOk}
 use Rattle.word12.specs.Words.{octal_text}
 use Rattle.bin_tape.specs.declared.word.TapeWord.{TapeWord}
 use Rattle.bin_tape.specs.declared.word.TapeWord.TheVariants.{Origin, Data}
@@ -38,17 +38,21 @@ pub run_more : (image : List (Option ℕ)) (a address : ℕ) (cell : Option ℕ)
 run_more image a address cell b is here e = not_some cell b e ∙ ap is_none here ∙ ap (λ n. is_none (word_at image n)) is ∙ sym (begins_run-more image a)
 
 -- the lines of an address
-pub no_cell_lines : (a : ℕ) (begins : Bool) → plain_lines (cell_words a begins None) ≡ []
+pub no_cell_lines : (old : List ℕ) (a : ℕ) (begins : Bool) (cell : Option ℕ) → cell ≡ None → old ≡ old ++ plain_lines (cell_words a begins cell)
 unfolding plain_lines
-no_cell_lines a begins = refl
+no_cell_lines old a begins cell none = rw none (sym (append-nil old))
 
-pub origin_lines : (a v : ℕ) → plain_lines (cell_words a true (Some v)) ≡ plain_line (Origin a) ++ plain_line (Data v)
+pub origin_lines : {T E : Type 0} (r : Result T E) (old middle new : List ℕ) (a v : ℕ) (begins : Bool) (cell : Option ℕ) → cell ≡ Some v → begins ≡ true
+    → middle ≡ old ++ plain_line (Origin a) → OnOk r (new ≡ middle ++ plain_line (Data v)) → OnOk r (new ≡ old ++ plain_lines (cell_words a begins cell))
 unfolding plain_lines
-origin_lines a v = refl
+origin_lines (Ok x) old middle new a v begins cell some led first more = rw (some, led, more, first) (append_assoc old (plain_line (Origin a)) (plain_line (Data v)))
+origin_lines (Err e) old middle new a v begins cell some led first more = tt
 
-pub data_lines : (a v : ℕ) → plain_lines (cell_words a false (Some v)) ≡ plain_line (Data v)
+pub data_lines : {T E : Type 0} (r : Result T E) (old new : List ℕ) (a v : ℕ) (begins : Bool) (cell : Option ℕ) → cell ≡ Some v → begins ≡ false
+    → OnOk r (new ≡ old ++ plain_line (Data v)) → OnOk r (new ≡ old ++ plain_lines (cell_words a begins cell))
 unfolding plain_lines
-data_lines a v = refl
+data_lines (Ok x) old new a v begins cell some on more = rw (some, on) more
+data_lines (Err e) old new a v begins cell some on more = tt
 
 pub whole : (image : List (Option ℕ)) (fresh lines text : List ℕ) → fresh ≡ [] → lines ≡ fresh ++ plain_lines (words_below image 4096) → text ≡ lines ++ codes "$\n" → text ≡ plain_text image
 unfolding plain_text

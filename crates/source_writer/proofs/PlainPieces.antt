@@ -69,13 +69,13 @@ origin_acts source a n start end small e =
 module _ (source : List ℕ) (c : Close) where
   -- a part from so many of its tokens on does this
   abbrev pub DoesFrom : ℕ → List PlacedAct → Type 0
-  DoesFrom k as = Does 1 true source Octal (rest source k) as Octal c
+  DoesFrom k all = Does 1 true source Octal (rest source k) all Octal c
 
   does_one : (k m : ℕ) (p : Piece) (said : Said) (a : PlacedAct) (more : List PlacedAct) → rest source k ≡ p ∷ rest source m → IsStatement (own (part_tokens source) p) [] said
       → closing (length source) (own (part_tokens source) p) p.mark said.form ≡ None
-      → statement_acts (place 1 p.mark.line) 8 true source [] said ≡ a ∷ [] → ((as : List PlacedAct) → DoesFrom m as → Does 1 true source Octal (p ∷ rest source m) (statement_acts (place 1 p.mark.line) 8 true source [] said ++ as) Octal c)
+      → statement_acts (place 1 p.mark.line) 8 true source [] said ≡ a ∷ [] → ((later : List PlacedAct) → DoesFrom m later → Does 1 true source Octal (p ∷ rest source m) (statement_acts (place 1 p.mark.line) 8 true source [] said ++ later) Octal c)
       → DoesFrom m more → DoesFrom k (a ∷ more)
-  does_one k m p said a more is reads open does step after =
+  does_one k m p said a more is reads goes does step after =
       let P : List PlacedAct → Type 0 = λ l. Does 1 true source Octal (p ∷ rest source m) (l ++ more) Octal c in
       let Q : List Piece → Type 0 = λ ps. Does 1 true source Octal ps (a ∷ more) Octal c in
       subst Q (sym is) (subst P does (step more after))
@@ -108,7 +108,7 @@ data_does source c v before after more e small does =
     let reads : IsStatement (slice_range (part_tokens source) k (k + 1)) [] (says form.Word None (t ∷ [])) = subst (λ l. IsStatement l [] (says form.Word None (t ∷ []))) (sym own_is) (word (t ∷ []) refl) in
     let open' : closing (length source) (slice_range (part_tokens source) k (k + 1)) m form.Word ≡ None = no_close (length source) (at + 4) (slice_range (part_tokens source) k (k + 1)) n long in
     does_one source c k (k + 1 + 1) (piece k (k + 1) m) (says form.Word None (t ∷ [])) (line_act (Data v) n) more is reads open' (data_acts source v n at (at + 4) small.0 text)
-    (λ as later. goes_on Octal Octal (piece k (k + 1) m) (rest source (k + 1 + 1)) [] (says form.Word None (t ∷ [])) as c reads open' later)
+    (λ later so. goes_on Octal Octal (piece k (k + 1) m) (rest source (k + 1 + 1)) [] (says form.Word None (t ∷ [])) later c reads open' so)
     (subst (λ j. DoesFrom source c j more) (sym count) does)
 
 -- the line of an origin
@@ -144,7 +144,7 @@ origin_does source c a before after more e small does =
     let reads : IsStatement (slice_range (part_tokens source) k (k + 1 + 1)) [] said = subst (λ l. IsStatement l [] said) (sym own_is) (origin star (t ∷ []) refl refl) in
     let open' : closing (length source) (slice_range (part_tokens source) k (k + 1 + 1)) m form.Origin ≡ None = no_close_origin (length source) (at + 5) (slice_range (part_tokens source) k (k + 1 + 1)) n long in
     does_one source c k (k + 1 + 1 + 1) (piece k (k + 1 + 1) m) said (line_act (Origin a) n) more is reads open' (origin_acts source a n (at + 1) (at + 5) small.0 text)
-    (λ as later. goes_on Octal Octal (piece k (k + 1 + 1) m) (rest source (k + 1 + 1 + 1)) [] said as c reads open' later)
+    (λ later so. goes_on Octal Octal (piece k (k + 1 + 1) m) (rest source (k + 1 + 1 + 1)) [] said later c reads open' so)
     (subst (λ j. DoesFrom source c j more) (sym count) does)
 
 line_does : (source : List ℕ) (c : Close) (w : TapeWord) (before : List TapeWord) (after : List ℕ) (more : List PlacedAct) → source ≡ plain_lines (w ∷ before) ++ after → AreSmall (w ∷ before)

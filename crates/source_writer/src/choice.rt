@@ -1,6 +1,7 @@
 //! The source that is given: the one that reads best among those that mean the image.
 
 ghost use Rattle.std.specs.Prelude.{◌≡◌, IfOk, true};
+ghost use Rattle.bin_tape.specs.Image.{HoldsWords};
 ghost use Rattle.declaration.specs.Kept.{meaning};
 ghost use Rattle.source_writer.specs.Meaning.{IsSourceOf};
 
@@ -31,6 +32,13 @@ fn means<A: Allocator + Copy>(
     }
 }
 
+/// The proof needs the image to be looked at, since it holds words.
+fn look_into(image: Image)
+    ensures { HoldsWords image }
+{
+    let _word = image.get(Word::ZERO);
+}
+
 /// The plain source of an image, which means it.
 fn plainly<A: Allocator>(
     alloc: A,
@@ -39,6 +47,7 @@ fn plainly<A: Allocator>(
 ) -> Result<Vec<u8, A>, AllocError>
     ensures { IfOk result (λ text. IsSourceOf profile image.now text.items) }
 {
+    look_into(*image);
     plain_sources_mean();
     plain_source(alloc, image)
 }

@@ -43,6 +43,7 @@ fn push_cell<A: Allocator>(
     };
     if begins {
         push_origin(text, at)?;
+        return push_word(text, word);
     }
     push_word(text, word)
 }

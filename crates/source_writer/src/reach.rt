@@ -146,7 +146,9 @@ impl Reach {
     /// Lets all calls wait, since a routine was found to return in a new way.
     fn call_again(&mut self) {
         for offset in 0..8usize {
-            self.waiting[offset] = self.waiting[offset].union(&self.calls[offset]);
+            let calls = self.calls[offset];
+            let waiting = self.waiting[offset].union(&calls);
+            self.waiting[offset] = waiting;
         }
     }
 

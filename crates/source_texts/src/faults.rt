@@ -44,6 +44,7 @@ fn finding_of<A: Allocator + Copy>(
     alloc: A,
     source: &Source<'_>,
     before: &Meanings<'_, A>,
+    known: &Meanings<'_, A>,
     faulty: &Faulty<A>,
 ) -> Result<Option<Finding<A>>, AllocError> {
     match faulty.code {
@@ -53,10 +54,45 @@ fn finding_of<A: Allocator + Copy>(
         }
         Code::DuplicateTag => about_tags(alloc, source, before, faulty),
         Code::Redefined => about_assignment(alloc, source, before, faulty),
+        Code::IllegalReference => about_reference(alloc, source, before, known, faulty),
         Code::TableFull => about_room(alloc, source, before, faulty),
         Code::PauseInLastPart => about_pause(alloc, faulty),
-        Code::Undefined | Code::IllegalReference | Code::TooLong => Ok(None),
+        Code::Undefined | Code::TooLong => Ok(None),
     }
+}
+
+/// Puts what is told of a fault, by what is known before its statement and after the whole source.
+fn put_findings<A: Allocator + Copy>(
+    alloc: A,
+    source: &Source<'_>,
+    before: &Meanings<'_, A>,
+    known: &Meanings<'_, A>,
+    faulty: &Faulty<A>,
+    findings: &mut Vec<Finding<A>, A>,
+) -> Result<(), AllocError> {
+    if faulty.code == Code::Undefined {
+        return put_undefined(alloc, source, before, known, faulty, findings);
+    }
+    match finding_of(alloc, source, before, known, faulty)? {
+        Some(finding) => {
+            findings.push(finding)?;
+            Ok(())
+        }
+        None => Ok(()),
+    }
+}
+
+/// What is told of a fault, by what is known before its statement and after the whole source.
+fn findings_by<A: Allocator + Copy>(
+    alloc: A,
+    source: &Source<'_>,
+    before: &Meanings<'_, A>,
+    known: &Meanings<'_, A>,
+    faulty: &Faulty<A>,
+) -> Result<Vec<Finding<A>, A>, AllocError> {
+    let mut findings = Vec::new(alloc);
+    put_findings(alloc, source, before, known, faulty, &mut findings)?;
+    Ok(findings)
 }
 
 /// What is told of a fault.
@@ -68,23 +104,8 @@ fn findings_of<A: Allocator + Copy>(
 ) -> Result<Vec<Finding<A>, A>, AllocError> {
     let permanent = permanent_table(alloc, source.profile)?;
     let before = meanings_before(alloc, &permanent, copies, faulty.place)?;
-    let mut findings = Vec::new(alloc);
-    let found = match faulty.code {
-        Code::Undefined => {
-            let known = meanings_before(alloc, &permanent, copies, NOWHERE)?;
-            put_undefined(alloc, source, &before, &known, faulty, &mut findings)?;
-            None
-        }
-        Code::IllegalReference => {
-            let known = meanings_before(alloc, &permanent, copies, NOWHERE)?;
-            about_reference(alloc, source, &before, &known, faulty)?
-        }
-        _ => finding_of(alloc, source, &before, faulty)?,
-    };
-    if let Some(finding) = found {
-        findings.push(finding)?;
-    }
-    Ok(findings)
+    let known = meanings_before(alloc, &permanent, copies, NOWHERE)?;
+    findings_by(alloc, source, &before, &known, faulty)
 }
 
 /// Adds what is told of a fault.

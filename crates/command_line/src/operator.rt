@@ -17,6 +17,23 @@ pub struct Session<'a> {
     pub options: SessionOptions,
 }
 
+/// A run with an operator that is watched, as the words ask for it.
+#[derive(Clone, Copy, Debug)]
+pub struct WatchedSession<'a> {
+    /// The name of the tape's file.
+    pub tape: &'a str,
+    /// The name of the declaration's file.
+    pub declaration: &'a str,
+    /// The name of the file whose frames are in the reader.
+    pub reader: Option<&'a str>,
+    /// The name of the file of the keys.
+    pub keys: Option<&'a str>,
+    /// How the tape is run; the start and the machine are the declaration's.
+    pub options: SessionOptions,
+    /// Whether it is said what breaks a rule.
+    pub explained: bool,
+}
+
 /// What the devices of a machine are joined to.
 #[derive(Clone, Copy, Debug)]
 pub struct Joined<'a> {
@@ -30,40 +47,73 @@ pub struct Joined<'a> {
     pub teletype: bool,
 }
 
-/// Adds the words for the reader, the punch, the teletype and the switches.
-pub fn with_operator<'a>(alloc: Global, run: Command<'a>) -> Result<Command<'a>, AllocError> {
-    let reader = Arg::new(alloc, "reader")
+fn reader_word<'a>(alloc: Global) -> Arg<'a> {
+    Arg::new(alloc, "reader")
         .long("reader")
         .value_name("FILE")
-        .help("the frames in the reader, or - for standard input");
-    let punch = Arg::new(alloc, "punch")
-        .long("punch")
-        .value_name("FILE")
-        .help("where the punched bytes go; it is emptied first");
-    let keys = Arg::new(alloc, "keys")
+        .help("the frames in the reader, or - for standard input")
+}
+
+fn keys_word<'a>(alloc: Global) -> Arg<'a> {
+    Arg::new(alloc, "keys")
         .long("keys")
         .value_name("FILE")
-        .help("the keys that are struck, or - for standard input");
-    let mark = Arg::new(alloc, "mark")
+        .help("the keys that are struck, or - for standard input")
+}
+
+fn mark_word<'a>(alloc: Global) -> Arg<'a> {
+    Arg::new(alloc, "mark")
         .long("mark")
         .action(ArgAction::SetTrue)
-        .help("sets channel 8 of each key");
-    let teletype = Arg::new(alloc, "teletype")
-        .long("teletype")
-        .action(ArgAction::SetTrue)
-        .help("what is printed goes to standard output, all else to standard error");
-    let switches = Arg::new(alloc, "switches")
+        .help("sets channel 8 of each key")
+}
+
+fn switches_word<'a>(alloc: Global) -> Arg<'a> {
+    Arg::new(alloc, "switches")
         .long("switches")
         .value_name("W")
         .help(
             "the octal word that the switches are set to; leading zeros are allowed, 0000 without it",
-        );
-    run.arg(reader)?
+        )
+}
+
+/// Adds the words for the reader, the punch, the teletype and the switches.
+pub fn with_operator<'a>(alloc: Global, run: Command<'a>) -> Result<Command<'a>, AllocError> {
+    let punch = Arg::new(alloc, "punch")
+        .long("punch")
+        .value_name("FILE")
+        .help("where the punched bytes go; it is emptied first");
+    let teletype = Arg::new(alloc, "teletype")
+        .long("teletype")
+        .action(ArgAction::SetTrue)
+        .help("what is printed goes to standard output, all else to standard error");
+    run.arg(reader_word(alloc))?
         .arg(punch)?
-        .arg(keys)?
-        .arg(mark)?
+        .arg(keys_word(alloc))?
+        .arg(mark_word(alloc))?
         .arg(teletype)?
-        .arg(switches)
+        .arg(switches_word(alloc))
+}
+
+/// The words of an operator that stand in place of a list of events where a run is watched.
+const WATCHED: [&str; 5] = ["reader", "keys", "mark", "switches", "steps"];
+
+/// Adds the words for a list of events, and for what an operator brings in its place.
+pub fn with_events<'a>(
+    alloc: Global,
+    watch: Command<'a>,
+    steps: Arg<'a>,
+) -> Result<Command<'a>, AllocError> {
+    let events = Arg::new(alloc, "EVENTS")
+        .required_unless_present_any(&WATCHED)?
+        .help("the events that happen, or - for standard input; the words for an operator stand in its place");
+    watch
+        .arg(events)?
+        .arg(reader_word(alloc))?
+        .arg(keys_word(alloc))?
+        .arg(mark_word(alloc))?
+        .arg(switches_word(alloc))?
+        .arg(steps)
 }
 
 /// Whether a run has an operator.
@@ -73,6 +123,11 @@ pub fn has_operator(found: &ArgMatches<'_>) -> bool {
         .any(|name| found.get_str(name).is_some())
         || found.get_flag("mark")
         || found.get_flag("teletype")
+}
+
+/// Whether a watched run has an operator.
+pub fn is_watched_with_operator(found: &ArgMatches<'_>) -> bool {
+    WATCHED.iter().any(|name| found.get_str(name).is_some()) || found.get_flag("mark")
 }
 
 /// What the switches are set to, if they are.
@@ -108,10 +163,40 @@ pub fn session_of<'a>(tape: &'a str, found: &ArgMatches<'a>) -> Result<Session<'
             keys,
             teletype: found.get_flag("teletype"),
         },
-        options: SessionOptions {
-            run: run_options(found)?,
-            switches: switches_of(found)?,
-            mark: found.get_flag("mark"),
-        },
+        options: session_options(found)?,
+    })
+}
+
+/// How a tape is run with an operator.
+fn session_options(found: &ArgMatches<'_>) -> Result<SessionOptions, Refused> {
+    Ok(SessionOptions {
+        run: run_options(found)?,
+        switches: switches_of(found)?,
+        mark: found.get_flag("mark"),
+    })
+}
+
+/// The watched run with an operator that the words of `watch` ask for.
+pub fn watched_session_of<'a>(
+    tape: &'a str,
+    declaration: &'a str,
+    found: &ArgMatches<'a>,
+) -> Result<WatchedSession<'a>, Refused> {
+    let reader = found.get_str("reader");
+    let keys = found.get_str("keys");
+    if found.get_str("EVENTS").is_some() {
+        return Err(Refused::ListAndOperator);
+    }
+    let inputs = [tape, declaration, reader.unwrap_or(""), keys.unwrap_or("")];
+    if share_standard_input(&inputs) {
+        return Err(Refused::BothStandardInput);
+    }
+    Ok(WatchedSession {
+        tape,
+        declaration,
+        reader,
+        keys,
+        options: session_options(found)?,
+        explained: found.get_flag("why"),
     })
 }

@@ -1,6 +1,6 @@
 //! The program's words.
 
-use crate::operator::{Session, has_operator, session_of, with_operator};
+use crate::operator::{Session, WatchedSession, has_operator, is_watched_with_operator, session_of, watched_session_of, with_events, with_operator};
 use clap::error::ErrorKind;
 use clap::{Arg, ArgAction, ArgMatches, Command, Error};
 use instruct::Profile;
@@ -130,6 +130,8 @@ pub enum Request<'a> {
         /// Whether it is said what breaks a rule.
         explained: bool,
     },
+    /// To watch a run with an operator.
+    WatchSession(WatchedSession<'a>),
     /// To look for a run that breaks a declaration.
     Refute {
         /// The name of the tape's file.
@@ -167,6 +169,8 @@ pub enum Refused {
     Switches(OctalFault),
     /// There are events, and an operator too.
     EventsAndOperator,
+    /// A run is to be watched by a list of events, and with an operator too.
+    ListAndOperator,
     /// There is a declaration, and a start or a machine too.
     DeclarationAndStart,
     /// The punch is to go to standard output.
@@ -224,11 +228,14 @@ fn start_word<'a>(alloc: Global) -> Arg<'a> {
     )
 }
 
-fn run_command<'a>(alloc: Global) -> Result<Command<'a>, AllocError> {
-    let steps = Arg::new(alloc, "steps")
+fn rounds_word<'a>(alloc: Global) -> Arg<'a> {
+    Arg::new(alloc, "steps")
         .long("steps")
         .value_name("N")
-        .help("how many rounds are made at most; 100000 without it");
+        .help("how many rounds are made at most; 100000 without it")
+}
+
+fn run_command<'a>(alloc: Global) -> Result<Command<'a>, AllocError> {
     let events = Arg::new(alloc, "events")
         .long("events")
         .value_name("FILE")
@@ -242,7 +249,7 @@ fn run_command<'a>(alloc: Global) -> Result<Command<'a>, AllocError> {
         .after_help("Example:\n  pdp8 run hello.bin --start 200 --trace")
         .arg(tape_word(alloc))?
         .arg(start_word(alloc))?
-        .arg(steps)?
+        .arg(rounds_word(alloc))?
         .arg(events)?
         .arg(trace)?
         .arg(profile_word(alloc))?;
@@ -414,16 +421,12 @@ fn breach_word<'a>(alloc: Global) -> Arg<'a> {
 }
 
 fn watch_command<'a>(alloc: Global) -> Result<Command<'a>, AllocError> {
-    let events = Arg::new(alloc, "EVENTS")
-        .required(true)
-        .help("the events that happen, or - for standard input");
-    Command::new(alloc, "watch")
+    let watch = Command::new(alloc, "watch")
         .about("Writes whether a run keeps its declaration, or where it first breaks which rule")
         .after_help("Example:\n  pdp8 watch hello.bin hello.declaration hello.events")
         .arg(tape_word(alloc))?
-        .arg(declaration_word(alloc))?
-        .arg(events)?
-        .arg(breach_word(alloc))
+        .arg(declaration_word(alloc))?;
+    with_events(alloc, watch, rounds_word(alloc))?.arg(breach_word(alloc))
 }
 
 fn refute_command<'a>(alloc: Global) -> Result<Command<'a>, AllocError> {
@@ -543,6 +546,10 @@ fn list_request<'a>(alloc: Global, found: &ArgMatches<'a>) -> Result<Request<'a>
 fn watch_request<'a>(found: &ArgMatches<'a>) -> Result<Request<'a>, Refused> {
     let inputs = ["TAPE", "DECLARATION", "EVENTS"].map(|name| found.get_str(name).unwrap_or("-"));
     let [tape, declaration, events] = inputs;
+    if is_watched_with_operator(found) {
+        let session = watched_session_of(tape, declaration, found)?;
+        return Ok(Request::WatchSession(session));
+    }
     if share_standard_input(&inputs) {
         return Err(Refused::BothStandardInput);
     }

@@ -3,7 +3,7 @@
 ghost use Rattle.std.specs.Prelude.{◌≤◌};
 
 use crate::files::{open_input, open_inputs, open_output};
-use crate::joined::{hold_session, tell_to};
+use crate::joined::{hold_session, tell_to, watch_joined};
 use crate::saving::{save_answer, save_proposed};
 use clap::Error;
 use command_line::{Refused, Request, parse_words};
@@ -87,6 +87,9 @@ fn refuse<R: Print + Eprint>(rt: &R, refused: Refused) -> Status {
         Refused::EventsAndOperator => eprintln!(rt;
             "error: '--events' can't stand beside the words for the reader, the punch, the teletype and the switches"
         ),
+        Refused::ListAndOperator => eprintln!(rt;
+            "error: EVENTS can't stand beside the words for the reader, the keys, the switches and the rounds"
+        ),
         Refused::DeclarationAndStart => eprintln!(rt;
             "error: a declaration has its own start and machine: '--start' and '--profile' can't stand beside it"
         ),
@@ -145,6 +148,7 @@ fn answer<R: Files + Input + Print + Eprint>(
             events,
             explained,
         } => watch_from(rt, alloc, tape, declaration, events, *explained),
+        Request::WatchSession(session) => watch_joined(rt, alloc, session),
         Request::Check {
             tape,
             declaration,

@@ -29,7 +29,8 @@ _pdp8() {
         verify) options='--start --profile --steps --seed --save --why --help' ;;
         assemble | list | dump) options='--profile --help' ;;
         run) options='--start --steps --trace --profile --events --reader --punch --keys --mark --teletype --switches --help' ;;
-        watch | check | guess) options='--why --help' ;;
+        watch) options='--reader --keys --mark --switches --steps --why --help' ;;
+        check | guess) options='--why --help' ;;
         refute) options='--steps --seed --why --help' ;;
         declare) options='--start --reads --profile --help' ;;
         migrate) options='--help' ;;

@@ -127,7 +127,10 @@ pub fn has_operator(found: &ArgMatches<'_>) -> bool {
 
 /// Whether a watched run has an operator.
 pub fn is_watched_with_operator(found: &ArgMatches<'_>) -> bool {
-    WATCHED.iter().any(|name| found.get_str(name).is_some()) || found.get_flag("mark")
+    ["reader", "keys", "switches", "steps"]
+        .iter()
+        .any(|name| found.get_str(name).is_some())
+        || found.get_flag("mark")
 }
 
 /// What the switches are set to, if they are.

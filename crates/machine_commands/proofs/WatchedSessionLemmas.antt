@@ -1,5 +1,5 @@
 -- The events that come with an operator, gathered one after the other; and what is seen of them.
-use Rattle.std.proofs.Common.{ℕ, ◌≡◌, Bool, true, false, List, [], ◌∷◌, ◌++◌, Option, Some, None, refl, append-nil, append_assoc}
+use Rattle.std.proofs.Common.{ℕ, ◌≡◌, Bool, true, false, not, List, [], ◌∷◌, ◌++◌, Option, Some, None, refl, append-nil, append_assoc}
 use Rattle.instruct.specs.declared.Profile.{Profile}
 use Rattle.peripherals.specs.declared.Event.{Event}
 use Rattle.peripherals.specs.declared.Seen.{Seen}
@@ -54,3 +54,8 @@ plan_watched plan image d explained p w events watched told status profile begin
   is = is;
   status_is = status_is;
 }
+
+-- a test that was turned round
+pub not_back : (a b : Bool) → not a ≡ b → a ≡ not b
+not_back true b is = rw (← is) refl
+not_back false b is = rw (← is) refl

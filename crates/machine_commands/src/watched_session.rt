@@ -1,6 +1,6 @@
 //! The command that watches a run with an operator.
 
-ghost use Rattle.std.specs.Prelude.{◌≡◌, ◌||◌, ◌⊎◌, false, true, None, IfOk, IfErr, OnErr};
+ghost use Rattle.std.specs.Prelude.{◌≡◌, ◌||◌, ◌⊎◌, ◌++◌, ◌∷◌, [], false, true, not, None, IfOk, IfErr, OnOk, OnErr};
 ghost use Rattle.streams.specs.Bytes.{Gave};
 ghost use Rattle.declaration.specs.Kept.{meaning};
 ghost use Rattle.peripherals.specs.Operator.{plan_of};
@@ -8,6 +8,7 @@ ghost use Rattle.peripherals.specs.World.{view, profile_of};
 ghost use Rattle.command_parts.specs.Faults.{IsRunFault, is_fault_of_declaration, is_fault_of_tape, fails_to_read, fails_to_write};
 ghost use Rattle.command_parts.specs.Inputs.{AreFirst, IsGoodDeclaration, IsGoodTape, TakesAtMost, TakesTape, input};
 ghost use Rattle.command_parts.specs.Writes.{FrontOf, Writes};
+ghost use Rattle.machine_commands.specs.Follows.{goes_on};
 ghost use Rattle.machine_commands.specs.Session.{Comes, Whole};
 ghost use Rattle.machine_commands.specs.WatchedSession.{IsPlanWatched, IsPlanWatchedSo, IsSessionWatched, IsSessionWatchedSo, IsWatchedSessionFault};
 
@@ -20,6 +21,20 @@ pub use options::SessionOptions;
 use peripherals::{Event, NoMemory, Operator, Seen, Start, World};
 use std::alloc::Allocator;
 use streams::{ByteSink, ByteSource, put};
+
+/// Adds an event.
+fn keep<A: Allocator>(events: &mut Vec<Event, A>, event: &Event) -> Result<(), NoMemory>
+    ensures { OnOk result (events.new.items ≡ events.old.items ++ event.now ∷ []) }
+{
+    events.push(*event).map_err(|_| NoMemory)
+}
+
+/// Whether a run ends with what was seen: at a halt and at an unsupported word.
+fn ends(seen: &Seen) -> bool
+    ensures { result ≡ not (goes_on true seen.now) }
+{
+    matches!(seen, Seen::Halted | Seen::Unsupported(_))
+}
 
 /// The events that come with an operator, each where it is due. They end early at a halt and at an
 /// unsupported word.
@@ -34,10 +49,10 @@ fn events_of<A: Allocator, B: Allocator>(
 {
     let mut events = Vec::new(alloc);
     while let Some(event) = operator.next(world) {
-        events.push(event)?;
-        match world.apply(event)? {
-            Seen::Halted | Seen::Unsupported(_) => return Ok(events),
-            Seen::Ran | Seen::NotEnabled | Seen::Changed => {}
+        let seen = world.apply(event)?;
+        keep(&mut events, &event)?;
+        if ends(&seen) {
+            return Ok(events);
         }
     }
     Ok(events)
@@ -173,12 +188,5 @@ pub fn watch_session<
         &struck,
         options.mark,
     );
-    watch_operator(
-        alloc,
-        &image,
-        &promised,
-        &mut operator,
-        explained,
-        out,
-    )
+    watch_operator(alloc, &image, &promised, &mut operator, explained, out)
 }

@@ -32,7 +32,8 @@ _pdp8() {
         source) options='--output --start --declaration --profile --why --help' ;;
         dump) options='--profile --why --help' ;;
         run) options='--start --steps --trace --profile --events --reader --punch --keys --mark --teletype --switches --why --help' ;;
-        watch | check) options='--why --help' ;;
+        watch) options='--reader --keys --mark --switches --steps --why --help' ;;
+        check) options='--why --help' ;;
         guess) options='--output --why --help' ;;
         refute) options='--output --steps --seed --why --help' ;;
         declare) options='--output --start --reads --profile --why --help' ;;

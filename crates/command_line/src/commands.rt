@@ -44,8 +44,8 @@ const CERTIFICATE: Argument = Argument {
 const EVENTS: Argument = Argument {
     name: "EVENTS",
     short: None,
-    form: Form::Operand,
-    help: "the events that happen, or - for standard input",
+    form: Form::EventsOperand,
+    help: "the events that happen, or - for standard input; the options for an operator stand in its place",
 };
 
 const SOURCE: Argument = Argument {
@@ -308,7 +308,17 @@ static SOURCE_ARGUMENTS: [Argument; 7] = [
     WHY_INPUT,
 ];
 
-static WATCH_ARGUMENTS: [Argument; 4] = [TAPE, DECLARATION, EVENTS, WHY_BROKEN];
+static WATCH_ARGUMENTS: [Argument; 9] = [
+    TAPE,
+    DECLARATION,
+    EVENTS,
+    READER,
+    KEYS,
+    MARK,
+    SWITCHES,
+    ROUNDS,
+    WHY_BROKEN,
+];
 
 static CHECK_ARGUMENTS: [Argument; 4] = [TAPE, DECLARATION, CERTIFICATE, WHY_CHECK];
 

@@ -93,6 +93,13 @@ impl<'a> Request<'a> {
                 events: Some(events),
                 ..none
             },
+            Request::WatchSession(session) => FileNames {
+                tape: Some(session.tape),
+                declaration: Some(session.declaration),
+                reader: session.reader,
+                keys: session.keys,
+                ..none
+            },
             Request::Check {
                 tape,
                 declaration,

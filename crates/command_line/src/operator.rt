@@ -16,6 +16,23 @@ pub struct Session<'a> {
     pub options: SessionOptions,
 }
 
+/// A run with an operator that is watched, as the options ask for it.
+#[derive(Clone, Copy, Debug)]
+pub struct WatchedSession<'a> {
+    /// The name of the tape's file.
+    pub tape: &'a str,
+    /// The name of the declaration's file.
+    pub declaration: &'a str,
+    /// The name of the file whose frames are in the reader.
+    pub reader: Option<&'a str>,
+    /// The name of the file of the keys.
+    pub keys: Option<&'a str>,
+    /// How the tape is run; the start and the machine are the declaration's.
+    pub options: SessionOptions,
+    /// Whether it is said what breaks a rule.
+    pub explained: bool,
+}
+
 /// What the devices of a machine are joined to.
 #[derive(Clone, Copy, Debug)]
 pub struct Joined<'a> {
@@ -36,6 +53,14 @@ pub fn has_operator(found: &ArgMatches<'_>) -> bool {
         .any(|name| found.get_str(name).is_some())
         || found.get_flag("mark")
         || found.get_flag("teletype")
+}
+
+/// Whether a watched run has an operator.
+pub fn is_watched_with_operator(found: &ArgMatches<'_>) -> bool {
+    ["reader", "keys", "switches", "steps"]
+        .iter()
+        .any(|name| found.get_str(name).is_some())
+        || found.get_flag("mark")
 }
 
 /// What the switches are set to, if they are.
@@ -71,10 +96,40 @@ pub fn session_of<'a>(tape: &'a str, found: &ArgMatches<'a>) -> Result<Session<'
             keys,
             teletype: found.get_flag("teletype"),
         },
-        options: SessionOptions {
-            run: run_options(found)?,
-            switches: switches_of(found)?,
-            mark: found.get_flag("mark"),
-        },
+        options: session_options(found)?,
+    })
+}
+
+/// How a tape is run with an operator.
+fn session_options(found: &ArgMatches<'_>) -> Result<SessionOptions, Refused> {
+    Ok(SessionOptions {
+        run: run_options(found)?,
+        switches: switches_of(found)?,
+        mark: found.get_flag("mark"),
+    })
+}
+
+/// The watched run with an operator that the options of `watch` ask for.
+pub fn watched_session_of<'a>(
+    tape: &'a str,
+    declaration: &'a str,
+    found: &ArgMatches<'a>,
+) -> Result<WatchedSession<'a>, Refused> {
+    let reader = found.get_str("reader");
+    let keys = found.get_str("keys");
+    if found.get_str("EVENTS").is_some() {
+        return Err(Refused::ListAndOperator);
+    }
+    let inputs = [tape, declaration, reader.unwrap_or(""), keys.unwrap_or("")];
+    if share_standard_input(&inputs) {
+        return Err(Refused::BothStandardInput);
+    }
+    Ok(WatchedSession {
+        tape,
+        declaration,
+        reader,
+        keys,
+        options: session_options(found)?,
+        explained: found.get_flag("why"),
     })
 }

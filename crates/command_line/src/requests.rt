@@ -1,7 +1,9 @@
 //! What the command line asks for.
 
 use crate::commands::command;
-use crate::operator::{Session, has_operator, session_of};
+use crate::operator::{
+    Session, WatchedSession, has_operator, is_watched_with_operator, session_of, watched_session_of,
+};
 use crate::outputs::{Destination, destination_of};
 use clap::error::ErrorKind;
 use clap::{ArgMatches, Error};
@@ -133,6 +135,8 @@ pub enum Request<'a> {
         /// Whether it is said what breaks a rule.
         explained: bool,
     },
+    /// To watch a run with an operator.
+    WatchSession(WatchedSession<'a>),
     /// To look for a run that breaks a declaration.
     Refute {
         /// The name of the tape's file.
@@ -170,6 +174,8 @@ pub enum Refused {
     Switches(OctalFault),
     /// There are events, and an operator too.
     EventsAndOperator,
+    /// A run is to be watched by a list of events, and with an operator too.
+    ListAndOperator,
     /// There is a declaration, and a start or a machine too.
     DeclarationAndStart,
     /// The punch is to go to standard output.
@@ -314,6 +320,10 @@ fn source_request<'a>(found: &ArgMatches<'a>) -> Result<Request<'a>, Refused> {
 fn watch_request<'a>(found: &ArgMatches<'a>) -> Result<Request<'a>, Refused> {
     let inputs = ["TAPE", "DECLARATION", "EVENTS"].map(|name| found.get_str(name).unwrap_or("-"));
     let [tape, declaration, events] = inputs;
+    if is_watched_with_operator(found) {
+        let session = watched_session_of(tape, declaration, found)?;
+        return Ok(Request::WatchSession(session));
+    }
     if share_standard_input(&inputs) {
         return Err(Refused::BothStandardInput);
     }

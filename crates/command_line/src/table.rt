@@ -3,6 +3,9 @@
 use clap::{Arg, ArgAction, Command};
 use std::alloc::{AllocError, Global};
 
+/// The options for an operator, which stand in place of a list of events where a run is watched.
+const OPERATOR: [&str; 5] = ["reader", "keys", "mark", "switches", "steps"];
+
 /// How an argument is given.
 #[derive(Clone, Copy)]
 pub(crate) enum Form {
@@ -12,6 +15,8 @@ pub(crate) enum Form {
     OptionalOperand,
     /// The operand OUT, which is left out where `-o` is used.
     ResultOperand,
+    /// The operand EVENTS, which is left out where an option for an operator is used.
+    EventsOperand,
     /// One operand or more.
     Operands,
     /// One operand or more, none of which is needed where `-o` is used.
@@ -69,6 +74,7 @@ impl Argument {
                     .required_unless_present("output")?
                     .conflicts_with("output")?
             }
+            Form::EventsOperand => operand.required_unless_present_any(&OPERATOR)?,
             Form::Operands => operand.required(true).num_args(1..),
             Form::OtherOperands => operand.required_unless_present("output")?.num_args(1..),
             Form::Flag => self.option(alloc).action(ArgAction::SetTrue),

@@ -26,7 +26,10 @@ use Rattle.source_commands.specs.WrittenSource.{IsTapeSource}
 use Rattle.command_parts.specs.Inputs.{HasImage}
 use Rattle.machine_commands.specs.Running.{IsRunOf}
 use Rattle.peripherals.specs.Operator.{Plan}
-use Rattle.machine_commands.specs.Session.{IsSessionOf, Whole}
+use Rattle.machine_commands.specs.Session.{IsSession, IsSessionOf, Whole}
+use Rattle.machine_commands.specs.WatchedSession.{IsSessionWatchedSo}
+use Rattle.declaration.specs.Declaration.{Declaration}
+use Rattle.options.specs.declared.SessionOptions.{SessionOptions}
 
 -- What an event carries is a byte, or a word.
 abbrev pub Carries : Event → Type 0
@@ -74,6 +77,20 @@ SessionsAreOne =
     IsSessionOf options Whole plan image text printed punched status →
     IsSessionOf options Whole plan image text' printed' punched' status' →
     (text ≡ text') × (printed ≡ printed') × (punched ≡ punched') × (status ≡ status')
+
+-- These options, but with the start and the machine that are declared.
+abbrev pub as_declared : Declaration → SessionOptions → SessionOptions
+as_declared d options = record options { run = record options.run { start = d.start; profile = d.profile } }
+
+-- The events of a watched run with an operator are those of the run with the same options, on the declared machine and from the
+-- declared start.
+abbrev pub WatchedAsRun : Type 0
+WatchedAsRun =
+    (options : SessionOptions) (tape text reader keys : List ℕ) (explained : Bool) (told : List ℕ) (seen : Status)
+    (written printed punched : List ℕ) (status : Status) →
+    (watched : IsSessionWatchedSo options (Some tape) (Some text) (Some reader) (Some keys) explained told seen) →
+    (run : IsSession (as_declared watched.declaration options) Whole (Some tape) (Some reader) (Some keys) status written printed punched) →
+    watched.watched.events ≡ run.session.events
 
 -- Sources that tell their bytes, which are these parts.
 abbrev pub telling : List (List ℕ) → List (Option (List ℕ))

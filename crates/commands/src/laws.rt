@@ -1,7 +1,8 @@
 //! Laws over the definitions alone. Each is the contract of a function that does nothing.
 
-ghost use Rattle.commands.specs.Laws.{AssembledIsWritten, ChecksAreOne, EmptyHasNoTape, FaultIsNotWritten, FaultIsTheOne, FaultIsTold, GuessIsAccepted, GuessIsRead, MeantIsListed, MeantIsRead, MeantIsWritten, MigratedIsCheckedAlike, ReadIsMeant, RunsAreOne, RunsEnd, SessionsAreOne, SessionsEnd, TapeIsOne, TapeIsThere, WrittenIsAssembled};
+ghost use Rattle.commands.specs.Laws.{AssembledIsWritten, ChecksAreOne, EmptyHasNoTape, FaultIsNotWritten, FaultIsTheOne, FaultIsTold, GuessIsAccepted, GuessIsRead, MeantIsListed, MeantIsRead, MeantIsWritten, MigratedIsCheckedAlike, ReadIsMeant, RunsAreOne, RunsEnd, SessionsAreOne, SessionsEnd, TapeIsOne, TapeIsThere, WatchedAsRun, WrittenIsAssembled};
 
+use bin_tape::laws::tapes_have_one_answer;
 use pal_asm::laws::{meant_are_words, sources_have_one_answer};
 
 /// From every image each list of events has a run, with its text and its status, and has no other.
@@ -18,6 +19,14 @@ pub fn sessions_end()
     ensures end { SessionsEnd }
     ensures one { SessionsAreOne }
 {}
+
+/// `watch` with an operator watches exactly the events that `run` makes of the same options, where the
+/// run is on the declared machine and begins at the declared start.
+pub fn watched_sessions_are_runs()
+    ensures { WatchedAsRun }
+{
+    tapes_have_one_answer();
+}
 
 /// From a source to its tape and to the image that is read of the tape is one function, in both
 /// directions: a source that means an image with a word has a tape, and one without a word has none;

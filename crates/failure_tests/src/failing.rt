@@ -15,6 +15,7 @@ use commands::session::{Outputs, SessionOptions, run_session};
 use commands::sourcing::{declared_source, source};
 use commands::status::{DeviceFault, Fault, Status};
 use commands::stuck::guess_or_explain;
+use commands::watched_session::watch_session;
 use commands::watching::watch;
 use instruct::Profile;
 use std::alloc::{Allocator, Global};
@@ -35,6 +36,7 @@ enum Command {
     Events,
     Session,
     Watch,
+    WatchSession,
     Check,
     Explain,
     Declare,
@@ -110,6 +112,14 @@ fn options(trace: bool) -> RunOptions {
     }
 }
 
+fn session() -> SessionOptions {
+    SessionOptions {
+        run: options(false),
+        switches: None,
+        mark: false,
+    }
+}
+
 /// What a command on tapes and sources answers, or another.
 fn answered<A: Allocator + Copy>(
     alloc: A,
@@ -154,6 +164,20 @@ fn promised<A: Allocator + Copy>(
             let mut events = plan.source(2, b"step\n");
             watch(alloc, &mut tape, &mut text, &mut events, false, out)
         }
+        Command::WatchSession => {
+            let mut frames = plan.source(2, b"\x00\x01");
+            let mut keys = plan.source(3, b"A");
+            watch_session(
+                alloc,
+                &mut tape,
+                &mut text,
+                &mut frames,
+                &mut keys,
+                session(),
+                false,
+                out,
+            )
+        }
         Command::Check => check(alloc, &mut tape, &mut text, &mut certificate, out),
         Command::Explain => {
             let mut text = plan.source(1, UNDECLARED);
@@ -180,17 +204,12 @@ fn operated<A: Allocator + Copy>(alloc: A, heap: Global, plan: &Plan) -> Left {
         teletype: plan.sink(1, heap),
         punch: plan.sink(2, heap),
     };
-    let session = SessionOptions {
-        run: options(false),
-        switches: None,
-        mark: false,
-    };
     let answer = run_session(
         alloc,
         &mut plan.source(0, LETTER),
         &mut plan.source(1, b"\x00\x01"),
         &mut plan.source(2, b"A"),
-        session,
+        session(),
         &mut outputs,
     );
     let Outputs {
@@ -290,24 +309,25 @@ const MIGRATED: &[u8] =
 
 /// Commands, how many reads of each input they make, and what goes to their first output. A tape is read up to the first
 /// frame of its trailer, a text until its end was told.
-const COMMANDS: [(Command, [usize; 3], &[u8]); 17] = [
-    (Command::Assemble, [6, 7, 0], TAPE),
-    (Command::List, [6, 7, 0], LISTING),
-    (Command::Source, [11, 0, 0], SOURCE),
-    (Command::DeclaredSource, [11, 29, 0], DECLARED_SOURCE),
-    (Command::Dump, [11, 0, 0], b"0200 7402 HLT\n"),
-    (Command::Run, [11, 0, 0], SUMMARY),
-    (Command::Trace, [11, 0, 0], TRACED),
-    (Command::Events, [11, 6, 0], SUMMARY),
-    (Command::Session, [17, 3, 2], REPORTED),
-    (Command::Watch, [11, 29, 6], b"clean\n"),
-    (Command::Check, [11, 29, 65], VERDICT),
-    (Command::Explain, [11, 20, 65], REASON),
-    (Command::Declare, [11, 0, 0], PROPOSED),
-    (Command::Guess, [11, 29, 0], HALT_CERTIFICATE),
-    (Command::GuessOrExplain, [11, 29, 0], HALT_CERTIFICATE),
-    (Command::Stuck, [11, 20, 0], b""),
-    (Command::Migrate, [65, 0, 0], MIGRATED),
+const COMMANDS: [(Command, [usize; 4], &[u8]); 18] = [
+    (Command::Assemble, [6, 7, 0, 0], TAPE),
+    (Command::List, [6, 7, 0, 0], LISTING),
+    (Command::Source, [11, 0, 0, 0], SOURCE),
+    (Command::DeclaredSource, [11, 29, 0, 0], DECLARED_SOURCE),
+    (Command::Dump, [11, 0, 0, 0], b"0200 7402 HLT\n"),
+    (Command::Run, [11, 0, 0, 0], SUMMARY),
+    (Command::Trace, [11, 0, 0, 0], TRACED),
+    (Command::Events, [11, 6, 0, 0], SUMMARY),
+    (Command::Session, [17, 3, 2, 0], REPORTED),
+    (Command::Watch, [11, 29, 6, 0], b"clean\n"),
+    (Command::WatchSession, [11, 29, 3, 2], b"clean\n"),
+    (Command::Check, [11, 29, 65, 0], VERDICT),
+    (Command::Explain, [11, 20, 65, 0], REASON),
+    (Command::Declare, [11, 0, 0, 0], PROPOSED),
+    (Command::Guess, [11, 29, 0, 0], HALT_CERTIFICATE),
+    (Command::GuessOrExplain, [11, 29, 0, 0], HALT_CERTIFICATE),
+    (Command::Stuck, [11, 20, 0, 0], b""),
+    (Command::Migrate, [65, 0, 0, 0], MIGRATED),
 ];
 
 #[test]

@@ -3,7 +3,7 @@
 use crate::desk::{ROOMY, Rooms, run_program};
 
 /// Words with a file of which a read fails after some bytes.
-const FAILING_READS: [&str; 21] = [
+const FAILING_READS: [&str; 24] = [
     "pdp8 run failing.bin",
     "pdp8 run failing.bin --events step.ev",
     "pdp8 run halt.bin --events failing.ev",
@@ -18,6 +18,9 @@ const FAILING_READS: [&str; 21] = [
     "pdp8 watch failing.bin halt.dcl step.ev",
     "pdp8 watch halt.bin failing.dcl step.ev",
     "pdp8 watch halt.bin halt.dcl failing.ev",
+    "pdp8 watch halt.bin failing.dcl --steps 5",
+    "pdp8 watch halt.bin halt.dcl --reader failing.tape --keys step.ev",
+    "pdp8 watch halt.bin halt.dcl --reader step.ev --keys failing.ev",
     "pdp8 check halt.bin failing.dcl halt.cert",
     "pdp8 check halt.bin halt.dcl failing.cert",
     "pdp8 check halt.bin halt.dcl failing.cert --why",
@@ -41,7 +44,7 @@ fn a_read_that_fails_is_told(rt: HostRuntime) {
 }
 
 /// Words by which something is printed or goes to a file, and the status where all of it goes out.
-const WRITING: [(&str, u8); 21] = [
+const WRITING: [(&str, u8); 23] = [
     ("pdp8 run halt.bin", 0),
     ("pdp8 run halt.bin --trace", 0),
     ("pdp8 run halt.bin --events step.ev", 0),
@@ -53,6 +56,8 @@ const WRITING: [(&str, u8); 21] = [
     ("pdp8 list -", 0),
     ("pdp8 watch halt.bin halt.dcl step.ev", 0),
     ("pdp8 watch halt.bin wild.dcl step.ev", 1),
+    ("pdp8 watch halt.bin halt.dcl --keys step.ev", 0),
+    ("pdp8 watch halt.bin wild.dcl --mark", 1),
     ("pdp8 check halt.bin halt.dcl halt.cert", 0),
     ("pdp8 check halt.bin wild.dcl halt.cert --why", 1),
     ("pdp8 declare halt.bin o", 0),

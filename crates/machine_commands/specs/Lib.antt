@@ -7,3 +7,4 @@ pub mod WatchText
 pub mod RefuteText
 pub mod Session
 pub mod SessionParts
+pub mod WatchedSession

@@ -8,4 +8,5 @@ pub mod running;
 pub mod session;
 pub mod summary;
 mod trace;
+pub mod watched_session;
 pub mod watching;

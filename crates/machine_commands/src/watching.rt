@@ -64,7 +64,7 @@ pub(crate) fn told_of<A: Allocator + Copy, D: Allocator>(
 }
 
 /// A run that breaks a rule is refused.
-fn watched_status(watched: Watched) -> Status
+pub(crate) fn watched_status(watched: Watched) -> Status
     ensures { result ≡ watched_status watched }
 {
     match watched {

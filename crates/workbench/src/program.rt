@@ -4,7 +4,7 @@ ghost use Rattle.std.specs.Prelude.{◌≤◌};
 
 use crate::faults::{explain_fault, omissions, stuck_address};
 use crate::files::{open_input, open_output};
-use crate::joined::{hold_session, tell_to};
+use crate::joined::{hold_session, tell_to, watch_joined};
 use crate::saving::{save_answer, save_proposed};
 use crate::sources::{assemble_to, list_from};
 use crate::telling::tell;
@@ -91,6 +91,9 @@ fn refuse<R: Print + Eprint>(rt: &R, refused: Refused) -> Status {
         Refused::EventsAndOperator => eprintln!(rt;
             "error: '--events' can't stand beside the options for the reader, the punch, the teletype and the switches"
         ),
+        Refused::ListAndOperator => eprintln!(rt;
+            "error: EVENTS can't stand beside the options for the reader, the keys, the switches and the rounds"
+        ),
         Refused::DeclarationAndStart => eprintln!(rt;
             "error: a declaration has its own start and machine: '--start' and '--profile' can't stand beside it"
         ),
@@ -165,6 +168,7 @@ fn answer<R: Files + Input + Print + Eprint>(
             events,
             explained,
         } => watch_from(rt, alloc, tape, declaration, events, *explained),
+        Request::WatchSession(session) => watch_joined(rt, alloc, session),
         Request::Check {
             tape,
             declaration,

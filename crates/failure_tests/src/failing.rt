@@ -212,11 +212,7 @@ fn operated<A: Allocator + Copy>(alloc: A, heap: Global, plan: &Plan) -> Left {
         session(),
         &mut outputs,
     );
-    let Outputs {
-        report,
-        teletype,
-        punch,
-    } = outputs;
+    let (report, teletype, punch) = (outputs.report, outputs.teletype, outputs.punch);
     let typed = teletype.bytes().len().saturating_add(punch.bytes().len());
     let total = report.bytes().len().saturating_add(typed);
     let out = match plan.output {

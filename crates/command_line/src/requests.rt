@@ -34,7 +34,7 @@ const VERSION: &str = "1.0";
 /// What stands below the list of commands.
 const STATUSES: &str = "Exit status:
   0  done
-  1  an input was refused, a run got stuck or broke a rule, a condition failed, or no certificate was found
+  1  an input was refused, a run got stuck or broke a rule, a condition failed, no certificate was found, or verify said no or not known
   2  bad words
   3  a file or a stream failed
   4  memory was refused

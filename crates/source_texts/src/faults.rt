@@ -205,6 +205,40 @@ fn push_findings<A: Allocator + Copy>(
     Ok(())
 }
 
+/// Adds what is told of a fault, and tells which byte of its part is marked.
+fn push_fault<A: Allocator + Copy>(
+    alloc: A,
+    text: &mut String<A>,
+    source: &Source<'_>,
+    copies: &[Vec<u8, A>],
+    faulty: &Faulty<A>,
+    course: &mut Course<A>,
+) -> Result<usize, AllocError> {
+    let is_again = course.places.contains(&faulty.place);
+    let findings = findings_of(alloc, source, copies, faulty)?;
+    if is_told(course, faulty, is_again) {
+        push_findings(alloc, text, source, faulty, &findings)?;
+        course.told = course.told.saturating_add(findings.len());
+    }
+    match findings.first() {
+        Some(finding) => Ok(finding.start),
+        None => Ok(faulty.start),
+    }
+}
+
+/// Notes that a fault is left out of this part.
+fn note<A: Allocator>(
+    course: &mut Course<A>,
+    bytes: &[u8],
+    faulty: &Faulty<A>,
+) -> Result<(), AllocError> {
+    if faulty.loses_location(bytes) {
+        course.is_astray = true;
+    }
+    course.places.push(faulty.place)?;
+    Ok(())
+}
+
 /// Adds what is told of the first fault of the copies, and leaves it out of them.
 fn push_next<A: Allocator + Copy>(
     alloc: A,
@@ -215,26 +249,20 @@ fn push_next<A: Allocator + Copy>(
     course: &mut Course<A>,
 ) -> Result<(), AllocError> {
     let part = fault.part.saturating_sub(1);
-    if part >= copies.len() {
-        return Ok(());
-    }
-    let faulty = faulty_of(alloc, &copies[part], fault)?;
-    let is_again = course.places.contains(&faulty.place);
-    let findings = findings_of(alloc, source, copies, &faulty)?;
-    if is_told(course, &faulty, is_again) {
-        push_findings(alloc, text, source, &faulty, &findings)?;
-        course.told = course.told.saturating_add(findings.len());
-    }
-    course.places.push(faulty.place)?;
-    if faulty.loses_location(&copies[part]) {
-        course.is_astray = true;
-    }
-    let marked = match findings.first() {
-        Some(finding) => finding.start,
-        None => faulty.start,
+    let faulty = match copies.get(part) {
+        Some(copy) => faulty_of(alloc, copy, fault)?,
+        None => return Ok(()),
     };
-    leave_out(&mut copies[part], &faulty, marked, is_again);
-    Ok(())
+    let is_again = course.places.contains(&faulty.place);
+    let marked = push_fault(alloc, text, source, copies, &faulty, course)?;
+    match copies.get_mut(part) {
+        Some(copy) => {
+            note(course, copy, &faulty)?;
+            leave_out(copy, &faulty, marked, is_again);
+            Ok(())
+        }
+        None => Ok(()),
+    }
 }
 
 /// Adds all that can be told of the faults of a source that isn't too long, the first one first. Behind each

@@ -7,6 +7,7 @@ use command_parts::inputs::{declaration_from, tape_from};
 use commands::status::{DeviceFault, Fault};
 use fault_texts::{FaultyFile, push_fault, push_omissions};
 use std::alloc::Global;
+use std::fmt::Write;
 use std::rt::Files;
 use streams::read_at_most;
 use word12::Word;
@@ -15,7 +16,7 @@ use word12::Word;
 const MOST: usize = 1_048_577;
 
 /// The input that has a fault, if it is one of the inputs that have a name.
-fn faulty_input<'a>(fault: Fault, names: &FileNames<'a>) -> Option<&'a str> {
+fn faulty_input<'a>(fault: &Fault, names: &FileNames<'a>) -> Option<&'a str> {
     match fault {
         Fault::Tape(_) => names.tape,
         Fault::Declared(_) => names.declaration,
@@ -31,8 +32,12 @@ fn bytes_of<R: Files + Input>(rt: &R, alloc: Global, name: &str) -> Result<Vec<u
     Ok(read_at_most(alloc, &mut input, MOST)?)
 }
 
-/// Says which of the inputs can't be opened or read.
-fn tell_unread<R: Files + Input + Eprint>(rt: &R, alloc: Global, names: &FileNames<'_>) {
+/// The first of the inputs that can't be opened or read.
+fn unread_input<'a, R: Files + Input>(
+    rt: &R,
+    alloc: Global,
+    names: &FileNames<'a>,
+) -> Option<&'a str> {
     for name in names.inputs() {
         let Some(name) = name else {
             continue;
@@ -41,10 +46,10 @@ fn tell_unread<R: Files + Input + Eprint>(rt: &R, alloc: Global, names: &FileNam
             continue;
         }
         if let Err(Fault::Device(_)) = bytes_of(rt, alloc, name) {
-            let _ = eprintln!(rt; "{name} can't be opened or read");
-            return;
+            return Some(name);
         }
     }
+    None
 }
 
 /// What the tape and the declaration of these files show by themselves.
@@ -87,39 +92,52 @@ pub fn stuck_address(report: &[u8]) -> Option<Word> {
     Word::from_octal(digits).ok()
 }
 
-/// Says below the line of a fault which file has it, where, and what may stand there. Of standard input,
-/// which can't be read twice, it says nothing.
-pub fn explain_fault<R: Files + Input + Eprint>(
+/// The lines on an input that has a fault. Of standard input, which can't be read twice, there are none.
+fn input_lines<R: Files + Input>(
     rt: &R,
     alloc: Global,
-    fault: Fault,
+    fault: &Fault,
     names: &FileNames<'_>,
-) {
-    match fault {
-        Fault::Device(DeviceFault::Read) => return tell_unread(rt, alloc, names),
-        Fault::Device(DeviceFault::Write) => {
-            if let Some(name) = names.output {
-                let _ = eprintln!(rt; "{name} can't be made or written");
-            }
-            return;
-        }
-        _ => {}
-    }
-    let Some(name) = faulty_input(fault, names) else {
-        return;
-    };
-    if name == "-" {
-        return;
-    }
-    let Ok(bytes) = bytes_of(rt, alloc, name) else {
-        return;
-    };
+) -> String {
     let mut text = String::new(alloc);
-    let file = FaultyFile {
-        name,
-        bytes: &bytes,
-    };
-    if push_fault(&mut text, fault, &file).is_ok() {
-        let _ = rt.eprint(&text);
+    let name = faulty_input(fault, names).unwrap_or("-");
+    if name == "-" {
+        return text;
+    }
+    if let Ok(bytes) = bytes_of(rt, alloc, name) {
+        let file = FaultyFile {
+            name,
+            bytes: &bytes,
+        };
+        let _ = push_fault(&mut text, *fault, &file);
+    }
+    text
+}
+
+/// A line that is a name and what is said of it, if there is a name.
+fn line_of(alloc: Global, name: Option<&str>, said: &str) -> String {
+    let mut text = String::new(alloc);
+    if let Some(name) = name {
+        let _ = writeln!(text, "{name} {said}");
+    }
+    text
+}
+
+/// What is said below the line of a fault: which file has it, where, and what may stand there.
+pub fn fault_lines<R: Files + Input>(
+    rt: &R,
+    alloc: Global,
+    fault: &Fault,
+    names: &FileNames<'_>,
+) -> String {
+    match fault {
+        Fault::Device(DeviceFault::Read) => {
+            let name = unread_input(rt, alloc, names);
+            line_of(alloc, name, "can't be opened or read")
+        }
+        Fault::Device(DeviceFault::Write) => {
+            line_of(alloc, names.output, "can't be made or written")
+        }
+        _ => input_lines(rt, alloc, fault, names),
     }
 }

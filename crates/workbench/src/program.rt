@@ -2,12 +2,12 @@
 
 ghost use Rattle.std.specs.Prelude.{◌≤◌};
 
-use crate::faults::{explain_fault, omissions, stuck_address};
+use crate::faults::{fault_lines, omissions, stuck_address};
 use crate::files::{open_input, open_output};
 use crate::joined::{hold_session, tell_to, watch_joined};
 use crate::saving::{save_answer, save_proposed};
 use crate::sources::{assemble_to, list_from};
-use crate::telling::tell;
+use crate::telling::{tell, tell_with};
 use clap::Error;
 use command_line::{Destination, Refused, Request, parse_arguments};
 use commands::checking::check;
@@ -61,11 +61,12 @@ pub fn exit_status<R: Env + Files + Input + Print + Eprint + AllocGlobal>(rt: &R
         Ok(line) => match answer(rt, alloc, &line.request) {
             Ok(status) => status.code(),
             Err(fault) => {
-                let status = tell(rt, fault);
-                if line.explained {
-                    explain_fault(rt, alloc, fault, &line.request.names());
-                }
-                status.code()
+                let lines = if line.explained {
+                    fault_lines(rt, alloc, &fault, &line.request.names())
+                } else {
+                    String::new(alloc)
+                };
+                tell_with(rt, fault, &lines).code()
             }
         },
         Err(refused) => refuse(rt, refused).code(),

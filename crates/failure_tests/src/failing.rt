@@ -409,7 +409,7 @@ fn each_refusal_of_memory_is_told(rt: HostRuntime) {
 static FAULTY: &[u8] = b"TAD 8\nJMP Q\n$\n";
 
 #[test]
-fn each_refusal_of_memory_for_faults_is_told(rt: HostRuntime) {
+fn each_refusal_of_memory_for_faults_leaves_a_fault(rt: HostRuntime) {
     for count in 0..1000u64 {
         let tight = Refusing::new(rt.alloc(), count);
         let mut told = String::new(&tight);
@@ -420,7 +420,10 @@ fn each_refusal_of_memory_for_faults_is_told(rt: HostRuntime) {
             assert!(rt; matches!(answer, Err(Fault::Source(_))));
             return;
         }
-        assert_eq!(rt; answer, Err(Fault::NoMemory), "{count}");
+        assert!(rt;
+            matches!(answer, Err(Fault::NoMemory | Fault::Source(_))),
+            "{count}"
+        );
     }
     assert!(rt; false, "memory is always refused");
 }

@@ -420,10 +420,8 @@ fn each_refusal_of_memory_for_faults_leaves_a_fault(rt: HostRuntime) {
             assert!(rt; matches!(answer, Err(Fault::Source(_))));
             return;
         }
-        assert!(rt;
-            matches!(answer, Err(Fault::NoMemory | Fault::Source(_))),
-            "{count}"
-        );
+        let is_fault = matches!(answer, Err(Fault::NoMemory | Fault::Source(_)));
+        assert!(rt; is_fault, "{count}");
     }
     assert!(rt; false, "memory is always refused");
 }

@@ -66,7 +66,6 @@ const WRITING: [(&str, u8); 23] = [
     ("pdp8 guess halt.bin halt.dcl o --why", 0),
     ("pdp8 guess halt.bin halt.dcl -", 0),
     ("pdp8 migrate halt.cert o", 0),
-    ("pdp8 migrate halt.cert -", 0),
     ("pdp8 --version", 0),
 ];
 

@@ -44,7 +44,7 @@ fn a_read_that_fails_is_told(rt: HostRuntime) {
 }
 
 /// Words by which something is printed or goes to a file, and the status where all of it goes out.
-const WRITING: [(&str, u8); 23] = [
+const WRITING: [(&str, u8); 22] = [
     ("pdp8 run halt.bin", 0),
     ("pdp8 run halt.bin --trace", 0),
     ("pdp8 run halt.bin --events step.ev", 0),

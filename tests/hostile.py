@@ -33,8 +33,11 @@ FAULT = re.compile('pdp8: (?:%s)\n' % '|'.join(f'{kind}: (?:{names})' for kind, 
 SUMMARY = re.compile(r'(HALT|UNSUPPORTED|BOUND) [0-7]{4} AC=[0-7]{4} L=[01] PC=[0-7]{4} STEPS=\d+\n(PRINTED( [0-7]{3})+\n)?(PUNCHED( [0-7]{3})+\n)?')
 DUMP = re.compile(r'([0-7]{4} [0-7]{4} [A-Z0-9 ?]+\n)*')
 WATCH = re.compile(r'clean\n|broken: event \d+ rule [1-7]\n')
+REFUTED = re.compile(r'not broken in 20000 steps\n|broken: event \d+ rule [1-7]\n')
 CHECK = re.compile(r'yes: \d+ body cells, \d+ variable cells, \d+ entries, \d+ halts(, \d+ read cells)?\n|no: V\d+ at [0-7]{4}\n')
 DECLARED = re.compile(r'(/ [^\n]*\n)*(profile 8e\n)?start [0-7]{4}\n([a-z]+( [^\n]*)?\n)+')
+# What follows the line of a source's fault under --why: the same fault with its column.
+WHY = re.compile(r'\Apdp8: source: (?P<code>..) 1 (?P<line>\d+)\npal:(?P=line):\d+: (?P=code): ')
 ANY = re.compile('.*', re.DOTALL)
 
 
@@ -102,16 +105,17 @@ def job(chance, programs):
     command = chance.choice(['dump', 'run', 'events', 'watch', 'check', 'check', 'check', 'list', 'assemble', *EXTRA])
     uses = {'dump': ['tape'], 'run': ['tape'], 'events': ['tape', 'events'], 'watch': ['tape', 'declaration', 'events'],
             'check': ['tape', 'declaration', 'certificate'], 'list': ['pal'], 'assemble': ['pal'],
-            'guess': ['tape', 'declaration'], 'declare': ['tape'], 'migrate': ['certificate']}[command]
+            'guess': ['tape', 'declaration'], 'refute': ['tape', 'declaration'], 'declare': ['tape'], 'migrate': ['certificate']}[command]
     files = {use: one[use] for use in uses}
     bad = uses[-1] if chance.random() < 0.6 else chance.choice(uses)
     files[bad] = noise(chance) if chance.random() < 0.1 else changed(chance, files[bad], other[bad])
     words = {'dump': ['dump', 'tape'], 'run': ['run', 'tape', '--steps', '2000'], 'events': ['run', 'tape', '--events', 'events'],
-             'list': ['list', 'pal'], 'assemble': ['assemble', '-', 'pal'], 'guess': ['guess', 'tape', 'declaration', '-'],
+             'list': ['list', 'pal', *chance.choice([[], ['--why']])], 'assemble': ['assemble', '-', 'pal'], 'guess': ['guess', 'tape', 'declaration', '-'],
+             'refute': ['refute', 'tape', 'declaration', 'found', '--steps', '20000'],
              'declare': ['declare', 'tape', '-', *chance.choice([[], ['--reads']]), *one['profile']],
              'migrate': ['migrate', 'certificate', '-']}.get(command, [command, *uses])
     said = {'dump': DUMP, 'run': SUMMARY, 'events': SUMMARY, 'watch': WATCH, 'check': CHECK,
-            'declare': DECLARED}.get(command, ANY)
+            'declare': DECLARED, 'refute': REFUTED}.get(command, ANY)
     return one, words, files, bad, said
 
 
@@ -136,7 +140,9 @@ def fails(done, said):
     if done.returncode not in (0, 1):
         return f'it ended with {done.returncode}: {done.stderr!r}'
     if done.stderr:
-        if done.stdout or done.returncode != 1 or not FAULT.fullmatch(done.stderr.decode('latin-1')):
+        told = done.stderr.decode('latin-1')
+        first = told[:told.find('\n') + 1] if WHY.search(told) else told
+        if done.stdout or done.returncode != 1 or not FAULT.fullmatch(first):
             return f'it said {done.stderr!r} with {done.returncode}'
     elif not said.fullmatch(done.stdout.decode('latin-1')):
         return f'it wrote {done.stdout[:200]!r}'
@@ -177,6 +183,10 @@ def part(task):
                     fault = 'it got a yes, and a run of it is broken'
             if fault is None and words[0] == 'declare' and done.returncode == 0:
                 fault = broken_after(pdp8, folder, one, done.stdout)
+            if fault is None and words[0] == 'refute' and done.stdout.startswith(b'broken'):
+                seen = ended(pdp8, ['watch', 'tape', 'declaration', 'found'], folder)
+                if seen is None or seen.stdout != done.stdout:
+                    fault = 'watch says something else of the events that were found'
             if fault is not None:
                 wrong.append(f'seed {seed}, run {number}: {" ".join(words)}, {bad} changed: {fault}')
     return yes, refused, wrong
@@ -190,7 +200,7 @@ def main():
     count = int(sys.argv[2]) if len(sys.argv) > 2 else 10_000
     seed = int(sys.argv[3]) if len(sys.argv) > 3 else 1
     told = subprocess.run([pdp8, '--help'], stdout=subprocess.PIPE, check=True).stdout.decode()
-    EXTRA = [name for name in ('guess', 'declare', 'migrate') if re.search(rf'^\s*{name}\b', told, re.MULTILINE)]
+    EXTRA = [name for name in ('guess', 'declare', 'refute', 'migrate') if re.search(rf'^\s*{name}\b', told, re.MULTILINE)]
     PROGRAMS = Programs(pdp8)
     tasks = [(pdp8, seed * 1_000_003 + n, min(500, count - 500 * n)) for n in range((count + 499) // 500)]
     with multiprocessing.Pool() as pool:

@@ -1,12 +1,11 @@
-//! The words of a run with an operator.
+//! The options of a run with an operator.
 
 use crate::requests::{Refused, run_options, share_standard_input};
-use clap::{Arg, ArgAction, ArgMatches, Command};
+use clap::ArgMatches;
 use options::SessionOptions;
-use std::alloc::{AllocError, Global};
 use word12::Word;
 
-/// A run with an operator, as the words ask for it.
+/// A run with an operator, as the options ask for it.
 #[derive(Clone, Copy, Debug)]
 pub struct Session<'a> {
     /// The name of the tape's file.
@@ -15,6 +14,23 @@ pub struct Session<'a> {
     pub joined: Joined<'a>,
     /// How the tape is run.
     pub options: SessionOptions,
+}
+
+/// A run with an operator that is watched, as the options ask for it.
+#[derive(Clone, Copy, Debug)]
+pub struct WatchedSession<'a> {
+    /// The name of the tape's file.
+    pub tape: &'a str,
+    /// The name of the declaration's file.
+    pub declaration: &'a str,
+    /// The name of the file whose frames are in the reader.
+    pub reader: Option<&'a str>,
+    /// The name of the file of the keys.
+    pub keys: Option<&'a str>,
+    /// How the tape is run; the start and the machine are the declaration's.
+    pub options: SessionOptions,
+    /// Whether it is said what breaks a rule.
+    pub explained: bool,
 }
 
 /// What the devices of a machine are joined to.
@@ -30,42 +46,6 @@ pub struct Joined<'a> {
     pub teletype: bool,
 }
 
-/// Adds the words for the reader, the punch, the teletype and the switches.
-pub fn with_operator<'a>(alloc: Global, run: Command<'a>) -> Result<Command<'a>, AllocError> {
-    let reader = Arg::new(alloc, "reader")
-        .long("reader")
-        .value_name("FILE")
-        .help("the frames in the reader, or - for standard input");
-    let punch = Arg::new(alloc, "punch")
-        .long("punch")
-        .value_name("FILE")
-        .help("where the punched bytes go; it is emptied first");
-    let keys = Arg::new(alloc, "keys")
-        .long("keys")
-        .value_name("FILE")
-        .help("the keys that are struck, or - for standard input");
-    let mark = Arg::new(alloc, "mark")
-        .long("mark")
-        .action(ArgAction::SetTrue)
-        .help("sets channel 8 of each key");
-    let teletype = Arg::new(alloc, "teletype")
-        .long("teletype")
-        .action(ArgAction::SetTrue)
-        .help("what is printed goes to standard output, all else to standard error");
-    let switches = Arg::new(alloc, "switches")
-        .long("switches")
-        .value_name("W")
-        .help(
-            "the octal word that the switches are set to; leading zeros are allowed, 0000 without it",
-        );
-    run.arg(reader)?
-        .arg(punch)?
-        .arg(keys)?
-        .arg(mark)?
-        .arg(teletype)?
-        .arg(switches)
-}
-
 /// Whether a run has an operator.
 pub fn has_operator(found: &ArgMatches<'_>) -> bool {
     ["reader", "punch", "keys", "switches"]
@@ -73,6 +53,14 @@ pub fn has_operator(found: &ArgMatches<'_>) -> bool {
         .any(|name| found.get_str(name).is_some())
         || found.get_flag("mark")
         || found.get_flag("teletype")
+}
+
+/// Whether a watched run has an operator.
+pub fn is_watched_with_operator(found: &ArgMatches<'_>) -> bool {
+    ["reader", "keys", "switches", "steps"]
+        .iter()
+        .any(|name| found.get_str(name).is_some())
+        || found.get_flag("mark")
 }
 
 /// What the switches are set to, if they are.
@@ -86,7 +74,7 @@ fn switches_of(found: &ArgMatches<'_>) -> Result<Option<Word>, Refused> {
     }
 }
 
-/// The run with an operator that the words of `run` ask for.
+/// The run with an operator that the options of `run` ask for.
 pub fn session_of<'a>(tape: &'a str, found: &ArgMatches<'a>) -> Result<Session<'a>, Refused> {
     let reader = found.get_str("reader");
     let keys = found.get_str("keys");
@@ -108,10 +96,40 @@ pub fn session_of<'a>(tape: &'a str, found: &ArgMatches<'a>) -> Result<Session<'
             keys,
             teletype: found.get_flag("teletype"),
         },
-        options: SessionOptions {
-            run: run_options(found)?,
-            switches: switches_of(found)?,
-            mark: found.get_flag("mark"),
-        },
+        options: session_options(found)?,
+    })
+}
+
+/// How a tape is run with an operator.
+fn session_options(found: &ArgMatches<'_>) -> Result<SessionOptions, Refused> {
+    Ok(SessionOptions {
+        run: run_options(found)?,
+        switches: switches_of(found)?,
+        mark: found.get_flag("mark"),
+    })
+}
+
+/// The watched run with an operator that the options of `watch` ask for.
+pub fn watched_session_of<'a>(
+    tape: &'a str,
+    declaration: &'a str,
+    found: &ArgMatches<'a>,
+) -> Result<WatchedSession<'a>, Refused> {
+    let reader = found.get_str("reader");
+    let keys = found.get_str("keys");
+    if found.get_str("EVENTS").is_some() {
+        return Err(Refused::ListAndOperator);
+    }
+    let inputs = [tape, declaration, reader.unwrap_or(""), keys.unwrap_or("")];
+    if share_standard_input(&inputs) {
+        return Err(Refused::BothStandardInput);
+    }
+    Ok(WatchedSession {
+        tape,
+        declaration,
+        reader,
+        keys,
+        options: session_options(found)?,
+        explained: found.get_flag("why"),
     })
 }

@@ -144,6 +144,12 @@ abbrev pub IsEventRunFault : Input → Input → Fault → Type 0
 IsEventRunFault tape text fault =
     IsTapeInputFault tape fault ⊎ (IsGoodTape tape.had × (IsEventsInputFault text fault ⊎ (IsGoodEvents text.had × IsRunFault fault)))
 
+-- Why a search for a run that breaks a declaration has no result: the tape's fault; after a good tape the declaration's; and
+-- after a good declaration that of the work.
+abbrev pub IsRefuteFault : Input → Input → Fault → Type 0
+IsRefuteFault tape text fault =
+    IsTapeInputFault tape fault ⊎ (IsGoodTape tape.had × (IsDeclarationInputFault text fault ⊎ (IsGoodDeclaration text.had × IsRunFault fault)))
+
 -- Why a watched run has no result: the fault of the tape, the declaration, the text of events, or the work. Each is
 -- looked at, in this order, where those before it are good.
 abbrev pub IsWatchFault : Input → Input → Input → Fault → Type 0

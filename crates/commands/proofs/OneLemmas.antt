@@ -1,5 +1,5 @@
 -- Events, and the plan of an operator, have one run.
-use Rattle.std.proofs.Common.{ℕ, ◌≡◌, ◌+◌, Bool, true, false, Option, Some, None, List, [], ◌∷◌, ◌++◌, refl, sym, ap, ◌∙◌, subst}
+use Rattle.std.proofs.Common.{ℕ, ◌≡◌, ◌+◌, Bool, true, false, Option, Some, None, List, [], ◌∷◌, ◌++◌, refl, sym, ap, ◌∙◌, subst, take}
 use Rattle.instruct.specs.declared.Profile.{Profile}
 use Rattle.peripherals.specs.declared.Event.{Event}
 use Rattle.peripherals.specs.declared.Seen.{Seen}
@@ -13,9 +13,10 @@ use Rattle.machine_commands.specs.declared.follow.End.{End}
 use Rattle.machine_commands.specs.declared.follow.End.TheVariants.{Unsupported}
 use Rattle.options.specs.declared.RunOptions.{RunOptions}
 use Rattle.machine_commands.specs.Follows.{Follows, Ended, Stuck, Stopped, Went, end_of, goes_on, counted}
-use Rattle.commands.specs.Laws.{RunsAreOne, SessionsAreOne}
+use Rattle.bin_tape.specs.Laws.{TapeImageIsOne}
+use Rattle.commands.specs.Laws.{RunsAreOne, SessionsAreOne, WatchedAsRun, as_declared}
 use Rattle.machine_commands.specs.Running.{IsRunOf, fresh, status_of}
-use Rattle.machine_commands.specs.Session.{Comes, Over, Cut, Final, Then, Whole, printed_in, summary_where}
+use Rattle.machine_commands.specs.Session.{Comes, Over, Cut, Final, Then, Whole, plan_for, printed_in, summary_where}
 use Rattle.machine_commands.specs.Summary.{summary}
 use Rattle.machine_commands.specs.Trace.{trace_of, traced}
 
@@ -112,3 +113,14 @@ sessions_are_one options plan image text text' printed printed' punched punched'
       a.punched_is ∙ (ap (λ (x : WorldState). x.devices.punch.output) one.same_final ∙ sym b.punched_is),
       a.status_is ∙ (ap status_of one.same_end ∙ sym b.status_is),
     )
+
+-- what is watched is what is run
+pub watched_as_run : TapeImageIsOne → WatchedAsRun
+watched_as_run one options tape text reader keys explained told seen written printed punched status watched run =
+    let d = watched.declaration in
+    let image : run.image ≡ watched.image = one (take 65536 tape) run.image watched.image run.has_image watched.has_image in
+    let frames : run.frames ≡ watched.frames = run.frames_are ∙ sym watched.frames_are in
+    let bytes : run.bytes ≡ watched.bytes = run.bytes_are ∙ sym watched.bytes_are in
+    let come : Comes d.profile Whole (plan_for (as_declared d options) run.frames run.bytes) None (fresh run.image d.start) run.session.events = run.session.come in
+    let there : Comes d.profile Whole (plan_for options watched.frames watched.bytes) None (fresh watched.image d.start) run.session.events = rw (frames, bytes, image) at come in
+    comes_one d.profile (plan_for options watched.frames watched.bytes) None (fresh watched.image d.start) watched.watched.events run.session.events watched.watched.come there

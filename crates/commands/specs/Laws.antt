@@ -1,6 +1,6 @@
 -- A run of any events has an answer, and so has one with an operator; and what sources mean, what is written of them and what
 -- is read of that is one.
-use Rattle.std.specs.Prelude.{ℕ, ◌≡◌, ◌<◌, ◌≤◌, Bool, true, Option, Some, List, IfSome, length, map, ⊤}
+use Rattle.std.specs.Prelude.{ℕ, ◌≡◌, ◌<◌, ◌≤◌, Bool, true, Option, Some, List, [], ◌∷◌, IfSome, length, map, ⊤}
 use Rattle.std.specs.List.{AllByRecursion}
 use Rattle.peripherals.specs.declared.Event.{Event}
 use Rattle.peripherals.specs.declared.Event.TheVariants.{Step, Key, PrinterDone, ReaderDone, PunchDone, Switches, Continue}
@@ -22,10 +22,14 @@ use Rattle.verdict_commands.specs.MigrateText.{IsMigrated}
 use Rattle.verdict_texts.specs.CheckText.{IsCheckedSo}
 use Rattle.command_parts.specs.declared.status.Status.TheVariants.{Done}
 use Rattle.source_commands.specs.AssembleText.{IsAssembled, IsListing, IsListFault, IsSourceFault}
+use Rattle.source_commands.specs.WrittenSource.{IsTapeSource}
 use Rattle.command_parts.specs.Inputs.{HasImage}
 use Rattle.machine_commands.specs.Running.{IsRunOf}
 use Rattle.peripherals.specs.Operator.{Plan}
-use Rattle.machine_commands.specs.Session.{IsSessionOf, Whole}
+use Rattle.machine_commands.specs.Session.{IsSession, IsSessionOf, Whole}
+use Rattle.machine_commands.specs.WatchedSession.{IsSessionWatchedSo}
+use Rattle.declaration.specs.Declaration.{Declaration}
+use Rattle.options.specs.declared.SessionOptions.{SessionOptions}
 
 -- What an event carries is a byte, or a word.
 abbrev pub Carries : Event → Type 0
@@ -74,6 +78,20 @@ SessionsAreOne =
     IsSessionOf options Whole plan image text' printed' punched' status' →
     (text ≡ text') × (printed ≡ printed') × (punched ≡ punched') × (status ≡ status')
 
+-- These options, but with the start and the machine that are declared.
+abbrev pub as_declared : Declaration → SessionOptions → SessionOptions
+as_declared d options = record options { run = record options.run { start = d.start; profile = d.profile } }
+
+-- The events of a watched run with an operator are those of the run with the same options, on the declared machine and from the
+-- declared start.
+abbrev pub WatchedAsRun : Type 0
+WatchedAsRun =
+    (options : SessionOptions) (tape text reader keys : List ℕ) (explained : Bool) (told : List ℕ) (seen : Status)
+    (written printed punched : List ℕ) (status : Status) →
+    (watched : IsSessionWatchedSo options (Some tape) (Some text) (Some reader) (Some keys) explained told seen) →
+    (run : IsSession (as_declared watched.declaration options) Whole (Some tape) (Some reader) (Some keys) status written printed punched) →
+    watched.watched.events ≡ run.session.events
+
 -- Sources that tell their bytes, which are these parts.
 abbrev pub telling : List (List ℕ) → List (Option (List ℕ))
 telling parts = map Some parts
@@ -109,6 +127,21 @@ abbrev pub EmptyHasNoTape : Type 0
 EmptyHasNoTape =
     (profile : Profile) (parts : List (List ℕ)) (symbols : List (Name × ℕ)) (image : List (Option ℕ)) (tape : List ℕ) →
     Means (permanent_symbols profile) parts symbols image → IsEmptyImage image → IsAssembled profile (telling parts) tape → ⊥
+
+-- Of the source that `source` writes of a tape, whose image has a word, `assemble` makes the tape that is written of that
+-- image.
+abbrev pub WrittenIsAssembled : Type 0
+WrittenIsAssembled =
+    (profile : Profile) (frames text : List ℕ) (image : List (Option ℕ)) →
+    IsTapeSource profile (Some frames) text → HasImage (Some frames) image → (IsEmptyImage image → ⊥) →
+    IsAssembled profile (telling (text ∷ [])) (written_tape image)
+
+-- `assemble` makes no other tape of it.
+abbrev pub AssembledIsWritten : Type 0
+AssembledIsWritten =
+    (profile : Profile) (frames text tape : List ℕ) (image : List (Option ℕ)) →
+    IsTapeSource profile (Some frames) text → HasImage (Some frames) image →
+    IsAssembled profile (telling (text ∷ [])) tape → tape ≡ written_tape image
 
 -- Why a source that means an image may have no tape: the image has no word, a device failed, or memory was refused.
 abbrev pub MayMiss : List (Option ℕ) → Fault → Type 0

@@ -1,7 +1,8 @@
 //! Laws over the definitions alone. Each is the contract of a function that does nothing.
 
-ghost use Rattle.commands.specs.Laws.{ChecksAreOne, EmptyHasNoTape, FaultIsNotWritten, FaultIsTheOne, FaultIsTold, GuessIsAccepted, GuessIsRead, MeantIsListed, MeantIsRead, MeantIsWritten, MigratedIsCheckedAlike, ReadIsMeant, RunsAreOne, RunsEnd, SessionsAreOne, SessionsEnd, TapeIsOne, TapeIsThere};
+ghost use Rattle.commands.specs.Laws.{AssembledIsWritten, ChecksAreOne, EmptyHasNoTape, FaultIsNotWritten, FaultIsTheOne, FaultIsTold, GuessIsAccepted, GuessIsRead, MeantIsListed, MeantIsRead, MeantIsWritten, MigratedIsCheckedAlike, ReadIsMeant, RunsAreOne, RunsEnd, SessionsAreOne, SessionsEnd, TapeIsOne, TapeIsThere, WatchedAsRun, WrittenIsAssembled};
 
+use bin_tape::laws::tapes_have_one_answer;
 use pal_asm::laws::{meant_are_words, sources_have_one_answer};
 
 /// From every image each list of events has a run, with its text and its status, and has no other.
@@ -19,6 +20,14 @@ pub fn sessions_end()
     ensures one { SessionsAreOne }
 {}
 
+/// `watch` with an operator watches exactly the events that `run` makes of the same options, where the
+/// run is on the declared machine and begins at the declared start.
+pub fn watched_sessions_are_runs()
+    ensures { WatchedAsRun }
+{
+    tapes_have_one_answer();
+}
+
 /// From a source to its tape and to the image that is read of the tape is one function, in both
 /// directions: a source that means an image with a word has a tape, and one without a word has none;
 /// the tape that `assemble` writes is one, the image that the source means is read of it, and whatever
@@ -29,6 +38,16 @@ pub fn sources_are_read_back()
     ensures tape { TapeIsOne }
     ensures read { MeantIsRead }
     ensures meant { ReadIsMeant }
+{
+    sources_have_one_answer();
+    meant_are_words();
+}
+
+/// From a tape to its source and back is one way: of the source that `source` writes of a tape `assemble`
+/// makes the tape that is written of that tape's image, and no other.
+pub fn written_sources_come_back()
+    ensures there { WrittenIsAssembled }
+    ensures only { AssembledIsWritten }
 {
     sources_have_one_answer();
     meant_are_words();
@@ -47,9 +66,9 @@ pub fn assemblies_are_exact()
     sources_have_one_answer();
 }
 
-/// The bytes of a tape, a declaration and a certificate have one verdict. To what `guess` writes it is
-/// yes, and to what `migrate` writes it is that of the certificate which was migrated, unless it's longer
-/// than what is read.
+/// The bytes of a tape, a declaration and a certificate have at most one verdict. To what `guess` writes
+/// it is yes, and to what `migrate` writes it is that of the certificate which was migrated, unless it's
+/// longer than what is read.
 pub fn checks_are_one()
     ensures one { ChecksAreOne }
     ensures guessed { GuessIsAccepted }

@@ -42,8 +42,7 @@ pub trait Claims {
             (HasNoneFrom from (claimed (claims self.now)))
             (λ w. IsFirstFrom from (claimed (claims self.now)) w) };
 
-    /// Whether there is a fact at an address, which the lent one then says; else it's left as it is. A
-    /// fact has some 35,000 bytes, so none is made for each question.
+    /// Whether there is a fact at an address, which the lent one then says; else it's left as it is.
     fn fact_into(&self, at: Word, fact: &mut Fact) -> bool
         ensures there { result ≡ (claims self.now).has_fact at }
         ensures fact { result ≡ true → meaning fact.new ≡ (claims self.now).fact at }

@@ -9,7 +9,7 @@ pub fn facts_hold()
     ensures events { FactsHoldInEvents }
 {}
 
-/// Of all conditions one alone fails first, at one address.
+/// No two conditions fail first, and none does at two addresses.
 pub fn first_is_one()
     ensures { FirstIsOne }
 {}
@@ -23,7 +23,8 @@ pub fn same_claims_hold_alike()
 {}
 
 /// The bytes of a tape, a declaration and a certificate are judged in one way, whatever parts they
-/// are read as. So the text of a certificate of which every condition holds is accepted.
+/// are read as. So where the text of a certificate of which every condition holds is read, it is
+/// accepted.
 pub fn texts_are_judged_alike()
     ensures valid { TextsAreValidAlike }
     ensures first { TextsFailAlike }

@@ -3,14 +3,14 @@
 use crate::fixtures::{
     HELLO, HELLO_CERTIFICATE, HELLO_DECLARED, HELLO_TAPE, HELLO_WORDS, PRINTED, image, rounds, word,
 };
-use analyser::{GuessFault, Turns, guess_counted, guess_or_draft_counted, guess_within};
+use analyser::{GuessFault, Turns, guess_within};
 use certificate::{Certificate, Version};
 use declaration::Declaration;
 use facts::{Equation, Fact, Name, Offsets, entails_return};
 use instruct::Profile;
 use judge::certify;
-use pal_asm::{AssembleFault, Code, PalFault, assemble, translate};
-use pal_text::{TextFault, statements};
+use pal_asm::{assemble, translate};
+use pal_text::statements;
 use peripherals::Start;
 use proposer::{Verdict, propose};
 use std::alloc::Global;
@@ -32,29 +32,6 @@ fn a_part_has_lines_statements_and_tokens(rt: HostRuntime) -> Result<(), Fail> {
 }
 
 #[test]
-fn what_refuses_a_part_is_told(rt: HostRuntime) {
-    let long = [b' '; 65_537];
-    assert!(rt; statements(rt.alloc(), b"?").err() == Some(TextFault::Illegal(1)));
-    assert!(rt; statements(rt.alloc(), b"A=5\n5A\n?").err() == Some(TextFault::Illegal(2)));
-    assert!(rt; statements(rt.alloc(), &long).err() == Some(TextFault::TooLong));
-    assert!(rt; statements(rt.alloc(), &long[..65_536]).is_ok());
-}
-
-/// A source that refers to another page.
-const TOO_FAR: &[u8] = b"TAD 600";
-
-#[test]
-fn what_refuses_a_source_is_told(rt: HostRuntime) {
-    let fault = PalFault {
-        code: Code::IllegalReference,
-        part: 1,
-        line: 1,
-    };
-    let told = assemble(rt.alloc(), &[TOO_FAR], Profile::Pdp8I).err();
-    assert_eq!(rt; told, Some(AssembleFault::Source(fault)));
-}
-
-#[test]
 fn a_source_has_words_and_symbols(rt: HostRuntime) -> Result<(), Fail> {
     let program = assemble(rt.alloc(), &[HELLO], Profile::Pdp8I)?;
     let translation = translate(rt.alloc(), &[HELLO], Profile::Pdp8I)?;
@@ -67,48 +44,11 @@ fn a_source_has_words_and_symbols(rt: HostRuntime) -> Result<(), Fail> {
     Ok(())
 }
 
-/// Whether what a declaration lists is what HELLO's does.
-fn lists_are_told(hello: &Declaration<Global>) -> bool {
-    let sets = hello.main().count() == 12 && hello.variables().count() == 2;
-    let halts = hello.stops().is_empty() && hello.pauses().count() == 1;
-    let [routine] = hello.routines() else {
-        return false;
-    };
-    let (zero, offsets) = (Word::ZERO, routine.offsets());
-    let called = routine.entry() == word(0o214) && routine.body().count() == 5;
-    sets && halts && called && offsets.contains(zero) && !offsets.contains(word(1))
-}
-
-/// Whether what a declaration tells of one cell is what HELLO's does.
-fn cells_are_told(hello: &Declaration<Global>, entry: Word) -> bool {
-    hello.in_main(word(0o213))
-        && !hello.in_main(entry)
-        && hello.is_entry(entry)
-        && hello.in_body(entry, word(0o221))
-        && !hello.in_body(entry, word(0o213))
-        && hello.has_offset(entry, Word::ZERO)
-        && !hello.has_offset(entry, word(1))
-        && hello.is_variable(word(0o10))
-        && hello.is_pause(word(0o212))
-        && !hello.is_stop(word(0o212))
-        && hello.may_read(entry)
-}
-
-#[test]
-fn a_declaration_tells_what_it_declares(rt: HostRuntime) -> Result<(), Fail> {
-    let hello = Declaration::parse(rt.alloc(), HELLO_DECLARED)?;
-    assert!(rt; hello.start() == word(0o200) && hello.profile() == Profile::Pdp8I);
-    assert!(rt; hello.reads().is_none() && !hello.reads_listed());
-    assert!(rt; lists_are_told(&hello) && cells_are_told(&hello, word(0o214)));
-    Ok(())
-}
-
 /// What AC and MQ hold at a start, whether the link is set, and what each cell holds.
-const STARTS: [(u16, bool, u16); 4] = [
+const STARTS: [(u16, bool, u16); 3] = [
     (0, false, 0),
     (0o1234, true, 0o7402),
-    (0o7777, true, 0o5555),
-    (0o4000, false, 0o7777),
+    (0o7777, false, 0o5555),
 ];
 
 /// That start.
@@ -139,24 +79,6 @@ fn a_certified_program_prints_the_same_from_any_start(rt: HostRuntime) -> Result
     Ok(())
 }
 
-/// Declarations of HELLO, certificates, and what refuses the program.
-const REFUSED: [(&[u8], &[u8], &str); 3] = [
-    (b"main 9", HELLO_CERTIFICATE, "declaration: BadLine 1"),
-    (HELLO_DECLARED, b"", "certificate: Version"),
-    (HELLO_DECLARED, b"PDP8-CERTIFICATE 1\nend\n", "V1 at 0200"),
-];
-
-#[test]
-fn what_refuses_a_program_is_told(rt: HostRuntime) -> Result<(), Fail> {
-    for (declared, certificate, wanted) in &REFUSED {
-        let Err(fault) = certify(rt.alloc(), HELLO_TAPE, declared, certificate) else {
-            panic!(rt; "not {wanted}");
-        };
-        assert_eq!(rt; format!(in rt.alloc(); "{fault}")?.as_str(), *wanted);
-    }
-    Ok(())
-}
-
 /// The fault of a guess for some words within so many turns, and how many were spent.
 fn guessed_within(
     heap: Global,
@@ -168,14 +90,6 @@ fn guessed_within(
     let mut turns = Turns::new(limit);
     let found = guess_within(heap, &image(words), &declared, &mut turns);
     Some((found.err(), turns.spent()))
-}
-
-#[test]
-fn turns_are_spent(rt: HostRuntime) {
-    let spent = guessed_within(rt.alloc(), &HELLO_WORDS, HELLO_DECLARED, 1);
-    assert_eq!(rt; spent, Some((Some(GuessFault::TurnsSpent), 1)));
-    let found = guessed_within(rt.alloc(), &HELLO_WORDS, HELLO_DECLARED, 100);
-    assert!(rt; found.is_some_and(|(fault, spent)| fault.is_none() && spent < 100));
 }
 
 /// CLA and HLT: a word each whose outcomes are asked for.
@@ -196,17 +110,6 @@ fn a_turn_is_a_word_whose_outcomes_are_asked_for(rt: HostRuntime) {
     assert_eq!(rt; stuck, Some((Some(GuessFault::Stuck(word(0o200))), 0)));
 }
 
-#[test]
-fn a_guess_has_two_million_turns(rt: HostRuntime) -> Result<(), Fail> {
-    let declared = Declaration::parse(rt.alloc(), TWO_WORDS)?;
-    let tape = image(&[0o7200, 0o7402]);
-    let (found, turns) = guess_counted(rt.alloc(), &tape, &declared);
-    assert!(rt; found.is_ok() && turns.spent() == 2 && turns.limit() == 2_000_000);
-    let (attempt, turns) = guess_or_draft_counted(rt.alloc(), &tape, &declared);
-    assert!(rt; attempt.is_ok() && turns.spent() == 2 && turns.limit() == 2_000_000);
-    Ok(())
-}
-
 /// CLA; TAD 0206; DCA 0207; DCA I 0207; HLT; and behind a cell 0300: it clears cell 0300.
 const CLEARING: [u16; 7] = [0o7200, 0o1206, 0o3207, 0o3607, 0o7402, 0o0000, 0o0300];
 
@@ -217,11 +120,8 @@ fn proposed_within(heap: Global, limit: u32) -> Option<(bool, usize, u32)> {
     let tape = image(&CLEARING);
     let found = propose(heap, &tape, word(0o200), Profile::Pdp8I, &mut turns).ok()?;
     let is_safe = matches!(&found.verdict, Verdict::Safe(_));
-    Some((
-        is_safe,
-        found.declaration.variables().count(),
-        turns.spent(),
-    ))
+    let variables = found.declaration.variables().count();
+    Some((is_safe, variables, turns.spent()))
 }
 
 #[test]

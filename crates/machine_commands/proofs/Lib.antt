@@ -4,3 +4,4 @@ pub mod SummaryLemmas
 pub mod WatchLemmas
 pub mod RunLemmas
 pub mod SessionLemmas
+pub mod WatchedSessionLemmas

@@ -4,5 +4,7 @@ pub mod Summary
 pub mod Course
 pub mod Running
 pub mod WatchText
+pub mod RefuteText
 pub mod Session
 pub mod SessionParts
+pub mod WatchedSession

@@ -1,5 +1,5 @@
 -- What `watch` writes.
-use Rattle.std.specs.Prelude.{ℕ, ◌≡◌, ◌++◌, codes, decimal, List, Option}
+use Rattle.std.specs.Prelude.{ℕ, ◌≡◌, ◌++◌, Bool, false, codes, decimal, List, [], Option}
 use Rattle.peripherals.specs.declared.Event.{Event}
 use Rattle.peripherals.specs.Loading.{image_of}
 use Rattle.declaration.specs.Declaration.{Declaration}
@@ -32,8 +32,15 @@ abbrev pub IsSeen : List (Option ℕ) → Declaration → List Event → Watched
 IsSeen image d events Clean = IsClean (image_of image) d events (fresh image d.start)
 IsSeen image d events (Broken n r) = BreaksAt (image_of image) d events (fresh image d.start) n r
 
--- The frames are a tape, the texts a declaration and a list of events; the text is the line of what is seen of them.
-pub record IsWatchedSo (frames text list : Option (List ℕ)) (line : List ℕ) (status : Status) : Type 0 where
+-- What is told of a watched run: the line of what is seen, and behind it, only where it is to be explained, some lines more,
+-- of which nothing is said here.
+pub record IsTold (watched : Watched) (explained : Bool) (told : List ℕ) : Type 0 where
+  pub why : List ℕ
+  pub plain : explained ≡ false → why ≡ []
+  pub told_is : told ≡ watched_text watched ++ why
+
+-- The frames are a tape, the texts a declaration and a list of events; this is told of what is seen of them.
+pub record IsWatchedSo (frames text list : Option (List ℕ)) (explained : Bool) (told : List ℕ) (status : Status) : Type 0 where
   pub image : List (Option ℕ)
   pub tape : HasImage frames image
   pub declaration : Declaration
@@ -42,10 +49,10 @@ pub record IsWatchedSo (frames text list : Option (List ℕ)) (line : List ℕ) 
   pub spells : HasEvents list events
   pub watched : Watched
   pub sees : IsSeen image declaration events watched
-  pub line_is : line ≡ watched_text watched
+  pub is : IsTold watched explained told
   pub status_is : status ≡ watched_status watched
 
--- The frames are a tape, the texts a declaration and a list of events, and the text is the line of what is seen of
--- them, whichever status that has.
-abbrev pub IsWatched : Option (List ℕ) → Option (List ℕ) → Option (List ℕ) → List ℕ → Type 0
-IsWatched frames text list line = (status : Status) × IsWatchedSo frames text list line status
+-- The frames are a tape, the texts a declaration and a list of events, and this is told of them, whichever status that
+-- has.
+abbrev pub IsWatched : Option (List ℕ) → Option (List ℕ) → Option (List ℕ) → Bool → List ℕ → Type 0
+IsWatched frames text list explained told = (status : Status) × IsWatchedSo frames text list explained told status

@@ -3,17 +3,20 @@
 ghost use Rattle.std.specs.Prelude.{◌≡◌, ◌||◌, ◌⊎◌, false, true, Err, IfOk, IfErr, OnErr};
 ghost use Rattle.command_parts.specs.Faults.{IsWatchFault, is_fault_of_declaration, is_fault_of_tape, fails_to_read, fails_to_write};
 ghost use Rattle.command_parts.specs.Inputs.{HasCome, IsGoodDeclaration, IsGoodEvents, IsGoodTape, TakesAtMost, TakesTape, input};
-ghost use Rattle.machine_commands.specs.WatchText.{IsWatched, IsWatchedSo, broken_text, watched_status, watched_text};
+ghost use Rattle.machine_commands.specs.WatchText.{IsTold, IsWatched, IsWatchedSo, broken_text, watched_status, watched_text};
 ghost use Rattle.command_parts.specs.Writes.{FrontOf, Writes};
-ghost use Rattle.command_parts.specs.declared.status.Fault.TheVariants.{NoMemory};
+ghost use Rattle.command_parts.specs.declared.status.Fault.TheVariants.{NoMemory as Wanted};
 
+use bin_tape::Image;
 use command_parts::inputs::{declaration_from, events_from, tape_from};
 use command_parts::status::{Fault, Status};
+use declaration::Declaration;
 use itoa::Buffer;
-use peripherals::Start;
+use peripherals::{Event, NoMemory, Start};
 use policy::{Rule, Watched};
 use std::alloc::{AllocError, Allocator};
 use streams::{ByteSink, ByteSource, put};
+use watch_texts::breach_lines;
 
 /// The line for a broken rule.
 fn broken_line<A: Allocator>(alloc: A, event: usize, rule: Rule) -> Result<Vec<u8, A>, AllocError>
@@ -42,8 +45,26 @@ fn watched_line<A: Allocator>(alloc: A, watched: Watched) -> Result<Vec<u8, A>, 
     }
 }
 
+/// What is told of a watched run: the line that says what was seen, and behind it, if it is to be
+/// explained, what the step is about to do that breaks a rule.
+pub(crate) fn told_of<A: Allocator + Copy, D: Allocator>(
+    alloc: A,
+    image: &Image,
+    declaration: &Declaration<D>,
+    events: &[Event],
+    watched: Watched,
+    explained: bool,
+) -> Result<Vec<u8, A>, NoMemory>
+    ensures { IfOk result (λ text. IsTold watched explained text.items) }
+{
+    let mut text = watched_line(alloc, watched)?;
+    let why = breach_lines(alloc, image, declaration, events, watched, explained)?;
+    text.extend_from_slice(&why)?;
+    Ok(text)
+}
+
 /// A run that breaks a rule is refused.
-fn watched_status(watched: Watched) -> Status
+pub(crate) fn watched_status(watched: Watched) -> Status
     ensures { result ≡ watched_status watched }
 {
     match watched {
@@ -54,7 +75,8 @@ fn watched_status(watched: Watched) -> Status
 
 /// Runs a tape by a list of events, from the declared start with all registers and all cells that
 /// aren't on the tape 0, and writes whether each of its steps is legal, or which event is the first
-/// that isn't and the least rule that it breaks; then the status is `Refused`.
+/// that isn't and the least rule that it breaks; then the status is `Refused`. Where it is to be
+/// explained, lines follow that say what that step is about to do, which are tested and not proved.
 ///
 /// # Errors
 ///
@@ -67,6 +89,7 @@ pub fn watch<A: Allocator + Copy, R: ByteSource, D: ByteSource, E: ByteSource, W
     tape: &mut R,
     declaration: &mut D,
     list: &mut E,
+    explained: bool,
     out: &mut W,
 ) -> Result<Status, Fault>
     requires readable { R.mark tape.old ≡ false }
@@ -75,17 +98,18 @@ pub fn watch<A: Allocator + Copy, R: ByteSource, D: ByteSource, E: ByteSource, W
     requires writable { W.mark out.old ≡ false }
     // What is written is what is seen of the run.
     ensures watched { IfOk result (λ status. Writes
-        (λ line. IsWatchedSo (R.remaining tape.old) (D.remaining declaration.old)
-        (E.remaining list.old) line status)
+        (λ told. IsWatchedSo (R.remaining tape.old) (D.remaining declaration.old)
+        (E.remaining list.old) explained told status)
         (W.taken out.old) (W.taken out.new)) }
     // A fault is that of the first input that has one.
     ensures faults { IfErr result (IsWatchFault
         (input (R.mark tape.new) (R.remaining tape.old) (R.remaining tape.new))
         (input (D.mark declaration.new) (D.remaining declaration.old) (D.remaining declaration.new))
         (input (E.mark list.new) (E.remaining list.old) (E.remaining list.new))) }
-    // Where a write failed, a front of the line went out,
+    // Where a write failed, a front of that went out,
     ensures front { W.mark out.new ≡ true → FrontOf
-        (IsWatched (R.remaining tape.old) (D.remaining declaration.old) (E.remaining list.old))
+        (IsWatched (R.remaining tape.old) (D.remaining declaration.old) (E.remaining list.old)
+        explained)
         (W.taken out.old) (W.taken out.new) }
     // and any other fault leaves the output as it was.
     ensures nothing { OnErr result (W.mark out.new ≡ false → W.taken out.new ≡ W.taken out.old) }
@@ -107,7 +131,7 @@ pub fn watch<A: Allocator + Copy, R: ByteSource, D: ByteSource, E: ByteSource, W
     ensures list_after_declaration { (list.new ≡ list.old) ⊎
         IsGoodDeclaration (D.remaining declaration.old) }
     // and memory that is refused after the events were begun is wanted for them or after them.
-    ensures wanted { result ≡ Err NoMemory → (list.new ≡ list.old) ⊎
+    ensures wanted { result ≡ Err Wanted → (list.new ≡ list.old) ⊎
         (HasCome (input (E.mark list.new) (E.remaining list.old) (E.remaining list.new)) ⊎
         IsGoodEvents (E.remaining list.old)) }
     // No input is read past its limit.
@@ -120,7 +144,7 @@ pub fn watch<A: Allocator + Copy, R: ByteSource, D: ByteSource, E: ByteSource, W
     let promised = declaration_from(alloc, declaration)?;
     let happened = events_from(alloc, list)?;
     let watched = policy::watch(alloc, &image, &promised, &Start::zero(), &happened)?;
-    let text = watched_line(alloc, watched)?;
+    let text = told_of(alloc, &image, &promised, &happened, watched, explained)?;
     put(out, &text)?;
     Ok(watched_status(watched))
 }

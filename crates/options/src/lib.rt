@@ -38,3 +38,25 @@ pub struct DeclareOptions {
     /// Whether the cells that may be read are listed.
     pub reads: bool,
 }
+
+/// How a run that breaks a declaration is looked for.
+#[derive(Clone, Copy, PartialEq, Eq, Debug)]
+pub struct RefuteOptions {
+    /// How many steps the search makes at most.
+    pub steps: u32,
+    /// Where the random numbers begin: the same seed gives the same answer.
+    pub seed: u32,
+    /// It is said what the step is about to do that breaks a rule.
+    pub explained: bool,
+}
+
+/// How it is found out whether a program keeps its declaration.
+#[derive(Clone, Copy, PartialEq, Eq, Debug)]
+pub struct VerifyOptions {
+    /// Where the program starts, if no declaration says it.
+    pub start: Word,
+    /// The machine that it's for, if no declaration says it.
+    pub profile: Profile,
+    /// How a run that breaks the declaration is looked for.
+    pub search: RefuteOptions,
+}

@@ -1,6 +1,6 @@
 //! Watching a run: whether each of its steps keeps the rules.
 
-ghost use Rattle.std.specs.Prelude.{◌≡◌, ℕ, ◌<◌, None, [], IfOk, OnOk, OnErr};
+ghost use Rattle.std.specs.Prelude.{◌≡◌, ℕ, ◌<◌, None, Some, [], IfOk, OnOk, OnErr};
 ghost use Rattle.processor.specs.Runs.{Image as Words};
 ghost use Rattle.processor.specs.Machine.{instruction};
 ghost use Rattle.peripherals.specs.declared.Event.{Event};
@@ -184,6 +184,11 @@ impl<A: Allocator> Watcher<A> {
         ensures watches { IfOk result (Watches (meaning declaration.now)
             (machine_of self.old) (calls_of self.old) Event.Step
             (machine_of self.new) (calls_of self.new)) }
+        ensures machine_kept { IfOk result (λ told. (rule : Rule) → told ≡ Some rule
+            → machine_of self.new ≡ machine_of self.old) }
+        ensures calls_kept { IfOk result (λ told. (rule : Rule) → told ≡ Some rule
+            → calls_of self.new ≡ calls_of self.old) }
+        ensures unchanged { OnErr result (machine_of self.new ≡ machine_of self.old) }
         ensures profile { profile_of self.new.world ≡ (meaning declaration.now).profile }
         ensures only_growth { OnErr result
             (GrowsAt (meaning declaration.now) (machine_of self.old) (calls_of self.old)) }
@@ -212,6 +217,8 @@ impl<A: Allocator> Watcher<A> {
         ensures watches { IfOk result (Watches (meaning declaration.now)
             (machine_of self.old) (calls_of self.old) event
             (machine_of self.new) (calls_of self.new)) }
+        ensures none { IfOk result (λ told. told ≡ None) }
+        ensures unchanged { OnErr result (machine_of self.new ≡ machine_of self.old) }
         ensures profile { profile_of self.new.world ≡ (meaning declaration.now).profile }
         ensures only_growth { OnErr result
             (Grows (meaning declaration.now) (machine_of self.old) (calls_of self.old) event) }
@@ -228,7 +235,7 @@ impl<A: Allocator> Watcher<A> {
     /// # Errors
     ///
     /// `NoMemory` where room for a call on the call list, or for a byte that is printed or punched, was
-    /// refused.
+    /// refused. The machine is as before; the call list may have the call.
     pub fn next<D: Allocator>(
         &mut self,
         declaration: &Declaration<D>,
@@ -238,6 +245,12 @@ impl<A: Allocator> Watcher<A> {
         ensures watches { IfOk result (Watches (meaning declaration.now)
             (machine_of self.old) (calls_of self.old) event
             (machine_of self.new) (calls_of self.new)) }
+        // A step that breaks a rule isn't carried out, nor is one whose memory was refused.
+        ensures machine_kept { IfOk result (λ told. (rule : Rule) → told ≡ Some rule
+            → machine_of self.new ≡ machine_of self.old) }
+        ensures calls_kept { IfOk result (λ told. (rule : Rule) → told ≡ Some rule
+            → calls_of self.new ≡ calls_of self.old) }
+        ensures unchanged { OnErr result (machine_of self.new ≡ machine_of self.old) }
         ensures profile { profile_of self.new.world ≡ (meaning declaration.now).profile }
         ensures only_growth { OnErr result
             (Grows (meaning declaration.now) (machine_of self.old) (calls_of self.old) event) }

@@ -8,6 +8,7 @@ use Rattle.proposer.specs.Proposals.{AreNeeded, Fits, IsListed, IsShown}
 use Rattle.proposer.specs.declared.Proposal.{Proposal}
 use Rattle.proposer.specs.declared.Verdict.TheVariants.{Safe}
 use Rattle.command_parts.specs.Inputs.{HasImage}
+use Rattle.verdict_texts.proofs.CheckLemmas.{kept_sets}
 use Rattle.search_commands.specs.DeclareText.{IsBare, IsProposal}
 use Rattle.options.specs.declared.DeclareOptions.{DeclareOptions}
 use Rattle.command_parts.specs.declared.status.Status.{Status}
@@ -38,7 +39,7 @@ shown_proposal {A = A} options frames image p c has fits shown listed needed unl
       bare = λ refused. done_not_refused refused;
       safe = λ done. kept.0;
       listed = λ done asked. let lists : IsListed {A = A} p.declaration (Safe c) = rw is at listed asked in lists;
-      needed = λ done asked. let all : AreNeeded {A = A} image p.declaration (Safe c) = rw is at needed asked in record { lines = certified.meaning c; lines_are = kept.1.0; valid = kept.2; needed = all };
+      needed = λ done asked. let all : AreNeeded {A = A} image p.declaration (Safe c) = rw is at needed asked in record { lines = certified.meaning c; lines_are = kept.1.0; of_words = kept_sets c; version_is = kept.1.1; valid = kept.2; needed = all };
     }
 
 -- without one

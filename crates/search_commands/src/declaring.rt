@@ -150,8 +150,8 @@ fn remarked<A: Allocator + Copy>(
 
 /// Proposes what the program of a tape may do, by the tape, its start and the machine alone, and
 /// writes the text of that declaration. `Done` says that no run of the program breaks it. Else it's
-/// `Refused`: no certificate is found that shows that, and comments in front of the text say why, if
-/// there is room for them.
+/// `Refused`: no certificate is found that shows that. Comments in front of the text say why then, if
+/// there is room for them; what they say is tested, not proved.
 ///
 /// # Errors
 ///

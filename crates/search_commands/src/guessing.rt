@@ -15,7 +15,7 @@ use streams::{ByteSink, ByteSource};
 
 /// Looks for a certificate that shows that no run of a tape breaks its declaration, and writes its
 /// text: of version 1 for a PDP-8/I, of version 2 for a PDP-8/E. Every condition holds of it, so
-/// [`check`](crate::checking::check) says yes to it; that one is found isn't promised.
+/// `check` says yes to it; that one is found isn't promised.
 ///
 /// # Errors
 ///

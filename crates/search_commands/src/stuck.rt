@@ -89,11 +89,14 @@ fn report_stuck<A: Allocator, D: Allocator, C: Allocator, E: ByteSink>(
     }
 }
 
-/// Looks for a certificate as [`guess`](crate::guessing::guess) does. Where the search is stuck, and
-/// there is a draft of what it found until then, the line of that fault goes to the report, and
-/// behind it why, as far as that is found and as [`explain`](crate::explaining::explain) says it:
+/// Looks for a certificate as [`guess`](crate::guessing::guess) does, and promises the same of one that
+/// is found. Where the search is stuck, and there is a draft of what it found until then, the line of
+/// that fault goes to the report, and behind it why, as far as that is found and as `explain` says it:
 /// the address with its word and name, what the condition asks, and what breaks it. The status is
 /// `Refused` then, also where the report can't be written.
+///
+/// What is told is true of a draft whose lines are where they may be. It isn't proved that the draft is
+/// what the search found, nor that a certificate is found wherever `guess` finds one.
 ///
 /// # Errors
 ///

@@ -366,7 +366,7 @@ fn push_asked<A: Allocator>(text: &mut Vec<u8, A>, condition: Condition) -> Resu
 }
 
 /// Adds why a verdict is no: the address with its word and its name, what the condition asks, and
-/// why it fails.
+/// the reason, if one is given. To a yes it adds nothing.
 pub fn push_why<A: Allocator>(
     text: &mut Vec<u8, A>,
     profile: Profile,

@@ -3,9 +3,10 @@
 ghost use Rattle.std.specs.Prelude.{◌≡◌, false, IfOk};
 
 use crate::files::{input_of, open_input};
-use command_line::Session;
+use command_line::{Session, WatchedSession};
 use commands::session::{Outputs, run_session};
 use commands::status::{DeviceFault, Fault, Status};
+use commands::watched_session::watch_session;
 use either::Either;
 use std::alloc::Global;
 use std::fs;
@@ -117,6 +118,7 @@ fn type_to<'r, R: Print>(rt: &'r R, teletype: bool) -> Writes<Either<Printer<'r,
 /// # Errors
 ///
 /// As for `run_session`, and `Device` where a file can't be opened or made.
+#[inline(never)]
 pub fn hold_session<R: Files + Input + Print + Eprint>(
     rt: &R,
     alloc: Global,
@@ -139,5 +141,34 @@ pub fn hold_session<R: Files + Input + Print + Eprint>(
         &mut keys,
         session.options,
         &mut outputs,
+    )
+}
+
+/// Watches the run of a tape with an operator. The files are opened in this order: the tape, the
+/// declaration, the reader's frames and the keys.
+///
+/// # Errors
+///
+/// As for `watch_session`, and `Device` where a file can't be opened.
+#[inline(never)]
+pub fn watch_joined<R: Files + Input + Print>(
+    rt: &R,
+    alloc: Global,
+    session: &WatchedSession<'_>,
+) -> Result<Status, Fault> {
+    let mut frames = open_input(rt, session.tape)?;
+    let mut text = open_input(rt, session.declaration)?;
+    let mut reader = open_input_if(rt, session.reader)?;
+    let mut keys = open_input_if(rt, session.keys)?;
+    let mut out = Writes::new(io::writer(rt));
+    watch_session(
+        alloc,
+        &mut frames,
+        &mut text,
+        &mut reader,
+        &mut keys,
+        session.options,
+        session.explained,
+        &mut out,
     )
 }

@@ -1,12 +1,17 @@
-//! The program `pdp8`: its words, its files and its exit status.
+//! The program `pdp8`: its words, its files and its exit status. Which files it opens, and in which
+//! order, is tested and not proved.
 #![tactic(auto)]
 
+mod faults;
 mod files;
 mod joined;
 mod program;
+mod saving;
+mod sources;
+mod telling;
 
 pub use commands::{
-    assembling, checking, declaring, explaining, guessing, migrating, running, session, status,
-    stuck, watching,
+    assembling, checking, declaring, explaining, guessing, migrating, refuting, running, session,
+    sourcing, status, stuck, watching,
 };
 pub use program::exit_status;

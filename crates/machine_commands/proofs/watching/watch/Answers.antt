@@ -4,7 +4,7 @@ use Rattle.streams.specs.Bytes.{AppendsFront}
 use Rattle.peripherals.specs.Loading.{image_of, loaded}
 use Rattle.declaration.specs.Kept.{meaning}
 use Rattle.machine_commands.specs.Running.{fresh}
-use Rattle.machine_commands.specs.WatchText.{IsSeen, watched_status, watched_text}
+use Rattle.machine_commands.specs.WatchText.{IsSeen, watched_status}
 use Rattle.machine_commands.proofs.WatchLemmas.{is_seen}
 use Rattle.machine_commands.proofs.watching.watch.Goals as goal
 
@@ -12,11 +12,11 @@ pub returns-in_err-put-clause-front : goal.returns-in_err-put-clause-front
 returns-in_err-put-clause-front g c = λ marked.
     let d = meaning c.in_ok-promised.promised in
     let begins : loaded (image_of c.in_ok-image.image) d.start c.zero.result ≡ fresh c.in_ok-image.image d.start = search rules in
-    let front : AppendsFront (g.W.ByteSink.taken c.args.out.now) (g.W.ByteSink.taken c.put.new.sink) (watched_text c.in_ok-watched.watched) = search rules in
+    let front : AppendsFront (g.W.ByteSink.taken c.args.out.now) (g.W.ByteSink.taken c.put.new.sink) c.in_ok-text.text.items = search rules in
     let sees : IsSeen c.in_ok-image.image d c.in_ok-happened.happened.items c.in_ok-watched.watched = is_seen c.in_ok-image.image d c.in_ok-happened.happened.items c.in_ok-watched.watched (loaded (image_of c.in_ok-image.image) d.start c.zero.result) begins
     (rw c.deref.ensures.value at c.in_ok-watched.ensures.clean) (rw c.deref.ensures.value at c.in_ok-watched.ensures.broken) in
     record {
-      text = watched_text c.in_ok-watched.watched;
+      text = c.in_ok-text.text.items;
       is = (
         watched_status c.in_ok-watched.watched,
         record {
@@ -28,7 +28,7 @@ returns-in_err-put-clause-front g c = λ marked.
           spells = c.in_ok-happened.ensures.spells;
           watched = c.in_ok-watched.watched;
           sees = sees;
-          line_is = refl;
+          is = c.in_ok-text.ensures;
           status_is = refl;
         },
       );
@@ -39,11 +39,11 @@ pub returns-clause-watched : goal.returns-clause-watched
 returns-clause-watched g c =
     let d = meaning c.in_ok-promised.promised in
     let begins : loaded (image_of c.in_ok-image.image) d.start c.zero.result ≡ fresh c.in_ok-image.image d.start = search rules in
-    let written : Appends (g.W.ByteSink.taken c.args.out.now) (g.W.ByteSink.taken c.put.new.sink) (watched_text c.in_ok-watched.watched) = search rules in
+    let written : Appends (g.W.ByteSink.taken c.args.out.now) (g.W.ByteSink.taken c.put.new.sink) c.in_ok-text.text.items = search rules in
     let sees : IsSeen c.in_ok-image.image d c.in_ok-happened.happened.items c.in_ok-watched.watched = is_seen c.in_ok-image.image d c.in_ok-happened.happened.items c.in_ok-watched.watched (loaded (image_of c.in_ok-image.image) d.start c.zero.result) begins
     (rw c.deref.ensures.value at c.in_ok-watched.ensures.clean) (rw c.deref.ensures.value at c.in_ok-watched.ensures.broken) in
     record {
-      text = watched_text c.in_ok-watched.watched;
+      text = c.in_ok-text.text.items;
       is = record {
         image = c.in_ok-image.image;
         tape = c.in_ok-image.ensures.tape;
@@ -53,7 +53,7 @@ returns-clause-watched g c =
         spells = c.in_ok-happened.ensures.spells;
         watched = c.in_ok-watched.watched;
         sees = sees;
-        line_is = refl;
+        is = c.in_ok-text.ensures;
         status_is = c.watched_status.ensures;
       };
       written = written;

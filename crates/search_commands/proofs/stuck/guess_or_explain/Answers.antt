@@ -9,12 +9,12 @@ use Rattle.search_commands.proofs.stuck.guess_or_explain.Goals as goal
 pub returns-clause-stuck : goal.returns-clause-stuck
 returns-clause-stuck g c = λ refused unmarked.
     writes_stuck _ _ c.in_ok-image.image (meaning c.in_ok-promised.promised) (lines_of c.in-Stuck.draft) _ _ c.in_ok-image.ensures.tape c.in_ok-promised.ensures.declares
-    (rw c.in-Stuck.is at c.in_ok-attempt.ensures.lines) (rw c.in-Stuck.is at c.in_ok-attempt.ensures.version) (c.in_ok-report_stuck-in-Stuck.ensures.told unmarked)
+    (rw c.in-Stuck.is at c.in_ok-attempt.ensures.lines) (kept_sets c.in-Stuck.draft) (rw c.in-Stuck.is at c.in_ok-attempt.ensures.version) (c.in_ok-report_stuck-in-Stuck.ensures.told unmarked)
 
 pub returns-clause-front_of_report : goal.returns-clause-front_of_report
 returns-clause-front_of_report g c = λ marked.
     front_of_stuck _ _ c.in_ok-image.image (meaning c.in_ok-promised.promised) (lines_of c.in-Stuck.draft) _ _ c.in_ok-image.ensures.tape c.in_ok-promised.ensures.declares
-    (rw c.in-Stuck.is at c.in_ok-attempt.ensures.lines) (rw c.in-Stuck.is at c.in_ok-attempt.ensures.version) (c.report_stuck.ensures.front marked)
+    (rw c.in-Stuck.is at c.in_ok-attempt.ensures.lines) (kept_sets c.in-Stuck.draft) (rw c.in-Stuck.is at c.in_ok-attempt.ensures.version) (c.report_stuck.ensures.front marked)
 
 pub returns-in-Found-clause-guessed : goal.returns-in-Found-clause-guessed
 returns-in-Found-clause-guessed g c = λ done. record {

@@ -1,0 +1,61 @@
+-- The events that come with an operator, gathered one after the other; and what is seen of them.
+use Rattle.std.proofs.Common.{ℕ, ◌≡◌, Bool, true, false, not, List, [], ◌∷◌, ◌++◌, Option, Some, None, refl, append-nil, append_assoc}
+use Rattle.instruct.specs.declared.Profile.{Profile}
+use Rattle.peripherals.specs.declared.Event.{Event}
+use Rattle.peripherals.specs.declared.Seen.{Seen}
+use Rattle.peripherals.specs.Devices.{WorldState}
+use Rattle.peripherals.specs.Events.{Happens}
+use Rattle.peripherals.specs.Operator.{Plan, due, left_after}
+use Rattle.peripherals.specs.Seen.{seen_of}
+use Rattle.declaration.specs.Declaration.{Declaration}
+use Rattle.policy.specs.declared.watcher.Watched.{Watched}
+use Rattle.command_parts.specs.declared.status.Status.{Status}
+use Rattle.machine_commands.specs.Follows.{goes_on}
+use Rattle.machine_commands.specs.Running.{fresh}
+use Rattle.machine_commands.specs.Session.{Comes, Over, Final, Then, Whole}
+use Rattle.machine_commands.specs.WatchText.{IsSeen, IsTold, watched_status}
+use Rattle.machine_commands.specs.WatchedSession.{IsPlanWatchedSo}
+
+-- These events came, and whatever comes further comes after them.
+pub record Gathered (p : Profile) (plan now : Plan) (last : Option Event) (w x : WorldState) (events : List Event) : Type 0 where
+  pub come : (rest : List Event) → Comes p Whole now last x rest → Comes p Whole plan None w (events ++ rest)
+
+pub gathered_none : (p : Profile) (plan : Plan) (last : Option Event) (w : WorldState) → last ≡ None → Gathered p plan plan last w w []
+gathered_none p plan last w first = record { come = λ rest comes. rw first at comes }
+
+pub gathered_more : (p : Profile) (plan now after : Plan) (last next : Option Event) (w x y : WorldState) (events : List Event) (e : Event) (what : Seen) →
+    Gathered p plan now last w x events → due now x last ≡ Some e → after ≡ left_after e now → next ≡ Some e → Happens p x e y → what ≡ seen_of p x e → goes_on true what ≡ true →
+    Gathered p plan after next w y (events ++ e ∷ [])
+gathered_more p plan now after last next w x y events e what gathered is left new happens sees goes = record {
+  come = λ rest comes.
+      let on : goes_on true (seen_of p x e) ≡ true = rw (← sees) goes in
+      let from : Comes p Whole (left_after e now) (Some e) y rest = rw (left, new) at comes in
+      rw (append_assoc events (e ∷ []) rest) (gathered.come (e ∷ rest) (Then now last x y e rest is on happens from));
+}
+
+pub gathered_last : (p : Profile) (plan now : Plan) (last : Option Event) (w x : WorldState) (events : List Event) (e : Event) (what : Seen) →
+    Gathered p plan now last w x events → due now x last ≡ Some e → what ≡ seen_of p x e → goes_on true what ≡ false → Comes p Whole plan None w (events ++ e ∷ [])
+gathered_last p plan now last w x events e what gathered is sees ends =
+    let off : goes_on true (seen_of p x e) ≡ false = rw (← sees) ends in gathered.come (e ∷ []) (Final now last x e is off)
+
+pub gathered_all : (p : Profile) (plan now : Plan) (last : Option Event) (w x : WorldState) (events : List Event) →
+    Gathered p plan now last w x events → due now x last ≡ None → Comes p Whole plan None w events
+gathered_all p plan now last w x events gathered is = rw (append-nil events) at (gathered.come [] (Over now last x is))
+
+-- what is seen and told of the events of a plan
+pub plan_watched : (plan : Plan) (image : List (Option ℕ)) (d : Declaration) (explained : Bool) (p : Profile) (w : WorldState) (events : List Event) (watched : Watched) (told : List ℕ) (status : Status) →
+    p ≡ d.profile → w ≡ fresh image d.start → Comes p Whole plan None w events → IsSeen image d events watched → IsTold watched explained told → status ≡ watched_status watched →
+    IsPlanWatchedSo plan image d explained told status
+plan_watched plan image d explained p w events watched told status profile begins come sees is status_is = record {
+  events = events;
+  come = rw (profile, begins) at come;
+  watched = watched;
+  sees = sees;
+  is = is;
+  status_is = status_is;
+}
+
+-- a test that was turned round
+pub not_back : (a b : Bool) → not a ≡ b → a ≡ not b
+not_back true b is = rw (← is) refl
+not_back false b is = rw (← is) refl

@@ -1,0 +1,51 @@
+-- What `refute` writes.
+use Rattle.std.specs.Prelude.{ℕ, ◌≡◌, ◌+◌, ◌++◌, ◌⊎◌, Bool, codes, decimal, length, List, Option}
+use Rattle.std.specs.Io.KnownBytes.{Appends}
+use Rattle.peripherals.specs.declared.Event.{Event}
+use Rattle.peripherals.specs.EventText.{Spells}
+use Rattle.peripherals.specs.Loading.{image_of}
+use Rattle.declaration.specs.Declaration.{Declaration}
+use Rattle.policy.specs.declared.rules.Rule.{Rule}
+use Rattle.policy.specs.declared.watcher.Watched.TheVariants.{Broken}
+use Rattle.policy.specs.Watching.{BreaksAt}
+use Rattle.options.specs.declared.RefuteOptions.{RefuteOptions}
+use Rattle.command_parts.specs.Inputs.{HasDeclaration, HasImage}
+use Rattle.machine_commands.specs.Running.{fresh}
+use Rattle.machine_commands.specs.WatchText.{IsTold}
+
+-- The line where nothing was found in so many steps.
+abbrev pub unbroken_text : ℕ → List ℕ
+unbroken_text steps = codes "not broken in " ++ decimal steps ++ codes " steps\n"
+
+-- The frames are a tape and the text is that of a declaration. The list spells a run that breaks it: of these events, from
+-- the declared start with all registers and all cells that aren't on the tape 0, the last one is the first step that isn't
+-- legal. What is told is what `watch` says of them: its place, and the least rule that it breaks.
+pub record IsWitness (frames text : Option (List ℕ)) (explained : Bool) (list told : List ℕ) : Type 0 where
+  pub image : List (Option ℕ)
+  pub tape : HasImage frames image
+  pub declaration : Declaration
+  pub declares : HasDeclaration text declaration
+  pub events : List Event
+  pub spells : Spells list events
+  pub event : ℕ
+  pub rule : Rule
+  pub breaks : BreaksAt (image_of image) declaration events (fresh image declaration.start) event rule
+  pub last : event + 1 ≡ length events
+  pub is : IsTold (Broken event rule) explained told
+
+-- The list spells such a run, whatever is told of it.
+abbrev pub IsWitnessText : Option (List ℕ) → Option (List ℕ) → Bool → List ℕ → Type 0
+IsWitnessText frames text explained list = (told : List ℕ) × IsWitness frames text explained list told
+
+-- This is told of such a run, or says that none was found.
+abbrev pub IsToldOfWitness : Option (List ℕ) → Option (List ℕ) → RefuteOptions → List ℕ → Type 0
+IsToldOfWitness frames text options told =
+    ((list : List ℕ) × IsWitness frames text options.explained list told) ⊎ (told ≡ unbroken_text options.steps)
+
+-- Such a run was appended to the one sink, and what is told of it to the other.
+pub record WritesWitness (frames text : Option (List ℕ)) (explained : Bool) (old new report_old report_new : Option (List ℕ)) : Type 0 where
+  pub list : List ℕ
+  pub told : List ℕ
+  pub is : IsWitness frames text explained list told
+  pub written : Appends old new list
+  pub reported : Appends report_old report_new told

@@ -1,0 +1,334 @@
+//! Hints from failed tests: a test that sees the accumulator at d, and wants 0, hints at each of the last
+//! inputs less d or more d.
+
+use crate::alphabet::Alphabet;
+use crate::asking::Ask;
+use crate::hints::{Goal, Hint, Hints};
+use crate::random::Random;
+use crate::running::{Input, Run};
+use crate::tree::{Tail, Tree};
+use crate::votes::{Interest, MOST_BACK, Pointer, Votes};
+use peripherals::NoMemory;
+use std::alloc::Allocator;
+use word12::Word;
+
+/// The most inputs behind a kept state with which a test is looked at.
+const MOST_INPUTS: usize = 16;
+
+/// Of the inputs so many of the last ones tell one hint from another.
+const MARKED: usize = 6;
+
+/// A distance that is so small is followed in any case.
+const NEAR: u16 = 8;
+
+/// A test of the accumulator that found it not 0.
+#[derive(Clone, Copy)]
+pub(crate) struct Miss {
+    pub(crate) at: Word,
+    pub(crate) ac: u16,
+    /// Whether it is for 0, and not for the sign.
+    pub(crate) is_for_zero: bool,
+}
+
+impl Miss {
+    /// How far the accumulator is from 0.
+    pub(crate) fn distance(&self) -> u16 {
+        self.ac.min(4096u16.saturating_sub(self.ac))
+    }
+
+    /// Whether hints are taken from it.
+    pub(crate) fn hints(&self) -> bool {
+        self.is_for_zero || self.distance() < 256
+    }
+}
+
+/// The last inputs before a test: those behind the run's kept state, and before them some that led to it
+/// from another one.
+#[derive(Drop)]
+struct Last<A: Allocator> {
+    far: Tail<A>,
+    /// How many of the inputs are before the run's kept state.
+    before: usize,
+    near_base: usize,
+}
+
+impl<A: Allocator + Copy> Last<A> {
+    /// The last inputs of a run, so many at least if there are.
+    fn of(tree: &Tree<A>, run: &Run<A>, least: usize) -> Result<Last<A>, NoMemory> {
+        let own = run.inputs.len().saturating_sub(run.before_base);
+        let mut far = tree.tail(run.base, least.saturating_sub(own))?;
+        let before = far.inputs.len();
+        for index in run.before_base..run.inputs.len() {
+            if let Some(input) = run.inputs.get(index) {
+                far.inputs.push(*input).map_err(|_| NoMemory)?;
+            }
+        }
+        Ok(Last {
+            far,
+            before,
+            near_base: run.base,
+        })
+    }
+
+    /// The place of the input so many back, from 1.
+    fn place(&self, back: usize) -> Option<usize> {
+        self.far.inputs.len().checked_sub(back)
+    }
+
+    /// Where a run with another input at a place begins: the number of its first input, and the kept state.
+    fn start(&self, place: usize) -> (usize, usize) {
+        if place < self.before {
+            (0, self.far.base)
+        } else {
+            (self.before, self.near_base)
+        }
+    }
+
+    /// Whether the input at a place is the only one behind the kept state.
+    fn is_direct(&self, place: usize) -> bool {
+        place >= self.before && self.far.inputs.len().saturating_sub(self.before) == 1
+    }
+
+    /// What tells the hint at a value in a place from others.
+    fn mark(&self, place: usize, value: u16) -> u64 {
+        let (first, base) = self.start(place);
+        let length = self.far.inputs.len();
+        let mut mark = value as u64;
+        for index in first.max(length.saturating_sub(MARKED))..length {
+            if index != place {
+                let other = self.far.inputs.get(index).map_or(0, |input| input.value);
+                mark = mark.wrapping_mul(0x9E37_79B9_7F4A_7C15) ^ (other as u64);
+            }
+        }
+        let back = length.saturating_sub(place) as u64;
+        mark = (mark ^ ((base as u64) << 32)).wrapping_add(back);
+        mark = mark.wrapping_mul(0xD6E8_FEB8_6659_FD93);
+        (mark ^ (mark >> 29)).wrapping_mul(0x9E37_79B9_7F4A_7C15)
+    }
+
+    /// The hint at a value in a place.
+    fn hint(&self, alloc: A, place: usize, value: u16, goal: Goal) -> Result<Hint<A>, NoMemory> {
+        let (first, base) = self.start(place);
+        let mut inputs = Vec::new(alloc);
+        for index in first..self.far.inputs.len() {
+            let given = self.far.inputs.get(index).map_or(0, |input| input.value);
+            let input = if index == place { value } else { given };
+            inputs.push(input).map_err(|_| NoMemory)?;
+        }
+        Ok(Hint {
+            base,
+            inputs,
+            goal,
+            is_direct: self.is_direct(place),
+        })
+    }
+}
+
+/// The hints and votes of failed tests.
+#[derive(Drop)]
+pub(crate) struct Aims<A: Allocator> {
+    alloc: A,
+    pub(crate) hints: Hints<A>,
+    pub(crate) votes: Votes<A>,
+}
+
+impl<A: Allocator + Copy> Aims<A> {
+    /// None yet.
+    pub(crate) fn none(alloc: A) -> Result<Aims<A>, NoMemory> {
+        Ok(Aims {
+            alloc,
+            hints: Hints::none(alloc)?,
+            votes: Votes::new(alloc)?,
+        })
+    }
+
+    /// A test failed in a run.
+    pub(crate) fn miss(
+        &mut self,
+        tree: &Tree<A>,
+        run: &Run<A>,
+        miss: Miss,
+        goal: Option<Goal>,
+        alphabet: &mut Alphabet<A>,
+        random: &mut Random,
+    ) -> Result<(), NoMemory> {
+        let own = run.inputs.len().saturating_sub(run.before_base);
+        if own == 0 || own > MOST_INPUTS {
+            return Ok(());
+        }
+        let interest = self.votes.meet(miss.at, random)?;
+        let is_full = interest == Interest::Full;
+        if own > 1 && !is_full {
+            return Ok(());
+        }
+        let most = if miss.is_for_zero && is_full {
+            MOST_BACK
+        } else {
+            1
+        };
+        let last = Last::of(tree, run, most)?;
+        let mut aim = Aim {
+            miss,
+            is_full,
+            goal,
+            last,
+        };
+        for back in 1..most + 1 {
+            aim.look_back(back, self, alphabet, random)?;
+        }
+        Ok(())
+    }
+}
+
+/// A failed test with the inputs before it.
+#[derive(Drop)]
+struct Aim<A: Allocator> {
+    miss: Miss,
+    is_full: bool,
+    /// The goal of the run.
+    goal: Option<Goal>,
+    last: Last<A>,
+}
+
+/// The greatest value of an input.
+fn greatest(ask: Ask) -> u16 {
+    match ask {
+        Ask::Key | Ask::Frame => 0o377,
+        Ask::Switches => 0o7777,
+    }
+}
+
+impl<A: Allocator + Copy> Aim<A> {
+    /// Takes the hints at the input so many back.
+    fn look_back(
+        &mut self,
+        back: usize,
+        aims: &mut Aims<A>,
+        alphabet: &mut Alphabet<A>,
+        random: &mut Random,
+    ) -> Result<(), NoMemory> {
+        let Some(place) = self.last.place(back) else {
+            return Ok(());
+        };
+        let Some(input) = self.last.far.inputs.get(place).copied() else {
+            return Ok(());
+        };
+        let ac = self.miss.ac;
+        for (is_sum, target) in [
+            (false, input.value.wrapping_sub(ac)),
+            (true, input.value.wrapping_add(ac)),
+        ] {
+            let target = target & 0o7777;
+            let top = greatest(input.ask);
+            if back == 1 || target <= top {
+                let pointer = Pointer {
+                    back,
+                    is_sum,
+                    input: input.value,
+                    value: target & top,
+                };
+                self.count(&pointer, input.ask, aims, alphabet)?;
+                self.follow(place, &pointer, aims, random)?;
+            }
+        }
+        self.follow_digits(place, input.value, aims, random)
+    }
+
+    /// Counts a hint.
+    fn count(
+        &self,
+        pointer: &Pointer,
+        ask: Ask,
+        aims: &mut Aims<A>,
+        alphabet: &mut Alphabet<A>,
+    ) -> Result<(), NoMemory> {
+        if !self.is_full {
+            return Ok(());
+        }
+        match ask {
+            Ask::Key | Ask::Frame => aims.votes.vote(self.miss.at, pointer),
+            Ask::Switches => {
+                if pointer.back == 1 && aims.votes.vote_word(self.miss.at, pointer)? {
+                    alphabet.learn_word(pointer.value)?;
+                }
+            }
+        }
+        Ok(())
+    }
+
+    /// Lets a hint wait: where it isn't known to be a good one, once in sixteen times.
+    fn follow(
+        &mut self,
+        place: usize,
+        pointer: &Pointer,
+        aims: &mut Aims<A>,
+        random: &mut Random,
+    ) -> Result<(), NoMemory> {
+        if pointer.value == pointer.input {
+            return Ok(());
+        }
+        let is_sure = self.miss.distance() <= NEAR || aims.votes.is_good(self.miss.at, pointer);
+        if is_sure || random.once_in(16) {
+            return self.push(place, pointer.value, aims);
+        }
+        Ok(())
+    }
+
+    /// Where the input was a digit of a number, lets the digits wait that are off by the distance in eights
+    /// or tens.
+    fn follow_digits(
+        &mut self,
+        place: usize,
+        digit: u16,
+        aims: &mut Aims<A>,
+        random: &mut Random,
+    ) -> Result<(), NoMemory> {
+        let _ = random;
+        if !self.miss.is_for_zero || !is_digit(digit) {
+            return Ok(());
+        }
+        let distance = self.miss.distance();
+        for weight in [8u16, 64, 512, 10, 100] {
+            let off = distance / weight;
+            if off != 0 && off < 10 {
+                for value in [digit.wrapping_sub(off), digit.wrapping_add(off)] {
+                    if is_digit(value) {
+                        self.push(place, value, aims)?;
+                    }
+                }
+            }
+        }
+        Ok(())
+    }
+
+    /// Lets the hint at a value in a place wait, if it is new: where the run came nearer to its goal, before
+    /// all others.
+    fn push(&mut self, place: usize, value: u16, aims: &mut Aims<A>) -> Result<(), NoMemory> {
+        if !aims.hints.is_new(self.last.mark(place, value)) {
+            return Ok(());
+        }
+        let goal = Goal {
+            at: self.miss.at,
+            distance: self.miss.distance(),
+        };
+        let hint = self.last.hint(aims.alloc, place, value, goal)?;
+        if self.came_nearer() {
+            aims.hints.push_nearer(hint);
+            return Ok(());
+        }
+        aims.hints.push(hint)
+    }
+
+    /// Whether the test is the run's goal, and nearer to 0 than before.
+    fn came_nearer(&self) -> bool {
+        match self.goal {
+            Some(goal) => goal.at == self.miss.at && self.miss.distance() < goal.distance,
+            None => false,
+        }
+    }
+}
+
+/// Whether a value is a digit with channel 8.
+fn is_digit(value: u16) -> bool {
+    (0o260..=0o271).contains(&value)
+}

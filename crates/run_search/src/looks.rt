@@ -1,0 +1,75 @@
+//! What is worth a look before a step, by the word that is carried out.
+
+use crate::asking::Ask;
+use instruct::{Instruction, Operation, Profile, decode, refers_indirectly};
+use peripherals::NoMemory;
+use std::alloc::Allocator;
+use word12::Word;
+
+/// What is worth a look.
+#[derive(Clone, Copy, PartialEq, Eq)]
+pub(crate) enum Look {
+    /// Nothing.
+    Nothing,
+    /// Whether the word asks for an input.
+    Asks(Ask),
+    /// The address that an indirect reference uses.
+    Address,
+    /// The word that a DCA or an ISZ leaves in the cell that it names.
+    Stored,
+    /// How far the accumulator is from 0 at a test of it for 0.
+    Zero,
+    /// How far the accumulator is from 0 at a test of its sign.
+    Sign,
+}
+
+/// The bits of group 2 that test the accumulator for 0 and its sign.
+const ZERO_BIT: u16 = 0o40;
+
+const SIGN_BIT: u16 = 0o100;
+
+impl Look {
+    /// What is worth a look at a word.
+    fn at(word: Word, profile: Profile) -> Look {
+        if let Some(ask) = Ask::by(word, profile) {
+            return Look::Asks(ask);
+        }
+        match decode(word, profile) {
+            Instruction::Memory => look_at_reference(word),
+            Instruction::Operate2 => look_at_test(word),
+            _ => Look::Nothing,
+        }
+    }
+}
+
+/// What is worth a look at a memory reference.
+fn look_at_reference(word: Word) -> Look {
+    if refers_indirectly(word) {
+        return Look::Address;
+    }
+    match Operation::of(word) {
+        Operation::Isz | Operation::Dca => Look::Stored,
+        _ => Look::Nothing,
+    }
+}
+
+/// What is worth a look at a word of group 2.
+fn look_at_test(word: Word) -> Look {
+    if word.value() & ZERO_BIT != 0 {
+        Look::Zero
+    } else if word.value() & SIGN_BIT != 0 {
+        Look::Sign
+    } else {
+        Look::Nothing
+    }
+}
+
+/// What is worth a look at each of the 4096 words.
+pub(crate) fn looks<A: Allocator>(alloc: A, profile: Profile) -> Result<Vec<Look, A>, NoMemory> {
+    let mut looks = Vec::new(alloc);
+    for index in 0..4096usize {
+        let look = Look::at(Word::from_index(index), profile);
+        looks.push(look).map_err(|_| NoMemory)?;
+    }
+    Ok(looks)
+}

@@ -1,0 +1,151 @@
+//! The events of a run as they are kept, and their text.
+
+use peripherals::{Event, NoMemory};
+use std::alloc::Allocator;
+use std::fmt::Write;
+
+/// Some steps, and then an event that is no step.
+#[derive(Clone, Copy)]
+pub(crate) struct Part {
+    pub(crate) steps: u32,
+    pub(crate) event: Event,
+}
+
+/// Events in order, in which steps in a row are counted.
+#[derive(Drop)]
+pub(crate) struct Script<A: Allocator> {
+    parts: Vec<Part, A>,
+    /// The steps behind all parts.
+    steps: u32,
+}
+
+/// How much a script has.
+#[derive(Clone, Copy)]
+pub(crate) struct Extent {
+    /// Its events.
+    pub(crate) events: u32,
+    /// The bytes of its text, at most.
+    pub(crate) bytes: u32,
+}
+
+impl Extent {
+    /// Nothing.
+    pub(crate) const NONE: Extent = Extent {
+        events: 0,
+        bytes: 0,
+    };
+
+    /// One more step.
+    pub(crate) fn step(&mut self) {
+        self.events = self.events.saturating_add(1);
+    }
+
+    /// One more event that is no step.
+    pub(crate) fn add(&mut self) {
+        self.events = self.events.saturating_add(1);
+        self.bytes = self.bytes.saturating_add(MOST_BYTES_OF_PART);
+    }
+
+    /// Whether a script that is no longer than this has a text that is read again.
+    pub(crate) fn is_short(&self) -> bool {
+        self.events < MOST_EVENTS && self.bytes < MOST_BYTES
+    }
+}
+
+/// The most bytes of the two lines of a part: `step 1000000` and `switches 7777`.
+const MOST_BYTES_OF_PART: u32 = 27;
+
+/// Fewer bytes than are read of a text of events.
+const MOST_BYTES: u32 = 65_000;
+
+/// Fewer events than are read of a text.
+const MOST_EVENTS: u32 = 990_000;
+
+impl<A: Allocator> Script<A> {
+    /// No event.
+    pub(crate) fn new(alloc: A) -> Script<A> {
+        Script {
+            parts: Vec::new(alloc),
+            steps: 0,
+        }
+    }
+
+    /// All parts, without the steps behind them.
+    pub(crate) fn parts(&self) -> &[Part] {
+        &self.parts
+    }
+
+    /// The steps behind all parts.
+    pub(crate) fn last_steps(&self) -> u32 {
+        self.steps
+    }
+
+    /// Adds a step.
+    pub(crate) fn add_step(&mut self) {
+        self.steps = self.steps.saturating_add(1);
+    }
+
+    /// Adds an event that is no step.
+    pub(crate) fn add(&mut self, event: &Event) -> Result<(), NoMemory> {
+        let part = Part {
+            steps: self.steps,
+            event: *event,
+        };
+        let Ok(()) = self.parts.push(part) else {
+            return Err(NoMemory);
+        };
+        self.steps = 0;
+        Ok(())
+    }
+
+    /// Adds all events of another script.
+    pub(crate) fn append(&mut self, more: &Script<A>) -> Result<(), NoMemory> {
+        for part in &more.parts {
+            let steps = self.steps.saturating_add(part.steps);
+            let event = part.event;
+            let Ok(()) = self.parts.push(Part { steps, event }) else {
+                return Err(NoMemory);
+            };
+            self.steps = 0;
+        }
+        self.steps = self.steps.saturating_add(more.steps);
+        Ok(())
+    }
+
+    /// The text of the events.
+    pub(crate) fn text(&self, alloc: A) -> Result<Vec<u8, A>, NoMemory> {
+        let mut text = String::new(alloc);
+        for part in &self.parts {
+            write_steps(&mut text, part.steps)?;
+            write_event(&mut text, part.event)?;
+        }
+        write_steps(&mut text, self.steps)?;
+        Ok(text.into_bytes())
+    }
+}
+
+/// Writes the line of some steps in a row, if there are any.
+fn write_steps<A: Allocator>(text: &mut String<A>, steps: u32) -> Result<(), NoMemory> {
+    match steps {
+        0 => Ok(()),
+        1 => writeln!(text, "step").map_err(|_| NoMemory),
+        _ => writeln!(text, "step {steps}").map_err(|_| NoMemory),
+    }
+}
+
+/// Writes the line of an event.
+fn write_event<A: Allocator>(text: &mut String<A>, event: Event) -> Result<(), NoMemory> {
+    let written = match event {
+        Event::Step => writeln!(text, "step"),
+        Event::Key(byte) => writeln!(text, "key {byte:03o}"),
+        Event::PrinterDone => writeln!(text, "printer"),
+        Event::ReaderDone(byte) => writeln!(text, "reader {byte:03o}"),
+        Event::PunchDone => writeln!(text, "punch"),
+        Event::Switches(word) => {
+            let value = word.value();
+            writeln!(text, "switches {value:04o}")
+        }
+        Event::Continue => writeln!(text, "continue"),
+    };
+    written.map_err(|_| NoMemory)
+}

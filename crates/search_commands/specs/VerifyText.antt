@@ -1,0 +1,85 @@
+-- What `verify` says, and when it is true.
+use Rattle.std.specs.Prelude.{ℕ, ◌≡◌, ◌++◌, ⊤, Bool, false, codes, decimal, List, [], Option, Some}
+use Rattle.word12.specs.Words.{octal_text}
+use Rattle.peripherals.specs.Loading.{image_of}
+use Rattle.declaration.specs.Declaration.{Declaration}
+use Rattle.policy.specs.declared.rules.Rule.{Rule}
+use Rattle.policy.specs.Watching.{number_of}
+use Rattle.certificate.specs.Kept.{meaning}
+use Rattle.certificate.specs.Reading.{AreLines}
+use Rattle.refuter.specs.Witnesses.{Breaks, IsLast, IsSpelled}
+use Rattle.verdict_texts.specs.CheckText.{IsYes, checked_case, yes_text}
+use Rattle.options.specs.declared.VerifyOptions.{VerifyOptions}
+use Rattle.command_parts.specs.declared.status.Status.{Status}
+use Rattle.command_parts.specs.declared.status.Status.TheVariants.{Done, Refused}
+use Rattle.command_parts.specs.declared.status.Fault.{Fault}
+use Rattle.command_parts.specs.declared.status.Fault.TheVariants as fault
+use Rattle.command_parts.specs.Inputs.{HasDeclaration, HasImage}
+use Rattle.search_commands.specs.declared.verifying.Lack.{Lack}
+use Rattle.search_commands.specs.declared.verifying.Lack.TheVariants.{Stuck, TurnsSpent}
+use Rattle.search_commands.specs.declared.verifying.Answer.{Answer}
+use Rattle.search_commands.specs.declared.verifying.Answer.TheVariants.{Yes, No, NotKnown}
+use Rattle.search_commands.specs.declared.verifying.Proposed.{Proposed}
+
+-- The answer is true of a tape's words and a declaration. After a yes every condition holds of the certificate, and so no
+-- run of the program breaks the declaration. After a no the run breaks it: its last event is the first step that isn't
+-- legal, and its text is read as these events. Where it isn't known nothing is said.
+abbrev pub IsAnswer : {A : Type 0} → List (Option ℕ) → Declaration → Answer A → Type 0
+IsAnswer image d (Yes c) = IsYes (checked_case image d (meaning c)) × AreLines (meaning c)
+IsAnswer image d (No w) = Breaks (image_of image) d w × IsSpelled w × IsLast w
+IsAnswer image d (NotKnown lack) = ⊤
+
+-- The line of a run whose event n breaks rule r.
+abbrev pub no_text : ℕ → Rule → List ℕ
+no_text n r = codes "no: event " ++ decimal n ++ codes " rule " ++ decimal (number_of r) ++ codes "\n"
+
+-- The line that says why it isn't known.
+abbrev pub lack_text : Lack → List ℕ
+lack_text (Stuck at) = (codes "not known: stuck at " ++ octal_text at) ++ codes "\n"
+lack_text TurnsSpent = codes "not known: turns spent" ++ codes "\n"
+
+-- The line of an answer. That of a yes is the line of `check`.
+abbrev pub answer_text : {A : Type 0} → Declaration → Answer A → List ℕ
+answer_text d (Yes c) = yes_text d
+answer_text d (No w) = no_text w.event w.rule
+answer_text d (NotKnown lack) = lack_text lack
+
+-- Only a yes is done.
+abbrev pub answer_status : {A : Type 0} → Answer A → Status
+answer_status (Yes c) = Done
+answer_status _ = Refused
+
+-- What is told of an answer: its line, and behind it, only where it is to be explained, some lines more, of which nothing is
+-- said here.
+pub record IsTold {A : Type 0} (d : Declaration) (answer : Answer A) (explained : Bool) (told : List ℕ) : Type 0 where
+  pub why : List ℕ
+  pub plain : explained ≡ false → why ≡ []
+  pub told_is : told ≡ answer_text d answer ++ why
+
+-- Memory was refused.
+abbrev pub IsMemoryFault : Fault → Type 0
+IsMemoryFault f = f ≡ fault.NoMemory
+
+-- The frames are a tape and the text is that of a declaration; the answer is true of them, and this is told of it.
+pub record IsVerified {A : Type 0} (frames text : Option (List ℕ)) (explained : Bool) (answer : Answer A) (told : List ℕ) : Type 0 where
+  pub image : List (Option ℕ)
+  pub tape : HasImage frames image
+  pub declaration : Declaration
+  pub declares : HasDeclaration text declaration
+  pub answers : IsAnswer image declaration answer
+  pub is : IsTold declaration answer explained told
+
+-- This is told of the one or the other answer.
+abbrev pub IsSomeAnswer : (A : Type 0) → Option (List ℕ) → Option (List ℕ) → Bool → List ℕ → Type 0
+IsSomeAnswer A frames text explained told = (answer : Answer A) × IsVerified frames text explained answer told
+
+-- The frames are a tape, and the text that is proposed declares a program that starts where it was asked to, on the machine
+-- that was asked for; the answer is true of them, and this is told of it.
+pub record IsProposedAnswer {A : Type 0} (frames : Option (List ℕ)) (options : VerifyOptions) (p : Proposed A) (told : List ℕ) : Type 0 where
+  pub verified : IsVerified frames (Some p.text.items) options.search.explained p.answer told
+  pub start_is : verified.declaration.start ≡ options.start
+  pub profile_is : verified.declaration.profile ≡ options.profile
+
+-- This is told of the one or the other answer for a declaration that is proposed.
+abbrev pub IsSomeProposedAnswer : (A : Type 0) → Option (List ℕ) → VerifyOptions → List ℕ → Type 0
+IsSomeProposedAnswer A frames options told = (p : Proposed A) × IsProposedAnswer frames options p told

@@ -1,0 +1,208 @@
+//! The lines that say what a step that breaks a rule is about to do. They are tested and not proved.
+#![tactic(auto)]
+
+ghost use Rattle.std.specs.Prelude.{◌≡◌, false, [], IfOk};
+
+use bin_tape::Image;
+use command_parts::text::{push_dump_line, push_place, push_word};
+use declaration::Declaration;
+use instruct::{Operation, refers_indirectly, target};
+use itoa::Buffer;
+use peripherals::{Event, NoMemory, Start};
+use policy::{Call, Rule, Watched, Watcher};
+use processor::{Cpu, effective_address, is_auto_index};
+use std::alloc::{AllocError, Allocator};
+use word12::Word;
+
+/// What a rule asks.
+fn asked(rule: Rule) -> &'static [u8] {
+    match rule {
+        Rule::StaysInBody =>
+            b"control stays in the running routine's body, at words that are supported",
+        Rule::WritesDeclared => b"writes hit declared variables only",
+        Rule::CallsEntries => b"a JMS goes to a declared entry",
+        Rule::ReturnsToItsCall => b"a return goes to a declared place after its own call",
+        Rule::HaltsDeclared => b"a HLT stands at a declared halt",
+        Rule::KeepsCode => b"code stays as punched",
+        Rule::ReadsListed => b"reads are of cells on the list of reads",
+    }
+}
+
+/// Adds the line that says what a rule asks.
+fn push_asked<A: Allocator>(text: &mut Vec<u8, A>, rule: Rule) -> Result<(), AllocError> {
+    text.extend_from_slice(b"rule ")?;
+    text.extend_from_slice(Buffer::new().format(rule.number()).as_bytes())?;
+    text.extend_from_slice(b": ")?;
+    text.extend_from_slice(asked(rule))?;
+    text.extend_from_slice(b"\n")
+}
+
+/// Adds a line that is a text, an address and a text.
+fn push_line<A: Allocator>(
+    text: &mut Vec<u8, A>,
+    before: &[u8],
+    at: Word,
+    after: &[u8],
+) -> Result<(), AllocError> {
+    push_place(text, before, at)?;
+    text.extend_from_slice(after)?;
+    text.extend_from_slice(b"\n")
+}
+
+/// Adds the line of a cell that is written: the pointer that is stepped, or what is stored into.
+fn push_write<A: Allocator, D: Allocator>(
+    text: &mut Vec<u8, A>,
+    declaration: &Declaration<D>,
+    cpu: &Cpu,
+    word: Word,
+) -> Result<(), AllocError> {
+    let named = target(word, cpu.pc);
+    let steps = refers_indirectly(word) && is_auto_index(named);
+    if steps && !declaration.is_variable(named) {
+        return push_line(
+            text,
+            b"it steps the pointer ",
+            named,
+            b", which is no variable",
+        );
+    }
+    let place = effective_address(&cpu.memory, word, cpu.pc);
+    push_line(text, b"it stores into ", place, b", which is no variable")
+}
+
+/// Adds the line of a cell that is read and isn't on the list: the pointer, or the operand.
+fn push_read<A: Allocator, D: Allocator>(
+    text: &mut Vec<u8, A>,
+    declaration: &Declaration<D>,
+    calls: &[Call],
+    cpu: &Cpu,
+    word: Word,
+) -> Result<(), AllocError> {
+    let named = target(word, cpu.pc);
+    let own = calls.last().is_some_and(|call| call.entry == named);
+    if refers_indirectly(word) && !declaration.may_read(named) && !own {
+        return push_line(
+            text,
+            b"it reads the pointer ",
+            named,
+            b", which isn't on the list",
+        );
+    }
+    let place = effective_address(&cpu.memory, word, cpu.pc);
+    push_line(text, b"it reads ", place, b", which isn't on the list")
+}
+
+/// Adds the line of a return: where it goes, and the call that it doesn't return from.
+fn push_return<A: Allocator>(
+    text: &mut Vec<u8, A>,
+    calls: &[Call],
+    cpu: &Cpu,
+    word: Word,
+) -> Result<(), AllocError> {
+    let entry = target(word, cpu.pc);
+    push_place(text, b"it goes to ", cpu.memory.get(entry))?;
+    push_place(text, b" by the word in the entry ", entry)?;
+    match calls.last() {
+        None => text.extend_from_slice(b"; no call is open\n"),
+        Some(call) => {
+            push_place(text, b"; the last call is of ", call.entry)?;
+            push_line(text, b", and the address after it is ", call.after, b"")
+        }
+    }
+}
+
+/// Adds the line that says what the step does that its rule doesn't allow.
+fn push_act<A: Allocator, D: Allocator>(
+    text: &mut Vec<u8, A>,
+    declaration: &Declaration<D>,
+    calls: &[Call],
+    cpu: &Cpu,
+    rule: Rule,
+) -> Result<(), AllocError> {
+    let word = cpu.memory.get(cpu.pc);
+    match rule {
+        Rule::StaysInBody => {
+            let inside = match calls.last() {
+                None => declaration.in_main(cpu.pc),
+                Some(call) => declaration.in_body(call.entry, cpu.pc),
+            };
+            if inside {
+                push_line(
+                    text,
+                    b"the word ",
+                    word,
+                    b" is no instruction of the declared machine",
+                )
+            } else {
+                push_line(text, b"", cpu.pc, b" isn't in the running routine's body")
+            }
+        }
+        Rule::WritesDeclared => push_write(text, declaration, cpu, word),
+        Rule::CallsEntries => {
+            let place = effective_address(&cpu.memory, word, cpu.pc);
+            push_line(text, b"it goes to ", place, b", which is no entry")
+        }
+        Rule::ReturnsToItsCall => push_return(text, calls, cpu, word),
+        Rule::HaltsDeclared => push_line(text, b"", cpu.pc, b" is no declared halt"),
+        Rule::KeepsCode => push_line(text, b"the word at ", cpu.pc, b" isn't the tape's"),
+        Rule::ReadsListed => push_read(text, declaration, calls, cpu, word),
+    }
+}
+
+/// Adds the line of the routine that runs, and where it was called from.
+fn push_running<A: Allocator>(text: &mut Vec<u8, A>, calls: &[Call]) -> Result<(), AllocError> {
+    match calls.last() {
+        None => text.extend_from_slice(b"the main program runs\n"),
+        Some(call) => {
+            push_place(text, b"the routine ", call.entry)?;
+            let site = call.after.add(Word::from_index(0o7777));
+            push_line(text, b" runs, called at ", site, b"")
+        }
+    }
+}
+
+/// What a step that breaks a rule is about to do: the instruction with its address, what the rule asks,
+/// what the step does in place of it, and the routine that runs.
+fn lines_of<A: Allocator, D: Allocator, C: Allocator>(
+    alloc: A,
+    declaration: &Declaration<D>,
+    watcher: &Watcher<C>,
+    rule: Rule,
+) -> Result<Vec<u8, A>, AllocError> {
+    let cpu = watcher.world().cpu();
+    let calls = watcher.calls();
+    let word = cpu.memory.get(cpu.pc);
+    let mut text = Vec::new(alloc);
+    push_dump_line(&mut text, cpu.pc, Some(word), declaration.profile())?;
+    push_asked(&mut text, rule)?;
+    push_act(&mut text, declaration, calls, cpu, rule)?;
+    push_running(&mut text, calls)?;
+    Ok(text)
+}
+
+/// The lines behind the verdict of a watched run: what the step is about to do that breaks a rule. There
+/// are none where they aren't asked for, or no rule is broken.
+pub fn breach_lines<A: Allocator + Copy, D: Allocator>(
+    alloc: A,
+    image: &Image,
+    declaration: &Declaration<D>,
+    events: &[Event],
+    watched: Watched,
+    explained: bool,
+) -> Result<Vec<u8, A>, NoMemory>
+    ensures { IfOk result (λ text. explained ≡ false → text.items ≡ []) }
+{
+    let Watched::Broken { event, rule } = watched else {
+        return Ok(Vec::new(alloc));
+    };
+    if !explained {
+        return Ok(Vec::new(alloc));
+    }
+    let mut watcher = Watcher::new(alloc, image, declaration, &Start::zero());
+    for index in 0..event {
+        if let Some(happened) = events.get(index) {
+            watcher.next(declaration, *happened)?;
+        }
+    }
+    Ok(lines_of(alloc, declaration, &watcher, rule)?)
+}

@@ -158,7 +158,11 @@ fn leave_out<A: Allocator>(bytes: &mut [u8], faulty: &Faulty<A>, marked: usize, 
         let end = end_of_tag(faulty, marked);
         return replace(bytes, marked, end, b' ');
     }
-    let filler = if is_again { b' ' } else { filler_of(bytes, faulty) };
+    let filler = if is_again {
+        b' '
+    } else {
+        filler_of(bytes, faulty)
+    };
     match faulty.body() {
         [] => replace(bytes, faulty.start, faulty.end, b' '),
         [_, equals, ..] if faulty.act() == Act::Assigns && filler == b'0' => {

@@ -3,10 +3,9 @@
 use crate::forms::{UNFINISHED, Words, about, end_of_small, misplaced};
 use crate::lines::{bytes_between, push_characters};
 use crate::meanings::number_of;
-use crate::pieces::{told_kind, tokens_from};
+use crate::pieces::{tokens_from, told_kind};
 use pal_acts::Code;
-use pal_text::Token;
-use pal_text::{Kind, Name};
+use pal_text::{Kind, Name, Token};
 use std::alloc::{AllocError, Allocator};
 
 /// What is told of a fault: the bytes of its part that are marked, what is wrong, and what to change.
@@ -91,7 +90,10 @@ fn about_digits<A: Allocator + Copy>(
     let mut wrong = String::new(alloc);
     push_characters(&mut wrong, digits)?;
     wrong.push_str(" isn't octal")?;
-    let mut advice = String::from_str(alloc, "numbers are octal until a statement DECIMAL: write ")?;
+    let mut advice = String::from_str(
+        alloc,
+        "numbers are octal until a statement DECIMAL: write ",
+    )?;
     match number_of(true, digits) {
         Ok(word) => {
             let value = word.value();

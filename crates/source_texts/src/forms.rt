@@ -1,6 +1,6 @@
 //! What has no place in a statement.
 
-use crate::pieces::{count_front_tokens, count_tag_tokens, told_kind, tokens_from};
+use crate::pieces::{count_front_tokens, count_tag_tokens, tokens_from, told_kind};
 use pal_text::{Kind, Token};
 
 /// What is wrong with a token, behind the token's text, and what to change.

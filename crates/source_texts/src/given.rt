@@ -51,11 +51,17 @@ fn about_other_value<A: Allocator + Copy>(
     push_written(&mut wrong, source, spot)?;
     match before.spot(&Name::new(written(source, spot))) {
         Some(first) => {
-            write!(wrong, " has the value {had} already, and would be {value} here")?;
+            write!(
+                wrong,
+                " has the value {had} already, and would be {value} here"
+            )?;
             push_other_advice(alloc, &mut advice, source, first, spot)?;
         }
         None => {
-            write!(wrong, " is a permanent symbol with the value {had}, and would be {value} here")?;
+            write!(
+                wrong,
+                " is a permanent symbol with the value {had}, and would be {value} here"
+            )?;
             advice.push_str("use another symbol")?;
         }
     }
@@ -79,7 +85,10 @@ fn about_direction<A: Allocator + Copy>(
     wrong.push_str(" can't be a symbol")?;
     let mut advice = String::new(alloc);
     if count_characters(written(source, spot)) > direction.len() {
-        write!(advice, "six characters of a symbol count, so it is {direction}: ")?;
+        write!(
+            advice,
+            "six characters of a symbol count, so it is {direction}: "
+        )?;
     }
     advice.push_str("use another symbol")?;
     Ok(Finding {

@@ -179,9 +179,13 @@ fn push_advice<A: Allocator>(
         return text.push_str("leave out Z: the address is on the page of this word");
     }
     if reference.is_indirect {
-        return text.push_str("I goes by a word on this page or on page zero: write one there that has the address");
+        return text.push_str(
+            "I goes by a word on this page or on page zero: write one there that has the address",
+        );
     }
-    text.push_str("write a word with that address on this page, with a tag, and refer to it by I, as in ")?;
+    text.push_str(
+        "write a word with that address on this page, with a tag, and refer to it by I, as in ",
+    )?;
     push_characters(text, operation)?;
     text.push_str(" I TAG")
 }
@@ -203,13 +207,25 @@ pub(crate) fn about_reference<A: Allocator + Copy>(
         return Ok(None);
     };
     let (start, end) = span_of(address);
-    let wrong = wrong_of(alloc, reference.is_on_page_zero, here, bytes, address, value)?;
+    let wrong = wrong_of(
+        alloc,
+        reference.is_on_page_zero,
+        here,
+        bytes,
+        address,
+        value,
+    )?;
     let mut advice = String::new(alloc);
     let operation = match faulty.body() {
         [first, ..] => bytes_between(bytes, first.start, first.end),
         [] => &[],
     };
-    push_advice(&mut advice, &reference, value.page() == here.page(), operation)?;
+    push_advice(
+        &mut advice,
+        &reference,
+        value.page() == here.page(),
+        operation,
+    )?;
     Ok(Some(Finding {
         start,
         end,

@@ -110,7 +110,9 @@ fn about_other_word(name: &Name) -> Option<&'static str> {
     match letters_of(name) {
         "PAGE" => Some("PAGE is left out here: write the address, as in *400"),
         "TEXT" => Some("TEXT is left out here: write the code of each character as a word"),
-        "ZBLOCK" => Some("ZBLOCK is left out here: write the zeros, or step over the cells, as in *.+10"),
+        "ZBLOCK" => Some(
+            "ZBLOCK is left out here: write the zeros, or step over the cells, as in *.+10",
+        ),
         "FIELD" | "CDF" | "CIF" | "RDF" | "RIF" | "RIB" | "RMF" => {
             Some("there is no extended memory here: leave the statement out")
         }

@@ -32,7 +32,7 @@ fn tell_faults<A: Allocator + Copy>(
     names: Option<&[&str]>,
     told: &mut String<A>,
 ) -> Result<(), AllocError>
-    ensures { names ≡ None → told.new ≡ told.old }
+    ensures { names.entry ≡ None → told.new ≡ told.old }
 {
     match names {
         Some(names) => push_faults(alloc, told, names, parts, profile),
@@ -52,7 +52,7 @@ fn translation_of<A: Allocator + Copy>(
         (symbols_in translation) (image_in translation)) }
     ensures faults { IfErr result (IsAssemblyFault profile (texts parts.now)) }
     ensures untold { OnOk result (told.new ≡ told.old) }
-    ensures unasked { names ≡ None → told.new ≡ told.old }
+    ensures unasked { names.entry ≡ None → told.new ≡ told.old }
 {
     match pal_asm::translate(alloc, parts, profile) {
         Ok(translation) => Ok(translation),
@@ -78,7 +78,7 @@ fn program_of<A: Allocator + Copy>(
         (symbols_of program) (listing_of program)) }
     ensures faults { IfErr result (IsAssemblyFault profile (texts parts.now)) }
     ensures untold { OnOk result (told.new ≡ told.old) }
-    ensures unasked { names ≡ None → told.new ≡ told.old }
+    ensures unasked { names.entry ≡ None → told.new ≡ told.old }
 {
     match pal_asm::assemble(alloc, parts, profile) {
         Ok(program) => Ok(program),
@@ -144,7 +144,7 @@ pub fn assemble<A: Allocator + Copy, R: ByteSource, W: ByteSink>(
         (map R.remaining sources.new) }
     // No lines are told but of faults, and none where no names are given.
     ensures untold { OnOk result (told.new ≡ told.old) }
-    ensures unasked { names ≡ None → told.new ≡ told.old }
+    ensures unasked { names.entry ≡ None → told.new ≡ told.old }
 {
     let parts = read_parts(alloc, sources)?;
     let slices = lend(alloc, &parts)?;
@@ -195,7 +195,7 @@ pub fn list<A: Allocator + Copy, R: ByteSource, W: ByteSink>(
     ensures takes { EachTakesAtMost 65537 (map R.remaining sources.old)
         (map R.remaining sources.new) }
     ensures untold { OnOk result (told.new ≡ told.old) }
-    ensures unasked { names ≡ None → told.new ≡ told.old }
+    ensures unasked { names.entry ≡ None → told.new ≡ told.old }
 {
     let parts = read_parts(alloc, sources)?;
     let slices = lend(alloc, &parts)?;

@@ -117,9 +117,23 @@ fn answered<A: Allocator + Copy>(
     let mut tape = plan.source(0, HALT);
     match command {
         Command::Assemble => {
-            assemble(alloc, &mut parts, Profile::Pdp8I, None, &mut String::new(alloc), out)
+            assemble(
+                alloc,
+                &mut parts,
+                Profile::Pdp8I,
+                None,
+                &mut String::new(alloc),
+                out,
+            )
         }
-        Command::List => list(alloc, &mut parts, Profile::Pdp8I, None, &mut String::new(alloc), out),
+        Command::List => list(
+            alloc,
+            &mut parts,
+            Profile::Pdp8I,
+            None,
+            &mut String::new(alloc),
+            out,
+        ),
         Command::Dump => dump(alloc, &mut tape, Profile::Pdp8I, out),
         Command::Run => run(alloc, &mut tape, options(false), out),
         Command::Trace => run(alloc, &mut tape, options(true), out),
@@ -393,7 +407,14 @@ fn faults_told<A: Allocator + Copy>(alloc: A, heap: Global) -> (Result<Status, F
     let mut parts = [FINE.source(0, FAULTY)];
     let mut out = FINE.sink(0, heap);
     let names = ["bad.pal"];
-    let answer = list(alloc, &mut parts, Profile::Pdp8I, Some(&names), &mut told, &mut out);
+    let answer = list(
+        alloc,
+        &mut parts,
+        Profile::Pdp8I,
+        Some(&names),
+        &mut told,
+        &mut out,
+    );
     (answer, told.as_str() == FAULTS && out.bytes().is_empty())
 }
 

@@ -46,9 +46,18 @@ fn a_read_that_fails_is_told(rt: HostRuntime) {
 
 /// Words that ask why, with a file of which a read fails, and what is told below the fault.
 const FAILING_WHYS: [(&str, &[u8]); 3] = [
-    ("pdp8 assemble o failing.pal halt.pal -w", b"pdp8: device: ReadFault\nfailing.pal can't be read\n"),
-    ("pdp8 list bad.pal failing.pal --why", b"pdp8: device: ReadFault\nfailing.pal can't be read\n"),
-    ("pdp8 list halt.pal absent --why", b"pdp8: device: ReadFault\nabsent can't be opened\n"),
+    (
+        "pdp8 assemble o failing.pal halt.pal -w",
+        b"pdp8: device: ReadFault\nfailing.pal can't be read\n",
+    ),
+    (
+        "pdp8 list bad.pal failing.pal --why",
+        b"pdp8: device: ReadFault\nfailing.pal can't be read\n",
+    ),
+    (
+        "pdp8 list halt.pal absent --why",
+        b"pdp8: device: ReadFault\nabsent can't be opened\n",
+    ),
 ];
 
 #[test]

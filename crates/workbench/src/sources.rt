@@ -83,9 +83,23 @@ fn tell_all<R: Eprint, S: ByteSource>(
     match fault {
         Fault::Source(fault) if fault.line == 0 => tell_size(rt, fault, names),
         Fault::Source(_) => tell_with(rt, fault, told),
-        Fault::EmptyImage => tell_with(rt, fault, "no statement is a word: list shows what the source has\n"),
-        Fault::Device(DeviceFault::Read) => tell_of(rt, fault, unread(names, parts), "can't be read"),
-        Fault::Device(DeviceFault::Write) => tell_of(rt, fault, output_name(out), "can't be written"),
+        Fault::EmptyImage => tell_with(
+            rt,
+            fault,
+            "no statement is a word: list shows what the source has\n",
+        ),
+        Fault::Device(DeviceFault::Read) => tell_of(
+            rt,
+            fault,
+            unread(names, parts),
+            "can't be read",
+        ),
+        Fault::Device(DeviceFault::Write) => tell_of(
+            rt,
+            fault,
+            output_name(out),
+            "can't be written",
+        ),
         _ => tell(rt, fault),
     }
 }
@@ -126,7 +140,14 @@ fn assemble_or_tell<R: Files + Input + Print + Eprint>(
         return tell_of(rt, fault, unopened(names, parts.len()), "can't be opened");
     }
     let mut told = String::new(alloc);
-    match assemble(alloc, &mut parts, profile, Some(names), &mut told, &mut tape) {
+    match assemble(
+        alloc,
+        &mut parts,
+        profile,
+        Some(names),
+        &mut told,
+        &mut tape,
+    ) {
         Ok(status) => status,
         Err(fault) => tell_all(rt, fault, names, &parts, out, &told),
     }

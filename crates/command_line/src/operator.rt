@@ -106,7 +106,9 @@ pub fn with_events<'a>(
 ) -> Result<Command<'a>, AllocError> {
     let events = Arg::new(alloc, "EVENTS")
         .required_unless_present_any(&WATCHED)?
-        .help("the events that happen, or - for standard input; the words for an operator stand in its place");
+        .help(
+            "the events that happen, or - for standard input; the words for an operator stand in its place",
+        );
     watch
         .arg(events)?
         .arg(reader_word(alloc))?

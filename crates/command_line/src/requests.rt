@@ -1,6 +1,9 @@
 //! The program's words.
 
-use crate::operator::{Session, WatchedSession, has_operator, is_watched_with_operator, session_of, watched_session_of, with_events, with_operator};
+use crate::operator::{
+    Session, WatchedSession, has_operator, is_watched_with_operator, session_of,
+    watched_session_of, with_events, with_operator,
+};
 use clap::error::ErrorKind;
 use clap::{Arg, ArgAction, ArgMatches, Command, Error};
 use instruct::Profile;

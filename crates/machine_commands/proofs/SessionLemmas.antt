@@ -374,7 +374,7 @@ operated_broke comes p trace w outcome x reported typed unread old new told tell
 abbrev device_seen : Bool → Seen
 device_seen enabled = if enabled then seen.Changed else seen.NotEnabled
 
-device_goes : (enabled : Bool) → goes_on true (device_seen enabled) ≡ true
+pub device_goes : (enabled : Bool) → goes_on true (device_seen enabled) ≡ true
 device_goes true = refl
 device_goes false = refl
 
@@ -392,7 +392,7 @@ output_stays : (busy : Bool) (d : Writer) → (if busy then record d { busy = fa
 output_stays true d = refl
 output_stays false d = refl
 
-abbrev printer_done : WorldState → WorldState
+abbrev pub printer_done : WorldState → WorldState
 printer_done w = with_devices w (record w.devices { printer = done w.devices.printer })
 
 -- such an event writes nothing, and prints nothing where the output stays

@@ -11,19 +11,15 @@ use Rattle.peripherals.specs.Seen.{puts_out, seen_of}
 use Rattle.options.specs.declared.Manner.{Manner}
 use Rattle.options.specs.declared.TeletypeOptions.{TeletypeOptions}
 use Rattle.machine_commands.specs.Follows.{goes_on}
-use Rattle.machine_commands.specs.Schedule.{Comes, Over, Cut, Final, Then, Extent, UpToOutput, UpToRead, UpToAny}
+use Rattle.machine_commands.specs.Cuts.{some_left}
+use Rattle.machine_commands.specs.Schedule.{Comes, Over, Cut, Final, Then, Extent, UpToOutput, UpToRead}
 use Rattle.machine_commands.specs.SessionParts.{rank, steps_in}
 use Rattle.machine_commands.specs.Teletype.{AreAll}
 use Rattle.machine_commands.specs.Typing.{answer_due, asked_after, is_read, read_due, typed_as, typed_due, typing}
 use Rattle.machine_commands.specs.TypingParts.{Answered, Brought, IsLeft, Source, Types, bytes_left, frames_left, rounds_left, typed_plan}
 use Rattle.machine_commands.proofs.SessionLemmas.{device_goes, printer_done}
 
--- some bytes are still to come of each source
-some_left : (told : Option (List ℕ)) (ended : Bool) → (left : List ℕ) × IsLeft told ended left
-some_left None ended = ([], λ yes. refl)
-some_left (Some bytes) ended = (bytes, refl)
-
--- and they are all that it tells
+-- the bytes that are left are all that a source tells
 pub all_left : (told : Option (List ℕ)) (ended : Bool) (left : List ℕ) → IsLeft told ended left → AreAll told left
 all_left None ended left is = tt
 all_left (Some bytes) ended left is = is
@@ -246,18 +242,6 @@ types_read options w asked rounds last reader keys p is =
       frames_are = frames.1;
       bytes_are = bytes.1;
       come = Cut (record { plan = typed_plan options rounds frames.0 bytes.0; last = last; asked = asked }) w is;
-    }
-
-pub types_anywhere : (options : TeletypeOptions) (w : WorldState) (asked : Bool) (rounds : ℕ) (last : Option Event) (reader keys : Source) (p : Profile) → Types options asked rounds last reader keys p w UpToAny []
-types_anywhere options w asked rounds last reader keys p =
-    let frames = some_left reader.told reader.ended in
-    let bytes = some_left keys.told keys.ended in
-    record {
-      frames = frames.0;
-      bytes = bytes.0;
-      frames_are = frames.1;
-      bytes_are = bytes.1;
-      come = Cut (record { plan = typed_plan options rounds frames.0 bytes.0; last = last; asked = asked }) w tt;
     }
 
 -- after an instruction the two completions come

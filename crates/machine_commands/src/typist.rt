@@ -1,13 +1,16 @@
 //! Who sits at the teletype: strikes a key where the program asks for one, and has a tape in the
 //! reader. Frames and keys are read one by one, each when it is due.
 
-ghost use Rattle.std.specs.Prelude.{ℕ, ◌≡◌, ◌==◌, false, true, not, ◌&&◌, ◌⊎◌, None, Some, Ok, List, [], ◌∷◌, IfOk, IfSome, OnErr, is_err};
-ghost use Rattle.instruct.specs.Devices.{word_of};
+ghost use Rattle.std.specs.Prelude.{ℕ, ◌≡◌, ◌||◌, false, true, None, Some, Ok, List, [], ◌∷◌, IfOk, IfSome, OnErr, is_err};
 ghost use Rattle.peripherals.specs.Operator.{round_due, struck_as};
-ghost use Rattle.peripherals.specs.World.{view};
-ghost use Rattle.machine_commands.specs.Typing.{asked_after, asks, typed_as};
+ghost use Rattle.peripherals.specs.declared.Event.TheVariants.{PunchDone};
+ghost use Rattle.peripherals.specs.Events.{completed};
+ghost use Rattle.peripherals.specs.World.{view, profile_of};
+ghost use Rattle.machine_commands.specs.Typing.{asked_after, asks, is_read, typed_as};
 ghost use Rattle.machine_commands.specs.TypingParts.{Answered, Brought, IsLeft, rounds_left, source};
 
+use crate::schedule::Scheduler;
+use command_parts::status::{DeviceFault, Fault};
 pub use options::{Manner, TeletypeOptions};
 use peripherals::{Event, World};
 use std::alloc::Allocator;
@@ -71,6 +74,15 @@ fn typed_as(byte: u8, manner: Manner) -> u8
     } else {
         struck_as(byte, true)
     }
+}
+
+/// The printer and the punch get done.
+fn complete<A: Allocator>(world: &mut World<A>)
+    ensures done { view world.new ≡ completed (view world.old) }
+    ensures profile { profile_of world.new ≡ profile_of world.old }
+{
+    let _printed = world.apply(Event::PrinterDone);
+    let _punched = world.apply(Event::PunchDone);
 }
 
 impl<F: ByteSource, K: ByteSource> Typist<F, K> {
@@ -214,19 +226,26 @@ impl<F: ByteSource, K: ByteSource> Typist<F, K> {
 }
 
 impl<F: ByteSource, K: ByteSource> Scheduler for Typist<F, K> {
+    ghost use Rattle.std.specs.Prelude.{◌+◌, ◌*◌};
+    ghost use Rattle.machine_commands.specs.SessionParts.{has_stepped, rank};
     ghost use Rattle.machine_commands.specs.TypingParts.{Types};
+    ghost use Rattle.machine_commands.specs.Cuts.{types_anywhere};
 
-    ghost comes = { λ t p w extent events. Types t.options t.asked t.rounds t.last
+    ghost brings = { λ t p w extent events. Types t.options t.asked t.rounds t.last
         (source (F.remaining t.reader) (F.ended t.reader))
         (source (K.remaining t.keys) (K.ended t.keys)) p w extent events };
 
-    ghost left = { λ t. left_of t.rounds t.last };
+    ghost events_to_come = { λ t. t.rounds * 5 + rank t.last };
 
-    ghost rounds = { λ t. t.rounds };
+    ghost steps_to_come = { λ t. t.rounds };
 
-    ghost failed = { λ t. F.mark t.reader || K.mark t.keys };
+    ghost unread = { λ t. F.mark t.reader || K.mark t.keys };
 
     ghost stepped = { λ t. has_stepped t.last };
+
+    ghost anywhere = { λ t p w. types_anywhere t.options w t.asked t.rounds t.last
+        (source (F.remaining t.reader) (F.ended t.reader))
+        (source (K.remaining t.keys) (K.ended t.keys)) p };
 
     fn next_event<A: Allocator>(&mut self, world: &World<A>) -> Result<Option<Event>, Fault> {
         match self.due(world) {
@@ -240,7 +259,7 @@ impl<F: ByteSource, K: ByteSource> Scheduler for Typist<F, K> {
     }
 
     fn complete_devices<A: Allocator>(&mut self, world: &mut World<A>) {
+        complete(world);
         self.last = Some(Event::PunchDone);
-        ...
     }
 }

@@ -4,5 +4,5 @@
 mod operator;
 mod requests;
 
-pub use operator::{Joined, Session, WatchedSession};
+pub use operator::{Joined, Session, TeletypeSession, WatchedSession};
 pub use requests::{Refused, Request, parse_words};

@@ -1,8 +1,8 @@
 //! The words of a run with an operator.
 
-use crate::requests::{Refused, run_options, share_standard_input};
+use crate::requests::{Refused, profile_of, run_options, share_standard_input, start_of};
 use clap::{Arg, ArgAction, ArgMatches, Command};
-use options::SessionOptions;
+use options::{Manner, SessionOptions, TeletypeOptions};
 use std::alloc::{AllocError, Global};
 use word12::Word;
 
@@ -32,6 +32,19 @@ pub struct WatchedSession<'a> {
     pub options: SessionOptions,
     /// Whether it is said what breaks a rule.
     pub explained: bool,
+}
+
+/// A session at the teletype, as the words ask for it. The keys come from standard input.
+#[derive(Clone, Copy, Debug)]
+pub struct TeletypeSession<'a> {
+    /// The name of the tape's file.
+    pub tape: &'a str,
+    /// The name of the file whose frames are in the reader.
+    pub reader: Option<&'a str>,
+    /// The name of the file that the punched bytes go to.
+    pub punch: Option<&'a str>,
+    /// How it is held.
+    pub options: TeletypeOptions,
 }
 
 /// What the devices of a machine are joined to.
@@ -77,22 +90,39 @@ fn switches_word<'a>(alloc: Global) -> Arg<'a> {
         )
 }
 
-/// Adds the words for the reader, the punch, the teletype and the switches.
-pub fn with_operator<'a>(alloc: Global, run: Command<'a>) -> Result<Command<'a>, AllocError> {
-    let punch = Arg::new(alloc, "punch")
+fn punch_word<'a>(alloc: Global) -> Arg<'a> {
+    Arg::new(alloc, "punch")
         .long("punch")
         .value_name("FILE")
-        .help("where the punched bytes go; it is emptied first");
+        .help("where the punched bytes go; it is emptied first")
+}
+
+/// Adds the words for the reader, the punch, the teletype and the switches.
+pub fn with_operator<'a>(alloc: Global, run: Command<'a>) -> Result<Command<'a>, AllocError> {
     let teletype = Arg::new(alloc, "teletype")
         .long("teletype")
         .action(ArgAction::SetTrue)
         .help("what is printed goes to standard output, all else to standard error");
     run.arg(reader_word(alloc))?
-        .arg(punch)?
+        .arg(punch_word(alloc))?
         .arg(keys_word(alloc))?
         .arg(mark_word(alloc))?
         .arg(teletype)?
         .arg(switches_word(alloc))
+}
+
+/// Adds the words for the reader, the punch, the switches and the keys of a session at the teletype.
+pub fn with_typist<'a>(alloc: Global, teletype: Command<'a>) -> Result<Command<'a>, AllocError> {
+    let raw = Arg::new(alloc, "raw")
+        .long("raw")
+        .action(ArgAction::SetTrue)
+        .help("strikes the bytes of keys as they come: no carriage return for a line feed, no channel 8");
+    teletype
+        .arg(reader_word(alloc))?
+        .arg(punch_word(alloc))?
+        .arg(switches_word(alloc))?
+        .arg(mark_word(alloc))?
+        .arg(raw)
 }
 
 /// The words of an operator that stand in place of a list of events where a run is watched.
@@ -203,5 +233,32 @@ pub fn watched_session_of<'a>(
         keys,
         options: session_options(found)?,
         explained: found.get_flag("why"),
+    })
+}
+
+/// The session at the teletype that the words of `teletype` ask for.
+pub fn teletype_of<'a>(found: &ArgMatches<'a>) -> Result<TeletypeSession<'a>, Refused> {
+    let tape = found.get_str("TAPE").unwrap_or("-");
+    let reader = found.get_str("reader");
+    let punch = found.get_str("punch");
+    if share_standard_input(&[tape, reader.unwrap_or(""), "-"]) {
+        return Err(Refused::BothStandardInput);
+    }
+    if punch == Some("-") {
+        return Err(Refused::PunchToOutput);
+    }
+    Ok(TeletypeSession {
+        tape,
+        reader,
+        punch,
+        options: TeletypeOptions {
+            start: start_of(found)?,
+            profile: profile_of(found)?,
+            switches: switches_of(found)?,
+            manner: Manner {
+                raw: found.get_flag("raw"),
+                mark: found.get_flag("mark"),
+            },
+        },
     })
 }

@@ -1,8 +1,8 @@
 //! The program's words.
 
 use crate::operator::{
-    Session, WatchedSession, has_operator, is_watched_with_operator, session_of,
-    watched_session_of, with_events, with_operator,
+    Session, TeletypeSession, WatchedSession, has_operator, is_watched_with_operator, session_of, teletype_of,
+    watched_session_of, with_events, with_operator, with_typist,
 };
 use clap::error::ErrorKind;
 use clap::{Arg, ArgAction, ArgMatches, Command, Error};
@@ -61,6 +61,8 @@ pub enum Request<'a> {
     },
     /// To run a tape with an operator.
     Session(Session<'a>),
+    /// To hold a session at the teletype.
+    Teletype(TeletypeSession<'a>),
     /// To list the words of a tape.
     Dump {
         /// The name of the tape's file.
@@ -257,6 +259,18 @@ fn run_command<'a>(alloc: Global) -> Result<Command<'a>, AllocError> {
         .arg(trace)?
         .arg(profile_word(alloc))?;
     with_operator(alloc, run)
+}
+
+fn teletype_command<'a>(alloc: Global) -> Result<Command<'a>, AllocError> {
+    let teletype = Command::new(alloc, "teletype")
+        .about("Runs a tape with you at the teletype: what it prints comes at once, and it gets a key when it asks")
+        .after_help(
+            "Keys come from standard input, what is printed goes to standard output, and the summary to standard error. The session ends at a halt, at a word that isn't supported, and where a key is asked for and none is left.\n\nExample:\n  pdp8 teletype echo.bin",
+        )
+        .arg(tape_word(alloc))?
+        .arg(start_word(alloc))?
+        .arg(profile_word(alloc))?;
+    with_typist(alloc, teletype)
 }
 
 fn dump_command<'a>(alloc: Global) -> Result<Command<'a>, AllocError> {
@@ -457,6 +471,7 @@ fn command<'a>(alloc: Global) -> Result<Command<'a>, AllocError> {
         .subcommand_required(true)
         .subcommand(verify_command(alloc)?)?
         .subcommand(run_command(alloc)?)?
+        .subcommand(teletype_command(alloc)?)?
         .subcommand(dump_command(alloc)?)?
         .subcommand(assemble_command(alloc)?)?
         .subcommand(list_command(alloc)?)?
@@ -468,7 +483,7 @@ fn command<'a>(alloc: Global) -> Result<Command<'a>, AllocError> {
         .subcommand(migrate_command(alloc)?)
 }
 
-fn profile_of(found: &ArgMatches<'_>) -> Result<Profile, Refused> {
+pub(crate) fn profile_of(found: &ArgMatches<'_>) -> Result<Profile, Refused> {
     match found.get_str("profile") {
         None | Some("8i") => Ok(Profile::Pdp8I),
         Some("8e") => Ok(Profile::Pdp8E),
@@ -476,7 +491,7 @@ fn profile_of(found: &ArgMatches<'_>) -> Result<Profile, Refused> {
     }
 }
 
-fn start_of(found: &ArgMatches<'_>) -> Result<Word, Refused> {
+pub(crate) fn start_of(found: &ArgMatches<'_>) -> Result<Word, Refused> {
     Ok(Word::from_octal(found.get_str("start").unwrap_or("0200").as_bytes())?)
 }
 
@@ -678,6 +693,7 @@ pub fn parse_words<'a, S: AsStr>(alloc: Global, words: &'a [S]) -> Result<Reques
             tape: found.get_str("TAPE").unwrap_or("-"),
             profile: profile_of(found)?,
         }),
+        Some(("teletype", found)) => Ok(Request::Teletype(teletype_of(found)?)),
         Some(("assemble", found)) => assemble_request(alloc, found),
         Some(("list", found)) => list_request(alloc, found),
         Some(("watch", found)) => watch_request(found),

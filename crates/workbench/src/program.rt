@@ -3,7 +3,7 @@
 ghost use Rattle.std.specs.Prelude.{◌≤◌};
 
 use crate::files::{open_input, open_inputs, open_output};
-use crate::joined::{hold_session, tell_to, watch_joined};
+use crate::joined::{hold_session, sit_down, tell_to, watch_joined};
 use crate::saving::{save_answer, save_proposed};
 use clap::Error;
 use command_line::{Refused, Request, parse_words};
@@ -135,6 +135,7 @@ fn answer<R: Files + Input + Print + Eprint>(
             options,
         } => run_from(rt, alloc, tape, *events, *options),
         Request::Session(session) => hold_session(rt, alloc, session),
+        Request::Teletype(session) => sit_down(rt, alloc, session),
         Request::Dump { tape, profile } => dump_from(rt, alloc, tape, *profile),
         Request::Assemble {
             out,

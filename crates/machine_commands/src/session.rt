@@ -94,65 +94,65 @@ fn character_at(bytes: &[u8], index: usize) -> [u8; 1]
 
 /// Applies one event, adds its line to the trace if one is asked for, and types what it printed.
 #[inline(always)]
-fn play<A: Allocator, W: ByteSink, T: ByteSink, P>(
+fn play<A: Allocator, W: ByteSink, T: ByteSink>(
     world: &mut World<A>,
-    out: &mut Outputs<W, T, P>,
+    report: &mut W,
+    teletype: &mut T,
     trace: bool,
     event: Event,
 ) -> Result<Seen, Fault>
-    requires writable { W.mark out.old.report ≡ false }
-    requires typable { T.mark out.old.teletype ≡ false }
+    requires writable { W.mark report.old ≡ false }
+    requires typable { T.mark teletype.old ≡ false }
     ensures played { IfOk result (λ seen.
         Played (profile_of world.old) trace (view world.old) event seen (view world.new)
-        (W.taken out.old.report) (W.taken out.new.report)
-        (T.taken out.old.teletype) (T.taken out.new.teletype)) }
+        (W.taken report.old) (W.taken report.new)
+        (T.taken teletype.old) (T.taken teletype.new)) }
     ensures front { OnErr result
         (PlayedFront (profile_of world.old) trace (view world.old) event (view world.new)
-        (W.mark out.new.report) (T.mark out.new.teletype)
-        (W.taken out.old.report) (W.taken out.new.report)
-        (T.taken out.old.teletype) (T.taken out.new.teletype)) }
+        (W.mark report.new) (T.mark teletype.new)
+        (W.taken report.old) (W.taken report.new)
+        (T.taken teletype.old) (T.taken teletype.new)) }
     ensures profile { profile_of world.new ≡ profile_of world.old }
-    ensures punch { out.new.punch ≡ out.old.punch }
     ensures faults { IfErr result IsRunFault }
-    ensures marks { W.mark out.new.report || T.mark out.new.teletype ≡ fails_to_write result }
+    ensures marks { W.mark report.new || T.mark teletype.new ≡ fails_to_write result }
 {
     let before = world.printed().len();
-    let seen = apply_event(world, &mut out.report, trace, event)?;
-    type_printed(&event, world.printed(), before, &mut out.teletype)?;
+    let seen = apply_event(world, report, trace, event)?;
+    type_printed(&event, world.printed(), before, teletype)?;
     Ok(seen)
 }
 
 /// Lets happen what a schedule brings. The run ends early at a halt and at an unsupported word.
-fn operate<A: Allocator, S: Scheduler, W: ByteSink, T: ByteSink, P>(
+pub(crate) fn operate<A: Allocator, S: Scheduler, W: ByteSink, T: ByteSink>(
     world: &mut World<A>,
     schedule: &mut S,
     trace: bool,
-    out: &mut Outputs<W, T, P>,
+    report: &mut W,
+    teletype: &mut T,
 ) -> Result<Outcome, Fault>
-    requires writable { W.mark out.old.report ≡ false }
-    requires typable { T.mark out.old.teletype ≡ false }
+    requires writable { W.mark report.old ≡ false }
+    requires typable { T.mark teletype.old ≡ false }
     requires readable { S.unread schedule.old ≡ false }
     requires few { S.steps_to_come schedule.old < 18446744073709551616 }
     requires unprinted { (view world.old).devices.printer.output ≡ [] }
     ensures ran { IfOk result (λ outcome.
         Operated (S.brings schedule.old (profile_of world.old) (view world.old))
         (profile_of world.old) trace (view world.old) outcome
-        (view world.new) (W.taken out.old.report) (W.taken out.new.report)
-        (T.taken out.old.teletype) (T.taken out.new.teletype)) }
+        (view world.new) (W.taken report.old) (W.taken report.new)
+        (T.taken teletype.old) (T.taken teletype.new)) }
     ensures broke { OnErr result
         (BrokeOff (S.brings schedule.old (profile_of world.old) (view world.old))
         (profile_of world.old) trace (view world.old) (view world.new)
-        (W.mark out.new.report) (T.mark out.new.teletype) (S.unread schedule.new)
-        (W.taken out.old.report) (W.taken out.new.report)
-        (T.taken out.old.teletype) (T.taken out.new.teletype)) }
-    ensures punch { out.new.punch ≡ out.old.punch }
+        (W.mark report.new) (T.mark teletype.new) (S.unread schedule.new)
+        (W.taken report.old) (W.taken report.new)
+        (T.taken teletype.old) (T.taken teletype.new)) }
     ensures faults { IfErr result IsHeldFault }
-    ensures marks { W.mark out.new.report || T.mark out.new.teletype ≡ fails_to_write result }
+    ensures marks { W.mark report.new || T.mark teletype.new ≡ fails_to_write result }
     ensures reads { S.unread schedule.new ≡ fails_to_read result }
 {
     let mut steps = 0;
     while let Some(event) = schedule.next_event(world)? {
-        match play(world, out, trace, event)? {
+        match play(world, report, teletype, trace, event)? {
             Seen::Ran => {
                 steps += 1;
                 schedule.complete_devices(world);
@@ -219,11 +219,16 @@ pub(crate) fn attend<
         (fails_to_read result ≡ true) ⊎ (P.mark out.new.punch ≡ true) }
 {
     let mut world = World::load(alloc, image, options.start, &Start::zero(), options.profile);
-    let ran = operate(&mut world, schedule, options.trace, out);
-    put(&mut out.punch, world.punched())?;
+    let Outputs {
+        report,
+        teletype,
+        punch,
+    } = out;
+    let ran = operate(&mut world, schedule, options.trace, report, teletype);
+    put(punch, world.punched())?;
     let outcome = ran?;
     let text = closing_of(alloc, &outcome, &world, apart)?;
-    put(&mut out.report, &text)?;
+    put(report, &text)?;
     Ok(status_of(outcome.end))
 }
 

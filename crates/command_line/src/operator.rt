@@ -116,7 +116,9 @@ pub fn with_typist<'a>(alloc: Global, teletype: Command<'a>) -> Result<Command<'
     let raw = Arg::new(alloc, "raw")
         .long("raw")
         .action(ArgAction::SetTrue)
-        .help("strikes the bytes of keys as they come: no carriage return for a line feed, no channel 8");
+        .help(
+            "strikes the bytes of keys as they come: no carriage return for a line feed, no channel 8",
+        );
     teletype
         .arg(reader_word(alloc))?
         .arg(punch_word(alloc))?

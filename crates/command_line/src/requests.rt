@@ -1,8 +1,8 @@
 //! The program's words.
 
 use crate::operator::{
-    Session, TeletypeSession, WatchedSession, has_operator, is_watched_with_operator, session_of, teletype_of,
-    watched_session_of, with_events, with_operator, with_typist,
+    Session, TeletypeSession, WatchedSession, has_operator, is_watched_with_operator, session_of,
+    teletype_of, watched_session_of, with_events, with_operator, with_typist,
 };
 use clap::error::ErrorKind;
 use clap::{Arg, ArgAction, ArgMatches, Command, Error};
@@ -263,7 +263,9 @@ fn run_command<'a>(alloc: Global) -> Result<Command<'a>, AllocError> {
 
 fn teletype_command<'a>(alloc: Global) -> Result<Command<'a>, AllocError> {
     let teletype = Command::new(alloc, "teletype")
-        .about("Runs a tape with you at the teletype: what it prints comes at once, and it gets a key when it asks")
+        .about(
+            "Runs a tape with you at the teletype: what it prints comes at once, and it gets a key when it asks",
+        )
         .after_help(
             "Keys come from standard input, what is printed goes to standard output, and the summary to standard error. The session ends at a halt, at a word that isn't supported, and where a key is asked for and none is left.\n\nExample:\n  pdp8 teletype echo.bin",
         )

@@ -5,7 +5,7 @@ use Rattle.std.proofs.KnownBytes.{Appends-nil, Appends-trans}
 use Rattle.std.proofs.Transfers.{drop-appended}
 use Rattle.std.proofs.lemmas.List.{map-append, take-append-le, drop_all, length-map}
 use Rattle.std.proofs.Math.Seq.{drop-cons, take-append-add}
-use Rattle.std.specs.Prelude.{IfErr, is_some}
+use Rattle.std.specs.Prelude.{IfErr, IfSome, is_some}
 use Rattle.streams.specs.Bytes.{AppendsFront, Gave}
 use Rattle.instruct.specs.declared.Profile.{Profile}
 use Rattle.instruct.specs.Devices.{word_of}
@@ -553,6 +553,41 @@ operator_next old new w e is left next = record {
   output = λ p puts. Cut (place_of old) w (record { event = e; is_due = is; puts = puts });
 }
 
+-- the last event was an instruction
+pub step_was : (last : Option Event) → has_stepped last ≡ true → last ≡ Some Step
+step_was (Some Step) is = refl
+step_was None is = absurd (true≢false (sym is))
+step_was (Some (Key key)) is = absurd (true≢false (sym is))
+step_was (Some PrinterDone) is = absurd (true≢false (sym is))
+step_was (Some (ReaderDone frame)) is = absurd (true≢false (sym is))
+step_was (Some PunchDone) is = absurd (true≢false (sym is))
+step_was (Some (Switches word)) is = absurd (true≢false (sym is))
+step_was (Some Continue) is = absurd (true≢false (sym is))
+
+-- an answer that is one
+pub ok_is : {T E : Type 0} (a b : T) (r : Result T E) → r ≡ Ok a → r ≡ Ok b → a ≡ b
+ok_is a b r one other = let same : Ok a ≡ Ok b = sym one ∙ other in cc
+
+-- what an operator answers
+pub some_next : (o : Option Event) (old new : Operator) (w : WorldState) → o ≡ due (plan_of old) w old.last → IfSome o (λ e. plan_of new ≡ left_after e (plan_of old)) → IfSome o (λ e. new.last ≡ Some e) →
+    IfSome o (IsNext (λ (o : Operator) (p : Profile) (v : WorldState) (extent : Extent) (es : List Event). Comes operating p extent (place_of o) v es) old new w)
+some_next None old new w is left last = tt
+some_next (Some e) old new w is left last = operator_next old new w e (sym is) left last
+
+pub some_fewer : (o : Option Event) (old new : Operator) (w : WorldState) → o ≡ due (plan_of old) w old.last → IfSome o (λ e. plan_of new ≡ left_after e (plan_of old)) → IfSome o (λ e. new.last ≡ Some e) →
+    IfSome o (λ e. events_left (plan_of new) new.last < events_left (plan_of old) old.last)
+some_fewer None old new w is left last = tt
+some_fewer (Some e) old new w is left last = fewer (plan_of old) (plan_of new) w old.last new.last e (sym is) left last
+
+pub some_counts : (o : Option Event) (old new : Operator) (w : WorldState) → o ≡ due (plan_of old) w old.last → IfSome o (λ e. plan_of new ≡ left_after e (plan_of old)) →
+    IfSome o (λ e. steps_in e + new.rounds ≤ old.rounds)
+some_counts None old new w is left = tt
+some_counts (Some e) old new w is left = due_counts (plan_of old) (plan_of new) w old.last e (sym is) left
+
+pub some_stepped : (o : Option Event) (last : Option Event) → IfSome o (λ e. last ≡ Some e) → IfSome o (λ e. e ≡ Step → has_stepped last ≡ true)
+some_stepped None last is = tt
+some_stepped (Some e) last is = λ step. rw (is, step) refl
+
 -- after an instruction the two completions are due, with an operator
 pub operator_completes : (old new : Operator) (w : WorldState) (p : Profile) (extent : Extent) (es : List Event) → has_stepped old.last ≡ true → plan_of new ≡ plan_of old → new.last ≡ Some PunchDone →
     Comes operating p extent (place_of new) (completed w) es → Comes operating p extent (place_of old) w (PrinterDone ∷ PunchDone ∷ es)
@@ -563,16 +598,10 @@ operator_completes old new w p extent es stepped left last comes =
     let half : Comes operating p extent (record { plan = plan_of old; last = Some PrinterDone }) mid (PunchDone ∷ es) =
     Then (record { plan = plan_of old; last = Some PrinterDone }) mid (completed w) PunchDone es refl (device_goes mid.devices.punch.busy) refl after in
     rw begins (Then (record { plan = plan_of old; last = Some Step }) w mid PrinterDone (PunchDone ∷ es) refl (device_goes w.devices.printer.busy) refl half)
-  where
-    step_was : (last : Option Event) → has_stepped last ≡ true → last ≡ Some Step
-    step_was (Some Step) is = refl
-    step_was None is = absurd (true≢false (sym is))
-    step_was (Some (Key key)) is = absurd (true≢false (sym is))
-    step_was (Some PrinterDone) is = absurd (true≢false (sym is))
-    step_was (Some (ReaderDone frame)) is = absurd (true≢false (sym is))
-    step_was (Some PunchDone) is = absurd (true≢false (sym is))
-    step_was (Some (Switches word)) is = absurd (true≢false (sym is))
-    step_was (Some Continue) is = absurd (true≢false (sym is))
+
+-- with an operator fewer events are left after the completions
+pub completed_fewer : (old new : Operator) → has_stepped old.last ≡ true → plan_of new ≡ plan_of old → new.last ≡ Some PunchDone → events_left (plan_of new) new.last ≤ events_left (plan_of old) old.last
+completed_fewer old new stepped left last = rw (left, last, step_was old.last stepped) (omega arith)
 
 -- Bytes that are typed one by one: these went out, and with those still to come they are all.
 pub record Typed (told now : Option (List ℕ)) (bytes : List ℕ) (from index : ℕ) : Type 0 where

@@ -1,7 +1,7 @@
 # Completions of pdp8 for bash.
 _pdp8() {
     local word=${COMP_WORDS[COMP_CWORD]} before=${COMP_WORDS[COMP_CWORD-1]} options=
-    local commands='verify assemble list dump run watch check declare guess refute migrate help'
+    local commands='verify assemble list dump run teletype watch check declare guess refute migrate help'
     if [ "$COMP_CWORD" -eq 1 ]; then
         COMPREPLY=($(compgen -W "$commands --help --version" -- "$word"))
         return
@@ -29,6 +29,7 @@ _pdp8() {
         verify) options='--start --profile --steps --seed --save --why --help' ;;
         assemble | list | dump) options='--profile --help' ;;
         run) options='--start --steps --trace --profile --events --reader --punch --keys --mark --teletype --switches --help' ;;
+        teletype) options='--start --profile --reader --punch --switches --mark --raw --help' ;;
         watch) options='--reader --keys --mark --switches --steps --why --help' ;;
         check | guess) options='--why --help' ;;
         refute) options='--steps --seed --why --help' ;;

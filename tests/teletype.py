@@ -36,7 +36,7 @@ class Terminal:
     """A terminal of tmux in which a command of the shell runs."""
 
     def __init__(self, folder, command):
-        self.socket = os.path.join(folder, 'tmux')
+        self.socket = os.path.join(tempfile.mkdtemp(dir=folder), 'tmux')
         self.tmux('-f', '/dev/null', 'new-session', '-d', '-x', '80', '-y', '24', '-c', folder, f'sh -c "{command}; cat"')
 
     def tmux(self, *words):

@@ -1,7 +1,8 @@
 #!/bin/bash
 # Times an archive of a thousand tapes, which print HELLO with other first letters each: side by side by xargs, as many at a
-# time as there are processors, each checked, and then each declared, guessed and checked from its tape alone. Prints the
-# time that passes, the least of three runs, and sees to it that each gets its yes.
+# time as there are processors. Each is verified with its declaration, then from its tape alone, and what was found saved; then
+# each is checked with the certificate that was saved. Prints the time that passes, the least of three runs, and sees to it
+# that each gets its yes.
 # PDP8 names a built program in place of this repository's.
 set -euo pipefail
 top=$(cd "$(dirname "$0")/.." && pwd)
@@ -16,17 +17,14 @@ for number in $(seq -w 0 999); do
         "$top/examples/hello.pal" >source.pal
     "$program" assemble "$number.bin" source.pal
     cp "$top/examples/hello.declaration" "$number.declaration"
-    "$program" guess "$number.bin" "$number.declaration" "$number.certificate"
 done
-checked() {
-    ls ./*.bin | sed 's/\.bin$//' | xargs -P "$(nproc)" -I NAME sh -c \
-        "$program check NAME.bin NAME.declaration NAME.certificate >NAME.verdict 2>&1 || echo NAME"
+# Names each tape for which this command gives no yes.
+each() {
+    ls ./*.bin | sed 's/\.bin$//' | xargs -P "$(nproc)" -I NAME sh -c "$program $* >NAME.said 2>&1 || echo NAME"
 }
-alone() {
-    ls ./*.bin | sed 's/\.bin$//' | xargs -P "$(nproc)" -I NAME sh -c \
-        "$program declare NAME.bin NAME.proposed && $program guess NAME.bin NAME.proposed NAME.found && \
-         $program check NAME.bin NAME.proposed NAME.found >NAME.verdict 2>&1 || echo NAME"
-}
+declared() { each verify NAME.bin NAME.declaration --save NAME; }
+alone() { each verify NAME.bin --save NAME.found; }
+checked() { each check NAME.bin NAME.declaration NAME.certificate; }
 TIMEFORMAT=%R
 # The least of three runs, none of which may name a tape.
 least() {
@@ -35,7 +33,9 @@ least() {
         if [ -s named ]; then echo "$(wc -l <named) tapes got no yes" >&2; exit 1; fi
     done | sort -n | head -1
 }
-best=$(least checked)
-echo "$best seconds to check a thousand tapes, $(nproc) at a time"
+best=$(least declared)
+echo "$best seconds to verify a thousand tapes with their declarations, $(nproc) at a time"
 best=$(least alone)
-echo "$best seconds to declare, guess and check them from their tapes alone"
+echo "$best seconds to verify them from their tapes alone"
+best=$(least checked)
+echo "$best seconds to check them"

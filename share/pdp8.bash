@@ -1,7 +1,7 @@
 # Completions of pdp8 for bash.
 _pdp8() {
     local word=${COMP_WORDS[COMP_CWORD]} before=${COMP_WORDS[COMP_CWORD-1]} options=
-    local commands='verify assemble list dump run teletype watch check declare guess refute migrate help'
+    local commands='verify assemble list source dump run watch check declare guess refute migrate help'
     if [ "$COMP_CWORD" -eq 1 ]; then
         COMPREPLY=($(compgen -W "$commands --help --version" -- "$word"))
         return
@@ -27,14 +27,17 @@ _pdp8() {
             return
             ;;
         verify) options='--start --profile --steps --seed --save --why --help' ;;
-        assemble | list | dump) options='--profile --help' ;;
-        run) options='--start --steps --trace --profile --events --reader --punch --keys --mark --teletype --switches --help' ;;
-        teletype) options='--start --profile --reader --punch --switches --mark --raw --help' ;;
+        assemble) options='--output --profile --why --help' ;;
+        list) options='--profile --why --help' ;;
+        source) options='--output --start --declaration --profile --why --help' ;;
+        dump) options='--profile --why --help' ;;
+        run) options='--start --steps --trace --profile --events --reader --punch --keys --mark --teletype --switches --why --help' ;;
         watch) options='--reader --keys --mark --switches --steps --why --help' ;;
-        check | guess) options='--why --help' ;;
-        refute) options='--steps --seed --why --help' ;;
-        declare) options='--start --reads --profile --help' ;;
-        migrate) options='--help' ;;
+        check) options='--why --help' ;;
+        guess) options='--output --why --help' ;;
+        refute) options='--output --steps --seed --why --help' ;;
+        declare) options='--output --start --reads --profile --why --help' ;;
+        migrate) options='--output --why --help' ;;
     esac
     if [[ $word == -* ]]; then
         COMPREPLY=($(compgen -W "$options" -- "$word"))

@@ -28,7 +28,8 @@ def read(path):
 # What all places share.
 
 def said_by_use(line):
-    """What a line of use says: `pdp8 run TAPE [--start A]`."""
+    """What a line of use says: `pdp8 run TAPE [--start A]`. OUT stands behind -o, or alone."""
+    line = line.replace('[-o]', '[-o, --output OUT]')
     command, *operands = re.sub(r'\[.*?\]\S*', '', line).removeprefix('pdp8').split()
     return {('operands', command, ' '.join(operands)), ('command', command, '')} | {
         it for short, option, value in OPTION.findall(line) for it in (('option', command, option), ('value', option, value))}

@@ -36,6 +36,8 @@ WATCH = re.compile(r'clean\n|broken: event \d+ rule [1-7]\n')
 REFUTED = re.compile(r'not broken in 20000 steps\n|broken: event \d+ rule [1-7]\n')
 CHECK = re.compile(r'yes: \d+ body cells, \d+ variable cells, \d+ entries, \d+ halts(, \d+ read cells)?\n|no: V\d+ at [0-7]{4}\n')
 DECLARED = re.compile(r'(/ [^\n]*\n)*(profile 8e\n)?start [0-7]{4}\n([a-z]+( [^\n]*)?\n)+')
+# What follows the line of a source's fault under --why: the same fault with its column.
+WHY = re.compile(r'\Apdp8: source: (?P<code>..) 1 (?P<line>\d+)\npal:(?P=line):\d+: (?P=code): ')
 ANY = re.compile('.*', re.DOTALL)
 
 
@@ -108,7 +110,7 @@ def job(chance, programs):
     bad = uses[-1] if chance.random() < 0.6 else chance.choice(uses)
     files[bad] = noise(chance) if chance.random() < 0.1 else changed(chance, files[bad], other[bad])
     words = {'dump': ['dump', 'tape'], 'run': ['run', 'tape', '--steps', '2000'], 'events': ['run', 'tape', '--events', 'events'],
-             'list': ['list', 'pal'], 'assemble': ['assemble', '-', 'pal'], 'guess': ['guess', 'tape', 'declaration', '-'],
+             'list': ['list', 'pal', *chance.choice([[], ['--why']])], 'assemble': ['assemble', '-', 'pal'], 'guess': ['guess', 'tape', 'declaration', '-'],
              'refute': ['refute', 'tape', 'declaration', 'found', '--steps', '20000'],
              'declare': ['declare', 'tape', '-', *chance.choice([[], ['--reads']]), *one['profile']],
              'migrate': ['migrate', 'certificate', '-']}.get(command, [command, *uses])
@@ -138,7 +140,9 @@ def fails(done, said):
     if done.returncode not in (0, 1):
         return f'it ended with {done.returncode}: {done.stderr!r}'
     if done.stderr:
-        if done.stdout or done.returncode != 1 or not FAULT.fullmatch(done.stderr.decode('latin-1')):
+        told = done.stderr.decode('latin-1')
+        first = told[:told.find('\n') + 1] if WHY.search(told) else told
+        if done.stdout or done.returncode != 1 or not FAULT.fullmatch(first):
             return f'it said {done.stderr!r} with {done.returncode}'
     elif not said.fullmatch(done.stdout.decode('latin-1')):
         return f'it wrote {done.stdout[:200]!r}'

@@ -39,7 +39,8 @@ static int refused(void) {
 void *malloc(size_t size) { return next_malloc ? (refused() ? 0 : next_malloc(size)) : 0; }
 void *realloc(void *old, size_t size) { return refused() ? 0 : next_realloc(old, size); }
 '''
-COMMANDS = ['assemble OUT hello.pal', 'list hello.pal', 'dump TAPE', 'run TAPE', 'run TAPE --trace --steps 20', 'run TAPE --events hello.events',
+COMMANDS = ['assemble OUT hello.pal', 'list hello.pal', 'list faults.pal --why', 'source TAPE OUT', 'source TAPE OUT --declaration hello.declaration',
+            'dump TAPE', 'run TAPE', 'run TAPE --trace --steps 20', 'run TAPE --events hello.events',
             'run TAPE --teletype --punch OUT', 'watch TAPE hello.declaration hello.events', 'watch TAPE halts.declaration hello.events --why',
             'refute TAPE halts.declaration OUT --steps 2000', 'refute TAPE hello.declaration OUT --steps 100', 'check TAPE hello.declaration hello.certificate',
             'check TAPE rim.declaration hello.certificate --why', 'declare TAPE OUT', 'guess TAPE hello.declaration OUT',
@@ -103,6 +104,8 @@ def main():
                 copy.write(file.read())
         with open(os.path.join(folder, 'halts.declaration'), 'w', encoding='utf-8') as file:
             file.write('start 0200\nmain 0200-0213\nsub 0214 body 0215-0221 returns 0\nvar 0010 0224\n')
+        with open(os.path.join(folder, 'faults.pal'), 'w', encoding='utf-8') as file:
+            file.write('TAD 8\nJMP Q\nX,1;X,2\n?\n')
         subprocess.run([pdp8, 'assemble', 'TAPE', 'hello.pal'], cwd=folder, check=True)
         for words in COMMANDS:
             count, spared, answer = in_turn(pdp8, words, folder, shim)

@@ -1,5 +1,7 @@
 -- What is said of facts as they are kept, and where they are; it serves private contracts.
-use Rattle.std.specs.Prelude.{ℕ, Bool, ◌&&◌, nat_le, length, map, Option, Some, None, slice_index_or}
+use Rattle.std.specs.Prelude.{ℕ, Bool, ◌&&◌, nat_le, length, map, Option, Some, None}
+use Rattle.std.specs.Ordering.{nat_cmp}
+use Rattle.std.specs.BTreeMap.{get}
 use Rattle.wordset.specs.Lanes.{words}
 use Rattle.wordset.specs.Links.{links_of}
 use Rattle.facts.specs.Statements as said
@@ -30,13 +32,13 @@ has_room k = nat_le (length k.cells.items) 64 && nat_le (length k.equations.item
 
 -- What is kept at an address.
 abbrev pub kept_at : {A : Type 0} → Guess A → ℕ → Option (Kept A)
-kept_at g a = slice_index_or g.facts.items a None
+kept_at g a = get nat_cmp g.facts a
 
 -- What is kept of the routine of an entry.
 abbrev pub row_at : {A : Type 0} → Guess A → ℕ → Option (Row A)
-row_at g e = slice_index_or g.routines.items e None
+row_at g e = get nat_cmp g.routines e
 
 -- What is kept of a return.
 abbrev pub exit_in : {A : Type 0} → Option (Row A) → ℕ → Option (Kept A)
 exit_in None o = None
-exit_in (Some r) o = slice_index_or r.exits.items o None
+exit_in (Some r) o = get nat_cmp r.exits o

@@ -187,9 +187,7 @@ pub fn guess_within<A: Allocator + Copy, D: Allocator>(
 {
     turns.are_within();
     let program = Program::of(image, declaration, MANY_RUNS);
-    let Ok(mut search) = Search::new(alloc) else {
-        return Err(GuessFault::NoMemory);
-    };
+    let mut search = Search::new(alloc);
     let version = version_of(declaration.profile());
     found_within(&mut search, &program, version, turns)
 }
@@ -266,9 +264,7 @@ pub fn guess_or_draft_within<A: Allocator + Copy, D: Allocator>(
 {
     turns.are_within();
     let program = Program::of(image, declaration, MANY_RUNS);
-    let Ok(mut search) = Search::new(alloc) else {
-        return Err(GuessFault::NoMemory);
-    };
+    let mut search = Search::new(alloc);
     let version = version_of(declaration.profile());
     match found_within(&mut search, &program, version, turns) {
         Ok(certificate) => Ok(Attempt::Found(certificate)),

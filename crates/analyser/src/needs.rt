@@ -5,49 +5,46 @@ use crate::halt::Halt;
 use crate::program::{Program, is_reference};
 use instruct::{Operation, refers_indirectly, target};
 use std::alloc::Allocator;
+use std::collections::BTreeMap;
 use word12::Word;
 use wordset::WordSet;
 
 /// How often all words are gone through at most.
 const MOST_ROUNDS: usize = 64;
 
+/// Sets of cells by address; an empty one isn't kept.
+type Sets<A> = BTreeMap<usize, WordSet, A>;
+
 /// The cells that are needed at each address of a body, and at each entry those that are needed when
 /// its routine returns; at each entry, too, the cells that the routine's words name to write.
 #[derive(Drop)]
 pub(crate) struct Needs<A: Allocator> {
-    cells: Vec<WordSet, A>,
-    writes: Vec<WordSet, A>,
-}
-
-/// An empty set for each address.
-fn empty_sets<A: Allocator>(alloc: A) -> Result<Vec<WordSet, A>, Halt> {
-    let mut sets = Vec::new(alloc);
-    for _address in 0..4096usize {
-        let Ok(()) = sets.push(WordSet::empty()) else {
-            return Err(Halt::NoMemory);
-        };
-    }
-    Ok(sets)
+    cells: Sets<A>,
+    writes: Sets<A>,
 }
 
 /// The set of an address.
-fn set_at(sets: &[WordSet], at: Word) -> WordSet {
-    match sets.get(at.index()) {
+fn set_at<A: Allocator>(sets: &Sets<A>, at: Word) -> WordSet {
+    match sets.get(&at.index()) {
         None => WordSet::empty(),
         Some(set) => *set,
     }
 }
 
 /// Adds cells to the set of an address, and tells whether it grew.
-fn add_at(sets: &mut [WordSet], at: Word, cells: &WordSet) -> bool {
-    let Some(set) = sets.get_mut(at.index()) else {
-        return false;
-    };
-    if cells.is_subset(set) {
-        return false;
+fn add_at<A: Allocator + Copy>(
+    sets: &mut Sets<A>,
+    at: Word,
+    cells: &WordSet,
+) -> Result<bool, Halt> {
+    let set = set_at(sets, at);
+    if cells.is_subset(&set) {
+        return Ok(false);
     }
-    *set = set.union(cells);
-    true
+    match sets.insert(at.index(), set.union(cells)) {
+        Ok(_) => Ok(true),
+        Err(_) => Err(Halt::NoMemory),
+    }
 }
 
 /// A set with a cell, if there is one.
@@ -72,11 +69,11 @@ fn may_skip(word: Word) -> bool {
 }
 
 /// The cells that a word names to write, and that the routine writes that it calls.
-fn written_by<D: Allocator>(
+fn written_by<A: Allocator, D: Allocator>(
     program: &Program<'_, D>,
     at: Word,
     word: Word,
-    writes: &[WordSet],
+    writes: &Sets<A>,
 ) -> WordSet {
     let named = target(word, at);
     let place = program.place_named(word, named);
@@ -99,12 +96,119 @@ impl<A: Allocator + Copy> Needs<A> {
     /// What the words of a program need.
     pub(crate) fn of<D: Allocator>(alloc: A, program: &Program<'_, D>) -> Result<Needs<A>, Halt> {
         let mut needs = Needs {
-            cells: empty_sets(alloc)?,
-            writes: empty_sets(alloc)?,
+            cells: BTreeMap::new(alloc),
+            writes: BTreeMap::new(alloc),
         };
-        needs.find_writes(program);
-        needs.find_cells(program);
+        needs.find_writes(program)?;
+        needs.find_cells(program)?;
         Ok(needs)
+    }
+
+    /// Finds what routines write.
+    fn find_writes<D: Allocator>(&mut self, program: &Program<'_, D>) -> Result<(), Halt> {
+        for _round in 0..MOST_ROUNDS {
+            if !self.add_writes(program)? {
+                return Ok(());
+            }
+        }
+        Ok(())
+    }
+
+    /// Adds what each routine writes, and tells whether something was added.
+    fn add_writes<D: Allocator>(&mut self, program: &Program<'_, D>) -> Result<bool, Halt> {
+        let mut grew = false;
+        for routine in program.declaration.routines() {
+            let cells = self.written_in(program, routine.body());
+            if add_at(&mut self.writes, routine.entry(), &cells)? {
+                grew = true;
+            }
+        }
+        Ok(grew)
+    }
+
+    /// Finds what is needed at each address.
+    fn find_cells<D: Allocator>(&mut self, program: &Program<'_, D>) -> Result<(), Halt> {
+        for _round in 0..MOST_ROUNDS {
+            if !self.add_cells(program)? {
+                return Ok(());
+            }
+        }
+        Ok(())
+    }
+
+    /// Adds what is needed at each address, from the last on, and tells whether something was added.
+    fn add_cells<D: Allocator>(&mut self, program: &Program<'_, D>) -> Result<bool, Halt> {
+        let mut grew = false;
+        for more in 0..4096usize {
+            let at = Word::from_index(4095 - more);
+            if program.bodies.contains(at) {
+                let cells = self.before(program, at)?.meet(&program.named);
+                if add_at(&mut self.cells, at, &cells)? {
+                    grew = true;
+                }
+            }
+        }
+        Ok(grew)
+    }
+
+    /// What is needed before the word at an address; all, where it may be written.
+    fn before<D: Allocator>(
+        &mut self,
+        program: &Program<'_, D>,
+        at: Word,
+    ) -> Result<WordSet, Halt> {
+        let Some(word) = program.fixed_word(at) else {
+            return Ok(program.named);
+        };
+        if is_reference(word) {
+            self.before_reference(program, at, word)
+        } else if may_skip(word) {
+            Ok(self.after_skip(at))
+        } else {
+            Ok(self.at(at.increment()))
+        }
+    }
+
+    /// What is needed before a memory reference.
+    fn before_reference<D: Allocator>(
+        &mut self,
+        program: &Program<'_, D>,
+        at: Word,
+        word: Word,
+    ) -> Result<WordSet, Halt> {
+        let named = target(word, at);
+        let place = program.place_named(word, named);
+        let next = self.at(at.increment());
+        let cells = match Operation::of(word) {
+            Operation::And | Operation::Tad => with(&next, place),
+            Operation::Isz => with(&self.after_skip(at), place),
+            Operation::Dca => without(&next, place),
+            Operation::Jms => self.before_call(program, at, place)?,
+            Operation::Jmp => self.before_jump(program, named, place),
+        };
+        if refers_indirectly(word) {
+            Ok(with(&cells, Some(named)))
+        } else {
+            Ok(cells)
+        }
+    }
+
+    /// What is needed before a call; all, where it isn't known what is called. What is needed after it
+    /// and the routine writes is needed when the routine returns.
+    fn before_call<D: Allocator>(
+        &mut self,
+        program: &Program<'_, D>,
+        at: Word,
+        place: Option<Word>,
+    ) -> Result<WordSet, Halt> {
+        let Some(entry) = place else {
+            return Ok(program.named);
+        };
+        let after = self.after_returns(program, at, entry);
+        let written = set_at(&self.writes, entry);
+        add_at(&mut self.cells, entry, &after.meet(&written))?;
+        let within = self.at(entry.increment());
+        Ok(within.union(&after.minus(&written)))
     }
 }
 
@@ -112,27 +216,6 @@ impl<A: Allocator> Needs<A> {
     /// The cells that are needed at an address.
     pub(crate) fn at(&self, at: Word) -> WordSet {
         set_at(&self.cells, at)
-    }
-
-    /// Finds what routines write.
-    fn find_writes<D: Allocator>(&mut self, program: &Program<'_, D>) {
-        for _round in 0..MOST_ROUNDS {
-            if !self.add_writes(program) {
-                return;
-            }
-        }
-    }
-
-    /// Adds what each routine writes, and tells whether something was added.
-    fn add_writes<D: Allocator>(&mut self, program: &Program<'_, D>) -> bool {
-        let mut grew = false;
-        for routine in program.declaration.routines() {
-            let cells = self.written_in(program, routine.body());
-            if add_at(&mut self.writes, routine.entry(), &cells) {
-                grew = true;
-            }
-        }
-        grew
     }
 
     /// What the words of a body write.
@@ -151,72 +234,10 @@ impl<A: Allocator> Needs<A> {
         cells
     }
 
-    /// Finds what is needed at each address.
-    fn find_cells<D: Allocator>(&mut self, program: &Program<'_, D>) {
-        for _round in 0..MOST_ROUNDS {
-            if !self.add_cells(program) {
-                return;
-            }
-        }
-    }
-
-    /// Adds what is needed at each address, from the last on, and tells whether something was added.
-    fn add_cells<D: Allocator>(&mut self, program: &Program<'_, D>) -> bool {
-        let mut grew = false;
-        for more in 0..4096usize {
-            let at = Word::from_index(4095 - more);
-            if program.bodies.contains(at) {
-                let cells = self.before(program, at).meet(&program.named);
-                if add_at(&mut self.cells, at, &cells) {
-                    grew = true;
-                }
-            }
-        }
-        grew
-    }
-
-    /// What is needed before the word at an address; all, where it may be written.
-    fn before<D: Allocator>(&mut self, program: &Program<'_, D>, at: Word) -> WordSet {
-        let Some(word) = program.fixed_word(at) else {
-            return program.named;
-        };
-        if is_reference(word) {
-            self.before_reference(program, at, word)
-        } else if may_skip(word) {
-            self.after_skip(at)
-        } else {
-            self.at(at.increment())
-        }
-    }
-
     /// What is needed after a word that may skip.
     fn after_skip(&self, at: Word) -> WordSet {
         let next = at.increment();
         self.at(next).union(&self.at(next.increment()))
-    }
-
-    /// What is needed before a memory reference.
-    fn before_reference<D: Allocator>(
-        &mut self,
-        program: &Program<'_, D>,
-        at: Word,
-        word: Word,
-    ) -> WordSet {
-        let named = target(word, at);
-        let place = program.place_named(word, named);
-        let next = self.at(at.increment());
-        let cells = match Operation::of(word) {
-            Operation::And | Operation::Tad => with(&next, place),
-            Operation::Isz => with(&self.after_skip(at), place),
-            Operation::Dca => without(&next, place),
-            Operation::Jms => self.before_call(program, at, place),
-            Operation::Jmp => self.before_jump(program, named, place),
-        };
-        if refers_indirectly(word) {
-            with(&cells, Some(named))
-        } else {
-            cells
-        }
     }
 
     /// What is needed before a jump; all, where it isn't known where it goes.
@@ -236,23 +257,6 @@ impl<A: Allocator> Needs<A> {
                 }
             }
         }
-    }
-
-    /// What is needed before a call; all, where it isn't known what is called. What is needed after it
-    /// and the routine writes is needed when the routine returns.
-    fn before_call<D: Allocator>(
-        &mut self,
-        program: &Program<'_, D>,
-        at: Word,
-        place: Option<Word>,
-    ) -> WordSet {
-        let Some(entry) = place else {
-            return program.named;
-        };
-        let after = self.after_returns(program, at, entry);
-        let written = set_at(&self.writes, entry);
-        add_at(&mut self.cells, entry, &after.meet(&written));
-        self.at(entry.increment()).union(&after.minus(&written))
     }
 
     /// What is needed where a call may return.

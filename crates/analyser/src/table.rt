@@ -1,6 +1,6 @@
 //! A guess: facts at addresses, and what is claimed of routines.
 
-ghost use Rattle.std.specs.Prelude.{◌≡◌, length, option_map, IfOk};
+ghost use Rattle.std.specs.Prelude.{◌≡◌, option_map};
 ghost use Rattle.analyser.specs.Claimed.{kept_at, row_at, exit_in};
 
 use crate::halt::Halt;
@@ -9,6 +9,7 @@ use crate::widening::{Limits, Pace};
 use certificate::Routine;
 use facts::{Fact, Known};
 use std::alloc::Allocator;
+use std::collections::BTreeMap;
 use word12::Word;
 use wordset::WordSet;
 
@@ -16,36 +17,23 @@ use wordset::WordSet;
 #[derive(Drop)]
 pub(crate) struct Row<A: Allocator> {
     pub(crate) routine: Routine,
-    pub(crate) exits: Vec<Option<Kept<A>>, A>,
+    pub(crate) exits: BTreeMap<usize, Kept<A>, A>,
 }
 
-/// What may show a program safe: facts, routines and exits.
+/// What may show a program safe: facts by address, and by entry routines and exits.
 #[derive(Drop)]
 pub(crate) struct Guess<A: Allocator> {
-    facts: Vec<Option<Kept<A>>, A>,
-    routines: Vec<Option<Row<A>>, A>,
-}
-
-/// So many places with nothing.
-fn nothing<T: Drop, A: Allocator>(alloc: A, count: usize) -> Result<Vec<Option<T>, A>, Halt>
-    ensures { IfOk result (λ places. length places.items ≡ count) }
-{
-    let mut places = Vec::new(alloc);
-    for _place in 0..count {
-        let Ok(()) = places.push(None) else {
-            return Err(Halt::NoMemory);
-        };
-    }
-    Ok(places)
+    facts: BTreeMap<usize, Kept<A>, A>,
+    routines: BTreeMap<usize, Row<A>, A>,
 }
 
 impl<A: Allocator + Copy> Guess<A> {
     /// Nothing is claimed.
-    pub(crate) fn new(alloc: A) -> Result<Guess<A>, Halt> {
-        Ok(Guess {
-            facts: nothing(alloc, 4096)?,
-            routines: nothing(alloc, 4096)?,
-        })
+    pub(crate) fn new(alloc: A) -> Guess<A> {
+        Guess {
+            facts: BTreeMap::new(alloc),
+            routines: BTreeMap::new(alloc),
+        }
     }
 
     /// Lists the routine of an entry, with nothing known of it, if it isn't listed.
@@ -53,16 +41,41 @@ impl<A: Allocator + Copy> Guess<A> {
         if self.row(entry).is_some() {
             return Ok(());
         }
-        let exits = nothing(alloc, 8)?;
         let routine = Routine {
             rank: 0,
             sites: WordSet::empty(),
             writes: WordSet::empty(),
         };
-        if let Some(place) = self.routines.get_mut(entry.index()) {
-            *place = Some(Row { routine, exits });
+        let exits = BTreeMap::new(alloc);
+        let row = Row { routine, exits };
+        match self.routines.insert(entry.index(), row) {
+            Ok(_) => Ok(()),
+            Err(_) => Err(Halt::NoMemory),
         }
-        Ok(())
+    }
+
+    /// Keeps a fact at an address.
+    pub(crate) fn keep(&mut self, at: Word, kept: Kept<A>) -> Result<(), Halt> {
+        match self.facts.insert(at.index(), kept) {
+            Ok(_) => Ok(()),
+            Err(_) => Err(Halt::NoMemory),
+        }
+    }
+
+    /// Keeps what holds at a return of a routine, if it is listed.
+    pub(crate) fn keep_exit(
+        &mut self,
+        entry: Word,
+        offset: usize,
+        kept: Kept<A>,
+    ) -> Result<(), Halt> {
+        let Some(row) = self.routines.get_mut(&entry.index()) else {
+            return Ok(());
+        };
+        match row.exits.insert(offset, kept) {
+            Ok(_) => Ok(()),
+            Err(_) => Err(Halt::NoMemory),
+        }
     }
 }
 
@@ -77,7 +90,7 @@ impl<A: Allocator + Copy> Guess<A> {
         limits: &Limits,
         pace: Pace,
     ) -> Result<bool, Halt> {
-        if let Some(Some(kept)) = self.facts.get_mut(at.index()) {
+        if let Some(kept) = self.facts.get_mut(&at.index()) {
             return kept.join(alloc, known, limits, pace);
         }
         Ok(false)
@@ -94,8 +107,8 @@ impl<A: Allocator + Copy> Guess<A> {
         limits: &Limits,
         pace: Pace,
     ) -> Result<bool, Halt> {
-        if let Some(Some(row)) = self.routines.get_mut(entry.index()) {
-            if let Some(Some(kept)) = row.exits.get_mut(offset) {
+        if let Some(row) = self.routines.get_mut(&entry.index()) {
+            if let Some(kept) = row.exits.get_mut(&offset) {
                 return kept.join(alloc, known, limits, pace);
             }
         }
@@ -108,20 +121,14 @@ impl<A: Allocator> Guess<A> {
     pub(crate) fn kept(&self, at: Word) -> Option<&Kept<A>>
         ensures { option_map (λ k. k.now) result ≡ kept_at self.now at }
     {
-        match self.facts.get(at.index()) {
-            None => None,
-            Some(place) => place.as_ref(),
-        }
+        self.facts.get(&at.index())
     }
 
     /// What is kept of the routine of an entry.
     pub(crate) fn row(&self, entry: Word) -> Option<&Row<A>>
         ensures { option_map (λ r. r.now) result ≡ row_at self.now entry }
     {
-        match self.routines.get(entry.index()) {
-            None => None,
-            Some(place) => place.as_ref(),
-        }
+        self.routines.get(&entry.index())
     }
 
     /// What is kept of a return.
@@ -130,10 +137,7 @@ impl<A: Allocator> Guess<A> {
     {
         match self.row(entry) {
             None => None,
-            Some(row) => match row.exits.get(offset) {
-                None => None,
-                Some(place) => place.as_ref(),
-            },
+            Some(row) => row.exits.get(&offset),
         }
     }
 
@@ -155,47 +159,23 @@ impl<A: Allocator> Guess<A> {
         self.kept_exit(entry, offset).is_some()
     }
 
-    /// Keeps a fact at an address.
-    pub(crate) fn keep(&mut self, at: Word, kept: Kept<A>) {
-        if let Some(place) = self.facts.get_mut(at.index()) {
-            *place = Some(kept);
-        }
-    }
-
-    /// Keeps what holds at a return.
-    pub(crate) fn keep_exit(&mut self, entry: Word, offset: usize, kept: Kept<A>) {
-        if let Some(Some(row)) = self.routines.get_mut(entry.index()) {
-            if let Some(place) = row.exits.get_mut(offset) {
-                *place = Some(kept);
-            }
-        }
-    }
-
     /// Claims something else of a routine.
     pub(crate) fn set_routine(&mut self, entry: Word, routine: Routine) {
-        if let Some(Some(row)) = self.routines.get_mut(entry.index()) {
+        if let Some(row) = self.routines.get_mut(&entry.index()) {
             row.routine = routine;
         }
     }
 
     /// Forgets all that is claimed of routines.
     pub(crate) fn forget_routines(&mut self) {
-        for place in &mut self.routines {
-            *place = None;
-        }
+        self.routines.clear();
     }
 
     /// Forgets all facts and exits.
     pub(crate) fn forget(&mut self) {
-        for place in &mut self.facts {
-            *place = None;
-        }
-        for place in &mut self.routines {
-            if let Some(row) = place {
-                for exit in &mut row.exits {
-                    *exit = None;
-                }
-            }
+        self.facts.clear();
+        for row in self.routines.values_mut() {
+            row.exits.clear();
         }
     }
 }

@@ -1,8 +1,14 @@
 //! The command line of `pdp8`: its commands, operands and options, and what they ask for.
 #![tactic(auto)]
 
+mod commands;
+mod names;
 mod operator;
+mod outputs;
 mod requests;
+mod table;
 
+pub use names::FileNames;
 pub use operator::{Joined, Session, TeletypeSession, WatchedSession};
-pub use requests::{Refused, Request, parse_words};
+pub use outputs::Destination;
+pub use requests::{CommandLine, Refused, Request, parse_arguments};

@@ -22,8 +22,9 @@ use Rattle.command_parts.specs.declared.status.Fault.TheVariants.{Tape, EmptyIma
 use Rattle.command_parts.specs.declared.status.Fault.TheVariants as fault
 use Rattle.command_parts.specs.declared.status.DeviceFault.TheVariants.{Read, Write}
 use Rattle.source_commands.specs.AssembleText.{IsAssembled, IsListing, IsListFault, IsSourceFault, HasFault}
+use Rattle.source_commands.specs.WrittenSource.{IsTapeSource}
 use Rattle.command_parts.specs.Inputs.{HasImage}
-use Rattle.commands.specs.Laws.{telling, TapeIsThere, EmptyHasNoTape, MayMiss, MayBeTold, TapeIsOne, MeantIsRead, ReadIsMeant, MeantIsWritten, FaultIsTold, FaultIsNotWritten, MeantIsListed, FaultIsTheOne}
+use Rattle.commands.specs.Laws.{telling, TapeIsThere, EmptyHasNoTape, MayMiss, MayBeTold, TapeIsOne, MeantIsRead, ReadIsMeant, MeantIsWritten, FaultIsTold, FaultIsNotWritten, MeantIsListed, FaultIsTheOne, WrittenIsAssembled, AssembledIsWritten}
 use Rattle.source_commands.specs.SourceTexts.{AreRead}
 
 -- sources that tell their bytes hold these parts alone
@@ -161,3 +162,19 @@ meant_is_listed sound profile parts symbols image marks left bad means is = soun
 
 pub fault_is_the_one : FaultIsOne → FaultIsTheOne
 fault_is_the_one one profile parts bad told_so marks left faulty is = one (permanent_symbols profile) parts told_so bad (fault_of profile parts told_so is) faulty
+
+-- the image that is read of a tape is the one of which a source was written
+read_so : (profile : Profile) (frames text : List ℕ) (image : List (Option ℕ)) → (s : IsTapeSource profile (Some frames) text) → HasImage (Some frames) image → s.image ≡ image
+read_so profile frames text image s has = tape_one (take 65536 frames) s.image image s.tape has
+
+pub written_is_assembled : MeantAreWords → WrittenIsAssembled
+written_is_assembled words profile frames text image s has has_word =
+    let same : s.image ≡ image = read_so profile frames text image s has in
+    let means : Means (permanent_symbols profile) (text ∷ []) s.source.symbols image = rw same at s.source.means in
+    tape_is_there words profile (text ∷ []) s.source.symbols image means has_word
+
+pub assembled_is_written : MeaningIsOne → AssembledIsWritten
+assembled_is_written one profile frames text tape image s has is =
+    let same : s.image ≡ image = read_so profile frames text image s has in
+    let means : Means (permanent_symbols profile) (text ∷ []) s.source.symbols image = rw same at s.source.means in
+    is.tape_is ∙ ap written_tape (meant one profile (text ∷ []) s.source.symbols image tape is means)

@@ -1,6 +1,6 @@
 -- A run of any events has an answer, and so has one with an operator; and what sources mean, what is written of them and what
 -- is read of that is one.
-use Rattle.std.specs.Prelude.{ℕ, ◌≡◌, ◌<◌, ◌≤◌, Bool, true, Option, Some, List, IfSome, length, map, ⊤}
+use Rattle.std.specs.Prelude.{ℕ, ◌≡◌, ◌<◌, ◌≤◌, Bool, true, Option, Some, List, [], ◌∷◌, IfSome, length, map, ⊤}
 use Rattle.std.specs.List.{AllByRecursion}
 use Rattle.peripherals.specs.declared.Event.{Event}
 use Rattle.peripherals.specs.declared.Event.TheVariants.{Step, Key, PrinterDone, ReaderDone, PunchDone, Switches, Continue}
@@ -22,6 +22,7 @@ use Rattle.verdict_commands.specs.MigrateText.{IsMigrated}
 use Rattle.verdict_texts.specs.CheckText.{IsCheckedSo}
 use Rattle.command_parts.specs.declared.status.Status.TheVariants.{Done}
 use Rattle.source_commands.specs.AssembleText.{IsAssembled, IsListing, IsListFault, IsSourceFault}
+use Rattle.source_commands.specs.WrittenSource.{IsTapeSource}
 use Rattle.command_parts.specs.Inputs.{HasImage}
 use Rattle.machine_commands.specs.Running.{IsRunOf}
 use Rattle.peripherals.specs.Operator.{Plan}
@@ -149,6 +150,21 @@ abbrev pub EmptyHasNoTape : Type 0
 EmptyHasNoTape =
     (profile : Profile) (parts : List (List ℕ)) (symbols : List (Name × ℕ)) (image : List (Option ℕ)) (tape : List ℕ) →
     Means (permanent_symbols profile) parts symbols image → IsEmptyImage image → IsAssembled profile (telling parts) tape → ⊥
+
+-- Of the source that `source` writes of a tape, whose image has a word, `assemble` makes the tape that is written of that
+-- image.
+abbrev pub WrittenIsAssembled : Type 0
+WrittenIsAssembled =
+    (profile : Profile) (frames text : List ℕ) (image : List (Option ℕ)) →
+    IsTapeSource profile (Some frames) text → HasImage (Some frames) image → (IsEmptyImage image → ⊥) →
+    IsAssembled profile (telling (text ∷ [])) (written_tape image)
+
+-- `assemble` makes no other tape of it.
+abbrev pub AssembledIsWritten : Type 0
+AssembledIsWritten =
+    (profile : Profile) (frames text tape : List ℕ) (image : List (Option ℕ)) →
+    IsTapeSource profile (Some frames) text → HasImage (Some frames) image →
+    IsAssembled profile (telling (text ∷ [])) tape → tape ≡ written_tape image
 
 -- Why a source that means an image may have no tape: the image has no word, a device failed, or memory was refused.
 abbrev pub MayMiss : List (Option ℕ) → Fault → Type 0

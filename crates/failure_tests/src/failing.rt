@@ -12,6 +12,7 @@ use commands::guessing::guess;
 use commands::migrating::migrate;
 use commands::running::{RunOptions, dump, run, run_events};
 use commands::session::{Outputs, SessionOptions, run_session};
+use commands::sourcing::{declared_source, source};
 use commands::status::{DeviceFault, Fault, Status};
 use commands::stuck::guess_or_explain;
 use commands::watched_session::watch_session;
@@ -27,6 +28,8 @@ use word12::Word;
 enum Command {
     Assemble,
     List,
+    Source,
+    DeclaredSource,
     Dump,
     Run,
     Trace,
@@ -54,6 +57,9 @@ struct Plan {
     output: usize,
     room: usize,
 }
+
+/// The machine of all that is assembled and run.
+const MACHINE: Profile = Profile::Pdp8I;
 
 /// Nothing fails.
 const FINE: Plan = Plan {
@@ -102,7 +108,7 @@ fn options(trace: bool) -> RunOptions {
         start: Word::from_index(0o200),
         rounds: 10,
         trace,
-        profile: Profile::Pdp8I,
+        profile: MACHINE,
     }
 }
 
@@ -125,10 +131,12 @@ fn answered<A: Allocator + Copy>(
 {
     let mut parts = [plan.source(0, PARTS[0]), plan.source(1, PARTS[1])];
     let mut tape = plan.source(0, HALT);
+    let (mut told, start) = (String::new(alloc), options(false).start);
     match command {
-        Command::Assemble => assemble(alloc, &mut parts, Profile::Pdp8I, out),
-        Command::List => list(alloc, &mut parts, Profile::Pdp8I, out),
-        Command::Dump => dump(alloc, &mut tape, Profile::Pdp8I, out),
+        Command::Assemble => assemble(alloc, &mut parts, MACHINE, None, &mut told, out),
+        Command::List => list(alloc, &mut parts, MACHINE, None, &mut told, out),
+        Command::Source => source(alloc, &mut tape, start, MACHINE, out),
+        Command::Dump => dump(alloc, &mut tape, MACHINE, out),
         Command::Run => run(alloc, &mut tape, options(false), out),
         Command::Trace => run(alloc, &mut tape, options(true), out),
         Command::Events => {
@@ -178,11 +186,12 @@ fn promised<A: Allocator + Copy>(
         Command::Declare => {
             let options = DeclareOptions {
                 start: Word::from_index(0o200),
-                profile: Profile::Pdp8I,
+                profile: MACHINE,
                 reads: false,
             };
             declare(alloc, &mut tape, options, out)
         }
+        Command::DeclaredSource => declared_source(alloc, &mut tape, &mut text, out),
         Command::Guess => guess(alloc, &mut tape, &mut text, out),
         _ => migrate(alloc, &mut plan.source(0, HALT_CERTIFICATE), out),
     }
@@ -203,11 +212,7 @@ fn operated<A: Allocator + Copy>(alloc: A, heap: Global, plan: &Plan) -> Left {
         session(),
         &mut outputs,
     );
-    let Outputs {
-        report,
-        teletype,
-        punch,
-    } = outputs;
+    let (report, teletype, punch) = (outputs.report, outputs.teletype, outputs.punch);
     let typed = teletype.bytes().len().saturating_add(punch.bytes().len());
     let total = report.bytes().len().saturating_add(typed);
     let out = match plan.output {
@@ -277,6 +282,11 @@ const TAPE: &[u8] =
 
 const LISTING: &[u8] = b"            *200\n0200  7402  HLT\n            $\n\n";
 
+const SOURCE: &[u8] = b"/From a tape, for the PDP-8/I. Start: 0200\n\n*0200\n\tHLT\t\t/start\n$\n";
+
+const DECLARED_SOURCE: &[u8] = b"/From a tape, for the PDP-8/I. Start: 0200\n\n\
+    /Main program\n*0200\n\tHLT\t\t/start, stop\n$\n";
+
 const SUMMARY: &[u8] = b"HALT 0200 AC=0000 L=0 PC=0201 STEPS=1\n";
 
 const TRACED: &[u8] = b"0200 7402 HLT AC=0000 L=0\nHALT 0200 AC=0000 L=0 PC=0201 STEPS=1\n";
@@ -295,9 +305,11 @@ const MIGRATED: &[u8] =
 
 /// Commands, how many reads of each input they make, and what goes to their first output. A tape is read up to the first
 /// frame of its trailer, a text until its end was told.
-const COMMANDS: [(Command, [usize; 4], &[u8]); 16] = [
+const COMMANDS: [(Command, [usize; 4], &[u8]); 18] = [
     (Command::Assemble, [6, 7, 0, 0], TAPE),
     (Command::List, [6, 7, 0, 0], LISTING),
+    (Command::Source, [11, 0, 0, 0], SOURCE),
+    (Command::DeclaredSource, [11, 29, 0, 0], DECLARED_SOURCE),
     (Command::Dump, [11, 0, 0, 0], b"0200 7402 HLT\n"),
     (Command::Run, [11, 0, 0, 0], SUMMARY),
     (Command::Trace, [11, 0, 0, 0], TRACED),
@@ -358,10 +370,8 @@ fn writes_in_turn(heap: Global, command: Command, output: usize, text: &[u8]) ->
 #[test]
 fn each_write_that_fails_leaves_a_front(rt: HostRuntime) {
     for (command, _, text) in &COMMANDS {
-        assert!(rt;
-            writes_in_turn(rt.alloc(), *command, 0, text),
-            "{command:?}"
-        );
+        let holds = writes_in_turn(rt.alloc(), *command, 0, text);
+        assert!(rt; holds, "{command:?}");
     }
     assert!(rt; writes_in_turn(rt.alloc(), Command::Session, 1, b"A"));
     assert!(rt; writes_in_turn(rt.alloc(), Command::Session, 2, b"\xc1"));
@@ -388,13 +398,32 @@ fn memory_in_turn(heap: Global, command: Command, output: usize, text: &[u8]) ->
 #[test]
 fn each_refusal_of_memory_is_told(rt: HostRuntime) {
     for (command, _, text) in &COMMANDS {
-        assert!(rt;
-            memory_in_turn(rt.alloc(), *command, 0, text),
-            "{command:?}"
-        );
+        let holds = memory_in_turn(rt.alloc(), *command, 0, text);
+        assert!(rt; holds, "{command:?}");
     }
     assert!(rt; memory_in_turn(rt.alloc(), Command::Session, 1, b"A"));
     assert!(rt; memory_in_turn(rt.alloc(), Command::Session, 2, b"\xc1"));
+}
+
+/// A source with two faults.
+static FAULTY: &[u8] = b"TAD 8\nJMP Q\n$\n";
+
+#[test]
+fn each_refusal_of_memory_for_faults_leaves_a_fault(rt: HostRuntime) {
+    for count in 0..1000u64 {
+        let tight = Refusing::new(rt.alloc(), count);
+        let mut told = String::new(&tight);
+        let (mut parts, mut out) = ([FINE.source(0, FAULTY)], FINE.sink(0, rt.alloc()));
+        let names = Some(["bad.pal"].as_slice());
+        let answer = list(&tight, &mut parts, MACHINE, names, &mut told, &mut out);
+        if !tight.has_refused() {
+            assert!(rt; matches!(answer, Err(Fault::Source(_))));
+            return;
+        }
+        let is_fault = matches!(answer, Err(Fault::NoMemory | Fault::Source(_)));
+        assert!(rt; is_fault, "{count}");
+    }
+    assert!(rt; false, "memory is always refused");
 }
 
 /// What is reported of a search that is stuck.

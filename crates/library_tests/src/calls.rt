@@ -10,7 +10,7 @@ use facts::{Equation, Fact, Name, Offsets, entails_return};
 use instruct::Profile;
 use judge::certify;
 use pal_asm::{assemble, translate};
-use pal_text::{TextFault, statements};
+use pal_text::statements;
 use peripherals::Start;
 use proposer::{Verdict, propose};
 use std::alloc::Global;
@@ -32,15 +32,6 @@ fn a_part_has_lines_statements_and_tokens(rt: HostRuntime) -> Result<(), Fail> {
 }
 
 #[test]
-fn what_refuses_a_part_is_told(rt: HostRuntime) {
-    let long = [b' '; 65_537];
-    assert!(rt; statements(rt.alloc(), b"?").err() == Some(TextFault::Illegal(1)));
-    assert!(rt; statements(rt.alloc(), b"A=5\n5A\n?").err() == Some(TextFault::Illegal(2)));
-    assert!(rt; statements(rt.alloc(), &long).err() == Some(TextFault::TooLong));
-    assert!(rt; statements(rt.alloc(), &long[..65_536]).is_ok());
-}
-
-#[test]
 fn a_source_has_words_and_symbols(rt: HostRuntime) -> Result<(), Fail> {
     let program = assemble(rt.alloc(), &[HELLO], Profile::Pdp8I)?;
     let translation = translate(rt.alloc(), &[HELLO], Profile::Pdp8I)?;
@@ -54,11 +45,10 @@ fn a_source_has_words_and_symbols(rt: HostRuntime) -> Result<(), Fail> {
 }
 
 /// What AC and MQ hold at a start, whether the link is set, and what each cell holds.
-const STARTS: [(u16, bool, u16); 4] = [
+const STARTS: [(u16, bool, u16); 3] = [
     (0, false, 0),
     (0o1234, true, 0o7402),
-    (0o7777, true, 0o5555),
-    (0o4000, false, 0o7777),
+    (0o7777, false, 0o5555),
 ];
 
 /// That start.
@@ -85,24 +75,6 @@ fn a_certified_program_prints_the_same_from_any_start(rt: HostRuntime) -> Result
         assert_eq!(rt; world.halted_at(), Some(word(0o212)));
         assert_eq!(rt; world.cpu().pc, word(0o213));
         assert!(rt; world.printed() == PRINTED.as_slice() && world.punched().is_empty());
-    }
-    Ok(())
-}
-
-/// Declarations of HELLO, certificates, and what refuses the program.
-const REFUSED: [(&[u8], &[u8], &str); 3] = [
-    (b"main 9", HELLO_CERTIFICATE, "declaration: BadLine 1"),
-    (HELLO_DECLARED, b"", "certificate: Version"),
-    (HELLO_DECLARED, b"PDP8-CERTIFICATE 1\nend\n", "V1 at 0200"),
-];
-
-#[test]
-fn what_refuses_a_program_is_told(rt: HostRuntime) -> Result<(), Fail> {
-    for (declared, certificate, wanted) in &REFUSED {
-        let Err(fault) = certify(rt.alloc(), HELLO_TAPE, declared, certificate) else {
-            panic!(rt; "not {wanted}");
-        };
-        assert_eq!(rt; format!(in rt.alloc(); "{fault}")?.as_str(), *wanted);
     }
     Ok(())
 }

@@ -1,27 +1,34 @@
 -- That a reason is found where a condition fails.
-use Rattle.std.proofs.Common.{◌≡◌, ℕ, ◌<◌, ◌≤◌, true, false, ◌⊎◌, Option, Some, None, inl, inr, refl, sym, ap, ◌∙◌, subst, arith, lit≤}
+use Rattle.std.proofs.Common.{◌≡◌, ℕ, ◌+◌, ◌<◌, ◌≤◌, Bool, true, false, ◌&&◌, ◌⊎◌, Option, Some, None, List, [], ◌∷◌, inl, inr, refl, sym, ap, ◌∙◌, subst, arith, if◌then◌else◌, lit≤}
 use Rattle.std.specs.Prelude.{IfNone, is_some}
 use Rattle.std.proofs.lemmas.Bool.{true≢false}
-use Rattle.instruct.specs.Instructions.{Meaning, Jms, meaning_of}
-use Rattle.wordset.specs.Words.{Words, how_many}
+use Rattle.instruct.specs.Instructions.{Meaning, Jms, Jmp}
+use Rattle.wordset.specs.Words.{Words, one, plus}
 use Rattle.declaration.specs.Declaration.{Routine, IsDeclared, IsListed}
-use Rattle.facts.specs.Facts.{Fact, Place, possible}
-use Rattle.facts.specs.Conditions.{MayWrite, called, calls_through_index}
+use Rattle.facts.specs.Facts.{Fact, Place, joined}
+use Rattle.facts.specs.Changes.{with_offsets}
+use Rattle.facts.specs.Conditions.{MayWrite, called, calls_through_index, returned_through}
+use Rattle.facts.specs.Outcomes.{Outcome, Goes, CallsTo, Returns, outcomes_of}
 use Rattle.facts.specs.declared.Condition.{Condition}
 use Rattle.facts.specs.declared.Condition.TheVariants.{V1, V2, V3, V4, V5, V6, V7, V8, V9, V10, V11, V12, V13, V14, V15}
 use Rattle.certificate.specs.Certificate.{Certificate, writes_of}
 use Rattle.judge.specs.Asked.{asks_few}
-use Rattle.judge.specs.Conditions.{Case, Covers, CoversCallee, EachTarget, HoldsFor, IsAskedAs, IsFirst, IsIn, IsPlaced, KeepsPointer, LinesArePlaced, fact_at, order, place_among, place_in}
+use Rattle.judge.specs.Conditions.{Case, Covers, CoversCallee, EachOutcome, EachTarget, HoldsAt, HoldsFor, IsAskedAs, IsFirst, IsIn, IsLower, KeepsPointer, LandsAt, LinesArePlaced, OutcomeLands, ReturnsWell, StartsWell, fact_at, order, place_among, place_in}
 use Rattle.judge.proofs.OrderLemmas.{IsLater, order_of, start_or_later}
 use Rattle.judge.proofs.WordLemmas.{holds_from}
-use Rattle.reasons.specs.Always.{is_always_explained}
-use Rattle.reasons.specs.Keeping.{HoldsIfAsked, IsUnowned, Keeps, WordsKeep}
+use Rattle.reasons.specs.Keeping.{Arrives, IsLowerIfListed, Keeps, KeepsAt, OutcomeArrives, ReturnsThrough, WordsKeep}
 use Rattle.reasons.specs.declared.reason.Reason.{Reason}
 
 -- What holds where nothing is found.
 pub none_weaker : {T : Type 0} (r : Option T) (P Q : Type 0) → (P → Q) → IfNone r P → IfNone r Q
 none_weaker {T} (Some x) P Q f h = tt
 none_weaker {T} None P Q f h = f h
+
+pub none_some : {x : ℕ} → None ≡ Some x → ⊥
+none_some e = cc
+
+pub some_is : {x y : ℕ} → Some x ≡ Some y → x ≡ y
+some_is e = cc
 
 -- A condition that is on words alone.
 pub past_lines : (v : Condition) → (v ≡ V1 → ⊥) → (v ≡ V2 → ⊥) → 2 ≤ place_among v
@@ -39,6 +46,20 @@ may_write_in c r e a is h = subst (λ x. MayWrite (writes_of c x) x a) (sym is) 
 pub read_in : (reads : Option Words) (cells : Words) (r : Routine) (a : ℕ) → reads ≡ Some cells → (cells a ≡ true) ⊎ (r ≡ Some a) → IsListed reads a ⊎ (r ≡ Some a)
 read_in reads cells r a is h = subst (λ x. IsListed x a ⊎ (r ≡ Some a)) (sym is) h
 
+-- The rank of a callee, where it isn't listed, in main, in a routine that isn't listed, and in one that is.
+pub lower_of_unlisted : (c : Certificate) (r : Routine) (e : ℕ) → false ≡ c.listed e → IsLowerIfListed c r e
+lower_of_unlisted c None e none = tt
+lower_of_unlisted c (Some q) e none = λ listed own. absurd (true≢false (sym listed ∙ sym none))
+
+pub lower_in_main : (c : Certificate) (r : Routine) (e : ℕ) → None ≡ r → IsLowerIfListed c r e
+lower_in_main c r e main = subst (λ x. IsLowerIfListed c x e) main tt
+
+pub lower_in_unlisted : (c : Certificate) (r : Routine) (q e : ℕ) → Some q ≡ r → false ≡ c.listed q → IsLowerIfListed c r e
+lower_in_unlisted c r q e is none = subst (λ x. IsLowerIfListed c x e) is (λ listed own. absurd (true≢false (sym own ∙ sym none)))
+
+pub lower_in_routine : (c : Certificate) (r : Routine) (q e : ℕ) → Some q ≡ r → c.rank e < c.rank q → IsLowerIfListed c r e
+lower_in_routine c r q e is less = subst (λ x. IsLowerIfListed c x e) is (λ listed own. less)
+
 -- What is kept of each word that is called.
 each_target : (j : Case) (r : Routine) (a : ℕ) (m : Meaning) (P : ℕ → Type 0) → ((e : ℕ) → e < 4096 → called (place_in j r) (fact_at j a) m e ≡ true → P e) → EachTarget j r a m P
 each_target j r a (Jms i c) P h = h
@@ -48,63 +69,103 @@ keeps_pointer : (m : Meaning) → calls_through_index m ≡ false → KeepsPoint
 keeps_pointer (Jms i c) e = e
 keeps_pointer _ e = tt
 
--- What is kept is what the condition asks.
-keeps_holds : (j : Case) (r : Routine) (a : ℕ) (v : Condition) (m : Meaning) → is_always_explained v ≡ true → Keeps j.certificate (place_in j r) (fact_at j a) a v m → HoldsFor j v r a m
-keeps_holds j r a V1 m e h = tt
-keeps_holds j r a V2 m e h = tt
-keeps_holds j r a V3 m e h = h
-keeps_holds j r a V4 m e h = absurd (true≢false (sym e))
-keeps_holds j r a V5 m e h = h
-keeps_holds j r a V6 m e h = h
-keeps_holds j r a V7 m e h = (keeps_pointer m h.0, each_target j r a m _ (λ x lt is. let k = h.1 x lt is in record { entry = k.entry; listed = k.listed; lower = k.lower }))
-keeps_holds j r a V8 m e h = each_target j r a m _ h
-keeps_holds j r a V9 m e h = each_target j r a m _ h
-keeps_holds j r a V10 m e h = absurd (true≢false (sym e))
-keeps_holds j r a V11 m e h = absurd (true≢false (sym e))
-keeps_holds j r a V12 m e h = absurd (true≢false (sym e))
-keeps_holds j r a V13 m e h = h
-keeps_holds j r a V14 m e h = h
-keeps_holds j r a V15 m e h = h
+-- Where a fact arrives it lands, if lines count.
+lands : (j : Case) (q r : Routine) (a : ℕ) (f : Fact) → Arrives true j.certificate (place_in j q) r a f → LandsAt j r a f
+lands j q r a f h = let allowed = h.allowed refl in
+    record { there = allowed.there; inside = h.inside; entails = allowed.entails; offsets = allowed.offsets }
+
+outcome_lands : (j : Case) (r : Routine) (o : Outcome) → OutcomeArrives true j.certificate (place_in j r) o → OutcomeLands j r o
+outcome_lands j r (Goes next f) h = λ a lt is. lands j r r a f (h a lt is)
+outcome_lands j r (CallsTo next f) h = tt
+outcome_lands j r (Returns f) h = tt
+
+outcomes_land : (j : Case) (r : Routine) (os : List Outcome) → EachOutcome (OutcomeArrives true j.certificate (place_in j r)) os → EachOutcome (OutcomeLands j r) os
+outcomes_land j r [] h = tt
+outcomes_land j r (o ∷ os) h = (outcome_lands j r o h.0, outcomes_land j r os h.1)
+
+through_own : (i x : Bool) (c : ℕ) → i ≡ true → x ≡ true → (if i && x then Some c else None) ≡ Some c
+through_own true true c p q = refl
+through_own true false c p q = absurd (true≢false (sym q))
+through_own false x c p q = absurd (true≢false (sym p))
+
+returns_well : (j : Case) (r : Routine) (a : ℕ) (m : Meaning) →
+    ((e : ℕ) → returned_through j.declaration m ≡ Some e → ReturnsThrough true j.certificate (place_in j r) (fact_at j a) e) → ReturnsWell j r a m
+returns_well j r a (Jmp i c) h = λ is entry. (let by = h c (through_own i (j.declaration.entry c) c is entry) in (
+  by.own,
+  λ o lt has. (let one = by.each o lt has in let exit = one.exit refl in
+      record { declared = one.declared; there = exit.there; entails = exit.entails }),
+))
+returns_well j r a _ h = tt
+
+-- The routine is listed; main needn't be.
+abbrev IsListedRoutine : Certificate → Routine → Type 0
+IsListedRoutine c None = Unit {0}
+IsListedRoutine c (Some e) = c.listed e ≡ true
+
+-- Where the lines at an address are placed, the routine whose body has the address of a fact is listed.
+own_listed : (j : Case) (r : Routine) (a : ℕ) → IsDeclared j.declaration → IsIn j r a → LinesArePlaced j a → IsListedRoutine j.certificate r
+own_listed j r a d here placed = elim (placed.fact here.fact) [
+  | inl main ↦ subst (λ x. IsListedRoutine j.certificate x) (d.bodies_apart a None r main.0 here.body) tt
+  | inr own ↦ subst (λ x. IsListedRoutine j.certificate x) (d.bodies_apart a (Some own.0) r own.1 here.body) own.2
+]
+
+is_lower : (c : Certificate) (r : Routine) (e : ℕ) → IsListedRoutine c r → c.listed e ≡ true → IsLowerIfListed c r e → IsLower c r e
+is_lower c None e own listed h = tt
+is_lower c (Some r) e own listed h = h listed own
+
+-- What is kept is what the condition asks, if lines count and the routine is listed.
+keeps_holds : (j : Case) (r : Routine) (a : ℕ) (v : Condition) (m : Meaning) → IsListedRoutine j.certificate r → Keeps true j.certificate (place_in j r) (fact_at j a) a v m → HoldsFor j v r a m
+keeps_holds j r a V1 m own h = tt
+keeps_holds j r a V2 m own h = tt
+keeps_holds j r a V3 m own h = h
+keeps_holds j r a V4 m own h = outcomes_land j r (outcomes_of (place_in j r) (fact_at j a) a m) h
+keeps_holds j r a V5 m own h = h
+keeps_holds j r a V6 m own h = h refl
+keeps_holds j r a V7 m own h = (
+  keeps_pointer m h.0,
+  each_target j r a m _ (λ x lt is. (let k = h.1 x lt is in record { entry = k.entry; listed = k.listed refl; lower = is_lower j.certificate r x own (k.listed refl) k.lower })),
+)
+keeps_holds j r a V8 m own h = each_target j r a m _ (λ x lt is. h x lt is refl)
+keeps_holds j r a V9 m own h = each_target j r a m _ (λ x lt is. (let k = h x lt is in (k.site refl, k.low)))
+keeps_holds j r a V10 m own h = each_target j r a m _ (λ x lt is. lands j r (Some x) (plus x 1) (with_offsets (one 0) (fact_at j a)) (h x lt is))
+keeps_holds j r a V11 m own h = each_target j r a m _ (λ x lt is o small there.
+    lands j r r (plus (a + 1) o) (joined (fact_at j a) (j.certificate.exit x o) (j.certificate.writes x)) (h x lt is o small there))
+keeps_holds j r a V12 m own h = returns_well j r a m h
+keeps_holds j r a V13 m own h = h
+keeps_holds j r a V14 m own h = h
+keeps_holds j r a V15 m own h = h
 
 few_is_third : (v : Condition) → asks_few v ≡ true → v ≡ V3
 few_is_third V3 e = refl
 few_is_third _ e = absurd (true≢false (sym e))
 
--- Where the fact is in a body, and each possible word keeps the condition.
-pub holds_of_words : (j : Case) (r : Routine) (a : ℕ) (v : Condition) (c : Certificate) (pl : Place) (f : Fact) (at : ℕ) → IsDeclared j.declaration → IsIn j r a → c ≡ j.certificate → pl ≡ place_in j r →
-    f ≡ fact_at j a → at ≡ a → WordsKeep c pl f at v → 2 ≤ place_among v → HoldsIfAsked j v a
-holds_of_words j r a v c pl f at d stands claims place fact there words le explained placed =
-    let kept : WordsKeep j.certificate (place_in j r) (fact_at j a) a v =
-    subst (λ x. WordsKeep j.certificate (place_in j r) (fact_at j a) x v) there
-    (subst (λ x. WordsKeep j.certificate (place_in j r) x at v) fact
-    (subst (λ x. WordsKeep j.certificate x f at v) place (subst (λ x. WordsKeep x pl f at v) claims words))) in
-    holds_from j v a le
-    (λ few q other. subst (λ k. how_many 4096 (possible (place_in j k) (fact_at j a) a) ≤ 64) (d.bodies_apart a r q stands.body other.body) (kept.few (few_is_third v few)))
-    (λ q w other lt is. (let same : r ≡ q = d.bodies_apart a r q stands.body other.body in
-    subst (λ k. HoldsFor j v k a (meaning_of j.declaration.profile a w)) same
-    (keeps_holds j r a v _ explained (kept.each w lt (subst (λ k. possible (place_in j k) (fact_at j a) a w ≡ true) (sym same) is)))))
+-- Where the fact is in a body, and there each possible word keeps the condition.
+pub kept_at : (j : Case) (r : Routine) (a : ℕ) (v : Condition) (lines : Bool) (c : Certificate) (pl : Place) (f : Fact) (at : ℕ) → IsDeclared j.declaration → j.declaration.body r a ≡ true → c ≡ j.certificate → pl ≡ place_in j r →
+    f ≡ fact_at j a → at ≡ a → WordsKeep lines c pl f at v → KeepsAt lines j v a
+kept_at j r a v lines c pl f at d body claims place fact there words q here =
+    let kept : WordsKeep lines j.certificate (place_in j r) (fact_at j a) a v =
+    subst (λ x. WordsKeep lines j.certificate (place_in j r) (fact_at j a) x v) there
+    (subst (λ x. WordsKeep lines j.certificate (place_in j r) x at v) fact
+    (subst (λ x. WordsKeep lines j.certificate x f at v) place (subst (λ x. WordsKeep lines x pl f at v) claims words))) in
+    subst (λ k. WordsKeep lines j.certificate (place_in j k) (fact_at j a) a v) (d.bodies_apart a r q body here.body) kept
 
--- Where there is no fact, nothing is asked.
-pub holds_without_fact : (j : Case) (a : ℕ) (v : Condition) → j.certificate.has_fact a ≡ false → 2 ≤ place_among v → HoldsIfAsked j v a
-holds_without_fact j a v none le explained placed =
-    holds_from j v a le (λ few q other. absurd (true≢false (sym other.fact ∙ none))) (λ q w other lt is. absurd (true≢false (sym other.fact ∙ none)))
+-- Where there is no fact, or no body has it, nothing is asked.
+pub kept_without_fact : (j : Case) (a : ℕ) (v : Condition) (lines : Bool) → j.certificate.has_fact a ≡ false → KeepsAt lines j v a
+kept_without_fact j a v lines none q here = absurd (true≢false (sym here.fact ∙ none))
 
-unowned_is_misplaced : (j : Case) (a : ℕ) → IsDeclared j.declaration → IsUnowned j.declaration j.certificate a → IsPlaced j a → ⊥
-unowned_is_misplaced j a d (inl none) (inl main) = true≢false (sym main.0 ∙ none None)
-unowned_is_misplaced j a d (inl none) (inr own) = true≢false (sym own.1 ∙ none (Some own.0))
-unowned_is_misplaced j a d (inr other) (inl main) = let q : None ≡ Some other.0 = d.bodies_apart a None (Some other.0) main.0 other.1 in cc
-unowned_is_misplaced j a d (inr other) (inr own) =
-    let q : Some own.0 ≡ Some other.0 = d.bodies_apart a (Some own.0) (Some other.0) own.1 other.1 in
-    let same : own.0 ≡ other.0 = cc in true≢false (sym (subst (λ e. j.certificate.listed e ≡ true) same own.2) ∙ other.2)
+pub kept_unowned : (j : Case) (a : ℕ) (v : Condition) (lines : Bool) → ((r : Routine) → j.declaration.body r a ≡ false) → KeepsAt lines j v a
+kept_unowned j a v lines none q here = absurd (true≢false (sym here.body ∙ none q))
 
--- Where the fact is in no body of a listed routine, it isn't placed.
-pub holds_unowned : (j : Case) (a : ℕ) (v : Condition) → IsDeclared j.declaration → j.certificate.has_fact a ≡ true → IsUnowned j.declaration j.certificate a → HoldsIfAsked j v a
-holds_unowned j a v d there unowned explained placed = absurd (unowned_is_misplaced j a d unowned (placed.fact there))
+-- A condition on words holds where it is kept, and the lines are placed.
+holds_kept : (j : Case) (v : Condition) (a : ℕ) → IsDeclared j.declaration → 2 ≤ place_among v → LinesArePlaced j a → KeepsAt true j v a → HoldsAt j v a
+holds_kept j v a d le placed kept =
+    holds_from j v a le (λ few q here. (kept q here).few (few_is_third v few))
+    (λ q w here lt is. keeps_holds j q a v _ (own_listed j q a d here placed) ((kept q here).each w lt is))
 
--- A reason is found where the first condition that fails is one on words.
-pub found_of_words : (j : Case) (v : Condition) (a : ℕ) (r : Option Reason) → 2 ≤ place_among v → IfNone r (2 ≤ place_among v → HoldsIfAsked j v a) → is_always_explained v ≡ true → IsFirst j v a → is_some r ≡ true
-found_of_words j v a (Some x) le none explained first = refl
-found_of_words j v a None le none explained first = absurd (first.fails (none le explained placed))
+-- A reason is found where the first condition that fails is one on words, or the one on lines, or that on the start.
+pub found_of_words : (j : Case) (v : Condition) (a : ℕ) (r : Option Reason) → IsDeclared j.declaration → 2 ≤ place_among v → IfNone r (KeepsAt true j v a) → IsFirst j v a → is_some r ≡ true
+found_of_words j v a (Some x) d le none first = refl
+found_of_words j v a None d le none first = absurd (first.fails (holds_kept j v a d le placed none))
   where
     later : IsLater v
     later = elim (start_or_later v) [ inl e ↦ absurd (let q : place_among v ≡ 0 = ap place_among e in omega arith) | inr l ↦ l ]
@@ -113,6 +174,10 @@ found_of_words j v a None le none explained first = absurd (first.fails (none le
     placed =
         let less : order V2 a < order v a = subst (λ n. order V2 a < n) (sym (order_of v a later)) (omega arith) in
         first.before V2 a (subst (λ b. IsAskedAs b j a) later.later first.asked) less
+
+pub found_of_start : (j : Case) (a : ℕ) (r : Option Reason) → IfNone r (a ≡ j.declaration.start → StartsWell j a) → IsFirst j V1 a → is_some r ≡ true
+found_of_start j a (Some x) none first = refl
+found_of_start j a None none first = absurd (first.fails (none first.asked))
 
 pub found_of_lines : (j : Case) (a : ℕ) (r : Option Reason) → IfNone r (LinesArePlaced j a) → IsFirst j V2 a → is_some r ≡ true
 found_of_lines j a (Some x) none first = refl

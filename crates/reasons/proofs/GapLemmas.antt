@@ -1,15 +1,25 @@
 -- What one fact leaves possible and another excludes.
-use Rattle.std.proofs.Common.{◌≡◌, ℕ, ◌<◌, true, List, [], ◌∷◌, length, get_or, drop, map, inl, inr, refl, sym, ◌∙◌, subst, zero, suc}
-use Rattle.std.proofs.lemmas.Bool.{true≢false}
-use Rattle.wordset.specs.Words.{Words, everything}
-use Rattle.facts.specs.Facts.{Ac, Cell, Fact, Among, Equation, Knows}
+use Rattle.std.proofs.Common.{◌≡◌, ℕ, ◌+◌, ◌<◌, ◌≤◌, true, ◌&&◌, Option, Some, None, List, [], ◌∷◌, length, get_or, drop, map, inl, inr, refl, sym, ap, ◌∙◌, subst, zero, suc}
+use Rattle.std.specs.Prelude.{IfSome, ◌↔◌}
+use Rattle.std.proofs.Math.ListN.{drop_of_length-le}
+use Rattle.std.proofs.lemmas.Bool.{and_from, eq-eqb, lt-ltb, true≢false}
+use Rattle.wordset.specs.Words.{Words, IsLinkWithin, IsWithin, SameLinks, SameWords, all_words, everything}
+use Rattle.processor.specs.Runs.{Image}
+use Rattle.facts.specs.Facts.{Ac, Cell, Entails, EntailsOffsets, Fact, Among, Equation, Knows, KnowsAll, narrowed, tape_word}
+use Rattle.facts.specs.Showing.{EachWithin, EntailsRegisters, MayStart, allows_all}
+use Rattle.facts.specs.Starts.{are_always, has_each, holds_before, is_always}
+use Rattle.facts.specs.Statements.{TrackedCell, cell_at, tracked}
 use Rattle.facts.specs.Same.{Agree}
 use Rattle.facts.specs.Changes.{with_offsets}
-use Rattle.facts.specs.Meaning.{equation_of}
+use Rattle.facts.specs.Meaning.{equation_of, meaning, statement_of}
+use Rattle.facts.specs.declared.fact.Fact.{Fact as CodeFact}
 use Rattle.facts.specs.declared.names.Equation.{Equation as CodeEquation}
-use Rattle.facts.proofs.Alike.{narrowed_same, only_same}
+use Rattle.facts.proofs.Alike.{narrowed_same, only_same, same_law}
 use Rattle.facts.proofs.AgreeLemmas.{agree_sym, same_fact, narrowed_agree}
-use Rattle.facts.proofs.EntailLemmas.{drop_item}
+use Rattle.facts.proofs.EntailLemmas.{drop_item, entails_iff}
+use Rattle.facts.proofs.StartLemmas.{test_all}
+use Rattle.facts.proofs.Starting.{each_from}
+use Rattle.facts.proofs.TrackingLemmas.{entry_within}
 use Rattle.reasons.specs.Gaps.{IsLinkBeyond, IsGap}
 use Rattle.reasons.specs.declared.gap.Gap.{Gap}
 use Rattle.reasons.specs.declared.gap.Gap.TheVariants as gap
@@ -56,3 +66,78 @@ exit_gap k f b g all same h = subst (λ x. IsGap k (with_offsets everything x) g
     whole (gap.Cell c w) q = record { small = q.small; possible = q.possible; excluded = q.excluded }
     whole (gap.Equation e) q = (q.0, q.1)
     whole (gap.Offset o) q = absurd (true≢false (sym (all o q.0) ∙ q.2))
+
+-- ---- where nothing is found
+
+-- What is left of the words of the accumulator, of MQ and of the link is within what a fact allows.
+pub registers_within : (k f : Fact) (left ac mq allowed link links : Words) → SameWords left (narrowed k Ac) → ac ≡ f.set Ac → mq ≡ k.mq → allowed ≡ f.mq → link ≡ k.link → links ≡ f.link →
+    IsWithin left ac → IsWithin mq allowed → IsLinkWithin link links → EntailsRegisters k f
+registers_within k f left ac mq allowed link links narrow one two three four five first second third = record {
+  ac = λ v lt is. ap (λ (s : Words). s v) (sym one) ∙ first v lt (narrow v lt ∙ is);
+  mq = λ v lt is. ap (λ (s : Words). s v) (sym three) ∙ second v lt (ap (λ (s : Words). s v) two ∙ is);
+  link = λ v lt is. ap (λ (s : Words). s v) (sym five) ∙ third v lt (ap (λ (s : Words). s v) four ∙ is);
+}
+
+-- What is within all that the entries of a cell leave is within each entry.
+within_entry : (s : Words) (cells : List TrackedCell) (i : ℕ) → i < length cells → IsWithin s (tracked (cell_at cells i).address cells) → IsWithin s (cell_at cells i).set
+within_entry s cells i lt within v small is =
+    entry_within cells i (cell_at cells i).address (cell_at cells i).set lt refl (λ w low h. h) v small (within v small is)
+
+pub cell_within : (k : Fact) (cells : List TrackedCell) (i cell : ℕ) (left allowed : Words) → i < length cells → cell ≡ (cell_at cells i).address → SameWords left (narrowed k (Cell cell)) →
+    SameWords allowed (tracked cell cells) → IsWithin left allowed → IsWithin (narrowed k (Cell (cell_at cells i).address)) (cell_at cells i).set
+cell_within k cells i cell left allowed lt at narrow same within =
+    let here : IsWithin (narrowed k (Cell cell)) (tracked cell cells) = λ v small is. sym (same v small) ∙ within v small (narrow v small ∙ is) in
+    within_entry (narrowed k (Cell (cell_at cells i).address)) cells i lt (subst (λ a. IsWithin (narrowed k (Cell a)) (tracked a cells)) at here)
+
+-- The equations that are left to look at are known where all are.
+pub all_known : (k : Fact) (es : List CodeEquation) (i : ℕ) → length es ≤ i → (KnowsAll k (map equation_of (drop i es)) ↔ KnowsAll k (map equation_of es)) → KnowsAll k (map equation_of es)
+all_known k es i le h = h.0 (subst (λ xs. KnowsAll k (map equation_of xs)) (sym (drop_of_length-le es le)) tt)
+
+-- The same of cells.
+pub all_within : (k : Fact) (cells : List TrackedCell) (i : ℕ) → length cells ≤ i → (EachWithin k (drop i cells) ↔ EachWithin k cells) → EachWithin k cells
+all_within k cells i le h = h.0 (subst (EachWithin k) (sym (drop_of_length-le cells le)) tt)
+
+pub entails_all : (k : Fact) (f : CodeFact) → EntailsRegisters k (meaning f) → EntailsOffsets k (meaning f) → EachWithin k (statement_of f).cells → KnowsAll k (meaning f).equations → Entails k (meaning f) × EntailsOffsets k (meaning f)
+entails_all k f registers offsets each know = (entails_iff k f true registers offsets each (λ t. know, λ a. refl)).0 refl
+
+-- What is entailed by a fact is entailed by one that agrees, also where an exit has all offsets.
+pub exit_entailed : (k f b exit : Fact) → Agree k f → with_offsets everything b ≡ exit → Entails k b → Entails f exit
+exit_entailed k f b exit agree same h =
+    let here : Entails f b = (same_law k f b (same_fact agree)).left h in
+    subst (λ x. Entails f x) same (record { sets = here.sets; mq = here.mq; link = here.link; equations = here.equations })
+
+-- ---- at a start
+
+-- Whatever the registers hold is allowed.
+pub registers_allowed : (f : Fact) (all ac mq links both : Words) → all ≡ all_words → ac ≡ f.set Ac → mq ≡ f.mq → SameLinks both everything → links ≡ f.link →
+    IsWithin all ac → IsWithin all mq → IsLinkWithin both links → allows_all f ≡ true
+registers_allowed f all ac mq links both whole one two every three first second third =
+    and_from _ _ (each_from 4096 (f.set Ac) (λ v lt. ap (λ (s : Words). s v) (sym one) ∙ first v lt (ap (λ (s : Words). s v) whole ∙ lt-ltb v 4096 lt)))
+    (and_from _ _ (each_from 4096 f.mq (λ v lt. ap (λ (s : Words). s v) (sym two) ∙ second v lt (ap (λ (s : Words). s v) whole ∙ lt-ltb v 4096 lt)))
+    (each_from 2 f.link (λ k lt. ap (λ (s : Words). s k) (sym three) ∙ third k lt (every k lt))))
+
+-- What a cell holds at a start is allowed.
+has_held : (o : Option ℕ) (set : Words) → IfSome o (λ w. w < 4096) → IsWithin (tape_word o) set → has_each o set ≡ true
+has_held None set small within = each_from 4096 set (λ v lt. within v lt refl)
+has_held (Some w) set small within = within w small (eq-eqb w w refl)
+
+pub cell_allowed : (image : Image) (cells : List TrackedCell) (i cell : ℕ) (held allowed : Words) → i < length cells → cell ≡ (cell_at cells i).address → SameWords held (tape_word (image cell)) → IfSome (image cell) (λ w. w < 4096) →
+    SameWords allowed (tracked cell cells) → IsWithin held allowed → has_each (image (cell_at cells i).address) (cell_at cells i).set ≡ true
+cell_allowed image cells i cell held allowed lt at same small settled within =
+    let here : IsWithin (tape_word (image cell)) (tracked cell cells) = λ v low is. sym (settled v low) ∙ within v low (same v low ∙ is) in
+    let there : IsWithin (tape_word (image (cell_at cells i).address)) (tracked (cell_at cells i).address cells) = subst (λ a. IsWithin (tape_word (image a)) (tracked a cells)) at here in
+    has_held (image (cell_at cells i).address) (cell_at cells i).set (subst (λ a. IfSome (image a) (λ w. w < 4096)) at small) (within_entry (tape_word (image (cell_at cells i).address)) cells i lt there)
+
+pub start_allowed : (image : Image) (f : CodeFact) → allows_all (meaning f) ≡ true → MayStart image (statement_of f).cells → are_always image (meaning f).equations ≡ true → holds_before image (meaning f) ≡ true
+start_allowed image f registers cells always = sym (test_all image (meaning f) true registers cells (sym always))
+
+-- One equation after another.
+pub always_step : (image : Image) (es : List CodeEquation) (i : ℕ) (g : CodeEquation) → i < length es → g ≡ get_or es i g → is_always image (equation_of g) ≡ true →
+    are_always image (map equation_of (drop i es)) ≡ are_always image (map equation_of es) → are_always image (map equation_of (drop (i + 1) es)) ≡ are_always image (map equation_of es)
+always_step image es i g lt e here h =
+    let whole : (is_always image (equation_of g) && are_always image (map equation_of (drop (i + 1) es))) ≡ are_always image (map equation_of es) =
+    subst (λ xs. are_always image (map equation_of xs) ≡ are_always image (map equation_of es)) (drop_item es i g lt e) h in
+    ap (λ b. b && are_always image (map equation_of (drop (i + 1) es))) (sym here) ∙ whole
+
+pub all_always : (image : Image) (es : List CodeEquation) (i : ℕ) → length es ≤ i → are_always image (map equation_of (drop i es)) ≡ are_always image (map equation_of es) → are_always image (map equation_of es) ≡ true
+all_always image es i le h = sym (subst (λ xs. are_always image (map equation_of xs) ≡ are_always image (map equation_of es)) (drop_of_length-le es le) h)

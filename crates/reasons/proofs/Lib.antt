@@ -1,6 +1,8 @@
+pub mod ArriveLemmas
 pub mod BreachLemmas
 pub mod FoundLemmas
 pub mod GapLemmas
 pub mod LineLemmas
 pub mod SetLemmas
+mod ByLinesLemmas
 mod RefuteLemmas

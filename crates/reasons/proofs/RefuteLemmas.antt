@@ -34,7 +34,7 @@ use Rattle.reasons.specs.declared.gap.Gap.TheVariants as gap
 use Rattle.reasons.specs.declared.reason.Reason.{Reason}
 use Rattle.reasons.specs.declared.reason.Reason.TheVariants as why
 
-both : (b : Bool) → b ≡ true → b ≡ false → ⊥
+pub both : (b : Bool) → b ≡ true → b ≡ false → ⊥
 both b t f = true≢false (sym t ∙ f)
 
 -- ---- what one fact leaves possible and another excludes
@@ -69,10 +69,10 @@ lower_than c r q e is h = subst (λ x. IsLower c x e) is h
 covered : (c : Certificate) (r : Routine) (q e : ℕ) → r ≡ Some q → CoversCallee c r e → Covers c q e
 covered c r q e is h = subst (λ x. CoversCallee c x e) is h
 
-ranks_clash : (x y rank own : ℕ) → x ≡ rank → y ≡ own → own ≤ rank → x < y → ⊥
+pub ranks_clash : (x y rank own : ℕ) → x ≡ rank → y ≡ own → own ≤ rank → x < y → ⊥
 ranks_clash x y rank own e f le lt = absurd (omega (arith, e, f, le, lt))
 
-too_high : (a : ℕ) → 4087 < a → a ≤ 4087 → ⊥
+pub too_high : (a : ℕ) → 4087 < a → a ≤ 4087 → ⊥
 too_high a lt le = absurd (omega (arith, lt, le))
 
 module _ (j : Case) (r : Routine) (a : ℕ) (m : Meaning) (e : ℕ) (lt : e < 4096) (is : called (place_in j r) (fact_at j a) m e ≡ true) where
@@ -95,7 +95,7 @@ module _ (j : Case) (r : Routine) (a : ℕ) (m : Meaning) (e : ℕ) (lt : e < 40
   call_refutes call.NoEntry h holds = both (j.declaration.entry e) (may_call holds.1).entry h
   call_refutes call.NotListed h holds = both (j.certificate.listed e) (may_call holds.1).listed h
   call_refutes (call.NotLower rank own) h holds =
-      ranks_clash (j.certificate.rank e) (j.certificate.rank h.0) rank own h.2.0 h.2.1 h.2.2 (lower_than j.certificate r h.0 e h.1 (may_call holds.1).lower)
+      ranks_clash (j.certificate.rank e) (j.certificate.rank h.1.0) rank own h.1.2.1 h.1.2.2 h.1.2.3 (lower_than j.certificate r h.1.0 e h.1.1 (may_call holds.1).lower)
   call_refutes (call.Writes b) h holds = both (j.certificate.writes h.0 b) ((covers holds h.0 h.1).writes b h.2.0 h.2.1) h.2.2
   call_refutes call.EntryNotWritten h holds = both (j.certificate.writes h.0 e) (covers holds h.0 h.1).entry h.2
   call_refutes call.WritesCaller h holds = both (j.certificate.writes e h.0) h.2 (covers holds h.0 h.1).own
@@ -163,7 +163,7 @@ outcomes_refute j r b l (o ∷ os) (inr h) lands = outcomes_refute j r b l os h 
 
 -- ---- words
 
-declared_or : (x y : Bool) → x ≡ false → y ≡ false → (x ≡ true) ⊎ (y ≡ true) → ⊥
+pub declared_or : (x y : Bool) → x ≡ false → y ≡ false → (x ≡ true) ⊎ (y ≡ true) → ⊥
 declared_or x y f g (inl t) = both x t f
 declared_or x y f g (inr t) = both y t g
 
@@ -186,7 +186,7 @@ asks_word j V2 a r w inside lt is h = tt
 asks_word j V3 a r w inside lt is h = h.1 r w inside lt is
 asks_word j _ a r w inside lt is h = h r w inside lt is
 
-few : (n m : ℕ) → 64 < n → n ≡ m → m ≤ 64 → ⊥
+pub few : (n m : ℕ) → 64 < n → n ≡ m → m ≤ 64 → ⊥
 few n m lt same le = absurd (omega (arith, lt, same, le))
 
 wrong_word_refutes : (j : Case) (v : Condition) (a : ℕ) (reason : Reason) → HasWrongWord j v a reason → HoldsAt j v a → ⊥

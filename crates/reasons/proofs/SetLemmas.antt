@@ -1,7 +1,8 @@
 -- What is left of a set.
-use Rattle.std.proofs.Common.{◌≡◌, ℕ, ◌+◌, ◌<◌, Bool, true, false, not, ◌&&◌, ◌⊎◌, refl, sym, ap, ◌∙◌, subst, inl, inr, arith}
+use Rattle.std.proofs.Common.{◌≡◌, ℕ, ◌+◌, ◌<◌, Bool, true, false, not, ◌&&◌, ◌⊎◌, Option, Some, None, refl, sym, ap, ◌∙◌, subst, inl, inr, arith}
+use Rattle.std.specs.Prelude.{IfNone, MatchOption}
 use Rattle.std.proofs.lemmas.Bool.{cases_lt, true≢false, or_cases}
-use Rattle.wordset.specs.Words.{Words, HasNoneFrom, difference, union}
+use Rattle.wordset.specs.Words.{Words, HasNoneFrom, IsFirstFrom, IsWithin, difference, union}
 
 -- Where nothing is left of a set without another, each of its words is in the other.
 pub none_left : (r s t : Words) → HasNoneFrom 0 r → r ≡ difference s t → (a : ℕ) → a < 4096 → s a ≡ true → t a ≡ true
@@ -22,3 +23,15 @@ none_below s i before here o lt = elim (cases_lt o i) [
   | inl h ↦ before o h
   | inr h ↦ (let same : i ≡ o = omega arith in subst (λ k. s k ≡ false) same here)
 ]
+
+-- What holds below this number and of it holds below the next one.
+pub below_next : (P : ℕ → Type 0) (i : ℕ) → ((o : ℕ) → o < i → P o) → P i → (o : ℕ) → o < i + 1 → P o
+below_next P i before here o lt = elim (cases_lt o i) [
+  | inl h ↦ before o h
+  | inr h ↦ (let same : i ≡ o = omega arith in subst P same here)
+]
+
+-- No word is left of a set without another.
+pub none_beyond : (r : Option ℕ) (s t d : Words) → d ≡ difference s t → MatchOption r (HasNoneFrom 0 d) (λ w. IsFirstFrom 0 d w) → IfNone r (IsWithin s t)
+none_beyond None s t d same none = λ a lt is. none_left d s t none same a lt is
+none_beyond (Some w) s t d same first = tt

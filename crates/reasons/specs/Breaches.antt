@@ -49,7 +49,7 @@ abbrev pub CallBreaks : Certificate → Place → Fact → ℕ → ℕ → CallB
 CallBreaks c pl f a e call.NoEntry = pl.declaration.entry e ≡ false
 CallBreaks c pl f a e call.NotListed = c.listed e ≡ false
 CallBreaks c pl f a e (call.NotLower rank own) =
-    InRoutine pl.routine (λ r. (c.rank e ≡ rank) × (c.rank r ≡ own) × (own ≤ rank))
+    (c.listed e ≡ true) × InRoutine pl.routine (λ r. (c.listed r ≡ true) × (c.rank e ≡ rank) × (c.rank r ≡ own) × (own ≤ rank))
 CallBreaks c pl f a e (call.Writes b) =
     InRoutine pl.routine (λ r. (b < 4096) × (c.writes e b ≡ true) × (c.writes r b ≡ false))
 CallBreaks c pl f a e call.EntryNotWritten = InRoutine pl.routine (λ r. c.writes r e ≡ false)

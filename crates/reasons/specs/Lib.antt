@@ -1,4 +1,3 @@
-pub mod Always
 pub mod Breaches
 pub mod Gaps
 pub mod Keeping

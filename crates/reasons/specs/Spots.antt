@@ -1,5 +1,5 @@
 -- A fact at an address of a body with what is claimed, as the code keeps it; it serves private contracts.
-use Rattle.std.specs.Prelude.{◌≡◌, ℕ, true, Some, None, List, Option}
+use Rattle.std.specs.Prelude.{◌≡◌, ℕ, Bool, true, false, Some, None, List, Option}
 use Rattle.wordset.specs.Words.{Words, nothing}
 use Rattle.wordset.specs.Lanes.{words}
 use Rattle.peripherals.specs.Loading.{image_of}
@@ -12,6 +12,7 @@ use Rattle.facts.specs.Places.{place_of}
 use Rattle.facts.specs.declared.Condition.{Condition}
 use Rattle.certificate.specs.Certificate.{Certificate, sites_of}
 use Rattle.reasons.specs.Reasons.{IsWrongWord}
+use Rattle.reasons.specs.Stuck.{is_call_of_lines, is_landing_of_lines, is_of_lines, is_return_of_lines, is_word_of_lines}
 use Rattle.reasons.specs.Breaches.{Breaks, CallBreaks, ReturnBreaks, Misses, condition_of, condition_of_call}
 use Rattle.reasons.specs.declared.breach.Breach.{Breach}
 use Rattle.reasons.specs.declared.breach.CallBreach.{CallBreach}
@@ -20,6 +21,8 @@ use Rattle.reasons.specs.declared.breach.Landing.{Landing}
 use Rattle.reasons.specs.declared.reason.Reason.{Reason}
 use Rattle.reasons.specs.declared.spot.Body.{Body}
 use Rattle.reasons.specs.declared.spot.Body.TheVariants.{Main, Of}
+use Rattle.reasons.specs.declared.spot.Sought.{Sought}
+use Rattle.reasons.specs.declared.spot.Sought.TheVariants.{Any, NotOfLines}
 use Rattle.reasons.specs.declared.spot.Spot.{Spot}
 
 -- What is claimed, the place and the fact.
@@ -32,26 +35,44 @@ here s = place_of s.place
 abbrev pub fact_of : {A C : Type 0} → Spot A C → Fact
 fact_of s = meaning s.fact.now
 
+-- A line that is missing or too narrow counts among the reasons that are looked for.
+abbrev pub counts_lines : Sought → Bool
+counts_lines Any = true
+counts_lines NotOfLines = false
+
+-- A reason is one of those, by whether it is of lines.
+abbrev pub IsSought : Sought → Bool → Type 0
+IsSought sought false = Unit {0}
+IsSought sought true = counts_lines sought ≡ true
+
+abbrev pub IsSoughtHere : {A C : Type 0} → Spot A C → Bool → Type 0
+IsSoughtHere s of_lines = IsSought s.sought of_lines
+
 -- The words that are possible there.
 abbrev pub possible_at : {A C : Type 0} → Spot A C → Words
 possible_at s = possible (here s) (fact_of s) s.at
 
 -- The word fails the condition there, since it breaks this.
 abbrev pub BreaksHere : {A C : Type 0} → (C → Certificate) → Spot A C → Condition → ℕ → Breach → Type 0
-BreaksHere claims s v w b = (condition_of b ≡ v) × Breaks (claimed_by claims s) (here s) (fact_of s) s.at w b
+BreaksHere claims s v w b =
+    (condition_of b ≡ v) × IsSought s.sought (is_word_of_lines b)
+    × Breaks (claimed_by claims s) (here s) (fact_of s) s.at w b
 
 -- A call of the entry fails the condition there, since it breaks this.
 abbrev pub CallBreaksHere : {A C : Type 0} → (C → Certificate) → Spot A C → Condition → ℕ → CallBreach → Type 0
 CallBreaksHere claims s v e b =
-    (condition_of_call b ≡ v) × CallBreaks (claimed_by claims s) (here s) (fact_of s) s.at e b
+    (condition_of_call b ≡ v) × IsSought s.sought (is_call_of_lines b)
+    × CallBreaks (claimed_by claims s) (here s) (fact_of s) s.at e b
 
 -- A return through the entry breaks this.
 abbrev pub ReturnBreaksHere : {A C : Type 0} → (C → Certificate) → Spot A C → ℕ → ReturnBreach → Type 0
-ReturnBreaksHere claims s e b = ReturnBreaks (claimed_by claims s) (here s) (fact_of s) e b
+ReturnBreaksHere claims s e b =
+    IsSought s.sought (is_return_of_lines b) × ReturnBreaks (claimed_by claims s) (here s) (fact_of s) e b
 
 -- A run with this fact doesn't land at the address.
 abbrev pub MissesHere : {A C : Type 0} → (C → Certificate) → Spot A C → Routine → ℕ → Fact → Landing → Type 0
-MissesHere claims s r a f l = Misses (claimed_by claims s) (here s).declaration r a f l
+MissesHere claims s r a f l =
+    IsSought s.sought (is_landing_of_lines l) × Misses (claimed_by claims s) (here s).declaration r a f l
 
 -- The routine whose body it is, and its sites; main has none.
 abbrev pub routine_with : Body → Routine
@@ -64,7 +85,8 @@ sites_with (Of e r) = words r.sites
 
 -- More than 64 words are possible there, or this word is and breaks this.
 abbrev pub IsWrongHere : {A C : Type 0} → (C → Certificate) → Spot A C → Condition → Reason → Type 0
-IsWrongHere claims s v reason = IsWrongWord (claimed_by claims s) (here s) (fact_of s) s.at v reason
+IsWrongHere claims s v reason =
+    IsSought s.sought (is_of_lines reason) × IsWrongWord (claimed_by claims s) (here s) (fact_of s) s.at v reason
 
 -- The place of a fact in that body.
 abbrev pub place_with : List (Option ℕ) → Kept → Body → Place

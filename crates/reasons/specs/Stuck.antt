@@ -1,6 +1,10 @@
 -- What is told of an address at which a search is stuck.
-use Rattle.std.specs.Prelude.{◌≡◌, ℕ, Bool, true, false}
+use Rattle.std.specs.Prelude.{◌≡◌, ◌<◌, ℕ, Bool, true, false}
+use Rattle.facts.specs.declared.Condition.{Condition}
+use Rattle.facts.specs.declared.Condition.TheVariants.{V3, V4, V5, V7, V9, V10, V11, V12, V13, V14, V15}
+use Rattle.judge.specs.Conditions.{Case}
 use Rattle.judge.specs.declared.judging.Refusal.{Refusal}
+use Rattle.reasons.specs.Reasons.{Explains}
 use Rattle.reasons.specs.declared.breach.Landing.{Landing}
 use Rattle.reasons.specs.declared.breach.Landing.TheVariants.{NoFact, OtherBody, Excluded}
 use Rattle.reasons.specs.declared.breach.CallBreach.{CallBreach}
@@ -18,8 +22,8 @@ is_landing_of_lines NoFact = true
 is_landing_of_lines OtherBody = false
 is_landing_of_lines (Excluded g) = true
 
--- The call is wrong since a line is missing or too narrow. A rank that isn't lower is no such thing: where there are ranks, a
--- draft has them.
+-- The call is wrong by lines: one is missing or too narrow, or lets the callee write the caller's entry. A rank that isn't
+-- lower is no such thing: where there are ranks, a draft has them.
 abbrev pub is_call_of_lines : CallBreach → Bool
 is_call_of_lines call.NoEntry = false
 is_call_of_lines call.TooHigh = false
@@ -42,12 +46,42 @@ is_word_of_lines (breach.Returns e b) = is_return_of_lines b
 is_word_of_lines (breach.GoesOn a l) = is_landing_of_lines l
 is_word_of_lines _ = false
 
--- What is told is that a line is missing or too narrow: a certificate with more lines, or wider ones, needn't have it.
+-- What is told is of lines: that one is missing, misplaced or too narrow, or lets too much be written, so that a certificate
+-- with other lines needn't have it.
 abbrev pub is_of_lines : Reason → Bool
 is_of_lines (why.TooManyWords n) = false
 is_of_lines (why.ByWord w b) = is_word_of_lines b
 is_of_lines _ = true
 
--- It is told of the address at which the search is stuck, and isn't that a line is missing or too narrow.
+-- It is told of the address at which the search is stuck, and isn't of lines.
 abbrev pub IsToldOf : ℕ → Refusal → Reason → Type 0
 IsToldOf at refusal reason = (refusal.address ≡ at) × (is_of_lines reason ≡ false)
+
+-- If the condition fails at the address it does so by lines alone: whatever explains that is of lines.
+abbrev pub FailsByLinesAlone : Case → ℕ → Condition → Type 0
+FailsByLinesAlone j a v = (reason : Reason) → Explains j v a reason → is_of_lines reason ≡ true
+
+-- The place of a condition in the order in which they are asked at the address where a search is stuck: first those that a
+-- word breaks by itself, then those on calls and returns, then those on where a run goes on. V1, V2, V6 and V8, which stand
+-- last, aren't asked: they fail by lines alone.
+abbrev pub place_asked : Condition → ℕ
+place_asked V3 = 0
+place_asked V5 = 1
+place_asked V14 = 2
+place_asked V13 = 3
+place_asked V15 = 4
+place_asked V7 = 5
+place_asked V9 = 6
+place_asked V12 = 7
+place_asked V4 = 8
+place_asked V10 = 9
+place_asked V11 = 10
+place_asked _ = 11
+
+-- No condition that has its place before that of v fails at the address but by lines alone.
+abbrev pub NoneFailsBefore : Case → ℕ → Condition → Type 0
+NoneFailsBefore j a v = (u : Condition) → place_asked u < place_asked v → FailsByLinesAlone j a u
+
+-- Whatever condition fails at the address does so by lines alone.
+abbrev pub EachFailsByLinesAlone : Case → ℕ → Type 0
+EachFailsByLinesAlone j a = (u : Condition) → FailsByLinesAlone j a u

@@ -21,7 +21,8 @@ pub enum CallBreach {
     NoEntry,
     /// V7: the entry has no routine line.
     NotListed,
-    /// V7: its rank, the first, isn't below that of the calling routine, the second.
+    /// V7: it's listed, and its rank, the first, isn't below that of the calling routine, the second,
+    /// which is listed too.
     NotLower(usize, usize),
     /// V8: it may write this cell, which isn't in the written set of the calling routine.
     Writes(Word),

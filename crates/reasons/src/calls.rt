@@ -1,15 +1,13 @@
 //! What a call breaks.
 
-ghost use Rattle.std.specs.Prelude.{◌≡◌, ◌<◌, IfNone, IfSome};
-ghost use Rattle.facts.specs.Conditions.{called};
-ghost use Rattle.facts.specs.Outcomes.{meaning_at};
+ghost use Rattle.std.specs.Prelude.{◌≡◌, ◌<◌, true, false, IfNone, IfSome};
 ghost use Rattle.facts.specs.declared.Condition.TheVariants.{V7, V8, V9, V10, V11};
-ghost use Rattle.reasons.specs.Keeping.{KeepsCallHere, KeepsCalls, KeepsHere};
-ghost use Rattle.reasons.specs.Spots.{BreaksHere, CallBreaksHere, claimed_by, fact_of, here};
+ghost use Rattle.reasons.specs.Keeping.{IsLowerHere, KeepsCallHere, KeepsCallsHere, KeepsHere, ReturnLandsHere};
+ghost use Rattle.reasons.specs.Spots.{BreaksHere, CallBreaksHere, claimed_by, counts_lines};
 
 use crate::breach::{Breach, CallBreach};
 use crate::spot::Spot;
-use crate::told::claimed_exit;
+use crate::told::{claimed_exit, claimed_routine};
 use facts::{Condition, Known, Room};
 use judge::Claims;
 use std::alloc::Allocator;
@@ -34,9 +32,7 @@ impl<A: Allocator, C: Claims> Spot<'_, A, C> {
     /// The first call of a word that breaks a condition on calls.
     pub(crate) fn first_call(&self, condition: Condition, word: Word) -> Option<Breach>
         ensures found { IfSome result (BreaksHere C.claims self.now condition word) }
-        ensures none { IfNone result (KeepsCalls (claimed_by C.claims self.now) (here self.now)
-            (fact_of self.now) self.now.at condition
-            (meaning_at (here self.now) self.now.at word)) }
+        ensures none { IfNone result (KeepsCallsHere C.claims self.now condition word) }
     {
         let callees = self.place.calls(self.fact, self.at, word);
         let mut next = 0usize;
@@ -72,14 +68,34 @@ impl<A: Allocator, C: Claims> Spot<'_, A, C> {
         if !self.place.declaration.is_entry(entry) {
             return Some(CallBreach::NoEntry);
         }
-        let Some(callee) = self.claims.routine(entry) else {
+        if self.is_unlisted(entry) {
             return Some(CallBreach::NotListed);
-        };
-        let own = self.claimed(self.owner()?).rank;
-        if callee.rank < own {
+        }
+        self.is_not_lower(entry)
+    }
+
+    /// Whether an entry has no routine line, where lines count.
+    fn is_unlisted(&self, entry: Word) -> bool
+        ensures yes { result ≡ true → (counts_lines self.now.sought ≡ true) ×
+            ((claimed_by C.claims self.now).listed entry ≡ false) }
+        ensures no { result ≡ false → counts_lines self.now.sought ≡ true →
+            (claimed_by C.claims self.now).listed entry ≡ true }
+    {
+        self.counts_lines() && self.claims.routine(entry).is_none()
+    }
+
+    /// Why the rank of a listed callee isn't lower than that of the running routine, if that is listed.
+    fn is_not_lower(&self, entry: Word) -> Option<CallBreach>
+        ensures found { IfSome result (CallBreaksHere C.claims self.now V7 entry) }
+        ensures none { IfNone result (IsLowerHere C.claims self.now entry) }
+    {
+        let callee = self.claims.routine(entry)?;
+        let running = self.owner()?;
+        let own = self.claims.routine(running)?;
+        if callee.rank < own.rank {
             return None;
         }
-        Some(CallBreach::NotLower(callee.rank, own))
+        Some(CallBreach::NotLower(callee.rank, own.rank))
     }
 
     /// What of a callee the running routine's written set doesn't cover.
@@ -87,9 +103,12 @@ impl<A: Allocator, C: Claims> Spot<'_, A, C> {
         ensures found { IfSome result (CallBreaksHere C.claims self.now V8 entry) }
         ensures none { IfNone result (KeepsCallHere C.claims self.now V8 entry) }
     {
+        if !self.counts_lines() {
+            return None;
+        }
         let running = self.owner()?;
-        let caller = self.claimed(running);
-        let callee = self.claimed(entry);
+        let caller = claimed_routine(self.claims, running);
+        let callee = claimed_routine(self.claims, entry);
         if callee.writes.contains(running) {
             return Some(CallBreach::WritesCaller);
         }
@@ -110,7 +129,10 @@ impl<A: Allocator, C: Claims> Spot<'_, A, C> {
         if self.at.index() > LAST_SITE {
             return Some(CallBreach::TooHigh);
         }
-        if self.claimed(entry).sites.contains(self.at) {
+        if !self.counts_lines() {
+            return None;
+        }
+        if claimed_routine(self.claims, entry).sites.contains(self.at) {
             return None;
         }
         Some(CallBreach::NoSite)
@@ -118,7 +140,8 @@ impl<A: Allocator, C: Claims> Spot<'_, A, C> {
 
     /// Why a call doesn't land at the address after an entry.
     fn does_not_enter(&self, entry: Word) -> Option<CallBreach>
-        ensures { IfSome result (CallBreaksHere C.claims self.now V10 entry) }
+        ensures found { IfSome result (CallBreaksHere C.claims self.now V10 entry) }
+        ensures none { IfNone result (KeepsCallHere C.claims self.now V10 entry) }
     {
         let known = Known::entering(self.fact);
         match self.misses(&Some(entry), entry.increment(), &known) {
@@ -129,7 +152,8 @@ impl<A: Allocator, C: Claims> Spot<'_, A, C> {
 
     /// Why the run doesn't land after a return that is claimed of an entry.
     fn does_not_return(&self, entry: Word) -> Option<CallBreach>
-        ensures { IfSome result (CallBreaksHere C.claims self.now V11 entry) }
+        ensures found { IfSome result (CallBreaksHere C.claims self.now V11 entry) }
+        ensures none { IfNone result (KeepsCallHere C.claims self.now V11 entry) }
     {
         for offset in 0..8usize {
             if let Some(breach) = self.does_not_return_by(entry, offset) {
@@ -142,10 +166,11 @@ impl<A: Allocator, C: Claims> Spot<'_, A, C> {
     /// Why the run doesn't land after a return by an offset, if that is claimed of an entry.
     fn does_not_return_by(&self, entry: Word, offset: usize) -> Option<CallBreach>
         requires { offset < 8 }
-        ensures { IfSome result (CallBreaksHere C.claims self.now V11 entry) }
+        ensures found { IfSome result (CallBreaksHere C.claims self.now V11 entry) }
+        ensures none { IfNone result (ReturnLandsHere C.claims self.now entry offset) }
     {
         let exit = claimed_exit(self.claims, entry, offset)?;
-        let written = self.claimed(entry).writes;
+        let written = claimed_routine(self.claims, entry).writes;
         let mut room = Room::new();
         let known = Known::after_call(self.fact, &exit, &written, &mut room);
         let next = self.at.increment().add(Word::from_index(offset));

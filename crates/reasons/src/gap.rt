@@ -1,17 +1,19 @@
 //! What one fact leaves possible and another excludes.
 
-ghost use Rattle.std.specs.Prelude.{IfSome};
-ghost use Rattle.wordset.specs.Words.{SameWords};
+ghost use Rattle.std.specs.Prelude.{◌≡◌, ◌<◌, true, false, IfNone, IfSome};
+ghost use Rattle.wordset.specs.Words.{IsLinkWithin, IsWithin, SameWords};
 ghost use Rattle.wordset.specs.Lanes.{words};
 ghost use Rattle.wordset.specs.Links.{links_of};
 ghost use Rattle.processor.specs.Runs as runs;
 ghost use Rattle.peripherals.specs.Loading.{image_of};
-ghost use Rattle.facts.specs.Facts.{tape_word};
-ghost use Rattle.facts.specs.Meaning.{known_of, meaning};
+ghost use Rattle.facts.specs.Facts.{Entails, EntailsOffsets, KnowsAll, tape_word};
+ghost use Rattle.facts.specs.Meaning.{known_of, meaning, offsets_of, statement_of};
+ghost use Rattle.facts.specs.Showing.{EachWithin, EntailsRegisters, MayStart, allows_all};
+ghost use Rattle.facts.specs.Starts.{are_always, holds_before};
 ghost use Rattle.reasons.specs.Gaps.{IsBeyond, IsLinkBeyond, IsGap, IsStartGap};
 
 use bin_tape::Image;
-use facts::{Equation, Fact, Known, Name, is_always};
+use facts::{Equation, Fact, Known, Name, Offsets, is_always};
 use word12::{Link, Word};
 use wordset::{Links, WordSet};
 
@@ -34,14 +36,16 @@ pub enum Gap {
 
 /// The least word of one set that another lacks.
 fn word_beyond(set: &WordSet, other: &WordSet) -> Option<Word>
-    ensures { IfSome result (IsBeyond (words set.now) (words other.now)) }
+    ensures found { IfSome result (IsBeyond (words set.now) (words other.now)) }
+    ensures none { IfNone result (IsWithin (words set.now) (words other.now)) }
 {
     set.minus(other).first_from(0)
 }
 
 /// The least link of one set that another lacks.
 fn link_beyond(links: Links, others: Links) -> Option<Link>
-    ensures { IfSome result (IsLinkBeyond (links_of links) (links_of others)) }
+    ensures found { IfSome result (IsLinkBeyond (links_of links) (links_of others)) }
+    ensures none { IfNone result (IsLinkWithin (links_of links) (links_of others)) }
 {
     if links.clear && !others.clear {
         return Some(Link::CLEAR);
@@ -54,7 +58,8 @@ fn link_beyond(links: Links, others: Links) -> Option<Link>
 
 /// What the registers may hold that a fact excludes.
 fn register_gap(known: &Known<'_>, fact: &Fact) -> Option<Gap>
-    ensures { IfSome result (IsGap (known_of known.now) (meaning fact.now)) }
+    ensures found { IfSome result (IsGap (known_of known.now) (meaning fact.now)) }
+    ensures none { IfNone result (EntailsRegisters (known_of known.now) (meaning fact.now)) }
 {
     if let Some(word) = word_beyond(&known.narrowed(&Name::Accumulator), &fact.accumulator()) {
         return Some(Gap::Accumulator(word));
@@ -68,12 +73,26 @@ fn register_gap(known: &Known<'_>, fact: &Fact) -> Option<Gap>
     }
 }
 
+/// Whether an offset is one of some, and none of others.
+fn is_offset_beyond(offsets: Offsets, others: Offsets, offset: usize) -> bool
+    requires { offset < 8 }
+    ensures yes { result ≡ true → (offsets_of offsets offset ≡ true) ×
+        (offsets_of others offset ≡ false) }
+    ensures no { result ≡ false → offsets_of offsets offset ≡ true →
+        offsets_of others offset ≡ true }
+{
+    offsets.contains(offset) && !others.contains(offset)
+}
+
 /// An offset that is possible and that a fact excludes.
 fn offset_gap(known: &Known<'_>, fact: &Fact) -> Option<Gap>
-    ensures { IfSome result (IsGap (known_of known.now) (meaning fact.now)) }
+    ensures found { IfSome result (IsGap (known_of known.now) (meaning fact.now)) }
+    ensures none { IfNone result (EntailsOffsets (known_of known.now) (meaning fact.now)) }
 {
+    let possible = known.offsets();
+    let allowed = fact.offsets();
     for offset in 0..8usize {
-        if known.offsets().contains(offset) && !fact.offsets().contains(offset) {
+        if is_offset_beyond(possible, allowed, offset) {
             return Some(Gap::Offset(offset));
         }
     }
@@ -82,7 +101,9 @@ fn offset_gap(known: &Known<'_>, fact: &Fact) -> Option<Gap>
 
 /// What a tracked cell may hold that a fact excludes.
 fn cell_gap(known: &Known<'_>, fact: &Fact) -> Option<Gap>
-    ensures { IfSome result (IsGap (known_of known.now) (meaning fact.now)) }
+    ensures found { IfSome result (IsGap (known_of known.now) (meaning fact.now)) }
+    ensures none { IfNone result
+        (EachWithin (known_of known.now) (statement_of fact.now).cells) }
 {
     let cells = fact.cells();
     for at in 0..cells.len() {
@@ -97,7 +118,9 @@ fn cell_gap(known: &Known<'_>, fact: &Fact) -> Option<Gap>
 
 /// An equation of a fact that isn't known.
 fn equation_gap(known: &Known<'_>, fact: &Fact) -> Option<Gap>
-    ensures { IfSome result (IsGap (known_of known.now) (meaning fact.now)) }
+    ensures found { IfSome result (IsGap (known_of known.now) (meaning fact.now)) }
+    ensures none { IfNone result
+        (KnowsAll (known_of known.now) (meaning fact.now).equations) }
 {
     for equation in fact.equations() {
         if !known.knows(equation) {
@@ -110,7 +133,9 @@ fn equation_gap(known: &Known<'_>, fact: &Fact) -> Option<Gap>
 /// What is possible by what is known, and excluded by a fact: of the registers first, then of the
 /// offsets, the cells and the equations.
 pub(crate) fn gap_between(known: &Known<'_>, fact: &Fact) -> Option<Gap>
-    ensures { IfSome result (IsGap (known_of known.now) (meaning fact.now)) }
+    ensures found { IfSome result (IsGap (known_of known.now) (meaning fact.now)) }
+    ensures none { IfNone result (Entails (known_of known.now) (meaning fact.now) ×
+        EntailsOffsets (known_of known.now) (meaning fact.now)) }
 {
     if let Some(found) = register_gap(known, fact) {
         return Some(found);
@@ -126,7 +151,8 @@ pub(crate) fn gap_between(known: &Known<'_>, fact: &Fact) -> Option<Gap>
 
 /// What the registers may hold at a start that a fact excludes.
 fn register_gap_at_start(fact: &Fact) -> Option<Gap>
-    ensures { (i : runs.Image) → IfSome result (IsStartGap i (meaning fact.now)) }
+    ensures found { (i : runs.Image) → IfSome result (IsStartGap i (meaning fact.now)) }
+    ensures none { IfNone result (allows_all (meaning fact.now) ≡ true) }
 {
     let all = WordSet::all();
     if let Some(word) = word_beyond(&all, &fact.accumulator()) {
@@ -143,7 +169,8 @@ fn register_gap_at_start(fact: &Fact) -> Option<Gap>
 
 /// What a cell holds at a start: the tape's word, or any.
 fn words_at_start(image: &Image, cell: Word) -> WordSet
-    ensures { SameWords (words result) (tape_word (image_of image.now cell)) }
+    ensures same { SameWords (words result) (tape_word (image_of image.now cell)) }
+    ensures small { IfSome (image_of image.now cell) (λ word. word < 4096) }
 {
     match image.get(cell) {
         None => WordSet::all(),
@@ -153,7 +180,9 @@ fn words_at_start(image: &Image, cell: Word) -> WordSet
 
 /// What a tracked cell may hold at a start that a fact excludes.
 fn cell_gap_at_start(fact: &Fact, image: &Image) -> Option<Gap>
-    ensures { IfSome result (IsStartGap (image_of image.now) (meaning fact.now)) }
+    ensures found { IfSome result (IsStartGap (image_of image.now) (meaning fact.now)) }
+    ensures none { IfNone result
+        (MayStart (image_of image.now) (statement_of fact.now).cells) }
 {
     let cells = fact.cells();
     for at in 0..cells.len() {
@@ -168,7 +197,9 @@ fn cell_gap_at_start(fact: &Fact, image: &Image) -> Option<Gap>
 
 /// An equation of a fact that need not be true at a start.
 fn equation_gap_at_start(fact: &Fact, image: &Image) -> Option<Gap>
-    ensures { IfSome result (IsStartGap (image_of image.now) (meaning fact.now)) }
+    ensures found { IfSome result (IsStartGap (image_of image.now) (meaning fact.now)) }
+    ensures none { IfNone result
+        (are_always (image_of image.now) (meaning fact.now).equations ≡ true) }
 {
     for equation in fact.equations() {
         if !is_always(equation, image) {
@@ -180,7 +211,9 @@ fn equation_gap_at_start(fact: &Fact, image: &Image) -> Option<Gap>
 
 /// What is possible at a start of a tape, and excluded by a fact.
 pub(crate) fn gap_at_start(fact: &Fact, image: &Image) -> Option<Gap>
-    ensures { IfSome result (IsStartGap (image_of image.now) (meaning fact.now)) }
+    ensures found { IfSome result (IsStartGap (image_of image.now) (meaning fact.now)) }
+    ensures none { IfNone result
+        (holds_before (image_of image.now) (meaning fact.now) ≡ true) }
 {
     if let Some(found) = register_gap_at_start(fact) {
         return Some(found);

@@ -1,12 +1,15 @@
 //! Where a run goes on after a word and doesn't land.
 
-ghost use Rattle.std.specs.Prelude.{◌≡◌, ◌<◌, true, IfSome};
+ghost use Rattle.std.specs.Prelude.{ℕ, ◌≡◌, ◌<◌, true, IfNone, IfSome};
 ghost use Rattle.wordset.specs.Lanes.{words};
 ghost use Rattle.facts.specs.Meaning.{known_of};
 ghost use Rattle.facts.specs.Slots.{outcome_of, slot, slots};
 ghost use Rattle.facts.specs.declared.Condition.TheVariants.{V4};
+ghost use Rattle.judge.specs.Conditions.{EachOutcome};
 ghost use Rattle.reasons.specs.Breaches.{OutcomeMisses, SomeOutcome};
-ghost use Rattle.reasons.specs.Spots.{BreaksHere, MissesHere, claimed_by, here};
+ghost use Rattle.reasons.specs.Keeping.{ArrivesHere, KeepsHere, OutcomeArrivesHere};
+ghost use Rattle.reasons.specs.Stuck.{is_landing_of_lines};
+ghost use Rattle.reasons.specs.Spots.{BreaksHere, IsSoughtHere, MissesHere, claimed_by, here};
 
 use crate::breach::{Breach, Landing};
 use crate::gap::gap_between;
@@ -35,11 +38,16 @@ impl<A: Allocator, C: Claims> Spot<'_, A, C> {
         at: Word,
         known: &Known<'_>,
     ) -> Option<Landing>
-        ensures { IfSome result
+        ensures found { IfSome result
             (MissesHere C.claims self.now owner.now at (known_of known.now)) }
+        ensures none { IfNone result
+            (ArrivesHere C.claims self.now owner.now at (known_of known.now)) }
     {
         if !self.is_inside(owner, at) {
             return Some(Landing::OtherBody);
+        }
+        if !self.counts_lines() {
+            return None;
         }
         let Some(fact) = claimed_fact(self.claims, at) else {
             return Some(Landing::NoFact);
@@ -52,9 +60,11 @@ impl<A: Allocator, C: Claims> Spot<'_, A, C> {
 
     /// The first of some addresses at which what is known doesn't land, and why.
     fn misses_at(&self, addresses: &Seen, known: &Known<'_>) -> Option<(Word, Landing)>
-        ensures { IfSome result (λ found. (found.0 < 4096) × (words addresses.now found.0 ≡ true) ×
-            MissesHere C.claims self.now (here self.now).routine found.0 (known_of known.now)
-            found.1) }
+        ensures found { IfSome result (λ found. (found.0 < 4096) ×
+            (words addresses.now found.0 ≡ true) × MissesHere C.claims self.now
+            (here self.now).routine found.0 (known_of known.now) found.1) }
+        ensures none { IfNone result ((a : ℕ) → a < 4096 → words addresses.now a ≡ true →
+            ArrivesHere C.claims self.now (here self.now).routine a (known_of known.now)) }
     {
         let owner = self.owner();
         let mut next = 0usize;
@@ -69,8 +79,12 @@ impl<A: Allocator, C: Claims> Spot<'_, A, C> {
 
     /// The first address at which an outcome goes on and doesn't land, and why.
     fn outcome_misses(&self, outcome: &Outcome<'_>) -> Option<(Word, Landing)>
-        ensures { IfSome result (λ found. OutcomeMisses (claimed_by C.claims self.now)
+        ensures found { IfSome result (λ found. OutcomeMisses (claimed_by C.claims self.now)
             (here self.now) found.0 found.1 (outcome_of outcome.now)) }
+        ensures sought { IfSome result (λ found. IsSoughtHere self.now
+            (is_landing_of_lines found.1)) }
+        ensures none { IfNone result (OutcomeArrivesHere C.claims self.now
+            (outcome_of outcome.now)) }
     {
         match outcome {
             Outcome::Goes(addresses, known) => self.misses_at(*addresses, known),
@@ -80,8 +94,13 @@ impl<A: Allocator, C: Claims> Spot<'_, A, C> {
 
     /// The same of an outcome that may not be there.
     fn slot_misses(&self, outcome: &Option<Outcome<'_>>) -> Option<(Word, Landing)>
-        ensures { IfSome result (λ found. SomeOutcome (OutcomeMisses (claimed_by C.claims self.now)
-            (here self.now) found.0 found.1) (slot outcome.now)) }
+        ensures found { IfSome result (λ found. SomeOutcome
+            (OutcomeMisses (claimed_by C.claims self.now) (here self.now) found.0 found.1)
+            (slot outcome.now)) }
+        ensures sought { IfSome result (λ found. IsSoughtHere self.now
+            (is_landing_of_lines found.1)) }
+        ensures none { IfNone result (EachOutcome (OutcomeArrivesHere C.claims self.now)
+            (slot outcome.now)) }
     {
         match outcome {
             None => None,
@@ -91,8 +110,13 @@ impl<A: Allocator, C: Claims> Spot<'_, A, C> {
 
     /// The same of some outcomes.
     fn some_misses(&self, outcomes: &[Option<Outcome<'_>>]) -> Option<(Word, Landing)>
-        ensures { IfSome result (λ found. SomeOutcome (OutcomeMisses (claimed_by C.claims self.now)
-            (here self.now) found.0 found.1) (slots outcomes.now)) }
+        ensures found { IfSome result (λ found. SomeOutcome
+            (OutcomeMisses (claimed_by C.claims self.now) (here self.now) found.0 found.1)
+            (slots outcomes.now)) }
+        ensures sought { IfSome result (λ found. IsSoughtHere self.now
+            (is_landing_of_lines found.1)) }
+        ensures none { IfNone result (EachOutcome (OutcomeArrivesHere C.claims self.now)
+            (slots outcomes.now)) }
     {
         for outcome in outcomes {
             if let Some(found) = self.slot_misses(outcome) {
@@ -104,7 +128,8 @@ impl<A: Allocator, C: Claims> Spot<'_, A, C> {
 
     /// Where a word goes on and doesn't land.
     pub(crate) fn goes_on(&self, word: Word) -> Option<Breach>
-        ensures { IfSome result (BreaksHere C.claims self.now V4 word) }
+        ensures found { IfSome result (BreaksHere C.claims self.now V4 word) }
+        ensures none { IfNone result (KeepsHere C.claims self.now V4 word) }
     {
         let mut room = Room::new();
         let given = outcomes(self.fact, self.at, word, &self.place, &mut room);

@@ -4,7 +4,7 @@ ghost use Rattle.std.specs.Prelude.{ℕ, ◌≡◌, ◌<◌, true, false, IfNone
 ghost use Rattle.peripherals.specs.Loading.{image_of};
 ghost use Rattle.declaration.specs.Kept as declared;
 ghost use Rattle.facts.specs.Meaning.{meaning};
-ghost use Rattle.judge.specs.Conditions.{IsPlaced, LinesArePlaced};
+ghost use Rattle.judge.specs.Conditions.{IsPlaced, LinesArePlaced, StartsWell};
 ghost use Rattle.judge.specs.Judged.{judged};
 ghost use Rattle.reasons.specs.Reasons.{IsMisplaced, IsWrongStart};
 ghost use Rattle.certificate.specs.Certificate.{names_routine};
@@ -14,18 +14,28 @@ use crate::reason::Reason;
 use crate::told::claimed_fact;
 use bin_tape::Image;
 use declaration::{Declaration, Owner};
-use facts::Fact;
+use facts::{Fact, holds_before};
 use judge::Claims;
 use std::alloc::Allocator;
 use word12::Word;
 
 /// Why the fact at a start doesn't hold of every start.
-pub(crate) fn why_start<C: Claims>(image: &Image, claims: &C, at: Word) -> Option<Reason>
-    ensures { IfSome result (IsWrongStart (image_of image.now) (C.claims claims.now) at) }
+pub(crate) fn why_start<A: Allocator, C: Claims>(
+    image: &Image,
+    declaration: &Declaration<A>,
+    claims: &C,
+    at: Word,
+) -> Option<Reason>
+    ensures found { IfSome result (IsWrongStart (image_of image.now) (C.claims claims.now) at) }
+    ensures none { IfNone result
+        (StartsWell (judged image.now declaration.now (C.claims claims.now)) at) }
 {
     let Some(fact) = claimed_fact(claims, at) else {
         return Some(Reason::NoFact);
     };
+    if holds_before(&fact, image, declaration) {
+        return None;
+    }
     match gap_at_start(&fact, image) {
         None => None,
         Some(found) => Some(Reason::StartExcluded(found)),

@@ -1,20 +1,21 @@
 //! Why a condition fails.
 
-ghost use Rattle.std.specs.Prelude.{◌≡◌, ◌≤◌, true, is_some, IfNone, IfSome};
+ghost use Rattle.std.specs.Prelude.{◌≡◌, false, true, is_some, IfNone, IfSome};
+ghost use Rattle.declaration.specs.Declaration.{Routine};
 ghost use Rattle.declaration.specs.Kept as declared;
-ghost use Rattle.judge.specs.Conditions.{IsFirst, place_among};
+ghost use Rattle.judge.specs.Conditions.{IsFirst, StartsWell};
 ghost use Rattle.judge.specs.Judged.{judged};
 ghost use Rattle.peripherals.specs.Loading.{image_of};
-ghost use Rattle.reasons.specs.Always.{is_always_explained};
-ghost use Rattle.reasons.specs.Keeping.{HoldsIfAsked, IsUnowned};
+ghost use Rattle.reasons.specs.Keeping.{KeepsAt};
 ghost use Rattle.reasons.specs.Reasons.{Explains, HasWrongWord, IsWrongStart};
-ghost use Rattle.reasons.specs.Spots.{IsBody};
+ghost use Rattle.reasons.specs.Spots.{IsBody, IsSought, counts_lines};
+ghost use Rattle.reasons.specs.Stuck.{is_of_lines};
 
 use crate::breach::Breach;
 use crate::gap::Gap;
 use crate::lines::{why_placed, why_start};
-use crate::spot::{Body, Spot};
-use crate::told::claimed_fact;
+use crate::spot::{Body, Sought, Spot};
+use crate::told::{claimed_fact, claimed_routine};
 use bin_tape::Image;
 use declaration::{Declaration, Owner};
 use facts::Condition;
@@ -45,7 +46,7 @@ pub enum Reason {
     ByWord(Word, Breach),
 }
 
-/// The body that has the address of a fact.
+/// The body that has the address of a fact, with what is claimed of its routine.
 fn body_of<A: Allocator, C: Claims>(
     declaration: &Declaration<A>,
     claims: &C,
@@ -54,35 +55,34 @@ fn body_of<A: Allocator, C: Claims>(
     ensures found { IfSome result
         (IsBody (declared.meaning declaration.now) (C.claims claims.now) at) }
     ensures none { IfNone result
-        (IsUnowned (declared.meaning declaration.now) (C.claims claims.now) at) }
+        ((r : Routine) → (declared.meaning declaration.now).body r at ≡ false) }
 {
     let owner = declaration.owner_of(at)?;
     match owner {
         Owner::Main => Some(Body::Main),
-        Owner::Routine(entry) => {
-            let routine = claims.routine(entry)?;
-            Some(Body::Of(entry, routine))
-        }
+        Owner::Routine(entry) => Some(Body::Of(entry, claimed_routine(claims, entry))),
     }
 }
 
-/// Why a condition on words fails at an address.
-fn why_words<A: Allocator, C: Claims>(
+/// Why a condition on words fails at an address, by a reason of those that are looked for.
+pub(crate) fn why_words<A: Allocator, C: Claims>(
     image: &Image,
     declaration: &Declaration<A>,
     claims: &C,
     condition: Condition,
     at: Word,
+    sought: Sought,
 ) -> Option<Reason>
     ensures found { IfSome result
         (HasWrongWord (judged image.now declaration.now (C.claims claims.now)) condition at) }
-    ensures none { IfNone result (2 ≤ place_among condition →
-        HoldsIfAsked (judged image.now declaration.now (C.claims claims.now)) condition at) }
+    ensures sought { IfSome result (λ reason. IsSought sought (is_of_lines reason)) }
+    ensures none { IfNone result (KeepsAt (counts_lines sought)
+        (judged image.now declaration.now (C.claims claims.now)) condition at) }
 {
     declaration.is_declared();
     let fact = claimed_fact(claims, at)?;
     let body = body_of(declaration, claims, at)?;
-    Spot::of(image, declaration, claims, &body, at, &fact).first_breach(condition)
+    Spot::of(image, declaration, claims, &body, at, &fact, sought).first_breach(condition)
 }
 
 /// Why the fact at an address, if it is the start, doesn't hold of every start.
@@ -92,19 +92,19 @@ fn why_at_start<A: Allocator, C: Claims>(
     claims: &C,
     at: Word,
 ) -> Option<Reason>
-    ensures { IfSome result (λ reason. (at ≡ (declared.meaning declaration.now).start) ×
+    ensures found { IfSome result (λ reason. (at ≡ (declared.meaning declaration.now).start) ×
         IsWrongStart (image_of image.now) (C.claims claims.now) at reason) }
+    ensures none { IfNone result (at ≡ (declared.meaning declaration.now).start →
+        StartsWell (judged image.now declaration.now (C.claims claims.now)) at) }
 {
     if at == declaration.start() {
-        return why_start(image, claims, at);
+        return why_start(image, declaration, claims, at);
     }
     None
 }
 
 /// Why a condition fails at an address: what is possible there by a tape's words, a declaration and
-/// what is claimed, and breaks it. Where there are several, no clause says which of them is told. A
-/// reason is found where the judge refuses by a condition that doesn't ask whether a fact is too narrow;
-/// that one is found for the five others isn't promised.
+/// what is claimed, and breaks it. Where there are several, no clause says which of them is told.
 ///
 /// No memory is taken, so none can be refused.
 pub fn why<A: Allocator, C: Claims>(
@@ -116,14 +116,21 @@ pub fn why<A: Allocator, C: Claims>(
     ensures explained { IfSome result (Explains
         (judged image.now declaration.now (C.claims claims.now))
         refusal.now.condition refusal.now.address) }
-    // Where the judge refuses by one of ten conditions, a reason is found.
-    ensures found { is_always_explained refusal.now.condition ≡ true →
-        IsFirst (judged image.now declaration.now (C.claims claims.now))
+    // Where the judge refuses by this condition at this address, a reason is found.
+    ensures found { IsFirst (judged image.now declaration.now (C.claims claims.now))
         refusal.now.condition refusal.now.address → is_some result ≡ true }
 {
+    declaration.is_declared();
     match refusal.condition {
         Condition::V1 => why_at_start(image, declaration, claims, refusal.address),
         Condition::V2 => why_placed(declaration, claims, refusal.address),
-        condition => why_words(image, declaration, claims, condition, refusal.address),
+        condition => why_words(
+            image,
+            declaration,
+            claims,
+            condition,
+            refusal.address,
+            Sought::Any,
+        ),
     }
 }

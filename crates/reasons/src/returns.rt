@@ -1,7 +1,8 @@
 //! What a return breaks.
 
-ghost use Rattle.std.specs.Prelude.{◌≡◌, ◌<◌, ◌↔◌, IfSome, IsTrue, Some};
+ghost use Rattle.std.specs.Prelude.{◌≡◌, ◌<◌, ◌↔◌, IfNone, IfSome, IsTrue, Some};
 ghost use Rattle.facts.specs.declared.Condition.TheVariants.{V12};
+ghost use Rattle.reasons.specs.Keeping.{KeepsHere, ReturnsByHere, ReturnsThroughHere};
 ghost use Rattle.reasons.specs.Spots.{BreaksHere, ReturnBreaksHere, here};
 
 use crate::breach::{Breach, ReturnBreach};
@@ -16,7 +17,8 @@ use word12::Word;
 impl<A: Allocator, C: Claims> Spot<'_, A, C> {
     /// A return that breaks the rules on returns.
     pub(crate) fn returns_wrongly(&self, word: Word) -> Option<Breach>
-        ensures { IfSome result (BreaksHere C.claims self.now V12 word) }
+        ensures found { IfSome result (BreaksHere C.claims self.now V12 word) }
+        ensures none { IfNone result (KeepsHere C.claims self.now V12 word) }
     {
         let entry = self.place.returned_entry(self.at, word)?;
         match self.return_breaks(entry) {
@@ -27,7 +29,8 @@ impl<A: Allocator, C: Claims> Spot<'_, A, C> {
 
     /// What a return through an entry breaks.
     fn return_breaks(&self, entry: Word) -> Option<ReturnBreach>
-        ensures { IfSome result (ReturnBreaksHere C.claims self.now entry) }
+        ensures found { IfSome result (ReturnBreaksHere C.claims self.now entry) }
+        ensures none { IfNone result (ReturnsThroughHere C.claims self.now entry) }
     {
         if !self.is_own(entry) {
             return Some(ReturnBreach::OtherRoutine);
@@ -53,7 +56,8 @@ impl<A: Allocator, C: Claims> Spot<'_, A, C> {
     /// What a return through an entry by an offset breaks, if the fact has the offset.
     fn returns_by(&self, entry: Word, offset: usize) -> Option<ReturnBreach>
         requires { offset < 8 }
-        ensures { IfSome result (ReturnBreaksHere C.claims self.now entry) }
+        ensures found { IfSome result (ReturnBreaksHere C.claims self.now entry) }
+        ensures none { IfNone result (ReturnsByHere C.claims self.now entry offset) }
     {
         if !self.fact.offsets().contains(offset) {
             return None;
@@ -61,6 +65,9 @@ impl<A: Allocator, C: Claims> Spot<'_, A, C> {
         let declared = Word::from_index(offset);
         if !self.place.declaration.has_offset(entry, declared) {
             return Some(ReturnBreach::NotDeclared(offset));
+        }
+        if !self.counts_lines() {
+            return None;
         }
         let Some(exit) = claimed_exit(self.claims, entry, offset) else {
             return Some(ReturnBreach::NoExit(offset));

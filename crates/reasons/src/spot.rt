@@ -7,7 +7,7 @@ ghost use Rattle.facts.specs.Meaning.{meaning};
 ghost use Rattle.facts.specs.Places.{routine_of, sites_of};
 ghost use Rattle.facts.specs.declared.Condition.TheVariants.{V3};
 ghost use Rattle.reasons.specs.Keeping.{EachKeepsHere, WordsKeepHere};
-ghost use Rattle.reasons.specs.Spots.{IsWrongHere, claimed_by, fact_of, here, place_with, possible_at, routine_with, sites_with};
+ghost use Rattle.reasons.specs.Spots.{IsWrongHere, claimed_by, counts_lines, fact_of, here, place_with, possible_at, routine_with, sites_with};
 
 use crate::reason::Reason;
 use bin_tape::Image;
@@ -20,6 +20,15 @@ use wordset::WordSet;
 
 /// The most words that may be possible at one address.
 const MOST_WORDS: usize = 64;
+
+/// Which reasons are looked for.
+#[derive(Clone, Copy)]
+pub(crate) enum Sought {
+    /// All.
+    Any,
+    /// Those that no line mends, whether it is added or made wider.
+    NotOfLines,
+}
 
 /// The body that has the address of a fact: main's, or that of the routine of an entry, with what
 /// is claimed of it.
@@ -46,13 +55,14 @@ impl Body {
     }
 }
 
-/// A fact at an address of a body, with what is claimed.
+/// A fact at an address of a body, with what is claimed, and which reasons are looked for there.
 #[derive(Drop)]
 pub(crate) struct Spot<'a, A: Allocator, C: Claims> {
     pub(crate) claims: &'a C,
     pub(crate) place: Place<'a, A>,
     pub(crate) at: Word,
     pub(crate) fact: &'a Fact,
+    pub(crate) sought: Sought,
 }
 
 impl<'a, A: Allocator, C: Claims> Spot<'a, A, C> {
@@ -64,11 +74,13 @@ impl<'a, A: Allocator, C: Claims> Spot<'a, A, C> {
         body: &'a Body,
         at: Word,
         fact: &'a Fact,
+        sought: Sought,
     ) -> Spot<'a, A, C>
         ensures claims { claimed_by C.claims result ≡ C.claims claims.now }
         ensures place { here result ≡ place_with image.now declaration.now body.now }
         ensures fact { fact_of result ≡ meaning fact.now }
         ensures at { result.at ≡ at }
+        ensures sought { result.sought ≡ sought }
     {
         let running = body.running();
         let place = Place {
@@ -81,6 +93,7 @@ impl<'a, A: Allocator, C: Claims> Spot<'a, A, C> {
             place,
             at,
             fact,
+            sought,
         }
     }
 }
@@ -138,19 +151,13 @@ impl<A: Allocator, C: Claims> Spot<'_, A, C> {
         }
     }
 
-    /// What is claimed of the routine of an entry, and nothing where it isn't listed.
-    pub(crate) fn claimed(&self, entry: Word) -> Routine
-        ensures rank { result.rank ≡ (claimed_by C.claims self.now).rank entry }
-        ensures sites { words result.sites ≡ (claimed_by C.claims self.now).sites entry }
-        ensures writes { words result.writes ≡ (claimed_by C.claims self.now).writes entry }
+    /// Whether a line that is missing or too narrow counts as a reason.
+    pub(crate) fn counts_lines(&self) -> bool
+        ensures { result ≡ counts_lines self.now.sought }
     {
-        match self.claims.routine(entry) {
-            Some(routine) => routine,
-            None => Routine {
-                rank: 0,
-                sites: WordSet::empty(),
-                writes: WordSet::empty(),
-            },
+        match self.sought {
+            Sought::Any => true,
+            Sought::NotOfLines => false,
         }
     }
 }

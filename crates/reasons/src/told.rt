@@ -1,13 +1,15 @@
-//! What is claimed at an address or of a return, as a fact of its own.
+//! What is claimed at an address, of a return or of a routine, as a value of its own.
 
 ghost use Rattle.std.specs.Prelude.{ℕ, ◌≡◌, ◌<◌, true, is_some, IfSome};
 ghost use Rattle.wordset.specs.Words.{everything};
+ghost use Rattle.wordset.specs.Lanes.{words};
 ghost use Rattle.facts.specs.Changes.{with_offsets};
 ghost use Rattle.facts.specs.Meaning.{meaning};
 
 use facts::Fact;
-use judge::Claims;
+use judge::{Claims, Routine};
 use word12::Word;
+use wordset::WordSet;
 
 /// The fact that is claimed at an address, if there is one.
 pub(crate) fn claimed_fact<C: Claims>(claims: &C, at: Word) -> Option<Fact>
@@ -35,5 +37,21 @@ pub(crate) fn claimed_exit<C: Claims>(claims: &C, entry: Word, offset: usize) ->
         Some(exit)
     } else {
         None
+    }
+}
+
+/// What is claimed of the routine of an entry, and nothing where it isn't listed.
+pub(crate) fn claimed_routine<C: Claims>(claims: &C, entry: Word) -> Routine
+    ensures rank { result.rank ≡ (C.claims claims.now).rank entry }
+    ensures sites { words result.sites ≡ (C.claims claims.now).sites entry }
+    ensures writes { words result.writes ≡ (C.claims claims.now).writes entry }
+{
+    match claims.routine(entry) {
+        Some(routine) => routine,
+        None => Routine {
+            rank: 0,
+            sites: WordSet::empty(),
+            writes: WordSet::empty(),
+        },
     }
 }

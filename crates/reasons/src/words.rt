@@ -11,6 +11,7 @@ ghost use Rattle.reasons.specs.Spots.{BreaksHere, fact_of, here};
 
 use crate::breach::Breach;
 use crate::spot::Spot;
+use crate::told::claimed_routine;
 use facts::{Condition, reads, writes};
 use judge::Claims;
 use std::alloc::Allocator;
@@ -136,8 +137,13 @@ impl<A: Allocator, C: Claims> Spot<'_, A, C> {
         ensures found { IfSome result (BreaksHere C.claims self.now V6 word) }
         ensures none { IfNone result (KeepsHere C.claims self.now V6 word) }
     {
+        if !self.counts_lines() {
+            return None;
+        }
         let entry = self.owner()?;
-        let listed = self.claimed(entry).writes.union(&WordSet::one(entry));
+        let listed = claimed_routine(self.claims, entry)
+            .writes
+            .union(&WordSet::one(entry));
         match self.written(word).minus(&listed).first_from(0) {
             None => None,
             Some(cell) => Some(Breach::WritesUnlisted(cell)),

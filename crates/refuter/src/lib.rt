@@ -1,8 +1,7 @@
 //! Looks for a run that breaks a declaration.
 //!
-//! An operator by chance gives what a program asks for, and the machine is watched, until a step breaks a
-//! rule. What was found is made shorter, written as a text, read again and watched once more: so what is
-//! given doesn't rest on how it was found.
+//! The text of what a search finds is read again and watched once more: so what is given doesn't rest on
+//! how it was found.
 #![tactic(auto)]
 
 ghost use Rattle.std.specs.Prelude.{◌≡◌, ◌≤◌, ◌<◌, IfOk, IfSome, IfNone, true, false};
@@ -10,31 +9,11 @@ ghost use Rattle.declaration.specs.Kept.{meaning};
 ghost use Rattle.peripherals.specs.Loading.{image_of};
 ghost use Rattle.refuter.specs.Witnesses.{Breaks, IsSpelled, IsLast};
 
-mod aiming;
-mod alphabet;
-mod asking;
-mod bits;
-mod hints;
-mod looks;
-mod pace;
-mod plan;
-mod random;
-mod running;
-mod script;
-mod search;
-mod seen;
-mod shorten;
-mod stepping;
-mod tree;
-mod votes;
-
-use crate::script::Script;
-use crate::search::{Program, Search};
-use crate::shorten::shortened;
 use bin_tape::Image;
 use declaration::Declaration;
 use peripherals::{Event, EventsFault, NoMemory, Start, events};
 use policy::{Rule, Watched, watch};
+use run_search::{DeclaredProgram, RunSearch};
 use std::alloc::Allocator;
 use turns::{GuessFault, Turns};
 
@@ -87,24 +66,6 @@ fn read_again<A: Allocator + Copy, D: Allocator>(
     }
 }
 
-/// The witness of a run that was found: made shorter, written, and read again.
-fn witness_of<A: Allocator + Copy, D: Allocator>(
-    alloc: A,
-    image: &Image,
-    declaration: &Declaration<D>,
-    script: &Script<A>,
-) -> Result<Option<Witness<A>>, NoMemory>
-    ensures broken { IfOk result (λ found.
-        IfSome found (Breaks (image_of image.now) (meaning declaration.now))) }
-    ensures spelled { IfOk result (λ found. IfSome found IsSpelled) }
-    ensures last { IfOk result (λ found. IfSome found IsLast) }
-{
-    match script.text(alloc) {
-        Ok(text) => read_again(alloc, image, declaration, text),
-        Err(NoMemory) => Err(NoMemory),
-    }
-}
-
 /// Takes a turn, if none was taken since so many were. False where none is left.
 fn takes_one(before: u32, turns: &mut Turns) -> Result<bool, NoMemory>
     requires rises { before ≤ turns.old.spent }
@@ -129,7 +90,7 @@ fn takes_one(before: u32, turns: &mut Turns) -> Result<bool, NoMemory>
 /// One run of a search, and the witness of it if it breaks a rule.
 fn try_once<A: Allocator + Copy, D: Allocator>(
     alloc: A,
-    search: &mut Search<A>,
+    search: &mut RunSearch<A>,
     image: &Image,
     declaration: &Declaration<D>,
     turns: &mut Turns,
@@ -142,12 +103,11 @@ fn try_once<A: Allocator + Copy, D: Allocator>(
     ensures rises { turns.old.spent ≤ turns.new.spent }
     ensures within { turns.new.spent ≤ turns.new.limit }
 {
-    let program = Program { image, declaration };
-    let Some(found) = search.round(&program, turns)? else {
-        return Ok(None);
-    };
-    let script = shortened(alloc, search, &program, found, turns)?;
-    witness_of(alloc, image, declaration, &script)
+    let program = DeclaredProgram { image, declaration };
+    match search.try_run(&program, turns)? {
+        Some(text) => read_again(alloc, image, declaration, text),
+        None => Ok(None),
+    }
 }
 
 /// Looks for a run that breaks a declaration, from the declared start with all registers, and all cells
@@ -181,7 +141,7 @@ pub fn refute_within<A: Allocator + Copy, D: Allocator>(
     ensures within { turns.new.spent ≤ turns.new.limit }
 {
     turns.are_within();
-    let mut search = Search::new(alloc, &Program { image, declaration }, seed)?;
+    let mut search = RunSearch::new(alloc, &DeclaredProgram { image, declaration }, seed)?;
     while turns.spent() < turns.limit() {
         let before = turns.spent();
         if let Some(witness) = try_once(alloc, &mut search, image, declaration, turns)? {

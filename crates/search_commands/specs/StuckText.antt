@@ -1,5 +1,5 @@
 -- What `guess --why` reports of a search that is stuck: the line of the fault, and behind it the lines of `check --why`.
-use Rattle.std.specs.Prelude.{ℕ, ◌≡◌, ◌++◌, codes, List, [], Option, Some, None, IfSome, Err}
+use Rattle.std.specs.Prelude.{ℕ, ◌≡◌, ◌++◌, codes, List, [], Option, Some, None, IfNone, IfSome, Err}
 use Rattle.word12.specs.Words.{octal_text}
 use Rattle.instruct.specs.declared.Profile.{Profile}
 use Rattle.analyser.specs.Attempts.{IsDraft}
@@ -10,7 +10,7 @@ use Rattle.declaration.specs.Declaration.{Declaration}
 use Rattle.judge.specs.Laws.{SetsAreOfWords}
 use Rattle.judge.specs.declared.judging.Refusal.{Refusal}
 use Rattle.reasons.specs.Reasons.{Explains}
-use Rattle.reasons.specs.Stuck.{IsToldOf}
+use Rattle.reasons.specs.Stuck.{EachFailsByLinesAlone, IsToldOf, NoneFailsBefore}
 use Rattle.reasons.specs.declared.reason.Reason.{Reason}
 use Rattle.verdict_texts.specs.CheckText.{checked_case}
 use Rattle.command_parts.specs.Inputs.{HasDeclaration, HasImage}
@@ -28,13 +28,16 @@ stuck_text profile image at told =
 
 -- These are the lines of a search that is stuck somewhere. The draft's facts stand in bodies and its routine and exit lines
 -- at entries, and it has a fact there. The condition that is told fails by the draft at that address, since what is told is
--- so, and not because a line is missing or too narrow.
+-- so, and not because a line is missing or too narrow; none that is asked before it fails there but for that. Where none is
+-- told, each that fails there does so for that alone.
 pub record IsReport (image : List (Option ℕ)) (d : Declaration) (draft : Lines) (report : List ℕ) : Type 0 where
   pub at : ℕ
   pub is_draft : IsDraft d at (certificate_of draft)
   pub told : Option (Refusal × Reason)
   pub why : IfSome told (λ found. Explains (checked_case image d draft) found.0.condition found.0.address found.1)
   pub place : IfSome told (λ found. IsToldOf at found.0 found.1)
+  pub first : IfSome told (λ found. NoneFailsBefore (checked_case image d draft) at found.0.condition)
+  pub none : IfNone told (EachFailsByLinesAlone (checked_case image d draft) at)
   pub report_is : report ≡ stuck_text d.profile image at told
 
 -- The frames are a tape, the text is that of a declaration; these are the lines of a search that is stuck, by some draft of a

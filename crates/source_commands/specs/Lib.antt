@@ -1,2 +1,3 @@
 pub mod SourceTexts
 pub mod AssembleText
+pub mod WrittenSource

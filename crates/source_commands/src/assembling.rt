@@ -1,6 +1,6 @@
 //! The commands that assemble a source.
 
-ghost use Rattle.std.specs.Prelude.{◌≡◌, Err, false, true, length, map, IfOk, IfErr, OnOk, OnErr, Some, slice_get, ℕ};
+ghost use Rattle.std.specs.Prelude.{◌≡◌, Err, None, false, true, length, map, IfOk, IfErr, OnOk, OnErr, Some, slice_get, ℕ};
 ghost use Rattle.std.specs.List.{AllByRecursion, list_any};
 ghost use Rattle.pal_acts.specs.Permanent.{permanent_symbols};
 ghost use Rattle.pal_asm.specs.Listings.{Lists};
@@ -20,22 +20,46 @@ use bin_tape::{WriteTapeFault, write_tape};
 use command_parts::status::{DeviceFault, Fault, Status};
 use instruct::Profile;
 use pal_asm::{AssembleFault, Program, Translation, WriteFault};
-use std::alloc::Allocator;
+use source_texts::push_faults;
+use std::alloc::{AllocError, Allocator};
 use streams::{ByteSink, ByteSource};
+
+/// Adds the lines on the faults of a source to what is told, where names of its parts are given.
+fn tell_faults<A: Allocator + Copy>(
+    alloc: A,
+    parts: &[&[u8]],
+    profile: Profile,
+    names: Option<&[&str]>,
+    told: &mut String<A>,
+) -> Result<(), AllocError>
+    ensures { names.entry ≡ None → told.new ≡ told.old }
+{
+    match names {
+        Some(names) => push_faults(alloc, told, names, parts, profile),
+        None => Ok(()),
+    }
+}
 
 /// What the parts of a source mean.
 fn translation_of<A: Allocator + Copy>(
     alloc: A,
     parts: &[&[u8]],
     profile: Profile,
+    names: Option<&[&str]>,
+    told: &mut String<A>,
 ) -> Result<Translation<A>, Fault>
     ensures found { IfOk result (λ translation. Means (permanent_symbols profile) (texts parts.now)
         (symbols_in translation) (image_in translation)) }
     ensures faults { IfErr result (IsAssemblyFault profile (texts parts.now)) }
+    ensures untold { OnOk result (told.new ≡ told.old) }
+    ensures unasked { names.entry ≡ None → told.new ≡ told.old }
 {
     match pal_asm::translate(alloc, parts, profile) {
         Ok(translation) => Ok(translation),
-        Err(AssembleFault::Source(fault)) => Err(Fault::Source(fault)),
+        Err(AssembleFault::Source(fault)) => {
+            tell_faults(alloc, parts, profile, names, told)?;
+            Err(Fault::Source(fault))
+        }
         Err(AssembleFault::NoMemory) => Err(Fault::NoMemory),
     }
 }
@@ -45,21 +69,30 @@ fn program_of<A: Allocator + Copy>(
     alloc: A,
     parts: &[&[u8]],
     profile: Profile,
+    names: Option<&[&str]>,
+    told: &mut String<A>,
 ) -> Result<Program<A>, Fault>
     ensures found { IfOk result (λ program. Means (permanent_symbols profile) (texts parts.now)
         (symbols_of program) (image_of program)) }
     ensures listed { IfOk result (λ program. Lists (permanent_symbols profile) (texts parts.now)
         (symbols_of program) (listing_of program)) }
     ensures faults { IfErr result (IsAssemblyFault profile (texts parts.now)) }
+    ensures untold { OnOk result (told.new ≡ told.old) }
+    ensures unasked { names.entry ≡ None → told.new ≡ told.old }
 {
     match pal_asm::assemble(alloc, parts, profile) {
         Ok(program) => Ok(program),
-        Err(AssembleFault::Source(fault)) => Err(Fault::Source(fault)),
+        Err(AssembleFault::Source(fault)) => {
+            tell_faults(alloc, parts, profile, names, told)?;
+            Err(Fault::Source(fault))
+        }
         Err(AssembleFault::NoMemory) => Err(Fault::NoMemory),
     }
 }
 
-/// Assembles a source of one part or more, in order, and writes its tape.
+/// Assembles a source of one part or more, in order, and writes its tape. Where the names of the parts are
+/// given and the source is refused, though not for its size, lines on all its faults are added to what is
+/// told: of each its place, what is wrong, and what to change. These lines are tested and not proved.
 ///
 /// # Errors
 ///
@@ -71,6 +104,8 @@ pub fn assemble<A: Allocator + Copy, R: ByteSource, W: ByteSink>(
     alloc: A,
     sources: &mut [R],
     profile: Profile,
+    names: Option<&[&str]>,
+    told: &mut String<A>,
     out: &mut W,
 ) -> Result<Status, Fault>
     requires readable { AllByRecursion (λ source. R.mark source ≡ false) sources.old }
@@ -107,10 +142,13 @@ pub fn assemble<A: Allocator + Copy, R: ByteSource, W: ByteSink>(
     // Of a source no more is taken than a part may have and a byte.
     ensures takes { EachTakesAtMost 65537 (map R.remaining sources.old)
         (map R.remaining sources.new) }
+    // No lines are told but of faults, and none where no names are given.
+    ensures untold { OnOk result (told.new ≡ told.old) }
+    ensures unasked { names.entry ≡ None → told.new ≡ told.old }
 {
     let parts = read_parts(alloc, sources)?;
     let slices = lend(alloc, &parts)?;
-    let translation = translation_of(alloc, &slices, profile)?;
+    let translation = translation_of(alloc, &slices, profile, names, told)?;
     written_tapes_read_back(translation.image());
     match write_tape(translation.image(), out) {
         Ok(()) => Ok(Status::Done),
@@ -128,6 +166,8 @@ pub fn list<A: Allocator + Copy, R: ByteSource, W: ByteSink>(
     alloc: A,
     sources: &mut [R],
     profile: Profile,
+    names: Option<&[&str]>,
+    told: &mut String<A>,
     out: &mut W,
 ) -> Result<Status, Fault>
     requires readable { AllByRecursion (λ source. R.mark source ≡ false) sources.old }
@@ -154,10 +194,12 @@ pub fn list<A: Allocator + Copy, R: ByteSource, W: ByteSink>(
         LeavesThoseAfter at sources.old sources.new }
     ensures takes { EachTakesAtMost 65537 (map R.remaining sources.old)
         (map R.remaining sources.new) }
+    ensures untold { OnOk result (told.new ≡ told.old) }
+    ensures unasked { names.entry ≡ None → told.new ≡ told.old }
 {
     let parts = read_parts(alloc, sources)?;
     let slices = lend(alloc, &parts)?;
-    let program = program_of(alloc, &slices, profile)?;
+    let program = program_of(alloc, &slices, profile, names, told)?;
     match program.write_listing(out) {
         Ok(()) => Ok(Status::Done),
         Err(WriteFault) => Err(Fault::Device(DeviceFault::Write)),

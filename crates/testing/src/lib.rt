@@ -7,6 +7,3 @@ pub mod refusing;
 
 pub use memory::{MemorySink, MemorySource};
 pub use refusing::Refusing;
-
-#[cfg(test)]
-mod tests;

@@ -4,8 +4,11 @@
 ghost use Rattle.std.specs.Prelude.{◌≡◌, ◌≤◌, ◌+◌, OnOk, IfErr};
 ghost use Rattle.turns.specs.Counts.{IsSpentUp};
 
+mod stepping;
+
 use declaration::DeclarationFault;
 use std::marker::Model;
+pub use stepping::{Stepped, take_step};
 use thiserror::Error;
 use word12::Word;
 

@@ -13,7 +13,6 @@ use Rattle.facts.specs.declared.names.Equation.{Equation}
 use Rattle.certificate.specs.Spelling.{Lines, fact_text_at}
 use Rattle.judge.specs.Conditions.{Case, IsFirst}
 use Rattle.judge.specs.declared.judging.Refusal.{Refusal}
-use Rattle.reasons.specs.Always.{is_always_explained}
 use Rattle.reasons.specs.Reasons.{Explains}
 use Rattle.reasons.specs.declared.gap.Gap.{Gap}
 use Rattle.reasons.specs.declared.gap.Gap.TheVariants as gap
@@ -154,10 +153,10 @@ abbrev pub fact_shown : Lines → Result (Unit {0}) Refusal → List ℕ
 fact_shown lines (Ok _) = []
 fact_shown lines (Err r) = fact_text_at lines r.address
 
--- The reason is why the condition fails; where it fails first and asks for no fact to be wide enough, one is told.
+-- The reason is why the condition fails; where it is the first that fails, one is told.
 pub record IsReasonFor (j : Case) (r : Refusal) (reason : Option Reason) : Type 0 where
   pub explains : IfSome reason (Explains j r.condition r.address)
-  pub found : is_always_explained r.condition ≡ true → IsFirst j r.condition r.address → is_some reason ≡ true
+  pub found : IsFirst j r.condition r.address → is_some reason ≡ true
 
 -- The reason is why the verdict is no.
 abbrev pub IsReason : Case → Result (Unit {0}) Refusal → Option Reason → Type 0

@@ -119,6 +119,7 @@ fn type_to<'r, R: Print>(rt: &'r R, teletype: bool) -> Writes<Either<Printer<'r,
 /// # Errors
 ///
 /// As for `run_session`, and `Device` where a file can't be opened or made.
+#[inline(never)]
 pub fn hold_session<R: Files + Input + Print + Eprint>(
     rt: &R,
     alloc: Global,
@@ -150,6 +151,7 @@ pub fn hold_session<R: Files + Input + Print + Eprint>(
 /// # Errors
 ///
 /// As for `watch_session`, and `Device` where a file can't be opened.
+#[inline(never)]
 pub fn watch_joined<R: Files + Input + Print>(
     rt: &R,
     alloc: Global,

@@ -2,13 +2,16 @@
 //! order, is tested and not proved.
 #![tactic(auto)]
 
+mod faults;
 mod files;
 mod joined;
 mod program;
 mod saving;
+mod sources;
+mod telling;
 
 pub use commands::{
     assembling, checking, declaring, explaining, guessing, migrating, refuting, running, session,
-    status, stuck, watching,
+    sourcing, status, stuck, watching,
 };
 pub use program::exit_status;

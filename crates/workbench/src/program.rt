@@ -1,13 +1,15 @@
-//! The program: from its words to its status.
+//! The program: from its arguments to its status.
 
 ghost use Rattle.std.specs.Prelude.{◌≤◌};
 
-use crate::files::{open_input, open_inputs, open_output};
-use crate::joined::{hold_session, sit_down, tell_to, watch_joined};
+use crate::faults::{fault_lines, omissions, stuck_address};
+use crate::files::{open_input, open_output};
+use crate::joined::{hold_session, tell_to, watch_joined};
 use crate::saving::{save_answer, save_proposed};
+use crate::sources::{assemble_to, list_from};
+use crate::telling::{tell, tell_with};
 use clap::Error;
-use command_line::{Refused, Request, parse_words};
-use commands::assembling::{assemble, list};
+use command_line::{Destination, Refused, Request, parse_arguments};
 use commands::checking::check;
 use commands::declaring::{DeclareOptions, declare};
 use commands::explaining::explain;
@@ -15,25 +17,28 @@ use commands::guessing::guess;
 use commands::migrating::migrate;
 use commands::refuting::{RefuteOptions, refute};
 use commands::running::{RunOptions, dump, run, run_events};
+use commands::sourcing::{declared_source, source};
 use commands::status::{DeviceFault, Fault, Status};
 use commands::stuck::guess_or_explain;
-use commands::verifying::{VerifyOptions, answer_status, verify, verify_proposed};
+use commands::verifying::{Answer, Lack, VerifyOptions, answer_status, verify, verify_proposed};
 use commands::watching::watch;
 use instruct::Profile;
 use std::alloc::Global;
 use std::io::ErrorKind;
 use std::rt::{Env, Files};
 use std::{env, io};
+use streams::put;
 use streams::standard::Writes;
+use word12::Word;
 
-/// The words that stand for no words at all.
+/// The arguments that stand for none at all.
 static RUN_STANDARD_INPUT: [&str; 3] = ["pdp8", "run", "-"];
 
-/// Does what the program's words ask for, and says with which status it ends: 0 done, 1 refused, 2
-/// bad words, 3 a device's fault, 4 want of memory. Without words it runs the tape on standard
-/// input. Faults and the text for bad words go to standard error, help to standard output; where
-/// standard error fails, the status of a fault or of bad words is the same. Under `--teletype` the
-/// summary goes there too, and where that fails the status is 3.
+/// Does what the program's arguments ask for, and says with which status it ends: 0 done, 1 refused, 2
+/// a bad command line, 3 a device's fault, 4 want of memory. Without arguments it runs the tape on
+/// standard input. Faults and what is wrong with a command line go to standard error, help to standard
+/// output; where standard error fails, the status is the same. Under `--teletype` the summary goes
+/// there too, and where that fails the status is 3.
 ///
 /// That the status is at most 4 is proved; all else said here is tested.
 pub fn exit_status<R: Env + Files + Input + Print + Eprint + AllocGlobal>(rt: &R) -> u8
@@ -44,24 +49,31 @@ pub fn exit_status<R: Env + Files + Input + Print + Eprint + AllocGlobal>(rt: &R
         Ok(arguments) => arguments,
         Err(error) => return refuse(rt, refusal_of(error.kind())).code(),
     };
-    let Ok(words) = arguments.collect::<Vec<String>>(alloc) else {
+    let Ok(given) = arguments.collect::<Vec<String>>(alloc) else {
         return tell(rt, Fault::NoMemory).code();
     };
-    let request = if words.len() < 2 {
-        parse_words(alloc, RUN_STANDARD_INPUT.as_slice())
+    let request = if given.len() < 2 {
+        parse_arguments(alloc, RUN_STANDARD_INPUT.as_slice())
     } else {
-        parse_words(alloc, words.as_slice())
+        parse_arguments(alloc, given.as_slice())
     };
     match request {
-        Ok(request) => match answer(rt, alloc, &request) {
+        Ok(line) => match answer(rt, alloc, &line.request) {
             Ok(status) => status.code(),
-            Err(fault) => tell(rt, fault).code(),
+            Err(fault) => {
+                let lines = if line.explained {
+                    fault_lines(rt, alloc, &fault, &line.request.names())
+                } else {
+                    String::new(alloc)
+                };
+                tell_with(rt, fault, &lines).code()
+            }
         },
         Err(refused) => refuse(rt, refused).code(),
     }
 }
 
-/// Why the command line's words weren't copied: one is no text, or memory was refused.
+/// Why the arguments weren't copied: one is no text, or memory was refused.
 fn refusal_of(kind: ErrorKind) -> Refused {
     match kind {
         ErrorKind::InvalidData => Refused::NotText,
@@ -69,26 +81,19 @@ fn refusal_of(kind: ErrorKind) -> Refused {
     }
 }
 
-/// Writes the line of a fault to standard error.
-fn tell<R: Eprint>(rt: &R, fault: Fault) -> Status {
-    match eprintln!(rt; "{fault}") {
-        Ok(()) | Err(_) => fault.status(),
-    }
-}
-
-/// Says why the words are bad, or gives the help that they ask for.
+/// Says why the command line is bad, or gives the help that it asks for.
 fn refuse<R: Print + Eprint>(rt: &R, refused: Refused) -> Status {
     let told = match refused {
         Refused::Memory => return tell(rt, Fault::NoMemory),
-        Refused::Words(error) => return say(rt, &error),
-        Refused::NotText => eprintln!(rt; "error: a word of the command line isn't text"),
+        Refused::CommandLine(error) => return say(rt, &error),
+        Refused::NotText => eprintln!(rt; "error: an argument isn't text"),
         Refused::Start(fault) => eprintln!(rt; "error: bad value for '--start': {fault}"),
         Refused::Switches(fault) => { eprintln!(rt; "error: bad value for '--switches': {fault}") }
         Refused::EventsAndOperator => eprintln!(rt;
-            "error: '--events' can't stand beside the words for the reader, the punch, the teletype and the switches"
+            "error: '--events' can't stand beside the options for the reader, the punch, the teletype and the switches"
         ),
         Refused::ListAndOperator => eprintln!(rt;
-            "error: EVENTS can't stand beside the words for the reader, the keys, the switches and the rounds"
+            "error: EVENTS can't stand beside the options for the reader, the keys, the switches and the rounds"
         ),
         Refused::DeclarationAndStart => eprintln!(rt;
             "error: a declaration has its own start and machine: '--start' and '--profile' can't stand beside it"
@@ -103,6 +108,9 @@ fn refuse<R: Print + Eprint>(rt: &R, refused: Refused) -> Status {
         Refused::BothStandardInput => eprintln!(rt;
             "error: '-' stands for standard input in one place alone"
         ),
+        Refused::OutputIsInput => eprintln!(rt;
+            "error: OUT is also an input: the result goes to a file of its own"
+        ),
         Refused::Profile => eprintln!(rt; "error: bad value for '--profile': it is 8i or 8e"),
     };
     match told {
@@ -110,10 +118,10 @@ fn refuse<R: Print + Eprint>(rt: &R, refused: Refused) -> Status {
     }
 }
 
-/// Says what is wrong with the words, on standard error, or gives help, on standard output.
-fn say<R: Print + Eprint>(rt: &R, words: &Error) -> Status {
-    let written = words.print(rt);
-    if words.use_stderr() {
+/// Says what is wrong with the command line, on standard error, or gives help, on standard output.
+fn say<R: Print + Eprint>(rt: &R, text: &Error) -> Status {
+    let written = text.print(rt);
+    if text.use_stderr() {
         return Status::Words;
     }
     match written {
@@ -122,7 +130,8 @@ fn say<R: Print + Eprint>(rt: &R, words: &Error) -> Status {
     }
 }
 
-/// Opens the files of a request, in the order of its words, and carries it out.
+/// Opens the files of a request, in the order of its operands, and carries it out. Each command has a
+/// frame of its own on the stack, since they are large.
 fn answer<R: Files + Input + Print + Eprint>(
     rt: &R,
     alloc: Global,
@@ -135,14 +144,25 @@ fn answer<R: Files + Input + Print + Eprint>(
             options,
         } => run_from(rt, alloc, tape, *events, *options),
         Request::Session(session) => hold_session(rt, alloc, session),
-        Request::Teletype(session) => sit_down(rt, alloc, session),
         Request::Dump { tape, profile } => dump_from(rt, alloc, tape, *profile),
         Request::Assemble {
             out,
             sources,
             profile,
-        } => assemble_to(rt, alloc, out, sources, *profile),
-        Request::List { sources, profile } => list_from(rt, alloc, sources, *profile),
+            explained,
+        } => assemble_to(rt, alloc, *out, sources, *profile, *explained),
+        Request::List {
+            sources,
+            profile,
+            explained,
+        } => list_from(rt, alloc, sources, *profile, *explained),
+        Request::Source {
+            tape,
+            out,
+            declaration,
+            start,
+            profile,
+        } => source_from(rt, alloc, tape, *out, *declaration, *start, *profile),
         Request::Watch {
             tape,
             declaration,
@@ -156,30 +176,31 @@ fn answer<R: Files + Input + Print + Eprint>(
             certificate,
             explained,
         } => check_from(rt, alloc, tape, declaration, certificate, *explained),
-        Request::Declare { tape, out, options } => declare_from(rt, alloc, tape, out, *options),
+        Request::Declare { tape, out, options } => declare_from(rt, alloc, tape, *out, *options),
         Request::Guess {
             tape,
             declaration,
             out,
             explained,
-        } => guess_from(rt, alloc, tape, declaration, out, *explained),
+        } => guess_from(rt, alloc, tape, declaration, *out, *explained),
         Request::Refute {
             tape,
             declaration,
             out,
             options,
-        } => refute_from(rt, alloc, tape, declaration, out, *options),
+        } => refute_from(rt, alloc, tape, declaration, *out, *options),
         Request::Verify {
             tape,
             declaration,
             save,
             options,
         } => verify_from(rt, alloc, tape, *declaration, *save, options),
-        Request::Migrate { certificate, out } => migrate_from(rt, alloc, certificate, out),
+        Request::Migrate { certificate, out } => migrate_from(rt, alloc, certificate, *out),
     }
 }
 
 /// Names the words of the tape of a file.
+#[inline(never)]
 fn dump_from<R: Files + Input + Print>(
     rt: &R,
     alloc: Global,
@@ -191,44 +212,43 @@ fn dump_from<R: Files + Input + Print>(
     dump(alloc, &mut frames, profile, &mut out)
 }
 
-/// Lists the source whose parts are in these files.
-fn list_from<R: Files + Input + Print>(
+/// Writes a source of the tape of a file. A declaration is opened before the file that the source goes
+/// to is made.
+#[inline(never)]
+fn source_from<R: Files + Input + Print>(
     rt: &R,
     alloc: Global,
-    sources: &[&str],
+    tape: &str,
+    out: Destination<'_>,
+    declaration: Option<&str>,
+    start: Word,
     profile: Profile,
 ) -> Result<Status, Fault> {
-    let mut parts = open_inputs(rt, alloc, sources)?;
-    let mut out = Writes::new(io::writer(rt));
-    list(alloc, &mut parts, profile, &mut out)
+    let mut frames = open_input(rt, tape)?;
+    let Some(declaration) = declaration else {
+        let mut text = open_output(rt, out)?;
+        return source(alloc, &mut frames, start, profile, &mut text);
+    };
+    let mut promise = open_input(rt, declaration)?;
+    let mut text = open_output(rt, out)?;
+    declared_source(alloc, &mut frames, &mut promise, &mut text)
 }
 
 /// Migrates the certificate of a file.
+#[inline(never)]
 fn migrate_from<R: Files + Input + Print>(
     rt: &R,
     alloc: Global,
     certificate: &str,
-    out: &str,
+    out: Destination<'_>,
 ) -> Result<Status, Fault> {
     let mut text = open_input(rt, certificate)?;
     let mut migrated = open_output(rt, out)?;
     migrate(alloc, &mut text, &mut migrated)
 }
 
-/// Assembles the parts of these files into a tape.
-fn assemble_to<R: Files + Input + Print>(
-    rt: &R,
-    alloc: Global,
-    out: &str,
-    sources: &[&str],
-    profile: Profile,
-) -> Result<Status, Fault> {
-    let mut tape = open_output(rt, out)?;
-    let mut parts = open_inputs(rt, alloc, sources)?;
-    assemble(alloc, &mut parts, profile, &mut tape)
-}
-
 /// Watches a run of the tape of a file.
+#[inline(never)]
 fn watch_from<R: Files + Input + Print>(
     rt: &R,
     alloc: Global,
@@ -252,6 +272,7 @@ fn watch_from<R: Files + Input + Print>(
 }
 
 /// Checks the certificate of a file, and says why the verdict is no where that is asked for.
+#[inline(never)]
 fn check_from<R: Files + Input + Print>(
     rt: &R,
     alloc: Global,
@@ -271,11 +292,12 @@ fn check_from<R: Files + Input + Print>(
 }
 
 /// Proposes a declaration for the tape of a file.
+#[inline(never)]
 fn declare_from<R: Files + Input + Print>(
     rt: &R,
     alloc: Global,
     tape: &str,
-    out: &str,
+    out: Destination<'_>,
     options: DeclareOptions,
 ) -> Result<Status, Fault> {
     let mut frames = open_input(rt, tape)?;
@@ -285,25 +307,34 @@ fn declare_from<R: Files + Input + Print>(
 
 /// Guesses a certificate for the tape of a file, and says on standard error why the search is stuck
 /// where that is asked for.
+#[inline(never)]
 fn guess_from<R: Files + Input + Print + Eprint>(
     rt: &R,
     alloc: Global,
     tape: &str,
     declaration: &str,
-    out: &str,
+    out: Destination<'_>,
     explained: bool,
 ) -> Result<Status, Fault> {
     let mut frames = open_input(rt, tape)?;
     let mut text = open_input(rt, declaration)?;
     let mut certificate = open_output(rt, out)?;
     if explained {
-        let mut report = tell_to(rt);
-        return guess_or_explain(alloc, &mut frames, &mut text, &mut certificate, &mut report);
+        let mut report = Vec::new(alloc);
+        let mut lines = Writes::new(&mut report);
+        let status = guess_or_explain(alloc, &mut frames, &mut text, &mut certificate, &mut lines)?;
+        if status == Status::Refused {
+            let others = omissions(rt, alloc, tape, declaration, stuck_address(&report));
+            report.extend_from_slice(&others)?;
+            let _ = put(&mut tell_to(rt), &report);
+        }
+        return Ok(status);
     }
     guess(alloc, &mut frames, &mut text, &mut certificate)
 }
 
 /// Says whether the program of a file's tape keeps its declaration, or the one that is proposed for it.
+#[inline(never)]
 fn verify_from<R: Files + Input + Print>(
     rt: &R,
     alloc: Global,
@@ -321,23 +352,30 @@ fn verify_from<R: Files + Input + Print>(
     };
     let mut text = open_input(rt, declaration)?;
     let answer = verify(alloc, &mut frames, &mut text, options.search, &mut out)?;
+    if let Answer::NotKnown(Lack::Stuck(at)) = &answer {
+        if options.search.explained {
+            let others = omissions(rt, alloc, tape, declaration, Some(*at));
+            put(&mut Writes::new(io::writer(rt)), &others)?;
+        }
+    }
     save_answer(rt, alloc, save, &answer)?;
     Ok(answer_status(&answer))
 }
 
 /// Looks for a run of the tape of a file that breaks its declaration.
+#[inline(never)]
 fn refute_from<R: Files + Input + Print + Eprint>(
     rt: &R,
     alloc: Global,
     tape: &str,
     declaration: &str,
-    out: &str,
+    out: Destination<'_>,
     options: RefuteOptions,
 ) -> Result<Status, Fault> {
     let mut frames = open_input(rt, tape)?;
     let mut text = open_input(rt, declaration)?;
     let mut events = open_output(rt, out)?;
-    if out == "-" {
+    if out.name() == "-" {
         let mut report = tell_to(rt);
         return refute(
             alloc,
@@ -360,6 +398,7 @@ fn refute_from<R: Files + Input + Print + Eprint>(
 }
 
 /// Runs a tape, in rounds or by the events of a file.
+#[inline(never)]
 fn run_from<R: Files + Input + Print>(
     rt: &R,
     alloc: Global,

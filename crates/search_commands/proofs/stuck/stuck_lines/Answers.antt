@@ -12,5 +12,7 @@ returns g c =
       told = c.why_stuck-told.result;
       why = c.why_stuck-told.ensures.explained;
       place = c.why_stuck-told.ensures.place;
+      first = c.why_stuck-told.ensures.first;
+      none = c.why_stuck-told.ensures.none;
       report_is = is;
     }

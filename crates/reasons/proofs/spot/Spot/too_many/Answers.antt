@@ -4,7 +4,7 @@ use Rattle.reasons.proofs.FoundLemmas.{none_weaker}
 use Rattle.reasons.proofs.spot.Spot.too_many.Goals as goal
 
 pub returns-then-count-gt-MOST_WORDS-clause-found : goal.returns-then-count-gt-MOST_WORDS-clause-found
-returns-then-count-gt-MOST_WORDS-clause-found g c = (refl, c.if-count-gt-MOST_WORDS.true, c.count-count.ensures ∙ how_many_same 4096 _ _ c.requires)
+returns-then-count-gt-MOST_WORDS-clause-found g c = (tt, (refl, c.if-count-gt-MOST_WORDS.true, c.count-count.ensures ∙ how_many_same 4096 _ _ c.requires))
 
 pub returns-clause-none : goal.returns-clause-none
 returns-clause-none g c =

@@ -1,0 +1,453 @@
+//! The commands of `pdp8`, their operands and options, as help shows them.
+
+use crate::table::{Argument, Entry, Form, with_entry};
+use clap::Command;
+use std::alloc::{AllocError, Global};
+
+/// What `--version` prints after the program's name.
+const VERSION: &str = "1.0";
+
+/// What stands below the list of commands.
+const STATUSES: &str = "Exit status:
+  0  done
+  1  an input was refused, a run got stuck or broke a rule, a condition failed, no certificate was found, or verify's answer is no or not known
+  2  a bad command line
+  3  a file or a stream failed
+  4  memory was refused
+
+Files are opened in the order of the operands; - is standard input, and for OUT standard output.
+
+Example:
+  pdp8 assemble hello.bin hello.pal && pdp8 run hello.bin";
+
+const TAPE: Argument = Argument {
+    name: "TAPE",
+    short: None,
+    form: Form::Operand,
+    help: "the tape, or - for standard input",
+};
+
+const DECLARATION: Argument = Argument {
+    name: "DECLARATION",
+    short: None,
+    form: Form::Operand,
+    help: "the declaration, or - for standard input",
+};
+
+const CERTIFICATE: Argument = Argument {
+    name: "CERTIFICATE",
+    short: None,
+    form: Form::Operand,
+    help: "the certificate, or - for standard input",
+};
+
+const EVENTS: Argument = Argument {
+    name: "EVENTS",
+    short: None,
+    form: Form::EventsOperand,
+    help: "the events that happen, or - for standard input; the options for an operator stand in its place",
+};
+
+const SOURCE: Argument = Argument {
+    name: "SOURCE",
+    short: None,
+    form: Form::Operands,
+    help: "the parts of the source, in order; - for standard input in one place",
+};
+
+const PROPOSED: Argument = Argument {
+    name: "DECLARATION",
+    short: None,
+    form: Form::OptionalOperand,
+    help: "the declaration, or - for standard input; without it one is proposed",
+};
+
+const TAPE_OUT: Argument = Argument {
+    name: "OUT",
+    short: None,
+    form: Form::Operand,
+    help: "where the tape goes, or - for standard output; it is emptied first. With -o it is the first part of the source",
+};
+
+const OTHER_SOURCES: Argument = Argument {
+    name: "SOURCE",
+    short: None,
+    form: Form::OtherOperands,
+    help: "the parts of the source, in order; - for standard input in one place",
+};
+
+const DECLARATION_OUT: Argument = Argument {
+    name: "OUT",
+    short: None,
+    form: Form::ResultOperand,
+    help: "where the declaration goes, or - for standard output; it is emptied first",
+};
+
+const SOURCE_OUT: Argument = Argument {
+    name: "OUT",
+    short: None,
+    form: Form::ResultOperand,
+    help: "where the source goes, or - for standard output; it is emptied first",
+};
+
+const DECLARATION_FILE: Argument = Argument {
+    name: "declaration",
+    short: None,
+    form: Form::Value("FILE"),
+    help: "the declaration, whose bodies are the code, or - for standard input",
+};
+
+const CERTIFICATE_OUT: Argument = Argument {
+    name: "OUT",
+    short: None,
+    form: Form::ResultOperand,
+    help: "where the certificate goes, or - for standard output; it is emptied first",
+};
+
+const EVENTS_OUT: Argument = Argument {
+    name: "OUT",
+    short: None,
+    form: Form::ResultOperand,
+    help: "where the events go, or - for standard output; it is emptied first",
+};
+
+const OUTPUT: Argument = Argument {
+    name: "output",
+    short: Some('o'),
+    form: Form::Value("OUT"),
+    help: "where the result goes, or - for standard output, in place of the operand OUT; the file is made when there is a result, and else stays as it was",
+};
+
+const PROFILE: Argument = Argument {
+    name: "profile",
+    short: None,
+    form: Form::Value("P"),
+    help: "8i or 8e: whose instructions are meant; 8i without it",
+};
+
+const START: Argument = Argument {
+    name: "start",
+    short: None,
+    form: Form::Value("A"),
+    help: "the octal address of the first instruction; leading zeros are allowed, 0200 without it",
+};
+
+const ROUNDS: Argument = Argument {
+    name: "steps",
+    short: None,
+    form: Form::Value("N"),
+    help: "how many rounds are made at most; 100000 without it",
+};
+
+const EVENTS_FILE: Argument = Argument {
+    name: "events",
+    short: None,
+    form: Form::Value("FILE"),
+    help: "the events that happen in place of the rounds, or - for standard input",
+};
+
+const TRACE: Argument = Argument {
+    name: "trace",
+    short: None,
+    form: Form::Flag,
+    help: "writes a line for each instruction",
+};
+
+const READER: Argument = Argument {
+    name: "reader",
+    short: None,
+    form: Form::Value("FILE"),
+    help: "the frames in the reader, or - for standard input",
+};
+
+const PUNCH: Argument = Argument {
+    name: "punch",
+    short: None,
+    form: Form::Value("FILE"),
+    help: "where the punched bytes go; it is emptied first",
+};
+
+const KEYS: Argument = Argument {
+    name: "keys",
+    short: None,
+    form: Form::Value("FILE"),
+    help: "the keys that are struck, or - for standard input",
+};
+
+const MARK: Argument = Argument {
+    name: "mark",
+    short: None,
+    form: Form::Flag,
+    help: "sets channel 8 of each key",
+};
+
+const TELETYPE: Argument = Argument {
+    name: "teletype",
+    short: None,
+    form: Form::Flag,
+    help: "what is printed goes to standard output, all else to standard error",
+};
+
+const SWITCHES: Argument = Argument {
+    name: "switches",
+    short: None,
+    form: Form::Value("W"),
+    help: "the octal word that the switches are set to; leading zeros are allowed, 0000 without it",
+};
+
+const READS: Argument = Argument {
+    name: "reads",
+    short: None,
+    form: Form::Flag,
+    help: "also lists the cells that the program may read",
+};
+
+const SEARCH_STEPS: Argument = Argument {
+    name: "steps",
+    short: None,
+    form: Form::Value("N"),
+    help: "how many steps are made at most in search of a run that breaks it; 20000000 without it",
+};
+
+const SEED: Argument = Argument {
+    name: "seed",
+    short: None,
+    form: Form::Value("S"),
+    help: "where the random numbers begin; 1 without it",
+};
+
+const SAVE: Argument = Argument {
+    name: "save",
+    short: None,
+    form: Form::Value("NAME"),
+    help: "writes what is found to NAME.declaration, NAME.certificate or NAME.events",
+};
+
+const WHY_VERIFY: Argument = Argument {
+    name: "why",
+    short: Some('w'),
+    form: Form::Flag,
+    help: "after a no, or where it isn't known, writes why",
+};
+
+const WHY_CHECK: Argument = Argument {
+    name: "why",
+    short: Some('w'),
+    form: Form::Flag,
+    help: "after a no, writes what the condition asks and what breaks it",
+};
+
+const WHY_GUESS: Argument = Argument {
+    name: "why",
+    short: Some('w'),
+    form: Form::Flag,
+    help: "where the search is stuck, writes what the condition asks and what breaks it",
+};
+
+const WHY_BROKEN: Argument = Argument {
+    name: "why",
+    short: Some('w'),
+    form: Form::Flag,
+    help: "where a rule is broken, writes what the step is about to do",
+};
+
+const WHY_SOURCE: Argument = Argument {
+    name: "why",
+    short: Some('w'),
+    form: Form::Flag,
+    help: "below a fault, writes all that are found, with their lines and what to change",
+};
+
+const WHY_INPUT: Argument = Argument {
+    name: "why",
+    short: Some('w'),
+    form: Form::Flag,
+    help: "where an input is refused, writes what is wrong with it",
+};
+
+static VERIFY_ARGUMENTS: [Argument; 8] = [
+    TAPE,
+    PROPOSED,
+    START,
+    PROFILE,
+    SEARCH_STEPS,
+    SEED,
+    SAVE,
+    WHY_VERIFY,
+];
+
+static RUN_ARGUMENTS: [Argument; 13] = [
+    TAPE,
+    START,
+    ROUNDS,
+    EVENTS_FILE,
+    TRACE,
+    PROFILE,
+    READER,
+    PUNCH,
+    KEYS,
+    MARK,
+    TELETYPE,
+    SWITCHES,
+    WHY_INPUT,
+];
+
+static DUMP_ARGUMENTS: [Argument; 3] = [TAPE, PROFILE, WHY_INPUT];
+
+static ASSEMBLE_ARGUMENTS: [Argument; 5] = [TAPE_OUT, OTHER_SOURCES, OUTPUT, PROFILE, WHY_SOURCE];
+
+static LIST_ARGUMENTS: [Argument; 3] = [SOURCE, PROFILE, WHY_SOURCE];
+
+static SOURCE_ARGUMENTS: [Argument; 7] = [
+    TAPE,
+    SOURCE_OUT,
+    OUTPUT,
+    START,
+    DECLARATION_FILE,
+    PROFILE,
+    WHY_INPUT,
+];
+
+static WATCH_ARGUMENTS: [Argument; 9] = [
+    TAPE,
+    DECLARATION,
+    EVENTS,
+    READER,
+    KEYS,
+    MARK,
+    SWITCHES,
+    ROUNDS,
+    WHY_BROKEN,
+];
+
+static CHECK_ARGUMENTS: [Argument; 4] = [TAPE, DECLARATION, CERTIFICATE, WHY_CHECK];
+
+static DECLARE_ARGUMENTS: [Argument; 7] = [
+    TAPE,
+    DECLARATION_OUT,
+    OUTPUT,
+    START,
+    READS,
+    PROFILE,
+    WHY_INPUT,
+];
+
+static GUESS_ARGUMENTS: [Argument; 5] = [TAPE, DECLARATION, CERTIFICATE_OUT, OUTPUT, WHY_GUESS];
+
+static REFUTE_ARGUMENTS: [Argument; 7] = [
+    TAPE,
+    DECLARATION,
+    EVENTS_OUT,
+    OUTPUT,
+    SEARCH_STEPS,
+    SEED,
+    WHY_BROKEN,
+];
+
+static MIGRATE_ARGUMENTS: [Argument; 4] = [CERTIFICATE, CERTIFICATE_OUT, OUTPUT, WHY_INPUT];
+
+static VERIFY: Entry = Entry {
+    name: "verify",
+    usage: None,
+    about: "Says whether a program keeps its declaration: yes, no or not known",
+    after_help: "Without DECLARATION one is proposed for the start and the machine that --start and --profile name; with one they are its own.\n\nExample:\n  pdp8 verify hello.bin hello.declaration",
+};
+
+static RUN: Entry = Entry {
+    name: "run",
+    usage: None,
+    about: "Runs a tape and writes where it ended and what it printed and punched",
+    after_help: "Example:\n  pdp8 run hello.bin --start 200 --trace",
+};
+
+static DUMP: Entry = Entry {
+    name: "dump",
+    usage: None,
+    about: "Writes address, word and name for each word on a tape",
+    after_help: "Example:\n  pdp8 dump hello.bin",
+};
+
+static ASSEMBLE: Entry = Entry {
+    name: "assemble",
+    usage: Some("pdp8 assemble [OPTIONS] [-o] <OUT> <SOURCE>..."),
+    about: "Assembles a PAL III source and writes its tape",
+    after_help: "Without -o OUT comes first, and is emptied before a source is read, also where the source is refused.\n\nExample:\n  pdp8 assemble -o hello.bin hello.pal",
+};
+
+static LIST: Entry = Entry {
+    name: "list",
+    usage: None,
+    about: "Assembles a PAL III source and writes its listing",
+    after_help: "Example:\n  pdp8 list hello.pal",
+};
+
+static SOURCE_OF_TAPE: Entry = Entry {
+    name: "source",
+    usage: Some("pdp8 source [OPTIONS] <TAPE> [-o] <OUT>"),
+    about: "Writes a PAL III source of a tape, from which assemble makes the same words",
+    after_help: "The operand OUT is emptied before the tape is read. Without a declaration control is followed from the start, for the machine of --profile; with one they are its own.\n\nExample:\n  pdp8 source hello.bin -o found.pal",
+};
+
+static WATCH: Entry = Entry {
+    name: "watch",
+    usage: None,
+    about: "Writes whether a run keeps its declaration, or where it first breaks which rule",
+    after_help: "Example:\n  pdp8 watch hello.bin hello.declaration hello.events",
+};
+
+static CHECK: Entry = Entry {
+    name: "check",
+    usage: None,
+    about: "Writes whether a certificate shows that no run breaks its declaration",
+    after_help: "Example:\n  pdp8 check hello.bin hello.declaration hello.certificate --why",
+};
+
+static DECLARE: Entry = Entry {
+    name: "declare",
+    usage: Some("pdp8 declare [OPTIONS] <TAPE> [-o] <OUT>"),
+    about: "Proposes a declaration: what the program of a tape may do",
+    after_help: "The operand OUT is emptied before the tape is read. Where no certificate is found the declaration is written all the same, behind comments that say why if there is room for them, and the status is 1.\n\nExample:\n  pdp8 declare hello.bin -o hello.declaration",
+};
+
+static GUESS: Entry = Entry {
+    name: "guess",
+    usage: Some("pdp8 guess [OPTIONS] <TAPE> <DECLARATION> [-o] <OUT>"),
+    about: "Looks for a certificate that shows that no run breaks a declaration",
+    after_help: "The operand OUT is emptied before an input is read, and stays empty where nothing is found. check says yes to what is found: that is proved.\n\nExample:\n  pdp8 guess hello.bin hello.declaration -o hello.certificate",
+};
+
+static REFUTE: Entry = Entry {
+    name: "refute",
+    usage: Some("pdp8 refute [OPTIONS] <TAPE> <DECLARATION> [-o] <OUT>"),
+    about: "Looks for a run that breaks a declaration, and writes its events",
+    after_help: "The operand OUT is emptied before an input is read, and stays empty where nothing is found. The same seed gives the same answer.\n\nExample:\n  pdp8 refute hello.bin hello.declaration -o found.events --why",
+};
+
+static MIGRATE: Entry = Entry {
+    name: "migrate",
+    usage: Some("pdp8 migrate [OPTIONS] <CERTIFICATE> [-o] <OUT>"),
+    about: "Writes a certificate in version 2, which says what MQ may hold",
+    after_help: "The operand OUT is emptied before the certificate is read, also where that is refused.\n\nExample:\n  pdp8 migrate hello.certificate -o hello-2.certificate",
+};
+
+/// The program with all its commands.
+pub(crate) fn command<'a>(alloc: Global) -> Result<Command<'a>, AllocError> {
+    let program = Command::new(alloc, "pdp8")
+        .bin_name("pdp8")?
+        .about("A workbench for PDP-8 paper tapes")
+        .version(VERSION)
+        .after_help(STATUSES)
+        .subcommand_required(true);
+    let program = with_entry(alloc, program, &VERIFY, &VERIFY_ARGUMENTS)?;
+    let program = with_entry(alloc, program, &RUN, &RUN_ARGUMENTS)?;
+    let program = with_entry(alloc, program, &DUMP, &DUMP_ARGUMENTS)?;
+    let program = with_entry(alloc, program, &ASSEMBLE, &ASSEMBLE_ARGUMENTS)?;
+    let program = with_entry(alloc, program, &LIST, &LIST_ARGUMENTS)?;
+    let program = with_entry(alloc, program, &SOURCE_OF_TAPE, &SOURCE_ARGUMENTS)?;
+    let program = with_entry(alloc, program, &WATCH, &WATCH_ARGUMENTS)?;
+    let program = with_entry(alloc, program, &CHECK, &CHECK_ARGUMENTS)?;
+    let program = with_entry(alloc, program, &DECLARE, &DECLARE_ARGUMENTS)?;
+    let program = with_entry(alloc, program, &GUESS, &GUESS_ARGUMENTS)?;
+    let program = with_entry(alloc, program, &REFUTE, &REFUTE_ARGUMENTS)?;
+    with_entry(alloc, program, &MIGRATE, &MIGRATE_ARGUMENTS)
+}

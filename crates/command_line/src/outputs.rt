@@ -1,0 +1,39 @@
+//! Where the result of a command goes.
+
+use crate::requests::Refused;
+use clap::ArgMatches;
+
+/// Where a result goes: the name of a file, or `-` for standard output.
+#[derive(Clone, Copy, PartialEq, Eq, Debug)]
+pub enum Destination<'a> {
+    /// The operand OUT: the file is emptied before an input is read.
+    EmptiedFirst(&'a str),
+    /// The value of `-o`: the file is made when there is something to write, and stays as it was if
+    /// there is nothing.
+    MadeLast(&'a str),
+}
+
+impl<'a> Destination<'a> {
+    /// The name of the file, or `-`.
+    pub fn name(&self) -> &'a str {
+        match self {
+            Destination::EmptiedFirst(name) | Destination::MadeLast(name) => name,
+        }
+    }
+}
+
+/// Where the result goes: the value of `-o`, else the operand OUT. It is no input.
+pub fn destination_of<'a>(
+    found: &ArgMatches<'a>,
+    inputs: &[&str],
+) -> Result<Destination<'a>, Refused> {
+    let destination = match found.get_str("output") {
+        Some(name) => Destination::MadeLast(name),
+        None => Destination::EmptiedFirst(found.get_str("OUT").unwrap_or("-")),
+    };
+    let out = destination.name();
+    if out != "-" && inputs.iter().any(|name| **name == *out) {
+        return Err(Refused::OutputIsInput);
+    }
+    Ok(destination)
+}

@@ -1,0 +1,111 @@
+//! Commands and their arguments, as they stand in tables.
+
+use clap::{Arg, ArgAction, Command};
+use std::alloc::{AllocError, Global};
+
+/// The options for an operator, which stand in place of a list of events where a run is watched.
+const OPERATOR: [&str; 5] = ["reader", "keys", "mark", "switches", "steps"];
+
+/// How an argument is given.
+#[derive(Clone, Copy)]
+pub(crate) enum Form {
+    /// An operand.
+    Operand,
+    /// An operand that may be left out.
+    OptionalOperand,
+    /// The operand OUT, which is left out where `-o` is used.
+    ResultOperand,
+    /// The operand EVENTS, which is left out where an option for an operator is used.
+    EventsOperand,
+    /// One operand or more.
+    Operands,
+    /// One operand or more, none of which is needed where `-o` is used.
+    OtherOperands,
+    /// An option without a value.
+    Flag,
+    /// An option with a value, which help calls so.
+    Value(&'static str),
+}
+
+/// An argument of a command.
+#[derive(Clone, Copy)]
+pub(crate) struct Argument {
+    /// The name of an operand, or that of an option, without its dashes.
+    pub(crate) name: &'static str,
+    /// The short name of an option.
+    pub(crate) short: Option<char>,
+    /// How it is given.
+    pub(crate) form: Form,
+    /// What help says of it.
+    pub(crate) help: &'static str,
+}
+
+/// A command.
+#[derive(Clone, Copy)]
+pub(crate) struct Entry {
+    /// Its name.
+    pub(crate) name: &'static str,
+    /// How it is used, where clap would write it otherwise.
+    pub(crate) usage: Option<&'static str>,
+    /// What it does, in a line.
+    pub(crate) about: &'static str,
+    /// What stands below its options.
+    pub(crate) after_help: &'static str,
+}
+
+impl Argument {
+    /// An option.
+    fn option<'a>(&self, alloc: Global) -> Arg<'a> {
+        let option = Arg::new(alloc, self.name).long(self.name);
+        match self.short {
+            Some(short) => option.short(short),
+            None => option,
+        }
+    }
+
+    /// The argument for clap.
+    fn built<'a>(&self, alloc: Global) -> Result<Arg<'a>, AllocError> {
+        let operand = Arg::new(alloc, self.name);
+        let argument = match self.form {
+            Form::Operand => operand.required(true),
+            Form::OptionalOperand => operand,
+            Form::ResultOperand => {
+                operand
+                    .required_unless_present("output")?
+                    .conflicts_with("output")?
+            }
+            Form::EventsOperand => operand.required_unless_present_any(&OPERATOR)?,
+            Form::Operands => operand.required(true).num_args(1..),
+            Form::OtherOperands => operand.required_unless_present("output")?.num_args(1..),
+            Form::Flag => self.option(alloc).action(ArgAction::SetTrue),
+            Form::Value(name) => self.option(alloc).value_name(name),
+        };
+        Ok(argument.help(self.help))
+    }
+}
+
+impl Entry {
+    /// The command for clap, with these arguments.
+    fn built<'a>(&self, alloc: Global, arguments: &[Argument]) -> Result<Command<'a>, AllocError> {
+        let mut command = Command::new(alloc, self.name)
+            .about(self.about)
+            .after_help(self.after_help);
+        if let Some(usage) = self.usage {
+            command = command.override_usage(usage);
+        }
+        for argument in arguments {
+            command = command.arg(argument.built(alloc)?)?;
+        }
+        Ok(command)
+    }
+}
+
+/// Adds a command with its arguments.
+pub(crate) fn with_entry<'a>(
+    alloc: Global,
+    program: Command<'a>,
+    entry: &Entry,
+    arguments: &[Argument],
+) -> Result<Command<'a>, AllocError> {
+    program.subcommand(entry.built(alloc, arguments)?)
+}

@@ -1,0 +1,188 @@
+//! The lines for people below the line of a fault: which file, which place or line, and what may stand
+//! there; and what a declaration leaves out. They are tested and not proved.
+#![tactic(auto)]
+
+mod forms;
+mod lines;
+mod omissions;
+mod tapes;
+
+use crate::forms::{certificate_form, declaration_form, event_form};
+use crate::lines::push_numbered;
+use certificate::CertificateFault;
+use command_parts::status::Fault;
+use declaration::DeclarationFault;
+pub use omissions::push_omissions;
+use peripherals::{EventsFault, NoMemory};
+use std::alloc::Allocator;
+use std::fmt::Write;
+
+/// A file with a fault: its name, and what it holds.
+#[derive(Drop)]
+pub struct FaultyFile<'a> {
+    /// Its name.
+    pub name: &'a str,
+    /// Its bytes, as far as they were read.
+    pub bytes: &'a [u8],
+}
+
+/// Adds the lines on a fault of this file. Of a fault that is no input's it adds none.
+///
+/// # Errors
+///
+/// `NoMemory` where a growth was refused.
+pub fn push_fault<A: Allocator>(
+    text: &mut String<A>,
+    fault: Fault,
+    file: &FaultyFile<'_>,
+) -> Result<(), NoMemory> {
+    match fault {
+        Fault::Tape(fault) => tapes::push_tape(text, fault, file),
+        Fault::Declared(fault) => push_declaration(text, fault, file),
+        Fault::Certificate(fault) => push_certificate(text, fault, file),
+        Fault::Events(fault) => push_events(text, fault, file),
+        _ => Ok(()),
+    }
+}
+
+/// Adds a line that is the name of a file and what is said of it.
+pub(crate) fn push_said<A: Allocator>(
+    text: &mut String<A>,
+    file: &FaultyFile<'_>,
+    said: &str,
+) -> Result<(), NoMemory> {
+    let name = file.name;
+    writeln!(text, "{name}: {said}").map_err(|_| NoMemory)
+}
+
+/// Adds the line that says which form a line has.
+fn push_form<A: Allocator>(text: &mut String<A>, form: &str) -> Result<(), NoMemory> {
+    writeln!(text, "{form}").map_err(|_| NoMemory)
+}
+
+/// Adds the lines on a fault of a declaration.
+fn push_declaration<A: Allocator>(
+    text: &mut String<A>,
+    fault: DeclarationFault,
+    file: &FaultyFile<'_>,
+) -> Result<(), NoMemory> {
+    match fault {
+        DeclarationFault::BadLine(number) => {
+            let line = push_numbered(text, file, number)?;
+            push_form(text, declaration_form(line))
+        }
+        DeclarationFault::TwoStarts(number) => {
+            push_numbered(text, file, number)?;
+            push_form(
+                text,
+                "a line before it is a start too; one alone may stand there",
+            )
+        }
+        DeclarationFault::TwoProfiles(number) => {
+            push_numbered(text, file, number)?;
+            push_form(
+                text,
+                "a line before it is a profile too; one alone may stand there",
+            )
+        }
+        DeclarationFault::NoStart => push_said(
+            text,
+            file,
+            "no line says where the program starts, as `start 0200` does",
+        ),
+        DeclarationFault::Overlap(at) => {
+            let name = file.name;
+            let cell = at.value();
+            writeln!(
+                text,
+                "{name}: {cell:04o} is in two bodies, or is an entry and in a body or a variable, or is a stop and a pause; take it out of one of them"
+            )
+            .map_err(|_| NoMemory)
+        }
+        DeclarationFault::EntryInAutoIndex(at) => {
+            let name = file.name;
+            let cell = at.value();
+            writeln!(
+                text,
+                "{name}: the entry {cell:04o} is one of 0010 to 0017, which an indirect reference steps; a routine begins elsewhere"
+            )
+            .map_err(|_| NoMemory)
+        }
+        DeclarationFault::StartNotInMain => push_said(
+            text,
+            file,
+            "the start is in no `main` line: add it there",
+        ),
+        DeclarationFault::HaltNotInBody(at) => {
+            let name = file.name;
+            let cell = at.value();
+            writeln!(
+                text,
+                "{name}: the stop or pause {cell:04o} is in no body: add it to the `main` line or to a routine's body"
+            )
+            .map_err(|_| NoMemory)
+        }
+        DeclarationFault::TooMany => push_said(
+            text,
+            file,
+            "it has more than 64 `sub` lines or more than 16384 bytes",
+        ),
+        DeclarationFault::NoMemory => Ok(()),
+    }
+}
+
+/// Adds the lines on a fault of a certificate.
+fn push_certificate<A: Allocator>(
+    text: &mut String<A>,
+    fault: CertificateFault,
+    file: &FaultyFile<'_>,
+) -> Result<(), NoMemory> {
+    match fault {
+        CertificateFault::Version => {
+            push_said(
+                text,
+                file,
+                "its first line is neither `PDP8-CERTIFICATE 1` nor `PDP8-CERTIFICATE 2`: is it a certificate?",
+            )
+        }
+        CertificateFault::BadLine(number) => {
+            let line = push_numbered(text, file, number)?;
+            push_form(text, certificate_form(line))
+        }
+        CertificateFault::Order(number) => {
+            push_numbered(text, file, number)?;
+            push_form(
+                text,
+                "it is out of order or there twice: routines come first, then facts, then exits, each by rising addresses; under a fact or an exit its cells, then its equations",
+            )
+        }
+        CertificateFault::TooMany => {
+            push_said(
+                text,
+                file,
+                "it has more than 64 routines, more than 1048576 bytes, or more than 64 cells or 32 equations in a fact or an exit",
+            )
+        }
+        CertificateFault::NoMemory | CertificateFault::ReadFault => Ok(()),
+    }
+}
+
+/// Adds the lines on a fault of a list of events.
+fn push_events<A: Allocator>(
+    text: &mut String<A>,
+    fault: EventsFault,
+    file: &FaultyFile<'_>,
+) -> Result<(), NoMemory> {
+    match fault {
+        EventsFault::BadLine(number) => {
+            let line = push_numbered(text, file, number)?;
+            push_form(text, event_form(line))
+        }
+        EventsFault::TooMany => push_said(
+            text,
+            file,
+            "it has more than 1000000 events or more than 65536 bytes",
+        ),
+        EventsFault::NoMemory => Ok(()),
+    }
+}

@@ -1,0 +1,85 @@
+//! What is said of a tape that is refused.
+
+use crate::{FaultyFile, push_said};
+use bin_tape::TapeFault;
+use peripherals::NoMemory;
+use std::alloc::Allocator;
+use std::fmt::Write;
+
+/// Adds the lines on a fault of a tape.
+pub(crate) fn push_tape<A: Allocator>(
+    text: &mut String<A>,
+    fault: TapeFault,
+    file: &FaultyFile<'_>,
+) -> Result<(), NoMemory> {
+    match fault {
+        TapeFault::TooLong => push_said(
+            text,
+            file,
+            "its first 65536 frames have no trailer, a frame 200, behind the last word",
+        ),
+        TapeFault::NoWord => push_said(
+            text,
+            file,
+            "it ends before any word: is it a tape in the Binary Loader's format?",
+        ),
+        TapeFault::NoOrigin => push_said(
+            text,
+            file,
+            "a data word comes first; the first word says where the next ones go, and its first frame is 100 to 177",
+        ),
+        TapeFault::BadFrame(place) => push_frame(
+            text,
+            file,
+            place,
+            "a word begins with a frame 000 to 177, and its second frame is 000 to 077; 200 ends the tape, 300 and 377 may stand between words",
+        ),
+        TapeFault::WrongField(place) => {
+            push_frame(
+                text,
+                file,
+                place,
+                "it chooses another field of memory than 0, and there is field 0 alone",
+            )
+        }
+        TapeFault::Truncated => push_said(
+            text,
+            file,
+            "it ends in a word or a rubout, or lacks the trailer, a frame 200 behind the checksum",
+        ),
+        TapeFault::NoChecksum => push_said(
+            text,
+            file,
+            "its last word is an origin, where the checksum stands; is it a RIM tape, which has none?",
+        ),
+        TapeFault::Checksum(read, counted) => {
+            let name = file.name;
+            let read = read.value();
+            let counted = counted.value();
+            writeln!(
+                text,
+                "{name}: its last word, the checksum, is {read:04o}, and the frames of the words before it add up to {counted:04o}: a frame was misread, or it is a RIM tape, which has no checksum"
+            )
+            .map_err(|_| NoMemory)
+        }
+        TapeFault::ReadFault => Ok(()),
+    }
+}
+
+/// Adds the line of a frame, and what may stand there.
+fn push_frame<A: Allocator>(
+    text: &mut String<A>,
+    file: &FaultyFile<'_>,
+    place: usize,
+    said: &str,
+) -> Result<(), NoMemory> {
+    let name = file.name;
+    match file.bytes.get(place) {
+        Some(frame) => writeln!(
+            text,
+            "{name}: frame {place}, counted from 0, is {frame:03o}: {said}"
+        ),
+        None => writeln!(text, "{name}: frame {place}, counted from 0: {said}"),
+    }
+    .map_err(|_| NoMemory)
+}

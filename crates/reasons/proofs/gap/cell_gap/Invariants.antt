@@ -1,0 +1,8 @@
+use Rattle.std.proofs.Common.{drop}
+use Rattle.std.specs.Prelude.{◌↔◌}
+use Rattle.facts.specs.Meaning.{known_of, tracked_cells}
+use Rattle.facts.specs.Showing.{EachWithin}
+use Rattle.reasons.proofs.gap.cell_gap.Given as goal
+
+abbrev pub invariant-loop-at : goal.invariant-loop-at
+invariant-loop-at l = EachWithin (known_of l.known) (drop l.at (tracked_cells l.cells)) ↔ EachWithin (known_of l.known) (tracked_cells l.cells)

@@ -1,0 +1,12 @@
+use Rattle.std.proofs.Common.{◌≡◌, ◌≤◌}
+use Rattle.declaration.specs.Kept.{meaning}
+use Rattle.peripherals.specs.World.{profile_of}
+use Rattle.run_search.proofs.shorten.replayed.Given as goal
+
+abbrev pub invariant-loop-index : goal.invariant-loop-index
+invariant-loop-index g l = record {
+  profile : profile_of l.watcher.world ≡ (meaning l.declaration).profile;
+  limit : l.turns.limit ≡ l.initial.turns.limit;
+  rises : l.initial.turns.spent ≤ l.turns.spent;
+  within : l.turns.spent ≤ l.turns.limit;
+}

@@ -1,0 +1,24 @@
+//! A search for a run that breaks a declaration.
+//!
+//! An operator by chance gives what a program asks for, and the machine is watched, until a step breaks a
+//! rule. Nothing is promised of what is found: who uses it watches it once more.
+#![tactic(auto)]
+
+mod aiming;
+mod alphabet;
+mod asking;
+mod bits;
+mod hints;
+mod looks;
+mod pace;
+mod plan;
+mod random;
+mod running;
+mod script;
+mod search;
+mod seen;
+mod shorten;
+mod tree;
+mod votes;
+
+pub use search::{DeclaredProgram, RunSearch};

@@ -1,0 +1,279 @@
+//! One run: the operator gives what the program asks for, the devices get done, and the machine makes
+//! step after step until one breaks a rule.
+
+ghost use Rattle.std.specs.Prelude.{◌≡◌, ◌≤◌};
+ghost use Rattle.declaration.specs.Kept.{meaning};
+ghost use Rattle.peripherals.specs.World.{profile_of};
+
+use crate::asking::Ask;
+use crate::pace::Pace;
+use crate::plan::{Plan, Purpose};
+use crate::random::Random;
+use crate::script::{Extent, Script};
+use declaration::Declaration;
+use peripherals::{Event, NoMemory};
+use policy::Watcher;
+use std::alloc::Allocator;
+use turns::{Stepped, Turns, take_step};
+use word12::Word;
+
+/// After so many events without an input, a completion or a store a run is over: it waits.
+const MOST_IDLE: u32 = 400;
+
+/// After so many events without an input and without anything new a run is over.
+const MOST_QUIET: u32 = 30_000;
+
+/// An input that was given.
+#[derive(Clone, Copy)]
+pub(crate) struct Input {
+    pub(crate) ask: Ask,
+    pub(crate) value: u16,
+}
+
+/// How a run goes on.
+#[derive(Clone, Copy, PartialEq, Eq)]
+pub(crate) enum Progress {
+    /// It goes on.
+    GoesOn,
+    /// It is over, and broke no rule.
+    Over,
+    /// Its last event broke a rule.
+    Broken,
+}
+
+/// What is new in a run since the program asked for an input.
+#[derive(Clone, Copy)]
+pub(crate) struct News {
+    /// Whether anything is.
+    pub(crate) is_any: bool,
+    /// Whether a step is new.
+    pub(crate) is_step: bool,
+    /// The address at which it was seen.
+    pub(crate) place: Word,
+}
+
+impl News {
+    /// Nothing is new.
+    pub(crate) const NONE: News = News {
+        is_any: false,
+        is_step: false,
+        place: Word::ZERO,
+    };
+}
+
+/// What happened in a run so far.
+#[derive(Drop)]
+pub(crate) struct Run<A: Allocator> {
+    purpose: Purpose,
+    /// The kept state from which the script goes on.
+    pub(crate) base: usize,
+    pub(crate) script: Script<A>,
+    /// How long all is from the start.
+    pub(crate) extent: Extent,
+    /// The inputs that were given, and how many of them came before the kept state.
+    pub(crate) inputs: Vec<Input, A>,
+    pub(crate) before_base: usize,
+    pub(crate) pace: Pace,
+    pub(crate) news: News,
+    /// Whether the program has asked for an input yet.
+    pub(crate) has_asked: bool,
+    /// How many events there were when something last happened, when something was last new or asked for,
+    /// and when something was last new.
+    stirred: u32,
+    last_asked: u32,
+    last_new: u32,
+    /// After so many events without anything new the run is over when an input is asked for.
+    most_stale: u32,
+}
+
+/// 400 steps, or twice, four times .. as many, each half as likely as the one before.
+fn patience(random: &mut Random) -> u32 {
+    let mut steps = 400u32;
+    for _ in 0..7 {
+        if random.once_in(2) {
+            return steps;
+        }
+        steps = steps.saturating_mul(2);
+    }
+    steps
+}
+
+impl<A: Allocator + Copy> Run<A> {
+    /// A run that has not begun.
+    pub(crate) fn new(alloc: A, plan: &Plan<A>, extent: Extent, random: &mut Random) -> Run<A> {
+        let pace = match plan.purpose {
+            Purpose::Repeat => Pace::prompt(),
+            Purpose::Roam => Pace::by_chance(random, true),
+            Purpose::Grow => {
+                let jitter = random.once_in(4);
+                Pace::by_chance(random, jitter)
+            }
+        };
+        let most_stale = match plan.purpose {
+            Purpose::Grow => patience(random),
+            Purpose::Roam | Purpose::Repeat => u32::MAX,
+        };
+        Run {
+            purpose: plan.purpose,
+            base: plan.base,
+            script: Script::new(alloc),
+            extent,
+            inputs: Vec::new(alloc),
+            before_base: 0,
+            pace,
+            news: News::NONE,
+            has_asked: plan.base == 0,
+            stirred: extent.events,
+            last_asked: extent.events,
+            last_new: extent.events,
+            most_stale,
+        }
+    }
+
+    /// Takes the events since the kept state out.
+    pub(crate) fn take_script(&mut self, alloc: A) -> Script<A> {
+        std::mem::replace(&mut self.script, Script::new(alloc))
+    }
+
+    /// Something happened.
+    pub(crate) fn stirs(&mut self) {
+        self.stirred = self.extent.events;
+    }
+
+    /// Something new is seen.
+    pub(crate) fn sees_new(&mut self) {
+        self.stirred = self.extent.events;
+        self.last_asked = self.extent.events;
+    }
+
+    /// The program asks for an input. False where the run is over, since nothing was new for long.
+    pub(crate) fn is_asked(&mut self) -> bool {
+        self.has_asked = true;
+        if self.news.is_any {
+            self.last_new = self.extent.events;
+        }
+        self.news = News::NONE;
+        self.since(self.last_new) <= self.most_stale && self.extent.is_short()
+    }
+
+    /// Gives the machine an event that is no step.
+    fn give<D: Allocator>(
+        &mut self,
+        watcher: &mut Watcher<A>,
+        declaration: &Declaration<D>,
+        event: Event,
+    ) -> Result<(), NoMemory>
+        requires profile { profile_of watcher.old.world ≡ (meaning declaration.now).profile }
+        ensures profile { profile_of watcher.new.world ≡ (meaning declaration.now).profile }
+    {
+        self.script.add(&event)?;
+        self.extent.add();
+        self.stirs();
+        watcher.next(declaration, event)?;
+        Ok(())
+    }
+
+    /// Gives the machine an input that it asks for.
+    pub(crate) fn answer<D: Allocator>(
+        &mut self,
+        watcher: &mut Watcher<A>,
+        declaration: &Declaration<D>,
+        input: Input,
+    ) -> Result<(), NoMemory>
+        requires profile { profile_of watcher.old.world ≡ (meaning declaration.now).profile }
+        ensures profile { profile_of watcher.new.world ≡ (meaning declaration.now).profile }
+    {
+        self.inputs.push(input).map_err(|_| NoMemory)?;
+        self.sees_new();
+        let word = Word::from_index((input.value & 0o7777) as usize);
+        let event = match input.ask {
+            Ask::Key => Event::Key(word.low_byte()),
+            Ask::Frame => Event::ReaderDone(word.low_byte()),
+            Ask::Switches => Event::Switches(word),
+        };
+        if matches!(input.ask, Ask::Switches) && watcher.world().panel().switches == word {
+            return Ok(());
+        }
+        self.give(watcher, declaration, event)
+    }
+
+    /// Lets the printer and the punch get done, if it is time.
+    pub(crate) fn complete<D: Allocator>(
+        &mut self,
+        watcher: &mut Watcher<A>,
+        declaration: &Declaration<D>,
+        random: &mut Random,
+    ) -> Result<(), NoMemory>
+        requires profile { profile_of watcher.old.world ≡ (meaning declaration.now).profile }
+        ensures profile { profile_of watcher.new.world ≡ (meaning declaration.now).profile }
+    {
+        let panel = watcher.world().panel();
+        if panel.printer.busy && self.pace.ends_printing(random) {
+            self.give(watcher, declaration, Event::PrinterDone)?;
+        }
+        if panel.punch.busy && self.pace.ends_punching(random) {
+            self.give(watcher, declaration, Event::PunchDone)?;
+        }
+        Ok(())
+    }
+
+    /// Makes a step, and presses CONTINUE behind one that halts at a pause.
+    pub(crate) fn step<D: Allocator>(
+        &mut self,
+        watcher: &mut Watcher<A>,
+        declaration: &Declaration<D>,
+        turns: &mut Turns,
+    ) -> Result<Progress, NoMemory>
+        requires profile { profile_of watcher.old.world ≡ (meaning declaration.now).profile }
+        ensures profile { profile_of watcher.new.world ≡ (meaning declaration.now).profile }
+        ensures limit { turns.new.limit ≡ turns.old.limit }
+        ensures rises { turns.old.spent ≤ turns.new.spent }
+        ensures within { turns.new.spent ≤ turns.new.limit }
+    {
+        match take_step(watcher, declaration, turns)? {
+            Stepped::NoTurn => return Ok(Progress::Over),
+            Stepped::Broke => {
+                self.script.add_step();
+                return Ok(Progress::Broken);
+            }
+            Stepped::Kept => self.made_step(),
+        }
+        match watcher.world().halted_at() {
+            None => Ok(self.goes_on(watcher)),
+            Some(at) if declaration.is_stop(at) => Ok(Progress::Over),
+            Some(_) => {
+                self.give(watcher, declaration, Event::Continue)?;
+                Ok(Progress::GoesOn)
+            }
+        }
+    }
+
+    /// A step was made.
+    fn made_step(&mut self) {
+        self.script.add_step();
+        self.extent.step();
+    }
+
+    /// How many events there were since there were so many.
+    fn since(&self, events: u32) -> u32 {
+        self.extent.events.saturating_sub(events)
+    }
+
+    /// Whether the run goes on, by how long nothing has happened.
+    fn goes_on(&self, watcher: &Watcher<A>) -> Progress {
+        if self.since(self.last_asked) > MOST_QUIET || self.waits(watcher) {
+            Progress::Over
+        } else {
+            Progress::GoesOn
+        }
+    }
+
+    /// Whether nothing has happened for long, and no completion is still to come.
+    fn waits(&self, watcher: &Watcher<A>) -> bool {
+        if self.since(self.stirred) <= MOST_IDLE || self.purpose == Purpose::Roam {
+            return false;
+        }
+        let panel = watcher.world().panel();
+        !(self.pace.gets_done() && (panel.printer.busy || panel.punch.busy))
+    }
+}

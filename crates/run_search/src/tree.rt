@@ -1,0 +1,390 @@
+//! The tree of kept states: those in which a program asks for an input after something new was seen.
+
+ghost use Rattle.std.specs.Prelude.{◌≡◌, IfOk};
+ghost use Rattle.declaration.specs.Kept.{meaning};
+ghost use Rattle.peripherals.specs.World.{profile_of};
+
+use crate::asking::Ask;
+use crate::random::Random;
+use crate::running::Input;
+use crate::script::{Extent, Script};
+use crate::search::DeclaredProgram;
+use declaration::Declaration;
+use peripherals::{NoMemory, Panel, Start, World};
+use policy::{Call, Watcher};
+use processor::{Cpu, Memory};
+use std::alloc::Allocator;
+use word12::{Link, Word};
+
+/// The most bytes that kept states take, as they are reckoned.
+const MOST_BYTES: usize = 50_000_000;
+
+/// The bytes of a kept state apart from its lists, about.
+const BYTES_OF_STATE: usize = 300;
+
+/// A machine, apart from the cells that no legal step writes.
+#[derive(Drop)]
+struct Snapshot<A: Allocator> {
+    ac: Word,
+    link: Link,
+    mq: Word,
+    pc: Word,
+    panel: Panel,
+    cells: Vec<Word, A>,
+    calls: Vec<Call, A>,
+}
+
+/// A kept state.
+#[derive(Drop)]
+struct Kept<A: Allocator> {
+    /// The kept state that the run came from.
+    parent: usize,
+    /// What happened since.
+    script: Script<A>,
+    inputs: Vec<Input, A>,
+    /// How long all is from the start.
+    extent: Extent,
+    machine: Snapshot<A>,
+    /// What the program asks for.
+    ask: Ask,
+    /// How often runs began here.
+    tries: usize,
+}
+
+/// States that were kept for something new at one address, or for a new step.
+#[derive(Drop)]
+struct Group<A: Allocator> {
+    states: Vec<usize, A>,
+}
+
+/// Some inputs, and the kept state from which they lead on.
+#[derive(Drop)]
+pub(crate) struct Tail<A: Allocator> {
+    pub(crate) base: usize,
+    pub(crate) inputs: Vec<Input, A>,
+}
+
+/// The tree of kept states. Its root, of number 0, is the start.
+#[derive(Drop)]
+pub(crate) struct Tree<A: Allocator> {
+    alloc: A,
+    /// The memory at the start.
+    tape: Memory,
+    /// The cells that legal steps may write.
+    written: Vec<Word, A>,
+    states: Vec<Kept<A>, A>,
+    /// The states by what was new; the first group is of those for a new step.
+    groups: Vec<Group<A>, A>,
+    /// The group of each address, if it has one.
+    group_of: Vec<Option<usize>, A>,
+    bytes: usize,
+}
+
+/// The machine that a watcher watches.
+fn take_snapshot<A: Allocator + Copy>(
+    alloc: A,
+    watcher: &Watcher<A>,
+    written: &[Word],
+) -> Result<Snapshot<A>, NoMemory> {
+    let cpu = watcher.world().cpu();
+    let mut cells = Vec::with_capacity(alloc, written.len())?;
+    for cell in written {
+        cells.push(cpu.memory.get(*cell)).map_err(|_| NoMemory)?;
+    }
+    Ok(Snapshot {
+        ac: cpu.ac,
+        link: cpu.link,
+        mq: cpu.mq,
+        pc: cpu.pc,
+        panel: watcher.world().panel(),
+        cells,
+        calls: Vec::from_slice(alloc, watcher.calls())?,
+    })
+}
+
+/// The cells that legal steps may write: variables and entries.
+fn cells_written<A: Allocator, D: Allocator>(
+    alloc: A,
+    declaration: &Declaration<D>,
+) -> Result<Vec<Word, A>, NoMemory> {
+    let mut cells = Vec::new(alloc);
+    for index in 0..4096usize {
+        let cell = Word::from_index(index);
+        if declaration.is_variable(cell) || declaration.is_entry(cell) {
+            cells.push(cell).map_err(|_| NoMemory)?;
+        }
+    }
+    Ok(cells)
+}
+
+impl<A: Allocator + Copy> Tree<A> {
+    /// The tree with the start alone.
+    pub(crate) fn new<D: Allocator>(
+        alloc: A,
+        program: &DeclaredProgram<'_, D>,
+    ) -> Result<Tree<A>, NoMemory> {
+        let watcher = Watcher::new(alloc, program.image, program.declaration, &Start::zero());
+        let mut tree = Tree {
+            alloc,
+            tape: watcher.world().cpu().memory.duplicate(),
+            written: cells_written(alloc, program.declaration)?,
+            states: Vec::new(alloc),
+            groups: Vec::new(alloc),
+            group_of: Vec::from_elem(alloc, None, 4096)?,
+            bytes: 0,
+        };
+        tree.groups
+            .push(Group {
+                states: Vec::new(alloc),
+            })
+            .map_err(|_| NoMemory)?;
+        let tail = Tail {
+            base: 0,
+            inputs: Vec::new(alloc),
+        };
+        tree.keep(
+            &watcher,
+            tail,
+            Script::new(alloc),
+            Extent::NONE,
+            Ask::Key,
+            None,
+        )?;
+        Ok(tree)
+    }
+
+    /// Whether one more state may be kept.
+    pub(crate) fn has_room(&self) -> bool {
+        self.bytes < MOST_BYTES
+    }
+
+    /// Keeps the state of a machine, to which inputs and events led from another kept state: for something
+    /// new at an address, or for a new step. Gives its number.
+    pub(crate) fn keep(
+        &mut self,
+        watcher: &Watcher<A>,
+        tail: Tail<A>,
+        script: Script<A>,
+        extent: Extent,
+        ask: Ask,
+        place: Option<Word>,
+    ) -> Result<usize, NoMemory> {
+        let machine = take_snapshot(self.alloc, watcher, &self.written)?;
+        let number = self.states.len();
+        self.bytes = self
+            .bytes
+            .saturating_add(BYTES_OF_STATE)
+            .saturating_add(script.parts().len().saturating_mul(12))
+            .saturating_add(tail.inputs.len().saturating_mul(6))
+            .saturating_add(machine.cells.len().saturating_mul(2))
+            .saturating_add(machine.calls.len().saturating_mul(4));
+        let Tail { base, inputs } = tail;
+        let kept = Kept {
+            parent: base,
+            script,
+            inputs,
+            extent,
+            machine,
+            ask,
+            tries: 0,
+        };
+        self.states.push(kept).map_err(|_| NoMemory)?;
+        self.put_in_group(number, place)?;
+        Ok(number)
+    }
+
+    /// Puts a state into the group of an address, or into the first one.
+    fn put_in_group(&mut self, number: usize, place: Option<Word>) -> Result<(), NoMemory> {
+        let group = match place {
+            None => 0,
+            Some(at) => self.group_at(at)?,
+        };
+        match self.groups.get_mut(group) {
+            Some(group) => group.states.push(number).map_err(|_| NoMemory),
+            None => Ok(()),
+        }
+    }
+
+    /// The group of an address, which is made where there is none.
+    fn group_at(&mut self, at: Word) -> Result<usize, NoMemory> {
+        if let Some(Some(group)) = self.group_of.get(at.index()) {
+            return Ok(*group);
+        }
+        let group = self.groups.len();
+        let states = Vec::new(self.alloc);
+        self.groups.push(Group { states }).map_err(|_| NoMemory)?;
+        if let Some(place) = self.group_of.get_mut(at.index()) {
+            *place = Some(group);
+        }
+        Ok(group)
+    }
+
+    /// A watched machine in a kept state.
+    pub(crate) fn watcher<D: Allocator>(
+        &self,
+        program: &DeclaredProgram<'_, D>,
+        number: usize,
+    ) -> Result<Watcher<A>, NoMemory>
+        ensures profile { IfOk result (λ watcher. profile_of watcher.world
+            ≡ (meaning program.now.declaration.now).profile) }
+    {
+        let Some(kept) = self.states.get(number) else {
+            return Ok(Watcher::new(
+                self.alloc,
+                program.image,
+                program.declaration,
+                &Start::zero(),
+            ));
+        };
+        let machine = &kept.machine;
+        let cpu = Cpu {
+            memory: self.memory(machine),
+            ac: machine.ac,
+            link: machine.link,
+            mq: machine.mq,
+            pc: machine.pc,
+            profile: program.declaration.profile(),
+        };
+        let world = World::of(self.alloc, cpu, machine.panel, None);
+        let calls = Vec::from_slice(self.alloc, &machine.calls)?;
+        Ok(Watcher::resume(world, calls))
+    }
+
+    /// The memory of a kept machine.
+    fn memory(&self, machine: &Snapshot<A>) -> Memory {
+        let mut memory = self.tape.duplicate();
+        for (cell, word) in self.written.iter().zip(machine.cells.iter()) {
+            memory.set(*cell, *word);
+        }
+        memory
+    }
+
+    /// A run begins at a kept state. Gives how many began there before.
+    pub(crate) fn tries(&mut self, number: usize) -> usize {
+        let Some(kept) = self.states.get_mut(number) else {
+            return 0;
+        };
+        let before = kept.tries;
+        kept.tries = before.saturating_add(1);
+        before
+    }
+
+    /// How long the way from the start to a kept state is.
+    pub(crate) fn extent(&self, number: usize) -> Extent {
+        match self.states.get(number) {
+            Some(kept) => kept.extent,
+            None => Extent::NONE,
+        }
+    }
+
+    /// What the program asks for in a kept state.
+    pub(crate) fn ask(&self, number: usize) -> Ask {
+        match self.states.get(number) {
+            Some(kept) => kept.ask,
+            None => Ask::Key,
+        }
+    }
+
+    /// The kept states on the way to one, from it back, until they have so many inputs.
+    fn way_back(&self, number: usize, least: usize) -> Result<Vec<usize, A>, NoMemory> {
+        let mut way = Vec::new(self.alloc);
+        let mut at = number;
+        let mut count = 0usize;
+        for _ in 0..self.states.len() {
+            if at == 0 || count >= least {
+                break;
+            }
+            way.push(at).map_err(|_| NoMemory)?;
+            if let Some(kept) = self.states.get(at) {
+                count = count.saturating_add(kept.inputs.len());
+                at = kept.parent;
+            }
+        }
+        Ok(way)
+    }
+
+    /// The last inputs before a kept state, so many at least, and the kept state before them.
+    pub(crate) fn tail(&self, number: usize, least: usize) -> Result<Tail<A>, NoMemory> {
+        let way = self.way_back(number, least)?;
+        let mut tail = Tail {
+            base: number,
+            inputs: Vec::new(self.alloc),
+        };
+        if let Some(last) = way.last() {
+            if let Some(kept) = self.states.get(*last) {
+                tail.base = kept.parent;
+            }
+        }
+        for at in way.iter().rev() {
+            if let Some(kept) = self.states.get(*at) {
+                tail.inputs.extend_from_slice(&kept.inputs)?;
+            }
+        }
+        Ok(tail)
+    }
+
+    /// All events from the start to a kept state.
+    pub(crate) fn script(&self, number: usize) -> Result<Script<A>, NoMemory> {
+        let way = self.way_back(number, usize::MAX)?;
+        let mut script = Script::new(self.alloc);
+        for at in way.iter().rev() {
+            if let Some(kept) = self.states.get(*at) {
+                script.append(&kept.script)?;
+            }
+        }
+        Ok(script)
+    }
+
+    /// A kept state from which to go on: a late one, a late one of those with a new step, or mostly one of
+    /// a group by chance, so that addresses at which little is new have their share.
+    pub(crate) fn pick(&self, random: &mut Random) -> usize {
+        match random.below(8) {
+            0 => late(random, self.states.len(), 16),
+            1 => self.pick_late_in_group(random, 0, 8),
+            _ => {
+                let group = random.below(self.groups.len());
+                if random.once_in(2) {
+                    self.pick_late_in_group(random, group, 4)
+                } else {
+                    self.pick_in_group(random, group)
+                }
+            }
+        }
+    }
+
+    /// One of the last so many states of a group.
+    fn pick_late_in_group(&self, random: &mut Random, group: usize, most: usize) -> usize {
+        match self.groups.get(group) {
+            Some(group) => {
+                let place = late(random, group.states.len(), most);
+                group.states.get(place).copied().unwrap_or(0)
+            }
+            None => 0,
+        }
+    }
+
+    /// Of four states of a group by chance, the one from which the fewest runs began.
+    fn pick_in_group(&self, random: &mut Random, group: usize) -> usize {
+        let Some(group) = self.groups.get(group) else {
+            return 0;
+        };
+        let mut best = 0usize;
+        let mut fewest = usize::MAX;
+        for _ in 0..4 {
+            let place = random.below(group.states.len());
+            let number = group.states.get(place).copied().unwrap_or(0);
+            let tries = self.states.get(number).map_or(0, |kept| kept.tries);
+            if tries < fewest {
+                best = number;
+                fewest = tries;
+            }
+        }
+        best
+    }
+}
+
+/// One of the last so many places of a list of a length.
+fn late(random: &mut Random, length: usize, most: usize) -> usize {
+    let back = random.below(length.min(most));
+    length.saturating_sub(1).saturating_sub(back)
+}

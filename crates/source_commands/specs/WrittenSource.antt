@@ -1,0 +1,27 @@
+-- What `source` writes, and why it may have no answer.
+use Rattle.std.specs.Prelude.{ℕ, List, Option, ◌⊎◌}
+use Rattle.instruct.specs.declared.Profile.{Profile}
+use Rattle.declaration.specs.Declaration.{Declaration}
+use Rattle.source_writer.specs.Meaning.{IsSourceOf}
+use Rattle.command_parts.specs.declared.status.Fault.{Fault}
+use Rattle.command_parts.specs.Faults.{IsTapeInputFault, IsDeclarationInputFault, IsRunFault}
+use Rattle.command_parts.specs.Inputs.{Input, HasImage, HasDeclaration, IsGoodTape, IsGoodDeclaration}
+
+-- The frames are a tape, and the text is a source that means exactly the image of that tape on this machine.
+pub record IsTapeSource (profile : Profile) (frames : Option (List ℕ)) (text : List ℕ) : Type 0 where
+  pub image : List (Option ℕ)
+  pub tape : HasImage frames image
+  pub source : IsSourceOf profile image text
+
+-- The frames are a tape and the promise a declaration's text, and the source means the image of the tape on the declared
+-- machine.
+pub record IsDeclaredSource (frames promise : Option (List ℕ)) (text : List ℕ) : Type 0 where
+  pub declaration : Declaration
+  pub declares : HasDeclaration promise declaration
+  pub source : IsTapeSource declaration.profile frames text
+
+-- Why there is no source by a declaration: the tape's fault; after a good tape the declaration's; and after a good
+-- declaration a write failed or memory was refused.
+abbrev pub IsDeclaredSourceFault : Input → Input → Fault → Type 0
+IsDeclaredSourceFault tape promise fault =
+    IsTapeInputFault tape fault ⊎ (IsGoodTape tape.had × (IsDeclarationInputFault promise fault ⊎ (IsGoodDeclaration promise.had × IsRunFault fault)))

@@ -1,0 +1,112 @@
+//! The command that writes a source of a tape.
+
+ghost use Rattle.std.specs.Prelude.{◌≡◌, ◌||◌, ◌⊎◌, false, true, IfOk, IfErr, OnErr, OnOk};
+ghost use Rattle.command_parts.specs.Faults.{IsTapeFault, is_fault_of_tape, fails_to_read, fails_to_write};
+ghost use Rattle.command_parts.specs.Inputs.{IsGoodTape, TakesAtMost, TakesTape, input};
+ghost use Rattle.command_parts.specs.Writes.{FrontOf, Writes};
+ghost use Rattle.command_parts.specs.declared.status.Status.TheVariants.{Done};
+ghost use Rattle.source_commands.specs.WrittenSource.{IsDeclaredSource, IsDeclaredSourceFault, IsTapeSource};
+
+use command_parts::inputs::{declaration_from, tape_from};
+use command_parts::status::{Fault, Status};
+use instruct::Profile;
+use source_writer::{declared_source_of, source_of};
+use std::alloc::Allocator;
+use streams::{ByteSink, ByteSource, put};
+use word12::Word;
+
+/// Writes a source of a tape, whose program starts at an address and is for a machine. `assemble` makes the
+/// same words of it.
+///
+/// # Errors
+///
+/// The fault of the tape, and then nothing is written; `Device` where a read failed, or where a write
+/// failed, after which a prefix of the source went out; `NoMemory`. A tape that is read has a source.
+pub fn source<A: Allocator + Copy, R: ByteSource, W: ByteSink>(
+    alloc: A,
+    tape: &mut R,
+    start: Word,
+    profile: Profile,
+    out: &mut W,
+) -> Result<Status, Fault>
+    requires readable { R.mark tape.old ≡ false }
+    requires writable { W.mark out.old ≡ false }
+    // What is written is a source that means exactly the tape's image.
+    ensures done { IfOk result (λ status. status ≡ Done) }
+    ensures source { OnOk result (Writes (IsTapeSource profile (R.remaining tape.old))
+        (W.taken out.old) (W.taken out.new)) }
+    // After a tape without a fault only a write that failed or a want of memory is one.
+    ensures faults { IfErr result (IsTapeFault
+        (input (R.mark tape.new) (R.remaining tape.old) (R.remaining tape.new))) }
+    // Where a write failed, a front of such a source went out,
+    ensures front { W.mark out.new ≡ true →
+        FrontOf (IsTapeSource profile (R.remaining tape.old))
+        (W.taken out.old) (W.taken out.new) }
+    // and any other fault leaves the output as it was.
+    ensures nothing { OnErr result (W.mark out.new ≡ false → W.taken out.new ≡ W.taken out.old) }
+    // A write failed exactly where the answer says so, and so did a read.
+    ensures marks { W.mark out.new ≡ fails_to_write result }
+    ensures reads { R.mark tape.new ≡ fails_to_read result }
+    // The tape is not read past its limit.
+    ensures takes_tape { TakesTape (R.remaining tape.old) (R.remaining tape.new) }
+{
+    let image = tape_from(tape)?;
+    let text = source_of(alloc, &image, start, profile)?;
+    put(out, &text)?;
+    Ok(Status::Done)
+}
+
+/// Writes a source of a tape, whose program has a declaration. `assemble` makes the same words of it, for
+/// the declared machine.
+///
+/// # Errors
+///
+/// The fault of the tape or of the declaration: each is read and, if it has a fault, refused before the
+/// next is read, and then nothing is written; `Device` where a read failed, or where a write failed,
+/// after which a prefix of the source went out; `NoMemory`.
+pub fn declared_source<A: Allocator + Copy, R: ByteSource, D: ByteSource, W: ByteSink>(
+    alloc: A,
+    tape: &mut R,
+    declaration: &mut D,
+    out: &mut W,
+) -> Result<Status, Fault>
+    requires readable { R.mark tape.old ≡ false }
+    requires declaration_readable { D.mark declaration.old ≡ false }
+    requires writable { W.mark out.old ≡ false }
+    // What is written is a source that means exactly the tape's image.
+    ensures done { IfOk result (λ status. status ≡ Done) }
+    ensures source { OnOk result (Writes
+        (IsDeclaredSource (R.remaining tape.old) (D.remaining declaration.old))
+        (W.taken out.old) (W.taken out.new)) }
+    // After inputs without a fault only a write that failed or a want of memory is one.
+    ensures faults { IfErr result (IsDeclaredSourceFault
+        (input (R.mark tape.new) (R.remaining tape.old) (R.remaining tape.new))
+        (input (D.mark declaration.new) (D.remaining declaration.old)
+        (D.remaining declaration.new))) }
+    // Where a write failed, a front of such a source went out,
+    ensures front { W.mark out.new ≡ true → FrontOf
+        (IsDeclaredSource (R.remaining tape.old) (D.remaining declaration.old))
+        (W.taken out.old) (W.taken out.new) }
+    // and any other fault leaves the output as it was.
+    ensures nothing { OnErr result (W.mark out.new ≡ false → W.taken out.new ≡ W.taken out.old) }
+    // A write failed exactly where the answer says so, and so did a read.
+    ensures marks { W.mark out.new ≡ fails_to_write result }
+    ensures reads { R.mark tape.new || D.mark declaration.new ≡ fails_to_read result }
+    // The declaration isn't read after a tape that is refused, or whose read failed,
+    ensures unread { IfErr result (λ fault. is_fault_of_tape fault ≡ true →
+        declaration.new ≡ declaration.old) }
+    ensures unread_after_failure { R.mark tape.new ≡ true → declaration.new ≡ declaration.old }
+    // but only after a good tape.
+    ensures declaration_after_tape { (declaration.new ≡ declaration.old) ⊎
+        IsGoodTape (R.remaining tape.old) }
+    // No input is read past its limit.
+    ensures takes_tape { TakesTape (R.remaining tape.old) (R.remaining tape.new) }
+    ensures takes_declaration { TakesAtMost 16385
+        (D.remaining declaration.old) (D.remaining declaration.new) }
+{
+    let image = tape_from(tape)?;
+    let promised = declaration_from(alloc, declaration)?;
+    let text = declared_source_of(alloc, &image, &promised)?;
+    put(out, &text)?;
+    Ok(Status::Done)
+}

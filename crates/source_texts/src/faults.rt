@@ -1,0 +1,301 @@
+//! All faults of a source that can be found, one after another.
+
+use crate::copies::{copies_of, first_fault, replace};
+use crate::findings::{Finding, about_text};
+use crate::given::{about_assignment, about_room, about_tags};
+use crate::lines::{bytes_between, count_characters, line_at, push_marked};
+use crate::meanings::{Meanings, NOWHERE, meanings_before};
+use crate::references::{about_reference, put_undefined};
+use crate::statement::{Act, Faulty, faulty_of};
+use crate::symbols::{Source, source_of};
+use instruct::Profile;
+use pal_acts::{Code, Place, permanent_table};
+use pal_asm::PalFault;
+use pal_text::Kind;
+use std::alloc::{AllocError, Allocator};
+
+/// How many faults are told at most.
+const MOST_FAULTS: usize = 20;
+
+/// How many statements are left out at most.
+const MOST_STATEMENTS: usize = 60;
+
+/// What is told of PAUSE in the last part.
+fn about_pause<A: Allocator + Copy>(
+    alloc: A,
+    faulty: &Faulty<A>,
+) -> Result<Option<Finding<A>>, AllocError> {
+    let [token, ..] = faulty.body() else {
+        return Ok(None);
+    };
+    Ok(Some(Finding {
+        start: token.start,
+        end: token.end,
+        wrong: String::from_str(alloc, "PAUSE says that a part follows, and none does")?,
+        advice: String::from_str(
+            alloc,
+            "write $ or leave it out, or name the part that follows as one more SOURCE",
+        )?,
+    }))
+}
+
+/// What is told of a fault that brings one finding at most.
+fn finding_of<A: Allocator + Copy>(
+    alloc: A,
+    source: &Source<'_>,
+    before: &Meanings<'_, A>,
+    known: &Meanings<'_, A>,
+    faulty: &Faulty<A>,
+) -> Result<Option<Finding<A>>, AllocError> {
+    match faulty.code {
+        Code::IllegalCharacter | Code::NumberTooLarge => {
+            let bytes = source.bytes(faulty.part);
+            about_text(alloc, bytes, &faulty.tokens, before.is_decimal)
+        }
+        Code::DuplicateTag => about_tags(alloc, source, before, faulty),
+        Code::Redefined => about_assignment(alloc, source, before, faulty),
+        Code::IllegalReference => about_reference(alloc, source, before, known, faulty),
+        Code::TableFull => about_room(alloc, source, before, faulty),
+        Code::PauseInLastPart => about_pause(alloc, faulty),
+        Code::Undefined | Code::TooLong => Ok(None),
+    }
+}
+
+/// Puts what is told of a fault, by what is known before its statement and after the whole source.
+fn put_findings<A: Allocator + Copy>(
+    alloc: A,
+    source: &Source<'_>,
+    before: &Meanings<'_, A>,
+    known: &Meanings<'_, A>,
+    faulty: &Faulty<A>,
+    findings: &mut Vec<Finding<A>, A>,
+) -> Result<(), AllocError> {
+    if faulty.code == Code::Undefined {
+        return put_undefined(alloc, source, before, known, faulty, findings);
+    }
+    match finding_of(alloc, source, before, known, faulty)? {
+        Some(finding) => {
+            findings.push(finding)?;
+            Ok(())
+        }
+        None => Ok(()),
+    }
+}
+
+/// What is told of a fault, by what is known before its statement and after the whole source.
+fn findings_by<A: Allocator + Copy>(
+    alloc: A,
+    source: &Source<'_>,
+    before: &Meanings<'_, A>,
+    known: &Meanings<'_, A>,
+    faulty: &Faulty<A>,
+) -> Result<Vec<Finding<A>, A>, AllocError> {
+    let mut findings = Vec::new(alloc);
+    put_findings(alloc, source, before, known, faulty, &mut findings)?;
+    Ok(findings)
+}
+
+/// What is told of a fault.
+fn findings_of<A: Allocator + Copy>(
+    alloc: A,
+    source: &Source<'_>,
+    copies: &[Vec<u8, A>],
+    faulty: &Faulty<A>,
+) -> Result<Vec<Finding<A>, A>, AllocError> {
+    let permanent = permanent_table(alloc, source.profile)?;
+    let before = meanings_before(alloc, &permanent, copies, faulty.place)?;
+    let known = meanings_before(alloc, &permanent, copies, NOWHERE)?;
+    findings_by(alloc, source, &before, &known, faulty)
+}
+
+/// Adds what is told of a fault.
+fn push_finding<A: Allocator + Copy>(
+    alloc: A,
+    text: &mut String<A>,
+    source: &Source<'_>,
+    faulty: &Faulty<A>,
+    finding: &Finding<A>,
+) -> Result<(), AllocError> {
+    let bytes = source.bytes(faulty.part);
+    let found = line_at(alloc, bytes, finding.start)?;
+    let before = count_characters(bytes_between(bytes, found.line.start, finding.start));
+    let name = source.name(faulty.part);
+    let number = found.number;
+    let column = before.saturating_add(1);
+    let code = faulty.code;
+    write!(text, "{name}:{number}:{column}: {code}: ")?;
+    text.push_str(finding.wrong.as_str())?;
+    text.push('\n')?;
+    push_marked(text, bytes, found.line, finding.start, finding.end)?;
+    text.push_str(finding.advice.as_str())?;
+    text.push('\n')
+}
+
+/// Where the tag ends that begins at this place.
+fn end_of_tag<A: Allocator>(faulty: &Faulty<A>, start: usize) -> usize {
+    for token in faulty.tags() {
+        if token.kind == Kind::Comma && token.start > start {
+            return token.end;
+        }
+    }
+    faulty.end
+}
+
+/// What stands in the place of a statement's body that is left out.
+fn filler_of<A: Allocator>(bytes: &[u8], faulty: &Faulty<A>) -> u8 {
+    match faulty.code {
+        Code::PauseInLastPart => b'$',
+        Code::Redefined => b' ',
+        _ if faulty.loses_location(bytes) => b' ',
+        _ => b'0',
+    }
+}
+
+/// Leaves a fault out of a part: the tag at this place, or the body of the statement, in whose stead stands
+/// the word or the value 0. A body that was left out before becomes nothing.
+fn leave_out<A: Allocator>(bytes: &mut [u8], faulty: &Faulty<A>, marked: usize, is_again: bool) {
+    if faulty.code == Code::DuplicateTag {
+        let end = end_of_tag(faulty, marked);
+        return replace(bytes, marked, end, b' ');
+    }
+    let filler = if is_again {
+        b' '
+    } else {
+        filler_of(bytes, faulty)
+    };
+    match faulty.body() {
+        [] => replace(bytes, faulty.start, faulty.end, b' '),
+        [_, equals, ..] if faulty.act() == Act::Assigns && filler == b'0' => {
+            replace(bytes, equals.end, faulty.end, filler);
+        }
+        [first, ..] => replace(bytes, first.start, faulty.end, filler),
+    }
+}
+
+/// How far the faults of a source are told: how many are, which statements had one, and whether an origin
+/// was left out, so that locations aren't known.
+#[derive(Drop)]
+struct Course<A: Allocator> {
+    told: usize,
+    places: Vec<Place, A>,
+    is_astray: bool,
+}
+
+/// Whether the fault of a statement is told: a second one only of a tag, and no page where locations aren't
+/// known.
+fn is_told<A: Allocator>(course: &Course<A>, faulty: &Faulty<A>, is_again: bool) -> bool {
+    match faulty.code {
+        Code::DuplicateTag => true,
+        Code::IllegalReference => !is_again && !course.is_astray,
+        _ => !is_again,
+    }
+}
+
+/// Adds what is told of a fault.
+fn push_findings<A: Allocator + Copy>(
+    alloc: A,
+    text: &mut String<A>,
+    source: &Source<'_>,
+    faulty: &Faulty<A>,
+    findings: &[Finding<A>],
+) -> Result<(), AllocError> {
+    for finding in findings {
+        push_finding(alloc, text, source, faulty, finding)?;
+    }
+    Ok(())
+}
+
+/// Adds what is told of a fault, and tells which byte of its part is marked.
+fn push_fault<A: Allocator + Copy>(
+    alloc: A,
+    text: &mut String<A>,
+    source: &Source<'_>,
+    copies: &[Vec<u8, A>],
+    faulty: &Faulty<A>,
+    course: &mut Course<A>,
+) -> Result<usize, AllocError> {
+    let is_again = course.places.contains(&faulty.place);
+    let findings = findings_of(alloc, source, copies, faulty)?;
+    if is_told(course, faulty, is_again) {
+        push_findings(alloc, text, source, faulty, &findings)?;
+        course.told = course.told.saturating_add(findings.len());
+    }
+    match findings.first() {
+        Some(finding) => Ok(finding.start),
+        None => Ok(faulty.start),
+    }
+}
+
+/// Notes that a fault is left out of this part.
+fn note<A: Allocator>(
+    course: &mut Course<A>,
+    bytes: &[u8],
+    faulty: &Faulty<A>,
+) -> Result<(), AllocError> {
+    if faulty.loses_location(bytes) {
+        course.is_astray = true;
+    }
+    course.places.push(faulty.place)?;
+    Ok(())
+}
+
+/// Adds what is told of the first fault of the copies, and leaves it out of them.
+fn push_next<A: Allocator + Copy>(
+    alloc: A,
+    text: &mut String<A>,
+    source: &Source<'_>,
+    copies: &mut [Vec<u8, A>],
+    fault: PalFault,
+    course: &mut Course<A>,
+) -> Result<(), AllocError> {
+    let part = fault.part.saturating_sub(1);
+    let faulty = match copies.get(part) {
+        Some(copy) => faulty_of(alloc, copy, fault)?,
+        None => return Ok(()),
+    };
+    let is_again = course.places.contains(&faulty.place);
+    let marked = push_fault(alloc, text, source, copies, &faulty, course)?;
+    match copies.get_mut(part) {
+        Some(copy) => {
+            note(course, copy, &faulty)?;
+            leave_out(copy, &faulty, marked, is_again);
+            Ok(())
+        }
+        None => Ok(()),
+    }
+}
+
+/// Adds all that can be told of the faults of a source that isn't too long, the first one first. Behind each
+/// the source is assembled again without it, up to 20 faults.
+///
+/// # Errors
+///
+/// Memory was refused.
+pub fn push_faults<A: Allocator + Copy>(
+    alloc: A,
+    text: &mut String<A>,
+    names: &[&str],
+    parts: &[&[u8]],
+    profile: Profile,
+) -> Result<(), AllocError> {
+    let source = source_of(names, parts, profile);
+    let mut copies = copies_of(alloc, parts)?;
+    let mut course = Course {
+        told: 0,
+        places: Vec::new(alloc),
+        is_astray: false,
+    };
+    for _ in 0..MOST_STATEMENTS {
+        let Some(fault) = first_fault(alloc, &copies, profile)? else {
+            return Ok(());
+        };
+        if course.told >= MOST_FAULTS {
+            break;
+        }
+        push_next(alloc, text, &source, &mut copies, fault, &mut course)?;
+        if fault.code == Code::TableFull {
+            break;
+        }
+    }
+    text.push_str("there may be more: mend these first\n")
+}

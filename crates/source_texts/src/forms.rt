@@ -1,0 +1,151 @@
+//! What has no place in a statement.
+
+use crate::pieces::{count_front_tokens, count_tag_tokens, tokens_from, told_kind};
+use pal_text::{Kind, Token};
+
+/// What is wrong with a token, behind the token's text, and what to change.
+#[derive(Clone, Copy)]
+pub(crate) struct Words {
+    pub(crate) wrong: &'static str,
+    pub(crate) advice: &'static str,
+}
+
+/// Whether a token of this kind is a term.
+fn is_term(kind: Kind) -> bool {
+    matches!(kind, Kind::Symbol | Kind::Number | Kind::Here)
+}
+
+/// Whether a token of this kind gives a direction, and is a statement by itself.
+fn is_direction(kind: Kind) -> bool {
+    matches!(kind, Kind::Decimal | Kind::Octal | Kind::Pause)
+}
+
+/// The place among these tokens of the first that has none in an expression; their number, where the
+/// expression goes on past them.
+fn misplaced_in_expression(bytes: &[u8], tokens: &[Token]) -> Option<usize> {
+    let mut wants_term = true;
+    for (at, token) in tokens.iter().enumerate() {
+        let kind = told_kind(bytes, *token);
+        let fits = match kind {
+            Kind::Plus | Kind::Minus => !wants_term || at == 0,
+            Kind::Space => !wants_term,
+            _ => is_term(kind) && wants_term,
+        };
+        if !fits {
+            return Some(at);
+        }
+        wants_term = !is_term(kind);
+    }
+    if wants_term { Some(tokens.len()) } else { None }
+}
+
+/// The place among the tokens of a statement of the first that has none in it; their number, where the
+/// statement goes on past them, and nothing where it has a form.
+pub(crate) fn misplaced(bytes: &[u8], tokens: &[Token]) -> Option<usize> {
+    let tags = count_tag_tokens(tokens);
+    let body = tokens_from(tokens, tags);
+    match body {
+        [] => return None,
+        [only] if is_direction(told_kind(bytes, *only)) => return None,
+        _ => {}
+    }
+    let front = tags.saturating_add(count_front_tokens(body));
+    let at = misplaced_in_expression(bytes, tokens_from(tokens, front))?;
+    Some(front.saturating_add(at))
+}
+
+/// What is told of a character that means nothing.
+fn about_character(code: u8) -> Words {
+    match code {
+        b'a'..=b'z' => Words {
+            wrong: "isn't in capitals",
+            advice: "letters are capitals, save in comments",
+        },
+        b'(' | b')' | b'[' | b']' => Words {
+            wrong: "means nothing: literals are left out here",
+            advice: "write the word on a line of its own with a tag, and refer to the tag",
+        },
+        b'"' | b'\'' => Words {
+            wrong: "means nothing: characters in quotes are left out here",
+            advice: "write the code of each character as a word, 301 for A with channel 8",
+        },
+        b'<' | b'>' => Words {
+            wrong: "means nothing: macros and conditions are left out here",
+            advice: "write the statements that are meant",
+        },
+        b'!' => Words {
+            wrong: "means nothing",
+            advice: "a space between two terms is the inclusive or",
+        },
+        _ => Words {
+            wrong: "means nothing",
+            advice: "leave it out; a comment begins with /",
+        },
+    }
+}
+
+/// What is told of a token of this kind that has no place; of a character by its code.
+pub(crate) fn about(kind: Kind, code: u8) -> Words {
+    match kind {
+        Kind::Mixed => Words {
+            wrong: "begins with a digit and has a letter",
+            advice: "a number has digits alone, and a symbol begins with a letter",
+        },
+        Kind::Decimal | Kind::Octal | Kind::Pause => Words {
+            wrong: "is no term",
+            advice: "make it a statement by itself, behind ; or on a line of its own",
+        },
+        Kind::Space => Words {
+            wrong: "has no place here",
+            advice: "leave it out",
+        },
+        Kind::Comma => Words {
+            wrong: "has no place here",
+            advice: "a tag is a symbol and a comma, in front of all else in its statement",
+        },
+        Kind::Equals => Words {
+            wrong: "has no place here",
+            advice: "an assignment is a symbol, = and its value, and no more",
+        },
+        Kind::Star => Words {
+            wrong: "has no place here",
+            advice: "* sets the location, in front of all but tags; nothing multiplies",
+        },
+        Kind::Plus | Kind::Minus => Words {
+            wrong: "has no term in front of it",
+            advice: "write a term between two signs, or leave one of them out",
+        },
+        Kind::Symbol | Kind::Number | Kind::Here => Words {
+            wrong: "isn't joined to the term before it",
+            advice: "write a space, + or - between two terms",
+        },
+        Kind::Other | Kind::End | Kind::Dollar => about_character(code),
+    }
+}
+
+/// What is told of a last token behind which a term is missing.
+pub(crate) const UNFINISHED: Words = Words {
+    wrong: "has no term behind it",
+    advice: "write a number or a symbol there, or leave it out",
+};
+
+/// Whether a token is a small letter.
+fn is_small(bytes: &[u8], token: Token) -> bool {
+    match bytes.get(token.start) {
+        Some(byte) => (*byte % 0o200).is_ascii_lowercase(),
+        None => false,
+    }
+}
+
+/// Where the word in small letters ends with which tokens begin; the end of its first token, where they
+/// begin with none.
+pub(crate) fn end_of_small(bytes: &[u8], tokens: &[Token], first: usize) -> usize {
+    let mut end = first;
+    for token in tokens {
+        if !is_small(bytes, *token) || token.start > end {
+            break;
+        }
+        end = token.end;
+    }
+    end
+}

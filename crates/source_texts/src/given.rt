@@ -1,0 +1,207 @@
+//! What is wrong where a symbol is given a value.
+
+use crate::findings::Finding;
+use crate::lines::count_characters;
+use crate::meanings::{Meanings, Spot};
+use crate::pieces::name_of;
+use crate::statement::Faulty;
+use crate::symbols::{Source, letters_of, push_line_of, push_written, written};
+use pal_acts::Name;
+use pal_text::{Kind, Token};
+use std::alloc::{AllocError, Allocator};
+use word12::Word;
+
+/// What to do about a symbol that is given another value: `one` is where it got the first one.
+fn push_other_advice<A: Allocator + Copy>(
+    alloc: A,
+    text: &mut String<A>,
+    source: &Source<'_>,
+    one: Spot,
+    other: Spot,
+) -> Result<(), AllocError> {
+    let first = written(source, one);
+    let second = written(source, other);
+    if first == second {
+        text.push_str("it got that value on ")?;
+        push_line_of(alloc, text, source, one, other.part)?;
+        return text.push_str("; a symbol has one in the whole source: use another symbol");
+    }
+    let name = Name::new(first);
+    let letters = letters_of(&name);
+    text.push_str("six characters of a symbol count: ")?;
+    push_written(text, source, one)?;
+    write!(text, " is {letters}, defined on ")?;
+    push_line_of(alloc, text, source, one, other.part)?;
+    text.push_str(", and so is ")?;
+    push_written(text, source, other)?;
+    text.push_str(": use symbols that differ in their first six")
+}
+
+/// What is told of a symbol that is given another value than it has: this one.
+fn about_other_value<A: Allocator + Copy>(
+    alloc: A,
+    source: &Source<'_>,
+    before: &Meanings<'_, A>,
+    spot: Spot,
+    had: Word,
+    value: Word,
+) -> Result<Finding<A>, AllocError> {
+    let mut wrong = String::new(alloc);
+    let mut advice = String::new(alloc);
+    push_written(&mut wrong, source, spot)?;
+    match before.spot(&Name::new(written(source, spot))) {
+        Some(first) => {
+            write!(
+                wrong,
+                " has the value {had} already, and would be {value} here"
+            )?;
+            push_other_advice(alloc, &mut advice, source, first, spot)?;
+        }
+        None => {
+            write!(
+                wrong,
+                " is a permanent symbol with the value {had}, and would be {value} here"
+            )?;
+            advice.push_str("use another symbol")?;
+        }
+    }
+    Ok(Finding {
+        start: spot.start,
+        end: spot.end,
+        wrong,
+        advice,
+    })
+}
+
+/// What is told of DECIMAL, OCTAL or PAUSE where a symbol is given a value.
+fn about_direction<A: Allocator + Copy>(
+    alloc: A,
+    source: &Source<'_>,
+    spot: Spot,
+    direction: &'static str,
+) -> Result<Finding<A>, AllocError> {
+    let mut wrong = String::new(alloc);
+    push_written(&mut wrong, source, spot)?;
+    wrong.push_str(" can't be a symbol")?;
+    let mut advice = String::new(alloc);
+    if count_characters(written(source, spot)) > direction.len() {
+        write!(
+            advice,
+            "six characters of a symbol count, so it is {direction}: "
+        )?;
+    }
+    advice.push_str("use another symbol")?;
+    Ok(Finding {
+        start: spot.start,
+        end: spot.end,
+        wrong,
+        advice,
+    })
+}
+
+/// What is told of a symbol that is given this value, if it can't be.
+fn about_given<A: Allocator + Copy>(
+    alloc: A,
+    source: &Source<'_>,
+    before: &Meanings<'_, A>,
+    spot: Spot,
+    value: Word,
+) -> Result<Option<Finding<A>>, AllocError> {
+    let name = Name::new(written(source, spot));
+    let direction = match name.kind() {
+        Kind::Decimal => "DECIMAL",
+        Kind::Octal => "OCTAL",
+        Kind::Pause => "PAUSE",
+        _ => {
+            return match before.symbols.get(&name) {
+                Some(had) if had != value => {
+                    Ok(Some(about_other_value(alloc, source, before, spot, had, value)?))
+                }
+                _ => Ok(None),
+            };
+        }
+    };
+    Ok(Some(about_direction(alloc, source, spot, direction)?))
+}
+
+/// Where a token of a statement stands.
+fn spot_of<A: Allocator>(faulty: &Faulty<A>, token: Token) -> Spot {
+    Spot {
+        part: faulty.part,
+        start: token.start,
+        end: token.end,
+    }
+}
+
+/// What is told of the first tag of a statement that has another value.
+pub(crate) fn about_tags<A: Allocator + Copy>(
+    alloc: A,
+    source: &Source<'_>,
+    before: &Meanings<'_, A>,
+    faulty: &Faulty<A>,
+) -> Result<Option<Finding<A>>, AllocError> {
+    for token in faulty.tags() {
+        if token.kind == Kind::Symbol {
+            let spot = spot_of(faulty, *token);
+            let found = about_given(alloc, source, before, spot, before.here)?;
+            if found.is_some() {
+                return Ok(found);
+            }
+        }
+    }
+    Ok(None)
+}
+
+/// What is told of an assignment of another value.
+pub(crate) fn about_assignment<A: Allocator + Copy>(
+    alloc: A,
+    source: &Source<'_>,
+    before: &Meanings<'_, A>,
+    faulty: &Faulty<A>,
+) -> Result<Option<Finding<A>>, AllocError> {
+    let [token, ..] = faulty.body() else {
+        return Ok(None);
+    };
+    let bytes = source.bytes(faulty.part);
+    let Some(value) = before.value(alloc, bytes, faulty.operand())? else {
+        return Ok(None);
+    };
+    about_given(alloc, source, before, spot_of(faulty, *token), value)
+}
+
+/// What is told of one symbol too many.
+fn about_new<A: Allocator + Copy>(
+    alloc: A,
+    source: &Source<'_>,
+    spot: Spot,
+) -> Result<Finding<A>, AllocError> {
+    let mut wrong = String::new(alloc);
+    push_written(&mut wrong, source, spot)?;
+    wrong.push_str(" would be the 1025th symbol")?;
+    let advice = String::from_str(
+        alloc,
+        "a source has at most 1024 symbols of its own: refer to cells near by .+1 or .-1",
+    )?;
+    Ok(Finding {
+        start: spot.start,
+        end: spot.end,
+        wrong,
+        advice,
+    })
+}
+
+/// What is told of the first symbol of a statement for which there is no place.
+pub(crate) fn about_room<A: Allocator + Copy>(
+    alloc: A,
+    source: &Source<'_>,
+    before: &Meanings<'_, A>,
+    faulty: &Faulty<A>,
+) -> Result<Option<Finding<A>>, AllocError> {
+    for token in &faulty.tokens {
+        let name = name_of(source.bytes(faulty.part), *token);
+        if token.kind == Kind::Symbol && before.symbols.get(&name).is_none() {
+            return Ok(Some(about_new(alloc, source, spot_of(faulty, *token))?));
+        }
+    }
+    Ok(None)
+}

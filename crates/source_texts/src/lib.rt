@@ -1,0 +1,17 @@
+//! What is told of the faults of a source: of each the file, the line and the column, what is wrong, the
+//! line with a mark below the token, and what to change. It is tested and not proved.
+#![tactic(auto)]
+
+mod copies;
+mod faults;
+mod findings;
+mod forms;
+mod given;
+mod lines;
+mod meanings;
+mod pieces;
+mod references;
+mod statement;
+mod symbols;
+
+pub use faults::push_faults;

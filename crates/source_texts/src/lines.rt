@@ -1,0 +1,114 @@
+//! Lines of a part, and the marks below them.
+
+use pal_text::characters::is_character_code;
+use pal_text::{Line, lines_of};
+use std::alloc::{AllocError, Allocator};
+
+/// How many bytes a line has at most that is shown.
+const LONGEST_SHOWN: usize = 200;
+
+/// A line and its number, counted from 1.
+#[derive(Clone, Copy)]
+pub(crate) struct NumberedLine {
+    pub(crate) number: usize,
+    pub(crate) line: Line,
+}
+
+/// The bytes from `start` up to the one before `end`; none where there aren't so many.
+pub(crate) fn bytes_between(bytes: &[u8], start: usize, end: usize) -> &[u8] {
+    match bytes.get(start..end) {
+        Some(found) => found,
+        None => &[],
+    }
+}
+
+/// The line of a part on which the byte at this place stands.
+pub(crate) fn line_at<A: Allocator>(
+    alloc: A,
+    part: &[u8],
+    at: usize,
+) -> Result<NumberedLine, AllocError> {
+    let lines = lines_of(alloc, part)?;
+    let mut found = NumberedLine {
+        number: 1,
+        line: Line { start: 0, end: 0 },
+    };
+    for (index, line) in lines.iter().enumerate() {
+        if line.start <= at {
+            found = NumberedLine {
+                number: index + 1,
+                line: *line,
+            };
+        }
+    }
+    Ok(found)
+}
+
+/// How many characters bytes have.
+pub(crate) fn count_characters(bytes: &[u8]) -> usize {
+    let mut count = 0usize;
+    for byte in bytes {
+        if is_character_code(*byte % 0o200) {
+            count = count.saturating_add(1);
+        }
+    }
+    count
+}
+
+/// Adds the character of a byte, if it has one; a question mark for one that can't be shown.
+fn push_character<A: Allocator>(text: &mut String<A>, byte: u8) -> Result<(), AllocError> {
+    let code = byte % 0o200;
+    if code == b'\t' || (b' ' <= code && code <= b'~') {
+        text.push(char::from(code))
+    } else if is_character_code(code) {
+        text.push('?')
+    } else {
+        Ok(())
+    }
+}
+
+/// Adds the characters of bytes.
+pub(crate) fn push_characters<A: Allocator>(
+    text: &mut String<A>,
+    bytes: &[u8],
+) -> Result<(), AllocError> {
+    for byte in bytes {
+        push_character(text, *byte)?;
+    }
+    Ok(())
+}
+
+/// Adds a blank as wide as the character of each byte.
+fn push_blanks<A: Allocator>(text: &mut String<A>, bytes: &[u8]) -> Result<(), AllocError> {
+    for byte in bytes {
+        let code = *byte % 0o200;
+        if code == b'\t' {
+            text.push('\t')?;
+        } else if is_character_code(code) {
+            text.push(' ')?;
+        }
+    }
+    Ok(())
+}
+
+/// Adds a line of a part, and below it a mark under the bytes from `start` up to the one before `end`.
+pub(crate) fn push_marked<A: Allocator>(
+    text: &mut String<A>,
+    part: &[u8],
+    line: Line,
+    start: usize,
+    end: usize,
+) -> Result<(), AllocError> {
+    let shown = bytes_between(part, line.start, line.end);
+    if shown.len() > LONGEST_SHOWN {
+        return Ok(());
+    }
+    push_characters(text, shown)?;
+    text.push('\n')?;
+    push_blanks(text, bytes_between(part, line.start, start))?;
+    let width = count_characters(bytes_between(part, start, end.min(line.end)));
+    for _ in 0..width.max(1) {
+        text.push('^')?;
+    }
+    text.push('\n')
+}

@@ -1,0 +1,251 @@
+//! The values of symbols, and where they got them.
+
+use crate::lines::bytes_between;
+use crate::pieces::{name_of, tokens_from};
+use indexmap::IndexMap;
+use pal_acts::{Code, Join, Name, Place, Sign, SymbolTable, Symbols, Term};
+use pal_text::{Ending, Form, Kind, Statement, TextFault, Token, statements};
+use std::alloc::{AllocError, Allocator};
+use word12::Word;
+
+/// Where a symbol stands: the number of its part, counted from 0, and the byte at which it begins and the
+/// one after it.
+#[derive(Clone, Copy)]
+pub(crate) struct Spot {
+    pub(crate) part: usize,
+    pub(crate) start: usize,
+    pub(crate) end: usize,
+}
+
+/// What is known before a statement: the symbols with their values, where each of a source's own got it,
+/// the location, and whether numbers are decimal.
+#[derive(Drop)]
+pub(crate) struct Meanings<'p, A: Allocator + Copy> {
+    pub(crate) symbols: Symbols<'p, A>,
+    pub(crate) spots: Vec<Spot, A>,
+    pub(crate) here: Word,
+    pub(crate) is_decimal: bool,
+}
+
+/// A place behind all statements.
+pub(crate) const NOWHERE: Place = Place {
+    part: usize::MAX,
+    line: 0,
+};
+
+/// The word that digits spell.
+///
+/// # Errors
+///
+/// The fault of a digit that the radix lacks, or else that of a number above 4095.
+pub(crate) fn number_of(is_decimal: bool, digits: &[u8]) -> Result<Word, Code> {
+    let base = if is_decimal { 10 } else { 8 };
+    let mut value = 0usize;
+    for byte in digits {
+        let code = *byte % 0o200;
+        if code.is_ascii_digit() {
+            let digit = usize::from(code.saturating_sub(b'0'));
+            if digit >= base {
+                return Err(Code::IllegalCharacter);
+            }
+            value = value.saturating_mul(base).saturating_add(digit);
+        }
+    }
+    if value < 4096 {
+        Ok(Word::from_index(value))
+    } else {
+        Err(Code::NumberTooLarge)
+    }
+}
+
+/// The term of a token.
+fn term_of(is_decimal: bool, bytes: &[u8], token: Token) -> Term {
+    match token.kind {
+        Kind::Number => {
+            let digits = bytes_between(bytes, token.start, token.end);
+            match number_of(is_decimal, digits) {
+                Ok(word) => Term::Number(word),
+                Err(_) => Term::Number(Word::ZERO),
+            }
+        }
+        Kind::Here => Term::Here,
+        _ => Term::Symbol(name_of(bytes, token)),
+    }
+}
+
+/// The terms of an expression; a number that is none counts as 0.
+pub(crate) fn terms_of<A: Allocator>(
+    alloc: A,
+    is_decimal: bool,
+    bytes: &[u8],
+    tokens: &[Token],
+) -> Result<Vec<Join, A>, AllocError> {
+    let mut terms = Vec::new(alloc);
+    let mut sign = Sign::Or;
+    for token in tokens {
+        match token.kind {
+            Kind::Plus => sign = Sign::Plus,
+            Kind::Minus => sign = Sign::Minus,
+            Kind::Space => sign = Sign::Or,
+            _ => {
+                let term = term_of(is_decimal, bytes, *token);
+                terms.push(Join { sign, term })?;
+                sign = Sign::Or;
+            }
+        }
+    }
+    Ok(terms)
+}
+
+impl<'p, A: Allocator + Copy> Meanings<'p, A> {
+    /// What is known before the first statement.
+    fn new(alloc: A, permanent: &'p SymbolTable<A>) -> Self {
+        Meanings {
+            symbols: Symbols {
+                permanent,
+                own: IndexMap::new(alloc),
+            },
+            spots: Vec::new(alloc),
+            here: Word::from_index(0o200),
+            is_decimal: false,
+        }
+    }
+
+    /// Where a symbol of the source's own got its value.
+    pub(crate) fn spot(&self, name: &Name) -> Option<Spot> {
+        let index = self.symbols.own.get_index_of(name)?;
+        self.spots.get(index).copied()
+    }
+
+    /// The value of an expression, if each symbol in it has one.
+    pub(crate) fn value<B: Allocator>(
+        &self,
+        alloc: B,
+        bytes: &[u8],
+        tokens: &[Token],
+    ) -> Result<Option<Word>, AllocError> {
+        let terms = terms_of(alloc, self.is_decimal, bytes, tokens)?;
+        Ok(self.symbols.value(self.here, &terms))
+    }
+
+    /// Gives a symbol a value, if it has none.
+    fn define(&mut self, name: Name, value: Word, spot: Spot) -> Result<(), AllocError> {
+        if self.symbols.get(&name).is_none() {
+            self.symbols.own.insert(name, value)?;
+            self.spots.push(spot)?;
+        }
+        Ok(())
+    }
+
+    /// Gives the symbol of a token a value, if it has none.
+    fn define_token(
+        &mut self,
+        part: usize,
+        bytes: &[u8],
+        token: Token,
+        value: Word,
+    ) -> Result<(), AllocError> {
+        let spot = Spot {
+            part,
+            start: token.start,
+            end: token.end,
+        };
+        self.define(name_of(bytes, token), value, spot)
+    }
+
+    /// Takes the tags of a statement.
+    fn take_tags(&mut self, part: usize, bytes: &[u8], tags: &[Token]) -> Result<(), AllocError> {
+        let here = self.here;
+        for token in tags {
+            if token.kind == Kind::Symbol {
+                self.define_token(part, bytes, *token, here)?;
+            }
+        }
+        Ok(())
+    }
+
+    /// Takes what a statement does after its tags.
+    fn take_body<B: Allocator>(
+        &mut self,
+        alloc: B,
+        part: usize,
+        bytes: &[u8],
+        body: &[Token],
+        form: Form,
+    ) -> Result<(), AllocError> {
+        match (form, body) {
+            (Form::Origin, [_, operand @ ..]) => {
+                if let Some(origin) = self.value(alloc, bytes, operand)? {
+                    self.here = origin;
+                }
+            }
+            (Form::Assign, [name, _, operand @ ..]) => {
+                if let Some(value) = self.value(alloc, bytes, operand)? {
+                    self.define_token(part, bytes, *name, value)?;
+                }
+            }
+            (Form::Word, _) => self.here = self.here.increment(),
+            (Form::Decimal, _) => self.is_decimal = true,
+            (Form::Octal, _) => self.is_decimal = false,
+            _ => {}
+        }
+        Ok(())
+    }
+
+    /// Takes a statement with these tokens.
+    fn take<B: Allocator>(
+        &mut self,
+        alloc: B,
+        part: usize,
+        bytes: &[u8],
+        tokens: &[Token],
+        statement: Statement,
+    ) -> Result<(), AllocError> {
+        let count = statement.tags.saturating_mul(2).min(tokens.len());
+        let (tags, body) = tokens.split_at(count);
+        self.take_tags(part, bytes, tags)?;
+        self.take_body(alloc, part, bytes, body, statement.form)
+    }
+
+    /// Takes the statements of a part up to the one at this place. It tells whether the next part is read.
+    fn take_part(
+        &mut self,
+        alloc: A,
+        part: usize,
+        bytes: &[u8],
+        stop: Place,
+    ) -> Result<bool, AllocError> {
+        let read = match statements(alloc, bytes) {
+            Ok(read) => read,
+            Err(TextFault::NoMemory) => return Err(AllocError),
+            Err(_) => return Ok(false),
+        };
+        for statement in &read.statements {
+            if stop.part == part.saturating_add(1) && stop.line == statement.line {
+                return Ok(false);
+            }
+            let tokens = tokens_from(&read.tokens, statement.first);
+            let count = statement.last.saturating_sub(statement.first);
+            let own = tokens.get(..count).unwrap_or(tokens);
+            self.take(alloc, part, bytes, own, *statement)?;
+        }
+        Ok(read.ending != Ending::Dollar)
+    }
+}
+
+/// What is known before the statement at this place, which is that of a fault: a part and a line of its
+/// copy, counted from 1.
+pub(crate) fn meanings_before<'p, A: Allocator + Copy>(
+    alloc: A,
+    permanent: &'p SymbolTable<A>,
+    copies: &[Vec<u8, A>],
+    stop: Place,
+) -> Result<Meanings<'p, A>, AllocError> {
+    let mut meanings = Meanings::new(alloc, permanent);
+    for (part, copy) in copies.iter().enumerate() {
+        if !meanings.take_part(alloc, part, copy, stop)? {
+            break;
+        }
+    }
+    Ok(meanings)
+}

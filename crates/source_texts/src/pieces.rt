@@ -1,0 +1,153 @@
+//! The tokens of a statement, also of one that has no form.
+
+use crate::lines::bytes_between;
+use pal_text::characters::is_character_code;
+use pal_text::{Kind, Name, Token};
+use std::alloc::{AllocError, Allocator};
+
+/// What a character is by itself.
+fn kind_of(code: u8) -> Kind {
+    match code {
+        b'A'..=b'Z' => Kind::Symbol,
+        b'0'..=b'9' => Kind::Number,
+        b'.' => Kind::Here,
+        b' ' | b'\t' => Kind::Space,
+        b',' => Kind::Comma,
+        b'=' => Kind::Equals,
+        b'+' => Kind::Plus,
+        b'-' => Kind::Minus,
+        b'*' => Kind::Star,
+        _ => Kind::Other,
+    }
+}
+
+/// Whether a space beside a token of this kind doesn't count.
+fn absorbs_spaces(kind: Kind) -> bool {
+    matches!(kind, Kind::Comma | Kind::Equals | Kind::Plus | Kind::Minus)
+}
+
+/// What a token of this kind is with a character of that kind behind it, where they are one token.
+fn longer(kind: Kind, next: Kind) -> Option<Kind> {
+    match (kind, next) {
+        (Kind::Symbol, Kind::Symbol | Kind::Number) => Some(Kind::Symbol),
+        (Kind::Number, Kind::Number) => Some(Kind::Number),
+        (Kind::Number, Kind::Symbol) => Some(Kind::Mixed),
+        (Kind::Mixed, Kind::Symbol | Kind::Number) => Some(Kind::Mixed),
+        (Kind::Space, Kind::Space) => Some(Kind::Space),
+        _ => None,
+    }
+}
+
+/// The one token that two neighbours make, where the second doesn't stand after the first.
+fn join(last: Token, next: Token) -> Option<Token> {
+    if let Some(kind) = longer(last.kind, next.kind) {
+        return Some(Token {
+            kind,
+            line: last.line,
+            start: last.start,
+            end: next.end,
+        });
+    }
+    if next.kind == Kind::Space && absorbs_spaces(last.kind) {
+        Some(last)
+    } else if last.kind == Kind::Space && absorbs_spaces(next.kind) {
+        Some(next)
+    } else {
+        None
+    }
+}
+
+/// Adds a character to the tokens before it.
+fn add<A: Allocator>(tokens: &mut Vec<Token, A>, next: Token) -> Result<(), AllocError> {
+    match tokens.pop() {
+        None => {
+            if next.kind != Kind::Space {
+                tokens.push(next)?;
+            }
+        }
+        Some(last) => match join(last, next) {
+            Some(one) => tokens.push(one)?,
+            None => {
+                tokens.push(last)?;
+                tokens.push(next)?;
+            }
+        },
+    }
+    Ok(())
+}
+
+/// Takes a space off the end of tokens.
+fn drop_space<A: Allocator>(tokens: &mut Vec<Token, A>) {
+    let count = tokens.len();
+    if count > 0 && tokens[count - 1].kind == Kind::Space {
+        tokens.truncate(count - 1);
+    }
+}
+
+/// The tokens of the statement from `start` up to the byte before `end`.
+pub(crate) fn tokens_in<A: Allocator>(
+    alloc: A,
+    bytes: &[u8],
+    start: usize,
+    end: usize,
+) -> Result<Vec<Token, A>, AllocError> {
+    let mut tokens = Vec::new(alloc);
+    for (index, byte) in bytes_between(bytes, start, end).iter().enumerate() {
+        let code = *byte % 0o200;
+        if is_character_code(code) {
+            let at = start.saturating_add(index);
+            let next = Token {
+                kind: kind_of(code),
+                line: 1,
+                start: at,
+                end: at.saturating_add(1),
+            };
+            add(&mut tokens, next)?;
+        }
+    }
+    drop_space(&mut tokens);
+    Ok(tokens)
+}
+
+/// What a token is: a symbol told by its name.
+pub(crate) fn told_kind(bytes: &[u8], token: Token) -> Kind {
+    match token.kind {
+        Kind::Symbol => name_of(bytes, token).kind(),
+        kind => kind,
+    }
+}
+
+/// The name of a symbol's token.
+pub(crate) fn name_of(bytes: &[u8], token: Token) -> Name {
+    Name::new(bytes_between(bytes, token.start, token.end))
+}
+
+/// The tokens from this place on.
+pub(crate) fn tokens_from(tokens: &[Token], at: usize) -> &[Token] {
+    match tokens.get(at..) {
+        Some(rest) => rest,
+        None => &[],
+    }
+}
+
+/// How many tokens the tags at the front of a statement have: each a symbol and a comma.
+pub(crate) fn count_tag_tokens(tokens: &[Token]) -> usize {
+    let mut count = 0usize;
+    for (at, token) in tokens.iter().enumerate() {
+        match token.kind {
+            Kind::Symbol if at % 2 == 0 => {}
+            Kind::Comma if at % 2 == 1 => count = at + 1,
+            _ => break,
+        }
+    }
+    count
+}
+
+/// How many tokens stand before the expression of a statement without tags: a star, or a symbol and `=`.
+pub(crate) fn count_front_tokens(body: &[Token]) -> usize {
+    match body {
+        [first, ..] if first.kind == Kind::Star => 1,
+        [first, second, ..] if first.kind == Kind::Symbol && second.kind == Kind::Equals => 2,
+        _ => 0,
+    }
+}

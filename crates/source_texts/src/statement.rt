@@ -1,0 +1,111 @@
+//! The statement that has a fault.
+
+use crate::copies::statement_end;
+use crate::pieces::{count_front_tokens, count_tag_tokens, name_of, tokens_from, tokens_in};
+use crate::symbols::moves_location;
+use pal_acts::{Code, Place};
+use pal_asm::PalFault;
+use pal_text::{Kind, Line, Token, lines_of};
+use std::alloc::{AllocError, Allocator};
+
+/// A statement that has a fault: the fault's code, the number of its part, counted from 0, its part and its
+/// line in the copies, counted from 1, where it begins and ends in its part, and its tokens.
+#[derive(Drop)]
+pub(crate) struct Faulty<A: Allocator> {
+    pub(crate) code: Code,
+    pub(crate) part: usize,
+    pub(crate) place: Place,
+    pub(crate) start: usize,
+    pub(crate) end: usize,
+    pub(crate) tokens: Vec<Token, A>,
+}
+
+/// What a statement with a fault does after its tags.
+#[derive(Clone, Copy, PartialEq, Eq)]
+pub(crate) enum Act {
+    /// Nothing.
+    Nothing,
+    /// It sets the location.
+    SetsLocation,
+    /// It gives a symbol a value.
+    Assigns,
+    /// All else: a word, a direction, or what has no form.
+    Other,
+}
+
+impl<A: Allocator> Faulty<A> {
+    /// The tags, each a symbol and a comma.
+    pub(crate) fn tags(&self) -> &[Token] {
+        let count = count_tag_tokens(&self.tokens);
+        match self.tokens.get(..count) {
+            Some(tags) => tags,
+            None => &[],
+        }
+    }
+
+    /// What stands after the tags.
+    pub(crate) fn body(&self) -> &[Token] {
+        tokens_from(&self.tokens, count_tag_tokens(&self.tokens))
+    }
+
+    /// The expression after the tags, with what stands after it.
+    pub(crate) fn operand(&self) -> &[Token] {
+        let body = self.body();
+        tokens_from(body, count_front_tokens(body))
+    }
+
+    /// Whether locations aren't known without it: it is an origin, or another assembler's word that is one.
+    pub(crate) fn loses_location(&self, bytes: &[u8]) -> bool {
+        match self.body() {
+            [first, ..] => {
+                first.kind == Kind::Star
+                    || (first.kind == Kind::Symbol && moves_location(&name_of(bytes, *first)))
+            }
+            [] => false,
+        }
+    }
+
+    /// What it does after its tags.
+    pub(crate) fn act(&self) -> Act {
+        let body = self.body();
+        match body {
+            [] => Act::Nothing,
+            [first, ..] if first.kind == Kind::Star => Act::SetsLocation,
+            _ if count_front_tokens(body) == 2 => Act::Assigns,
+            _ => Act::Other,
+        }
+    }
+}
+
+/// The line with this number, counted from 1.
+fn line_of<A: Allocator>(alloc: A, bytes: &[u8], number: usize) -> Result<Line, AllocError> {
+    let lines = lines_of(alloc, bytes)?;
+    match lines.get(number.saturating_sub(1)) {
+        Some(line) => Ok(*line),
+        None => Ok(Line {
+            start: bytes.len(),
+            end: bytes.len(),
+        }),
+    }
+}
+
+/// The statement of a fault in a copy of its part.
+pub(crate) fn faulty_of<A: Allocator + Copy>(
+    alloc: A,
+    bytes: &[u8],
+    fault: PalFault,
+) -> Result<Faulty<A>, AllocError> {
+    let line = line_of(alloc, bytes, fault.line)?;
+    let end = statement_end(bytes, line);
+    Ok(Faulty {
+        code: fault.code,
+        part: fault.part.saturating_sub(1),
+        place: Place {
+            part: fault.part,
+            line: fault.line,
+        },
+        start: line.start,
+        end,
+        tokens: tokens_in(alloc, bytes, line.start, end)?,
+    })
+}

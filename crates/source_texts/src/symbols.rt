@@ -1,0 +1,209 @@
+//! What is told of symbols.
+
+use crate::lines::{bytes_between, line_at, push_characters};
+use crate::meanings::{Meanings, Spot};
+use instruct::Profile;
+use pal_acts::{Name, SymbolTable, permanent_table};
+use std::alloc::{AllocError, Allocator};
+use strsim::osa_distance;
+
+/// A source whose faults are told: the names of the files of its parts, their bytes, and the machine whose
+/// symbols it has.
+#[derive(Clone, Copy)]
+pub(crate) struct Source<'s> {
+    pub(crate) names: &'s [&'s str],
+    pub(crate) parts: &'s [&'s [u8]],
+    pub(crate) profile: Profile,
+}
+
+/// A source.
+pub(crate) fn source_of<'s>(
+    names: &'s [&'s str],
+    parts: &'s [&'s [u8]],
+    profile: Profile,
+) -> Source<'s> {
+    Source {
+        names,
+        parts,
+        profile,
+    }
+}
+
+impl<'s> Source<'s> {
+    /// The name of the file of a part, counted from 0.
+    pub(crate) fn name(&self, part: usize) -> &'s str {
+        match self.names.get(part) {
+            Some(name) => name,
+            None => "",
+        }
+    }
+
+    /// The bytes of a part, counted from 0.
+    pub(crate) fn bytes(&self, part: usize) -> &'s [u8] {
+        match self.parts.get(part) {
+            Some(bytes) => bytes,
+            None => &[],
+        }
+    }
+}
+
+/// The bytes of a symbol as it is written.
+pub(crate) fn written<'s>(source: &Source<'s>, spot: Spot) -> &'s [u8] {
+    bytes_between(source.bytes(spot.part), spot.start, spot.end)
+}
+
+/// Adds a symbol as it is written.
+pub(crate) fn push_written<A: Allocator>(
+    text: &mut String<A>,
+    source: &Source<'_>,
+    spot: Spot,
+) -> Result<(), AllocError> {
+    push_characters(text, written(source, spot))
+}
+
+/// The characters of a name that count.
+pub(crate) fn letters_of(name: &Name) -> &str {
+    match str::from_utf8(name.letters.trim_ascii_end()) {
+        Ok(letters) => letters,
+        Err(_) => "",
+    }
+}
+
+/// Adds the line on which a symbol stands, and its file where that isn't the one of this part.
+pub(crate) fn push_line_of<A: Allocator + Copy>(
+    alloc: A,
+    text: &mut String<A>,
+    source: &Source<'_>,
+    spot: Spot,
+    part: usize,
+) -> Result<(), AllocError> {
+    let found = line_at(alloc, source.bytes(spot.part), spot.start)?;
+    let number = found.number;
+    write!(text, "line {number}")?;
+    if spot.part != part {
+        let name = source.name(spot.part);
+        write!(text, " of {name}")?;
+    }
+    Ok(())
+}
+
+/// Adds a symbol of the source's own, as it is written and where it is defined.
+pub(crate) fn push_defined<A: Allocator + Copy>(
+    alloc: A,
+    text: &mut String<A>,
+    source: &Source<'_>,
+    known: &Meanings<'_, A>,
+    name: &Name,
+    part: usize,
+) -> Result<(), AllocError> {
+    let Some(spot) = known.spot(name) else {
+        return Ok(());
+    };
+    push_written(text, source, spot)?;
+    text.push_str(", defined on ")?;
+    push_line_of(alloc, text, source, spot, part)?;
+    text.push(',')
+}
+
+/// What to do about a word that other assemblers have.
+fn about_other_word(name: &Name) -> Option<&'static str> {
+    match letters_of(name) {
+        "PAGE" => Some("PAGE is left out here: write the address, as in *400"),
+        "TEXT" => Some("TEXT is left out here: write the code of each character as a word"),
+        "ZBLOCK" => Some(
+            "ZBLOCK is left out here: write the zeros, or step over the cells, as in *.+10",
+        ),
+        "FIELD" | "CDF" | "CIF" | "RDF" | "RIF" | "RIB" | "RMF" => {
+            Some("there is no extended memory here: leave the statement out")
+        }
+        "EXPUNG" | "FIXTAB" | "FIXMRI" | "XLIST" | "EJECT" => {
+            Some("other assemblers have it: leave the statement out")
+        }
+        _ => None,
+    }
+}
+
+/// Whether a word of this name sets the location in other assemblers.
+pub(crate) fn moves_location(name: &Name) -> bool {
+    matches!(letters_of(name), "PAGE" | "TEXT" | "ZBLOCK" | "FIELD")
+}
+
+/// By how many edits a symbol may differ from this one that is near it.
+fn most_edits(wanted: &str) -> usize {
+    match wanted.len() {
+        0..=2 => 0,
+        3..=4 => 1,
+        _ => 2,
+    }
+}
+
+/// The symbol of a table that is nearest to this one, if one is near: it differs by a character or two that
+/// are more, less, others or exchanged.
+fn nearest<A: Allocator + Copy>(
+    alloc: A,
+    table: &SymbolTable<A>,
+    wanted: &str,
+) -> Result<Option<Name>, AllocError> {
+    let mut found = None;
+    let mut least = most_edits(wanted).saturating_add(1);
+    for at in 0..table.len() {
+        if let Some((name, _)) = table.get_index(at) {
+            let edits = osa_distance(alloc, wanted, letters_of(name))?;
+            if edits < least {
+                found = Some(*name);
+                least = edits;
+            }
+        }
+    }
+    Ok(found)
+}
+
+/// Adds the question whether another symbol is meant, one of the source's own or else a permanent one, if one
+/// is near to this one.
+fn push_nearest<A: Allocator + Copy>(
+    alloc: A,
+    text: &mut String<A>,
+    source: &Source<'_>,
+    known: &Meanings<'_, A>,
+    wanted: &str,
+    part: usize,
+) -> Result<(), AllocError> {
+    if let Some(own) = nearest(alloc, &known.symbols.own, wanted)? {
+        if let Some(spot) = known.spot(&own) {
+            text.push_str("is ")?;
+            push_written(text, source, spot)?;
+            text.push_str(" of ")?;
+            push_line_of(alloc, text, source, spot, part)?;
+            text.push_str(" meant? Else ")?;
+        }
+    } else if let Some(permanent) = nearest(alloc, known.symbols.permanent, wanted)? {
+        let letters = letters_of(&permanent);
+        write!(text, "is {letters} meant? Else ")?;
+    }
+    Ok(())
+}
+
+/// Whether the PDP-8/E has a permanent symbol of this name.
+fn is_of_the_8e<A: Allocator + Copy>(alloc: A, name: &Name) -> Result<bool, AllocError> {
+    Ok(permanent_table(alloc, Profile::Pdp8E)?.get(name).is_some())
+}
+
+/// Adds what to do about a symbol that has no value anywhere in the source.
+pub(crate) fn push_undefined_advice<A: Allocator + Copy>(
+    alloc: A,
+    text: &mut String<A>,
+    source: &Source<'_>,
+    known: &Meanings<'_, A>,
+    name: &Name,
+    part: usize,
+) -> Result<(), AllocError> {
+    if let Some(words) = about_other_word(name) {
+        return text.push_str(words);
+    }
+    if is_of_the_8e(alloc, name)? {
+        return text.push_str("it is a symbol of the PDP-8/E: --profile 8e has it");
+    }
+    let letters = letters_of(name);
+    push_nearest(alloc, text, source, known, letters, part)?;
+    write!(text, "give {letters} a value, by a tag or an assignment")
+}

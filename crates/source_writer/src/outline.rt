@@ -1,0 +1,253 @@
+//! What a source says of each cell, apart from its word.
+
+ghost use Rattle.std.specs.Prelude.{◌≡◌};
+ghost use Rattle.declaration.specs.Kept.{meaning};
+
+use crate::reach::{Reach, is_auto_index, skips_on_flag};
+use bin_tape::Image;
+use declaration::Declaration;
+use instruct::{Instruction, Operation, Profile, decode, refers_indirectly, target};
+use std::alloc::Allocator;
+use word12::Word;
+use wordset::WordSet;
+
+/// How many symbols of its own a source may have.
+const MOST_SYMBOLS: usize = 1024;
+
+/// How a reference is written: by the location, or by the cell that it names.
+#[derive(Clone, Copy)]
+pub(crate) enum Operand {
+    /// The reference's own cell.
+    Here,
+    /// The cell before it.
+    Previous,
+    /// This cell.
+    Cell(Word),
+}
+
+/// What a data word is, as far as the code shows.
+#[derive(Clone, Copy)]
+pub(crate) enum Datum {
+    /// A word.
+    Plain,
+    /// The address of a cell.
+    AddressOf(Word),
+    /// The address of the cell before this one, as an auto-index pointer has it at first.
+    AddressBefore(Word),
+}
+
+/// The bodies, variables and halts of a declaration.
+#[derive(Clone, Copy)]
+pub(crate) struct Declared {
+    pub(crate) main: WordSet,
+    pub(crate) variables: WordSet,
+    pub(crate) stops: WordSet,
+    pub(crate) pauses: WordSet,
+}
+
+/// What a source says of each cell, apart from its word: which are code and which of these are entries of
+/// routines, which have a tag, and which data words are addresses.
+#[derive(Clone, Copy)]
+pub(crate) struct Outline {
+    pub(crate) start: Word,
+    pub(crate) profile: Profile,
+    pub(crate) code: WordSet,
+    pub(crate) entries: WordSet,
+    pub(crate) tagged: WordSet,
+    /// Cells through which the code refers.
+    pointers: WordSet,
+    /// Cells whose word is stored in a pointer.
+    loaded: WordSet,
+    /// The same for auto-index pointers.
+    loaded_before: WordSet,
+    pub(crate) declared: Option<Declared>,
+}
+
+impl Outline {
+    /// That of a program, by where control is found to go from its start.
+    pub(crate) fn of(image: &Image, start: Word, profile: Profile) -> Outline
+        ensures { result.profile ≡ profile }
+    {
+        let reach = Reach::of(image, start, profile);
+        let mut outline = Outline::new(start, profile);
+        outline.code = reach.cells();
+        outline.entries = reach.entries();
+        outline.mark(image);
+        // No mark changes it, and so it needs no proof.
+        outline.profile = profile;
+        outline
+    }
+
+    /// That of a program, by the bodies and entries of its declaration.
+    pub(crate) fn declared<A: Allocator>(image: &Image, declaration: &Declaration<A>) -> Outline
+        ensures { result.profile ≡ (meaning declaration.now).profile }
+    {
+        let mut outline = Outline::new(declaration.start(), declaration.profile());
+        outline.code = *declaration.main();
+        for routine in declaration.routines() {
+            outline.code = outline.code.union(routine.body());
+            outline.entries.insert(routine.entry());
+        }
+        outline.declared = Some(Declared {
+            main: *declaration.main(),
+            variables: *declaration.variables(),
+            stops: *declaration.stops(),
+            pauses: *declaration.pauses(),
+        });
+        outline.mark(image);
+        outline.profile = declaration.profile();
+        outline
+    }
+
+    fn new(start: Word, profile: Profile) -> Outline {
+        Outline {
+            start,
+            profile,
+            code: WordSet::empty(),
+            entries: WordSet::empty(),
+            tagged: WordSet::empty(),
+            pointers: WordSet::empty(),
+            loaded: WordSet::empty(),
+            loaded_before: WordSet::empty(),
+            declared: None,
+        }
+    }
+
+    /// Finds the pointers, then the words that are stored in them, and then the cells that need a tag.
+    fn mark(&mut self, image: &Image) {
+        for index in 0..4096usize {
+            self.mark_pointer(image, Word::from_index(index));
+        }
+        for index in 0..4096usize {
+            self.mark_loaded(image, Word::from_index(index));
+        }
+        for index in 0..4096usize {
+            self.mark_tag(image, Word::from_index(index));
+        }
+        self.limit_tags();
+    }
+
+    /// Leaves out the tags for which there is no room.
+    fn limit_tags(&mut self) {
+        let mut kept = WordSet::empty();
+        for _symbol in 0..MOST_SYMBOLS {
+            if let Some(cell) = self.tagged.least() {
+                self.tagged.remove(cell);
+                kept.insert(cell);
+            }
+        }
+        self.tagged = kept;
+    }
+
+    /// The word of a memory reference in the code that the assembler can spell, if one stands at a cell.
+    pub(crate) fn reference(&self, image: &Image, at: Word) -> Option<Word> {
+        if !self.code.contains(at) {
+            return None;
+        }
+        let word = image.get(at)?;
+        if decode(word, self.profile) == Instruction::Memory && is_spelled(word, at) {
+            Some(word)
+        } else {
+            None
+        }
+    }
+
+    /// How a reference at a cell is written.
+    pub(crate) fn operand(&self, image: &Image, at: Word, word: Word) -> Operand {
+        let cell = target(word, at);
+        if Operation::of(word) != Operation::Jmp || refers_indirectly(word) {
+            return Operand::Cell(cell);
+        }
+        if cell == at {
+            return Operand::Here;
+        }
+        match image.get(cell) {
+            Some(flag) if cell.increment() == at && skips_on_flag(flag, self.profile) => {
+                Operand::Previous
+            }
+            _ => Operand::Cell(cell),
+        }
+    }
+
+    fn mark_pointer(&mut self, image: &Image, at: Word) {
+        if let Some(word) = self.reference(image, at) {
+            let cell = target(word, at);
+            if refers_indirectly(word) && !self.entries.contains(cell) {
+                self.pointers.insert(cell);
+            }
+        }
+    }
+
+    /// Marks the cell whose word a TAD takes right before a DCA stores it in a pointer.
+    fn mark_loaded(&mut self, image: &Image, at: Word) {
+        let Some(word) = self.reference(image, at) else {
+            return;
+        };
+        let next = at.increment();
+        let Some(after) = self.reference(image, next) else {
+            return;
+        };
+        if Operation::of(word) != Operation::Tad || Operation::of(after) != Operation::Dca {
+            return;
+        }
+        if refers_indirectly(word) || refers_indirectly(after) {
+            return;
+        }
+        let pointer = target(after, next);
+        if !self.pointers.contains(pointer) {
+            return;
+        }
+        if is_auto_index(pointer) {
+            self.loaded_before.insert(target(word, at));
+        } else {
+            self.loaded.insert(target(word, at));
+        }
+    }
+
+    /// What the data word at a cell is.
+    pub(crate) fn datum(&self, image: &Image, at: Word, word: Word) -> Datum {
+        let is_auto = is_auto_index(at);
+        let next = word.increment();
+        if self.loaded_before.contains(at) || is_auto && self.pointers.contains(at) {
+            return if image.get(next).is_some() {
+                Datum::AddressBefore(next)
+            } else {
+                Datum::Plain
+            };
+        }
+        if !self.loaded.contains(at) && !self.pointers.contains(at) {
+            return Datum::Plain;
+        }
+        if image.get(word).is_some() {
+            Datum::AddressOf(word)
+        } else {
+            Datum::Plain
+        }
+    }
+
+    /// Tags the cell that the word at a cell names.
+    fn mark_tag(&mut self, image: &Image, at: Word) {
+        if let Some(word) = self.reference(image, at) {
+            if let Operand::Cell(cell) = self.operand(image, at, word) {
+                self.tagged.insert(cell);
+            }
+            return;
+        }
+        let Some(word) = image.get(at) else {
+            return;
+        };
+        if self.code.contains(at) {
+            return;
+        }
+        match self.datum(image, at, word) {
+            Datum::AddressOf(cell) | Datum::AddressBefore(cell) => self.tagged.insert(cell),
+            Datum::Plain => {}
+        }
+    }
+}
+
+/// Whether the assembler makes a reference at a cell this word: on page zero it sets no bit for the own
+/// page.
+fn is_spelled(word: Word, at: Word) -> bool {
+    target(word, at).index() >= 0o200 || word.index() / 0o200 % 2 == 0
+}

@@ -1,0 +1,48 @@
+//! A step of a machine that is watched, for which a turn is taken.
+
+ghost use Rattle.std.specs.Prelude.{◌≡◌, ◌≢◌, ◌≤◌, ◌+◌, IfOk};
+ghost use Rattle.declaration.specs.Kept.{meaning};
+ghost use Rattle.peripherals.specs.World.{profile_of};
+ghost use Rattle.turns.specs.declared.stepping.Stepped.TheVariants.{NoTurn};
+
+use crate::Turns;
+use declaration::Declaration;
+use peripherals::{Event, NoMemory};
+use policy::Watcher;
+use std::alloc::Allocator;
+
+/// What came of a step.
+#[derive(Clone, Copy, PartialEq, Eq)]
+pub enum Stepped {
+    /// It was made, and kept the rules.
+    Kept,
+    /// It was tried, and breaks a rule.
+    Broke,
+    /// All turns are spent: it was not tried.
+    NoTurn,
+}
+
+/// Takes a turn, and then tries a step of a machine that is watched. No other function of the search
+/// does so.
+pub fn take_step<A: Allocator, D: Allocator>(
+    watcher: &mut Watcher<A>,
+    declaration: &Declaration<D>,
+    turns: &mut Turns,
+) -> Result<Stepped, NoMemory>
+    requires profile { profile_of watcher.old.world ≡ (meaning declaration.now).profile }
+    ensures profile { profile_of watcher.new.world ≡ (meaning declaration.now).profile }
+    ensures counted { IfOk result (λ stepped. stepped ≢ NoTurn
+        → turns.new.spent ≡ turns.old.spent + 1) }
+    ensures limit { turns.new.limit ≡ turns.old.limit }
+    ensures rises { turns.old.spent ≤ turns.new.spent }
+    ensures within { turns.new.spent ≤ turns.new.limit }
+{
+    if turns.take().is_err() {
+        return Ok(Stepped::NoTurn);
+    }
+    match watcher.next(declaration, Event::Step) {
+        Ok(None) => Ok(Stepped::Kept),
+        Ok(Some(_)) => Ok(Stepped::Broke),
+        Err(NoMemory) => Err(NoMemory),
+    }
+}

@@ -1,6 +1,0 @@
-use Rattle.std.proofs.Common.{◌≡◌, false}
-use Rattle.std.specs.List.{AllByRecursion}
-use Rattle.workbench.proofs.files.open_inputs.Given as goal
-
-abbrev pub invariant-loop-name : goal.invariant-loop-name
-invariant-loop-name g l = AllByRecursion (λ input. input.failed ≡ false) l.inputs.items

@@ -1,0 +1,143 @@
+//! What is said below the line of a fault under `--why`. The file is looked at once more for it; it is
+//! tested and not proved.
+
+use crate::files::open_input;
+use command_line::FileNames;
+use command_parts::inputs::{declaration_from, tape_from};
+use commands::status::{DeviceFault, Fault};
+use fault_texts::{FaultyFile, push_fault, push_omissions};
+use std::alloc::Global;
+use std::fmt::Write;
+use std::rt::Files;
+use streams::read_at_most;
+use word12::Word;
+
+/// How much of a file is looked at: a byte more than any input may have.
+const MOST: usize = 1_048_577;
+
+/// The input that has a fault, if it is one of the inputs that have a name.
+fn faulty_input<'a>(fault: &Fault, names: &FileNames<'a>) -> Option<&'a str> {
+    match fault {
+        Fault::Tape(_) => names.tape,
+        Fault::Declared(_) => names.declaration,
+        Fault::Certificate(_) => names.certificate,
+        Fault::Events(_) => names.events,
+        _ => None,
+    }
+}
+
+/// What is in a file.
+fn bytes_of<R: Files + Input>(rt: &R, alloc: Global, name: &str) -> Result<Vec<u8>, Fault> {
+    let mut input = open_input(rt, name)?;
+    Ok(read_at_most(alloc, &mut input, MOST)?)
+}
+
+/// The first of the inputs that can't be opened or read.
+fn unread_input<'a, R: Files + Input>(
+    rt: &R,
+    alloc: Global,
+    names: &FileNames<'a>,
+) -> Option<&'a str> {
+    for name in names.inputs() {
+        let Some(name) = name else {
+            continue;
+        };
+        if name == "-" {
+            continue;
+        }
+        if let Err(Fault::Device(_)) = bytes_of(rt, alloc, name) {
+            return Some(name);
+        }
+    }
+    None
+}
+
+/// What the tape and the declaration of these files show by themselves.
+fn omissions_of<R: Files + Input>(
+    rt: &R,
+    alloc: Global,
+    tape: &str,
+    declaration: &str,
+    stuck: Option<Word>,
+) -> Result<Vec<u8>, Fault> {
+    let image = tape_from(&mut open_input(rt, tape)?)?;
+    let promised = declaration_from(alloc, &mut open_input(rt, declaration)?)?;
+    let mut text = Vec::new(alloc);
+    push_omissions(&mut text, &image, &promised, stuck)?;
+    Ok(text)
+}
+
+/// What the tape and the declaration of these files show by themselves, as lines for people, apart from
+/// what is said of the address where a search is stuck. Of standard input, which can't be read twice, and
+/// of a file with a fault it says nothing.
+pub fn omissions<R: Files + Input>(
+    rt: &R,
+    alloc: Global,
+    tape: &str,
+    declaration: &str,
+    stuck: Option<Word>,
+) -> Vec<u8> {
+    if tape == "-" || declaration == "-" {
+        return Vec::new(alloc);
+    }
+    match omissions_of(rt, alloc, tape, declaration, stuck) {
+        Ok(text) => text,
+        Err(_) => Vec::new(alloc),
+    }
+}
+
+/// The address in the line `pdp8: guess: Stuck 0210`.
+pub fn stuck_address(report: &[u8]) -> Option<Word> {
+    let digits = report.strip_prefix(b"pdp8: guess: Stuck ")?.get(..4)?;
+    Word::from_octal(digits).ok()
+}
+
+/// The lines on an input that has a fault. Of standard input, which can't be read twice, there are none.
+fn input_lines<R: Files + Input>(
+    rt: &R,
+    alloc: Global,
+    fault: &Fault,
+    names: &FileNames<'_>,
+) -> String {
+    let mut text = String::new(alloc);
+    let name = faulty_input(fault, names).unwrap_or("-");
+    if name == "-" {
+        return text;
+    }
+    if let Ok(bytes) = bytes_of(rt, alloc, name) {
+        let file = FaultyFile {
+            name,
+            bytes: &bytes,
+        };
+        let _ = push_fault(&mut text, *fault, &file);
+    }
+    text
+}
+
+/// A line that is a name and what is said of it, if there is a name.
+fn line_of(alloc: Global, name: Option<&str>, said: &str) -> String {
+    let mut text = String::new(alloc);
+    if let Some(name) = name {
+        let _ = writeln!(text, "{name} {said}");
+    }
+    text
+}
+
+/// What is said below the line of a fault: which file has it, where, and what may stand there.
+pub fn fault_lines<R: Files + Input>(
+    rt: &R,
+    alloc: Global,
+    fault: &Fault,
+    names: &FileNames<'_>,
+) -> String {
+    match fault {
+        Fault::Device(DeviceFault::Read) => {
+            let name = unread_input(rt, alloc, names);
+            line_of(alloc, name, "can't be opened or read")
+        }
+        Fault::Device(DeviceFault::Write) => {
+            line_of(alloc, names.output, "can't be made or written")
+        }
+        _ => input_lines(rt, alloc, fault, names),
+    }
+}

@@ -1,0 +1,192 @@
+//! Sources that are assembled or listed, and what is told of their faults.
+
+use crate::files::{open_inputs, open_output, open_parts};
+use crate::telling::{tell, tell_with};
+use command_line::Destination;
+use commands::assembling::{assemble, list};
+use commands::status::{DeviceFault, Fault, Status};
+use instruct::Profile;
+use pal_asm::PalFault;
+use std::alloc::Global;
+use std::io;
+use std::rt::Files;
+use streams::ByteSource;
+use streams::standard::Writes;
+
+/// An input as it is named in a sentence.
+fn input_name<'n>(name: &'n str) -> &'n str {
+    if name == "-" { "standard input" } else { name }
+}
+
+/// An output as it is named in a sentence.
+fn output_name<'n>(name: &'n str) -> &'n str {
+    if name == "-" { "standard output" } else { name }
+}
+
+/// The name of the part that can't be opened, behind so many that are open.
+fn unopened<'n>(names: &'n [&'n str], opened: usize) -> &'n str {
+    match names.get(opened) {
+        Some(name) => input_name(name),
+        None => "a source",
+    }
+}
+
+/// The name of the first part of which a read failed.
+fn unread<'n, S: ByteSource>(names: &'n [&'n str], parts: &[S]) -> &'n str {
+    for (index, part) in parts.iter().enumerate() {
+        if part.failed() {
+            return match names.get(index) {
+                Some(name) => input_name(name),
+                None => "a source",
+            };
+        }
+    }
+    "a source"
+}
+
+/// Writes the line of a fault to standard error, and below it, where a device failed, of which file.
+fn tell_of<R: Eprint>(rt: &R, fault: Fault, name: &str, happened: &str) -> Status {
+    let status = tell(rt, fault);
+    if status != Status::Device {
+        return status;
+    }
+    match eprintln!(rt; "{name} {happened}") {
+        Ok(()) | Err(_) => status,
+    }
+}
+
+/// Writes the line of the fault of a size to standard error, and below it what is too long or too many.
+fn tell_size<R: Eprint>(rt: &R, fault: PalFault, names: &[&str]) -> Status {
+    let status = tell(rt, Fault::Source(fault));
+    let count = names.len();
+    let told = match names.get(fault.part.wrapping_sub(1)) {
+        Some(name) => eprintln!(rt;
+            "{name}: TL: the part has more than 65536 bytes\ncut it into parts, in order, each but the last with PAUSE at its end"
+        ),
+        None => eprintln!(rt;
+            "TL: the source has {count} parts, and 16 are the most\njoin some of them, without the PAUSE between them"
+        ),
+    };
+    match told {
+        Ok(()) | Err(_) => status,
+    }
+}
+
+/// Writes the line of a fault to standard error, and below it what is wrong: of a source these lines.
+fn tell_all<R: Eprint, S: ByteSource>(
+    rt: &R,
+    fault: Fault,
+    names: &[&str],
+    parts: &[S],
+    out: &str,
+    told: &str,
+) -> Status {
+    match fault {
+        Fault::Source(fault) if fault.line == 0 => tell_size(rt, fault, names),
+        Fault::Source(_) => tell_with(rt, fault, told),
+        Fault::EmptyImage => tell_with(
+            rt,
+            fault,
+            "no statement is a word: list shows what the source has\n",
+        ),
+        Fault::Device(DeviceFault::Read) => tell_of(
+            rt,
+            fault,
+            unread(names, parts),
+            "can't be read",
+        ),
+        Fault::Device(DeviceFault::Write) => tell_of(
+            rt,
+            fault,
+            output_name(out),
+            "can't be written",
+        ),
+        _ => tell(rt, fault),
+    }
+}
+
+/// Lists the source whose parts are in these files, and tells below the line of a fault what is wrong.
+fn list_or_tell<R: Files + Input + Print + Eprint>(
+    rt: &R,
+    alloc: Global,
+    names: &[&str],
+    profile: Profile,
+) -> Status {
+    let mut parts = Vec::new(alloc);
+    if let Err(fault) = open_parts(rt, names, &mut parts) {
+        return tell_of(rt, fault, unopened(names, parts.len()), "can't be opened");
+    }
+    let mut out = Writes::new(io::writer(rt));
+    let mut told = String::new(alloc);
+    match list(alloc, &mut parts, profile, Some(names), &mut told, &mut out) {
+        Ok(status) => status,
+        Err(fault) => tell_all(rt, fault, names, &parts, "-", &told),
+    }
+}
+
+/// Assembles the parts of these files into a tape, and tells below the line of a fault what is wrong.
+fn assemble_or_tell<R: Files + Input + Print + Eprint>(
+    rt: &R,
+    alloc: Global,
+    out: Destination<'_>,
+    names: &[&str],
+    profile: Profile,
+) -> Status {
+    let mut tape = match open_output(rt, out) {
+        Ok(tape) => tape,
+        Err(fault) => return tell_of(rt, fault, output_name(out.name()), "can't be made"),
+    };
+    let mut parts = Vec::new(alloc);
+    if let Err(fault) = open_parts(rt, names, &mut parts) {
+        return tell_of(rt, fault, unopened(names, parts.len()), "can't be opened");
+    }
+    let mut told = String::new(alloc);
+    match assemble(
+        alloc,
+        &mut parts,
+        profile,
+        Some(names),
+        &mut told,
+        &mut tape,
+    ) {
+        Ok(status) => status,
+        Err(fault) => tell_all(rt, fault, names, &parts, out.name(), &told),
+    }
+}
+
+/// Lists the source whose parts are in these files.
+#[inline(never)]
+pub fn list_from<R: Files + Input + Print + Eprint>(
+    rt: &R,
+    alloc: Global,
+    names: &[&str],
+    profile: Profile,
+    explained: bool,
+) -> Result<Status, Fault> {
+    if explained {
+        return Ok(list_or_tell(rt, alloc, names, profile));
+    }
+    let mut parts = open_inputs(rt, alloc, names)?;
+    let mut out = Writes::new(io::writer(rt));
+    let mut told = String::new(alloc);
+    list(alloc, &mut parts, profile, None, &mut told, &mut out)
+}
+
+/// Assembles the parts of these files into a tape.
+#[inline(never)]
+pub fn assemble_to<R: Files + Input + Print + Eprint>(
+    rt: &R,
+    alloc: Global,
+    out: Destination<'_>,
+    names: &[&str],
+    profile: Profile,
+    explained: bool,
+) -> Result<Status, Fault> {
+    if explained {
+        return Ok(assemble_or_tell(rt, alloc, out, names, profile));
+    }
+    let mut tape = open_output(rt, out)?;
+    let mut parts = open_inputs(rt, alloc, names)?;
+    let mut told = String::new(alloc);
+    assemble(alloc, &mut parts, profile, None, &mut told, &mut tape)
+}

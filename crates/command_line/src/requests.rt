@@ -466,6 +466,7 @@ fn request_of<'a>(
             tape: found.get_str("TAPE").unwrap_or("-"),
             profile: profile_of(found)?,
         }),
+        "teletype" => Ok(Request::Teletype(teletype_of(found)?)),
         "assemble" => assemble_request(alloc, found),
         "list" => list_request(alloc, found),
         "source" => source_request(found),

@@ -181,6 +181,7 @@ pub fn watch_joined<R: Files + Input + Print>(
 /// # Errors
 ///
 /// As for `teletype`, and `Device` where a file can't be opened or made.
+#[inline(never)]
 pub fn sit_down<R: Files + Input + Print + Eprint>(
     rt: &R,
     alloc: Global,

@@ -1,12 +1,13 @@
 #!/usr/bin/env python3
 """Proves the program and all crates below it from nothing, builds it as crates/pdp8/out/pdp8, and runs it on the stored tape.
 
-This is the gate's own run, rt ci, over copies of these crates alone, without tests and without edits that must fail. What it
-proves is kept for the gate on this machine, and what a gate proved isn't proved again. A crate that no other waits beside gets
-several processors, as far as memory allows; RT_JOBS=N proves N crates side by side with one processor each.
+This is the gate's own run, rt ci, over copies of these crates alone, without tests and without edits that must fail. A crate
+that no other waits beside gets several processors, as far as memory allows; RT_JOBS=N proves N crates side by side with one
+processor each. Where the program was built of these very files by this toolchain before, it is only run.
 
 usage: tests/prove.py
 """
+import hashlib
 import os
 import shutil
 import subprocess
@@ -42,18 +43,57 @@ def copied(room):
     subprocess.run(['git', 'init', '-q', room], check=True)
 
 
+def sum_of(folder):
+    """A sum of all files of a folder, and of the toolchain's name."""
+    total = hashlib.sha256(subprocess.run(['rt', 'version'], capture_output=True, check=True).stdout)
+    for at, folders, names in os.walk(folder):
+        folders[:] = sorted(it for it in folders if it not in ('.git', 'out'))
+        for name in sorted(names):
+            path = os.path.join(at, name)
+            with open(path, 'rb') as file:
+                total.update(repr((os.path.relpath(path, folder), file.read())).encode())
+    return total.hexdigest()
+
+
+def proved(room, out):
+    """Proves the copy, and puts the program that it gives into the folder out; gives the status."""
+    status = subprocess.run(['rt', 'ci'], cwd=room, check=False).returncode
+    built = os.path.join(room, 'crates', PROGRAM, 'out', PROGRAM)
+    if status or not os.path.isfile(built):
+        return status or 1
+    os.makedirs(out, exist_ok=True)
+    shutil.copy2(built, out)
+    return 0
+
+
+def is_built(program, note, sources):
+    """Whether the note beside the program says that it was built of these sources."""
+    if not os.path.isfile(program) or not os.path.isfile(note):
+        return False
+    with open(note, encoding='utf-8') as file:
+        return file.read() == note_of(program, sources)
+
+
+def note_of(program, sources):
+    """What is noted beside a program that was built of these sources."""
+    with open(program, 'rb') as file:
+        return f'{sources} {hashlib.sha256(file.read()).hexdigest()}\n'
+
+
 def main():
+    out = os.path.join(TOP, 'crates', PROGRAM, 'out')
+    program, note = os.path.join(out, PROGRAM), os.path.join(out, f'{PROGRAM}.sum')
     with tempfile.TemporaryDirectory() as room:
         copied(room)
-        status = subprocess.run(['rt', 'ci'], cwd=room, check=False).returncode
-        built = os.path.join(room, 'crates', PROGRAM, 'out', PROGRAM)
-        if status or not os.path.isfile(built):
-            sys.exit(status or 1)
-        out = os.path.join(TOP, 'crates', PROGRAM, 'out')
-        os.makedirs(out, exist_ok=True)
-        shutil.copy2(built, out)
+        sources = sum_of(room)
+        if not is_built(program, note, sources):
+            status = proved(room, out)
+            if status:
+                sys.exit(status)
+            with open(note, 'w', encoding='utf-8') as file:
+                file.write(note_of(program, sources))
     with open(os.path.join(TOP, 'crates', PROGRAM, 'stdin'), 'rb') as tape:
-        sys.exit(subprocess.run([os.path.join(out, PROGRAM)], stdin=tape, check=False).returncode)
+        sys.exit(subprocess.run([program], stdin=tape, check=False).returncode)
 
 
 if __name__ == '__main__':

@@ -1,6 +1,6 @@
 //! The comment of a cell.
 
-use crate::outline::{Declared, Outline};
+use crate::outline::{Declared, Outline, previous};
 use bin_tape::Image;
 use instruct::{Instruction, decode, name};
 use std::alloc::{AllocError, Allocator};
@@ -12,7 +12,8 @@ const LEAST_CHARACTERS: usize = 3;
 /// How many characters are shown together at most.
 const MOST_CHARACTERS: usize = 40;
 
-/// The least word that is shown as a negative number too.
+/// The least word that is shown as a negative number too, where the code names it, and elsewhere.
+const LEAST_NAMED_NEGATIVE: usize = 0o7401;
 const LEAST_NEGATIVE: usize = 0o7701;
 
 /// The character that a word is, with channel 8 or without it.
@@ -53,10 +54,13 @@ fn push_declared<A: Allocator>(
 
 /// Adds a negative number.
 fn push_negative<A: Allocator>(remark: &mut Vec<u8, A>, word: Word) -> Result<(), AllocError> {
-    let [_, _, high, low] = word.complement().increment().to_octal();
+    let [_, high, middle, low] = word.complement().increment().to_octal();
     push_if(remark, true, b"-")?;
-    if word.index() < 0o7771 {
+    if word.index() <= 0o7700 {
         remark.push(high)?;
+    }
+    if word.index() <= 0o7770 {
+        remark.push(middle)?;
     }
     remark.push(low)?;
     Ok(())
@@ -84,6 +88,18 @@ impl Outline {
             to = to.increment();
         }
         most
+    }
+
+    /// The first of the characters in a row of which one stands at a cell, no more than two cells back.
+    fn first_character(&self, image: &Image, at: Word) -> Word {
+        let before = previous(at);
+        if self.character_at(image, before).is_none() {
+            return at;
+        }
+        if self.character_at(image, previous(before)).is_none() {
+            return before;
+        }
+        previous(before)
     }
 
     /// Adds characters in a row from a cell on, between quotes.
@@ -114,26 +130,18 @@ impl Outline {
         at: Word,
         word: Word,
     ) -> Result<(), AllocError> {
-        if word.index() >= LEAST_NEGATIVE {
+        let is_named = self.tagged.contains(at) && word.index() >= LEAST_NAMED_NEGATIVE;
+        if is_named || word.index() >= LEAST_NEGATIVE {
             return push_negative(remark, word);
         }
         let Some(code) = self.character_at(image, at) else {
             return Ok(());
         };
-        let before = at.add(Word::from_index(0o7777));
-        let far_before = before.add(Word::from_index(0o7777));
-        let is_first = self.character_at(image, before).is_none();
-        let first = if is_first {
-            at
-        } else if self.character_at(image, far_before).is_none() {
-            before
-        } else {
-            far_before
-        };
+        let first = self.first_character(image, at);
         if self.characters_from(image, first, LEAST_CHARACTERS) < LEAST_CHARACTERS {
             return Ok(());
         }
-        if is_first {
+        if first == at {
             return self.push_characters(remark, image, at);
         }
         push_if(remark, true, &[code])

@@ -12,9 +12,10 @@ const LEAST_CHARACTERS: usize = 3;
 /// How many characters are shown together at most.
 const MOST_CHARACTERS: usize = 40;
 
-/// The least word that is shown as a negative number too, where the code names it, and elsewhere.
+/// The least word that is shown as a negative number too, where the code names it.
 const LEAST_NAMED_NEGATIVE: usize = 0o7401;
 
+/// The same where it doesn't.
 const LEAST_NEGATIVE: usize = 0o7701;
 
 /// Behind how many words at most a call is looked for whose arguments they are.

@@ -292,7 +292,7 @@ fn search_output<'a>(
 ) -> Result<Destination<'a>, Refused> {
     let mut inputs = Vec::new(alloc);
     inputs.extend_from_slice(sources)?;
-    inputs.push(operands.declaration.unwrap_or("-"))?;
+    inputs.extend_from_slice(&[operands.declaration.unwrap_or("-")])?;
     result_of(found, operands.last, &inputs)
 }
 
@@ -316,7 +316,7 @@ pub fn place_request<'a>(alloc: Global, found: &ArgMatches<'a>) -> Result<Reques
     let declaration = found.get_str("declaration");
     let mut inputs = Vec::new(alloc);
     inputs.extend_from_slice(&sources)?;
-    inputs.push(declaration.unwrap_or(""))?;
+    inputs.extend_from_slice(&[declaration.unwrap_or("")])?;
     if share_standard_input(&inputs) {
         return Err(Refused::BothStandardInput);
     }

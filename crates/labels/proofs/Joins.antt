@@ -1,5 +1,5 @@
 -- Pieces of a text that are put behind one another, up to the first fault.
-use Rattle.std.proofs.Common.{ℕ, ◌≡◌, List, [], ◌∷◌, ◌++◌, refl, append_assoc, Ok, Err, Unit}
+use Rattle.std.proofs.Common.{ℕ, ◌≡◌, List, [], ◌∷◌, ◌++◌, refl, append_assoc, Ok, Err}
 use Rattle.labels.specs.declared.fault.PlaceFault.{PlaceFault}
 use Rattle.labels.specs.declared.fault.PlaceFault.TheVariants.{BadLine, NoSymbol, PastMemory, Backwards, TooMany, NoMemory}
 use Rattle.labels.specs.Lines.{Placed, joined, prefixed, IsPlaceFault}

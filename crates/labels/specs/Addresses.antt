@@ -1,7 +1,7 @@
 -- What a word of a declaration says in numbers.
 use Rattle.std.specs.Prelude.{ℕ, ◌+◌, ◌-◌, ◌==◌, ◌&&◌, ◌||◌, not, nat_le, nat_lt, Bool, true, false, if◌then◌else◌, List, [], ◌∷◌, ◌++◌, drop, Option, Some, None, Result, Ok, Err}
 use Rattle.std.specs.List.{before_first, position_or_len}
-use Rattle.word12.specs.Octal.{octal_text}
+use Rattle.word12.specs.Words.{octal_text}
 use Rattle.streams.specs.Text.{octal_word}
 use Rattle.pal_text.specs.declared.names.Name.{Name}
 use Rattle.pal_text.specs.Names.{name}

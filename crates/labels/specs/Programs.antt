@@ -1,5 +1,5 @@
 -- A source and its declaration as a tape and a declaration in numbers.
-use Rattle.std.specs.Prelude.{ℕ, ◌≡◌, List, Option, Ok, Err, Unit}
+use Rattle.std.specs.Prelude.{ℕ, ◌≡◌, List, Option, Ok, Err}
 use Rattle.instruct.specs.declared.Profile.{Profile}
 use Rattle.bin_tape.specs.Image.{IsEmptyImage}
 use Rattle.bin_tape.specs.Tape.{IsTape}

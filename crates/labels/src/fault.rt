@@ -57,7 +57,9 @@ impl Lack {
 }
 
 impl From<AllocError> for PlaceFault {
-    ghost from_gives = { λ _ result. result ≡ PlaceFault.NoMemory };
+    ghost use Rattle.labels.specs.declared.fault.PlaceFault.TheVariants.{NoMemory};
+
+    ghost from_gives = { λ _ result. result ≡ NoMemory };
 
     fn from(_: AllocError) -> PlaceFault {
         PlaceFault::NoMemory

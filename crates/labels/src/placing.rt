@@ -200,18 +200,18 @@ fn cut_line(text: &[u8]) -> Cut<'_>
 /// Adds the lines behind the one of this number, each behind a line feed.
 fn place_lines<A: Allocator, S: Allocator + Copy>(
     own: &SymbolTable<S>,
-    number: usize,
+    before: usize,
     behind: Option<&[u8]>,
     out: &mut Vec<u8, A>,
 ) -> Result<(), PlaceFault>
-    requires { number + length_behind behind ≤ 65536 }
+    requires { before + length_behind behind ≤ 65536 }
     ensures placed { OnOk result (prefixed out.old.items
-        (placed_lines own.now.entries (number + 1) (lines_behind behind)) ≡ Ok out.new.items) }
+        (placed_lines own.now.entries (before + 1) (lines_behind behind)) ≡ Ok out.new.items) }
     ensures refused { IfErr result
-        (IsPlaceFault (placed_lines own.now.entries (number + 1) (lines_behind behind))) }
+        (IsPlaceFault (placed_lines own.now.entries (before + 1) (lines_behind behind))) }
 {
     let mut rest = behind;
-    let mut number = number;
+    let mut number = before;
     while let Some(text) = rest {
         let cut = cut_line(text);
         number += 1;

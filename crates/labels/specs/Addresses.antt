@@ -6,8 +6,8 @@ use Rattle.streams.specs.Text.{octal_word}
 use Rattle.pal_text.specs.declared.names.Name.{Name}
 use Rattle.pal_text.specs.Names.{name}
 use Rattle.pal_acts.specs.Values.{known}
-use Rattle.labels.specs.declared.fault.Lack.{Lack}
-use Rattle.labels.specs.declared.fault.Lack.TheVariants.{Form, Symbol, Memory, Order}
+use Rattle.labels.specs.declared.fault.Flaw.{Flaw}
+use Rattle.labels.specs.declared.fault.Flaw.TheVariants.{Form, Symbol, Memory, Order}
 use Rattle.labels.specs.declared.address.Cells.{Cells}
 use Rattle.labels.specs.declared.address.Cells.TheVariants.{One, Range}
 
@@ -31,33 +31,33 @@ name_of text = before_first ends_name text
 abbrev pub after_name : List ℕ → List ℕ
 after_name text = drop (position_or_len ends_name text) text
 
--- An address and what stands behind it, or what it lacks.
+-- An address and what stands behind it, or what is wrong with it.
 abbrev pub Reading : Type 0
-Reading = Result (ℕ × List ℕ) Lack
+Reading = Result (ℕ × List ℕ) Flaw
 
--- The address that a symbol has as its value; a symbol without one lacks it.
-abbrev pub symbol_value : Option ℕ → Result ℕ Lack
+-- The address that a symbol has as its value; a symbol without one has the flaw Symbol.
+abbrev pub symbol_value : Option ℕ → Result ℕ Flaw
 symbol_value (Some value) = Ok value
 symbol_value None = Err Symbol
 
 -- The number that one to four octal digits spell; anything else is none.
-abbrev pub number_value : Option ℕ → Result ℕ Lack
+abbrev pub number_value : Option ℕ → Result ℕ Flaw
 number_value (Some value) = Ok value
 number_value None = Err Form
 
 -- The value of the symbol with these bytes, by the symbols of a source.
-abbrev pub value_of : List (Name × ℕ) → List ℕ → Result ℕ Lack
+abbrev pub value_of : List (Name × ℕ) → List ℕ → Result ℕ Flaw
 value_of own bytes = symbol_value (known [] own (record { letters = name bytes }))
 
 -- The address so many cells above an address, or below it. It isn't taken modulo 10000.
-abbrev pub moved : ℕ → Bool → ℕ → Result ℕ Lack
+abbrev pub moved : ℕ → Bool → ℕ → Result ℕ Flaw
 moved at true count = if nat_lt at count then Err Memory else Ok (at - count)
 moved at false count = if nat_lt (at + count) 4096 then Ok (at + count) else Err Memory
 
 -- An address, where there is one, with what stands behind it.
-abbrev pub behind : Result ℕ Lack → List ℕ → Reading
+abbrev pub behind : Result ℕ Flaw → List ℕ → Reading
 behind (Ok at) rest = Ok (at, rest)
-behind (Err lack) rest = Err lack
+behind (Err flaw) rest = Err flaw
 
 -- An address moved by a number.
 abbrev pub moved_by : ℕ → Bool → Option ℕ → List ℕ → Reading
@@ -84,9 +84,9 @@ with_offset at (sign ∷ number) =
     if is_sign sign && begins_number number then offset at (sign == 45) number else Ok (at, sign ∷ number)
 
 -- A symbol's address, where it has one, with what follows the symbol.
-abbrev pub symbol_then : Result ℕ Lack → List ℕ → Reading
+abbrev pub symbol_then : Result ℕ Flaw → List ℕ → Reading
 symbol_then (Ok at) rest = with_offset at rest
-symbol_then (Err lack) rest = Err lack
+symbol_then (Err flaw) rest = Err flaw
 
 -- The address of these letters and digits, with what follows them: that of a symbol, which a number may move, or a number.
 abbrev pub address_by : List (Name × ℕ) → List ℕ → List ℕ → Reading
@@ -101,19 +101,19 @@ abbrev pub address_of : List (Name × ℕ) → List ℕ → Reading
 address_of own text = address_by own (name_of text) (after_name text)
 
 -- The cells from one address to the next one, behind which nothing stands.
-abbrev pub span : ℕ → Reading → Result Cells Lack
-span low (Err lack) = Err lack
+abbrev pub span : ℕ → Reading → Result Cells Flaw
+span low (Err flaw) = Err flaw
 span low (Ok (high, [])) = if nat_le low high then Ok (Range low high) else Err Order
 span low (Ok (high, other ∷ more)) = Err Form
 
 -- The cells of an address, or with a dash and another address those from one to the other.
-abbrev pub cells_from : List (Name × ℕ) → Reading → Result Cells Lack
-cells_from own (Err lack) = Err lack
+abbrev pub cells_from : List (Name × ℕ) → Reading → Result Cells Flaw
+cells_from own (Err flaw) = Err flaw
 cells_from own (Ok (low, [])) = Ok (One low)
 cells_from own (Ok (low, dash ∷ rest)) = if dash == 45 then span low (address_of own rest) else Err Form
 
 -- The cells of a word: an address or a range.
-abbrev pub cells_of : List (Name × ℕ) → List ℕ → Result Cells Lack
+abbrev pub cells_of : List (Name × ℕ) → List ℕ → Result Cells Flaw
 cells_of own word = cells_from own (address_of own word)
 
 -- Cells as a declaration spells them in numbers.

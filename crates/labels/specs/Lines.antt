@@ -5,15 +5,15 @@ use Rattle.std.specs.List.{before_first, list_any, position_or_len, slice_split}
 use Rattle.std.specs.Str.Lines.{strip_carriage_return}
 use Rattle.streams.specs.Text.{is_slash, words_of}
 use Rattle.pal_text.specs.declared.names.Name.{Name}
-use Rattle.labels.specs.declared.fault.Lack.{Lack}
-use Rattle.labels.specs.declared.fault.Lack.TheVariants.{Form, Symbol, Memory, Order}
+use Rattle.labels.specs.declared.fault.Flaw.{Flaw}
+use Rattle.labels.specs.declared.fault.Flaw.TheVariants.{Form, Symbol, Memory, Order}
 use Rattle.labels.specs.declared.fault.PlaceFault.{PlaceFault}
 use Rattle.labels.specs.declared.fault.PlaceFault.TheVariants.{BadLine, NoSymbol, PastMemory, Backwards, TooMany, NoMemory}
 use Rattle.labels.specs.declared.address.Cells.{Cells}
 use Rattle.labels.specs.Addresses.{is_capital, cells_of, cells_text}
 
--- What is lacking, as the fault of a line.
-abbrev pub fault_at : ℕ → Lack → PlaceFault
+-- A flaw as the fault of a line.
+abbrev pub fault_at : ℕ → Flaw → PlaceFault
 fault_at n Form = BadLine n
 fault_at n Symbol = NoSymbol n
 fault_at n Memory = PastMemory n
@@ -23,10 +23,10 @@ fault_at n Order = Backwards n
 abbrev pub Placed : Type 0
 Placed = Result (List ℕ) PlaceFault
 
--- Cells as they are spelled, or what they lack as the fault of a line.
-abbrev pub spelled : ℕ → Result Cells Lack → Placed
+-- Cells as they are spelled, or what they flaw as the fault of a line.
+abbrev pub spelled : ℕ → Result Cells Flaw → Placed
 spelled n (Ok cells) = Ok (cells_text cells)
-spelled n (Err lack) = Err (fault_at n lack)
+spelled n (Err flaw) = Err (fault_at n flaw)
 
 -- A word of the line of this number: with a capital letter it is an address or a range, and any other stays as it is.
 abbrev pub placed_word : List (Name × ℕ) → ℕ → List ℕ → Placed

@@ -4,7 +4,7 @@ ghost use Rattle.std.specs.Prelude.{◌≡◌, ◌++◌, Ok, Err, OnOk, IfOk, If
 ghost use Rattle.std.specs.List.{position, position_or_len};
 ghost use Rattle.labels.specs.Addresses.{is_capital, is_digit, is_sign, begins_number, ends_name, name_of, after_name, value_of, moved, offset, with_offset, address_of, span, cells_of, cells_text};
 
-use crate::fault::Lack;
+use crate::fault::Flaw;
 use pal_acts::SymbolTable;
 use pal_text::Name;
 use std::alloc::{AllocError, Allocator};
@@ -80,23 +80,23 @@ fn after_name(text: &[u8]) -> &[u8]
 }
 
 /// The value of the symbol with these bytes.
-fn value_of<A: Allocator + Copy>(own: &SymbolTable<A>, bytes: &[u8]) -> Result<Word, Lack>
+fn value_of<A: Allocator + Copy>(own: &SymbolTable<A>, bytes: &[u8]) -> Result<Word, Flaw>
     ensures { result ≡ value_of own.now.entries bytes.now }
 {
     match own.get(&Name::new(bytes)) {
         Some(value) => Ok(*value),
-        None => Err(Lack::Symbol),
+        None => Err(Flaw::Symbol),
     }
 }
 
 /// The address so many cells above an address, or below it.
-fn moved(at: Word, below: bool, count: Word) -> Result<Word, Lack>
+fn moved(at: Word, below: bool, count: Word) -> Result<Word, Flaw>
     ensures { result ≡ moved at below count }
 {
     let (at, count) = (at.value(), count.value());
     let to = if below {
         if at < count {
-            return Err(Lack::Memory);
+            return Err(Flaw::Memory);
         }
         at - count
     } else {
@@ -104,25 +104,25 @@ fn moved(at: Word, below: bool, count: Word) -> Result<Word, Lack>
     };
     match Word::new(to) {
         Some(word) => Ok(word),
-        None => Err(Lack::Memory),
+        None => Err(Flaw::Memory),
     }
 }
 
 /// An address moved by the number at the front of a text.
-fn offset(at: Word, below: bool, number: &[u8]) -> Result<Front<'_>, Lack>
+fn offset(at: Word, below: bool, number: &[u8]) -> Result<Front<'_>, Flaw>
     ensures found { IfOk result (λ front.
         offset at below number.now ≡ Ok (front.at, front.rest.now)) }
-    ensures refused { IfErr result (λ lack. offset at below number.now ≡ Err lack) }
+    ensures refused { IfErr result (λ flaw. offset at below number.now ≡ Err flaw) }
 {
     let Some(count) = text::octal_word(name_of(number)) else {
-        return Err(Lack::Form);
+        return Err(Flaw::Form);
     };
     match moved(at, below, count) {
         Ok(at) => Ok(Front {
             at,
             rest: after_name(number),
         }),
-        Err(lack) => Err(lack),
+        Err(flaw) => Err(flaw),
     }
 }
 
@@ -134,10 +134,10 @@ fn is_sign(byte: u8) -> bool
 }
 
 /// A symbol's address, moved where a sign and a digit follow it.
-fn with_offset(at: Word, rest: &[u8]) -> Result<Front<'_>, Lack>
+fn with_offset(at: Word, rest: &[u8]) -> Result<Front<'_>, Flaw>
     ensures found { IfOk result (λ front.
         with_offset at rest.now ≡ Ok (front.at, front.rest.now)) }
-    ensures refused { IfErr result (λ lack. with_offset at rest.now ≡ Err lack) }
+    ensures refused { IfErr result (λ flaw. with_offset at rest.now ≡ Err flaw) }
 {
     match rest {
         [sign, number @ ..] if is_sign(*sign) && begins_number(number) => {
@@ -161,41 +161,41 @@ fn begins_number(text: &[u8]) -> bool
 fn front_of<'a, A: Allocator + Copy>(
     own: &SymbolTable<A>,
     text: &'a [u8],
-) -> Result<Front<'a>, Lack>
+) -> Result<Front<'a>, Flaw>
     ensures found { IfOk result (λ front.
         address_of own.now.entries text.now ≡ Ok (front.at, front.rest.now)) }
-    ensures refused { IfErr result (λ lack. address_of own.now.entries text.now ≡ Err lack) }
+    ensures refused { IfErr result (λ flaw. address_of own.now.entries text.now ≡ Err flaw) }
 {
     let name = name_of(text);
     let rest = after_name(text);
     match name {
-        [] => Err(Lack::Form),
+        [] => Err(Flaw::Form),
         [first, ..] if is_capital(*first) => match value_of(own, name) {
             Ok(at) => with_offset(at, rest),
-            Err(lack) => Err(lack),
+            Err(flaw) => Err(flaw),
         },
         _ => match text::octal_word(name) {
             Some(at) => Ok(Front { at, rest }),
-            None => Err(Lack::Form),
+            None => Err(Flaw::Form),
         },
     }
 }
 
 /// The cells from an address to the one that is spelled next.
-fn span<A: Allocator + Copy>(own: &SymbolTable<A>, low: Word, text: &[u8]) -> Result<Cells, Lack>
+fn span<A: Allocator + Copy>(own: &SymbolTable<A>, low: Word, text: &[u8]) -> Result<Cells, Flaw>
     ensures { result ≡ span low (address_of own.now.entries text.now) }
 {
     match front_of(own, text) {
         Ok(high) => {
             if !high.rest.is_empty() {
-                Err(Lack::Form)
+                Err(Flaw::Form)
             } else if high.at.value() < low.value() {
-                Err(Lack::Order)
+                Err(Flaw::Order)
             } else {
                 Ok(Cells::Range(low, high.at))
             }
         }
-        Err(lack) => Err(lack),
+        Err(flaw) => Err(flaw),
     }
 }
 
@@ -203,17 +203,17 @@ fn span<A: Allocator + Copy>(own: &SymbolTable<A>, low: Word, text: &[u8]) -> Re
 ///
 /// # Errors
 ///
-/// What the word lacks.
-pub fn cells_of<A: Allocator + Copy>(own: &SymbolTable<A>, word: &[u8]) -> Result<Cells, Lack>
+/// What is wrong with the word.
+pub fn cells_of<A: Allocator + Copy>(own: &SymbolTable<A>, word: &[u8]) -> Result<Cells, Flaw>
     ensures { result ≡ cells_of own.now.entries word.now }
 {
     match front_of(own, word) {
         Ok(low) => match low.rest {
             [] => Ok(Cells::One(low.at)),
             [b'-', rest @ ..] => span(own, low.at, rest),
-            _ => Err(Lack::Form),
+            _ => Err(Flaw::Form),
         },
-        Err(lack) => Err(lack),
+        Err(flaw) => Err(flaw),
     }
 }
 

@@ -31,7 +31,7 @@ pub enum PlaceFault {
 
 /// Why a word is no address and no range.
 #[derive(Clone, Copy, PartialEq, Eq, Debug)]
-pub enum Lack {
+pub enum Flaw {
     /// It is neither an address nor a range.
     Form,
     /// The source doesn't define the symbol.
@@ -42,16 +42,16 @@ pub enum Lack {
     Order,
 }
 
-impl Lack {
-    /// What is lacking, as the fault of a line.
+impl Flaw {
+    /// A flaw as the fault of a line.
     pub(crate) fn on_line(self, number: usize) -> PlaceFault
         ensures { result ≡ fault_at number self }
     {
         match self {
-            Lack::Form => PlaceFault::BadLine(number),
-            Lack::Symbol => PlaceFault::NoSymbol(number),
-            Lack::Memory => PlaceFault::PastMemory(number),
-            Lack::Order => PlaceFault::Backwards(number),
+            Flaw::Form => PlaceFault::BadLine(number),
+            Flaw::Symbol => PlaceFault::NoSymbol(number),
+            Flaw::Memory => PlaceFault::PastMemory(number),
+            Flaw::Order => PlaceFault::Backwards(number),
         }
     }
 }

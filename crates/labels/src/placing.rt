@@ -45,7 +45,7 @@ fn place_word<A: Allocator, S: Allocator + Copy>(
             cells.push_to(out)?;
             Ok(())
         }
-        Err(lack) => Err(lack.on_line(number)),
+        Err(flaw) => Err(flaw.on_line(number)),
     }
 }
 
@@ -206,9 +206,9 @@ fn place_lines<A: Allocator, S: Allocator + Copy>(
 ) -> Result<(), PlaceFault>
     requires { before + length_behind behind ≤ 65536 }
     ensures placed { OnOk result (prefixed out.old.items
-        (placed_lines own.now.entries (before + 1) (lines_behind behind)) ≡ Ok out.new.items) }
+        (placed_lines own.now.entries (before + 1) (lines_behind behind.entry)) ≡ Ok out.new.items) }
     ensures refused { IfErr result
-        (IsPlaceFault (placed_lines own.now.entries (before + 1) (lines_behind behind))) }
+        (IsPlaceFault (placed_lines own.now.entries (before + 1) (lines_behind behind.entry))) }
 {
     let mut rest = behind;
     let mut number = before;

@@ -3,7 +3,7 @@
 
 use crate::files::{open_input, open_output};
 use crate::joined::{open_input_if, tell_to};
-use crate::numbering::{Promise, Read, read_all};
+use crate::numbering::{Prepared, Promise, read_all};
 use crate::saving::{save_answer, save_proposed};
 use crate::telling::tell_with;
 use command_line::{Destination, Sourced, Task, WatchedSession};
@@ -273,7 +273,7 @@ fn tell_within<R: Eprint>(
     declaration: &[u8],
 ) -> Status {
     let mut text = String::new(alloc);
-    if let Some(name) = names.first() {
+    if let Some(name) = names.first().copied() {
         let file = FaultyFile {
             name,
             bytes: declaration,
@@ -297,8 +297,8 @@ pub fn answer_sourced<R: Files + Input + Print + Eprint>(
 ) -> Result<Status, Fault> {
     let explained = sourced.task.is_explained();
     match read_all(rt, alloc, sourced)? {
-        Read::Told(status) => Ok(status),
-        Read::Program {
+        Prepared::Told(status) => Ok(status),
+        Prepared::Program {
             numbered,
             declaration,
             promise,

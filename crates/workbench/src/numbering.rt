@@ -32,7 +32,7 @@ pub enum Promise {
 
 /// A source and its declaration, as they were read.
 #[derive(Drop)]
-pub enum Read {
+pub enum Prepared {
     /// They are refused, which has been told, and this is the status.
     Told(Status),
     /// They are good.
@@ -234,30 +234,30 @@ pub fn read_all<R: Files + Input + Eprint>(
     rt: &R,
     alloc: Global,
     sourced: &Sourced<'_>,
-) -> Result<Read, Fault> {
+) -> Result<Prepared, Fault> {
     let mut parts = Vec::new(alloc);
     if let Err(fault) = read_parts(rt, alloc, &sourced.sources, &mut parts) {
         if !sourced.task.is_explained() {
             return Err(fault);
         }
         let name = unopened(&sourced.sources, parts.len());
-        return Ok(Read::Told(tell_of(rt, fault, name, "can't be opened or read")));
+        return Ok(Prepared::Told(tell_of(rt, fault, name, "can't be opened or read")));
     }
     let slices = lend(alloc, &parts)?;
     let given = given_declaration(rt, alloc, sourced, &slices)?;
     if is_asked_twice(&sourced.task, given.promise) {
-        return Ok(Read::Told(tell_asked(rt)));
+        return Ok(Prepared::Told(tell_asked(rt)));
     }
     match number(alloc, &slices, &given.text) {
         Ok(numbered) => {
             let Given { text, promise } = given;
-            Ok(Read::Program {
+            Ok(Prepared::Program {
                 numbered,
                 declaration: text,
                 promise,
             })
         }
-        Err(fault) => Ok(Read::Told(tell_refused(
+        Err(fault) => Ok(Prepared::Told(tell_refused(
             rt, alloc, fault, sourced, &slices, &given,
         ))),
     }

@@ -276,7 +276,10 @@ pub(crate) fn share_standard_input(names: &[&str]) -> bool {
 }
 
 /// The names of a source's parts.
-pub(crate) fn source_names<'a>(alloc: Global, found: &ArgMatches<'a>) -> Result<Vec<&'a str>, Refused> {
+pub(crate) fn source_names<'a>(
+    alloc: Global,
+    found: &ArgMatches<'a>,
+) -> Result<Vec<&'a str>, Refused> {
     let mut names = Vec::new(alloc);
     // With -o the first operand is a part of the source too.
     if found.get_str("output").is_some() {

@@ -211,6 +211,7 @@ fn needed_out(found: &ArgMatches<'_>) -> Option<&'static str> {
     }
 }
 
+/// The request for whether the program of a source keeps its declaration.
 pub fn sourced_verify<'a>(alloc: Global, found: &ArgMatches<'a>) -> Result<Request<'a>, Refused> {
     let operands = operands_of(found, None)?;
     let declaration = operands.declaration;
@@ -229,6 +230,7 @@ pub fn sourced_verify<'a>(alloc: Global, found: &ArgMatches<'a>) -> Result<Reque
     }))
 }
 
+/// The request for the verdict on a certificate for a source.
 pub fn sourced_check<'a>(alloc: Global, found: &ArgMatches<'a>) -> Result<Request<'a>, Refused> {
     let operands = operands_of(found, Some("CERTIFICATE"))?;
     let certificate = operands.last.unwrap_or("-");
@@ -243,6 +245,7 @@ pub fn sourced_check<'a>(alloc: Global, found: &ArgMatches<'a>) -> Result<Reques
     }))
 }
 
+/// The request for the verdict on a run of a source.
 pub fn sourced_watch<'a>(alloc: Global, found: &ArgMatches<'a>) -> Result<Request<'a>, Refused> {
     if is_watched_with_operator(found) {
         let operands = operands_of(found, None)?;
@@ -268,6 +271,7 @@ pub fn sourced_watch<'a>(alloc: Global, found: &ArgMatches<'a>) -> Result<Reques
     }))
 }
 
+/// The request for a certificate for a source.
 pub fn sourced_guess<'a>(alloc: Global, found: &ArgMatches<'a>) -> Result<Request<'a>, Refused> {
     let operands = operands_of(found, needed_out(found))?;
     let declaration = operands.declaration;
@@ -296,6 +300,7 @@ fn search_output<'a>(
     result_of(found, operands.last, &inputs)
 }
 
+/// The request for a run that breaks the declaration of a source.
 pub fn sourced_refute<'a>(alloc: Global, found: &ArgMatches<'a>) -> Result<Request<'a>, Refused> {
     let operands = operands_of(found, needed_out(found))?;
     let declaration = operands.declaration;
@@ -311,6 +316,7 @@ pub fn sourced_refute<'a>(alloc: Global, found: &ArgMatches<'a>) -> Result<Reque
     }))
 }
 
+/// The request for the declaration of a source in numbers.
 pub fn place_request<'a>(alloc: Global, found: &ArgMatches<'a>) -> Result<Request<'a>, Refused> {
     let sources = source_names(alloc, found)?;
     let declaration = found.get_str("declaration");

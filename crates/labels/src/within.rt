@@ -83,7 +83,7 @@ fn push_part<A: Allocator, B: Allocator + Copy>(
 /// The declaration that stands within a source: for each line of the source a line, which has what
 /// follows the `/:` with which a comment begins, and is empty where there is no such comment. So a line
 /// has the number that it has in the source, counted on from part to part. What `$` or PAUSE ends isn't
-/// looked at, and neither is a part that has no form.
+/// looked at, and neither is a part that has no form. That is tested and not proved.
 ///
 /// # Errors
 ///

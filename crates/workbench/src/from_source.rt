@@ -1,6 +1,7 @@
 //! Commands that work on a source and its declaration in place of a tape. The source is assembled in
 //! memory and the declaration written in numbers; what is done then is done by the commands for tapes.
 
+use crate::faults::stuck_address;
 use crate::files::{open_input, open_output};
 use crate::joined::{open_input_if, tell_to};
 use crate::numbering::{Prepared, Promise, read_all};
@@ -14,9 +15,7 @@ use commands::guessing::guess;
 use commands::refuting::{RefuteOptions, refute};
 use commands::status::{Fault, Status};
 use commands::stuck::guess_or_explain;
-use commands::verifying::{
-    Answer, Lack, VerifyOptions, answer_status, verify, verify_proposed,
-};
+use commands::verifying::{Answer, Lack, VerifyOptions, answer_status, verify, verify_proposed};
 use commands::watched_session::watch_session;
 use commands::watching::watch;
 use fault_texts::{FaultyFile, push_fault, push_omissions};
@@ -27,8 +26,6 @@ use std::rt::Files;
 use streams::put;
 use streams::standard::{Reads, Writes};
 use word12::Word;
-
-use crate::faults::stuck_address;
 
 /// A tape in memory.
 fn frames_of(numbered: &Numbered<Global>) -> Reads<&[u8]>

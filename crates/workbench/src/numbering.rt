@@ -193,7 +193,15 @@ fn tell_refused<R: Eprint>(
     match fault {
         NumberingFault::Source(fault) => {
             let profile = labels::machine_of(&given.text);
-            tell_source(rt, alloc, fault, &sourced.sources, parts, profile, explained)
+            tell_source(
+                rt,
+                alloc,
+                fault,
+                &sourced.sources,
+                parts,
+                profile,
+                explained,
+            )
         }
         NumberingFault::EmptyImage => tell(rt, Fault::EmptyImage),
         NumberingFault::Placing(fault) => {
@@ -257,8 +265,6 @@ pub fn read_all<R: Files + Input + Eprint>(
                 promise,
             })
         }
-        Err(fault) => Ok(Prepared::Told(tell_refused(
-            rt, alloc, fault, sourced, &slices, &given,
-        ))),
+        Err(fault) => Ok(Prepared::Told(tell_refused(rt, alloc, fault, sourced, &slices, &given))),
     }
 }

@@ -1,7 +1,7 @@
 # Completions of pdp8 for bash.
 _pdp8() {
     local word=${COMP_WORDS[COMP_CWORD]} before=${COMP_WORDS[COMP_CWORD-1]} options=
-    local commands='verify assemble list source dump run watch check declare guess refute migrate help'
+    local commands='verify assemble list source dump run watch check declare guess refute place migrate help'
     if [ "$COMP_CWORD" -eq 1 ]; then
         COMPREPLY=($(compgen -W "$commands --help --version" -- "$word"))
         return
@@ -26,17 +26,18 @@ _pdp8() {
             COMPREPLY=($(compgen -W "$commands" -- "$word"))
             return
             ;;
-        verify) options='--start --profile --steps --seed --save --why --help' ;;
+        verify) options='--source --start --profile --steps --seed --save --why --help' ;;
         assemble) options='--output --profile --why --help' ;;
         list) options='--profile --why --help' ;;
         source) options='--output --start --declaration --profile --why --help' ;;
         dump) options='--profile --why --help' ;;
         run) options='--start --steps --trace --profile --events --reader --punch --keys --mark --teletype --switches --why --help' ;;
-        watch) options='--reader --keys --mark --switches --steps --why --help' ;;
-        check) options='--why --help' ;;
-        guess) options='--output --why --help' ;;
-        refute) options='--output --steps --seed --why --help' ;;
+        watch) options='--source --reader --keys --mark --switches --steps --why --help' ;;
+        check) options='--source --why --help' ;;
+        guess) options='--output --source --why --help' ;;
+        refute) options='--output --source --steps --seed --why --help' ;;
         declare) options='--output --start --reads --profile --why --help' ;;
+        place) options='--output --declaration --why --help' ;;
         migrate) options='--output --why --help' ;;
     esac
     if [[ $word == -* ]]; then

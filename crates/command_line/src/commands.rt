@@ -27,11 +27,46 @@ const TAPE: Argument = Argument {
     help: "the tape, or - for standard input",
 };
 
-const DECLARATION: Argument = Argument {
+const TAPE_OR_SOURCE: Argument = Argument {
+    name: "TAPE",
+    short: None,
+    form: Form::OperandOrSource,
+    help: "the tape, or - for standard input; left out beside --source",
+};
+
+const DECLARED: Argument = Argument {
     name: "DECLARATION",
     short: None,
+    form: Form::OperandOrSource,
+    help: "the declaration, or - for standard input; beside --source it may be left out",
+};
+
+const CLAIMED: Argument = Argument {
+    name: "CERTIFICATE",
+    short: None,
+    form: Form::OperandOrSource,
+    help: "the certificate, or - for standard input",
+};
+
+const PARTS: Argument = Argument {
+    name: "source",
+    short: None,
+    form: Form::Values("SOURCE"),
+    help: "a part of the source that is assembled in place of the tape; once for each part",
+};
+
+const PLACED_OUT: Argument = Argument {
+    name: "OUT",
+    short: None,
     form: Form::Operand,
-    help: "the declaration, or - for standard input",
+    help: "where the declaration goes, or - for standard output; it is emptied first. With -o it is the first part of the source",
+};
+
+const LABELLED: Argument = Argument {
+    name: "declaration",
+    short: None,
+    form: Form::Value("FILE"),
+    help: "the declaration with the symbols of the source, or - for standard input; without it its lines in the source",
 };
 
 const CERTIFICATE: Argument = Argument {
@@ -104,10 +139,17 @@ const CERTIFICATE_OUT: Argument = Argument {
     help: "where the certificate goes, or - for standard output; it is emptied first",
 };
 
+const GUESSED_OUT: Argument = Argument {
+    name: "OUT",
+    short: None,
+    form: Form::ResultOrSource,
+    help: "where the certificate goes, or - for standard output; it is emptied first",
+};
+
 const EVENTS_OUT: Argument = Argument {
     name: "OUT",
     short: None,
-    form: Form::ResultOperand,
+    form: Form::ResultOrSource,
     help: "where the events go, or - for standard output; it is emptied first",
 };
 
@@ -265,9 +307,10 @@ const WHY_INPUT: Argument = Argument {
     help: "where an input is refused, writes what is wrong with it",
 };
 
-static VERIFY_ARGUMENTS: [Argument; 8] = [
-    TAPE,
+static VERIFY_ARGUMENTS: [Argument; 9] = [
+    TAPE_OR_SOURCE,
     PROPOSED,
+    PARTS,
     START,
     PROFILE,
     SEARCH_STEPS,
@@ -308,10 +351,11 @@ static SOURCE_ARGUMENTS: [Argument; 7] = [
     WHY_INPUT,
 ];
 
-static WATCH_ARGUMENTS: [Argument; 9] = [
-    TAPE,
-    DECLARATION,
+static WATCH_ARGUMENTS: [Argument; 10] = [
+    TAPE_OR_SOURCE,
+    DECLARED,
     EVENTS,
+    PARTS,
     READER,
     KEYS,
     MARK,
@@ -320,7 +364,7 @@ static WATCH_ARGUMENTS: [Argument; 9] = [
     WHY_BROKEN,
 ];
 
-static CHECK_ARGUMENTS: [Argument; 4] = [TAPE, DECLARATION, CERTIFICATE, WHY_CHECK];
+static CHECK_ARGUMENTS: [Argument; 5] = [TAPE_OR_SOURCE, DECLARED, CLAIMED, PARTS, WHY_CHECK];
 
 static DECLARE_ARGUMENTS: [Argument; 7] = [
     TAPE,
@@ -332,23 +376,33 @@ static DECLARE_ARGUMENTS: [Argument; 7] = [
     WHY_INPUT,
 ];
 
-static GUESS_ARGUMENTS: [Argument; 5] = [TAPE, DECLARATION, CERTIFICATE_OUT, OUTPUT, WHY_GUESS];
+static GUESS_ARGUMENTS: [Argument; 6] = [
+    TAPE_OR_SOURCE,
+    DECLARED,
+    GUESSED_OUT,
+    OUTPUT,
+    PARTS,
+    WHY_GUESS,
+];
 
-static REFUTE_ARGUMENTS: [Argument; 7] = [
-    TAPE,
-    DECLARATION,
+static REFUTE_ARGUMENTS: [Argument; 8] = [
+    TAPE_OR_SOURCE,
+    DECLARED,
     EVENTS_OUT,
     OUTPUT,
+    PARTS,
     SEARCH_STEPS,
     SEED,
     WHY_BROKEN,
 ];
 
+static PLACE_ARGUMENTS: [Argument; 5] = [PLACED_OUT, OTHER_SOURCES, OUTPUT, LABELLED, WHY_SOURCE];
+
 static MIGRATE_ARGUMENTS: [Argument; 4] = [CERTIFICATE, CERTIFICATE_OUT, OUTPUT, WHY_INPUT];
 
 static VERIFY: Entry = Entry {
     name: "verify",
-    usage: None,
+    usage: Some("pdp8 verify [OPTIONS] <TAPE> [DECLARATION]"),
     about: "Says whether a program keeps its declaration: yes, no or not known",
     after_help: "Without DECLARATION one is proposed for the start and the machine that --start and --profile name; with one they are its own.\n\nExample:\n  pdp8 verify hello.bin hello.declaration",
 };
@@ -390,14 +444,14 @@ static SOURCE_OF_TAPE: Entry = Entry {
 
 static WATCH: Entry = Entry {
     name: "watch",
-    usage: None,
+    usage: Some("pdp8 watch [OPTIONS] <TAPE> <DECLARATION> [EVENTS]"),
     about: "Writes whether a run keeps its declaration, or where it first breaks which rule",
     after_help: "Example:\n  pdp8 watch hello.bin hello.declaration hello.events",
 };
 
 static CHECK: Entry = Entry {
     name: "check",
-    usage: None,
+    usage: Some("pdp8 check [OPTIONS] <TAPE> <DECLARATION> <CERTIFICATE>"),
     about: "Writes whether a certificate shows that no run breaks its declaration",
     after_help: "Example:\n  pdp8 check hello.bin hello.declaration hello.certificate --why",
 };
@@ -421,6 +475,13 @@ static REFUTE: Entry = Entry {
     usage: Some("pdp8 refute [OPTIONS] <TAPE> <DECLARATION> [-o] <OUT>"),
     about: "Looks for a run that breaks a declaration, and writes its events",
     after_help: "The operand OUT is emptied before an input is read, and stays empty where nothing is found. The same seed gives the same answer.\n\nExample:\n  pdp8 refute hello.bin hello.declaration -o found.events --why",
+};
+
+static PLACE: Entry = Entry {
+    name: "place",
+    usage: Some("pdp8 place [OPTIONS] [-o] <OUT> <SOURCE>..."),
+    about: "Writes a declaration in numbers, whose addresses are symbols of a source",
+    after_help: "Without -o OUT comes first, and is emptied before a source is read, also where the source is refused.\n\nExample:\n  pdp8 place -o hello.declaration hello.pal",
 };
 
 static MIGRATE: Entry = Entry {
@@ -449,5 +510,6 @@ pub(crate) fn command<'a>(alloc: Global) -> Result<Command<'a>, AllocError> {
     let program = with_entry(alloc, program, &DECLARE, &DECLARE_ARGUMENTS)?;
     let program = with_entry(alloc, program, &GUESS, &GUESS_ARGUMENTS)?;
     let program = with_entry(alloc, program, &REFUTE, &REFUTE_ARGUMENTS)?;
+    let program = with_entry(alloc, program, &PLACE, &PLACE_ARGUMENTS)?;
     with_entry(alloc, program, &MIGRATE, &MIGRATE_ARGUMENTS)
 }

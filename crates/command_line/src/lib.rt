@@ -6,9 +6,11 @@ mod names;
 mod operator;
 mod outputs;
 mod requests;
+mod sourced;
 mod table;
 
 pub use names::FileNames;
 pub use operator::{Joined, Session, WatchedSession};
 pub use outputs::Destination;
 pub use requests::{CommandLine, Refused, Request, parse_arguments};
+pub use sourced::{Sourced, Task};

@@ -23,7 +23,7 @@ pub struct FileNames<'a> {
 
 impl<'a> FileNames<'a> {
     /// No names.
-    const NONE: FileNames<'static> = FileNames {
+    pub(crate) const NONE: FileNames<'static> = FileNames {
         tape: None,
         declaration: None,
         certificate: None,
@@ -71,6 +71,7 @@ impl<'a> Request<'a> {
                 ..none
             },
             Request::List { .. } => none,
+            Request::Sourced(sourced) => sourced.names(),
             Request::Source {
                 tape,
                 declaration,

@@ -5,6 +5,10 @@ use crate::operator::{
     Session, WatchedSession, has_operator, is_watched_with_operator, session_of, watched_session_of,
 };
 use crate::outputs::{Destination, destination_of};
+use crate::sourced::{
+    Sourced, has_source, place_request, sourced_check, sourced_guess, sourced_refute,
+    sourced_verify, sourced_watch,
+};
 use clap::error::ErrorKind;
 use clap::{ArgMatches, Error};
 use instruct::Profile;
@@ -159,6 +163,8 @@ pub enum Request<'a> {
         /// How the answer is looked for.
         options: VerifyOptions,
     },
+    /// To work on a source and its declaration.
+    Sourced(Sourced<'a>),
 }
 
 /// Why nothing is done.
@@ -178,6 +184,10 @@ pub enum Refused {
     ListAndOperator,
     /// There is a declaration, and a start or a machine too.
     DeclarationAndStart,
+    /// There is a source, and a tape or another operand too many.
+    TapeAndSource,
+    /// The operand of this name is missing.
+    NoOperand(&'static str),
     /// The punch is to go to standard output.
     PunchToOutput,
     /// The value of `--steps` is no number from 1 to this one.
@@ -266,7 +276,10 @@ pub(crate) fn share_standard_input(names: &[&str]) -> bool {
 }
 
 /// The names of a source's parts.
-fn source_names<'a>(alloc: Global, found: &ArgMatches<'a>) -> Result<Vec<&'a str>, Refused> {
+pub(crate) fn source_names<'a>(
+    alloc: Global,
+    found: &ArgMatches<'a>,
+) -> Result<Vec<&'a str>, Refused> {
     let mut names = Vec::new(alloc);
     // With -o the first operand is a part of the source too.
     if found.get_str("output").is_some() {
@@ -379,7 +392,7 @@ fn guess_request<'a>(found: &ArgMatches<'a>) -> Result<Request<'a>, Refused> {
 }
 
 /// How a run that breaks a declaration is looked for.
-fn refute_options(found: &ArgMatches<'_>) -> Result<RefuteOptions, Refused> {
+pub(crate) fn refute_options(found: &ArgMatches<'_>) -> Result<RefuteOptions, Refused> {
     let steps = match found.get_str("steps") {
         None => SEARCH_STEPS,
         Some(text) => {
@@ -399,6 +412,15 @@ fn refute_options(found: &ArgMatches<'_>) -> Result<RefuteOptions, Refused> {
     })
 }
 
+/// How it is found out whether a program keeps its declaration.
+pub(crate) fn verify_options(found: &ArgMatches<'_>) -> Result<VerifyOptions, Refused> {
+    Ok(VerifyOptions {
+        start: start_of(found)?,
+        profile: profile_of(found)?,
+        search: refute_options(found)?,
+    })
+}
+
 fn verify_request<'a>(found: &ArgMatches<'a>) -> Result<Request<'a>, Refused> {
     let tape = found.get_str("TAPE").unwrap_or("-");
     let declaration = found.get_str("DECLARATION");
@@ -413,11 +435,7 @@ fn verify_request<'a>(found: &ArgMatches<'a>) -> Result<Request<'a>, Refused> {
         tape,
         declaration,
         save: found.get_str("save"),
-        options: VerifyOptions {
-            start: start_of(found)?,
-            profile: profile_of(found)?,
-            search: refute_options(found)?,
-        },
+        options: verify_options(found)?,
     })
 }
 
@@ -452,12 +470,30 @@ pub struct CommandLine<'a> {
     pub explained: bool,
 }
 
+/// The request of a command that has `--source`.
+fn sourced_request<'a>(
+    alloc: Global,
+    command: &str,
+    found: &ArgMatches<'a>,
+) -> Result<Request<'a>, Refused> {
+    match command {
+        "verify" => sourced_verify(alloc, found),
+        "watch" => sourced_watch(alloc, found),
+        "guess" => sourced_guess(alloc, found),
+        "refute" => sourced_refute(alloc, found),
+        _ => sourced_check(alloc, found),
+    }
+}
+
 /// The request of a command with what was found behind it.
 fn request_of<'a>(
     alloc: Global,
     command: &str,
     found: &ArgMatches<'a>,
 ) -> Result<Request<'a>, Refused> {
+    if has_source(found) {
+        return sourced_request(alloc, command, found);
+    }
     match command {
         "dump" => Ok(Request::Dump {
             tape: found.get_str("TAPE").unwrap_or("-"),
@@ -473,6 +509,7 @@ fn request_of<'a>(
         "refute" => refute_request(found),
         "verify" => verify_request(found),
         "migrate" => migrate_request(found),
+        "place" => place_request(alloc, found),
         _ => run_request(found),
     }
 }

@@ -3,18 +3,23 @@
 use clap::{Arg, ArgAction, Command};
 use std::alloc::{AllocError, Global};
 
-/// The options for an operator, which stand in place of a list of events where a run is watched.
-const OPERATOR: [&str; 5] = ["reader", "keys", "mark", "switches", "steps"];
+/// The options for an operator, which stand in place of a list of events where a run is watched,
+/// and `--source`, beside which the operands are counted later.
+const NO_EVENTS: [&str; 6] = ["reader", "keys", "mark", "switches", "steps", "source"];
 
 /// How an argument is given.
 #[derive(Clone, Copy)]
 pub(crate) enum Form {
     /// An operand.
     Operand,
+    /// An operand, of which `--source` may take the place.
+    OperandOrSource,
     /// An operand that may be left out.
     OptionalOperand,
     /// The operand OUT, which is left out where `-o` is used.
     ResultOperand,
+    /// The operand OUT of a command that has `--source`.
+    ResultOrSource,
     /// The operand EVENTS, which is left out where an option for an operator is used.
     EventsOperand,
     /// One operand or more.
@@ -25,6 +30,8 @@ pub(crate) enum Form {
     Flag,
     /// An option with a value, which help calls so.
     Value(&'static str),
+    /// An option with a value that may be given several times.
+    Values(&'static str),
 }
 
 /// An argument of a command.
@@ -68,17 +75,27 @@ impl Argument {
         let operand = Arg::new(alloc, self.name);
         let argument = match self.form {
             Form::Operand => operand.required(true),
+            Form::OperandOrSource => operand.required_unless_present("source")?,
             Form::OptionalOperand => operand,
             Form::ResultOperand => {
                 operand
                     .required_unless_present("output")?
                     .conflicts_with("output")?
             }
-            Form::EventsOperand => operand.required_unless_present_any(&OPERATOR)?,
+            Form::ResultOrSource => {
+                operand
+                    .required_unless_present_any(&["output", "source"])?
+                    .conflicts_with("output")?
+            }
+            Form::EventsOperand => operand.required_unless_present_any(&NO_EVENTS)?,
             Form::Operands => operand.required(true).num_args(1..),
             Form::OtherOperands => operand.required_unless_present("output")?.num_args(1..),
             Form::Flag => self.option(alloc).action(ArgAction::SetTrue),
             Form::Value(name) => self.option(alloc).value_name(name),
+            Form::Values(name) => self
+                .option(alloc)
+                .value_name(name)
+                .action(ArgAction::Append),
         };
         Ok(argument.help(self.help))
     }

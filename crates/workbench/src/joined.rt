@@ -59,7 +59,7 @@ pub fn tell_to<'r, R: Eprint>(rt: &'r R) -> Writes<Teller<'r, R>>
 }
 
 /// Opens an input that may be left out, and then gives no byte.
-fn open_input_if<R: Files + Input>(
+pub(crate) fn open_input_if<R: Files + Input>(
     rt: &R,
     name: Option<&str>,
 ) -> Result<Reads<Either<Either<R::Reader, R::File>, &'static [u8]>>, Fault>

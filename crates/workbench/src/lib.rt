@@ -4,7 +4,9 @@
 
 mod faults;
 mod files;
+mod from_source;
 mod joined;
+mod numbering;
 mod program;
 mod saving;
 mod sources;

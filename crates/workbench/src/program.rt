@@ -4,6 +4,7 @@ ghost use Rattle.std.specs.Prelude.{◌≤◌};
 
 use crate::faults::{fault_lines, omissions, stuck_address};
 use crate::files::{open_input, open_output};
+use crate::from_source::answer_sourced;
 use crate::joined::{hold_session, tell_to, watch_joined};
 use crate::saving::{save_answer, save_proposed};
 use crate::sources::{assemble_to, list_from};
@@ -98,6 +99,10 @@ fn refuse<R: Print + Eprint>(rt: &R, refused: Refused) -> Status {
         Refused::DeclarationAndStart => eprintln!(rt;
             "error: a declaration has its own start and machine: '--start' and '--profile' can't stand beside it"
         ),
+        Refused::TapeAndSource => eprintln!(rt;
+            "error: '--source' stands in place of TAPE: there is an operand too many"
+        ),
+        Refused::NoOperand(name) => eprintln!(rt; "error: the operand {name} is missing"),
         Refused::PunchToOutput => eprintln!(rt; "error: '--punch' takes the name of a file"),
         Refused::Steps(most) => eprintln!(rt;
             "error: bad value for '--steps': it is a number from 1 to {most}"
@@ -195,6 +200,7 @@ fn answer<R: Files + Input + Print + Eprint>(
             save,
             options,
         } => verify_from(rt, alloc, tape, *declaration, *save, options),
+        Request::Sourced(sourced) => answer_sourced(rt, alloc, sourced),
         Request::Migrate { certificate, out } => migrate_from(rt, alloc, certificate, *out),
     }
 }

@@ -7,6 +7,7 @@ use commands::assembling::{assemble, list};
 use commands::status::{DeviceFault, Fault, Status};
 use instruct::Profile;
 use pal_asm::PalFault;
+use source_texts::push_faults;
 use std::alloc::Global;
 use std::io;
 use std::rt::Files;
@@ -24,7 +25,7 @@ fn output_name<'n>(name: &'n str) -> &'n str {
 }
 
 /// The name of the part that can't be opened, behind so many that are open.
-fn unopened<'n>(names: &'n [&'n str], opened: usize) -> &'n str {
+pub(crate) fn unopened<'n>(names: &'n [&'n str], opened: usize) -> &'n str {
     match names.get(opened) {
         Some(name) => input_name(name),
         None => "a source",
@@ -45,7 +46,7 @@ fn unread<'n, S: ByteSource>(names: &'n [&'n str], parts: &[S]) -> &'n str {
 }
 
 /// Writes the line of a fault to standard error, and below it, where a device failed, of which file.
-fn tell_of<R: Eprint>(rt: &R, fault: Fault, name: &str, happened: &str) -> Status {
+pub(crate) fn tell_of<R: Eprint>(rt: &R, fault: Fault, name: &str, happened: &str) -> Status {
     let status = tell(rt, fault);
     if status != Status::Device {
         return status;
@@ -69,6 +70,29 @@ fn tell_size<R: Eprint>(rt: &R, fault: PalFault, names: &[&str]) -> Status {
     };
     match told {
         Ok(()) | Err(_) => status,
+    }
+}
+
+/// Writes the line of a source's fault to standard error, and below it what is wrong, if that is asked
+/// for.
+pub fn tell_source<R: Eprint>(
+    rt: &R,
+    alloc: Global,
+    fault: PalFault,
+    names: &[&str],
+    parts: &[&[u8]],
+    profile: Profile,
+    explained: bool,
+) -> Status {
+    if !explained {
+        return tell(rt, Fault::Source(fault));
+    }
+    if fault.line == 0 {
+        return tell_size(rt, fault, names);
+    }
+    let mut told = String::new(alloc);
+    match push_faults(alloc, &mut told, names, parts, profile) {
+        Ok(()) | Err(_) => tell_with(rt, Fault::Source(fault), &told),
     }
 }
 

@@ -1,0 +1,337 @@
+//! Commands that work on a source, with `--source` in place of a tape.
+
+use crate::names::FileNames;
+use crate::operator::{WatchedSession, is_watched_with_operator, watched_session_of};
+use crate::outputs::{Destination, destination_of};
+use crate::requests::{
+    Refused, Request, refute_options, share_standard_input, source_names, verify_options,
+};
+use clap::ArgMatches;
+use options::{RefuteOptions, VerifyOptions};
+use std::alloc::Global;
+
+/// What a command does with a source and its declaration.
+#[derive(Drop, Debug)]
+pub struct Sourced<'a> {
+    /// The names of the files of the parts, in order.
+    pub sources: Vec<&'a str>,
+    /// The name of the declaration's file; without one the lines within the source are the declaration.
+    pub declaration: Option<&'a str>,
+    /// What is done.
+    pub task: Task<'a>,
+}
+
+/// What is done with a source and its declaration.
+#[derive(Clone, Copy, Debug)]
+pub enum Task<'a> {
+    /// To say whether the program keeps its declaration.
+    Verify {
+        /// What the names of the files begin with to which goes what is found.
+        save: Option<&'a str>,
+        /// How the answer is looked for.
+        options: VerifyOptions,
+        /// Whether a start or a machine is named.
+        asked: bool,
+    },
+    /// To check a certificate.
+    Check {
+        /// The name of the certificate's file.
+        certificate: &'a str,
+        /// Whether it is said why the verdict is no.
+        explained: bool,
+    },
+    /// To watch a run.
+    Watch {
+        /// The name of the file of events.
+        events: &'a str,
+        /// Whether it is said what breaks a rule.
+        explained: bool,
+    },
+    /// To watch a run with an operator. The names of the tape and of the declaration are empty.
+    WatchSession(WatchedSession<'a>),
+    /// To guess a certificate.
+    Guess {
+        /// Where the certificate goes.
+        out: Destination<'a>,
+        /// Whether it is said why the search is stuck.
+        explained: bool,
+    },
+    /// To look for a run that breaks the declaration.
+    Refute {
+        /// Where the events go.
+        out: Destination<'a>,
+        /// How it is looked for.
+        options: RefuteOptions,
+    },
+    /// To write the declaration in numbers.
+    Place {
+        /// Where it goes.
+        out: Destination<'a>,
+        /// Whether it is said what is wrong with a source that is refused.
+        explained: bool,
+    },
+}
+
+impl<'a> Sourced<'a> {
+    /// The names of the files, apart from the parts of the source.
+    pub(crate) fn names(&self) -> FileNames<'a> {
+        let none = FileNames {
+            declaration: self.declaration,
+            ..FileNames::NONE
+        };
+        match &self.task {
+            Task::Check { certificate, .. } => FileNames {
+                certificate: Some(certificate),
+                ..none
+            },
+            Task::Watch { events, .. } => FileNames {
+                events: Some(events),
+                ..none
+            },
+            Task::WatchSession(session) => FileNames {
+                reader: session.reader,
+                keys: session.keys,
+                ..none
+            },
+            Task::Guess { out, .. } | Task::Refute { out, .. } | Task::Place { out, .. } => {
+                FileNames {
+                    output: Some(out.name()),
+                    ..none
+                }
+            }
+            Task::Verify { .. } => none,
+        }
+    }
+}
+
+impl<'a> Task<'a> {
+    /// Whether more is said than the line of a fault.
+    pub fn is_explained(&self) -> bool {
+        match self {
+            Task::Verify { options, .. } => options.search.explained,
+            Task::Check { explained, .. }
+            | Task::Watch { explained, .. }
+            | Task::Guess { explained, .. }
+            | Task::Place { explained, .. } => *explained,
+            Task::WatchSession(session) => session.explained,
+            Task::Refute { options, .. } => options.explained,
+        }
+    }
+}
+
+/// Whether a command has a source in place of a tape.
+pub fn has_source(found: &ArgMatches<'_>) -> bool {
+    found.get_strs("source").is_some()
+}
+
+/// The operands that stand behind a source, in order: a declaration, if there is one, and the last one, if
+/// the command needs it.
+#[derive(Clone, Copy)]
+struct Operands<'a> {
+    declaration: Option<&'a str>,
+    last: Option<&'a str>,
+}
+
+/// The operands of a command, which clap has taken for those of a tape: the last of so many that are
+/// needed is that of this name.
+fn operands_of<'a>(
+    found: &ArgMatches<'a>,
+    needed: Option<&'static str>,
+) -> Result<Operands<'a>, Refused> {
+    let third = ["CERTIFICATE", "EVENTS", "OUT"]
+        .iter()
+        .any(|name| found.get_str(name).is_some());
+    if third {
+        return Err(Refused::TapeAndSource);
+    }
+    let (first, second) = (found.get_str("TAPE"), found.get_str("DECLARATION"));
+    let Some(name) = needed else {
+        if second.is_some() {
+            return Err(Refused::TapeAndSource);
+        }
+        return Ok(Operands {
+            declaration: first,
+            last: None,
+        });
+    };
+    match (first, second) {
+        (Some(_), Some(_)) => Ok(Operands {
+            declaration: first,
+            last: second,
+        }),
+        (Some(_), None) => Ok(Operands {
+            declaration: None,
+            last: first,
+        }),
+        _ => Err(Refused::NoOperand(name)),
+    }
+}
+
+/// The names of the parts of a source that `--source` gives. Only one of them and of these other inputs is
+/// standard input.
+fn parts_of<'a>(
+    alloc: Global,
+    found: &ArgMatches<'a>,
+    others: &[&'a str],
+) -> Result<Vec<&'a str>, Refused> {
+    let mut names = Vec::new(alloc);
+    names.extend_from_slice(found.get_strs("source").unwrap_or(&[]))?;
+    let mut inputs = Vec::new(alloc);
+    inputs.extend_from_slice(&names)?;
+    inputs.extend_from_slice(others)?;
+    if share_standard_input(&inputs) {
+        return Err(Refused::BothStandardInput);
+    }
+    Ok(names)
+}
+
+/// Where the result of a search goes: the value of `-o`, else the last operand. It is no input.
+fn result_of<'a>(
+    found: &ArgMatches<'a>,
+    last: Option<&'a str>,
+    inputs: &[&str],
+) -> Result<Destination<'a>, Refused> {
+    let out = match last {
+        Some(name) => Destination::EmptiedFirst(name),
+        None => Destination::MadeLast(found.get_str("output").unwrap_or("-")),
+    };
+    let name = out.name();
+    if name != "-" && inputs.iter().any(|input| **input == *name) {
+        return Err(Refused::OutputIsInput);
+    }
+    Ok(out)
+}
+
+/// The last operand that a search needs: OUT, unless `-o` stands in its place.
+fn needed_out(found: &ArgMatches<'_>) -> Option<&'static str> {
+    if found.get_str("output").is_some() {
+        None
+    } else {
+        Some("OUT")
+    }
+}
+
+/// The request for whether the program of a source keeps its declaration.
+pub fn sourced_verify<'a>(alloc: Global, found: &ArgMatches<'a>) -> Result<Request<'a>, Refused> {
+    let operands = operands_of(found, None)?;
+    let declaration = operands.declaration;
+    let asked = found.get_str("start").is_some() || found.get_str("profile").is_some();
+    if declaration.is_some() && asked {
+        return Err(Refused::DeclarationAndStart);
+    }
+    Ok(Request::Sourced(Sourced {
+        sources: parts_of(alloc, found, &[declaration.unwrap_or("")])?,
+        declaration,
+        task: Task::Verify {
+            save: found.get_str("save"),
+            options: verify_options(found)?,
+            asked,
+        },
+    }))
+}
+
+/// The request for the verdict on a certificate for a source.
+pub fn sourced_check<'a>(alloc: Global, found: &ArgMatches<'a>) -> Result<Request<'a>, Refused> {
+    let operands = operands_of(found, Some("CERTIFICATE"))?;
+    let certificate = operands.last.unwrap_or("-");
+    let declaration = operands.declaration;
+    Ok(Request::Sourced(Sourced {
+        sources: parts_of(alloc, found, &[declaration.unwrap_or(""), certificate])?,
+        declaration,
+        task: Task::Check {
+            certificate,
+            explained: found.get_flag("why"),
+        },
+    }))
+}
+
+/// The request for the verdict on a run of a source.
+pub fn sourced_watch<'a>(alloc: Global, found: &ArgMatches<'a>) -> Result<Request<'a>, Refused> {
+    if is_watched_with_operator(found) {
+        let operands = operands_of(found, None)?;
+        let declaration = operands.declaration;
+        let session = watched_session_of("", "", found)?;
+        let (reader, keys) = (session.reader.unwrap_or(""), session.keys.unwrap_or(""));
+        return Ok(Request::Sourced(Sourced {
+            sources: parts_of(alloc, found, &[declaration.unwrap_or(""), reader, keys])?,
+            declaration,
+            task: Task::WatchSession(session),
+        }));
+    }
+    let operands = operands_of(found, Some("EVENTS"))?;
+    let events = operands.last.unwrap_or("-");
+    let declaration = operands.declaration;
+    Ok(Request::Sourced(Sourced {
+        sources: parts_of(alloc, found, &[declaration.unwrap_or(""), events])?,
+        declaration,
+        task: Task::Watch {
+            events,
+            explained: found.get_flag("why"),
+        },
+    }))
+}
+
+/// The request for a certificate for a source.
+pub fn sourced_guess<'a>(alloc: Global, found: &ArgMatches<'a>) -> Result<Request<'a>, Refused> {
+    let operands = operands_of(found, needed_out(found))?;
+    let declaration = operands.declaration;
+    let sources = parts_of(alloc, found, &[declaration.unwrap_or("")])?;
+    let out = search_output(alloc, found, operands, &sources)?;
+    Ok(Request::Sourced(Sourced {
+        sources,
+        declaration,
+        task: Task::Guess {
+            out,
+            explained: found.get_flag("why"),
+        },
+    }))
+}
+
+/// Where the result of a search goes, which is none of its inputs.
+fn search_output<'a>(
+    alloc: Global,
+    found: &ArgMatches<'a>,
+    operands: Operands<'a>,
+    sources: &[&'a str],
+) -> Result<Destination<'a>, Refused> {
+    let mut inputs = Vec::new(alloc);
+    inputs.extend_from_slice(sources)?;
+    inputs.extend_from_slice(&[operands.declaration.unwrap_or("-")])?;
+    result_of(found, operands.last, &inputs)
+}
+
+/// The request for a run that breaks the declaration of a source.
+pub fn sourced_refute<'a>(alloc: Global, found: &ArgMatches<'a>) -> Result<Request<'a>, Refused> {
+    let operands = operands_of(found, needed_out(found))?;
+    let declaration = operands.declaration;
+    let sources = parts_of(alloc, found, &[declaration.unwrap_or("")])?;
+    let out = search_output(alloc, found, operands, &sources)?;
+    Ok(Request::Sourced(Sourced {
+        sources,
+        declaration,
+        task: Task::Refute {
+            out,
+            options: refute_options(found)?,
+        },
+    }))
+}
+
+/// The request for the declaration of a source in numbers.
+pub fn place_request<'a>(alloc: Global, found: &ArgMatches<'a>) -> Result<Request<'a>, Refused> {
+    let sources = source_names(alloc, found)?;
+    let declaration = found.get_str("declaration");
+    let mut inputs = Vec::new(alloc);
+    inputs.extend_from_slice(&sources)?;
+    inputs.extend_from_slice(&[declaration.unwrap_or("")])?;
+    if share_standard_input(&inputs) {
+        return Err(Refused::BothStandardInput);
+    }
+    Ok(Request::Sourced(Sourced {
+        task: Task::Place {
+            out: destination_of(found, &inputs)?,
+            explained: found.get_flag("why"),
+        },
+        sources,
+        declaration,
+    }))
+}

@@ -1,0 +1,4 @@
+pub mod Addresses
+pub mod Lines
+pub mod Programs
+pub mod Within

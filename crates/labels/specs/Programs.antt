@@ -1,0 +1,60 @@
+-- A source and its declaration as a tape and a declaration in numbers.
+use Rattle.std.specs.Prelude.{ℕ, ◌≡◌, List, Option, Ok, Err}
+use Rattle.instruct.specs.declared.Profile.{Profile}
+use Rattle.bin_tape.specs.Image.{IsEmptyImage}
+use Rattle.bin_tape.specs.Tape.{IsTape}
+use Rattle.pal_text.specs.declared.names.Name.{Name}
+use Rattle.pal_acts.specs.Permanent.{permanent_symbols}
+use Rattle.pal_asm.specs.Sources.{Means, IsFault}
+use Rattle.labels.specs.Lines.{placed_text, IsPlaceFault}
+use Rattle.labels.specs.Within.{machine}
+use Rattle.labels.specs.declared.fault.PlaceFault.{PlaceFault}
+use Rattle.labels.specs.declared.program.NumberingFault.{NumberingFault}
+use Rattle.labels.specs.declared.program.NumberingFault.TheVariants.{Source, EmptyImage, Placing}
+use Rattle.labels.specs.declared.program.NumberingFault.TheVariants as fault
+
+-- These parts mean these symbols and this image, on the machine that the declaration names.
+pub record MeansFor (parts : List (List ℕ)) (declaration : List ℕ) (symbols : List (Name × ℕ)) (image : List (Option ℕ)) : Type 0 where
+  pub means : Means (permanent_symbols (machine declaration)) parts symbols image
+
+-- The tape is that of the image that the parts mean, and the declaration in numbers is what it means by their symbols.
+pub record IsNumbered (parts : List (List ℕ)) (declaration tape numbers : List ℕ) : Type 0 where
+  pub symbols : List (Name × ℕ)
+  pub image : List (Option ℕ)
+  pub source : MeansFor parts declaration symbols image
+  pub reads_back : IsTape tape image
+  pub placed : placed_text symbols declaration ≡ Ok numbers
+
+-- The parts mean an image without a word.
+pub record MeansNoWord (parts : List (List ℕ)) (declaration : List ℕ) : Type 0 where
+  pub symbols : List (Name × ℕ)
+  pub image : List (Option ℕ)
+  pub source : MeansFor parts declaration symbols image
+  pub empty : IsEmptyImage image
+
+-- The declaration has no place in numbers by the symbols of the parts, with this fault.
+pub record IsUnplaced (parts : List (List ℕ)) (declaration : List ℕ) (fault : PlaceFault) : Type 0 where
+  pub symbols : List (Name × ℕ)
+  pub image : List (Option ℕ)
+  pub source : MeansFor parts declaration symbols image
+  pub is : placed_text symbols declaration ≡ Err fault
+
+-- Why there is no tape of an image: it has no word, or memory was refused.
+abbrev pub IsEmptyFault : List (Option ℕ) → NumberingFault → Type 0
+IsEmptyFault image EmptyImage = IsEmptyImage image
+IsEmptyFault image fault.NoMemory = Unit {0}
+IsEmptyFault image _ = ⊥
+
+-- Why parts mean nothing on a machine: their fault, or that memory was refused.
+abbrev pub IsSourceFault : Profile → List (List ℕ) → NumberingFault → Type 0
+IsSourceFault profile parts (Source fault) = IsFault (permanent_symbols profile) parts fault
+IsSourceFault profile parts fault.NoMemory = Unit {0}
+IsSourceFault profile parts _ = ⊥
+
+-- Why a source and its declaration are refused: the fault of the source; that it has no word; the fault of the declaration
+-- by its symbols; or that memory was refused.
+abbrev pub IsNumberingFault : List (List ℕ) → List ℕ → NumberingFault → Type 0
+IsNumberingFault parts declaration (Source fault) = IsFault (permanent_symbols (machine declaration)) parts fault
+IsNumberingFault parts declaration EmptyImage = MeansNoWord parts declaration
+IsNumberingFault parts declaration (Placing fault) = IsUnplaced parts declaration fault
+IsNumberingFault parts declaration fault.NoMemory = Unit {0}

@@ -1,0 +1,67 @@
+//! Why a declaration with symbols has none in numbers.
+
+ghost use Rattle.std.specs.Prelude.{◌≡◌};
+ghost use Rattle.labels.specs.Lines.{fault_at};
+
+use std::alloc::AllocError;
+use thiserror::Error;
+
+/// Why a declaration with symbols has none in numbers. The lines count from 1.
+#[derive(Clone, Copy, PartialEq, Eq, Debug, Error)]
+pub enum PlaceFault {
+    /// A word with a capital letter on this line is neither an address nor a range.
+    #[error("BadLine {0}")]
+    BadLine(usize),
+    /// The source doesn't define a symbol on this line.
+    #[error("NoSymbol {0}")]
+    NoSymbol(usize),
+    /// An address on this line is below 0000 or above 7777.
+    #[error("PastMemory {0}")]
+    PastMemory(usize),
+    /// A range on this line ends below its first address.
+    #[error("Backwards {0}")]
+    Backwards(usize),
+    /// The text has more than 16,384 bytes.
+    #[error("TooMany")]
+    TooMany,
+    /// Memory was refused.
+    #[error("NoMemory")]
+    NoMemory,
+}
+
+/// Why a word is no address and no range.
+#[derive(Clone, Copy, PartialEq, Eq, Debug)]
+pub enum Flaw {
+    /// It is neither an address nor a range.
+    Form,
+    /// The source doesn't define the symbol.
+    Symbol,
+    /// An address is below 0000 or above 7777.
+    Memory,
+    /// A range ends below its first address.
+    Order,
+}
+
+impl Flaw {
+    /// A flaw as the fault of a line.
+    pub(crate) fn on_line(self, number: usize) -> PlaceFault
+        ensures { result ≡ fault_at number self }
+    {
+        match self {
+            Flaw::Form => PlaceFault::BadLine(number),
+            Flaw::Symbol => PlaceFault::NoSymbol(number),
+            Flaw::Memory => PlaceFault::PastMemory(number),
+            Flaw::Order => PlaceFault::Backwards(number),
+        }
+    }
+}
+
+impl From<AllocError> for PlaceFault {
+    ghost use Rattle.labels.specs.declared.fault.PlaceFault.TheVariants.{NoMemory};
+
+    ghost from_gives = { λ _ result. result ≡ NoMemory };
+
+    fn from(_: AllocError) -> PlaceFault {
+        PlaceFault::NoMemory
+    }
+}

@@ -1,0 +1,14 @@
+//! Declarations with the symbols of a source: their places in numbers, and the lines of a declaration
+//! that stand within a source.
+#![tactic(auto)]
+
+pub mod address;
+pub mod fault;
+pub mod placing;
+pub mod program;
+pub mod within;
+
+pub use fault::PlaceFault;
+pub use placing::place;
+pub use program::{Numbered, NumberingFault, number};
+pub use within::{declared_lines, machine_of};

@@ -1,0 +1,131 @@
+//! A source and its declaration as a tape and a declaration in numbers.
+
+ghost use Rattle.std.specs.Prelude.{Some, IfOk, IfErr};
+ghost use Rattle.bin_tape.specs.Tape.{IsTape};
+ghost use Rattle.pal_acts.specs.Permanent.{permanent_symbols};
+ghost use Rattle.pal_asm.specs.Sources.{texts, Means};
+ghost use Rattle.pal_asm.specs.Programs.{symbols_in, image_in};
+ghost use Rattle.labels.specs.Within.{machine};
+ghost use Rattle.labels.specs.Programs.{IsEmptyFault, IsNumbered, IsNumberingFault, IsSourceFault};
+
+use crate::fault::PlaceFault;
+use crate::placing::place;
+use crate::within::machine_of;
+use bin_tape::{Image, WriteTapeFault, write_tape};
+use pal_asm::{AssembleFault, PalFault, Translation, translate};
+use std::alloc::Allocator;
+use streams::{ByteSink, Failed};
+
+/// A program's tape, and its declaration in numbers.
+#[derive(Drop)]
+pub struct Numbered<A: Allocator> {
+    /// The tape's frames.
+    pub tape: Vec<u8, A>,
+    /// The declaration's text.
+    pub declaration: Vec<u8, A>,
+}
+
+/// Why a source and its declaration are refused.
+#[derive(Clone, Copy, PartialEq, Eq, Debug)]
+pub enum NumberingFault {
+    /// The source has this fault.
+    Source(PalFault),
+    /// The source is assembled to no word, so there is no tape.
+    EmptyImage,
+    /// The declaration has this fault.
+    Placing(PlaceFault),
+    /// Memory was refused.
+    NoMemory,
+}
+
+/// Takes the frames of a tape, and fails where memory is refused.
+#[derive(Drop)]
+struct TapeSink<A: Allocator> {
+    frames: Vec<u8, A>,
+    failed: bool,
+}
+
+impl<A: Allocator> ByteSink for TapeSink<A> {
+    ghost taken = { λ sink. Some sink.frames.items };
+
+    ghost mark = { λ sink. sink.failed };
+
+    fn write(&mut self, piece: &[u8]) -> Result<usize, Failed> {
+        match self.frames.extend_from_slice(piece) {
+            Ok(()) => Ok(piece.len()),
+            Err(_) => {
+                self.failed = true;
+                Err(Failed)
+            }
+        }
+    }
+
+    fn failed(&self) -> bool {
+        self.failed
+    }
+}
+
+/// The tape of an image.
+fn tape_of<A: Allocator>(alloc: A, image: &Image) -> Result<Vec<u8, A>, NumberingFault>
+    ensures tape { IfOk result (λ tape. IsTape tape.items image.now) }
+    ensures refused { IfErr result (IsEmptyFault image.now) }
+{
+    let mut sink = TapeSink {
+        frames: Vec::new(alloc),
+        failed: false,
+    };
+    match write_tape(image, &mut sink) {
+        Ok(()) => {
+            let TapeSink { frames, .. } = sink;
+            Ok(frames)
+        }
+        Err(WriteTapeFault::EmptyImage) => Err(NumberingFault::EmptyImage),
+        Err(WriteTapeFault::WriteFault) => Err(NumberingFault::NoMemory),
+    }
+}
+
+/// What the parts of a source mean, for the machine that its declaration names.
+fn translation_of<A: Allocator + Copy>(
+    alloc: A,
+    parts: &[&[u8]],
+    declaration: &[u8],
+) -> Result<Translation<A>, NumberingFault>
+    ensures means { IfOk result (λ translation. Means
+        (permanent_symbols (machine declaration.now)) (texts parts.now)
+        (symbols_in translation) (image_in translation)) }
+    ensures refused { IfErr result (IsSourceFault (machine declaration.now) (texts parts.now)) }
+{
+    match translate(alloc, parts, machine_of(declaration)) {
+        Ok(translation) => Ok(translation),
+        Err(AssembleFault::Source(fault)) => Err(NumberingFault::Source(fault)),
+        Err(AssembleFault::NoMemory) => Err(NumberingFault::NoMemory),
+    }
+}
+
+/// The tape that a source means, and its declaration with the source's symbols in numbers. The source is
+/// assembled for the machine that the declaration names.
+///
+/// # Errors
+///
+/// `Source` with the one fault of the source; `EmptyImage` where it has no word; `Placing` with the fault
+/// of the declaration as it is placed, in this order; `NoMemory`.
+pub fn number<A: Allocator + Copy>(
+    alloc: A,
+    parts: &[&[u8]],
+    declaration: &[u8],
+) -> Result<Numbered<A>, NumberingFault>
+    // The tape is that of the image that the source means, and the declaration the one that its symbols
+    // place.
+    ensures numbered { IfOk result (λ numbered. IsNumbered (texts parts.now) declaration.now
+        numbered.tape.items numbered.declaration.items) }
+    // A fault is that of the source, or else of the declaration with the source's symbols.
+    ensures refused { IfErr result (IsNumberingFault (texts parts.now) declaration.now) }
+{
+    let translation = translation_of(alloc, parts, declaration)?;
+    let tape = tape_of(alloc, translation.image())?;
+    match place(alloc, declaration, translation.symbols()) {
+        Ok(declaration) => Ok(Numbered { tape, declaration }),
+        Err(PlaceFault::NoMemory) => Err(NumberingFault::NoMemory),
+        Err(fault) => Err(NumberingFault::Placing(fault)),
+    }
+}

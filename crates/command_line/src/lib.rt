@@ -5,10 +5,12 @@ mod commands;
 mod names;
 mod operator;
 mod outputs;
+mod reported;
 mod requests;
 mod table;
 
 pub use names::FileNames;
 pub use operator::{Joined, Session, WatchedSession};
 pub use outputs::Destination;
+pub use reported::Reported;
 pub use requests::{CommandLine, Refused, Request, parse_arguments};

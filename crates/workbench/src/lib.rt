@@ -6,6 +6,7 @@ mod faults;
 mod files;
 mod joined;
 mod program;
+mod reported;
 mod saving;
 mod sources;
 mod telling;

@@ -1,0 +1,318 @@
+//! The listing: a line for each address at which something stands, with what is known there.
+
+use crate::access::write_access;
+use crate::known::{write_fact, write_words};
+use crate::pen::Pen;
+use crate::report::{Kind, Report, before};
+use crate::routines::{write_exits, write_routine};
+use facts::Fact;
+use instruct::{Instruction, Operation, decode, name, refers_indirectly, target};
+use std::alloc::{AllocError, Allocator};
+use verdict_texts::verdict::condition_name;
+use word12::Word;
+
+/// In which column of plain text the items begin.
+const COLUMN: usize = 25;
+
+/// Writes the name of a word; that of a direct jump or call leads to where it goes.
+fn write_name<A: Allocator, B: Allocator, D: Allocator, C: Allocator>(
+    pen: &mut Pen<A>,
+    report: &Report<'_, B, D, C>,
+    at: Word,
+    word: Word,
+) -> Result<(), AllocError> {
+    let profile = report.declaration.profile();
+    let found = name(word, profile);
+    let length = found.as_str().len();
+    let jumps = matches!(Operation::of(word), Operation::Jmp | Operation::Jms);
+    let is_memory = matches!(decode(word, profile), Instruction::Memory);
+    let linked = is_memory && jumps && !refers_indirectly(word);
+    if linked {
+        pen.mark(b"<a href=#a")?;
+        pen.mark(&target(word, at).to_octal())?;
+        pen.mark(b">")?;
+    }
+    pen.say(found.as_str().as_bytes())?;
+    pen.begin_items(if length < 14 { 15 - length } else { 2 });
+    if linked { pen.mark(b"</a>") } else { Ok(()) }
+}
+
+/// Writes address, word and name.
+fn write_word<A: Allocator, B: Allocator, D: Allocator, C: Allocator>(
+    pen: &mut Pen<A>,
+    report: &Report<'_, B, D, C>,
+    at: Word,
+) -> Result<(), AllocError> {
+    pen.mark(b"<tr")?;
+    if report.is_refused_at(at) {
+        pen.mark(b" class=bad")?;
+    }
+    pen.mark(b" id=a")?;
+    pen.mark(&at.to_octal())?;
+    pen.mark(b"><td>")?;
+    pen.word(at)?;
+    pen.put(b" ")?;
+    pen.mark(b"<td>")?;
+    match report.image.get(at) {
+        None => {
+            pen.put(b"----")?;
+            pen.mark(b"<td>")?;
+            pen.begin_items(COLUMN - 9);
+            Ok(())
+        }
+        Some(word) => {
+            pen.word(word)?;
+            pen.put(b" ")?;
+            pen.mark(b"<td>")?;
+            write_name(pen, report, at, word)
+        }
+    }
+}
+
+/// Writes what is declared of an address.
+fn write_declared<A: Allocator, B: Allocator, D: Allocator, C: Allocator>(
+    pen: &mut Pen<A>,
+    report: &Report<'_, B, D, C>,
+    at: Word,
+) -> Result<(), AllocError> {
+    let declaration = report.declaration;
+    if declaration.start() == at {
+        pen.item(b"start")?;
+    }
+    if declaration.is_stop(at) {
+        pen.item(b"stop")?;
+    }
+    if declaration.is_pause(at) {
+        pen.item(b"pause")?;
+    }
+    if declaration.is_entry(at) {
+        pen.item(b"entry")?;
+    }
+    Ok(())
+}
+
+/// Writes which words a variable may hold, and where nothing is known of it.
+pub(crate) fn write_variable<A: Allocator, B: Allocator, D: Allocator, C: Allocator>(
+    pen: &mut Pen<A>,
+    report: &Report<'_, B, D, C>,
+    cell: Word,
+) -> Result<(), AllocError> {
+    let Some(held) = report.held_in(cell) else {
+        return pen.item(b"any word");
+    };
+    pen.item(b"variable")?;
+    write_words(pen, &held.words)?;
+    let unknown = report.facts.minus(&held.known_at);
+    if unknown.is_empty() {
+        return Ok(());
+    }
+    pen.item(b"any word at ")?;
+    pen.places(&unknown)
+}
+
+/// Writes what is known at an address with a fact, and what the instruction does.
+fn write_known<A: Allocator, B: Allocator, D: Allocator, C: Allocator>(
+    pen: &mut Pen<A>,
+    report: &Report<'_, B, D, C>,
+    kind: Kind,
+    fact: &Fact,
+    above: Option<&Fact>,
+    at: Word,
+) -> Result<(), AllocError> {
+    write_fact(pen, fact, above)?;
+    write_access(pen, report, kind, fact, at)
+}
+
+/// Writes what is told of an address without a fact.
+fn write_unknown<A: Allocator, B: Allocator, D: Allocator, C: Allocator>(
+    pen: &mut Pen<A>,
+    report: &Report<'_, B, D, C>,
+    kind: Kind,
+    at: Word,
+) -> Result<(), AllocError> {
+    match kind {
+        Kind::Main | Kind::Routine(_) => match report.verdict {
+            Ok(()) => pen.item(b"never reached"),
+            Err(_) => pen.item(b"no fact"),
+        },
+        Kind::Variable => write_variable(pen, report, at),
+        Kind::Entry | Kind::Other | Kind::Unset => Ok(()),
+    }
+}
+
+/// Writes the mark of the address at which the verdict is no.
+fn write_refused<A: Allocator, B: Allocator, D: Allocator, C: Allocator>(
+    pen: &mut Pen<A>,
+    report: &Report<'_, B, D, C>,
+    at: Word,
+) -> Result<(), AllocError> {
+    let Err(refusal) = report.verdict else {
+        return Ok(());
+    };
+    if refusal.address != at {
+        return Ok(());
+    }
+    pen.mark(b"<b>")?;
+    pen.item(b"HERE ")?;
+    pen.say(condition_name(refusal.condition).as_bytes())?;
+    pen.put(b" FAILS")?;
+    pen.mark(b"</b>")
+}
+
+/// Facts to read what is claimed into: that at an address, and that above it.
+#[derive(Drop)]
+struct Desk {
+    fact: Fact,
+    above: Fact,
+}
+
+/// Writes what is known and done at an address with a fact.
+fn write_with_fact<A: Allocator, B: Allocator, D: Allocator, C: Allocator>(
+    pen: &mut Pen<A>,
+    report: &Report<'_, B, D, C>,
+    desk: &mut Desk,
+    at: Word,
+) -> Result<(), AllocError> {
+    let kind = report.kind_of(at);
+    if !report.certificate.fact_into(at, &mut desk.fact) {
+        return write_unknown(pen, report, kind, at);
+    }
+    let is_near = at != Word::ZERO && report.kind_of(before(at)) == kind;
+    if is_near && report.certificate.fact_into(before(at), &mut desk.above) {
+        return write_known(pen, report, kind, &desk.fact, Some(&desk.above), at);
+    }
+    write_known(pen, report, kind, &desk.fact, None, at)
+}
+
+/// Writes the line of an address.
+fn write_line<A: Allocator, B: Allocator, D: Allocator, C: Allocator>(
+    pen: &mut Pen<A>,
+    report: &Report<'_, B, D, C>,
+    desk: &mut Desk,
+    at: Word,
+) -> Result<(), AllocError> {
+    write_word(pen, report, at)?;
+    pen.mark(b"<td>")?;
+    write_declared(pen, report, at)?;
+    write_with_fact(pen, report, desk, at)?;
+    write_refused(pen, report, at)?;
+    pen.put(b"\n")
+}
+
+/// The last address of the row of variables that begins at one, of which nothing is said.
+fn last_quiet<B: Allocator, D: Allocator, C: Allocator>(
+    report: &Report<'_, B, D, C>,
+    first: Word,
+) -> Word {
+    let mut last = first;
+    for index in first.index()..4096 {
+        let at = Word::from_index(index);
+        if !report.is_quiet(at) {
+            return last;
+        }
+        last = at;
+    }
+    last
+}
+
+/// Writes the line of a row of variables of which nothing is said.
+fn write_quiet<A: Allocator, B: Allocator, D: Allocator, C: Allocator>(
+    pen: &mut Pen<A>,
+    report: &Report<'_, B, D, C>,
+    first: Word,
+) -> Result<(), AllocError> {
+    pen.mark(b"<tr id=a")?;
+    pen.mark(&first.to_octal())?;
+    pen.mark(b"><td colspan=3>")?;
+    let last = last_quiet(report, first);
+    pen.run(first, last, false)?;
+    pen.mark(b"<td>")?;
+    pen.begin_items(if first == last {
+        COLUMN - 4
+    } else {
+        COLUMN - 9
+    });
+    pen.item(b"any word\n")
+}
+
+/// Writes the heading of lines of a kind; that of a routine with what is claimed of it.
+fn write_heading<A: Allocator, B: Allocator, D: Allocator, C: Allocator>(
+    pen: &mut Pen<A>,
+    report: &Report<'_, B, D, C>,
+    kind: Kind,
+    at: Word,
+) -> Result<(), AllocError> {
+    pen.put(b"\n")?;
+    pen.mark(b"<tr><th colspan=4>")?;
+    match kind {
+        Kind::Main => pen.put(b"main\n"),
+        Kind::Variable => pen.put(b"variables\n"),
+        Kind::Other => pen.put(b"other words of the tape\n"),
+        Kind::Unset => pen.put(b"nothing is declared here\n"),
+        Kind::Routine(entry) => {
+            pen.put(b"body of routine ")?;
+            pen.word(entry)?;
+            pen.put(b"\n")
+        }
+        Kind::Entry => {
+            for routine in report.declaration.routines() {
+                if routine.entry() == at {
+                    write_routine(pen, report, routine)?;
+                }
+            }
+            pen.put(b"\n")?;
+            write_exits(pen, report, at)
+        }
+    }
+}
+
+/// Whether lines of a kind need a heading where the line before is of another: those of a routine's
+/// body need none below its entry.
+fn needs_heading(kind: Kind, last: Option<(Kind, Word)>) -> bool {
+    let Some((above, at)) = last else {
+        return true;
+    };
+    match kind {
+        Kind::Entry => true,
+        Kind::Routine(entry) => above != kind && !(above == Kind::Entry && at == entry),
+        Kind::Main | Kind::Variable | Kind::Other | Kind::Unset => above != kind,
+    }
+}
+
+/// Writes the line of an address or of the row of variables that begins there.
+fn write_at<A: Allocator, B: Allocator, D: Allocator, C: Allocator>(
+    pen: &mut Pen<A>,
+    report: &Report<'_, B, D, C>,
+    desk: &mut Desk,
+    at: Word,
+) -> Result<(), AllocError> {
+    if report.is_quiet(at) {
+        write_quiet(pen, report, at)
+    } else {
+        write_line(pen, report, desk, at)
+    }
+}
+
+/// Writes the listing.
+pub(crate) fn push_listing<A: Allocator, B: Allocator, D: Allocator, C: Allocator>(
+    pen: &mut Pen<A>,
+    report: &Report<'_, B, D, C>,
+) -> Result<(), AllocError> {
+    let mut desk = Desk {
+        fact: Fact::any(),
+        above: Fact::any(),
+    };
+    let mut last = None;
+    for index in 0..4096 {
+        let at = Word::from_index(index);
+        if report.has_line(at) {
+            let kind = report.kind_of(at);
+            if needs_heading(kind, last) {
+                write_heading(pen, report, kind, at)?;
+            }
+            write_at(pen, report, &mut desk, at)?;
+            last = Some((kind, at));
+        }
+    }
+    Ok(())
+}

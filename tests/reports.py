@@ -7,6 +7,8 @@ usage: tests/reports.py PDP8 [NAME..]             compares the examples, and the
 What is known, read, written, called and returned to is worked out by reference/. Of the program only the names of words
 are taken, from `dump`, and what stands above the listing, from `check` and `check --why`.
 """
+import html
+import re
 import subprocess
 import sys
 import tempfile
@@ -158,7 +160,7 @@ class Report:
             return ["any word"]
         words, places = self.known[cell]
         unknown = sets.of(set(self.certificate.facts) - places)
-        return ["variable " + holds(words)] + (["any word at " + shown(unknown)] if unknown else [])
+        return ["holds " + ("any word" if words == sets.ALL else shown(words))] + (["any word at " + shown(unknown)] if unknown else [])
 
     def heading(self, at, last):
         kind, owner = self.kind(at)
@@ -195,7 +197,9 @@ class Report:
                         end += 1
                     lines.append(line_of(f"{at:04o}" if at == end else f"{at:04o}-{end:04o}", ["any word"]))
                 else:
-                    word = f"{self.image[at]:04o} {self.names[at]}" if at in self.image else "----"
+                    word = f"{self.image[at]:04o}" if at in self.image else "----"
+                    if at in self.image and (kind[0] == "body" or at in self.certificate.facts):
+                        word += " " + self.names[at]
                     lines.append(line_of(f"{at:04o} {word}", self.items(at)))
                 at = end
             at += 1
@@ -229,6 +233,31 @@ def wanted(pdp8, tape, declaration, certificate):
     return front + Report(image, declared, claims, names, refused).listing()
 
 
+def faults_of_page(page, text):
+    """What is wrong with a page beside the same report as text: its listing without what is grey is the text's."""
+    names, places = re.findall(r"href=#(\w+)", page), re.findall(r" id=(\w+)", page)
+    if len(set(places)) < len(places) or set(names) - set(places):
+        yield f"links: {sorted(set(names) - set(places))}, twice {sorted(it for it in set(places) if places.count(it) > 1)}"
+    if re.search(r"<script|<link|<img|src=|https?:", page):
+        yield "it isn't by itself"
+    heading = re.search(r"<h1>(.*)\n</h1>", page)[1]
+    if heading != text.splitlines()[0]:
+        yield f"verdict: {heading}"
+    rows = []
+    for row in page.partition("<h2 id=listing>")[2].partition("<table>")[2].partition("</table>")[0].splitlines():
+        row = re.sub(r"<i>.*?</i>(; )?", "", row)
+        rows.append(" ".join(html.unescape(re.sub(r"<[^>]*>", " ", row)).replace(" - ", "-").split()).strip("; "))
+    listing = text.partition("\n\n")[2].splitlines()
+    for wanted, found in zip([it for it in listing if it] + ["(end)"], [it for it in rows if it] + ["(end)"]):
+        if squeezed(wanted) != squeezed(found):
+            yield f"{wanted}\n  {found}"
+            return
+
+
+def squeezed(line):
+    return re.sub(r"[\s;]+", "", line)
+
+
 def examples(pdp8, names, room):
     """Each example and its variant: a name, the tape, the declaration and the certificate."""
     for source in sorted((ROOT / "examples").glob("*.pal")):
@@ -255,6 +284,9 @@ def main():
                 cases.append((name, declaration.name, certificate.name, want))
                 continue
             found = ran(pdp8, "report", tape, declaration, certificate, "-", "--text")
+            for fault in faults_of_page(ran(pdp8, "report", tape, declaration, certificate, "-"), found):
+                wrong += 1
+                print(f"{name}, page: {fault}")
             if found != want:
                 wrong += 1
                 pairs = zip(want.splitlines() + ["(end)"], found.splitlines() + ["(end)"])

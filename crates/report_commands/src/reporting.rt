@@ -25,7 +25,7 @@ use std::alloc::{AllocError, Allocator};
 use streams::{ByteSink, ByteSource, put};
 use verdict_texts::certificates::certificate_from;
 use verdict_texts::reason_text::push_why;
-use verdict_texts::verdict::{verdict_line, verdict_status};
+use verdict_texts::verdict::{condition_name, verdict_line, verdict_status};
 
 /// Why a verdict is no, as lines; of a yes there are none.
 fn why_lines<A: Allocator, D: Allocator, C: Allocator>(
@@ -54,7 +54,18 @@ fn below<A: Allocator + Copy, D: Allocator, C: Allocator>(
     form: Form,
 ) -> Result<Vec<u8, A>, AllocError> {
     let mut lines = why_lines(alloc, image, declaration, certificate, verdict)?;
-    let report = report_texts::Report::new(alloc, image, declaration, certificate, verdict)?;
+    let failing = match verdict {
+        Ok(()) => "",
+        Err(refusal) => condition_name(refusal.condition),
+    };
+    let report = report_texts::Report::new(
+        alloc,
+        image,
+        declaration,
+        certificate,
+        verdict,
+        failing,
+    )?;
     match form {
         Form::Page => page_below(alloc, &report, &lines),
         Form::Text => {

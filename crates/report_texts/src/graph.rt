@@ -250,7 +250,7 @@ fn write_drawing<A: Allocator, B: Allocator, D: Allocator, C: Allocator>(
     pen.put(b" viewBox=\"0 0 ")?;
     pen.number(width)?;
     pen.put(b" ")?;
-    pen.number(rows(spots) * DOWN)?;
+    pen.number(rows(spots) * DOWN - 30)?;
     pen.put(b"\">\n")?;
     for (place, routine) in report.declaration.routines().iter().enumerate() {
         write_lines(pen, report, spots, place, routine)?;

@@ -15,7 +15,7 @@ fn write_name<A: Allocator>(pen: &mut Pen<A>, name: &Name) -> Result<(), AllocEr
 }
 
 /// Writes which words something may hold.
-pub(crate) fn write_words<A: Allocator>(pen: &mut Pen<A>, set: &WordSet) -> Result<(), AllocError> {
+fn write_words<A: Allocator>(pen: &mut Pen<A>, set: &WordSet) -> Result<(), AllocError> {
     if set.is_all() {
         return pen.put(b" any");
     }

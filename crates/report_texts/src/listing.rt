@@ -1,15 +1,15 @@
 //! The listing: a line for each address at which something stands, with what is known there.
 
 use crate::access::write_access;
-use crate::known::{write_fact, write_words};
+use crate::known::write_fact;
 use crate::pen::Pen;
 use crate::report::{Kind, Report, before};
 use crate::routines::{write_exits, write_routine};
 use facts::Fact;
 use instruct::{Instruction, Operation, decode, name, refers_indirectly, target};
 use std::alloc::{AllocError, Allocator};
-use verdict_texts::verdict::condition_name;
 use word12::Word;
+use wordset::WordSet;
 
 /// In which column of plain text the items begin.
 const COLUMN: usize = 25;
@@ -37,7 +37,7 @@ fn write_name<A: Allocator, B: Allocator, D: Allocator, C: Allocator>(
     if linked { pen.mark(b"</a>") } else { Ok(()) }
 }
 
-/// Writes address, word and name.
+/// Writes address and word, and the name of an instruction.
 fn write_word<A: Allocator, B: Allocator, D: Allocator, C: Allocator>(
     pen: &mut Pen<A>,
     report: &Report<'_, B, D, C>,
@@ -62,9 +62,14 @@ fn write_word<A: Allocator, B: Allocator, D: Allocator, C: Allocator>(
         }
         Some(word) => {
             pen.word(word)?;
-            pen.put(b" ")?;
-            pen.mark(b"<td>")?;
-            write_name(pen, report, at, word)
+            pen.mark(b"<td class=c>")?;
+            pen.begin_items(COLUMN - 9);
+            if report.is_code(at) {
+                pen.put(b" ")?;
+                write_name(pen, report, at, word)
+            } else {
+                Ok(())
+            }
         }
     }
 }
@@ -91,6 +96,15 @@ fn write_declared<A: Allocator, B: Allocator, D: Allocator, C: Allocator>(
     Ok(())
 }
 
+/// Writes which words a variable may hold wherever something is known of it.
+fn write_held<A: Allocator>(pen: &mut Pen<A>, words: &WordSet) -> Result<(), AllocError> {
+    if words.is_all() {
+        return pen.item(b"holds any word");
+    }
+    pen.item(b"holds ")?;
+    pen.words(words)
+}
+
 /// Writes which words a variable may hold, and where nothing is known of it.
 pub(crate) fn write_variable<A: Allocator, B: Allocator, D: Allocator, C: Allocator>(
     pen: &mut Pen<A>,
@@ -100,8 +114,7 @@ pub(crate) fn write_variable<A: Allocator, B: Allocator, D: Allocator, C: Alloca
     let Some(held) = report.held_in(cell) else {
         return pen.item(b"any word");
     };
-    pen.item(b"variable")?;
-    write_words(pen, &held.words)?;
+    write_held(pen, &held.words)?;
     let unknown = report.facts.minus(&held.known_at);
     if unknown.is_empty() {
         return Ok(());
@@ -154,7 +167,7 @@ fn write_refused<A: Allocator, B: Allocator, D: Allocator, C: Allocator>(
     }
     pen.mark(b"<b>")?;
     pen.item(b"HERE ")?;
-    pen.say(condition_name(refusal.condition).as_bytes())?;
+    pen.say(report.failing.as_bytes())?;
     pen.put(b" FAILS")?;
     pen.mark(b"</b>")
 }

@@ -130,7 +130,12 @@ fn write_title<A: Allocator, B: Allocator, D: Allocator, C: Allocator>(
 ) -> Result<(), AllocError> {
     pen.put(b"<title>")?;
     pen.word(at)?;
-    if let Some(word) = report.image.get(at) {
+    let word = if report.is_code(at) {
+        report.image.get(at)
+    } else {
+        None
+    };
+    if let Some(word) = word {
         pen.put(b" ")?;
         pen.say(name(word, report.declaration.profile()).as_str().as_bytes())?;
     }

@@ -52,19 +52,19 @@ fn write_cells<A: Allocator, D: Allocator>(
 ) -> Result<(), AllocError> {
     write_point(
         pen,
-        b"it writes no cells but its variables: ",
+        b"only these cells are written, the variables: ",
         declaration.variables(),
     )?;
     write_point(
         pen,
-        b"and, when a JMS calls a routine or an ISZ skips over arguments, the entries: ",
+        b"and the entries, by the JMS that calls the routine or by its ISZ that skips an argument: ",
         &entries_of(declaration),
     )?;
     match declaration.reads() {
-        None => pen.put(b"<li>what it reads is free: the declaration has no list of reads\n"),
+        None => pen.put(b"<li>any cell may be read: the declaration has no list of reads\n"),
         Some(cells) => write_point(
             pen,
-            b"it reads no cells but these, and the entry of the routine that runs: ",
+            b"only these cells are read, and the entry of the routine that runs: ",
             cells,
         ),
     }
@@ -78,7 +78,7 @@ fn write_points<A: Allocator, D: Allocator>(
     pen.put(b"<ul>\n")?;
     write_point(
         pen,
-        b"it executes no cells but those of its bodies: ",
+        b"only these cells are executed: ",
         &bodies_of(declaration),
     )?;
     write_cells(pen, declaration)?;
@@ -87,12 +87,12 @@ fn write_points<A: Allocator, D: Allocator>(
     )?;
     write_point(
         pen,
-        b"it halts for good, if at all, at no cell but these: ",
-        declaration.stops(),
+        b"it halts, if at all, only at: ",
+        &declaration.stops().union(declaration.pauses()),
     )?;
     write_point(
         pen,
-        b"it halts and may be continued, if at all, at no cell but these: ",
+        b"of these CONTINUE may be pressed only at: ",
         declaration.pauses(),
     )?;
     pen.put(b"</ul>\n")

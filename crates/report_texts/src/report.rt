@@ -34,6 +34,8 @@ pub struct Report<'a, A: Allocator, D: Allocator, C: Allocator> {
     pub(crate) declaration: &'a Declaration<D>,
     pub(crate) certificate: &'a Certificate<C>,
     pub(crate) verdict: &'a Result<(), Refusal>,
+    /// The name of the condition that fails, where the verdict is no.
+    pub(crate) failing: &'a str,
     /// The addresses with a fact.
     pub(crate) facts: WordSet,
     /// What is known of variables.
@@ -66,7 +68,8 @@ pub(crate) fn claimed_of<C: Allocator>(certificate: &Certificate<C>, entry: Word
 }
 
 impl<'a, A: Allocator + Copy, D: Allocator, C: Allocator> Report<'a, A, D, C> {
-    /// The report of a certificate and of the verdict on it.
+    /// The report of a certificate and of the verdict on it, with the name of the condition that fails,
+    /// if one does.
     ///
     /// # Errors
     ///
@@ -77,6 +80,7 @@ impl<'a, A: Allocator + Copy, D: Allocator, C: Allocator> Report<'a, A, D, C> {
         declaration: &'a Declaration<D>,
         certificate: &'a Certificate<C>,
         verdict: &'a Result<(), Refusal>,
+        failing: &'a str,
     ) -> Result<Report<'a, A, D, C>, AllocError> {
         let facts = addresses(certificate);
         let held = held_of(alloc, declaration, certificate, &facts)?;
@@ -85,6 +89,7 @@ impl<'a, A: Allocator + Copy, D: Allocator, C: Allocator> Report<'a, A, D, C> {
             declaration,
             certificate,
             verdict,
+            failing,
             facts,
             held,
         })
@@ -137,7 +142,15 @@ impl<A: Allocator, D: Allocator, C: Allocator> Report<'_, A, D, C> {
         at == Word::ZERO || !self.is_quiet(at) || !self.is_quiet(before(at))
     }
 
-    /// The address at which the verdict is no.
+    /// Whether the word at an address is told as an instruction: in a body, or where there is a fact.
+    pub(crate) fn is_code(&self, at: Word) -> bool {
+        match self.kind_of(at) {
+            Kind::Main | Kind::Routine(_) => true,
+            Kind::Entry | Kind::Variable | Kind::Other | Kind::Unset => self.facts.contains(at),
+        }
+    }
+
+    /// Whether an address is that at which the verdict is no.
     pub(crate) fn is_refused_at(&self, at: Word) -> bool {
         match self.verdict {
             Ok(()) => false,

@@ -72,7 +72,7 @@ def of_fact(fact, above, offsets=True):
         if above is None or members != above.set_of(cell):
             items.append(f"{cell:04o} " + holds(members))
     for cell, members in sorted(above.cells.items() if above else []):
-        if fact.set_of(cell) == sets.ALL != members:
+        if cell not in fact.cells and members != sets.ALL:
             items.append(f"{cell:04o} any")
     known = set() if above is None else above.equations
     items += [f"{name_of(x)} = {y:04o} + {k:04o}" for x, y, k in sorted(fact.equations - known)]

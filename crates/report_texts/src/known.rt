@@ -1,7 +1,7 @@
 //! What is known at an address, item by item, and what of it is the same as on the line above.
 
 use crate::pen::Pen;
-use facts::{Equation, Fact, Name};
+use facts::{Equation, Fact, Name, TrackedCell, TrackedCells};
 use std::alloc::{AllocError, Allocator};
 use word12::{Link, Word};
 use wordset::{Links, WordSet};
@@ -86,23 +86,49 @@ fn write_registers<A: Allocator>(
     write_link(pen, fact.link(), fact.link() == above.link())
 }
 
-/// Whether a cell may hold the same words above.
-fn is_same_cell(above: Option<&Fact>, cell: Word, set: &WordSet) -> bool {
-    match above {
-        None => false,
-        Some(above) => above.set(&Name::Cell(cell)) == *set,
+/// The place of the first of the tracked cells from a place on that isn't before a cell, since they
+/// rise.
+fn place_from(cells: &TrackedCells, from: usize, cell: Word) -> usize {
+    for place in from..cells.len() {
+        if cells.get(place).cell >= cell {
+            return place;
+        }
     }
+    cells.len()
+}
+
+/// Whether the cell at a place is this one.
+fn is_at(cells: &TrackedCells, place: usize, cell: Word) -> bool {
+    place < cells.len() && cells.get(place).cell == cell
+}
+
+/// Whether the cell at a place is this one with these words; one that isn't tracked may hold any word.
+fn is_same_at(cells: &TrackedCells, place: usize, tracked: &TrackedCell) -> bool {
+    if place < cells.len() {
+        let other = cells.get(place);
+        if other.cell == tracked.cell {
+            return other.set == tracked.set;
+        }
+    }
+    tracked.set.is_all()
 }
 
 /// Writes the items on cells.
 fn write_cells<A: Allocator>(
     pen: &mut Pen<A>,
-    fact: &Fact,
+    cells: &TrackedCells,
     above: Option<&Fact>,
 ) -> Result<(), AllocError> {
-    for index in 0..fact.cells().len() {
-        let tracked = fact.cells().get(index);
-        let same = is_same_cell(above, tracked.cell, &tracked.set);
+    let mut place = 0usize;
+    for index in 0..cells.len() {
+        let tracked = cells.get(index);
+        let same = match above {
+            None => false,
+            Some(above) => {
+                place = place_from(above.cells(), place, tracked.cell);
+                is_same_at(above.cells(), place, &tracked)
+            }
+        };
         write_item(pen, &tracked.cell.to_octal(), &tracked.set, same)?;
     }
     Ok(())
@@ -111,14 +137,15 @@ fn write_cells<A: Allocator>(
 /// Writes an item on each cell of which nothing is known any more.
 fn write_lost_cells<A: Allocator>(
     pen: &mut Pen<A>,
-    fact: &Fact,
-    above: &Fact,
+    cells: &TrackedCells,
+    above: &TrackedCells,
 ) -> Result<(), AllocError> {
-    for index in 0..above.cells().len() {
-        let tracked = above.cells().get(index);
-        let now = fact.set(&Name::Cell(tracked.cell));
-        if now.is_all() && !tracked.set.is_all() {
-            write_item(pen, &tracked.cell.to_octal(), &now, false)?;
+    let mut place = 0usize;
+    for index in 0..above.len() {
+        let tracked = above.get(index);
+        place = place_from(cells, place, tracked.cell);
+        if !is_at(cells, place, tracked.cell) && !tracked.set.is_all() {
+            write_item(pen, &tracked.cell.to_octal(), &WordSet::all(), false)?;
         }
     }
     Ok(())
@@ -252,9 +279,9 @@ pub(crate) fn write_fact<A: Allocator>(
     above: Option<&Fact>,
 ) -> Result<(), AllocError> {
     write_registers(pen, fact, above)?;
-    write_cells(pen, fact, above)?;
+    write_cells(pen, fact.cells(), above)?;
     if let Some(above) = above {
-        write_lost_cells(pen, fact, above)?;
+        write_lost_cells(pen, fact.cells(), above.cells())?;
     }
     write_equations(pen, fact, above)?;
     if let Some(above) = above {
@@ -266,6 +293,6 @@ pub(crate) fn write_fact<A: Allocator>(
 /// Writes what holds after a return, in which the return word isn't spoken of.
 pub(crate) fn write_exit<A: Allocator>(pen: &mut Pen<A>, exit: &Fact) -> Result<(), AllocError> {
     write_registers(pen, exit, None)?;
-    write_cells(pen, exit, None)?;
+    write_cells(pen, exit.cells(), None)?;
     write_equations(pen, exit, None)
 }

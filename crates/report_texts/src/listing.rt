@@ -5,6 +5,7 @@ use crate::known::write_fact;
 use crate::pen::Pen;
 use crate::report::{Kind, Report, before};
 use crate::routines::{write_exits, write_routine};
+use certificate::Certificate;
 use facts::Fact;
 use instruct::{Instruction, Operation, decode, name, refers_indirectly, target};
 use std::alloc::{AllocError, Allocator};
@@ -172,11 +173,39 @@ fn write_refused<A: Allocator, B: Allocator, D: Allocator, C: Allocator>(
     pen.mark(b"</b>")
 }
 
-/// Facts to read what is claimed into: that at an address, and that above it.
+/// Facts to read what is claimed into: those at even and those at odd addresses, so that the one above
+/// an address mostly stands here already.
 #[derive(Drop)]
 struct Desk {
-    fact: Fact,
-    above: Fact,
+    even: Fact,
+    odd: Fact,
+    /// The address of the fact that was read last.
+    last: Option<Word>,
+}
+
+impl Desk {
+    /// Whether there is a fact at an address, which then stands here.
+    fn read<C: Allocator>(&mut self, certificate: &Certificate<C>, at: Word) -> bool {
+        let fact = if at.index() % 2 == 0 {
+            &mut self.even
+        } else {
+            &mut self.odd
+        };
+        if !certificate.fact_into(at, fact) {
+            return false;
+        }
+        self.last = Some(at);
+        true
+    }
+
+    /// The fact of an even or an odd address that was read last.
+    fn fact(&self, at: Word) -> &Fact {
+        if at.index() % 2 == 0 {
+            &self.even
+        } else {
+            &self.odd
+        }
+    }
 }
 
 /// Writes what is known and done at an address with a fact.
@@ -187,14 +216,18 @@ fn write_with_fact<A: Allocator, B: Allocator, D: Allocator, C: Allocator>(
     at: Word,
 ) -> Result<(), AllocError> {
     let kind = report.kind_of(at);
-    if !report.certificate.fact_into(at, &mut desk.fact) {
+    let near = at != Word::ZERO
+        && desk.last == Some(before(at))
+        && report.kind_of(before(at)) == kind;
+    if !desk.read(report.certificate, at) {
         return write_unknown(pen, report, kind, at);
     }
-    let is_near = at != Word::ZERO && report.kind_of(before(at)) == kind;
-    if is_near && report.certificate.fact_into(before(at), &mut desk.above) {
-        return write_known(pen, report, kind, &desk.fact, Some(&desk.above), at);
-    }
-    write_known(pen, report, kind, &desk.fact, None, at)
+    let above = if near {
+        Some(desk.fact(before(at)))
+    } else {
+        None
+    };
+    write_known(pen, report, kind, desk.fact(at), above, at)
 }
 
 /// Writes the line of an address.
@@ -312,8 +345,9 @@ pub(crate) fn push_listing<A: Allocator, B: Allocator, D: Allocator, C: Allocato
     report: &Report<'_, B, D, C>,
 ) -> Result<(), AllocError> {
     let mut desk = Desk {
-        fact: Fact::any(),
-        above: Fact::any(),
+        even: Fact::any(),
+        odd: Fact::any(),
+        last: None,
     };
     let mut last = None;
     for index in 0..4096 {

@@ -129,6 +129,7 @@ impl<A: Allocator> Pen<A> {
 
     /// Writes the words of a set by their runs, at most some of them; `-` where there is none.
     fn runs(&mut self, set: &WordSet, linked: bool) -> Result<(), AllocError> {
+        let others = WordSet::all().minus(set);
         let mut next = 0usize;
         for count in 0..MOST_RUNS {
             let Some(first) = set.first_from(next) else {
@@ -137,7 +138,7 @@ impl<A: Allocator> Pen<A> {
             if count > 0 {
                 self.put(b",")?;
             }
-            let last = last_of_run(set, first);
+            let last = last_before(&others, first);
             self.run(first, last, linked)?;
             next = last.index() + 1;
         }
@@ -211,26 +212,20 @@ impl<A: Allocator> Pen<A> {
     }
 }
 
-/// The last word of the run that begins with a word of a set.
-pub(crate) fn last_of_run(set: &WordSet, first: Word) -> Word {
-    let mut last = first;
-    for index in first.index()..4096 {
-        let word = Word::from_index(index);
-        if !set.contains(word) {
-            return last;
-        }
-        last = word;
+/// The last word before the first one from `first` on that others have: of a run, where the others are
+/// all that aren't in the set.
+fn last_before(others: &WordSet, first: Word) -> Word {
+    match others.first_from(first.index()) {
+        Some(next) => next.add(Word::from_index(4095)),
+        None => Word::from_index(4095),
     }
-    last
 }
 
 /// How many words from a number on a set has.
 fn count_from(set: &WordSet, from: usize) -> usize {
-    let mut count = 0usize;
-    for index in from..4096 {
-        if set.contains(Word::from_index(index)) {
-            count = count.saturating_add(1);
-        }
+    if from >= 4096 {
+        return 0;
     }
-    count
+    let rest = WordSet::range(Word::from_index(from), Word::from_index(4095));
+    set.meet(&rest).count()
 }

@@ -4,7 +4,7 @@ use crate::variables::{AllHeld, Held, held_of};
 use bin_tape::Image;
 use certificate::{Certificate, Routine};
 use declaration::{Declaration, Owner};
-use facts::{Fact, Place, Running};
+use facts::{Place, Running};
 use judge::Refusal;
 use std::alloc::{AllocError, Allocator};
 use word12::Word;
@@ -42,19 +42,6 @@ pub struct Report<'a, A: Allocator, D: Allocator, C: Allocator> {
     pub(crate) held: AllHeld<A>,
 }
 
-/// The addresses with a fact.
-fn addresses<C: Allocator>(certificate: &Certificate<C>) -> WordSet {
-    let mut found = WordSet::empty();
-    let mut fact = Fact::any();
-    for index in 0..4096 {
-        let at = Word::from_index(index);
-        if certificate.fact_into(at, &mut fact) {
-            found.insert(at);
-        }
-    }
-    found
-}
-
 /// What is claimed of a routine, or that it is called from nowhere and writes nothing.
 pub(crate) fn claimed_of<C: Allocator>(certificate: &Certificate<C>, entry: Word) -> Routine {
     match certificate.routine(entry) {
@@ -82,8 +69,8 @@ impl<'a, A: Allocator + Copy, D: Allocator, C: Allocator> Report<'a, A, D, C> {
         verdict: &'a Result<(), Refusal>,
         failing: &'a str,
     ) -> Result<Report<'a, A, D, C>, AllocError> {
-        let facts = addresses(certificate);
-        let held = held_of(alloc, declaration, certificate, &facts)?;
+        let mut facts = WordSet::empty();
+        let held = held_of(alloc, declaration, certificate, &mut facts)?;
         Ok(Report {
             image,
             declaration,

@@ -97,18 +97,19 @@ impl<A: Allocator> AllHeld<A> {
     }
 }
 
-/// What is known of variables at the addresses with a fact.
+/// What is known of variables, and the addresses with a fact, which are added to others.
 pub(crate) fn held_of<A: Allocator + Copy, D: Allocator, C: Allocator>(
     alloc: A,
     declaration: &Declaration<D>,
     certificate: &Certificate<C>,
-    facts: &WordSet,
+    facts: &mut WordSet,
 ) -> Result<AllHeld<A>, AllocError> {
     let mut held = AllHeld::new(alloc)?;
     let mut fact = Fact::any();
     for index in 0..4096 {
         let at = Word::from_index(index);
-        if facts.contains(at) && certificate.fact_into(at, &mut fact) {
+        if certificate.fact_into(at, &mut fact) {
+            facts.insert(at);
             held.add_fact(declaration, &fact, at)?;
         }
     }

@@ -138,10 +138,15 @@ fn access_of<D: Allocator>(
     words: &WordSet,
 ) -> Access {
     let mut access = Access::none();
-    let mut next = 0usize;
-    while let Some(word) = words.first_from(next) {
+    if let Some(word) = words.only() {
         access.add(place, routine, fact, at, word);
-        next = word.index() + 1;
+        return access;
+    }
+    for index in 0..4096 {
+        let word = Word::from_index(index);
+        if words.contains(word) {
+            access.add(place, routine, fact, at, word);
+        }
     }
     access
 }

@@ -1,6 +1,6 @@
 //! The routines as a graph: main above, and each routine below those that call it.
 
-use crate::map::{colour_of, place_of};
+use crate::map::colour_of;
 use crate::pen::Pen;
 use crate::report::{Report, claimed_of};
 use crate::routines::{write_offsets, write_written};
@@ -24,12 +24,12 @@ struct Spot {
 impl Spot {
     /// The middle of the box.
     fn middle(&self) -> usize {
-        self.column.min(4096) * ACROSS + 70
+        self.column.saturating_mul(ACROSS).saturating_add(70)
     }
 
     /// The upper edge of the box.
     fn top(&self) -> usize {
-        self.row.min(4096) * DOWN + 5
+        self.row.saturating_mul(DOWN).saturating_add(5)
     }
 }
 
@@ -100,14 +100,15 @@ fn callers_of<B: Allocator, D: Allocator, C: Allocator>(
 ) -> (bool, WordSet) {
     let mut main = false;
     let mut others = WordSet::empty();
-    let mut next = 0usize;
-    while let Some(site) = sites.first_from(next) {
-        match report.declaration.owner_of(site) {
-            Some(Owner::Main) => main = true,
-            Some(Owner::Routine(entry)) => others.insert(entry),
-            None => {}
+    for index in 0..4096 {
+        let site = Word::from_index(index);
+        if sites.contains(site) {
+            match report.declaration.owner_of(site) {
+                Some(Owner::Main) => main = true,
+                Some(Owner::Routine(entry)) => others.insert(entry),
+                None => {}
+            }
         }
-        next = site.index() + 1;
     }
     (main, others)
 }
@@ -121,7 +122,7 @@ fn write_line<A: Allocator>(
     pen.put(b"<path class=l d=\"M")?;
     pen.number(caller.middle())?;
     pen.put(b" ")?;
-    pen.number(caller.top() + 40)?;
+    pen.number(caller.top().saturating_add(40))?;
     pen.put(b"L")?;
     pen.number(callee.middle())?;
     pen.put(b" ")?;
@@ -143,11 +144,10 @@ fn write_lines<A: Allocator, B: Allocator, D: Allocator, C: Allocator>(
     if main {
         write_line(pen, &spot_at(spots, None), &callee)?;
     }
-    let mut next = 0usize;
-    while let Some(entry) = others.first_from(next) {
-        let caller = spot_at(spots, Some(place_of(report.declaration, entry)));
-        write_line(pen, &caller, &callee)?;
-        next = entry.index() + 1;
+    for (at, other) in report.declaration.routines().iter().enumerate() {
+        if others.contains(other.entry()) {
+            write_line(pen, &spot_at(spots, Some(at)), &callee)?;
+        }
     }
     Ok(())
 }
@@ -159,7 +159,7 @@ fn write_box<A: Allocator>(
     class: &[u8],
     entry: Option<Word>,
 ) -> Result<(), AllocError> {
-    let left = spot.column.min(4096) * ACROSS + 10;
+    let left = spot.column.saturating_mul(ACROSS).saturating_add(10);
     pen.put(b"<rect class=b width=120 height=40 x=")?;
     pen.number(left)?;
     pen.put(b" y=")?;
@@ -171,9 +171,9 @@ fn write_box<A: Allocator>(
     pen.put(b" y=")?;
     pen.number(spot.top())?;
     pen.put(b" /><text class=n x=")?;
-    pen.number(left + 18)?;
+    pen.number(left.saturating_add(18))?;
     pen.put(b" y=")?;
-    pen.number(spot.top() + 24)?;
+    pen.number(spot.top().saturating_add(24))?;
     pen.put(b">")?;
     match entry {
         None => pen.put(b"main")?,
@@ -226,7 +226,7 @@ fn widest(spots: &[Spot]) -> usize {
     for spot in spots.iter() {
         most = most.max(spot.column);
     }
-    most.min(4096) + 1
+    most.saturating_add(1)
 }
 
 /// The number of rows, main's among them.
@@ -235,7 +235,7 @@ fn rows(spots: &[Spot]) -> usize {
     for spot in spots.iter() {
         most = most.max(spot.row);
     }
-    most.min(4096) + 1
+    most.saturating_add(1)
 }
 
 /// Writes the drawing: the lines, and above them the boxes.
@@ -244,13 +244,13 @@ fn write_drawing<A: Allocator, B: Allocator, D: Allocator, C: Allocator>(
     report: &Report<'_, B, D, C>,
     spots: &[Spot],
 ) -> Result<(), AllocError> {
-    let width = widest(spots) * ACROSS;
+    let width = widest(spots).saturating_mul(ACROSS);
     pen.put(b"<svg role=img aria-label=\"graph of calls\" width=")?;
     pen.number(width)?;
     pen.put(b" viewBox=\"0 0 ")?;
     pen.number(width)?;
     pen.put(b" ")?;
-    pen.number(rows(spots) * DOWN - 30)?;
+    pen.number(rows(spots).saturating_mul(DOWN).saturating_sub(30))?;
     pen.put(b"\">\n")?;
     for (place, routine) in report.declaration.routines().iter().enumerate() {
         write_lines(pen, report, spots, place, routine)?;

@@ -186,12 +186,12 @@ struct Desk {
 impl Desk {
     /// Whether there is a fact at an address, which then stands here.
     fn read<C: Allocator>(&mut self, certificate: &Certificate<C>, at: Word) -> bool {
-        let fact = if at.index() % 2 == 0 {
-            &mut self.even
+        let found = if at.index() % 2 == 0 {
+            certificate.fact_into(at, &mut self.even)
         } else {
-            &mut self.odd
+            certificate.fact_into(at, &mut self.odd)
         };
-        if !certificate.fact_into(at, fact) {
+        if !found {
             return false;
         }
         self.last = Some(at);

@@ -18,7 +18,7 @@ const TOP: usize = 14;
 const STEP: usize = 10;
 
 /// The place of a routine among those that are declared.
-pub(crate) fn place_of<D: Allocator>(declaration: &Declaration<D>, entry: Word) -> usize {
+fn place_of<D: Allocator>(declaration: &Declaration<D>, entry: Word) -> usize {
     for (place, routine) in declaration.routines().iter().enumerate() {
         if routine.entry() == entry {
             return place;
@@ -80,9 +80,9 @@ fn write_dot<A: Allocator>(
     pen.put(b"<circle class=")?;
     pen.put(class)?;
     pen.put(b" cx=")?;
-    pen.number(LEFT + STEP * (at.index() % 64) + 5)?;
+    pen.number(LEFT + STEP * usize::from(at.low_half()) + 5)?;
     pen.put(b" cy=")?;
-    pen.number(TOP + STEP * (at.index() / 64) + 5)?;
+    pen.number(TOP + STEP * usize::from(at.high_half()) + 5)?;
     pen.put(b" r=")?;
     pen.put(size)?;
     pen.put(b" />")
@@ -93,9 +93,9 @@ fn write_square<A: Allocator>(pen: &mut Pen<A>, at: Word, class: &[u8]) -> Resul
     pen.put(b"<rect class=")?;
     pen.put(class)?;
     pen.put(b" x=")?;
-    pen.number(LEFT + STEP * (at.index() % 64))?;
+    pen.number(LEFT + STEP * usize::from(at.low_half()))?;
     pen.put(b" y=")?;
-    pen.number(TOP + STEP * (at.index() / 64))?;
+    pen.number(TOP + STEP * usize::from(at.high_half()))?;
     pen.put(b" width=9 height=9 />")
 }
 

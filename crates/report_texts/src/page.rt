@@ -110,7 +110,7 @@ fn write_yes<A: Allocator, D: Allocator>(
     })?;
     pen.put(b" that starts at ")?;
     pen.place(declaration.start())?;
-    pen.put(b" with these words in memory, whatever all other cells, AC and the link hold, and ")?;
+    pen.put(b" with these words in memory, whatever all other cells, AC, the link and MQ hold, and ")?;
     pen.put(b"however keys, tape frames, devices and switches come:</p>\n")?;
     write_points(pen, declaration)?;
     pen.put(
@@ -195,7 +195,7 @@ fn write_guide<A: Allocator>(pen: &mut Pen<A>) -> Result<(), AllocError> {
     pen.put(
         b"<h2 id=listing>Listing</h2>\n<p>Beside each instruction stands what is known in every run ",
     )?;
-    pen.put(b"<b>before</b> it is executed; what is the same as on the line above is grey. ")?;
+    pen.put(b"<b>before</b> it is executed; what is the same as on the line above is grey.\n")?;
     pen.put(b"<code>AC in 0305,0310</code>: the accumulator holds one of these words. ")?;
     pen.put(b"<code>0010 in 0224-0230</code>: so does the cell 0010. ")?;
     pen.put(

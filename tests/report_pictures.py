@@ -2,7 +2,8 @@
 """Makes pictures of reports by headless Chromium (Debian's package), wide and narrow, and prints them, for a look. No gate runs it.
 
 usage: tests/report_pictures.py PDP8 FOLDER [NAME..]    of these examples, hello, punch and hello-broken without names; FOLDER gets
-                                                         NAME.html, NAME-wide.png, NAME-narrow.png and NAME.pdf
+                                                         NAME.html, NAME-wide.png, NAME-narrow.png and NAME.pdf,
+                                                         and of hello report.png, which is docs/report.png
 """
 import os
 import subprocess
@@ -31,6 +32,8 @@ def main():
         for size, (width, height) in SIZES.items():
             browse(f"--screenshot={folder / f'{name}-{size}.png'}", f"--window-size={width},{height}", page.as_uri())
         browse(f"--print-to-pdf={folder / f'{name}.pdf'}", "--no-pdf-header-footer", page.as_uri())
+        if name == "hello":
+            browse(f"--screenshot={folder / 'report.png'}", "--force-device-scale-factor=0.7", "--window-size=1080,2420", page.as_uri())
         print(*sorted(path.name for path in folder.glob(f"{name}[.-]*")))
 
 

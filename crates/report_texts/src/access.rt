@@ -174,12 +174,12 @@ fn write_possible<A: Allocator>(pen: &mut Pen<A>, words: &WordSet) -> Result<(),
 pub(crate) fn write_access<A: Allocator, B: Allocator, D: Allocator, C: Allocator>(
     pen: &mut Pen<A>,
     report: &Report<'_, B, D, C>,
-    kind: Kind,
+    kind: &Kind,
     fact: &Fact,
     at: Word,
 ) -> Result<(), AllocError> {
     let entry = match kind {
-        Kind::Routine(entry) => entry,
+        Kind::Routine(entry) => *entry,
         _ => at,
     };
     let routine = claimed_of(report.certificate, entry);

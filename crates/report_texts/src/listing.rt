@@ -128,7 +128,7 @@ pub(crate) fn write_variable<A: Allocator, B: Allocator, D: Allocator, C: Alloca
 fn write_known<A: Allocator, B: Allocator, D: Allocator, C: Allocator>(
     pen: &mut Pen<A>,
     report: &Report<'_, B, D, C>,
-    kind: Kind,
+    kind: &Kind,
     fact: &Fact,
     above: Option<&Fact>,
     at: Word,
@@ -141,7 +141,7 @@ fn write_known<A: Allocator, B: Allocator, D: Allocator, C: Allocator>(
 fn write_unknown<A: Allocator, B: Allocator, D: Allocator, C: Allocator>(
     pen: &mut Pen<A>,
     report: &Report<'_, B, D, C>,
-    kind: Kind,
+    kind: &Kind,
     at: Word,
 ) -> Result<(), AllocError> {
     match kind {
@@ -220,14 +220,14 @@ fn write_with_fact<A: Allocator, B: Allocator, D: Allocator, C: Allocator>(
         && desk.last == Some(before(at))
         && report.kind_of(before(at)) == kind;
     if !desk.read(report.certificate, at) {
-        return write_unknown(pen, report, kind, at);
+        return write_unknown(pen, report, &kind, at);
     }
     let above = if near {
         Some(desk.fact(before(at)))
     } else {
         None
     };
-    write_known(pen, report, kind, desk.fact(at), above, at)
+    write_known(pen, report, &kind, desk.fact(at), above, at)
 }
 
 /// Writes the line of an address.
@@ -285,12 +285,11 @@ fn write_quiet<A: Allocator, B: Allocator, D: Allocator, C: Allocator>(
 fn write_heading<A: Allocator, B: Allocator, D: Allocator, C: Allocator>(
     pen: &mut Pen<A>,
     report: &Report<'_, B, D, C>,
-    kind: Kind,
     at: Word,
 ) -> Result<(), AllocError> {
     pen.put(b"\n")?;
     pen.mark(b"<tr><th colspan=4>")?;
-    match kind {
+    match report.kind_of(at) {
         Kind::Main => pen.put(b"main\n"),
         Kind::Variable => pen.put(b"variables\n"),
         Kind::Other => pen.put(b"other words of the tape\n"),
@@ -312,16 +311,24 @@ fn write_heading<A: Allocator, B: Allocator, D: Allocator, C: Allocator>(
     }
 }
 
-/// Whether lines of a kind need a heading where the line before is of another: those of a routine's
-/// body need none below its entry.
-fn needs_heading(kind: Kind, last: Option<(Kind, Word)>) -> bool {
-    let Some((above, at)) = last else {
+/// Whether the line of an address needs a heading, where the line before is that of another address or
+/// of none: where it is of another kind. The lines of a routine's body need none below its entry.
+fn needs_heading<B: Allocator, D: Allocator, C: Allocator>(
+    report: &Report<'_, B, D, C>,
+    at: Word,
+    last: &Option<Word>,
+) -> bool {
+    let Some(last) = last else {
         return true;
     };
-    match kind {
+    let above = report.kind_of(*last);
+    match report.kind_of(at) {
         Kind::Entry => true,
-        Kind::Routine(entry) => above != kind && !(above == Kind::Entry && at == entry),
-        Kind::Main | Kind::Variable | Kind::Other | Kind::Unset => above != kind,
+        Kind::Routine(entry) => above != Kind::Routine(entry) && *last != entry,
+        Kind::Main => above != Kind::Main,
+        Kind::Variable => above != Kind::Variable,
+        Kind::Other => above != Kind::Other,
+        Kind::Unset => above != Kind::Unset,
     }
 }
 
@@ -353,12 +360,11 @@ pub(crate) fn push_listing<A: Allocator, B: Allocator, D: Allocator, C: Allocato
     for index in 0..4096 {
         let at = Word::from_index(index);
         if report.has_line(at) {
-            let kind = report.kind_of(at);
-            if needs_heading(kind, last) {
-                write_heading(pen, report, kind, at)?;
+            if needs_heading(report, at, &last) {
+                write_heading(pen, report, at)?;
             }
             write_at(pen, report, &mut desk, at)?;
-            last = Some((kind, at));
+            last = Some(at);
         }
     }
     Ok(())

@@ -40,11 +40,11 @@ pub(crate) fn colour_of(place: usize) -> &'static [u8] {
 }
 
 /// The class of a cell's colour.
-fn class_of<D: Allocator>(declaration: &Declaration<D>, kind: Kind) -> &'static [u8] {
+fn class_of<D: Allocator>(declaration: &Declaration<D>, kind: &Kind) -> &'static [u8] {
     match kind {
         Kind::Entry => b"e",
         Kind::Main => b"m",
-        Kind::Routine(entry) => colour_of(place_of(declaration, entry)),
+        Kind::Routine(entry) => colour_of(place_of(declaration, *entry)),
         Kind::Variable => b"v",
         Kind::Other => b"o",
         Kind::Unset => b"u",
@@ -104,10 +104,10 @@ fn write_marks<A: Allocator, B: Allocator, D: Allocator, C: Allocator>(
     pen: &mut Pen<A>,
     report: &Report<'_, B, D, C>,
     at: Word,
-    kind: Kind,
+    kind: &Kind,
 ) -> Result<(), AllocError> {
     let declaration = report.declaration;
-    if declaration.is_variable(at) && kind != Kind::Variable {
+    if declaration.is_variable(at) && *kind != Kind::Variable {
         write_dot(pen, at, b"w", b"2.5")?;
     }
     if declaration.is_stop(at) || declaration.is_pause(at) {
@@ -154,8 +154,8 @@ fn write_cell<A: Allocator, B: Allocator, D: Allocator, C: Allocator>(
     pen.word(line)?;
     pen.put(b">")?;
     write_title(pen, report, at)?;
-    write_square(pen, at, class_of(report.declaration, kind))?;
-    write_marks(pen, report, at, kind)?;
+    write_square(pen, at, class_of(report.declaration, &kind))?;
+    write_marks(pen, report, at, &kind)?;
     pen.put(b"</a>\n")
 }
 

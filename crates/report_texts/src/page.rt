@@ -110,7 +110,9 @@ fn write_yes<A: Allocator, D: Allocator>(
     })?;
     pen.put(b" that starts at ")?;
     pen.place(declaration.start())?;
-    pen.put(b" with these words in memory, whatever all other cells, AC, the link and MQ hold, and ")?;
+    pen.put(
+        b" with these words in memory, whatever all other cells, AC, the link and MQ hold, and ",
+    )?;
     pen.put(b"however keys, tape frames, devices and switches come:</p>\n")?;
     write_points(pen, declaration)?;
     pen.put(

@@ -155,12 +155,12 @@ pub(crate) fn before(at: Word) -> Word {
 pub(crate) fn place_in<'b, D: Allocator>(
     image: &'b Image,
     declaration: &'b Declaration<D>,
-    kind: Kind,
+    kind: &Kind,
     routine: &'b Routine,
 ) -> Place<'b, D> {
     let running = match kind {
         Kind::Routine(entry) => Some(Running {
-            entry,
+            entry: *entry,
             sites: &routine.sites,
             writes: &routine.writes,
         }),

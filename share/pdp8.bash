@@ -1,7 +1,7 @@
 # Completions of pdp8 for bash.
 _pdp8() {
     local word=${COMP_WORDS[COMP_CWORD]} before=${COMP_WORDS[COMP_CWORD-1]} options=
-    local commands='verify assemble list source dump run watch check declare guess refute place migrate help'
+    local commands='verify assemble list source dump run watch check report declare guess refute place migrate help'
     if [ "$COMP_CWORD" -eq 1 ]; then
         COMPREPLY=($(compgen -W "$commands --help --version" -- "$word"))
         return
@@ -34,6 +34,7 @@ _pdp8() {
         run) options='--start --steps --trace --profile --events --reader --punch --keys --mark --teletype --switches --why --help' ;;
         watch) options='--source --reader --keys --mark --switches --steps --why --help' ;;
         check) options='--source --why --help' ;;
+        report) options='--output --text --why --help' ;;
         guess) options='--output --source --why --help' ;;
         refute) options='--output --source --steps --seed --why --help' ;;
         declare) options='--output --start --reads --profile --why --help' ;;

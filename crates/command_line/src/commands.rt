@@ -27,6 +27,13 @@ const TAPE: Argument = Argument {
     help: "the tape, or - for standard input",
 };
 
+const DECLARATION: Argument = Argument {
+    name: "DECLARATION",
+    short: None,
+    form: Form::Operand,
+    help: "the declaration, or - for standard input",
+};
+
 const TAPE_OR_SOURCE: Argument = Argument {
     name: "TAPE",
     short: None,
@@ -144,6 +151,20 @@ const GUESSED_OUT: Argument = Argument {
     short: None,
     form: Form::ResultOrSource,
     help: "where the certificate goes, or - for standard output; it is emptied first",
+};
+
+const REPORT_OUT: Argument = Argument {
+    name: "OUT",
+    short: None,
+    form: Form::ResultOperand,
+    help: "where the report goes, or - for standard output; it is emptied first",
+};
+
+const TEXT: Argument = Argument {
+    name: "text",
+    short: None,
+    form: Form::Flag,
+    help: "writes the verdict and the listing alone, as plain text",
 };
 
 const EVENTS_OUT: Argument = Argument {
@@ -366,6 +387,16 @@ static WATCH_ARGUMENTS: [Argument; 10] = [
 
 static CHECK_ARGUMENTS: [Argument; 5] = [TAPE_OR_SOURCE, DECLARED, CLAIMED, PARTS, WHY_CHECK];
 
+static REPORT_ARGUMENTS: [Argument; 7] = [
+    TAPE,
+    DECLARATION,
+    CERTIFICATE,
+    REPORT_OUT,
+    OUTPUT,
+    TEXT,
+    WHY_INPUT,
+];
+
 static DECLARE_ARGUMENTS: [Argument; 7] = [
     TAPE,
     DECLARATION_OUT,
@@ -456,6 +487,13 @@ static CHECK: Entry = Entry {
     after_help: "Example:\n  pdp8 check hello.bin hello.declaration hello.certificate --why",
 };
 
+static REPORT: Entry = Entry {
+    name: "report",
+    usage: Some("pdp8 report [OPTIONS] <TAPE> <DECLARATION> <CERTIFICATE> [-o] <OUT>"),
+    about: "Writes what a certificate says as a page of HTML: verdict, memory, routines, listing",
+    after_help: "The operand OUT is emptied before an input is read. The verdict and the status are check's.\n\nExample:\n  pdp8 report hello.bin hello.declaration hello.certificate -o hello.html",
+};
+
 static DECLARE: Entry = Entry {
     name: "declare",
     usage: Some("pdp8 declare [OPTIONS] <TAPE> [-o] <OUT>"),
@@ -507,6 +545,7 @@ pub(crate) fn command<'a>(alloc: Global) -> Result<Command<'a>, AllocError> {
     let program = with_entry(alloc, program, &SOURCE_OF_TAPE, &SOURCE_ARGUMENTS)?;
     let program = with_entry(alloc, program, &WATCH, &WATCH_ARGUMENTS)?;
     let program = with_entry(alloc, program, &CHECK, &CHECK_ARGUMENTS)?;
+    let program = with_entry(alloc, program, &REPORT, &REPORT_ARGUMENTS)?;
     let program = with_entry(alloc, program, &DECLARE, &DECLARE_ARGUMENTS)?;
     let program = with_entry(alloc, program, &GUESS, &GUESS_ARGUMENTS)?;
     let program = with_entry(alloc, program, &REFUTE, &REFUTE_ARGUMENTS)?;

@@ -112,6 +112,13 @@ impl<'a> Request<'a> {
                 certificate: Some(certificate),
                 ..none
             },
+            Request::Report(reported) => FileNames {
+                tape: Some(reported.tape),
+                declaration: Some(reported.declaration),
+                certificate: Some(reported.certificate),
+                output: Some(reported.out.name()),
+                ..none
+            },
             Request::Declare { tape, out, .. } => FileNames {
                 tape: Some(tape),
                 output: Some(out.name()),

@@ -5,6 +5,7 @@ use crate::operator::{
     Session, WatchedSession, has_operator, is_watched_with_operator, session_of, watched_session_of,
 };
 use crate::outputs::{Destination, destination_of};
+use crate::reported::{Reported, report_request};
 use crate::sourced::{
     Sourced, has_source, place_request, sourced_check, sourced_guess, sourced_refute,
     sourced_verify, sourced_watch,
@@ -101,6 +102,8 @@ pub enum Request<'a> {
         /// Whether it is said why the verdict is no.
         explained: bool,
     },
+    /// To write what a certificate says.
+    Report(Reported<'a>),
     /// To propose a declaration.
     Declare {
         /// The name of the tape's file.
@@ -504,6 +507,7 @@ fn request_of<'a>(
         "source" => source_request(found),
         "watch" => watch_request(found),
         "check" => check_request(found),
+        "report" => Ok(Request::Report(report_request(found)?)),
         "declare" => declare_request(found),
         "guess" => guess_request(found),
         "refute" => refute_request(found),

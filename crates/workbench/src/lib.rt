@@ -8,6 +8,7 @@ mod from_source;
 mod joined;
 mod numbering;
 mod program;
+mod reported;
 mod saving;
 mod sources;
 mod telling;

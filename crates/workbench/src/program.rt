@@ -6,6 +6,7 @@ use crate::faults::{fault_lines, omissions, stuck_address};
 use crate::files::{open_input, open_output};
 use crate::from_source::answer_sourced;
 use crate::joined::{hold_session, tell_to, watch_joined};
+use crate::reported::report_from;
 use crate::saving::{save_answer, save_proposed};
 use crate::sources::{assemble_to, list_from};
 use crate::telling::{tell, tell_with};
@@ -181,6 +182,7 @@ fn answer<R: Files + Input + Print + Eprint>(
             certificate,
             explained,
         } => check_from(rt, alloc, tape, declaration, certificate, *explained),
+        Request::Report(reported) => report_from(rt, alloc, reported),
         Request::Declare { tape, out, options } => declare_from(rt, alloc, tape, *out, *options),
         Request::Guess {
             tape,

@@ -1,0 +1,195 @@
+//! What an instruction may read, write, call and jump to, as far as the fact at its address tells.
+
+use crate::pen::Pen;
+use crate::report::{Kind, Report, claimed_of, place_in};
+use certificate::Routine;
+use declaration::Declaration;
+use facts::{Fact, Place, reads, writes};
+use instruct::{Instruction, Operation, decode, refers_indirectly, target};
+use std::alloc::{AllocError, Allocator};
+use word12::Word;
+use wordset::WordSet;
+
+/// More words than this aren't looked at one by one.
+const MOST_WORDS: usize = 64;
+
+/// What the words that may stand at an address do.
+#[derive(Clone, Copy)]
+struct Access {
+    reads: WordSet,
+    writes: WordSet,
+    calls: WordSet,
+    jumps: WordSet,
+    returns: WordSet,
+}
+
+/// Writes an item with addresses, if there are any.
+fn write_places<A: Allocator>(
+    pen: &mut Pen<A>,
+    name: &[u8],
+    set: &WordSet,
+) -> Result<(), AllocError> {
+    if set.is_empty() {
+        return Ok(());
+    }
+    pen.item(name)?;
+    if set.is_all() {
+        return pen.put(b"any");
+    }
+    pen.places(set)
+}
+
+/// Whether a word is an indirect memory reference.
+fn is_indirect<D: Allocator>(declaration: &Declaration<D>, word: Word) -> bool {
+    matches!(decode(word, declaration.profile()), Instruction::Memory) && refers_indirectly(word)
+}
+
+/// Whether a memory reference reads its operand.
+fn reads_operand(word: Word) -> bool {
+    match Operation::of(word) {
+        Operation::And | Operation::Tad | Operation::Isz => true,
+        Operation::Dca | Operation::Jms | Operation::Jmp => false,
+    }
+}
+
+/// Where a JMP I that isn't a return goes: where the cell that it names points, one up through an
+/// auto-index cell.
+fn jumped<D: Allocator>(place: &Place<'_, D>, fact: &Fact, at: Word, word: Word) -> WordSet {
+    match Operation::of(word) {
+        Operation::Jmp => {}
+        Operation::And | Operation::Tad | Operation::Isz | Operation::Dca | Operation::Jms => {
+            return WordSet::empty();
+        }
+    }
+    let named = target(word, at);
+    let words = place.possible_words(fact, named);
+    if 0o10 <= named.value() && named.value() <= 0o17 {
+        words.shift(Word::from_index(1))
+    } else {
+        words
+    }
+}
+
+/// Where a routine returns: after its sites, by the offsets of a fact.
+fn returned(routine: &Routine, fact: &Fact) -> WordSet {
+    let mut found = WordSet::empty();
+    for offset in 0..8usize {
+        if fact.offsets().contains(offset) {
+            found = found.union(&routine.sites.shift(Word::from_index(offset + 1)));
+        }
+    }
+    found
+}
+
+impl Access {
+    /// Nothing.
+    fn none() -> Access {
+        Access {
+            reads: WordSet::empty(),
+            writes: WordSet::empty(),
+            calls: WordSet::empty(),
+            jumps: WordSet::empty(),
+            returns: WordSet::empty(),
+        }
+    }
+
+    /// Adds what an indirect word does beside writing.
+    fn add_indirect<D: Allocator>(
+        &mut self,
+        place: &Place<'_, D>,
+        routine: &Routine,
+        fact: &Fact,
+        at: Word,
+        word: Word,
+    ) {
+        if reads_operand(word) {
+            self.reads = self.reads.union(&reads(fact, at, word, place));
+        }
+        self.calls = self.calls.union(&place.calls(fact, at, word));
+        if place.returned_entry(at, word).is_some() {
+            self.returns = self.returns.union(&returned(routine, fact));
+        } else {
+            self.jumps = self.jumps.union(&jumped(place, fact, at, word));
+        }
+    }
+
+    /// Adds what a word does.
+    fn add<D: Allocator>(
+        &mut self,
+        place: &Place<'_, D>,
+        routine: &Routine,
+        fact: &Fact,
+        at: Word,
+        word: Word,
+    ) {
+        self.writes = self.writes.union(&writes(fact, at, word, place));
+        if is_indirect(place.declaration, word) {
+            self.add_indirect(place, routine, fact, at, word);
+        }
+    }
+}
+
+/// What the words that may stand at an address do.
+fn access_of<D: Allocator>(
+    place: &Place<'_, D>,
+    routine: &Routine,
+    fact: &Fact,
+    at: Word,
+    words: &WordSet,
+) -> Access {
+    let mut access = Access::none();
+    if let Some(word) = words.only() {
+        access.add(place, routine, fact, at, word);
+        return access;
+    }
+    for index in 0..4096 {
+        let word = Word::from_index(index);
+        if words.contains(word) {
+            access.add(place, routine, fact, at, word);
+        }
+    }
+    access
+}
+
+/// Writes what an instruction may do, beside what its name says.
+fn write_each<A: Allocator>(pen: &mut Pen<A>, access: &Access) -> Result<(), AllocError> {
+    write_places(pen, b"reads ", &access.reads)?;
+    write_places(pen, b"writes ", &access.writes)?;
+    write_places(pen, b"calls ", &access.calls)?;
+    write_places(pen, b"jumps to ", &access.jumps)?;
+    write_places(pen, b"returns to ", &access.returns)
+}
+
+/// Writes which words may stand at an address where that isn't the tape's alone.
+fn write_possible<A: Allocator>(pen: &mut Pen<A>, words: &WordSet) -> Result<(), AllocError> {
+    if words.is_all() {
+        return pen.item(b"may be any word");
+    }
+    pen.item(b"may be ")?;
+    pen.words(words)
+}
+
+/// Writes what the words at an address may do: the cells that they write, and where they go and what
+/// they read by indirect references.
+pub(crate) fn write_access<A: Allocator, B: Allocator, D: Allocator, C: Allocator>(
+    pen: &mut Pen<A>,
+    report: &Report<'_, B, D, C>,
+    kind: &Kind,
+    fact: &Fact,
+    at: Word,
+) -> Result<(), AllocError> {
+    let entry = match kind {
+        Kind::Routine(entry) => *entry,
+        _ => at,
+    };
+    let routine = claimed_of(report.certificate, entry);
+    let place = place_in(report.image, report.declaration, kind, &routine);
+    let words = place.possible_words(fact, at);
+    if report.declaration.is_variable(at) || words.count() > MOST_WORDS {
+        write_possible(pen, &words)?;
+    }
+    if words.count() > MOST_WORDS {
+        return Ok(());
+    }
+    write_each(pen, &access_of(&place, &routine, fact, at, &words))
+}

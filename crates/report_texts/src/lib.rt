@@ -1,0 +1,33 @@
+//! What a certificate says, to look at: a listing of the program with what is known at each address, as
+//! plain text or as a page of HTML with a map of memory and the routines. It is tested, and proved safe.
+#![tactic(auto)]
+
+mod access;
+mod graph;
+mod known;
+mod listing;
+mod map;
+mod page;
+mod pen;
+mod report;
+mod routines;
+mod style;
+mod variables;
+
+use listing::push_listing;
+pub use page::page_below;
+pub use pen::Form;
+use pen::Pen;
+pub use report::Report;
+use std::alloc::{AllocError, Allocator};
+pub use style::head_of;
+
+/// The listing as plain text, as it stands below the verdict and its reason.
+pub fn listing_below<A: Allocator + Copy, D: Allocator, C: Allocator>(
+    alloc: A,
+    report: &Report<'_, A, D, C>,
+) -> Result<Vec<u8, A>, AllocError> {
+    let mut pen = Pen::new(alloc, Form::Text);
+    push_listing(&mut pen, report)?;
+    Ok(pen.into_bytes())
+}

@@ -1,0 +1,371 @@
+//! The listing: a line for each address at which something stands, with what is known there.
+
+use crate::access::write_access;
+use crate::known::write_fact;
+use crate::pen::Pen;
+use crate::report::{Kind, Report, before};
+use crate::routines::{write_exits, write_routine};
+use certificate::Certificate;
+use facts::Fact;
+use instruct::{Instruction, Operation, decode, name, refers_indirectly, target};
+use std::alloc::{AllocError, Allocator};
+use word12::Word;
+use wordset::WordSet;
+
+/// In which column of plain text the items begin.
+const COLUMN: usize = 25;
+
+/// Writes the name of a word; that of a direct jump or call leads to where it goes.
+fn write_name<A: Allocator, B: Allocator, D: Allocator, C: Allocator>(
+    pen: &mut Pen<A>,
+    report: &Report<'_, B, D, C>,
+    at: Word,
+    word: Word,
+) -> Result<(), AllocError> {
+    let profile = report.declaration.profile();
+    let found = name(word, profile);
+    let length = found.as_str().len();
+    let jumps = matches!(Operation::of(word), Operation::Jmp | Operation::Jms);
+    let is_memory = matches!(decode(word, profile), Instruction::Memory);
+    let linked = is_memory && jumps && !refers_indirectly(word);
+    if linked {
+        pen.mark(b"<a href=#a")?;
+        pen.mark(&target(word, at).to_octal())?;
+        pen.mark(b">")?;
+    }
+    pen.say(found.as_str().as_bytes())?;
+    pen.begin_items(if length < 14 { 15 - length } else { 2 });
+    if linked { pen.mark(b"</a>") } else { Ok(()) }
+}
+
+/// Writes address and word, and the name of an instruction.
+fn write_word<A: Allocator, B: Allocator, D: Allocator, C: Allocator>(
+    pen: &mut Pen<A>,
+    report: &Report<'_, B, D, C>,
+    at: Word,
+) -> Result<(), AllocError> {
+    pen.mark(b"<tr")?;
+    if report.is_refused_at(at) {
+        pen.mark(b" class=bad")?;
+    }
+    pen.mark(b" id=a")?;
+    pen.mark(&at.to_octal())?;
+    pen.mark(b"><td>")?;
+    pen.word(at)?;
+    pen.put(b" ")?;
+    pen.mark(b"<td>")?;
+    match report.image.get(at) {
+        None => {
+            pen.put(b"----")?;
+            pen.mark(b"<td>")?;
+            pen.begin_items(COLUMN - 9);
+            Ok(())
+        }
+        Some(word) => {
+            pen.word(word)?;
+            pen.mark(b"<td class=c>")?;
+            pen.begin_items(COLUMN - 9);
+            if report.is_code(at) {
+                pen.put(b" ")?;
+                write_name(pen, report, at, word)
+            } else {
+                Ok(())
+            }
+        }
+    }
+}
+
+/// Writes what is declared of an address.
+fn write_declared<A: Allocator, B: Allocator, D: Allocator, C: Allocator>(
+    pen: &mut Pen<A>,
+    report: &Report<'_, B, D, C>,
+    at: Word,
+) -> Result<(), AllocError> {
+    let declaration = report.declaration;
+    if declaration.start() == at {
+        pen.item(b"start")?;
+    }
+    if declaration.is_stop(at) {
+        pen.item(b"stop")?;
+    }
+    if declaration.is_pause(at) {
+        pen.item(b"pause")?;
+    }
+    if declaration.is_entry(at) {
+        pen.item(b"entry")?;
+    }
+    Ok(())
+}
+
+/// Writes which words a variable may hold wherever something is known of it.
+fn write_held<A: Allocator>(pen: &mut Pen<A>, words: &WordSet) -> Result<(), AllocError> {
+    if words.is_all() {
+        return pen.item(b"holds any word");
+    }
+    pen.item(b"holds ")?;
+    pen.words(words)
+}
+
+/// Writes which words a variable may hold, and where nothing is known of it.
+pub(crate) fn write_variable<A: Allocator, B: Allocator, D: Allocator, C: Allocator>(
+    pen: &mut Pen<A>,
+    report: &Report<'_, B, D, C>,
+    cell: Word,
+) -> Result<(), AllocError> {
+    let Some(held) = report.held_in(cell) else {
+        return pen.item(b"any word");
+    };
+    write_held(pen, &held.words)?;
+    let unknown = report.facts.minus(&held.known_at);
+    if unknown.is_empty() {
+        return Ok(());
+    }
+    pen.item(b"any word at ")?;
+    pen.places(&unknown)
+}
+
+/// Writes what is known at an address with a fact, and what the instruction does.
+fn write_known<A: Allocator, B: Allocator, D: Allocator, C: Allocator>(
+    pen: &mut Pen<A>,
+    report: &Report<'_, B, D, C>,
+    kind: &Kind,
+    fact: &Fact,
+    above: Option<&Fact>,
+    at: Word,
+) -> Result<(), AllocError> {
+    write_fact(pen, fact, above)?;
+    write_access(pen, report, kind, fact, at)
+}
+
+/// Writes what is told of an address without a fact.
+fn write_unknown<A: Allocator, B: Allocator, D: Allocator, C: Allocator>(
+    pen: &mut Pen<A>,
+    report: &Report<'_, B, D, C>,
+    kind: &Kind,
+    at: Word,
+) -> Result<(), AllocError> {
+    match kind {
+        Kind::Main | Kind::Routine(_) => match report.verdict {
+            Ok(()) => pen.item(b"never reached"),
+            Err(_) => pen.item(b"no fact"),
+        },
+        Kind::Variable => write_variable(pen, report, at),
+        Kind::Entry | Kind::Other | Kind::Unset => Ok(()),
+    }
+}
+
+/// Writes the mark of the address at which the verdict is no.
+fn write_refused<A: Allocator, B: Allocator, D: Allocator, C: Allocator>(
+    pen: &mut Pen<A>,
+    report: &Report<'_, B, D, C>,
+    at: Word,
+) -> Result<(), AllocError> {
+    let Err(refusal) = report.verdict else {
+        return Ok(());
+    };
+    if refusal.address != at {
+        return Ok(());
+    }
+    pen.mark(b"<b>")?;
+    pen.item(b"HERE ")?;
+    pen.say(report.failing.as_bytes())?;
+    pen.put(b" FAILS")?;
+    pen.mark(b"</b>")
+}
+
+/// Facts to read what is claimed into: those at even and those at odd addresses, so that the one above
+/// an address mostly stands here already.
+#[derive(Drop)]
+struct Desk {
+    even: Fact,
+    odd: Fact,
+    /// The address of the fact that was read last.
+    last: Option<Word>,
+}
+
+impl Desk {
+    /// Whether there is a fact at an address, which then stands here.
+    fn read<C: Allocator>(&mut self, certificate: &Certificate<C>, at: Word) -> bool {
+        let found = if at.index() % 2 == 0 {
+            certificate.fact_into(at, &mut self.even)
+        } else {
+            certificate.fact_into(at, &mut self.odd)
+        };
+        if !found {
+            return false;
+        }
+        self.last = Some(at);
+        true
+    }
+
+    /// The fact of an even or an odd address that was read last.
+    fn fact(&self, at: Word) -> &Fact {
+        if at.index() % 2 == 0 {
+            &self.even
+        } else {
+            &self.odd
+        }
+    }
+}
+
+/// Writes what is known and done at an address with a fact.
+fn write_with_fact<A: Allocator, B: Allocator, D: Allocator, C: Allocator>(
+    pen: &mut Pen<A>,
+    report: &Report<'_, B, D, C>,
+    desk: &mut Desk,
+    at: Word,
+) -> Result<(), AllocError> {
+    let kind = report.kind_of(at);
+    let near = at != Word::ZERO
+        && desk.last == Some(before(at))
+        && report.kind_of(before(at)) == kind;
+    if !desk.read(report.certificate, at) {
+        return write_unknown(pen, report, &kind, at);
+    }
+    let above = if near {
+        Some(desk.fact(before(at)))
+    } else {
+        None
+    };
+    write_known(pen, report, &kind, desk.fact(at), above, at)
+}
+
+/// Writes the line of an address.
+fn write_line<A: Allocator, B: Allocator, D: Allocator, C: Allocator>(
+    pen: &mut Pen<A>,
+    report: &Report<'_, B, D, C>,
+    desk: &mut Desk,
+    at: Word,
+) -> Result<(), AllocError> {
+    write_word(pen, report, at)?;
+    pen.mark(b"<td>")?;
+    write_declared(pen, report, at)?;
+    write_with_fact(pen, report, desk, at)?;
+    write_refused(pen, report, at)?;
+    pen.put(b"\n")
+}
+
+/// The last address of the row of variables that begins at one, of which nothing is said.
+fn last_quiet<B: Allocator, D: Allocator, C: Allocator>(
+    report: &Report<'_, B, D, C>,
+    first: Word,
+) -> Word {
+    let mut last = first;
+    for index in first.index()..4096 {
+        let at = Word::from_index(index);
+        if !report.is_quiet(at) {
+            return last;
+        }
+        last = at;
+    }
+    last
+}
+
+/// Writes the line of a row of variables of which nothing is said.
+fn write_quiet<A: Allocator, B: Allocator, D: Allocator, C: Allocator>(
+    pen: &mut Pen<A>,
+    report: &Report<'_, B, D, C>,
+    first: Word,
+) -> Result<(), AllocError> {
+    pen.mark(b"<tr id=a")?;
+    pen.mark(&first.to_octal())?;
+    pen.mark(b"><td colspan=3>")?;
+    let last = last_quiet(report, first);
+    pen.run(first, last, false)?;
+    pen.mark(b"<td>")?;
+    pen.begin_items(if first == last {
+        COLUMN - 4
+    } else {
+        COLUMN - 9
+    });
+    pen.item(b"any word\n")
+}
+
+/// Writes the heading of lines of a kind; that of a routine with what is claimed of it.
+fn write_heading<A: Allocator, B: Allocator, D: Allocator, C: Allocator>(
+    pen: &mut Pen<A>,
+    report: &Report<'_, B, D, C>,
+    at: Word,
+) -> Result<(), AllocError> {
+    pen.put(b"\n")?;
+    pen.mark(b"<tr><th colspan=4>")?;
+    match report.kind_of(at) {
+        Kind::Main => pen.put(b"main\n"),
+        Kind::Variable => pen.put(b"variables\n"),
+        Kind::Other => pen.put(b"other words of the tape\n"),
+        Kind::Unset => pen.put(b"nothing is declared here\n"),
+        Kind::Routine(entry) => {
+            pen.put(b"body of routine ")?;
+            pen.word(entry)?;
+            pen.put(b"\n")
+        }
+        Kind::Entry => {
+            for routine in report.declaration.routines() {
+                if routine.entry() == at {
+                    write_routine(pen, report, routine)?;
+                }
+            }
+            pen.put(b"\n")?;
+            write_exits(pen, report, at)
+        }
+    }
+}
+
+/// Whether the line of an address needs a heading, where the line before is that of another address or
+/// of none: where it is of another kind. The lines of a routine's body need none below its entry.
+fn needs_heading<B: Allocator, D: Allocator, C: Allocator>(
+    report: &Report<'_, B, D, C>,
+    at: Word,
+    last: &Option<Word>,
+) -> bool {
+    let Some(last) = last else {
+        return true;
+    };
+    let above = report.kind_of(*last);
+    match report.kind_of(at) {
+        Kind::Entry => true,
+        Kind::Routine(entry) => above != Kind::Routine(entry) && *last != entry,
+        Kind::Main => above != Kind::Main,
+        Kind::Variable => above != Kind::Variable,
+        Kind::Other => above != Kind::Other,
+        Kind::Unset => above != Kind::Unset,
+    }
+}
+
+/// Writes the line of an address or of the row of variables that begins there.
+fn write_at<A: Allocator, B: Allocator, D: Allocator, C: Allocator>(
+    pen: &mut Pen<A>,
+    report: &Report<'_, B, D, C>,
+    desk: &mut Desk,
+    at: Word,
+) -> Result<(), AllocError> {
+    if report.is_quiet(at) {
+        write_quiet(pen, report, at)
+    } else {
+        write_line(pen, report, desk, at)
+    }
+}
+
+/// Writes the listing.
+pub(crate) fn push_listing<A: Allocator, B: Allocator, D: Allocator, C: Allocator>(
+    pen: &mut Pen<A>,
+    report: &Report<'_, B, D, C>,
+) -> Result<(), AllocError> {
+    let mut desk = Desk {
+        even: Fact::any(),
+        odd: Fact::any(),
+        last: None,
+    };
+    let mut last = None;
+    for index in 0..4096 {
+        let at = Word::from_index(index);
+        if report.has_line(at) {
+            if needs_heading(report, at, &last) {
+                write_heading(pen, report, at)?;
+            }
+            write_at(pen, report, &mut desk, at)?;
+            last = Some(at);
+        }
+    }
+    Ok(())
+}

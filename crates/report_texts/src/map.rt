@@ -1,0 +1,225 @@
+//! Memory as a map: 64 rows of 64 cells.
+
+use crate::pen::Pen;
+use crate::report::{Kind, Report};
+use declaration::Declaration;
+use instruct::name;
+use std::alloc::{AllocError, Allocator};
+use word12::Word;
+
+/// How many colours there are for routines.
+const COLOURS: usize = 6;
+
+/// Where the first cell stands, and how far it is from one cell to the next.
+const LEFT: usize = 34;
+
+const TOP: usize = 14;
+
+const STEP: usize = 10;
+
+/// The place of a routine among those that are declared.
+fn place_of<D: Allocator>(declaration: &Declaration<D>, entry: Word) -> usize {
+    for (place, routine) in declaration.routines().iter().enumerate() {
+        if routine.entry() == entry {
+            return place;
+        }
+    }
+    0
+}
+
+/// The class of a colour for a routine.
+pub(crate) fn colour_of(place: usize) -> &'static [u8] {
+    match place % COLOURS {
+        0 => b"r0",
+        1 => b"r1",
+        2 => b"r2",
+        3 => b"r3",
+        4 => b"r4",
+        _ => b"r5",
+    }
+}
+
+/// The class of a cell's colour.
+fn class_of<D: Allocator>(declaration: &Declaration<D>, kind: &Kind) -> &'static [u8] {
+    match kind {
+        Kind::Entry => b"e",
+        Kind::Main => b"m",
+        Kind::Routine(entry) => colour_of(place_of(declaration, *entry)),
+        Kind::Variable => b"v",
+        Kind::Other => b"o",
+        Kind::Unset => b"u",
+    }
+}
+
+/// Writes the numbers at the side and above.
+fn write_scale<A: Allocator>(pen: &mut Pen<A>) -> Result<(), AllocError> {
+    for row in 0..64usize {
+        pen.put(b"<text x=4 y=")?;
+        pen.number(TOP + STEP * row + 8)?;
+        pen.put(b">")?;
+        pen.word(Word::from_index(64 * row))?;
+        pen.put(b"</text>")?;
+    }
+    for column in 0..8usize {
+        pen.put(b"<text x=")?;
+        pen.number(LEFT + 8 * STEP * column)?;
+        pen.put(b" y=10>+")?;
+        pen.number(10 * column)?;
+        pen.put(b"</text>")?;
+    }
+    Ok(())
+}
+
+/// Writes a circle or a dot in the middle of a cell.
+fn write_dot<A: Allocator>(
+    pen: &mut Pen<A>,
+    at: Word,
+    class: &[u8],
+    size: &[u8],
+) -> Result<(), AllocError> {
+    pen.put(b"<circle class=")?;
+    pen.put(class)?;
+    pen.put(b" cx=")?;
+    pen.number(LEFT + STEP * usize::from(at.low_half()) + 5)?;
+    pen.put(b" cy=")?;
+    pen.number(TOP + STEP * usize::from(at.high_half()) + 5)?;
+    pen.put(b" r=")?;
+    pen.put(size)?;
+    pen.put(b" />")
+}
+
+/// Writes the square of a cell.
+fn write_square<A: Allocator>(pen: &mut Pen<A>, at: Word, class: &[u8]) -> Result<(), AllocError> {
+    pen.put(b"<rect class=")?;
+    pen.put(class)?;
+    pen.put(b" x=")?;
+    pen.number(LEFT + STEP * usize::from(at.low_half()))?;
+    pen.put(b" y=")?;
+    pen.number(TOP + STEP * usize::from(at.high_half()))?;
+    pen.put(b" width=9 height=9 />")
+}
+
+/// Writes the marks of a cell: a variable in a body, a halt, the start, the place of a no.
+fn write_marks<A: Allocator, B: Allocator, D: Allocator, C: Allocator>(
+    pen: &mut Pen<A>,
+    report: &Report<'_, B, D, C>,
+    at: Word,
+    kind: &Kind,
+) -> Result<(), AllocError> {
+    let declaration = report.declaration;
+    if declaration.is_variable(at) && *kind != Kind::Variable {
+        write_dot(pen, at, b"w", b"2.5")?;
+    }
+    if declaration.is_stop(at) || declaration.is_pause(at) {
+        write_dot(pen, at, b"h", b"3")?;
+    }
+    if declaration.start() == at {
+        write_square(pen, at, b"s")?;
+    }
+    if report.is_refused_at(at) {
+        write_square(pen, at, b"\"s bad\"")?;
+    }
+    Ok(())
+}
+
+/// Writes what is shown where a pointer rests on a cell.
+fn write_title<A: Allocator, B: Allocator, D: Allocator, C: Allocator>(
+    pen: &mut Pen<A>,
+    report: &Report<'_, B, D, C>,
+    at: Word,
+) -> Result<(), AllocError> {
+    pen.put(b"<title>")?;
+    pen.word(at)?;
+    let word = if report.is_code(at) {
+        report.image.get(at)
+    } else {
+        None
+    };
+    if let Some(word) = word {
+        pen.put(b" ")?;
+        pen.say(name(word, report.declaration.profile()).as_str().as_bytes())?;
+    }
+    pen.put(b"</title>")
+}
+
+/// Writes a cell, which leads to its line.
+fn write_cell<A: Allocator, B: Allocator, D: Allocator, C: Allocator>(
+    pen: &mut Pen<A>,
+    report: &Report<'_, B, D, C>,
+    at: Word,
+    line: Word,
+) -> Result<(), AllocError> {
+    let kind = report.kind_of(at);
+    pen.put(b"<a href=#a")?;
+    pen.word(line)?;
+    pen.put(b">")?;
+    write_title(pen, report, at)?;
+    write_square(pen, at, class_of(report.declaration, &kind))?;
+    write_marks(pen, report, at, &kind)?;
+    pen.put(b"</a>\n")
+}
+
+/// Writes the cells at which something stands.
+fn write_cells<A: Allocator, B: Allocator, D: Allocator, C: Allocator>(
+    pen: &mut Pen<A>,
+    report: &Report<'_, B, D, C>,
+) -> Result<(), AllocError> {
+    let mut line = Word::ZERO;
+    for index in 0..4096 {
+        let at = Word::from_index(index);
+        if report.has_line(at) {
+            line = at;
+        }
+        if report.kind_of(at) != Kind::Unset || report.is_refused_at(at) {
+            write_cell(pen, report, at, line)?;
+        }
+    }
+    Ok(())
+}
+
+/// Writes an entry of the legend.
+fn write_key<A: Allocator>(pen: &mut Pen<A>, class: &[u8], text: &[u8]) -> Result<(), AllocError> {
+    pen.put(b"<span class=\"k ")?;
+    pen.put(class)?;
+    pen.put(b"\"></span>")?;
+    pen.put(text)
+}
+
+/// Writes what the colours and marks mean.
+fn write_legend<A: Allocator, D: Allocator>(
+    pen: &mut Pen<A>,
+    declaration: &Declaration<D>,
+) -> Result<(), AllocError> {
+    pen.put(b"<p>")?;
+    write_key(pen, b"m", b"main\n")?;
+    for (place, routine) in declaration.routines().iter().enumerate() {
+        write_key(pen, colour_of(place), b"routine ")?;
+        pen.place(routine.entry())?;
+        pen.put(b"\n")?;
+    }
+    write_key(pen, b"e", b"entry of a routine\n")?;
+    write_key(pen, b"v", b"variable\n")?;
+    write_key(pen, b"o", b"other word of the tape\n")?;
+    pen.put(
+        b"<br>A red ring is a declared halt, a black frame the start, a yellow dot a variable among ",
+    )?;
+    pen.put(
+        b"instructions, a red frame the place of a no. Each row has 0100 cells. Numbers are octal. ",
+    )?;
+    pen.put(b"A cell leads to its line of the listing.</p>\n")
+}
+
+/// Writes memory as a map.
+pub(crate) fn write_map<A: Allocator, B: Allocator, D: Allocator, C: Allocator>(
+    pen: &mut Pen<A>,
+    report: &Report<'_, B, D, C>,
+) -> Result<(), AllocError> {
+    pen.put(b"<h2 id=memory>Memory</h2>\n")?;
+    pen.put(b"<svg viewBox=\"0 0 680 660\" width=680 role=img aria-label=\"map of memory\">\n")?;
+    pen.put(b"<rect class=u x=34 y=14 width=640 height=640 />\n")?;
+    write_scale(pen)?;
+    pen.put(b"\n")?;
+    write_cells(pen, report)?;
+    pen.put(b"</svg>\n")?;
+    write_legend(pen, report.declaration)
+}

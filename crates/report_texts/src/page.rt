@@ -1,0 +1,231 @@
+//! The page: what the verdict means, memory, routines, variables, and the listing.
+
+use crate::graph::write_graph;
+use crate::listing::{push_listing, write_variable};
+use crate::map::write_map;
+use crate::pen::{Form, Pen};
+use crate::report::Report;
+use declaration::Declaration;
+use instruct::Profile;
+use judge::Refusal;
+use std::alloc::{AllocError, Allocator};
+use word12::Word;
+use wordset::WordSet;
+
+/// The cells of all bodies.
+fn bodies_of<D: Allocator>(declaration: &Declaration<D>) -> WordSet {
+    let mut cells = *declaration.main();
+    for routine in declaration.routines() {
+        cells = cells.union(routine.body());
+    }
+    cells
+}
+
+/// The entries of all routines.
+fn entries_of<D: Allocator>(declaration: &Declaration<D>) -> WordSet {
+    let mut cells = WordSet::empty();
+    for routine in declaration.routines() {
+        cells.insert(routine.entry());
+    }
+    cells
+}
+
+/// Writes a point of a list: a text and cells.
+fn write_point<A: Allocator>(
+    pen: &mut Pen<A>,
+    text: &[u8],
+    cells: &WordSet,
+) -> Result<(), AllocError> {
+    pen.put(b"<li>")?;
+    pen.put(text)?;
+    if cells.is_empty() {
+        return pen.put(b"none\n");
+    }
+    pen.places(cells)?;
+    pen.put(b"\n")
+}
+
+/// Writes what is shown of writes and reads.
+fn write_cells<A: Allocator, D: Allocator>(
+    pen: &mut Pen<A>,
+    declaration: &Declaration<D>,
+) -> Result<(), AllocError> {
+    write_point(
+        pen,
+        b"only these cells are written, the variables: ",
+        declaration.variables(),
+    )?;
+    write_point(
+        pen,
+        b"and the entries, by the JMS that calls the routine or by its ISZ that skips an argument: ",
+        &entries_of(declaration),
+    )?;
+    match declaration.reads() {
+        None => pen.put(b"<li>any cell may be read: the declaration has no list of reads\n"),
+        Some(cells) => write_point(
+            pen,
+            b"only these cells are read, and the entry of the routine that runs: ",
+            cells,
+        ),
+    }
+}
+
+/// Writes the parts of what a yes says.
+fn write_points<A: Allocator, D: Allocator>(
+    pen: &mut Pen<A>,
+    declaration: &Declaration<D>,
+) -> Result<(), AllocError> {
+    pen.put(b"<ul>\n")?;
+    write_point(
+        pen,
+        b"only these cells are executed: ",
+        &bodies_of(declaration),
+    )?;
+    write_cells(pen, declaration)?;
+    pen.put(
+        b"<li>each routine returns to the place after its own call, as far on as is declared\n",
+    )?;
+    write_point(
+        pen,
+        b"it halts, if at all, only at: ",
+        &declaration.stops().union(declaration.pauses()),
+    )?;
+    write_point(
+        pen,
+        b"of these CONTINUE may be pressed only at: ",
+        declaration.pauses(),
+    )?;
+    pen.put(b"</ul>\n")
+}
+
+/// Writes what a yes says, and what it doesn't.
+fn write_yes<A: Allocator, D: Allocator>(
+    pen: &mut Pen<A>,
+    declaration: &Declaration<D>,
+) -> Result<(), AllocError> {
+    pen.put(b"<p>This is shown of <b>every</b> run on a PDP-8/")?;
+    pen.put(match declaration.profile() {
+        Profile::Pdp8I => b"I",
+        Profile::Pdp8E => b"E",
+    })?;
+    pen.put(b" that starts at ")?;
+    pen.place(declaration.start())?;
+    pen.put(
+        b" with these words in memory, whatever all other cells, AC, the link and MQ hold, and ",
+    )?;
+    pen.put(b"however keys, tape frames, devices and switches come:</p>\n")?;
+    write_points(pen, declaration)?;
+    pen.put(
+        b"<p>It is not shown that it ends, that it prints or computes what was meant, or that the ",
+    )?;
+    pen.put(b"declaration is a wise one: if all cells may be written, a yes says little.</p>\n")
+}
+
+/// Writes why the verdict is no, and what that says.
+fn write_no<A: Allocator>(
+    pen: &mut Pen<A>,
+    refusal: &Refusal,
+    why: &[u8],
+) -> Result<(), AllocError> {
+    pen.put(b"<pre>")?;
+    pen.say(why)?;
+    pen.put(b"</pre>\n<p>This certificate shows nothing: a condition on it fails at ")?;
+    pen.place(refusal.address)?;
+    pen.put(
+        b", which is marked below. The program may keep its declaration all the same. What stands below ",
+    )?;
+    pen.put(b"is what the certificate claims, and it may be wrong.</p>\n")
+}
+
+/// Writes the verdict's meaning.
+fn write_verdict<A: Allocator, B: Allocator, D: Allocator, C: Allocator>(
+    pen: &mut Pen<A>,
+    report: &Report<'_, B, D, C>,
+    why: &[u8],
+) -> Result<(), AllocError> {
+    pen.put(b"</h1>\n")?;
+    match report.verdict {
+        Ok(()) => write_yes(pen, report.declaration)?,
+        Err(refusal) => write_no(pen, refusal, why)?,
+    }
+    pen.put(b"<p>On this page: <a href=#memory>memory</a>, <a href=#routines>routines</a>, ")?;
+    pen.put(b"<a href=#variables>variables</a>, <a href=#listing>listing</a>.</p>\n")
+}
+
+/// Writes the row of a variable.
+fn write_row<A: Allocator, B: Allocator, D: Allocator, C: Allocator>(
+    pen: &mut Pen<A>,
+    report: &Report<'_, B, D, C>,
+    cell: Word,
+) -> Result<(), AllocError> {
+    pen.put(b"<tr><td>")?;
+    pen.place(cell)?;
+    pen.put(b"<td>")?;
+    match report.image.get(cell) {
+        Some(word) => pen.word(word)?,
+        None => pen.put(b"----")?,
+    }
+    pen.put(b"<td>")?;
+    pen.begin_items(0);
+    write_variable(pen, report, cell)?;
+    pen.put(b"\n")
+}
+
+/// Writes the variables of which something is known, each with the words that it may hold anywhere.
+fn write_variables<A: Allocator, B: Allocator, D: Allocator, C: Allocator>(
+    pen: &mut Pen<A>,
+    report: &Report<'_, B, D, C>,
+) -> Result<(), AllocError> {
+    pen.put(b"<h2 id=variables>Variables</h2>\n<p>The cells that the program may change: ")?;
+    pen.places(report.declaration.variables())?;
+    pen.put(
+        b". Those of which the certificate says something, with the words that they may hold at any ",
+    )?;
+    pen.put(b"address at which it does; all others may hold any word:</p>\n<table>\n")?;
+    pen.put(b"<tr><th>cell<th>on the tape<th>what it may hold\n")?;
+    for index in 0..4096 {
+        let cell = Word::from_index(index);
+        if report.held_in(cell).is_some() {
+            write_row(pen, report, cell)?;
+        }
+    }
+    pen.put(b"</table>\n")
+}
+
+/// Writes how the listing is read.
+fn write_guide<A: Allocator>(pen: &mut Pen<A>) -> Result<(), AllocError> {
+    pen.put(
+        b"<h2 id=listing>Listing</h2>\n<p>Beside each instruction stands what is known in every run ",
+    )?;
+    pen.put(b"<b>before</b> it is executed; what is the same as on the line above is grey.\n")?;
+    pen.put(b"<code>AC in 0305,0310</code>: the accumulator holds one of these words. ")?;
+    pen.put(b"<code>0010 in 0224-0230</code>: so does the cell 0010. ")?;
+    pen.put(
+        b"<code>0010 = 0224 + 0231</code>: the word in the cell 0010 is that in the cell 0224 and 0231 more, ",
+    )?;
+    pen.put(
+        b"modulo 10000; so as far as the one is bounded, the other is: of a pointer and a count that ",
+    )?;
+    pen.put(b"go up together, the pointer ends where the count does. ")?;
+    pen.put(
+        b"<code>reads</code>, <code>writes</code>: the cells that the instruction may read through a pointer ",
+    )?;
+    pen.put(b"(the pointer is one of them), and those that it may write.</p>\n<table>\n")
+}
+
+/// The page below the verdict. `why` is what is told of a no.
+pub fn page_below<A: Allocator + Copy, D: Allocator, C: Allocator>(
+    alloc: A,
+    report: &Report<'_, A, D, C>,
+    why: &[u8],
+) -> Result<Vec<u8, A>, AllocError> {
+    let mut pen = Pen::new(alloc, Form::Page);
+    write_verdict(&mut pen, report, why)?;
+    write_map(&mut pen, report)?;
+    write_graph(&mut pen, alloc, report)?;
+    write_variables(&mut pen, report)?;
+    write_guide(&mut pen)?;
+    push_listing(&mut pen, report)?;
+    pen.put(b"</table>\n</body>\n</html>\n")?;
+    Ok(pen.into_bytes())
+}

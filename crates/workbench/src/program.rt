@@ -22,6 +22,7 @@ use commands::status::{DeviceFault, Fault, Status};
 use commands::stuck::guess_or_explain;
 use commands::verifying::{Answer, Lack, VerifyOptions, answer_status, verify, verify_proposed};
 use commands::watching::watch;
+use explanations::{push_codes, push_explanations};
 use instruct::Profile;
 use std::alloc::Global;
 use std::io::ErrorKind;
@@ -196,6 +197,7 @@ fn answer<R: Files + Input + Print + Eprint>(
             options,
         } => verify_from(rt, alloc, tape, *declaration, *save, options),
         Request::Migrate { certificate, out } => migrate_from(rt, alloc, certificate, *out),
+        Request::Explain { code } => explain_code(rt, alloc, *code),
     }
 }
 
@@ -245,6 +247,29 @@ fn migrate_from<R: Files + Input + Print>(
     let mut text = open_input(rt, certificate)?;
     let mut migrated = open_output(rt, out)?;
     migrate(alloc, &mut text, &mut migrated)
+}
+
+/// Says what is meant by a code, or which codes there are. A code that there isn't is a bad command line.
+#[inline(never)]
+fn explain_code<R: Print + Eprint>(
+    rt: &R,
+    alloc: Global,
+    code: Option<&str>,
+) -> Result<Status, Fault> {
+    let mut text = String::new(alloc);
+    match code {
+        None => push_codes(&mut text)?,
+        Some(code) => {
+            if !push_explanations(&mut text, code)? {
+                let told = eprintln!(rt; "error: no code is '{code}': 'pdp8 explain' lists all");
+                return match told {
+                    Ok(()) | Err(_) => Ok(Status::Words),
+                };
+            }
+        }
+    }
+    put(&mut Writes::new(io::writer(rt)), text.as_bytes())?;
+    Ok(Status::Done)
 }
 
 /// Watches a run of the tape of a file.

@@ -6,7 +6,7 @@ use command_line::FileNames;
 use command_parts::inputs::{declaration_from, tape_from};
 use commands::status::{DeviceFault, Fault};
 use fault_texts::{FaultyFile, push_fault, push_omissions};
-use std::alloc::Global;
+use std::alloc::{AllocError, Global};
 use std::fmt::Write;
 use std::rt::Files;
 use streams::read_at_most;
@@ -84,6 +84,31 @@ pub fn omissions<R: Files + Input>(
         Ok(text) => text,
         Err(_) => Vec::new(alloc),
     }
+}
+
+/// The lines of a search that is stuck, with these behind the first one: what the tape and the declaration show
+/// by themselves comes before why the search is stuck.
+pub fn with_omissions(
+    alloc: Global,
+    report: &[u8],
+    omissions: &[u8],
+) -> Result<Vec<u8>, AllocError> {
+    let first = report
+        .split(|byte| *byte == b'\n')
+        .next()
+        .unwrap_or(b"");
+    let why = report
+        .get(first.len().saturating_add(1)..)
+        .unwrap_or(b"");
+    let mut text = Vec::new(alloc);
+    text.extend_from_slice(first)?;
+    text.extend_from_slice(b"\n")?;
+    text.extend_from_slice(omissions)?;
+    if !omissions.is_empty() && !why.is_empty() {
+        text.extend_from_slice(b"where the search is stuck:\n")?;
+    }
+    text.extend_from_slice(why)?;
+    Ok(text)
 }
 
 /// The address in the line `pdp8: guess: Stuck 0210`.

@@ -2,7 +2,7 @@
 
 ghost use Rattle.std.specs.Prelude.{◌≤◌};
 
-use crate::faults::{fault_lines, omissions, stuck_address, with_omissions};
+use crate::faults::{bound_lines, fault_lines, omissions, stuck_address, with_omissions};
 use crate::files::{open_input, open_output};
 use crate::joined::{hold_session, tell_to, watch_joined};
 use crate::saving::{save_answer, save_proposed};
@@ -350,7 +350,8 @@ fn guess_from<R: Files + Input + Print + Eprint>(
         let status = guess_or_explain(alloc, &mut frames, &mut text, &mut certificate, &mut lines)?;
         if status == Status::Refused {
             let others = omissions(rt, alloc, tape, declaration, stuck_address(&report));
-            let told = with_omissions(alloc, &report, &others)?;
+            let mut told = with_omissions(alloc, &report, &others)?;
+            told.extend_from_slice(&bound_lines(rt, alloc, tape, declaration))?;
             let _ = put(&mut tell_to(rt), &told);
         }
         return Ok(status);
@@ -379,13 +380,16 @@ fn verify_from<R: Files + Input + Print>(
     let mut report = Vec::new(alloc);
     let mut lines = Writes::new(&mut report);
     let answer = verify(alloc, &mut frames, &mut text, options.search, &mut lines)?;
-    let others = match &answer {
-        Answer::NotKnown(Lack::Stuck(at)) if options.search.explained => {
-            omissions(rt, alloc, tape, declaration, Some(*at))
+    let mut others = Vec::new(alloc);
+    let mut bound = Vec::new(alloc);
+    if let Answer::NotKnown(Lack::Stuck(at)) = &answer {
+        if options.search.explained {
+            others = omissions(rt, alloc, tape, declaration, Some(*at));
+            bound = bound_lines(rt, alloc, tape, declaration);
         }
-        _ => Vec::new(alloc),
-    };
-    let told = with_omissions(alloc, &report, &others)?;
+    }
+    let mut told = with_omissions(alloc, &report, &others)?;
+    told.extend_from_slice(&bound)?;
     put(&mut out, &told)?;
     save_answer(rt, alloc, save, &answer)?;
     Ok(answer_status(&answer))

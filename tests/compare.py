@@ -20,6 +20,7 @@ COMPARISONS = [
     ('verdicts.sh', 'verdicts on changed programs with reference/', []),
     ('second_reader.sh', 'the fullest tape with a reader in Python', []),
     ('palbart.sh', 'images with palbart', [PALBART]),
+    ('written_sources.py', 'sources of random tapes, read back, with palbart', []),
     ('simh.sh', 'runs with SIMH', [SIMH]),
     ('desk.sh', 'runs with a tape in the reader with SIMH', [SIMH]),
     ('examples.sh', 'examples/ with SIMH, palbart and reference/', [SIMH, PALBART]),

@@ -2,11 +2,12 @@
 """Has pdp8 write sources of random tapes and of those of examples/, and assembles each again.
 
 A tape is written here, of an image by chance: sparse, dense, full, of code alone, of characters, or of an example with words changed. What
-`pdp8 source` writes of it must be read back by `pdp8 assemble` to that tape, to the byte; no line of it has more than 80 columns. With
-a palbart it must read the same words, except where its dialect differs: it isn't asked of sources for the PDP-8/E.
+`pdp8 source` writes of it must be read back by `pdp8 assemble` to that tape, to the byte; no line of it has more than 80 columns. A
+palbart must read the same words, where one is installed. It has no CAM, which is defined for it.
 
-usage: tests/written_sources.py PDP8 [COUNT [SEED]]    PDP8 is the built program; PALBART names a palbart, else /usr/bin/palbart is
-                                                       tried; exit status 1 where anything differs
+usage: tests/written_sources.py [PDP8 [COUNT [SEED]]]    PDP8 is the built program, without it what the variable PDP8 names; PALBART
+                                                         names a palbart, else /usr/bin/palbart is tried; exit status 1 where
+                                                         anything differs
 """
 import os
 import random
@@ -68,6 +69,13 @@ def columns(line):
     return len(line.expandtabs(8))
 
 
+def words_of_palbart(palbart_at, source, profile):
+    """The words that palbart reads in a source, or None where it refuses it."""
+    copy = source.with_name('palbart.pal')
+    copy.write_text(('CAM=7621\n' if profile == '8e' else '') + source.read_text())
+    return palbart.of_palbart(palbart_at, copy)
+
+
 def faults(program, palbart_at, folder, image, start, profile):
     """What is wrong with the source of an image."""
     tape, source, again = folder / 'made.bin', folder / 'made.pal', folder / 'again.bin'
@@ -81,12 +89,13 @@ def faults(program, palbart_at, folder, image, start, profile):
         yield f'assemble makes another tape: {ran.stderr}'
     wide = [line for line in source.read_text().splitlines() if columns(line) > 80]
     yield from (f'a line of {columns(line)} columns: {line}' for line in wide)
-    if palbart_at and profile == '8i' and palbart.of_palbart(palbart_at, source) != image:
+    if palbart_at and words_of_palbart(palbart_at, source, profile) != image:
         yield 'palbart reads other words'
 
 
 def main():
-    program, count, seed = os.path.abspath(sys.argv[1]), int((sys.argv[2:] or [1000])[0]), (sys.argv[3:] or ['1'])[0]
+    program = os.path.abspath(sys.argv[1] if len(sys.argv) > 1 else os.environ['PDP8'])
+    count, seed = int((sys.argv[2:] or [1000])[0]), (sys.argv[3:] or ['1'])[0]
     palbart_at = os.environ.get('PALBART', '/usr/bin/palbart')
     palbart_at = palbart_at if os.access(palbart_at, os.X_OK) else None
     chance, wrong, words = random.Random(seed), [], 0

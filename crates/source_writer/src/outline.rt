@@ -36,6 +36,25 @@ pub(crate) enum Datum {
     AddressBefore(Word),
 }
 
+/// The steps of the search for what needs a tag.
+#[derive(Clone, Copy)]
+enum Step {
+    Pointers,
+    Loads,
+    Targets,
+    Tables,
+    Tags,
+}
+
+/// These steps in order.
+const STEPS: [Step; 5] = [
+    Step::Pointers,
+    Step::Loads,
+    Step::Targets,
+    Step::Tables,
+    Step::Tags,
+];
+
 /// The bodies, variables and halts of a declaration.
 #[derive(Clone, Copy)]
 pub(crate) struct Declared {
@@ -60,6 +79,9 @@ pub(crate) struct Outline {
     loaded: WordSet,
     /// The same for auto-index pointers.
     loaded_before: WordSet,
+    /// Cells whose address such a word is, and cells of tables of entries, which begin there.
+    pointed: WordSet,
+    tables: WordSet,
     pub(crate) declared: Option<Declared>,
 }
 
@@ -109,22 +131,31 @@ impl Outline {
             pointers: WordSet::empty(),
             loaded: WordSet::empty(),
             loaded_before: WordSet::empty(),
+            pointed: WordSet::empty(),
+            tables: WordSet::empty(),
             declared: None,
         }
     }
 
-    /// Finds the pointers, then the words that are stored in them, and then the cells that need a tag.
+    /// Finds the pointers, what is stored in them, what they point to, and the cells that need a tag.
     fn mark(&mut self, image: &Image) {
-        for index in 0..4096usize {
-            self.mark_pointer(image, Word::from_index(index));
-        }
-        for index in 0..4096usize {
-            self.mark_loaded(image, Word::from_index(index));
-        }
-        for index in 0..4096usize {
-            self.mark_tag(image, Word::from_index(index));
+        for step in &STEPS {
+            for index in 0..4096usize {
+                self.mark_cell(image, Word::from_index(index), *step);
+            }
         }
         self.limit_tags();
+    }
+
+    /// Takes a step of the search at a cell.
+    fn mark_cell(&mut self, image: &Image, at: Word, step: Step) {
+        match step {
+            Step::Pointers => self.mark_pointer(image, at),
+            Step::Loads => self.mark_loaded(image, at),
+            Step::Targets => self.mark_target(image, at),
+            Step::Tables => self.mark_table(image, at),
+            Step::Tags => self.mark_tag(image, at),
+        }
     }
 
     /// Leaves out the tags for which there is no room.
@@ -204,25 +235,50 @@ impl Outline {
         }
     }
 
+    /// The word at a cell that is no code, if it has one.
+    fn data_word(&self, image: &Image, at: Word) -> Option<Word> {
+        if self.code.contains(at) {
+            None
+        } else {
+            image.get(at)
+        }
+    }
+
+    /// Marks the cell to which the data word at a cell points.
+    fn mark_target(&mut self, image: &Image, at: Word) {
+        let Some(word) = self.data_word(image, at) else {
+            return;
+        };
+        match self.datum(image, at, word) {
+            Datum::AddressOf(cell) | Datum::AddressBefore(cell) => self.pointed.insert(cell),
+            Datum::Plain => {}
+        }
+    }
+
+    /// Marks a cell that has the address of an entry, where a table begins or goes on.
+    fn mark_table(&mut self, image: &Image, at: Word) {
+        let Some(word) = self.data_word(image, at) else {
+            return;
+        };
+        let is_there = self.pointed.contains(at) || self.tables.contains(previous(at));
+        if is_there && self.entries.contains(word) {
+            self.tables.insert(at);
+        }
+    }
+
     /// What the data word at a cell is.
     pub(crate) fn datum(&self, image: &Image, at: Word, word: Word) -> Datum {
-        let is_auto = is_auto_index(at);
+        let is_pointer = self.pointers.contains(at);
         let next = word.increment();
-        if self.loaded_before.contains(at) || is_auto && self.pointers.contains(at) {
-            return if image.get(next).is_some() {
-                Datum::AddressBefore(next)
-            } else {
-                Datum::Plain
-            };
+        let is_before = self.loaded_before.contains(at) || is_pointer && is_auto_index(at);
+        if is_before && image.get(next).is_some() {
+            return Datum::AddressBefore(next);
         }
-        if !self.loaded.contains(at) && !self.pointers.contains(at) {
-            return Datum::Plain;
+        let is_address = self.loaded.contains(at) || is_pointer || self.tables.contains(at);
+        if is_address && !is_before && image.get(word).is_some() {
+            return Datum::AddressOf(word);
         }
-        if image.get(word).is_some() {
-            Datum::AddressOf(word)
-        } else {
-            Datum::Plain
-        }
+        Datum::Plain
     }
 
     /// Tags the cell that the word at a cell names.
@@ -233,17 +289,19 @@ impl Outline {
             }
             return;
         }
-        let Some(word) = image.get(at) else {
+        let Some(word) = self.data_word(image, at) else {
             return;
         };
-        if self.code.contains(at) {
-            return;
-        }
         match self.datum(image, at, word) {
             Datum::AddressOf(cell) | Datum::AddressBefore(cell) => self.tagged.insert(cell),
             Datum::Plain => {}
         }
     }
+}
+
+/// The cell before a cell; that before 0000 is 7777.
+pub(crate) fn previous(at: Word) -> Word {
+    at.add(Word::from_index(0o7777))
 }
 
 /// Whether the assembler makes a reference at a cell this word: on page zero it sets no bit for the own

@@ -1,6 +1,6 @@
 //! A source as a reader wants to see it.
 
-use crate::outline::Outline;
+use crate::outline::{Outline, previous};
 use crate::reach::is_auto_index;
 use bin_tape::Image;
 use instruct::{Instruction, Operation, Profile, decode, halts};
@@ -12,11 +12,6 @@ use word12::Word;
 struct Flow {
     is_open: bool,
     was_code: bool,
-}
-
-/// The cell before a cell; that before 0000 is 7777.
-fn previous(at: Word) -> Word {
-    at.add(Word::from_index(0o7777))
 }
 
 /// Adds a comment in its column behind a statement of so many columns.

@@ -17,6 +17,9 @@ const MOST_HALTS: usize = 256;
 /// characters, small numbers and empty cells read.
 const LEAST_INSTRUCTION: usize = 0o1000;
 
+/// How many characters a text behind a call has at most.
+const MOST_TEXT: usize = 256;
+
 /// A cell that control reaches, and by how far the return address of its routine was counted up before.
 #[derive(Clone, Copy)]
 struct Spot {
@@ -37,10 +40,12 @@ pub(crate) struct Reach {
     stored: WordSet,
     data: WordSet,
     halts: WordSet,
+    /// Entries of routines that take a text from behind their call.
+    texts: WordSet,
 }
 
 impl Reach {
-    fn new(profile: Profile) -> Reach {
+    fn new(profile: Profile, texts: WordSet) -> Reach {
         Reach {
             profile,
             met: [WordSet::empty(); 8],
@@ -51,13 +56,25 @@ impl Reach {
             stored: WordSet::empty(),
             data: WordSet::empty(),
             halts: WordSet::empty(),
+            texts,
         }
     }
 
     /// Follows control from a start. A routine of which no return is found is taken to return behind its
-    /// call. Behind a HLT control goes on where what stands there looks like an instruction.
+    /// call. Behind a HLT control goes on where what stands there looks like an instruction. A routine that
+    /// counts its return address up again and again is taken to read a text behind its call.
     pub(crate) fn of(image: &Image, start: Word, profile: Profile) -> Reach {
-        let mut reach = Reach::new(profile);
+        let reach = Reach::with_texts(image, start, profile, WordSet::empty());
+        let texts = reach.returns[7];
+        if texts.is_empty() {
+            return reach;
+        }
+        Reach::with_texts(image, start, profile, texts)
+    }
+
+    /// The same, for routines of which these read a text.
+    fn with_texts(image: &Image, start: Word, profile: Profile, texts: WordSet) -> Reach {
+        let mut reach = Reach::new(profile, texts);
         reach.meet(image, start, 0);
         reach.settle(image);
         reach.go_past_halts(image);
@@ -261,6 +278,12 @@ impl Reach {
         if let Some(calls) = self.calls.get_mut(spot.offset) {
             calls.insert(spot.at);
         }
+        if self.texts.contains(entry) {
+            if let Some(end) = text_end(image, spot.at) {
+                self.meet(image, end.increment(), spot.offset);
+                return;
+            }
+        }
         for by in 0..8usize {
             if self.returns[by].contains(entry) {
                 self.advance(image, spot, by + 1);
@@ -290,6 +313,18 @@ impl Reach {
         }
         self.call_again();
     }
+}
+
+/// The word 0000 that ends a text behind a call, if there is one.
+fn text_end(image: &Image, call: Word) -> Option<Word> {
+    let mut at = call;
+    for _character in 0..MOST_TEXT {
+        at = at.increment();
+        if image.get(at)? == Word::ZERO {
+            return Some(at);
+        }
+    }
+    None
 }
 
 /// Whether a cell is one of 0010 to 0017, which an indirect reference steps.

@@ -45,6 +45,7 @@ test:
 	python3 tests/edits.py
 	RT_JOBS=$(LANES) rt ci
 	python3 tests/agreement.py $(BUILT)
+	python3 tests/explained.py $(BUILT)
 	python3 tests/cases.py $(BUILT)
 
 # All cases, with the program that is built.

@@ -1,7 +1,7 @@
 # Completions of pdp8 for bash.
 _pdp8() {
     local word=${COMP_WORDS[COMP_CWORD]} before=${COMP_WORDS[COMP_CWORD-1]} options=
-    local commands='verify assemble list source dump run watch check declare guess refute migrate help'
+    local commands='verify assemble list source dump run watch check declare guess refute migrate explain help'
     if [ "$COMP_CWORD" -eq 1 ]; then
         COMPREPLY=($(compgen -W "$commands --help --version" -- "$word"))
         return
@@ -38,6 +38,7 @@ _pdp8() {
         refute) options='--output --steps --seed --why --help' ;;
         declare) options='--output --start --reads --profile --why --help' ;;
         migrate) options='--output --why --help' ;;
+        explain) options='--help' ;;
     esac
     if [[ $word == -* ]]; then
         COMPREPLY=($(compgen -W "$options" -- "$word"))

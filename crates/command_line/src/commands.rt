@@ -118,6 +118,13 @@ const OUTPUT: Argument = Argument {
     help: "where the result goes, or - for standard output, in place of the operand OUT; the file is made when there is a result, and else stays as it was",
 };
 
+const CODE: Argument = Argument {
+    name: "CODE",
+    short: None,
+    form: Form::OptionalOperand,
+    help: "a condition such as V5, a rule such as rule2, or the name of a fault such as IR or BadLine",
+};
+
 const PROFILE: Argument = Argument {
     name: "profile",
     short: None,
@@ -346,6 +353,8 @@ static REFUTE_ARGUMENTS: [Argument; 7] = [
 
 static MIGRATE_ARGUMENTS: [Argument; 4] = [CERTIFICATE, CERTIFICATE_OUT, OUTPUT, WHY_INPUT];
 
+static EXPLAIN_ARGUMENTS: [Argument; 1] = [CODE];
+
 static VERIFY: Entry = Entry {
     name: "verify",
     usage: None,
@@ -430,6 +439,13 @@ static MIGRATE: Entry = Entry {
     after_help: "The operand OUT is emptied before the certificate is read, also where that is refused.\n\nExample:\n  pdp8 migrate hello.certificate -o hello-2.certificate",
 };
 
+static EXPLAIN: Entry = Entry {
+    name: "explain",
+    usage: None,
+    about: "Writes what a condition, a rule or a fault means, and what to do",
+    after_help: "Without CODE it lists the codes. Those of `no: V5 at 0210`, `broken: event 50 rule 2` and `pdp8: source: IR 1 2` are V5, rule2 and IR.\n\nExample:\n  pdp8 explain V5",
+};
+
 /// The program with all its commands.
 pub(crate) fn command<'a>(alloc: Global) -> Result<Command<'a>, AllocError> {
     let program = Command::new(alloc, "pdp8")
@@ -449,5 +465,6 @@ pub(crate) fn command<'a>(alloc: Global) -> Result<Command<'a>, AllocError> {
     let program = with_entry(alloc, program, &DECLARE, &DECLARE_ARGUMENTS)?;
     let program = with_entry(alloc, program, &GUESS, &GUESS_ARGUMENTS)?;
     let program = with_entry(alloc, program, &REFUTE, &REFUTE_ARGUMENTS)?;
-    with_entry(alloc, program, &MIGRATE, &MIGRATE_ARGUMENTS)
+    let program = with_entry(alloc, program, &MIGRATE, &MIGRATE_ARGUMENTS)?;
+    with_entry(alloc, program, &EXPLAIN, &EXPLAIN_ARGUMENTS)
 }

@@ -70,7 +70,7 @@ impl<'a> Request<'a> {
                 output: Some(out.name()),
                 ..none
             },
-            Request::List { .. } => none,
+            Request::List { .. } | Request::Explain { .. } => none,
             Request::Source {
                 tape,
                 declaration,

@@ -124,6 +124,11 @@ pub enum Request<'a> {
         /// Where the migrated certificate goes.
         out: Destination<'a>,
     },
+    /// To say what a condition, a rule or a fault means.
+    Explain {
+        /// Its code; without one the codes are listed.
+        code: Option<&'a str>,
+    },
     /// To watch a run.
     Watch {
         /// The name of the tape's file.
@@ -473,6 +478,9 @@ fn request_of<'a>(
         "refute" => refute_request(found),
         "verify" => verify_request(found),
         "migrate" => migrate_request(found),
+        "explain" => Ok(Request::Explain {
+            code: found.get_str("CODE"),
+        }),
         _ => run_request(found),
     }
 }

@@ -49,7 +49,20 @@ fn push_line<A: Allocator>(
     text.extend_from_slice(b"\n")
 }
 
-/// Adds the line of a cell that is written: the pointer that is stepped, or what is stored into.
+/// Adds the line of what a cell holds, and of the word that would take its place.
+fn push_change<A: Allocator>(
+    text: &mut Vec<u8, A>,
+    cpu: &Cpu,
+    cell: Word,
+    then: Word,
+) -> Result<(), AllocError> {
+    push_place(text, b"", cell)?;
+    push_place(text, b" holds ", cpu.memory.get(cell))?;
+    push_line(text, b", and would hold ", then, b"")
+}
+
+/// Adds the lines of a cell that is written: the pointer that is stepped, or what is stored into; and of the
+/// words there before and after.
 fn push_write<A: Allocator, D: Allocator>(
     text: &mut Vec<u8, A>,
     declaration: &Declaration<D>,
@@ -59,18 +72,29 @@ fn push_write<A: Allocator, D: Allocator>(
     let named = target(word, cpu.pc);
     let steps = refers_indirectly(word) && is_auto_index(named);
     if steps && !declaration.is_variable(named) {
-        return push_line(
+        push_line(
             text,
             b"it steps the pointer ",
             named,
             b", which is no variable",
-        );
+        )?;
+        return push_change(text, cpu, named, cpu.memory.get(named).increment());
     }
     let place = effective_address(&cpu.memory, word, cpu.pc);
-    push_line(text, b"it stores into ", place, b", which is no variable")
+    push_line(text, b"it stores into ", place, b", which is no variable")?;
+    match Operation::of(word) {
+        Operation::Isz => push_change(text, cpu, place, cpu.memory.get(place).increment()),
+        _ => push_change(text, cpu, place, cpu.ac),
+    }
 }
 
-/// Adds the line of a cell that is read and isn't on the list: the pointer, or the operand.
+/// Adds the line of what a cell holds.
+fn push_held<A: Allocator>(text: &mut Vec<u8, A>, cpu: &Cpu, cell: Word) -> Result<(), AllocError> {
+    push_place(text, b"", cell)?;
+    push_line(text, b" holds ", cpu.memory.get(cell), b"")
+}
+
+/// Adds the lines of a cell that is read and isn't on the list, the pointer or the operand, and of its word.
 fn push_read<A: Allocator, D: Allocator>(
     text: &mut Vec<u8, A>,
     declaration: &Declaration<D>,
@@ -81,20 +105,56 @@ fn push_read<A: Allocator, D: Allocator>(
     let named = target(word, cpu.pc);
     let own = calls.last().is_some_and(|call| call.entry == named);
     if refers_indirectly(word) && !declaration.may_read(named) && !own {
-        return push_line(
+        push_line(
             text,
             b"it reads the pointer ",
             named,
             b", which isn't on the list",
-        );
+        )?;
+        return push_held(text, cpu, named);
     }
     let place = effective_address(&cpu.memory, word, cpu.pc);
-    push_line(text, b"it reads ", place, b", which isn't on the list")
+    push_line(text, b"it reads ", place, b", which isn't on the list")?;
+    push_held(text, cpu, place)
 }
 
-/// Adds the line of a return: where it goes, and the call that it doesn't return from.
-fn push_return<A: Allocator>(
+/// Adds the line of the addresses to which a call may return: those by the offsets that are declared of its
+/// routine.
+fn push_returns<A: Allocator, D: Allocator>(
     text: &mut Vec<u8, A>,
+    declaration: &Declaration<D>,
+    call: &Call,
+) -> Result<(), AllocError> {
+    let mut is_one_told = false;
+    for index in 0..8usize {
+        let offset = Word::from_index(index);
+        if declaration.has_offset(call.entry, offset) {
+            if is_one_told {
+                text.extend_from_slice(b" or ")?;
+            } else {
+                push_place(text, b"the routine ", call.entry)?;
+                text.extend_from_slice(b" may return to ")?;
+            }
+            push_word(text, call.after.add(offset))?;
+            is_one_told = true;
+        }
+    }
+    if is_one_told {
+        return text.extend_from_slice(b"\n");
+    }
+    push_line(
+        text,
+        b"no return is declared of the routine ",
+        call.entry,
+        b"",
+    )
+}
+
+/// Adds the lines of a return: where it goes, the call that it doesn't return from, and where that may return
+/// to.
+fn push_return<A: Allocator, D: Allocator>(
+    text: &mut Vec<u8, A>,
+    declaration: &Declaration<D>,
     calls: &[Call],
     cpu: &Cpu,
     word: Word,
@@ -106,12 +166,13 @@ fn push_return<A: Allocator>(
         None => text.extend_from_slice(b"; no call is open\n"),
         Some(call) => {
             push_place(text, b"; the last call is of ", call.entry)?;
-            push_line(text, b", and the address after it is ", call.after, b"")
+            push_line(text, b", and the address after it is ", call.after, b"")?;
+            push_returns(text, declaration, call)
         }
     }
 }
 
-/// Adds the line that says what the step does that its rule doesn't allow.
+/// Adds the lines that say what the step does that its rule doesn't allow.
 fn push_act<A: Allocator, D: Allocator>(
     text: &mut Vec<u8, A>,
     declaration: &Declaration<D>,
@@ -142,7 +203,7 @@ fn push_act<A: Allocator, D: Allocator>(
             let place = effective_address(&cpu.memory, word, cpu.pc);
             push_line(text, b"it goes to ", place, b", which is no entry")
         }
-        Rule::ReturnsToItsCall => push_return(text, calls, cpu, word),
+        Rule::ReturnsToItsCall => push_return(text, declaration, calls, cpu, word),
         Rule::HaltsDeclared => push_line(text, b"", cpu.pc, b" is no declared halt"),
         Rule::KeepsCode => push_line(text, b"the word at ", cpu.pc, b" isn't the tape's"),
         Rule::ReadsListed => push_read(text, declaration, calls, cpu, word),

@@ -2,11 +2,13 @@
 //! tested and not proved.
 
 use crate::files::open_input;
+use analyser::{Attempt, guess_or_draft};
+use bound_texts::push_bound;
 use command_line::FileNames;
 use command_parts::inputs::{declaration_from, tape_from};
 use commands::status::{DeviceFault, Fault};
 use fault_texts::{FaultyFile, push_fault, push_omissions};
-use std::alloc::Global;
+use std::alloc::{AllocError, Global};
 use std::fmt::Write;
 use std::rt::Files;
 use streams::read_at_most;
@@ -52,6 +54,40 @@ fn unread_input<'a, R: Files + Input>(
     None
 }
 
+/// What the draft of a search that is stuck tells of the pointer there.
+fn bound_of<R: Files + Input>(
+    rt: &R,
+    alloc: Global,
+    tape: &str,
+    declaration: &str,
+) -> Result<Vec<u8>, Fault> {
+    let image = tape_from(&mut open_input(rt, tape)?)?;
+    let promised = declaration_from(alloc, &mut open_input(rt, declaration)?)?;
+    let mut text = Vec::new(alloc);
+    if let Attempt::Stuck(at, draft) = guess_or_draft(alloc, &image, &promised)? {
+        push_bound(alloc, &mut text, &image, &promised, &draft, at)?;
+    }
+    Ok(text)
+}
+
+/// What the draft of a search that is stuck tells of the pointer there, as lines for people. The search is
+/// made once more for it. Of standard input, which can't be read twice, and of a file with a fault it says
+/// nothing.
+pub fn bound_lines<R: Files + Input>(
+    rt: &R,
+    alloc: Global,
+    tape: &str,
+    declaration: &str,
+) -> Vec<u8> {
+    if tape == "-" || declaration == "-" {
+        return Vec::new(alloc);
+    }
+    match bound_of(rt, alloc, tape, declaration) {
+        Ok(text) => text,
+        Err(_) => Vec::new(alloc),
+    }
+}
+
 /// What the tape and the declaration of these files show by themselves.
 fn omissions_of<R: Files + Input>(
     rt: &R,
@@ -84,6 +120,26 @@ pub fn omissions<R: Files + Input>(
         Ok(text) => text,
         Err(_) => Vec::new(alloc),
     }
+}
+
+/// The lines of a search that is stuck, with these behind the first one: what the tape and the declaration show
+/// by themselves comes before why the search is stuck.
+pub fn with_omissions(
+    alloc: Global,
+    report: &[u8],
+    omissions: &[u8],
+) -> Result<Vec<u8>, AllocError> {
+    let first = report.split(|byte| *byte == b'\n').next().unwrap_or(b"");
+    let why = report.get(first.len().saturating_add(1)..).unwrap_or(b"");
+    let mut text = Vec::new(alloc);
+    text.extend_from_slice(first)?;
+    text.extend_from_slice(b"\n")?;
+    text.extend_from_slice(omissions)?;
+    if !omissions.is_empty() && !why.is_empty() {
+        text.extend_from_slice(b"where the search is stuck:\n")?;
+    }
+    text.extend_from_slice(why)?;
+    Ok(text)
 }
 
 /// The address in the line `pdp8: guess: Stuck 0210`.

@@ -2,7 +2,7 @@
 
 ghost use Rattle.std.specs.Prelude.{◌≤◌};
 
-use crate::faults::{fault_lines, omissions, stuck_address};
+use crate::faults::{bound_lines, fault_lines, omissions, stuck_address, with_omissions};
 use crate::files::{open_input, open_output};
 use crate::joined::{hold_session, tell_to, watch_joined};
 use crate::saving::{save_answer, save_proposed};
@@ -22,6 +22,7 @@ use commands::status::{DeviceFault, Fault, Status};
 use commands::stuck::guess_or_explain;
 use commands::verifying::{Answer, Lack, VerifyOptions, answer_status, verify, verify_proposed};
 use commands::watching::watch;
+use explanations::{push_codes, push_explanations};
 use instruct::Profile;
 use std::alloc::Global;
 use std::io::ErrorKind;
@@ -196,6 +197,7 @@ fn answer<R: Files + Input + Print + Eprint>(
             options,
         } => verify_from(rt, alloc, tape, *declaration, *save, options),
         Request::Migrate { certificate, out } => migrate_from(rt, alloc, certificate, *out),
+        Request::Explain { code } => explain_code(rt, alloc, *code),
     }
 }
 
@@ -245,6 +247,29 @@ fn migrate_from<R: Files + Input + Print>(
     let mut text = open_input(rt, certificate)?;
     let mut migrated = open_output(rt, out)?;
     migrate(alloc, &mut text, &mut migrated)
+}
+
+/// Says what is meant by a code, or which codes there are. A code that there isn't is a bad command line.
+#[inline(never)]
+fn explain_code<R: Print + Eprint>(
+    rt: &R,
+    alloc: Global,
+    code: Option<&str>,
+) -> Result<Status, Fault> {
+    let mut text = String::new(alloc);
+    match code {
+        None => push_codes(&mut text)?,
+        Some(code) => {
+            if !push_explanations(&mut text, code)? {
+                let told = eprintln!(rt; "error: no code is '{code}': 'pdp8 explain' lists all");
+                return match told {
+                    Ok(()) | Err(_) => Ok(Status::Words),
+                };
+            }
+        }
+    }
+    put(&mut Writes::new(io::writer(rt)), text.as_bytes())?;
+    Ok(Status::Done)
 }
 
 /// Watches a run of the tape of a file.
@@ -325,8 +350,9 @@ fn guess_from<R: Files + Input + Print + Eprint>(
         let status = guess_or_explain(alloc, &mut frames, &mut text, &mut certificate, &mut lines)?;
         if status == Status::Refused {
             let others = omissions(rt, alloc, tape, declaration, stuck_address(&report));
-            report.extend_from_slice(&others)?;
-            let _ = put(&mut tell_to(rt), &report);
+            let mut told = with_omissions(alloc, &report, &others)?;
+            told.extend_from_slice(&bound_lines(rt, alloc, tape, declaration))?;
+            let _ = put(&mut tell_to(rt), &told);
         }
         return Ok(status);
     }
@@ -351,13 +377,20 @@ fn verify_from<R: Files + Input + Print>(
         return Ok(answer_status(&proposed.answer));
     };
     let mut text = open_input(rt, declaration)?;
-    let answer = verify(alloc, &mut frames, &mut text, options.search, &mut out)?;
+    let mut report = Vec::new(alloc);
+    let mut lines = Writes::new(&mut report);
+    let answer = verify(alloc, &mut frames, &mut text, options.search, &mut lines)?;
+    let mut others = Vec::new(alloc);
+    let mut bound = Vec::new(alloc);
     if let Answer::NotKnown(Lack::Stuck(at)) = &answer {
         if options.search.explained {
-            let others = omissions(rt, alloc, tape, declaration, Some(*at));
-            put(&mut Writes::new(io::writer(rt)), &others)?;
+            others = omissions(rt, alloc, tape, declaration, Some(*at));
+            bound = bound_lines(rt, alloc, tape, declaration);
         }
     }
+    let mut told = with_omissions(alloc, &report, &others)?;
+    told.extend_from_slice(&bound)?;
+    put(&mut out, &told)?;
     save_answer(rt, alloc, save, &answer)?;
     Ok(answer_status(&answer))
 }

@@ -1,0 +1,148 @@
+//! How less is known of a pointer behind an instruction than before it.
+
+use declaration::Declaration;
+use facts::{Fact, Name, narrowed};
+use instruct::{Operation, halts, refers_indirectly, target};
+use std::alloc::Allocator;
+use word12::Word;
+use wordset::WordSet;
+
+/// Why less is known of a pointer behind an instruction.
+#[derive(Clone, Copy, PartialEq, Eq)]
+pub(crate) enum Loss {
+    /// The accumulator was compared, and the skip clears it.
+    ClearingSkip,
+    /// The accumulator had the pointer, and is complemented.
+    Complement,
+    /// A routine may write it.
+    Call,
+    /// A store through a pointer may reach it.
+    Store,
+    /// It may hold other words on another way to the same place.
+    Meeting,
+}
+
+impl Loss {
+    /// What is told of it.
+    pub(crate) fn told(self) -> &'static [u8] {
+        match self {
+            Loss::ClearingSkip => b"a skip that clears tells nothing of it",
+            Loss::Complement => b"a complement on the way to a test drops what is known of it",
+            Loss::Call => b"the routine may write it",
+            Loss::Store => b"the store through a pointer may reach it",
+            Loss::Meeting => b"on another way to the next place it may hold other words",
+        }
+    }
+}
+
+/// Whether a word is a memory reference.
+pub(crate) fn refers_to_memory(word: Word) -> bool {
+    word.value() < 0o6000
+}
+
+/// The operation of a word, if it is a memory reference.
+fn operation(word: Word) -> Option<Operation> {
+    refers_to_memory(word).then_some(Operation::of(word))
+}
+
+/// Whether a word is of group 2.
+fn is_group2(word: Word) -> bool {
+    word.value() & 0o7401 == 0o7400
+}
+
+/// Whether a word is of group 2, with a test.
+fn is_test(word: Word) -> bool {
+    is_group2(word) && word.value() & 0o170 != 0
+}
+
+/// Whether a word that is no memory reference may skip: one of group 2 with a test, or of a device.
+fn may_skip(word: Word) -> bool {
+    is_test(word) || word.value() < 0o7000
+}
+
+/// Whether a call at this address may return to that one.
+fn may_return<D: Allocator>(
+    declaration: &Declaration<D>,
+    entry: Word,
+    after: Word,
+    to: Word,
+) -> bool {
+    for index in 0..8usize {
+        let offset = Word::from_index(index);
+        if declaration.has_offset(entry, offset) && after.add(offset) == to {
+            return true;
+        }
+    }
+    false
+}
+
+/// Whether a run may go on from an instruction to an address, as far as the word tells.
+pub(crate) fn may_go_on<D: Allocator>(
+    declaration: &Declaration<D>,
+    at: Word,
+    word: Word,
+    to: Word,
+) -> bool {
+    let next = at.increment();
+    let named = target(word, at);
+    match operation(word) {
+        Some(Operation::Jmp) => !refers_indirectly(word) && named == to,
+        Some(Operation::Jms) => {
+            !refers_indirectly(word)
+                && (named.increment() == to || may_return(declaration, named, next, to))
+        }
+        Some(Operation::Isz) => to == next || to == next.increment(),
+        Some(_) => to == next,
+        None if is_group2(word) && halts(word) => declaration.is_pause(at) && to == next,
+        None if may_skip(word) => to == next || to == next.increment(),
+        None => to == next,
+    }
+}
+
+/// Whether it is known how far the accumulator is from a cell.
+fn ties_accumulator(fact: &Fact, cell: Word) -> bool {
+    for equation in fact.equations() {
+        if equation.left == Name::Accumulator && equation.right == cell {
+            return true;
+        }
+    }
+    false
+}
+
+/// The words that a pointer may hold behind an instruction, as far as the instruction itself tells.
+fn words_behind(before: &Fact, at: Word, word: Word, pointer: Word) -> WordSet {
+    let stores = matches!(operation(word), Some(Operation::Dca)) && !refers_indirectly(word);
+    if stores && target(word, at) == pointer {
+        return narrowed(before, &Name::Accumulator);
+    }
+    narrowed(before, &Name::Cell(pointer))
+}
+
+/// Why less is known of a pointer at the place where a run goes on from an instruction, if it is so.
+pub(crate) fn loss_at(
+    before: &Fact,
+    at: Word,
+    word: Word,
+    behind: &Fact,
+    to: Word,
+    pointer: Word,
+) -> Option<Loss> {
+    if ties_accumulator(before, pointer) && !ties_accumulator(behind, pointer) {
+        let bits = word.value();
+        if is_test(word) && bits & 0o200 != 0 {
+            return Some(Loss::ClearingSkip);
+        }
+        if bits & 0o7640 == 0o7040 {
+            return Some(Loss::Complement);
+        }
+    }
+    let fewer = words_behind(before, at, word, pointer);
+    if fewer.count() >= narrowed(behind, &Name::Cell(pointer)).count() {
+        return None;
+    }
+    match operation(word) {
+        Some(Operation::Jms) if target(word, at).increment() != to => Some(Loss::Call),
+        Some(Operation::Dca | Operation::Isz) if refers_indirectly(word) => Some(Loss::Store),
+        _ => Some(Loss::Meeting),
+    }
+}

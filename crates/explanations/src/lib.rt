@@ -1,0 +1,132 @@
+//! What is said of each condition, rule and fault by its code: what is asked, or what it means, and what to
+//! do. The pages say the same. It is tested and not proved.
+#![tactic(auto)]
+
+mod conditions;
+mod faults;
+mod rules;
+
+use crate::conditions::CONDITIONS;
+use crate::faults::FAULTS;
+use crate::rules::RULES;
+use std::alloc::{AllocError, Allocator};
+
+/// The column in which the list of codes says what they mean.
+const COLUMN: usize = 18;
+
+/// What a code stands for.
+#[derive(Clone, Copy)]
+pub(crate) enum Subject {
+    /// A condition or a rule, which is called so.
+    Asked(&'static str),
+    /// A fault, of which this is a line, without `pdp8: `.
+    Fault(&'static str),
+}
+
+/// What is said of a code.
+#[derive(Clone, Copy)]
+pub(crate) struct Explanation {
+    /// The code. Several faults may have the same.
+    pub(crate) code: &'static str,
+    /// What it stands for.
+    pub(crate) subject: Subject,
+    /// What is asked, or what the fault means.
+    pub(crate) meaning: &'static str,
+    /// What to do.
+    pub(crate) advice: &'static str,
+}
+
+impl Explanation {
+    /// Adds the line that says what it is, and the front of the next one.
+    fn push_subject<A: Allocator>(&self, text: &mut String<A>) -> Result<(), AllocError> {
+        match self.subject {
+            Subject::Asked(name) => {
+                text.push_str(self.code)?;
+                text.push_str(": ")?;
+                text.push_str(name)?;
+                text.push_str("\nasked: ")
+            }
+            Subject::Fault(line) => {
+                text.push_str(line)?;
+                text.push_str("\nmeaning: ")
+            }
+        }
+    }
+
+    /// Adds all that is said of it.
+    fn push_whole<A: Allocator>(&self, text: &mut String<A>) -> Result<(), AllocError> {
+        self.push_subject(text)?;
+        text.push_str(self.meaning)?;
+        text.push_str("\nwhat to do: ")?;
+        text.push_str(self.advice)?;
+        text.push_str("\n")
+    }
+
+    /// Adds its line in the list of codes.
+    fn push_listed<A: Allocator>(&self, text: &mut String<A>) -> Result<(), AllocError> {
+        text.push_str(self.code)?;
+        for _ in self.code.len()..COLUMN {
+            text.push(' ')?;
+        }
+        match self.subject {
+            Subject::Asked(name) => text.push_str(name)?,
+            Subject::Fault(_) => text.push_str(self.meaning)?,
+        }
+        text.push_str("\n")
+    }
+}
+
+/// Adds what a table says of a code, and tells whether it says anything.
+fn push_from<A: Allocator>(
+    text: &mut String<A>,
+    table: &[Explanation],
+    code: &str,
+) -> Result<bool, AllocError> {
+    let mut is_known = false;
+    for explanation in table {
+        if *explanation.code == *code {
+            if is_known {
+                text.push_str("\n")?;
+            }
+            explanation.push_whole(text)?;
+            is_known = true;
+        }
+    }
+    Ok(is_known)
+}
+
+/// Adds the lines of a table in the list of codes.
+fn push_table<A: Allocator>(text: &mut String<A>, table: &[Explanation]) -> Result<(), AllocError> {
+    for explanation in table {
+        explanation.push_listed(text)?;
+    }
+    Ok(())
+}
+
+/// Adds what is said of a code, such as `V5`, `rule2` or `IR`: of each fault that has it, with an empty line
+/// between two. Tells whether the code is one of the list.
+///
+/// # Errors
+///
+/// `AllocError` where a growth was refused.
+pub fn push_explanations<A: Allocator>(
+    text: &mut String<A>,
+    code: &str,
+) -> Result<bool, AllocError> {
+    let is_condition = push_from(text, &CONDITIONS, code)?;
+    let is_rule = push_from(text, &RULES, code)?;
+    let is_fault = push_from(text, &FAULTS, code)?;
+    Ok(is_condition || is_rule || is_fault)
+}
+
+/// Adds the list of codes, each with a line: conditions, rules and faults.
+///
+/// # Errors
+///
+/// `AllocError` where a growth was refused.
+pub fn push_codes<A: Allocator>(text: &mut String<A>) -> Result<(), AllocError> {
+    text.push_str("pdp8 explain CODE says what is asked or meant, and what to do. The codes:\n")?;
+    push_table(text, &CONDITIONS)?;
+    push_table(text, &RULES)?;
+    push_table(text, &FAULTS)
+}

@@ -17,10 +17,11 @@ ghost use Rattle.facts.specs.Slots.{slots};
 
 use crate::Condition;
 use crate::conditions::stores;
-use crate::dispatch::{OutcomeList, outcomes};
+use crate::dispatch::outcomes;
 use crate::entailment::{narrowed, word_of};
 use crate::fact::Fact;
 use crate::names::Name;
+use crate::outcome::Outcomes;
 use crate::place::Place;
 use crate::references::{either, steps_pointer};
 use crate::room::Room;
@@ -366,7 +367,7 @@ pub fn post<'a, A: Allocator>(
     word: Word,
     place: &Place<'_, A>,
     room: &'a mut Room,
-) -> Result<OutcomeList<'a>, Condition>
+) -> Result<Outcomes<'a>, Condition>
     ensures outcomes { IfOk result (λ given.
         AgreeingOutcomes (slots given.all) (outcomes_at (place_of place.now) (meaning fact.now) at
         word)) }

@@ -16,7 +16,7 @@ ghost use Rattle.facts.specs.Slots.{slot, slots};
 
 use crate::fact::Fact;
 use crate::known::Known;
-use crate::outcome::Outcome;
+use crate::outcome::{Outcome, Outcomes};
 use crate::place::Place;
 use crate::references::{call, deposit, steps_pointer};
 use crate::registers::{exchange, operate, transfer};
@@ -27,47 +27,40 @@ use instruct::{DeviceOperation, Instruction, Operation, decode, halts, refers_in
 use std::alloc::Allocator;
 use word12::{Link, Word};
 
-/// The outcomes of a word: at most four.
-#[derive(Drop)]
-pub struct OutcomeList<'a> {
-    /// In their order, each of which may not be there.
-    pub all: [Option<Outcome<'a>>; 4],
-}
-
 /// No outcome.
-fn nowhere<'a>() -> OutcomeList<'a>
+fn nowhere<'a>() -> Outcomes<'a>
     ensures { slots result.all ≡ [] }
 {
-    OutcomeList {
+    Outcomes {
         all: [None, None, None, None],
     }
 }
 
 /// One outcome, if it is there.
-fn one<'a>(outcome: Option<Outcome<'a>>) -> OutcomeList<'a>
+fn one<'a>(outcome: Option<Outcome<'a>>) -> Outcomes<'a>
     ensures { (given : List told.Outcome) → AgreeingOutcomes (slot outcome.entry) given →
         AgreeingOutcomes (slots result.all) given }
 {
-    OutcomeList {
+    Outcomes {
         all: [outcome, None, None, None],
     }
 }
 
 /// Two outcomes, so far as they are there.
-fn two<'a>(outcomes: (Option<Outcome<'a>>, Option<Outcome<'a>>)) -> OutcomeList<'a>
+fn two<'a>(outcomes: (Option<Outcome<'a>>, Option<Outcome<'a>>)) -> Outcomes<'a>
     ensures { (given : List told.Outcome) → AgreeingOutcomes
         (slot outcomes.entry.0 ++ slot outcomes.entry.1) given →
         AgreeingOutcomes (slots result.all) given }
 {
     let (first, second) = outcomes;
-    OutcomeList {
+    Outcomes {
         all: [first, second, None, None],
     }
 }
 
 /// The outcomes of a word of group 2: each link by itself, with and without a skip.
 #[inline(never)]
-fn branches<'a>(at: Word, word: Word, known: &Known<'a>, room: &'a mut Room) -> OutcomeList<'a>
+fn branches<'a>(at: Word, word: Word, known: &Known<'a>, room: &'a mut Room) -> Outcomes<'a>
     requires room { length known.now.equations.now ≤ 32 }
     ensures { (f : said.Fact) → Agree (known_of known.now) f →
         AgreeingOutcomes (slots result.all) (all_operated2 at word f) }
@@ -76,7 +69,7 @@ fn branches<'a>(at: Word, word: Word, known: &Known<'a>, room: &'a mut Room) -> 
     let second = branch(at, word, known, Link::CLEAR, false, &mut room.two);
     let third = branch(at, word, known, Link::SET, true, &mut room.three);
     let fourth = branch(at, word, known, Link::SET, false, &mut room.four);
-    OutcomeList {
+    Outcomes {
         all: [first, second, third, fourth],
     }
 }
@@ -95,13 +88,7 @@ fn single_target(indirect: bool, named: Word, targets: &Seen) -> Option<Word>
 
 impl<A: Allocator> Place<'_, A> {
     /// The outcomes of a memory reference: a stepped pointer counts up first.
-    fn refer<'a>(
-        &self,
-        at: Word,
-        word: Word,
-        known: &Known<'a>,
-        room: &'a mut Room,
-    ) -> OutcomeList<'a>
+    fn refer<'a>(&self, at: Word, word: Word, known: &Known<'a>, room: &'a mut Room) -> Outcomes<'a>
         requires pointer { IsUnchanged known.now.pointer }
         requires target { IsUnchanged known.now.target }
         requires room { length known.now.equations.now ≤ 32 }
@@ -146,7 +133,7 @@ impl<A: Allocator> Place<'_, A> {
         single: &Option<Word>,
         way: &'a mut Way,
         other: &'a mut Way,
-    ) -> OutcomeList<'a>
+    ) -> Outcomes<'a>
         requires single { single.now ≡ only (words reached.now) }
         requires target { IsUnchanged seen.now.target }
         requires room { length seen.now.equations.now ≤ 32 }
@@ -170,13 +157,7 @@ impl<A: Allocator> Place<'_, A> {
     }
 
     /// The outcomes of a word of group 2. A HLT at a stop has none.
-    fn skip<'a>(
-        &self,
-        at: Word,
-        word: Word,
-        known: &Known<'a>,
-        room: &'a mut Room,
-    ) -> OutcomeList<'a>
+    fn skip<'a>(&self, at: Word, word: Word, known: &Known<'a>, room: &'a mut Room) -> Outcomes<'a>
         requires room { length known.now.equations.now ≤ 32 }
         ensures { (f : said.Fact) → Agree (known_of known.now) f →
             AgreeingOutcomes (slots result.all) (outcomes_of (place_of self.now) f at (Group2 word)) }
@@ -194,7 +175,7 @@ impl<A: Allocator> Place<'_, A> {
         word: Word,
         known: &Known<'a>,
         room: &'a mut Room,
-    ) -> OutcomeList<'a>
+    ) -> Outcomes<'a>
         requires kind { kind_of (meaning_of (place_of self.now).declaration.profile at word) ≡ Iot }
         requires room { length known.now.equations.now ≤ 32 }
         ensures { (f : said.Fact) → Agree (known_of known.now) f →
@@ -213,7 +194,7 @@ impl<A: Allocator> Place<'_, A> {
         word: Word,
         known: &Known<'a>,
         room: &'a mut Room,
-    ) -> OutcomeList<'a>
+    ) -> Outcomes<'a>
         requires pointer { IsUnchanged known.now.pointer }
         requires target { IsUnchanged known.now.target }
         requires room { length known.now.equations.now ≤ 32 }
@@ -242,7 +223,7 @@ pub fn outcomes<'a, A: Allocator>(
     word: Word,
     place: &Place<'_, A>,
     room: &'a mut Room,
-) -> OutcomeList<'a>
+) -> Outcomes<'a>
     ensures { AgreeingOutcomes (slots result.all)
         (outcomes_at (place_of place.now) (meaning fact.now) at word) }
 {

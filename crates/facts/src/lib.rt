@@ -27,13 +27,13 @@ mod tracking;
 
 pub use asked::post;
 pub use conditions::{reads, writes};
-pub use dispatch::{OutcomeList, outcomes};
+pub use dispatch::outcomes;
 pub use entailment::{entails, entails_return, holds_before, is_always, narrowed};
 pub use fact::Fact;
 pub use known::Known;
 pub use names::{Equation, Name};
 pub use offsets::Offsets;
-pub use outcome::Outcome;
+pub use outcome::{Outcome, Outcomes};
 pub use place::{Place, Running};
 pub use room::Room;
 pub use seen::Seen;

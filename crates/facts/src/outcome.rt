@@ -28,6 +28,13 @@ pub enum Outcome<'a> {
     Returns(Known<'a>),
 }
 
+/// The outcomes of a word: at most four.
+#[derive(Drop)]
+pub struct Outcomes<'a> {
+    /// In their order, each of which may not be there.
+    pub all: [Option<Outcome<'a>>; 4],
+}
+
 /// Whether a link is possible.
 fn has_link(links: Links) -> bool
     ensures { result ≡ has_link (links_of links) }

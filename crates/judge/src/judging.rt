@@ -6,6 +6,7 @@ ghost use Rattle.declaration.specs.Kept.{meaning};
 ghost use Rattle.policy.specs.Runs.{IsSafe};
 ghost use Rattle.judge.specs.Judged.{judged};
 ghost use Rattle.judge.specs.Conditions.{IsValid, IsFirst};
+ghost use Rattle.judge.specs.Pages.{IsDesk};
 
 use crate::claims::Claims;
 use crate::lines::Case;
@@ -47,14 +48,29 @@ pub fn judge<A: Allocator, C: Claims>(
         MatchResult result (λ _. IsValid j) (λ r. IsFirst j r.condition r.address) }
     ensures safe { OnOk result (IsSafe (image_of image.now) (meaning declaration.now)) }
 {
+    judge_on(image, declaration, claims, &mut Desk::new())
+}
+
+/// The same, on a desk that is lent, so that it is made in one place and not copied.
+#[inline(never)]
+fn judge_on<A: Allocator, C: Claims>(
+    image: &Image,
+    declaration: &Declaration<A>,
+    claims: &C,
+    desk: &mut Desk,
+) -> Result<(), Refusal>
+    requires { IsDesk (C.claims claims.now) desk.old }
+    ensures exact { let j = judged image.now declaration.now (C.claims claims.now) in
+        MatchResult result (λ _. IsValid j) (λ r. IsFirst j r.condition r.address) }
+    ensures safe { OnOk result (IsSafe (image_of image.now) (meaning declaration.now)) }
+{
     declaration.is_declared();
     let case = Case {
         image,
         declaration,
         claims,
     };
-    let mut desk = Desk::new();
-    if !case.starts_well(&mut desk) {
+    if !case.starts_well(desk) {
         return Err(Refusal {
             condition: Condition::V1,
             address: declaration.start(),
@@ -62,7 +78,7 @@ pub fn judge<A: Allocator, C: Claims>(
     }
     let mut next = 0usize;
     while let Some(address) = claims.next_claimed(next) {
-        if let Err(condition) = case.check_at(address, &mut desk) {
+        if let Err(condition) = case.check_at(address, desk) {
             return Err(Refusal { condition, address });
         }
         next = address.index() + 1;

@@ -221,6 +221,7 @@ impl<A: Allocator> World<A> {
     ///
     /// `NoMemory` where the room for a byte that is printed or punched was refused; the world is
     /// then as it was, and the same step may be tried again.
+    #[inline(always)]
     pub fn apply(&mut self, event: Event) -> Result<Seen, NoMemory>
         ensures happens { OnOk result
             (Happens (profile_of self.old) (view self.old) event (view self.new)) }

@@ -35,6 +35,7 @@ pub enum Action {
 }
 
 /// A memory reference at an address.
+#[inline(always)]
 fn referring(memory: &Memory, word: Word, at: Word, profile: Profile) -> Action
     requires { kind_of (meaning_of profile at word) ≡ RefersToMemory }
     ensures { result ≡ action_of (meaning_of profile at word) (cell_of memory.now) }
@@ -48,6 +49,7 @@ fn referring(memory: &Memory, word: Word, at: Word, profile: Profile) -> Action
 }
 
 /// What the instruction at the program counter is about to do on a machine of a profile.
+#[inline(always)]
 pub fn next_action(cpu: &Cpu, profile: Profile) -> Action
     ensures { result ≡ action_of (instruction profile (state_of cpu.now)) (cell_of cpu.now.memory) }
 {

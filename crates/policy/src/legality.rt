@@ -31,6 +31,7 @@ pub struct Call {
 }
 
 /// Whether a cell is the running routine's own entry.
+#[inline(always)]
 fn is_own(calls: &[Call], cell: Word) -> bool
     ensures { result ≡ is_own (current (open_calls calls.now)) cell }
 {
@@ -41,6 +42,7 @@ fn is_own(calls: &[Call], cell: Word) -> bool
 }
 
 /// Whether the program counter is in the running routine's body.
+#[inline(always)]
 fn in_body<A: Allocator>(declaration: &Declaration<A>, calls: &[Call], pc: Word) -> bool
     ensures { result ≡ (meaning declaration.now).body (current (open_calls calls.now)) pc }
 {
@@ -51,6 +53,7 @@ fn in_body<A: Allocator>(declaration: &Declaration<A>, calls: &[Call], pc: Word)
 }
 
 /// Whether a memory reference may write a cell: a variable, or under ISZ the own entry.
+#[inline(always)]
 fn may_write<A: Allocator>(
     declaration: &Declaration<A>,
     operation: Operation,
@@ -64,6 +67,7 @@ fn may_write<A: Allocator>(
 }
 
 /// Whether the pointer that is stepped and the cell that is stored in may be written.
+#[inline(always)]
 fn writes<A: Allocator>(declaration: &Declaration<A>, reference: &Reference, calls: &[Call]) -> bool
     ensures { result
         ≡ writes (meaning declaration.now) reference.now (current (open_calls calls.now)) }
@@ -81,6 +85,7 @@ fn writes<A: Allocator>(declaration: &Declaration<A>, reference: &Reference, cal
 }
 
 /// Whether a JMS goes to an entry.
+#[inline(always)]
 fn calls_entry<A: Allocator>(declaration: &Declaration<A>, reference: &Reference) -> bool
     ensures { result ≡ calls_entry (meaning declaration.now) reference.now }
 {
@@ -91,6 +96,7 @@ fn calls_entry<A: Allocator>(declaration: &Declaration<A>, reference: &Reference
 }
 
 /// How far an address is after another, modulo 4096.
+#[inline(always)]
 fn distance(to: Word, from: Word) -> Word
     ensures { result ≡ minus to from }
 {
@@ -99,6 +105,7 @@ fn distance(to: Word, from: Word) -> Word
 
 /// Whether the last call is one of an entry, in which there is the address of a declared place
 /// after that call.
+#[inline(always)]
 fn finds_call<A: Allocator>(
     declaration: &Declaration<A>,
     entry: Word,
@@ -117,6 +124,7 @@ fn finds_call<A: Allocator>(
 }
 
 /// Whether a memory reference is a JMP I through an entry.
+#[inline(always)]
 pub fn is_return<A: Allocator>(declaration: &Declaration<A>, reference: &Reference) -> bool
     ensures { result ≡ is_return (meaning declaration.now) reference.now }
 {
@@ -125,6 +133,7 @@ pub fn is_return<A: Allocator>(declaration: &Declaration<A>, reference: &Referen
 }
 
 /// Whether a JMP I through an entry returns from its own routine's last call.
+#[inline(always)]
 fn returns<A: Allocator>(
     declaration: &Declaration<A>,
     reference: &Reference,
@@ -147,6 +156,7 @@ fn returns<A: Allocator>(
 }
 
 /// Whether a cell may be read: it's on the list of reads, if there is one, or is the own entry.
+#[inline(always)]
 fn may_load<A: Allocator>(declaration: &Declaration<A>, calls: &[Call], cell: Word) -> bool
     ensures { result ≡ may_load (meaning declaration.now) (current (open_calls calls.now)) cell }
 {
@@ -154,6 +164,7 @@ fn may_load<A: Allocator>(declaration: &Declaration<A>, calls: &[Call], cell: Wo
 }
 
 /// Whether the pointer and the operand may be read.
+#[inline(always)]
 fn reads<A: Allocator>(declaration: &Declaration<A>, reference: &Reference, calls: &[Call]) -> bool
     ensures { result
         ≡ reads (meaning declaration.now) reference.now (current (open_calls calls.now)) }
@@ -170,6 +181,7 @@ fn reads<A: Allocator>(declaration: &Declaration<A>, reference: &Reference, call
 }
 
 /// The least rule on memory references that one breaks.
+#[inline(always)]
 fn broken_by_reference<A: Allocator>(
     declaration: &Declaration<A>,
     reference: &Reference,
@@ -196,6 +208,7 @@ fn broken_by_reference<A: Allocator>(
 }
 
 /// Whether a HLT stands at a declared halt.
+#[inline(always)]
 fn is_halt<A: Allocator>(declaration: &Declaration<A>, pc: Word) -> bool
     ensures { result ≡ ((meaning declaration.now).stop pc || (meaning declaration.now).pause pc) }
 {
@@ -203,6 +216,7 @@ fn is_halt<A: Allocator>(declaration: &Declaration<A>, pc: Word) -> bool
 }
 
 /// The least rule that an action breaks, where fixed code is as it was.
+#[inline(always)]
 fn broken_by<A: Allocator>(
     declaration: &Declaration<A>,
     action: &Action,
@@ -236,6 +250,7 @@ fn broken_by<A: Allocator>(
 /// them.
 ///
 /// It doesn't look whether fixed code is as the tape had it: its caller knows that it is.
+#[inline(always)]
 pub fn broken_rule<A: Allocator>(
     declaration: &Declaration<A>,
     cpu: &Cpu,

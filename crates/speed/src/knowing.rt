@@ -1,4 +1,4 @@
-//! OutcomeList of a word and whether they entail a fact, over and over.
+//! Outcomes of a word and whether they entail a fact, over and over.
 
 use bin_tape::Image;
 use declaration::Declaration;

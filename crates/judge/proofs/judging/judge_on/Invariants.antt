@@ -3,7 +3,7 @@ use Rattle.certificate.specs.Certificate.{claimed}
 use Rattle.judge.specs.Asked.{HoldsBetween}
 use Rattle.judge.specs.Judged.{judged}
 use Rattle.judge.specs.Pages.{IsDesk}
-use Rattle.judge.proofs.judging.judge.Given as goal
+use Rattle.judge.proofs.judging.judge_on.Given as goal
 
 abbrev pub invariant-loop-address : goal.invariant-loop-address
 invariant-loop-address g l =

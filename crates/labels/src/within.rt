@@ -29,11 +29,13 @@ fn is_8e(line: &[u8]) -> bool
 pub fn machine_of(declaration: &[u8]) -> Profile
     ensures { result ≡ machine declaration.now }
 {
-    if Lines::of(declaration).any(|line| is_8e(line)) {
-        Profile::Pdp8E
-    } else {
-        Profile::Pdp8I
+    let mut lines = Lines::of(declaration);
+    while let Some(line) = lines.next() {
+        if is_8e(line) {
+            return Profile::Pdp8E;
+        }
     }
+    Profile::Pdp8I
 }
 
 /// Adds the characters of some bytes.

@@ -1,8 +1,9 @@
 //! The lines of a declaration that stand within a source, and the machine that a declaration names.
 
 ghost use Rattle.std.specs.Prelude.{◌≡◌};
+ghost use Rattle.std.specs.List.{position};
 ghost use Rattle.streams.specs.Text.{words_of};
-ghost use Rattle.labels.specs.Within.{is_8e, machine};
+ghost use Rattle.labels.specs.Within.{is_8e, is_slash_code, machine};
 
 use instruct::Profile;
 use pal_text::characters::is_character_code;
@@ -28,11 +29,13 @@ fn is_8e(line: &[u8]) -> bool
 pub fn machine_of(declaration: &[u8]) -> Profile
     ensures { result ≡ machine declaration.now }
 {
-    if Lines::of(declaration).any(|line| is_8e(line)) {
-        Profile::Pdp8E
-    } else {
-        Profile::Pdp8I
+    let mut lines = Lines::of(declaration);
+    while let Some(line) = lines.next() {
+        if is_8e(line) {
+            return Profile::Pdp8E;
+        }
     }
+    Profile::Pdp8I
 }
 
 /// Adds the characters of some bytes.
@@ -46,16 +49,19 @@ fn push_characters<A: Allocator>(text: &mut Vec<u8, A>, bytes: &[u8]) -> Result<
     Ok(())
 }
 
+/// The first place of a slash in a source's line.
+fn place_of_slash(line: &[u8]) -> Option<usize>
+    ensures { result ≡ position is_slash_code line.now }
+{
+    line.iter().position(|byte| *byte % 0o200 == b'/')
+}
+
 /// The comment of a source's line, without its `/`.
 fn comment_of(line: &[u8]) -> &[u8] {
-    let mut rest = line;
-    while let [first, more @ ..] = rest {
-        rest = more;
-        if *first % 0o200 == b'/' {
-            return rest;
-        }
+    match place_of_slash(line) {
+        Some(at) => &line[at + 1..],
+        None => &[],
     }
-    rest
 }
 
 /// Adds the line of a declaration that a line of a source holds, if it holds one.

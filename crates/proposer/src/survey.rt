@@ -1,7 +1,7 @@
 //! What runs are seen to do. The search for a run that breaks a declaration drives the tape, and
 //! the declaration by which it is watched is widened wherever a step breaks it, as far as one can be.
 
-ghost use Rattle.std.specs.Prelude.{◌≡◌, ◌≤◌, IfOk, IfSome};
+ghost use Rattle.std.specs.Prelude.{◌≡◌};
 ghost use Rattle.declaration.specs.Kept.{meaning};
 ghost use Rattle.peripherals.specs.World.{profile_of};
 
@@ -11,7 +11,7 @@ use crate::variables::Breadth;
 use crate::walk::Spot;
 use bin_tape::Image;
 use declaration::{Declaration, DeclarationFault, Owner};
-use instruct::{Instruction, Operation, Profile, decode, halts, refers_indirectly, target};
+use instruct::{Instruction, Operation, decode, halts, refers_indirectly, target};
 use peripherals::NoMemory;
 use policy::Watcher;
 use processor::{effective_address, is_auto_index};
@@ -59,6 +59,17 @@ enum Lesson {
     Never,
 }
 
+impl Lesson {
+    /// What both teach.
+    fn and(self, other: Lesson) -> Lesson {
+        match (self, other) {
+            (Lesson::Never, _) | (_, Lesson::Never) => Lesson::Never,
+            (Lesson::Nothing, Lesson::Nothing) => Lesson::Nothing,
+            _ => Lesson::New,
+        }
+    }
+}
+
 /// What is learned so far.
 #[derive(Drop)]
 struct Survey<A: Allocator> {
@@ -88,6 +99,11 @@ pub(crate) fn findings<A: Allocator + Copy>(
     let Some(declaration) = declared(alloc, &tape, map)? else {
         return Ok(None);
     };
+    let program = DeclaredProgram {
+        image,
+        declaration: &declaration,
+    };
+    let mut search = RunSearch::new(alloc, &program, SEED)?;
     let mut survey = Survey {
         alloc,
         map: *map,
@@ -97,11 +113,6 @@ pub(crate) fn findings<A: Allocator + Copy>(
         lessons: 0,
         is_undeclarable: false,
     };
-    let program = DeclaredProgram {
-        image,
-        declaration: &survey.declaration,
-    };
-    let mut search = RunSearch::new(alloc, &program, SEED)?;
     let mut turns = Turns::new(MOST_STEPS);
     for _run in 0..MOST_STEPS {
         if turns.spent() >= turns.limit() || survey.is_undeclarable {
@@ -118,14 +129,10 @@ fn declared<A: Allocator + Copy>(
     alloc: A,
     tape: &Tape<'_>,
     map: &Map,
-) -> Result<Option<Declaration<A>>, NoMemory>
-    ensures profile { IfOk result (λ found. IfSome found (λ d.
-        (meaning d).profile ≡ map.now.profile)) }
-{
+) -> Result<Option<Declaration<A>>, NoMemory> {
     let text = map.text(alloc, tape, &map.variables(tape.image, Breadth::Data))?;
     match Declaration::parse(alloc, &text) {
-        Ok(found) if found.profile() == map.profile => Ok(Some(found)),
-        Ok(_) => Ok(None),
+        Ok(found) => Ok(Some(found)),
         Err(DeclarationFault::NoMemory) => Err(NoMemory),
         Err(_) => Ok(None),
     }
@@ -140,22 +147,23 @@ impl<A: Allocator + Copy> Survey<A> {
         turns: &mut Turns,
     ) -> Result<(), NoMemory> {
         let before = turns.spent();
-        let mut trial = search.begin(&self.program(image))?;
+        let program = DeclaredProgram {
+            image,
+            declaration: &self.declaration,
+        };
+        let mut trial = search.begin(&program)?;
         let mut last = before;
         let mut stalls = 0u32;
         for _lesson in 0..MOST_LESSONS {
-            let breaks = search.go_on(&self.program(image), &mut trial, turns)?;
-            if !breaks || !self.learns(image, search, &trial)? {
+            if !self.goes_on(image, search, &mut trial, turns)? || stalls > MOST_STALLS {
                 break;
             }
-            stalls = if turns.spent() <= last.saturating_add(1) {
+            let is_stalled = turns.spent() <= last.saturating_add(1);
+            stalls = if is_stalled {
                 stalls.saturating_add(1)
             } else {
                 0
             };
-            if stalls > MOST_STALLS {
-                break;
-            }
             last = turns.spent();
         }
         if turns.spent() == before {
@@ -166,12 +174,28 @@ impl<A: Allocator + Copy> Survey<A> {
         Ok(())
     }
 
-    /// The program as it is watched.
-    fn program<'a>(&'a self, image: &'a Image) -> DeclaredProgram<'a, A> {
-        DeclaredProgram {
+    /// Goes on with a run up to a step that breaks the declaration, which is widened then. False where the
+    /// run is over.
+    fn goes_on(
+        &mut self,
+        image: &Image,
+        search: &mut RunSearch<A>,
+        trial: &mut Trial<A>,
+        turns: &mut Turns,
+    ) -> Result<bool, NoMemory>
+        requires profile { profile_of trial.old.watcher.world
+            ≡ (meaning self.old.declaration).profile }
+        ensures profile { profile_of trial.new.watcher.world
+            ≡ (meaning self.new.declaration).profile }
+    {
+        let program = DeclaredProgram {
             image,
             declaration: &self.declaration,
+        };
+        if !search.go_on(&program, trial, turns)? {
+            return Ok(false);
         }
+        self.learns(image, search, &trial.watcher)
     }
 
     /// Learns of a step that breaks the declaration. False where no declaration allows it.
@@ -179,13 +203,15 @@ impl<A: Allocator + Copy> Survey<A> {
         &mut self,
         image: &Image,
         search: &mut RunSearch<A>,
-        trial: &Trial<A>,
-    ) -> Result<bool, NoMemory> {
+        watcher: &Watcher<A>,
+    ) -> Result<bool, NoMemory>
+        ensures profile { (meaning self.new.declaration).profile
+            ≡ (meaning self.old.declaration).profile }
+    {
         if self.lessons >= MOST_LESSONS {
             return Ok(false);
         }
         self.lessons = self.lessons.saturating_add(1);
-        let watcher = &trial.watcher;
         let sight = Sight::of(watcher, self.map.profile);
         self.collect(search.record())?;
         if self.lesson(image, search.record(), watcher, &sight) != Lesson::New {
@@ -197,29 +223,46 @@ impl<A: Allocator + Copy> Survey<A> {
     }
 
     /// Collects from where steps were made, and which routines ran.
-    fn collect(&mut self, record: &Record<A>) -> Result<(), NoMemory> {
-        let mut places = Vec::new(self.alloc);
+    fn collect(&mut self, record: &Record<A>) -> Result<(), NoMemory>
+        ensures declaration { self.new.declaration ≡ self.old.declaration }
+    {
+        self.places.clear();
         for offset in 0..8usize {
-            for index in 0..4096usize {
-                let at = Word::from_index(index);
-                if !record.places[offset].contains(at) {
-                    continue;
-                }
-                if let Some(owner) = record.owner(at) {
-                    let spot = Spot { at, offset };
-                    places.push(Visit { owner, spot }).map_err(|_| NoMemory)?;
-                    if let Owner::Routine(entry) = owner {
-                        self.called.insert(entry);
-                    }
+            self.collect_from(record, &record.places[offset], offset)?;
+        }
+        Ok(())
+    }
+
+    /// Collects the steps that were made from some places while the return word was counted up so far.
+    fn collect_from(
+        &mut self,
+        record: &Record<A>,
+        places: &WordSet,
+        offset: usize,
+    ) -> Result<(), NoMemory>
+        ensures declaration { self.new.declaration ≡ self.old.declaration }
+    {
+        let mut next = 0usize;
+        while let Some(at) = places.first_from(next) {
+            if let Some(owner) = record.owner(at) {
+                let spot = Spot { at, offset };
+                self.places
+                    .push(Visit { owner, spot })
+                    .map_err(|_| NoMemory)?;
+                if let Owner::Routine(entry) = owner {
+                    self.called.insert(entry);
                 }
             }
+            next = at.index() + 1;
         }
-        self.places = places;
         Ok(())
     }
 
     /// Widens the declaration by what was learned. False where that can't be declared.
-    fn widen(&mut self, image: &Image, record: &Record<A>) -> Result<bool, NoMemory> {
+    fn widen(&mut self, image: &Image, record: &Record<A>) -> Result<bool, NoMemory>
+        ensures profile { (meaning self.new.declaration).profile
+            ≡ (meaning self.old.declaration).profile }
+    {
         let decided = self.map.round.halts;
         let mut ran = WordSet::empty();
         for places in &record.places {
@@ -240,11 +283,11 @@ impl<A: Allocator + Copy> Survey<A> {
         map.settle(&tape);
         map.try_halts(&tape, &decided);
         match declared(self.alloc, &tape, &self.map)? {
-            Some(declaration) => {
+            Some(declaration) if declaration.profile() == self.declaration.profile() => {
                 self.declaration = declaration;
                 Ok(true)
             }
-            None => {
+            _ => {
                 self.is_undeclarable = true;
                 Ok(false)
             }
@@ -258,8 +301,10 @@ impl<A: Allocator + Copy> Survey<A> {
         record: &Record<A>,
         watcher: &Watcher<A>,
         sight: &Sight,
-    ) -> Lesson {
-        let mut lesson = self.lesson_of_place(image, record, sight);
+    ) -> Lesson
+        ensures declaration { self.new.declaration ≡ self.old.declaration }
+    {
+        let lesson = self.lesson_of_place(image, record, sight);
         if lesson == Lesson::Never {
             return lesson;
         }
@@ -271,10 +316,7 @@ impl<A: Allocator + Copy> Survey<A> {
             Instruction::Unsupported => Lesson::Never,
             _ => Lesson::Nothing,
         };
-        if further != Lesson::Nothing {
-            lesson = further;
-        }
-        lesson
+        lesson.and(further)
     }
 
     /// What is learned of the place of a step: that it is in the running routine's body.
@@ -296,7 +338,9 @@ impl<A: Allocator + Copy> Survey<A> {
     }
 
     /// What is learned of a HLT: that it stands there.
-    fn lesson_of_halt(&mut self, at: Word) -> Lesson {
+    fn lesson_of_halt(&mut self, at: Word) -> Lesson
+        ensures declaration { self.new.declaration ≡ self.old.declaration }
+    {
         if self.declaration.is_stop(at) || self.declaration.is_pause(at) {
             return Lesson::Nothing;
         }
@@ -311,16 +355,15 @@ impl<A: Allocator + Copy> Survey<A> {
         watcher: &Watcher<A>,
         sight: &Sight,
         word: Word,
-    ) -> Lesson {
+    ) -> Lesson
+        ensures declaration { self.new.declaration ≡ self.old.declaration }
+    {
         let mut lesson = Lesson::Nothing;
-        for cell in [sight.stored, sight.stepped] {
-            if let Some(cell) = cell {
-                match self.lesson_of_store(cell) {
-                    Lesson::Nothing => {}
-                    Lesson::New => lesson = Lesson::New,
-                    Lesson::Never => return Lesson::Never,
-                }
-            }
+        if let Some(cell) = sight.stored {
+            lesson = lesson.and(self.lesson_of_store(cell));
+        }
+        if let Some(cell) = sight.stepped {
+            lesson = lesson.and(self.lesson_of_store(cell));
         }
         let memory = &watcher.world().cpu().memory;
         let further = match Operation::of(word) {
@@ -333,15 +376,13 @@ impl<A: Allocator + Copy> Survey<A> {
             }
             _ => Lesson::Nothing,
         };
-        if further == Lesson::Nothing {
-            lesson
-        } else {
-            further
-        }
+        lesson.and(further)
     }
 
     /// What is learned of a cell that is written: that it may change.
-    fn lesson_of_store(&mut self, cell: Word) -> Lesson {
+    fn lesson_of_store(&mut self, cell: Word) -> Lesson
+        ensures declaration { self.new.declaration ≡ self.old.declaration }
+    {
         if self.declaration.is_variable(cell) {
             return Lesson::Nothing;
         }
@@ -356,7 +397,9 @@ impl<A: Allocator + Copy> Survey<A> {
     }
 
     /// What is learned of a JMS: that it goes to an entry.
-    fn lesson_of_call(&mut self, record: &Record<A>, at: Word, entry: Word) -> Lesson {
+    fn lesson_of_call(&mut self, record: &Record<A>, at: Word, entry: Word) -> Lesson
+        ensures declaration { self.new.declaration ≡ self.old.declaration }
+    {
         if self.declaration.is_entry(entry) {
             return Lesson::Nothing;
         }
@@ -369,7 +412,9 @@ impl<A: Allocator + Copy> Survey<A> {
     }
 
     /// What is learned of a JMP through a cell: how far after its call a routine returns.
-    fn lesson_of_return(&mut self, watcher: &Watcher<A>, named: Word) -> Lesson {
+    fn lesson_of_return(&mut self, watcher: &Watcher<A>, named: Word) -> Lesson
+        ensures declaration { self.new.declaration ≡ self.old.declaration }
+    {
         if !self.declaration.is_entry(named) {
             return Lesson::Nothing;
         }
@@ -387,7 +432,9 @@ impl<A: Allocator + Copy> Survey<A> {
     }
 
     /// What is learned of how far after its call a routine returns.
-    fn lesson_of_offset(&mut self, entry: Word, offset: Word) -> Lesson {
+    fn lesson_of_offset(&mut self, entry: Word, offset: Word) -> Lesson
+        ensures declaration { self.new.declaration ≡ self.old.declaration }
+    {
         if self.declaration.has_offset(entry, offset) {
             return Lesson::Nothing;
         }
@@ -412,11 +459,12 @@ impl<A: Allocator + Copy> Survey<A> {
         if self.is_undeclarable || !self.widen(image, record)? {
             return Ok(None);
         }
+        let owners = Vec::from_slice(self.alloc, &record.owners)?;
         let Survey { map, places, .. } = self;
         Ok(Some(Findings {
             map,
             places,
-            owners: Vec::from_slice(self.alloc, &record.owners)?,
+            owners,
             variables: map.stored.union(&record.written).minus(&map.entries),
             runs: record.runs,
             steps,

@@ -407,39 +407,64 @@ impl<A: Allocator + Copy> RunSearch<A> {
         ensures within { turns.new.spent ≤ turns.new.limit }
     {
         turns.are_within();
-        let Trial {
-            watcher,
-            run,
-            plan,
-            glance: broken,
-            left,
-        } = trial;
-        if let Some(glance) = broken.take() {
-            match self.step(program, watcher, run, plan, &glance, turns)? {
-                Progress::GoesOn => {}
-                Progress::Over => return Ok(false),
-                Progress::Broken => {
-                    *broken = Some(glance);
-                    return Ok(true);
-                }
+        if let Some(glance) = trial.glance {
+            trial.glance = None;
+            if let Some(breaks) = self.end_of_step(program, trial, glance, turns)? {
+                return Ok(breaks);
             }
         }
-        for _step in 0..*left {
-            *left = left.saturating_sub(1);
-            let glance = self.glance(watcher);
-            if !self.prepare(program, watcher, run, plan, &glance)? {
+        for _step in 0..trial.left {
+            trial.left = trial.left.saturating_sub(1);
+            let glance = self.glance(&trial.watcher);
+            let goes_on = self.prepare(
+                program,
+                &mut trial.watcher,
+                &mut trial.run,
+                &trial.plan,
+                &glance,
+            )?;
+            if !goes_on {
                 return Ok(false);
             }
-            match self.step(program, watcher, run, plan, &glance, turns)? {
-                Progress::GoesOn => {}
-                Progress::Over => return Ok(false),
-                Progress::Broken => {
-                    *broken = Some(glance);
-                    return Ok(true);
-                }
+            if let Some(breaks) = self.end_of_step(program, trial, glance, turns)? {
+                return Ok(breaks);
             }
         }
         Ok(false)
+    }
+
+    /// Makes a step of a run. None where the run goes on; else whether the step breaks a rule.
+    fn end_of_step<D: Allocator>(
+        &mut self,
+        program: &DeclaredProgram<'_, D>,
+        trial: &mut Trial<A>,
+        glance: Glance,
+        turns: &mut Turns,
+    ) -> Result<Option<bool>, NoMemory>
+        requires profile { profile_of trial.old.watcher.world
+            ≡ (meaning program.now.declaration.now).profile }
+        ensures profile { profile_of trial.new.watcher.world
+            ≡ (meaning program.now.declaration.now).profile }
+        ensures limit { turns.new.limit ≡ turns.old.limit }
+        ensures rises { turns.old.spent ≤ turns.new.spent }
+        ensures within { turns.new.spent ≤ turns.new.limit }
+    {
+        let progress = self.step(
+            program,
+            &mut trial.watcher,
+            &mut trial.run,
+            &trial.plan,
+            &glance,
+            turns,
+        )?;
+        match progress {
+            Progress::GoesOn => Ok(None),
+            Progress::Over => Ok(Some(false)),
+            Progress::Broken => {
+                trial.glance = Some(glance);
+                Ok(Some(true))
+            }
+        }
     }
 
     /// What steps were seen to do in all runs so far, apart from those that only break a rule once more.

@@ -30,8 +30,8 @@ const MOST_LESSONS: u32 = 1024;
 /// How often it is widened at most for one step.
 const MOST_STALLS: u32 = 4;
 
-/// With which seed runs are made.
-const SEED: u64 = 0;
+/// With which seed runs are made: that of `refute`.
+const SEED: u64 = 1;
 
 /// What runs were seen to do.
 #[derive(Drop)]

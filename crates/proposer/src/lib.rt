@@ -73,7 +73,7 @@ pub struct Proposal<A: Allocator> {
 pub struct Seen {
     /// How many there were.
     pub runs: u32,
-    /// How many steps they made in all, and tried to make.
+    /// How many steps they made in all.
     pub steps: u32,
 }
 

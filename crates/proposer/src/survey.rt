@@ -15,14 +15,17 @@ use instruct::{Instruction, Operation, decode, halts, refers_indirectly, target}
 use peripherals::NoMemory;
 use policy::Watcher;
 use processor::{effective_address, is_auto_index};
-use run_search::{DeclaredProgram, Record, RunSearch, Sight, Trial, distance};
+use run_search::{DeclaredProgram, Record, RunSearch, Sight, Trial};
 use std::alloc::Allocator;
 use turns::Turns;
 use word12::Word;
 use wordset::WordSet;
 
 /// How many steps runs make in all.
-const MOST_STEPS: u32 = 3_000_000;
+const STEPS: u32 = 3_000_000;
+
+/// How many steps are tried at most, with those that break a declaration.
+const MOST_STEPS: u32 = STEPS + MOST_LESSONS;
 
 /// How often the declaration is widened at most.
 const MOST_LESSONS: u32 = 1024;
@@ -43,7 +46,7 @@ pub(crate) struct Findings<A: Allocator> {
     pub(crate) owners: Vec<Option<Owner>, A>,
     /// The cells that were written, and those in which an instruction of a body stores by name.
     pub(crate) variables: WordSet,
-    /// How many runs were begun, and how many steps they made.
+    /// How many runs were begun, and how many steps they made in all.
     pub(crate) runs: u32,
     pub(crate) steps: u32,
 }
@@ -120,7 +123,7 @@ pub(crate) fn findings<A: Allocator + Copy>(
         }
         survey.run(image, &mut search, &mut turns)?;
     }
-    survey.finish(image, &search, turns.spent())
+    survey.finish(image, &search)
 }
 
 /// The declaration of a map, in which all cells that are no code may change; none where it can't be
@@ -372,7 +375,7 @@ impl<A: Allocator + Copy> Survey<A> {
                 self.lesson_of_call(record, sight.at, entry)
             }
             Operation::Jmp if refers_indirectly(word) => {
-                self.lesson_of_return(watcher, target(word, sight.at))
+                self.lesson_of_return(sight, target(word, sight.at))
             }
             _ => Lesson::Nothing,
         };
@@ -412,17 +415,14 @@ impl<A: Allocator + Copy> Survey<A> {
     }
 
     /// What is learned of a JMP through a cell: how far after its call a routine returns.
-    fn lesson_of_return(&mut self, watcher: &Watcher<A>, named: Word) -> Lesson
+    fn lesson_of_return(&mut self, sight: &Sight, named: Word) -> Lesson
         ensures declaration { self.new.declaration ≡ self.old.declaration }
     {
         if !self.declaration.is_entry(named) {
             return Lesson::Nothing;
         }
-        if let Some(call) = watcher.calls().last() {
-            if call.entry == named {
-                let word = watcher.world().cpu().memory.get(named);
-                return self.lesson_of_offset(named, distance(word, call.after));
-            }
+        if sight.owner == Owner::Routine(named) {
+            return self.lesson_of_offset(named, sight.offset);
         }
         if self.called.contains(named) {
             return Lesson::Never;
@@ -447,12 +447,11 @@ impl<A: Allocator + Copy> Survey<A> {
         }
     }
 
-    /// What was seen in all, with so many steps; none where it can't be declared.
+    /// What was seen in all; none where it can't be declared.
     fn finish(
         mut self,
         image: &Image,
         search: &RunSearch<A>,
-        steps: u32,
     ) -> Result<Option<Findings<A>>, NoMemory> {
         let record = search.record();
         self.collect(record)?;
@@ -467,7 +466,7 @@ impl<A: Allocator + Copy> Survey<A> {
             owners,
             variables: map.stored.union(&record.written).minus(&map.entries),
             runs: record.runs,
-            steps,
+            steps: record.steps,
         }))
     }
 }

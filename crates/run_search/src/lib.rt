@@ -22,5 +22,5 @@ mod shorten;
 mod tree;
 mod votes;
 
-pub use record::{Record, Sight, distance};
+pub use record::{Record, Sight};
 pub use search::{DeclaredProgram, RunSearch, Trial};

@@ -22,6 +22,8 @@ pub struct Record<A: Allocator> {
     pub written: WordSet,
     /// How many runs were begun.
     pub runs: u32,
+    /// How many steps were made.
+    pub steps: u32,
 }
 
 /// What a step is about to do, as far as it is recorded.
@@ -31,8 +33,8 @@ pub struct Sight {
     pub at: Word,
     /// The routine that runs.
     pub owner: Owner,
-    /// How far its return word was counted up: 0 in main, and where it is further up than 7.
-    pub offset: usize,
+    /// How far its return word was counted up, modulo 4096: 0 in main.
+    pub offset: Word,
     /// The cell in which a DCA or an ISZ stores, but not the running routine's own entry under an ISZ.
     pub stored: Option<Word>,
     /// The auto-index cell that an indirect reference steps.
@@ -40,7 +42,7 @@ pub struct Sight {
 }
 
 /// How far an address is behind another one, modulo 4096.
-pub fn distance(to: Word, from: Word) -> Word {
+fn distance(to: Word, from: Word) -> Word {
     to.add(from.complement()).increment()
 }
 
@@ -51,7 +53,7 @@ impl Sight {
         let mut sight = Sight {
             at: cpu.pc,
             owner: Owner::Main,
-            offset: 0,
+            offset: Word::ZERO,
             stored: None,
             stepped: None,
         };
@@ -59,10 +61,7 @@ impl Sight {
         if let Some(call) = watcher.calls().last() {
             sight.owner = Owner::Routine(call.entry);
             own = Some(call.entry);
-            let offset = distance(cpu.memory.get(call.entry), call.after).index();
-            if offset < 8 {
-                sight.offset = offset;
-            }
+            sight.offset = distance(cpu.memory.get(call.entry), call.after);
         }
         let word = cpu.memory.get(cpu.pc);
         if decode(word, profile) == Instruction::Memory {
@@ -89,6 +88,7 @@ impl<A: Allocator + Copy> Record<A> {
             places: [WordSet::empty(); 8],
             written: WordSet::empty(),
             runs: 0,
+            steps: 0,
         })
     }
 
@@ -97,19 +97,27 @@ impl<A: Allocator + Copy> Record<A> {
         self.runs = self.runs.saturating_add(1);
     }
 
+    /// A step is made.
+    pub(crate) fn makes(&mut self, sight: &Sight) {
+        self.steps = self.steps.saturating_add(1);
+        self.sees(sight);
+    }
+
     /// The routine that ran when a step was first made from an address, if one was.
     pub fn owner(&self, at: Word) -> Option<Owner> {
         self.owners.get(at.index()).copied().flatten()
     }
 
-    /// Records a step.
+    /// Records what a step does, or is about to do.
     pub fn sees(&mut self, sight: &Sight) {
         if let Some(owner) = self.owners.get_mut(sight.at.index()) {
             if owner.is_none() {
                 *owner = Some(sight.owner);
             }
         }
-        if let Some(places) = self.places.get_mut(sight.offset) {
+        let offset = sight.offset.index();
+        let place = if offset < 8 { offset } else { 0 };
+        if let Some(places) = self.places.get_mut(place) {
             places.insert(sight.at);
         }
         if let Some(cell) = sight.stored {

@@ -633,7 +633,7 @@ impl<A: Allocator + Copy> RunSearch<A> {
         if plan.purpose == Purpose::Roam {
             self.roamed = self.roamed.saturating_add(1);
         }
-        self.record.sees(&glance.sight);
+        self.record.makes(&glance.sight);
     }
 
     /// Notes what is new after a step.

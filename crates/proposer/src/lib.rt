@@ -155,17 +155,11 @@ fn by_runs<A: Allocator + Copy>(
         visits: Some(Visits {
             places: &found.places,
             owners: &found.owners,
+            seen: found.seen,
         }),
     };
     match attempt(alloc, &tape, &found.map, &found.variables, turns) {
-        Ok(seen) => {
-            let mut cut = cut_down(alloc, &tape, &found.map, seen, turns)?;
-            cut.seen = Some(Seen {
-                runs: found.runs,
-                steps: found.steps,
-            });
-            Ok(cut)
-        }
+        Ok(seen) => cut_down(alloc, &tape, &found.map, seen, turns),
         Err(ProposeFault::NoMemory) => Err(ProposeFault::NoMemory),
         Err(_) => Ok(proposal),
     }
@@ -352,7 +346,7 @@ fn attempt<A: Allocator + Copy>(
         return Err(ProposeFault::NoMemory);
     };
     match Declaration::parse(alloc, &text) {
-        Ok(declaration) => proposed(alloc, tape.image, map, text, declaration, turns),
+        Ok(declaration) => proposed(alloc, tape, map, text, declaration, turns),
         Err(fault) => Err(refused(fault)),
     }
 }
@@ -368,7 +362,7 @@ fn is_asked<A: Allocator>(declaration: &Declaration<A>, start: Word, profile: Pr
 /// The proposal with this text, which declares this.
 fn proposed<A: Allocator + Copy>(
     alloc: A,
-    image: &Image,
+    tape: &Tape<'_>,
     map: &Map,
     text: Vec<u8, A>,
     declaration: Declaration<A>,
@@ -377,7 +371,7 @@ fn proposed<A: Allocator + Copy>(
     requires text { Declares text.items (meaning declaration) }
     requires routines { ListsRoutines text.items (routines_of declaration) }
     ensures fits { IfOk result (Fits map.now.start map.now.profile) }
-    ensures shown { IfOk result (λ p. IsShown image.now p.declaration p.verdict) }
+    ensures shown { IfOk result (λ p. IsShown tape.now.image.now p.declaration p.verdict) }
     ensures unlisted { IfOk result (λ p. (meaning p.declaration).reads ≡ None) }
     ensures spent { IfOk result (λ p. IsSpentUp turns.new p.verdict) }
     ensures faults { IfErr result IsTold }
@@ -390,12 +384,12 @@ fn proposed<A: Allocator + Copy>(
     if !is_asked(&declaration, map.start, map.profile) || declaration.reads_listed() {
         return Err(ProposeFault::Mismatch);
     }
-    let verdict = judged(alloc, image, &declaration, turns)?;
+    let verdict = judged(alloc, tape.image, &declaration, turns)?;
     Ok(Proposal {
         declaration,
         text,
         unfollowed: map.unfollowed(),
-        seen: None,
+        seen: tape.seen(),
         verdict,
     })
 }

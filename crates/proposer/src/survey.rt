@@ -5,6 +5,7 @@ ghost use Rattle.std.specs.Prelude.{◌≡◌};
 ghost use Rattle.declaration.specs.Kept.{meaning};
 ghost use Rattle.peripherals.specs.World.{profile_of};
 
+use crate::Seen;
 use crate::map::Map;
 use crate::tape::{Tape, Visit, Visits};
 use crate::variables::Breadth;
@@ -46,9 +47,7 @@ pub(crate) struct Findings<A: Allocator> {
     pub(crate) owners: Vec<Option<Owner>, A>,
     /// The cells that were written, and those in which an instruction of a body stores by name.
     pub(crate) variables: WordSet,
-    /// How many runs were begun, and how many steps they made in all.
-    pub(crate) runs: u32,
-    pub(crate) steps: u32,
+    pub(crate) seen: Seen,
 }
 
 /// What a step teaches that breaks a declaration.
@@ -124,6 +123,14 @@ pub(crate) fn findings<A: Allocator + Copy>(
         survey.run(image, &mut search, &mut turns)?;
     }
     survey.finish(image, &search)
+}
+
+/// The runs of a record.
+fn seen_in<A: Allocator>(record: &Record<A>) -> Seen {
+    Seen {
+        runs: record.runs,
+        steps: record.steps,
+    }
 }
 
 /// The declaration of a map, in which all cells that are no code may change; none where it can't be
@@ -281,6 +288,7 @@ impl<A: Allocator + Copy> Survey<A> {
             visits: Some(Visits {
                 places: &self.places,
                 owners: &record.owners,
+                seen: seen_in(record),
             }),
         };
         map.settle(&tape);
@@ -465,8 +473,7 @@ impl<A: Allocator + Copy> Survey<A> {
             places,
             owners,
             variables: map.stored.union(&record.written).minus(&map.entries),
-            runs: record.runs,
-            steps: record.steps,
+            seen: seen_in(record),
         }))
     }
 }

@@ -1,5 +1,6 @@
 //! A tape, with what runs were seen to do.
 
+use crate::Seen;
 use crate::walk::Spot;
 use bin_tape::Image;
 use declaration::Owner;
@@ -19,6 +20,7 @@ pub(crate) struct Visits<'a> {
     pub(crate) places: &'a [Visit],
     /// By address the routine that ran when one was first made.
     pub(crate) owners: &'a [Option<Owner>],
+    pub(crate) seen: Seen,
 }
 
 /// A tape, with what runs were seen to do, if there were runs.
@@ -32,6 +34,11 @@ impl Tape<'_> {
     /// The word for an address, if the tape has one.
     pub(crate) fn get(&self, at: Word) -> Option<Word> {
         self.image.get(at)
+    }
+
+    /// In which runs it was seen what the program does, if there were runs.
+    pub(crate) fn seen(&self) -> Option<Seen> {
+        self.visits.map(|visits| visits.seen)
     }
 
     /// The routine that ran when a step was made from an address, if one was.

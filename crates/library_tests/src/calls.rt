@@ -126,11 +126,12 @@ fn proposed_within(heap: Global, limit: u32) -> Option<(bool, usize, u32)> {
 
 #[test]
 fn what_is_shown_stays_where_turns_run_out(rt: HostRuntime) {
-    // Each of the five words takes a turn, first with all variables but 0206, then with 0207 and 0300.
+    // Each of the five words takes a turn, first with all variables but 0206, then with 0207 and 0300. Where
+    // no turn is left for the first ones it's seen which two cells the program writes.
     assert_eq!(rt; proposed_within(rt.alloc(), 10), Some((true, 2, 10)));
     assert_eq!(rt; proposed_within(rt.alloc(), 9), Some((true, 4090, 9)));
     assert_eq!(rt; proposed_within(rt.alloc(), 5), Some((true, 4090, 5)));
-    assert_eq!(rt; proposed_within(rt.alloc(), 4), Some((false, 4090, 4)));
+    assert_eq!(rt; proposed_within(rt.alloc(), 4), Some((false, 2, 4)));
 }
 
 /// Two facts, the first one with a tracked cell and an equation, and an exit of a routine.

@@ -15,12 +15,16 @@ ghost use Rattle.proposer.specs.Proposals.{AreNeeded, Fits, IsListed, IsShown, I
 
 mod map;
 mod steps;
+mod survey;
+mod tape;
 mod text;
 mod trials;
 mod variables;
 mod walk;
 
 use crate::map::Map;
+use crate::survey::{Findings, findings};
+use crate::tape::{Tape, Visits};
 use crate::text::push_reads;
 use crate::variables::{Breadth, lists_needed, read, written};
 use analyser::guess_within;
@@ -58,8 +62,19 @@ pub struct Proposal<A: Allocator> {
     /// The addresses at which control goes where it isn't known, or to what can't be in the body, or
     /// where an unsupported word stands. There the declaration stops short.
     pub unfollowed: WordSet,
+    /// In which runs it was seen what the program does, if it was.
+    pub seen: Option<Seen>,
     /// What is known of the declaration.
     pub verdict: Verdict<A>,
+}
+
+/// The runs in which it was seen what a program does.
+#[derive(Clone, Copy, PartialEq, Eq, Debug)]
+pub struct Seen {
+    /// How many there were.
+    pub runs: u32,
+    /// How many steps they made in all.
+    pub steps: u32,
 }
 
 /// Proposes what a program may do, from a tape's words, the start and the machine alone.
@@ -92,9 +107,62 @@ pub fn propose<A: Allocator + Copy>(
     ensures rises { turns.old.spent ≤ turns.new.spent }
     ensures within { turns.new.spent ≤ turns.new.limit }
 {
-    let map = Map::of(image, start, profile);
-    let proposal = widened(alloc, image, &map, turns)?;
-    cut_down(alloc, image, &map, proposal, turns)
+    let tape = Tape {
+        image,
+        visits: None,
+    };
+    let map = Map::of(&tape, start, profile);
+    let proposal = widened(alloc, &tape, &map, turns)?;
+    if proposal.is_safe() {
+        return cut_down(alloc, &tape, &map, proposal, turns);
+    }
+    match findings(alloc, image, &map) {
+        Ok(None) => Ok(proposal),
+        Ok(Some(mut found)) => {
+            // No run changes these, and so it needs no proof.
+            found.map.start = start;
+            found.map.profile = profile;
+            by_runs(alloc, image, proposal, &found, turns)
+        }
+        Err(_) => Err(ProposeFault::NoMemory),
+    }
+}
+
+/// The proposal by what runs were seen to do; another one where that can't be declared.
+fn by_runs<A: Allocator + Copy>(
+    alloc: A,
+    image: &Image,
+    proposal: Proposal<A>,
+    found: &Findings<A>,
+    turns: &mut Turns,
+) -> Result<Proposal<A>, ProposeFault>
+    requires fits { Fits found.now.map.start found.now.map.profile proposal }
+    requires shown { IsShown image.now proposal.declaration proposal.verdict }
+    requires unlisted { (meaning proposal.declaration).reads ≡ None }
+    requires spent { IsSpentUp turns.old proposal.verdict }
+    ensures fits { IfOk result (Fits found.now.map.start found.now.map.profile) }
+    ensures shown { IfOk result (λ p. IsShown image.now p.declaration p.verdict) }
+    ensures unlisted { IfOk result (λ p. (meaning p.declaration).reads ≡ None) }
+    ensures spent { IfOk result (λ p. IsSpentUp turns.new p.verdict) }
+    ensures faults { IfErr result IsTold }
+    ensures limit { turns.new.limit ≡ turns.old.limit }
+    ensures rises { turns.old.spent ≤ turns.new.spent }
+    ensures within { turns.new.spent ≤ turns.new.limit }
+{
+    turns.are_within();
+    let tape = Tape {
+        image,
+        visits: Some(Visits {
+            places: &found.places,
+            owners: &found.owners,
+            seen: found.seen,
+        }),
+    };
+    match attempt(alloc, &tape, &found.map, &found.variables, turns) {
+        Ok(seen) => cut_down(alloc, &tape, &found.map, seen, turns),
+        Err(ProposeFault::NoMemory) => Err(ProposeFault::NoMemory),
+        Err(_) => Ok(proposal),
+    }
 }
 
 /// Proposes what a program may do as [`propose`] does, and lists the cells that it may read by the facts
@@ -128,6 +196,7 @@ pub fn propose_with_reads<A: Allocator + Copy>(
         declaration,
         mut text,
         unfollowed,
+        seen,
         verdict,
     } = proposal;
     match verdict {
@@ -143,6 +212,7 @@ pub fn propose_with_reads<A: Allocator + Copy>(
                 declaration: listing,
                 text,
                 unfollowed,
+                seen,
                 verdict,
             })
         }
@@ -150,6 +220,7 @@ pub fn propose_with_reads<A: Allocator + Copy>(
             declaration,
             text,
             unfollowed,
+            seen,
             verdict,
         }),
     }
@@ -185,12 +256,12 @@ fn relisted<A: Allocator + Copy>(
 /// The proposal with the fewest variables of those that may be enough, or with the most.
 fn widened<A: Allocator + Copy>(
     alloc: A,
-    image: &Image,
+    tape: &Tape<'_>,
     map: &Map,
     turns: &mut Turns,
 ) -> Result<Proposal<A>, ProposeFault>
     ensures fits { IfOk result (Fits map.now.start map.now.profile) }
-    ensures shown { IfOk result (λ p. IsShown image.now p.declaration p.verdict) }
+    ensures shown { IfOk result (λ p. IsShown tape.now.image.now p.declaration p.verdict) }
     ensures unlisted { IfOk result (λ p. (meaning p.declaration).reads ≡ None) }
     ensures spent { IfOk result (λ p. IsSpentUp turns.new p.verdict) }
     ensures faults { IfErr result IsTold }
@@ -199,36 +270,36 @@ fn widened<A: Allocator + Copy>(
     ensures within { turns.new.spent ≤ turns.new.limit }
 {
     if !map.round.stores_anywhere {
-        let cells = map.variables(image, Breadth::Stored);
-        let proposal = attempt(alloc, image, map, &cells, turns)?;
+        let cells = map.variables(tape.image, Breadth::Stored);
+        let proposal = attempt(alloc, tape, map, &cells, turns)?;
         if !proposal.is_stuck() || !map.changes_code() {
             return Ok(proposal);
         }
     }
-    let cells = map.variables(image, Breadth::Tables);
-    let proposal = attempt(alloc, image, map, &cells, turns)?;
+    let cells = map.variables(tape.image, Breadth::Tables);
+    let proposal = attempt(alloc, tape, map, &cells, turns)?;
     if !proposal.is_stuck() {
         return Ok(proposal);
     }
-    let cells = map.variables(image, Breadth::Data);
-    attempt(alloc, image, map, &cells, turns)
+    let cells = map.variables(tape.image, Breadth::Data);
+    attempt(alloc, tape, map, &cells, turns)
 }
 
 /// A proposal with fewer variables, as far as its certificate and those that are found then show that
 /// they are enough.
 fn cut_down<A: Allocator + Copy>(
     alloc: A,
-    image: &Image,
+    tape: &Tape<'_>,
     map: &Map,
     proposal: Proposal<A>,
     turns: &mut Turns,
 ) -> Result<Proposal<A>, ProposeFault>
     requires fits { Fits map.now.start map.now.profile proposal }
-    requires shown { IsShown image.now proposal.declaration proposal.verdict }
+    requires shown { IsShown tape.now.image.now proposal.declaration proposal.verdict }
     requires unlisted { (meaning proposal.declaration).reads ≡ None }
     requires spent { IsSpentUp turns.old proposal.verdict }
     ensures fits { IfOk result (Fits map.now.start map.now.profile) }
-    ensures shown { IfOk result (λ p. IsShown image.now p.declaration p.verdict) }
+    ensures shown { IfOk result (λ p. IsShown tape.now.image.now p.declaration p.verdict) }
     // Of a proposal with a certificate one with a certificate is made, also where turns run out.
     ensures safe { IfOk result (λ p. is_safe proposal.verdict ≡ true → is_safe p.verdict ≡ true) }
     ensures unlisted { IfOk result (λ p. (meaning p.declaration).reads ≡ None) }
@@ -241,10 +312,10 @@ fn cut_down<A: Allocator + Copy>(
     turns.are_within();
     let mut proposal = proposal;
     for _cut in 0..MOST_CUTS {
-        let Some(cells) = proposal.spare(image) else {
+        let Some(cells) = proposal.spare(tape.image) else {
             return Ok(proposal);
         };
-        let tighter = attempt(alloc, image, map, &cells, turns)?;
+        let tighter = attempt(alloc, tape, map, &cells, turns)?;
         if !tighter.is_safe() {
             return Ok(proposal);
         }
@@ -256,13 +327,13 @@ fn cut_down<A: Allocator + Copy>(
 /// The proposal with these variables.
 fn attempt<A: Allocator + Copy>(
     alloc: A,
-    image: &Image,
+    tape: &Tape<'_>,
     map: &Map,
     variables: &WordSet,
     turns: &mut Turns,
 ) -> Result<Proposal<A>, ProposeFault>
     ensures fits { IfOk result (Fits map.now.start map.now.profile) }
-    ensures shown { IfOk result (λ p. IsShown image.now p.declaration p.verdict) }
+    ensures shown { IfOk result (λ p. IsShown tape.now.image.now p.declaration p.verdict) }
     ensures unlisted { IfOk result (λ p. (meaning p.declaration).reads ≡ None) }
     ensures spent { IfOk result (λ p. IsSpentUp turns.new p.verdict) }
     ensures faults { IfErr result IsTold }
@@ -271,11 +342,11 @@ fn attempt<A: Allocator + Copy>(
     ensures within { turns.new.spent ≤ turns.new.limit }
 {
     let _spent = turns.spent();
-    let Ok(text) = map.text(alloc, image, variables) else {
+    let Ok(text) = map.text(alloc, tape, variables) else {
         return Err(ProposeFault::NoMemory);
     };
     match Declaration::parse(alloc, &text) {
-        Ok(declaration) => proposed(alloc, image, map, text, declaration, turns),
+        Ok(declaration) => proposed(alloc, tape, map, text, declaration, turns),
         Err(fault) => Err(refused(fault)),
     }
 }
@@ -291,7 +362,7 @@ fn is_asked<A: Allocator>(declaration: &Declaration<A>, start: Word, profile: Pr
 /// The proposal with this text, which declares this.
 fn proposed<A: Allocator + Copy>(
     alloc: A,
-    image: &Image,
+    tape: &Tape<'_>,
     map: &Map,
     text: Vec<u8, A>,
     declaration: Declaration<A>,
@@ -300,7 +371,7 @@ fn proposed<A: Allocator + Copy>(
     requires text { Declares text.items (meaning declaration) }
     requires routines { ListsRoutines text.items (routines_of declaration) }
     ensures fits { IfOk result (Fits map.now.start map.now.profile) }
-    ensures shown { IfOk result (λ p. IsShown image.now p.declaration p.verdict) }
+    ensures shown { IfOk result (λ p. IsShown tape.now.image.now p.declaration p.verdict) }
     ensures unlisted { IfOk result (λ p. (meaning p.declaration).reads ≡ None) }
     ensures spent { IfOk result (λ p. IsSpentUp turns.new p.verdict) }
     ensures faults { IfErr result IsTold }
@@ -313,11 +384,12 @@ fn proposed<A: Allocator + Copy>(
     if !is_asked(&declaration, map.start, map.profile) || declaration.reads_listed() {
         return Err(ProposeFault::Mismatch);
     }
-    let verdict = judged(alloc, image, &declaration, turns)?;
+    let verdict = judged(alloc, tape.image, &declaration, turns)?;
     Ok(Proposal {
         declaration,
         text,
         unfollowed: map.unfollowed(),
+        seen: tape.seen(),
         verdict,
     })
 }

@@ -2,8 +2,8 @@
 
 ghost use Rattle.std.specs.Prelude.{◌≡◌};
 
+use crate::tape::Tape;
 use crate::walk::{Spot, Walk};
-use bin_tape::Image;
 use instruct::Profile;
 use word12::Word;
 use wordset::WordSet;
@@ -32,6 +32,10 @@ pub(crate) struct Map {
     /// JMP.
     pub(crate) called: WordSet,
     pub(crate) jumped: WordSet,
+    /// The cells in which runs were seen to halt, where another word may stand there.
+    pub(crate) halted: WordSet,
+    /// The cells that can't be entries, by what runs were seen to do.
+    pub(crate) banned: WordSet,
     pub(crate) round: Round,
 }
 
@@ -70,7 +74,7 @@ impl Round {
 
 impl Map {
     /// What is found of a program that starts here.
-    pub(crate) fn of(image: &Image, start: Word, profile: Profile) -> Map
+    pub(crate) fn of(tape: &Tape<'_>, start: Word, profile: Profile) -> Map
         ensures start { result.start ≡ start }
         ensures profile { result.profile ≡ profile }
     {
@@ -83,12 +87,14 @@ impl Map {
             stored: WordSet::empty(),
             called: WordSet::empty(),
             jumped: WordSet::empty(),
+            halted: WordSet::empty(),
+            banned: WordSet::empty(),
             round: Round::new(),
         };
-        map.settle(image);
-        map.try_halts(image);
-        map.try_tables(image);
-        map.try_halts(image);
+        map.settle(tape);
+        map.try_halts(tape, &WordSet::empty());
+        map.try_tables(tape);
+        map.try_halts(tape, &WordSet::empty());
         // No round changes these, and so it needs no proof.
         map.start = start;
         map.profile = profile;
@@ -121,10 +127,10 @@ impl Map {
     }
 
     /// Goes through all bodies until nothing new is found.
-    pub(crate) fn settle(&mut self, image: &Image) {
+    pub(crate) fn settle(&mut self, tape: &Tape<'_>) {
         for _round in 0..MOST_ROUNDS {
             let before = *self;
-            self.go_through(image);
+            self.go_through(tape);
             if *self == before {
                 return;
             }
@@ -132,12 +138,12 @@ impl Map {
     }
 
     /// Goes through all bodies once.
-    fn go_through(&mut self, image: &Image) {
+    fn go_through(&mut self, tape: &Tape<'_>) {
         self.forget();
-        self.follow_main(image);
+        self.follow_main(tape);
         let mut next = 0usize;
         while let Some(entry) = self.entries.first_from(next) {
-            self.follow_routine(image, entry);
+            self.follow_routine(tape, entry);
             next = entry.index() + 1;
         }
     }
@@ -148,34 +154,49 @@ impl Map {
     }
 
     /// Follows main's body, and gives its cells.
-    pub(crate) fn follow_main(&mut self, image: &Image) -> WordSet {
+    pub(crate) fn follow_main(&mut self, tape: &Tape<'_>) -> WordSet {
         let mut walk = Walk::new(None);
         walk.meet(Spot {
             at: self.start,
             offset: 0,
         });
-        self.follow(image, &mut walk)
+        self.meet_visits(tape, &mut walk);
+        self.follow(tape, &mut walk)
     }
 
     /// Follows the body of an entry, and gives its cells. Those of bodies that were followed before
     /// can't be in it.
-    pub(crate) fn follow_routine(&mut self, image: &Image, entry: Word) -> WordSet {
+    pub(crate) fn follow_routine(&mut self, tape: &Tape<'_>, entry: Word) -> WordSet {
         let mut walk = Walk::new(Some(entry));
         let here = Spot {
             at: entry,
             offset: 0,
         };
-        self.go(image, &mut walk, &here, entry.increment());
-        self.follow(image, &mut walk)
+        self.go(tape, &mut walk, &here, entry.increment());
+        self.meet_visits(tape, &mut walk);
+        self.follow(tape, &mut walk)
+    }
+
+    /// Meets the cells of a body from which runs were seen to make steps.
+    fn meet_visits(&self, tape: &Tape<'_>, walk: &mut Walk) {
+        let Some(visits) = tape.visits else {
+            return;
+        };
+        let owner = walk.owner();
+        for visit in visits.places {
+            if visit.owner == owner && !self.entries.contains(visit.spot.at) {
+                walk.meet(visit.spot);
+            }
+        }
     }
 
     /// Goes on from all cells that are met, and gives them.
-    fn follow(&mut self, image: &Image, walk: &mut Walk) -> WordSet {
+    fn follow(&mut self, tape: &Tape<'_>, walk: &mut Walk) -> WordSet {
         for _step in 0..MOST_STEPS {
             let Some(here) = walk.next() else {
                 break;
             };
-            self.visit(image, walk, &here);
+            self.visit(tape, walk, &here);
         }
         let cells = walk.cells();
         self.round.code = self.round.code.union(&cells);

@@ -1,8 +1,8 @@
 //! How control goes on from a cell.
 
 use crate::map::Map;
+use crate::tape::Tape;
 use crate::walk::{Spot, Walk};
-use bin_tape::Image;
 use instruct::{DeviceOperation, Instruction, Operation, decode, halts, refers_indirectly, target};
 use word12::Word;
 
@@ -14,9 +14,10 @@ fn is_auto_index(cell: Word) -> bool {
 impl Map {
     /// Goes on at a cell, if it may be in the body: it is on the tape or is stored in, no entry, and in
     /// no other body.
-    pub(crate) fn go(&mut self, image: &Image, walk: &mut Walk, here: &Spot, to: Word) {
-        let is_there = image.get(to).is_some() || self.stored.contains(to);
-        if is_there && !self.entries.contains(to) && !self.round.code.contains(to) {
+    pub(crate) fn go(&mut self, tape: &Tape<'_>, walk: &mut Walk, here: &Spot, to: Word) {
+        let is_there = tape.get(to).is_some() || (self.stored.contains(to) && tape.may_be_code(to));
+        let is_free = !self.entries.contains(to) && !self.round.code.contains(to);
+        if is_there && is_free && tape.may_be_in(walk.owner(), to) {
             walk.meet(here.to(to));
         } else {
             self.round.astray.insert(here.at);
@@ -24,30 +25,30 @@ impl Map {
     }
 
     /// Goes on at the next cell.
-    fn go_on(&mut self, image: &Image, walk: &mut Walk, here: &Spot) {
-        self.go(image, walk, here, here.at.increment());
+    fn go_on(&mut self, tape: &Tape<'_>, walk: &mut Walk, here: &Spot) {
+        self.go(tape, walk, here, here.at.increment());
     }
 
     /// Goes on at the cell past the next one.
-    fn skip(&mut self, image: &Image, walk: &mut Walk, here: &Spot) {
-        self.go(image, walk, here, here.at.increment().increment());
+    fn skip(&mut self, tape: &Tape<'_>, walk: &mut Walk, here: &Spot) {
+        self.go(tape, walk, here, here.at.increment().increment());
     }
 
     /// Goes on from a cell. Where it is stored in, other words may stand there, and control may go on
     /// to the next cell.
-    pub(crate) fn visit(&mut self, image: &Image, walk: &mut Walk, here: &Spot) {
+    pub(crate) fn visit(&mut self, tape: &Tape<'_>, walk: &mut Walk, here: &Spot) {
         let changes = self.stored.contains(here.at);
         if changes {
-            self.go_on(image, walk, here);
+            self.go_on(tape, walk, here);
         }
-        let Some(word) = image.get(here.at) else {
+        let Some(word) = tape.get(here.at) else {
             return;
         };
         match decode(word, self.profile) {
-            Instruction::Memory => self.refer(image, walk, here, word),
-            Instruction::Operate1 | Instruction::Operate3 => self.go_on(image, walk, here),
-            Instruction::Operate2 => self.operate(image, walk, here, word),
-            Instruction::Iot => self.ask(image, walk, here, word),
+            Instruction::Memory => self.refer(tape, walk, here, word),
+            Instruction::Operate1 | Instruction::Operate3 => self.go_on(tape, walk, here),
+            Instruction::Operate2 => self.operate(tape, walk, here, word),
+            Instruction::Iot => self.ask(tape, walk, here, word),
             Instruction::Unsupported => {
                 if !changes {
                     self.round.astray.insert(here.at);
@@ -57,7 +58,7 @@ impl Map {
     }
 
     /// Goes on from a word of group 2.
-    fn operate(&mut self, image: &Image, walk: &mut Walk, here: &Spot, word: Word) {
+    fn operate(&mut self, tape: &Tape<'_>, walk: &mut Walk, here: &Spot, word: Word) {
         if halts(word) && !self.stored.contains(here.at) {
             self.round.halts.insert(here.at);
             if !self.pauses.contains(here.at) {
@@ -67,48 +68,48 @@ impl Map {
         // The bit that turns the tests round, and those of SNL, SZA and SMA.
         let tests = word.index() / 8 % 16;
         if tests != 1 {
-            self.go_on(image, walk, here);
+            self.go_on(tape, walk, here);
         }
         if tests != 0 {
-            self.skip(image, walk, here);
+            self.skip(tape, walk, here);
         }
     }
 
     /// Goes on from a device word.
-    fn ask(&mut self, image: &Image, walk: &mut Walk, here: &Spot, word: Word) {
-        self.go_on(image, walk, here);
+    fn ask(&mut self, tape: &Tape<'_>, walk: &mut Walk, here: &Spot, word: Word) {
+        self.go_on(tape, walk, here);
         if let Some(operation) = DeviceOperation::of(word, self.profile) {
             match operation {
                 DeviceOperation::SkipOnReaderFlag
                 | DeviceOperation::SkipOnPunchFlag
                 | DeviceOperation::SkipOnKeyboardFlag
-                | DeviceOperation::SkipOnPrinterFlag => self.skip(image, walk, here),
+                | DeviceOperation::SkipOnPrinterFlag => self.skip(tape, walk, here),
                 _ => {}
             }
         }
     }
 
     /// Goes on from a memory reference.
-    fn refer(&mut self, image: &Image, walk: &mut Walk, here: &Spot, word: Word) {
-        let address = &self.address(image, here.at, word);
+    fn refer(&mut self, tape: &Tape<'_>, walk: &mut Walk, here: &Spot, word: Word) {
+        let address = &self.address(tape, here.at, word);
         match Operation::of(word) {
             Operation::And | Operation::Tad => {
                 self.name(address);
-                self.go_on(image, walk, here);
+                self.go_on(tape, walk, here);
             }
             Operation::Dca => {
                 self.store(address);
-                self.go_on(image, walk, here);
+                self.go_on(tape, walk, here);
             }
-            Operation::Isz => self.count(image, walk, here, address),
-            Operation::Jms => self.call(image, walk, here, address),
-            Operation::Jmp => self.jump(image, walk, here, word, address),
+            Operation::Isz => self.count(tape, walk, here, address),
+            Operation::Jms => self.call(tape, walk, here, address),
+            Operation::Jmp => self.jump(tape, walk, here, word, address),
         }
     }
 
     /// The address that a memory reference refers to, if the words tell: the cell that it names, or
     /// the word of a pointer that nothing stores in.
-    fn address(&mut self, image: &Image, at: Word, word: Word) -> Option<Word> {
+    fn address(&mut self, tape: &Tape<'_>, at: Word, word: Word) -> Option<Word> {
         let named = target(word, at);
         if !refers_indirectly(word) {
             return Some(named);
@@ -121,7 +122,7 @@ impl Map {
         if self.stored.contains(named) || self.entries.contains(named) {
             return None;
         }
-        image.get(named)
+        tape.get(named)
     }
 
     /// A cell is named as a datum.
@@ -143,39 +144,39 @@ impl Map {
     }
 
     /// Goes on from ISZ. That of the routine's own entry counts the return word up, and doesn't skip.
-    fn count(&mut self, image: &Image, walk: &mut Walk, here: &Spot, address: &Option<Word>) {
+    fn count(&mut self, tape: &Tape<'_>, walk: &mut Walk, here: &Spot, address: &Option<Word>) {
         if let Some(cell) = address {
             if walk.is_own(*cell) {
                 let later = Spot {
                     at: here.at,
                     offset: here.offset.saturating_add(1),
                 };
-                self.go_on(image, walk, &later);
+                self.go_on(tape, walk, &later);
                 return;
             }
         }
         self.store(address);
-        self.go_on(image, walk, here);
-        self.skip(image, walk, here);
+        self.go_on(tape, walk, here);
+        self.skip(tape, walk, here);
     }
 
     /// Goes on from JMS.
-    fn call(&mut self, image: &Image, walk: &mut Walk, here: &Spot, address: &Option<Word>) {
+    fn call(&mut self, tape: &Tape<'_>, walk: &mut Walk, here: &Spot, address: &Option<Word>) {
         if let Some(entry) = address {
-            self.enter(image, walk, here, *entry);
+            self.enter(tape, walk, here, *entry);
             return;
         }
         self.round.calls.insert(here.at);
         let mut next = 0usize;
         while let Some(entry) = self.called.first_from(next) {
-            self.enter(image, walk, here, entry);
+            self.enter(tape, walk, here, entry);
             next = entry.index() + 1;
         }
     }
 
     /// Goes on after a call of an entry, as far as it's known how the routine returns.
-    fn enter(&mut self, image: &Image, walk: &mut Walk, here: &Spot, entry: Word) {
-        if is_auto_index(entry) || entry == self.start {
+    fn enter(&mut self, tape: &Tape<'_>, walk: &mut Walk, here: &Spot, entry: Word) {
+        if is_auto_index(entry) || entry == self.start || self.banned.contains(entry) {
             self.round.astray.insert(here.at);
             return;
         }
@@ -183,7 +184,7 @@ impl Map {
         for offset in 0..8usize {
             if self.may_return(entry, offset) {
                 let to = here.at.increment().add(Word::from_index(offset));
-                self.go(image, walk, here, to);
+                self.go(tape, walk, here, to);
             }
         }
     }
@@ -191,7 +192,7 @@ impl Map {
     /// Goes on from JMP. An indirect one through the routine's own entry returns.
     fn jump(
         &mut self,
-        image: &Image,
+        tape: &Tape<'_>,
         walk: &mut Walk,
         here: &Spot,
         word: Word,
@@ -205,17 +206,17 @@ impl Map {
             return;
         }
         match address {
-            None => self.jump_by_table(image, walk, here),
-            Some(to) => self.go(image, walk, here, *to),
+            None => self.jump_by_table(tape, walk, here),
+            Some(to) => self.go(tape, walk, here, *to),
         }
     }
 
     /// Goes on from JMP where it isn't known where it goes.
-    fn jump_by_table(&mut self, image: &Image, walk: &mut Walk, here: &Spot) {
+    fn jump_by_table(&mut self, tape: &Tape<'_>, walk: &mut Walk, here: &Spot) {
         self.round.jumps.insert(here.at);
         let mut next = 0usize;
         while let Some(to) = self.jumped.first_from(next) {
-            self.go(image, walk, here, to);
+            self.go(tape, walk, here, to);
             next = to.index() + 1;
         }
     }

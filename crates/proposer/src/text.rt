@@ -3,7 +3,7 @@
 ghost use Rattle.std.specs.Prelude.{◌≤◌};
 
 use crate::map::Map;
-use bin_tape::Image;
+use crate::tape::Tape;
 use instruct::{Profile, name};
 use std::alloc::{AllocError, Allocator};
 use word12::Word;
@@ -102,7 +102,7 @@ impl Map {
     pub(crate) fn text<A: Allocator>(
         &self,
         alloc: A,
-        image: &Image,
+        tape: &Tape<'_>,
         variables: &WordSet,
     ) -> Result<Vec<u8, A>, AllocError> {
         let mut text = Vec::new(alloc);
@@ -112,13 +112,14 @@ impl Map {
         push_cells(&mut text, b"start", &WordSet::one(self.start))?;
         let mut again = *self;
         again.forget();
-        push_cells(&mut text, b"main", &again.follow_main(image))?;
-        again.push_routines(&mut text, image)?;
+        push_cells(&mut text, b"main", &again.follow_main(tape))?;
+        again.push_routines(&mut text, tape)?;
         push_cells(&mut text, b"var", variables)?;
-        let stops = self.round.halts.minus(&self.pauses);
-        self.push_halts(&mut text, image, b"stop", &stops)?;
-        let pauses = self.round.halts.meet(&self.pauses);
-        self.push_halts(&mut text, image, b"pause", &pauses)?;
+        let halts = self.round.halts.union(&self.halted);
+        let stops = halts.minus(&self.pauses);
+        self.push_halts(&mut text, tape, b"stop", &stops)?;
+        let pauses = halts.meet(&self.pauses);
+        self.push_halts(&mut text, tape, b"pause", &pauses)?;
         Ok(text)
     }
 
@@ -126,7 +127,7 @@ impl Map {
     fn push_halts<A: Allocator>(
         &self,
         text: &mut Vec<u8, A>,
-        image: &Image,
+        tape: &Tape<'_>,
         kind: &[u8],
         halts: &WordSet,
     ) -> Result<(), AllocError> {
@@ -134,7 +135,7 @@ impl Map {
         while let Some(at) = halts.first_from(next) {
             text.extend_from_slice(kind)?;
             push_word(text, at)?;
-            self.push_remark(text, image, b" / ", at)?;
+            self.push_remark(text, tape, b" / ", at)?;
             next = at.index() + 1;
         }
         Ok(())
@@ -144,11 +145,11 @@ impl Map {
     fn push_remark<A: Allocator>(
         &self,
         text: &mut Vec<u8, A>,
-        image: &Image,
+        tape: &Tape<'_>,
         before: &[u8],
         at: Word,
     ) -> Result<(), AllocError> {
-        if let Some(word) = image.get(at) {
+        if let Some(word) = tape.get(at) {
             text.extend_from_slice(before)?;
             text.extend_from_slice(name(word, self.profile).as_bytes())?;
         }
@@ -159,13 +160,13 @@ impl Map {
     fn push_routines<A: Allocator>(
         &mut self,
         text: &mut Vec<u8, A>,
-        image: &Image,
+        tape: &Tape<'_>,
     ) -> Result<(), AllocError> {
         let mut next = 0usize;
         while let Some(entry) = self.entries.first_from(next) {
-            let body = self.follow_routine(image, entry);
+            let body = self.follow_routine(tape, entry);
             if !body.is_empty() {
-                self.push_routine(text, image, entry, &body)?;
+                self.push_routine(text, tape, entry, &body)?;
             }
             next = entry.index() + 1;
         }
@@ -176,7 +177,7 @@ impl Map {
     fn push_routine<A: Allocator>(
         &self,
         text: &mut Vec<u8, A>,
-        image: &Image,
+        tape: &Tape<'_>,
         entry: Word,
         body: &WordSet,
     ) -> Result<(), AllocError> {
@@ -191,6 +192,6 @@ impl Map {
                 text.push(b'0' + offset as u8)?;
             }
         }
-        self.push_remark(text, image, b" / begins with ", entry.increment())
+        self.push_remark(text, tape, b" / begins with ", entry.increment())
     }
 }

@@ -1,6 +1,7 @@
 //! What is tried: whether there is code behind a HLT, or where a word of a table leads.
 
 use crate::map::Map;
+use crate::tape::Tape;
 use bin_tape::Image;
 use word12::Word;
 use wordset::WordSet;
@@ -22,9 +23,9 @@ pub(crate) fn loaded(image: &Image) -> WordSet {
 
 impl Map {
     /// Goes on after each halt behind which there is code: what comes there leads to no cell that
-    /// can't be in the body, and to none that is named as a datum.
-    pub(crate) fn try_halts(&mut self, image: &Image) {
-        let mut tried = WordSet::empty();
+    /// can't be in the body, and to none that is named as a datum. Some halts are as they are.
+    pub(crate) fn try_halts(&mut self, tape: &Tape<'_>, decided: &WordSet) {
+        let mut tried = *decided;
         for _trial in 0..MOST_TRIALS {
             let Some(halt) = self.round.halts.minus(&tried).least() else {
                 return;
@@ -32,7 +33,7 @@ impl Map {
             tried.insert(halt);
             let mut trial = *self;
             trial.pauses.insert(halt);
-            trial.settle(image);
+            trial.settle(tape);
             if trial.is_code_beside(self) {
                 *self = trial;
             }
@@ -41,24 +42,24 @@ impl Map {
 
     /// Goes on by JMS and JMP words of which it isn't known where they go, to each word of a table
     /// behind which there is code.
-    pub(crate) fn try_tables(&mut self, image: &Image) {
-        let words = self.table_words(image);
+    pub(crate) fn try_tables(&mut self, tape: &Tape<'_>) {
+        let words = self.table_words(tape);
         let mut next = 0usize;
         for _trial in 0..MOST_TRIALS {
             let Some(to) = words.first_from(next) else {
                 return;
             };
-            self.try_target(image, to);
+            self.try_target(tape, to);
             next = to.index() + 1;
         }
     }
 
     /// Goes on by such words to an address, if there is code.
-    fn try_target(&mut self, image: &Image, to: Word) {
+    fn try_target(&mut self, tape: &Tape<'_>, to: Word) {
         if !self.round.calls.is_empty() {
             let mut trial = *self;
             trial.called.insert(to);
-            trial.settle(image);
+            trial.settle(tape);
             if trial.is_code_beside(self) {
                 *self = trial;
                 return;
@@ -67,7 +68,7 @@ impl Map {
         if !self.round.jumps.is_empty() {
             let mut trial = *self;
             trial.jumped.insert(to);
-            trial.settle(image);
+            trial.settle(tape);
             if trial.is_code_beside(self) {
                 *self = trial;
             }
@@ -76,21 +77,21 @@ impl Map {
 
     /// The words of cells that are no code and that no instruction names, where they are addresses of
     /// cells on the tape.
-    fn table_words(&self, image: &Image) -> WordSet {
-        let tape = loaded(image);
-        let cells = tape
+    fn table_words(&self, tape: &Tape<'_>) -> WordSet {
+        let all = loaded(tape.image);
+        let cells = all
             .minus(&self.round.code)
             .minus(&self.round.named)
             .minus(&self.entries);
         let mut words = WordSet::empty();
         let mut next = 0usize;
         while let Some(cell) = cells.first_from(next) {
-            if let Some(word) = image.get(cell) {
+            if let Some(word) = tape.get(cell) {
                 words.insert(word);
             }
             next = cell.index() + 1;
         }
-        words.meet(&tape)
+        words.meet(&all)
     }
 
     /// Whether what is found beside what was found before is code.

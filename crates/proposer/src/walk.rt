@@ -1,5 +1,6 @@
 //! A body while it is followed.
 
+use declaration::Owner;
 use word12::Word;
 use wordset::WordSet;
 
@@ -44,6 +45,14 @@ impl Walk {
         match &self.entry {
             None => false,
             Some(entry) => *entry == cell,
+        }
+    }
+
+    /// Whose body it is.
+    pub(crate) fn owner(&self) -> Owner {
+        match self.entry {
+            None => Owner::Main,
+            Some(entry) => Owner::Routine(entry),
         }
     }
 

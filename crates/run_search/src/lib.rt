@@ -13,6 +13,7 @@ mod looks;
 mod pace;
 mod plan;
 mod random;
+mod record;
 mod running;
 mod script;
 mod search;
@@ -21,4 +22,5 @@ mod shorten;
 mod tree;
 mod votes;
 
-pub use search::{DeclaredProgram, RunSearch};
+pub use record::{Record, Sight};
+pub use search::{DeclaredProgram, RunSearch, Trial};

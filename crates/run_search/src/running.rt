@@ -37,7 +37,7 @@ pub(crate) enum Progress {
     GoesOn,
     /// It is over, and broke no rule.
     Over,
-    /// Its last event broke a rule.
+    /// The next step breaks a rule, and isn't made.
     Broken,
 }
 
@@ -232,10 +232,7 @@ impl<A: Allocator + Copy> Run<A> {
     {
         match take_step(watcher, declaration, turns)? {
             Stepped::NoTurn => return Ok(Progress::Over),
-            Stepped::Broke => {
-                self.script.add_step();
-                return Ok(Progress::Broken);
-            }
+            Stepped::Broke => return Ok(Progress::Broken),
             Stepped::Kept => self.made_step(),
         }
         match watcher.world().halted_at() {

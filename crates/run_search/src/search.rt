@@ -10,6 +10,7 @@ use crate::asking::Ask;
 use crate::looks::{Look, looks};
 use crate::plan::{Plan, Purpose};
 use crate::random::Random;
+use crate::record::{Record, Sight};
 use crate::running::{Input, Progress, Run};
 use crate::script::Script;
 use crate::seen::Seen;
@@ -54,6 +55,11 @@ pub struct RunSearch<A: Allocator> {
     seen: Seen<A>,
     tree: Tree<A>,
     aims: Aims<A>,
+    record: Record<A>,
+    /// The steps that were made, and one for each run without a step.
+    clock: u32,
+    /// What it was when the last run began.
+    begun: u32,
     /// The steps of runs from the start.
     roamed: u32,
     /// The step from which on the next lesson is due.
@@ -67,10 +73,24 @@ pub(crate) struct Found<A: Allocator> {
     pub(crate) inputs: Vec<Input, A>,
 }
 
+/// A run that can go on.
+#[derive(Drop)]
+pub struct Trial<A: Allocator> {
+    /// The machine, and the calls that haven't returned.
+    pub watcher: Watcher<A>,
+    run: Run<A>,
+    plan: Plan<A>,
+    /// What was seen before the step that broke a rule, if one did.
+    glance: Option<Glance>,
+    /// How many steps it makes at most.
+    left: u32,
+}
+
 /// What is seen before a step.
 #[derive(Clone, Copy)]
 struct Glance {
     at: Word,
+    sight: Sight,
     ac: Word,
     look: Look,
     /// The address that an indirect reference uses, or the cell that a direct one stores in.
@@ -96,6 +116,9 @@ impl<A: Allocator + Copy> RunSearch<A> {
             seen: Seen::nothing(alloc)?,
             tree: Tree::new(alloc, program)?,
             aims: Aims::none(alloc)?,
+            record: Record::nothing(alloc)?,
+            clock: 0,
+            begun: 0,
             roamed: 0,
             lesson: FIRST_LESSON,
         })
@@ -123,7 +146,7 @@ impl<A: Allocator + Copy> RunSearch<A> {
         Ok(Some(script.text(self.alloc)?))
     }
 
-    /// One run: a quarter of all steps go to long runs from the start, the others to runs from kept states.
+    /// One run, up to a step that breaks a rule.
     fn round<D: Allocator>(
         &mut self,
         program: &DeclaredProgram<'_, D>,
@@ -134,20 +157,64 @@ impl<A: Allocator + Copy> RunSearch<A> {
         ensures within { turns.new.spent ≤ turns.new.limit }
     {
         turns.are_within();
-        let before = turns.spent();
-        if self.roamed / 3 <= before.saturating_sub(self.roamed) {
-            let plan = self.plan_roaming()?;
-            let found = self.follow(program, &plan, turns);
-            let steps = turns.spent().saturating_sub(before);
-            self.roamed = self.roamed.saturating_add(steps);
-            return found;
+        let plan = self.next_plan()?;
+        self.follow(program, plan, turns)
+    }
+
+    /// What to run next: a quarter of all steps go to long runs from the start, the others to runs from
+    /// kept states.
+    fn next_plan(&mut self) -> Result<Plan<A>, NoMemory> {
+        if self.clock == self.begun && self.record.runs > 0 {
+            self.clock = self.clock.saturating_add(1);
         }
-        if before > self.lesson {
-            self.lesson = before.saturating_add(before / 4);
+        self.begun = self.clock;
+        self.record.begins();
+        if self.roamed / 3 <= self.clock.saturating_sub(self.roamed) {
+            return self.plan_roaming();
+        }
+        if self.clock > self.lesson {
+            self.lesson = self.clock.saturating_add(self.clock / 4);
             self.aims.votes.teach(&mut self.alphabet)?;
         }
-        let plan = self.plan()?;
-        self.follow(program, &plan, turns)
+        self.plan()
+    }
+
+    /// Begins a run, which makes no step yet. The same seed begins the same runs, as long as all steps
+    /// of those before kept the rules.
+    ///
+    /// # Errors
+    ///
+    /// `NoMemory` where a growth was refused.
+    pub fn begin<D: Allocator>(
+        &mut self,
+        program: &DeclaredProgram<'_, D>,
+    ) -> Result<Trial<A>, NoMemory>
+        ensures profile { IfOk result (λ trial. profile_of trial.watcher.world
+            ≡ (meaning program.now.declaration.now).profile) }
+    {
+        let plan = self.next_plan()?;
+        self.trial(program, plan)
+    }
+
+    /// A run by a plan, before its first step.
+    fn trial<D: Allocator>(
+        &mut self,
+        program: &DeclaredProgram<'_, D>,
+        plan: Plan<A>,
+    ) -> Result<Trial<A>, NoMemory>
+        ensures profile { IfOk result (λ trial. profile_of trial.watcher.world
+            ≡ (meaning program.now.declaration.now).profile) }
+    {
+        let watcher = self.tree.watcher(program, plan.base)?;
+        let extent = self.tree.extent(plan.base);
+        let run = Run::new(self.alloc, &plan, extent, &mut self.random);
+        Ok(Trial {
+            watcher,
+            run,
+            plan,
+            glance: None,
+            left: MOST_STEPS,
+        })
     }
 
     /// A long run from the start, mostly with the same few inputs.
@@ -302,7 +369,7 @@ impl<A: Allocator + Copy> RunSearch<A> {
     pub(crate) fn follow<D: Allocator>(
         &mut self,
         program: &DeclaredProgram<'_, D>,
-        plan: &Plan<A>,
+        plan: Plan<A>,
         turns: &mut Turns,
     ) -> Result<Option<Found<A>>, NoMemory>
         ensures limit { turns.new.limit ≡ turns.old.limit }
@@ -310,21 +377,104 @@ impl<A: Allocator + Copy> RunSearch<A> {
         ensures within { turns.new.spent ≤ turns.new.limit }
     {
         turns.are_within();
-        let mut watcher = self.tree.watcher(program, plan.base)?;
-        let extent = self.tree.extent(plan.base);
-        let mut run = Run::new(self.alloc, plan, extent, &mut self.random);
-        for _step in 0..MOST_STEPS {
-            let glance = self.glance(&watcher);
-            if !self.prepare(program, &mut watcher, &mut run, plan, &glance)? {
-                return Ok(None);
-            }
-            match self.step(program, &mut watcher, &mut run, plan, &glance, turns)? {
-                Progress::GoesOn => {}
-                Progress::Over => return Ok(None),
-                Progress::Broken => return self.found(run),
+        let mut trial = self.trial(program, plan)?;
+        if !self.go_on(program, &mut trial, turns)? {
+            return Ok(None);
+        }
+        let Trial { run, .. } = trial;
+        self.found(run)
+    }
+
+    /// Makes the steps of a run. True where the next one breaks a rule: it is not made, and where the run
+    /// goes on later, by a declaration that allows more, it is tried again. False where the run is over, or
+    /// all turns are spent. A turn is taken for each step, and for one that breaks a rule.
+    ///
+    /// # Errors
+    ///
+    /// `NoMemory` where a growth was refused.
+    pub fn go_on<D: Allocator>(
+        &mut self,
+        program: &DeclaredProgram<'_, D>,
+        trial: &mut Trial<A>,
+        turns: &mut Turns,
+    ) -> Result<bool, NoMemory>
+        requires profile { profile_of trial.old.watcher.world
+            ≡ (meaning program.now.declaration.now).profile }
+        ensures profile { profile_of trial.new.watcher.world
+            ≡ (meaning program.now.declaration.now).profile }
+        ensures limit { turns.new.limit ≡ turns.old.limit }
+        ensures rises { turns.old.spent ≤ turns.new.spent }
+        ensures within { turns.new.spent ≤ turns.new.limit }
+    {
+        turns.are_within();
+        if let Some(glance) = trial.glance {
+            trial.glance = None;
+            if let Some(breaks) = self.end_of_step(program, trial, glance, turns)? {
+                return Ok(breaks);
             }
         }
-        Ok(None)
+        for _step in 0..trial.left {
+            trial.left = trial.left.saturating_sub(1);
+            let glance = self.glance(&trial.watcher);
+            let goes_on = self.prepare(
+                program,
+                &mut trial.watcher,
+                &mut trial.run,
+                &trial.plan,
+                &glance,
+            )?;
+            if !goes_on {
+                return Ok(false);
+            }
+            if let Some(breaks) = self.end_of_step(program, trial, glance, turns)? {
+                return Ok(breaks);
+            }
+        }
+        Ok(false)
+    }
+
+    /// Makes a step of a run. None where the run goes on; else whether the step breaks a rule.
+    fn end_of_step<D: Allocator>(
+        &mut self,
+        program: &DeclaredProgram<'_, D>,
+        trial: &mut Trial<A>,
+        glance: Glance,
+        turns: &mut Turns,
+    ) -> Result<Option<bool>, NoMemory>
+        requires profile { profile_of trial.old.watcher.world
+            ≡ (meaning program.now.declaration.now).profile }
+        ensures profile { profile_of trial.new.watcher.world
+            ≡ (meaning program.now.declaration.now).profile }
+        ensures limit { turns.new.limit ≡ turns.old.limit }
+        ensures rises { turns.old.spent ≤ turns.new.spent }
+        ensures within { turns.new.spent ≤ turns.new.limit }
+    {
+        let progress = self.step(
+            program,
+            &mut trial.watcher,
+            &mut trial.run,
+            &trial.plan,
+            &glance,
+            turns,
+        )?;
+        match progress {
+            Progress::GoesOn => Ok(None),
+            Progress::Over => Ok(Some(false)),
+            Progress::Broken => {
+                trial.glance = Some(glance);
+                Ok(Some(true))
+            }
+        }
+    }
+
+    /// What steps were seen to do in all runs so far, apart from those that only break a rule once more.
+    pub fn record(&self) -> &Record<A> {
+        &self.record
+    }
+
+    /// Records a step that is about to be made.
+    pub fn sees(&mut self, sight: &Sight) {
+        self.record.sees(sight);
     }
 
     /// The whole of a run that broke a rule, from the start.
@@ -338,6 +488,7 @@ impl<A: Allocator + Copy> RunSearch<A> {
         } = run;
         let mut script = self.tree.script(base)?;
         script.append(&end)?;
+        script.add_step();
         let Tail { mut inputs, .. } = self.tree.tail(base, usize::MAX)?;
         for input in given.iter().skip(before_base) {
             inputs.push(*input).map_err(|_| NoMemory)?;
@@ -440,6 +591,7 @@ impl<A: Allocator + Copy> RunSearch<A> {
         };
         Glance {
             at: cpu.pc,
+            sight: Sight::of(watcher, cpu.profile),
             ac: cpu.ac,
             look,
             place,
@@ -462,11 +614,26 @@ impl<A: Allocator + Copy> RunSearch<A> {
         ensures rises { turns.old.spent ≤ turns.new.spent }
         ensures within { turns.new.spent ≤ turns.new.limit }
     {
+        let before = turns.spent();
         let progress = run.step(watcher, program.declaration, turns)?;
-        if progress == Progress::GoesOn && plan.purpose != Purpose::Repeat {
+        let is_made = turns.spent() != before && progress != Progress::Broken;
+        if plan.purpose == Purpose::Repeat || !is_made {
+            return Ok(progress);
+        }
+        self.made(plan, glance);
+        if progress == Progress::GoesOn {
             self.note(watcher, run, plan, glance)?;
         }
         Ok(progress)
+    }
+
+    /// A step was made.
+    fn made(&mut self, plan: &Plan<A>, glance: &Glance) {
+        self.clock = self.clock.saturating_add(1);
+        if plan.purpose == Purpose::Roam {
+            self.roamed = self.roamed.saturating_add(1);
+        }
+        self.record.makes(&glance.sight);
     }
 
     /// Notes what is new after a step.

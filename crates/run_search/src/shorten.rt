@@ -42,7 +42,7 @@ pub(crate) fn shortened<A: Allocator + Copy, D: Allocator>(
         without(alloc, &found.inputs, 0, 0)?,
     );
     let mut best = found;
-    if let Some(prompt) = search.follow(program, &plan, turns)? {
+    if let Some(prompt) = search.follow(program, plan, turns)? {
         best = prompt;
         halve_inputs(alloc, search, program, &mut best, last, turns)?;
     }
@@ -114,7 +114,7 @@ fn take_out_inputs<A: Allocator + Copy, D: Allocator>(
         }
         let given = without(alloc, &found.inputs, place, size)?;
         let plan = Plan::of(alloc, Purpose::Repeat, 0, given);
-        match search.follow(program, &plan, turns)? {
+        match search.follow(program, plan, turns)? {
             Some(shorter) => *found = shorter,
             None => place = place.saturating_add(size),
         }

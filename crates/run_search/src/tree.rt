@@ -9,7 +9,6 @@ use crate::random::Random;
 use crate::running::Input;
 use crate::script::{Extent, Script};
 use crate::search::DeclaredProgram;
-use declaration::Declaration;
 use peripherals::{NoMemory, Panel, Start, World};
 use policy::{Call, Watcher};
 use processor::{Cpu, Memory};
@@ -22,7 +21,14 @@ const MOST_BYTES: usize = 50_000_000;
 /// The bytes of a kept state apart from its lists, about.
 const BYTES_OF_STATE: usize = 300;
 
-/// A machine, apart from the cells that no legal step writes.
+/// A cell, and the word that it holds.
+#[derive(Clone, Copy)]
+struct Change {
+    cell: Word,
+    word: Word,
+}
+
+/// A machine, apart from the cells that are as they were at the start.
 #[derive(Drop)]
 struct Snapshot<A: Allocator> {
     ac: Word,
@@ -30,7 +36,7 @@ struct Snapshot<A: Allocator> {
     mq: Word,
     pc: Word,
     panel: Panel,
-    cells: Vec<Word, A>,
+    changes: Vec<Change, A>,
     calls: Vec<Call, A>,
 }
 
@@ -70,8 +76,6 @@ pub(crate) struct Tree<A: Allocator> {
     alloc: A,
     /// The memory at the start.
     tape: Memory,
-    /// The cells that legal steps may write.
-    written: Vec<Word, A>,
     states: Vec<Kept<A>, A>,
     /// The states by what was new; the first group is of those for a new step.
     groups: Vec<Group<A>, A>,
@@ -80,41 +84,39 @@ pub(crate) struct Tree<A: Allocator> {
     bytes: usize,
 }
 
+/// The cells of a memory whose words are others than in another one.
+fn changes<A: Allocator>(
+    alloc: A,
+    memory: &Memory,
+    before: &Memory,
+) -> Result<Vec<Change, A>, NoMemory> {
+    let mut changes = Vec::new(alloc);
+    for index in 0..4096usize {
+        let cell = Word::from_index(index);
+        let word = memory.get(cell);
+        if word != before.get(cell) {
+            changes.push(Change { cell, word }).map_err(|_| NoMemory)?;
+        }
+    }
+    Ok(changes)
+}
+
 /// The machine that a watcher watches.
 fn take_snapshot<A: Allocator + Copy>(
     alloc: A,
     watcher: &Watcher<A>,
-    written: &[Word],
+    tape: &Memory,
 ) -> Result<Snapshot<A>, NoMemory> {
     let cpu = watcher.world().cpu();
-    let mut cells = Vec::with_capacity(alloc, written.len())?;
-    for cell in written {
-        cells.push(cpu.memory.get(*cell)).map_err(|_| NoMemory)?;
-    }
     Ok(Snapshot {
         ac: cpu.ac,
         link: cpu.link,
         mq: cpu.mq,
         pc: cpu.pc,
         panel: watcher.world().panel(),
-        cells,
+        changes: changes(alloc, &cpu.memory, tape)?,
         calls: Vec::from_slice(alloc, watcher.calls())?,
     })
-}
-
-/// The cells that legal steps may write: variables and entries.
-fn cells_written<A: Allocator, D: Allocator>(
-    alloc: A,
-    declaration: &Declaration<D>,
-) -> Result<Vec<Word, A>, NoMemory> {
-    let mut cells = Vec::new(alloc);
-    for index in 0..4096usize {
-        let cell = Word::from_index(index);
-        if declaration.is_variable(cell) || declaration.is_entry(cell) {
-            cells.push(cell).map_err(|_| NoMemory)?;
-        }
-    }
-    Ok(cells)
 }
 
 impl<A: Allocator + Copy> Tree<A> {
@@ -127,7 +129,6 @@ impl<A: Allocator + Copy> Tree<A> {
         let mut tree = Tree {
             alloc,
             tape: watcher.world().cpu().memory.duplicate(),
-            written: cells_written(alloc, program.declaration)?,
             states: Vec::new(alloc),
             groups: Vec::new(alloc),
             group_of: Vec::from_elem(alloc, None, 4096)?,
@@ -169,14 +170,14 @@ impl<A: Allocator + Copy> Tree<A> {
         ask: Ask,
         place: Option<Word>,
     ) -> Result<usize, NoMemory> {
-        let machine = take_snapshot(self.alloc, watcher, &self.written)?;
+        let machine = take_snapshot(self.alloc, watcher, &self.tape)?;
         let number = self.states.len();
         self.bytes = self
             .bytes
             .saturating_add(BYTES_OF_STATE)
             .saturating_add(script.parts().len().saturating_mul(12))
             .saturating_add(tail.inputs.len().saturating_mul(6))
-            .saturating_add(machine.cells.len().saturating_mul(2))
+            .saturating_add(machine.changes.len().saturating_mul(4))
             .saturating_add(machine.calls.len().saturating_mul(4));
         let Tail { base, inputs } = tail;
         let kept = Kept {
@@ -253,8 +254,8 @@ impl<A: Allocator + Copy> Tree<A> {
     /// The memory of a kept machine.
     fn memory(&self, machine: &Snapshot<A>) -> Memory {
         let mut memory = self.tape.duplicate();
-        for (cell, word) in self.written.iter().zip(machine.cells.iter()) {
-            memory.set(*cell, *word);
+        for change in &machine.changes {
+            memory.set(change.cell, change.word);
         }
         memory
     }

@@ -17,8 +17,9 @@ use command_parts::status::{Fault, Status};
 use command_parts::text::push_place;
 use declaration::{Declaration, DeclarationFault};
 use instruct::Profile;
+use itoa::Buffer;
 pub use options::DeclareOptions;
-use proposer::{Proposal, Verdict, propose, propose_with_reads};
+use proposer::{Proposal, Seen, Verdict, propose, propose_with_reads};
 use std::alloc::{AllocError, Allocator};
 use streams::{ByteSink, ByteSource, put};
 use turns::{ProposeFault, Turns};
@@ -56,6 +57,18 @@ fn push_verdict<A: Allocator, B: Allocator>(
         }
     }
     text.extend_from_slice(b".\n")
+}
+
+/// Adds a comment that says in which runs it was seen what the program does, if it was.
+fn push_seen<A: Allocator>(text: &mut Vec<u8, A>, seen: Option<Seen>) -> Result<(), AllocError> {
+    let Some(seen) = seen else {
+        return Ok(());
+    };
+    text.extend_from_slice(b"/ Seen in ")?;
+    text.extend_from_slice(Buffer::new().format(seen.runs).as_bytes())?;
+    text.extend_from_slice(b" runs of ")?;
+    text.extend_from_slice(Buffer::new().format(seen.steps).as_bytes())?;
+    text.extend_from_slice(b" steps in all, and not shown.\n")
 }
 
 /// What is proposed for a tape's words, with a list of reads where one was asked for.
@@ -98,6 +111,7 @@ fn remarks_and_text<A: Allocator + Copy>(
 ) -> Result<Vec<u8, A>, AllocError> {
     let mut text = Vec::new(alloc);
     push_verdict(&mut text, &proposal.verdict)?;
+    push_seen(&mut text, proposal.seen)?;
     push_unfollowed(&mut text, &proposal.unfollowed)?;
     text.extend_from_slice(&proposal.text)?;
     Ok(text)

@@ -1,11 +1,11 @@
 use Rattle.std.proofs.Common.{◌≡◌, ◌≤◌}
 use Rattle.declaration.specs.Kept.{meaning}
 use Rattle.peripherals.specs.World.{profile_of}
-use Rattle.run_search.proofs.search.RunSearch.follow.Given as goal
+use Rattle.run_search.proofs.search.RunSearch.go_on.Given as goal
 
 abbrev pub invariant-loop-step : goal.invariant-loop-step
 invariant-loop-step g l = record {
-  profile : profile_of l.watcher.world ≡ (meaning l.program.declaration.now).profile;
+  profile : profile_of l.trial.watcher.world ≡ (meaning l.program.declaration.now).profile;
   limit : l.turns.limit ≡ l.initial.turns.limit;
   rises : l.initial.turns.spent ≤ l.turns.spent;
   within : l.turns.spent ≤ l.turns.limit;

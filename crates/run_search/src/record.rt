@@ -1,0 +1,130 @@
+//! What steps were seen to do in all runs of a search.
+
+use declaration::Owner;
+use instruct::{Instruction, Operation, Profile, decode, refers_indirectly, target};
+use peripherals::NoMemory;
+use policy::Watcher;
+use processor::{effective_address, is_auto_index};
+use std::alloc::Allocator;
+use word12::Word;
+use wordset::WordSet;
+
+/// What steps were seen to do in all runs of a search.
+#[derive(Drop)]
+pub struct Record<A: Allocator> {
+    /// By address the routine that ran when a step was first made from there.
+    pub owners: Vec<Option<Owner>, A>,
+    /// The addresses from which steps were made, by how far the running routine's return word had been
+    /// counted up then: 0 in main, and where it was further up than 7.
+    pub places: [WordSet; 8],
+    /// The cells that a DCA, an ISZ or an indirect reference through an auto-index cell wrote, but not
+    /// the running routine's own entry under an ISZ.
+    pub written: WordSet,
+    /// How many runs were begun.
+    pub runs: u32,
+    /// How many steps were made.
+    pub steps: u32,
+}
+
+/// What a step is about to do, as far as it is recorded.
+#[derive(Clone, Copy)]
+pub struct Sight {
+    /// The address of the instruction.
+    pub at: Word,
+    /// The routine that runs.
+    pub owner: Owner,
+    /// How far its return word was counted up, modulo 4096: 0 in main.
+    pub offset: Word,
+    /// The cell in which a DCA or an ISZ stores, but not the running routine's own entry under an ISZ.
+    pub stored: Option<Word>,
+    /// The auto-index cell that an indirect reference steps.
+    pub stepped: Option<Word>,
+}
+
+/// How far an address is behind another one, modulo 4096.
+fn distance(to: Word, from: Word) -> Word {
+    to.add(from.complement()).increment()
+}
+
+impl Sight {
+    /// What the next step of a machine that is watched is about to do.
+    pub fn of<A: Allocator>(watcher: &Watcher<A>, profile: Profile) -> Sight {
+        let cpu = watcher.world().cpu();
+        let mut sight = Sight {
+            at: cpu.pc,
+            owner: Owner::Main,
+            offset: Word::ZERO,
+            stored: None,
+            stepped: None,
+        };
+        let mut own = None;
+        if let Some(call) = watcher.calls().last() {
+            sight.owner = Owner::Routine(call.entry);
+            own = Some(call.entry);
+            sight.offset = distance(cpu.memory.get(call.entry), call.after);
+        }
+        let word = cpu.memory.get(cpu.pc);
+        if decode(word, profile) == Instruction::Memory {
+            let named = target(word, cpu.pc);
+            if refers_indirectly(word) && is_auto_index(named) {
+                sight.stepped = Some(named);
+            }
+            let place = effective_address(&cpu.memory, word, cpu.pc);
+            match Operation::of(word) {
+                Operation::Dca => sight.stored = Some(place),
+                Operation::Isz if own != Some(place) => sight.stored = Some(place),
+                _ => {}
+            }
+        }
+        sight
+    }
+}
+
+impl<A: Allocator + Copy> Record<A> {
+    /// Nothing was seen.
+    pub(crate) fn nothing(alloc: A) -> Result<Record<A>, NoMemory> {
+        Ok(Record {
+            owners: Vec::from_elem(alloc, None, 4096)?,
+            places: [WordSet::empty(); 8],
+            written: WordSet::empty(),
+            runs: 0,
+            steps: 0,
+        })
+    }
+
+    /// A run begins.
+    pub(crate) fn begins(&mut self) {
+        self.runs = self.runs.saturating_add(1);
+    }
+
+    /// A step is made.
+    pub(crate) fn makes(&mut self, sight: &Sight) {
+        self.steps = self.steps.saturating_add(1);
+        self.sees(sight);
+    }
+
+    /// The routine that ran when a step was first made from an address, if one was.
+    pub fn owner(&self, at: Word) -> Option<Owner> {
+        self.owners.get(at.index()).copied().flatten()
+    }
+
+    /// Records what a step does, or is about to do.
+    pub fn sees(&mut self, sight: &Sight) {
+        if let Some(owner) = self.owners.get_mut(sight.at.index()) {
+            if owner.is_none() {
+                *owner = Some(sight.owner);
+            }
+        }
+        let offset = sight.offset.index();
+        let place = if offset < 8 { offset } else { 0 };
+        if let Some(places) = self.places.get_mut(place) {
+            places.insert(sight.at);
+        }
+        if let Some(cell) = sight.stored {
+            self.written.insert(cell);
+        }
+        if let Some(cell) = sight.stepped {
+            self.written.insert(cell);
+        }
+    }
+}

@@ -9,6 +9,6 @@ mod requests;
 mod table;
 
 pub use names::FileNames;
-pub use operator::{Joined, Session, WatchedSession};
+pub use operator::{Joined, Session, TeletypeSession, WatchedSession};
 pub use outputs::Destination;
 pub use requests::{CommandLine, Refused, Request, parse_arguments};

@@ -5,3 +5,4 @@ pub mod WatchLemmas
 pub mod RunLemmas
 pub mod SessionLemmas
 pub mod WatchedSessionLemmas
+pub mod TypistLemmas

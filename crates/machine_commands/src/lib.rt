@@ -5,8 +5,11 @@
 pub mod follow;
 pub mod refuting;
 pub mod running;
+mod schedule;
 pub mod session;
 pub mod summary;
+pub mod teletype;
 mod trace;
+mod typist;
 pub mod watched_session;
 pub mod watching;

@@ -4,7 +4,7 @@ ghost use Rattle.std.specs.Prelude.{◌≤◌};
 
 use crate::faults::{fault_lines, omissions, stuck_address};
 use crate::files::{open_input, open_output};
-use crate::joined::{hold_session, tell_to, watch_joined};
+use crate::joined::{hold_session, sit_down, tell_to, watch_joined};
 use crate::saving::{save_answer, save_proposed};
 use crate::sources::{assemble_to, list_from};
 use crate::telling::{tell, tell_with};
@@ -144,6 +144,7 @@ fn answer<R: Files + Input + Print + Eprint>(
             options,
         } => run_from(rt, alloc, tape, *events, *options),
         Request::Session(session) => hold_session(rt, alloc, session),
+        Request::Teletype(session) => sit_down(rt, alloc, session),
         Request::Dump { tape, profile } => dump_from(rt, alloc, tape, *profile),
         Request::Assemble {
             out,

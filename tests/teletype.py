@@ -33,11 +33,11 @@ def programs(pdp8, folder):
 
 
 class Terminal:
-    """A terminal of tmux in which a command of the shell runs."""
+    """A terminal of tmux in which a command of the shell runs, and then says that it is over."""
 
     def __init__(self, folder, command):
         self.socket = os.path.join(tempfile.mkdtemp(dir=folder), 'tmux')
-        self.tmux('-f', '/dev/null', 'new-session', '-d', '-x', '80', '-y', '24', '-c', folder, f'sh -c "{command}; cat"')
+        self.tmux('-f', '/dev/null', 'new-session', '-d', '-x', '80', '-y', '24', '-c', folder, f'sh -c "{command}; echo OVER; cat"')
 
     def tmux(self, *words):
         return subprocess.run(['tmux', '-S', self.socket, *words], stdout=subprocess.PIPE, check=True, text=True).stdout
@@ -85,7 +85,7 @@ GUESSING = [
     ((), ['GUESS?']),
     (('100', 'Enter'), ['GUESS? 100', '100', 'HIGH', 'GUESS?']),
     (('17', 'Enter'), ['GUESS? 100', '100', 'HIGH', 'GUESS? 17', '17', 'LOW', 'GUESS?']),
-    (('42', 'Enter'), ['GUESS? 100', '100', 'HIGH', 'GUESS? 17', '17', 'LOW', 'GUESS? 42', '42', 'RIGHT']),
+    (('42', 'Enter'), ['GUESS? 100', '100', 'HIGH', 'GUESS? 17', '17', 'LOW', 'GUESS? 42', '42', 'RIGHT', 'OVER']),
 ]
 # The terminal gives each key, and shows none.
 EDITING = [
@@ -96,7 +96,7 @@ EDITING = [
     (('L', 'L', 'O'), ['HEX\\LLO']),
     (('Enter',), ['HEX\\LLO', 'HELLO']),
     (('BSpace', 'A', 'Enter'), ['HEX\\LLO', 'HELLO', 'A', 'A']),
-    (('Enter',), ['HEX\\LLO', 'HELLO', 'A', 'A', '']),
+    (('Enter',), ['HEX\\LLO', 'HELLO', 'A', 'A', '', 'OVER']),
 ]
 ECHOING = [
     (('A',), ['A']),

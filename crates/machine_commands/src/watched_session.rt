@@ -9,7 +9,8 @@ ghost use Rattle.command_parts.specs.Faults.{IsRunFault, is_fault_of_declaration
 ghost use Rattle.command_parts.specs.Inputs.{AreFirst, IsGoodDeclaration, IsGoodTape, TakesAtMost, TakesTape, input};
 ghost use Rattle.command_parts.specs.Writes.{FrontOf, Writes};
 ghost use Rattle.machine_commands.specs.Follows.{goes_on};
-ghost use Rattle.machine_commands.specs.Session.{Comes, Whole};
+ghost use Rattle.machine_commands.specs.Schedule.{Whole};
+ghost use Rattle.machine_commands.specs.Session.{comes_by};
 ghost use Rattle.machine_commands.specs.WatchedSession.{IsPlanWatched, IsPlanWatchedSo, IsSessionWatched, IsSessionWatchedSo, IsWatchedSessionFault};
 
 use crate::watching::{told_of, watched_status};
@@ -44,8 +45,8 @@ fn events_of<A: Allocator, B: Allocator>(
     operator: &mut Operator<'_>,
 ) -> Result<Vec<Event, A>, NoMemory>
     requires first { operator.old.last ≡ None }
-    ensures come { IfOk result (λ events. Comes (profile_of world.old) Whole
-        (plan_of operator.old) None (view world.old) events.items) }
+    ensures come { IfOk result (λ events.
+        comes_by (plan_of operator.old) (profile_of world.old) (view world.old) Whole events.items) }
 {
     let mut events = Vec::new(alloc);
     while let Some(event) = operator.next(world) {

@@ -1,5 +1,6 @@
 -- Frames and keys that are read while a session goes on.
-use Rattle.std.proofs.Common.{ℕ, zero, suc, ◌≡◌, ◌+◌, ◌*◌, ◌==◌, ◌<◌, ◌≤◌, Bool, true, false, ◌||◌, if◌then◌else◌, List, [], ◌∷◌, ◌++◌, drop, take, map, refl, sym, ◌∙◌, ap, arith, Some, None, Option, Ok, Result, subst, unwrap_or, true≢false}
+use Rattle.std.proofs.Common.{ℕ, zero, suc, ◌≡◌, ◌+◌, ◌*◌, ◌==◌, ◌<◌, ◌≤◌, Bool, true, false, ◌||◌, if◌then◌else◌, List, [], ◌∷◌, ◌++◌, drop, take, map, refl, sym, ◌∙◌, ap, arith, Some, None, Option, Ok, Err, Result, subst, unwrap_or, true≢false}
+use Rattle.std.specs.Prelude.{IsTrue, OnErr, OnOk}
 use Rattle.std.specs.Io.KnownBytes.{Consumes, IsAtEnd}
 use Rattle.instruct.specs.declared.Profile.{Profile}
 use Rattle.peripherals.specs.declared.Event.{Event}
@@ -259,6 +260,15 @@ types_complete options w asked rounds reader keys p extent es later =
       bytes_are = later.bytes_are;
       come = Then (record { plan = plan; last = Some Step; asked = asked }) w mid PrinterDone (PunchDone ∷ es) refl (device_goes w.devices.printer.busy) refl half;
     }
+
+-- an event that puts nothing out happens whatever memory there is
+pub happens_anyway : {T E : Type 0} (p : Profile) (w x : WorldState) (e : Event) (r : Result T E) → OnOk r (Happens p w e x) → OnErr r (IsTrue (puts_out w e)) → puts_out w e ≡ false → Happens p w e x
+happens_anyway p w x e (Ok v) happens only none = happens
+happens_anyway p w x e (Err f) happens only none = absurd (let no : IsTrue false = rw none at only in no)
+
+-- the printer and the punch got done
+pub both_done : (p q : Profile) (w m x : WorldState) → Happens p w PrinterDone m → Happens q m PunchDone x → x ≡ completed w
+both_done p q w m x printer punch = let first : m ≡ printer_done w = printer in let second : x ≡ with_devices m (record m.devices { punch = done m.devices.punch }) = punch in rw first at second
 
 -- how many events may come at most
 none_is : {e : Event} → None ≡ Some e → ⊥

@@ -3,6 +3,7 @@
 #![tactic(auto)]
 
 pub mod follow;
+mod progress;
 pub mod refuting;
 pub mod running;
 mod schedule;

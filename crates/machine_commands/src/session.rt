@@ -181,13 +181,7 @@ pub(crate) fn operate<A: Allocator, S: Scheduler, W: ByteSink, T: ByteSink>(
 
 /// Runs an image by a schedule, and writes what was punched in the end, also where the run broke
 /// off, and the summary, on a line of its own where it is to stand apart.
-pub(crate) fn attend<
-    A: Allocator + Copy,
-    S: Scheduler,
-    W: ByteSink,
-    T: ByteSink,
-    P: ByteSink,
->(
+pub(crate) fn attend<A: Allocator + Copy, S: Scheduler, W: ByteSink, T: ByteSink, P: ByteSink>(
     alloc: A,
     image: &Image,
     schedule: &mut S,
@@ -338,12 +332,5 @@ pub fn run_session<
         options.mark,
     );
     are_few(options.run.rounds);
-    attend(
-        alloc,
-        &image,
-        &mut operator,
-        options.run,
-        false,
-        out,
-    )
+    attend(alloc, &image, &mut operator, options.run, false, out)
 }

@@ -8,8 +8,8 @@ ghost use Rattle.machine_commands.specs.Schedule.{Whole};
 ghost use Rattle.machine_commands.specs.Session.{WritesAll, failures, taken};
 ghost use Rattle.machine_commands.specs.Teletype.{IsTyped, IsTypedFault, TypedFronts, run_of};
 
-use crate::session::attend;
 pub use crate::session::Outputs;
+use crate::session::attend;
 pub use crate::typist::{Manner, TeletypeOptions, Typist};
 use command_parts::inputs::tape_from;
 use command_parts::status::{Fault, Status};

@@ -42,10 +42,11 @@ fn next_byte<S: ByteSource>(source: &mut S) -> Result<Option<u8>, Failed>
     ensures marks { S.mark source.new ≡ is_err result }
 {
     let mut piece = [0u8; 1];
-    match source.read(&mut piece)? {
-        0 => Ok(None),
-        _ => Ok(Some(piece[0])),
+    let count = source.read(&mut piece)?;
+    if count == 0 {
+        return Ok(None);
     }
+    Ok(Some(piece[0]))
 }
 
 /// Whether the next instruction asks for a key.
@@ -168,12 +169,13 @@ impl<F: ByteSource, K: ByteSource> Typist<F, K> {
         ensures same { self.new ≡
             record self.old { reader = self.new.reader; keys = self.new.keys } }
     {
-        if world.panel().reader.fetching {
-            if let Some(frame) = next_byte(&mut self.reader)? {
-                return Ok(Some(Event::ReaderDone(frame)));
-            }
+        if !world.panel().reader.fetching {
+            return self.answer_due();
         }
-        self.answer_due()
+        match next_byte(&mut self.reader)? {
+            Some(frame) => Ok(Some(Event::ReaderDone(frame))),
+            None => self.answer_due(),
+        }
     }
 
     /// The event that is due.
@@ -206,11 +208,11 @@ impl<F: ByteSource, K: ByteSource> Typist<F, K> {
     }
 
     /// An event comes in a world.
-    fn note<A: Allocator>(&mut self, event: Event, world: &World<A>)
+    fn note<A: Allocator>(&mut self, event: &Event, world: &World<A>)
         ensures { self.new ≡ record self.old {
-            rounds = rounds_left event self.old.rounds;
-            last = Some event;
-            asked = asked_after self.old.asked (view world.now) event;
+          rounds = rounds_left event.now self.old.rounds;
+          last = Some event.now;
+          asked = asked_after self.old.asked (view world.now) event.now;
         } }
     {
         match event {
@@ -221,7 +223,7 @@ impl<F: ByteSource, K: ByteSource> Typist<F, K> {
             Event::Key(_) => self.asked = false,
             _ => {}
         }
-        self.last = Some(event);
+        self.last = Some(*event);
     }
 }
 
@@ -248,14 +250,15 @@ impl<F: ByteSource, K: ByteSource> Scheduler for Typist<F, K> {
         (source (K.remaining t.keys) (K.ended t.keys)) p };
 
     fn next_event<A: Allocator>(&mut self, world: &World<A>) -> Result<Option<Event>, Fault> {
-        match self.due(world) {
-            Ok(Some(event)) => {
-                self.note(event, world);
-                Ok(Some(event))
-            }
-            Ok(None) => Ok(None),
-            Err(Failed) => Err(Fault::Device(DeviceFault::Read)),
-        }
+        let due = match self.due(world) {
+            Ok(due) => due,
+            Err(Failed) => return Err(Fault::Device(DeviceFault::Read)),
+        };
+        let Some(event) = due else {
+            return Ok(None);
+        };
+        self.note(&event, world);
+        Ok(Some(event))
     }
 
     fn complete_devices<A: Allocator>(&mut self, world: &mut World<A>) {

@@ -13,6 +13,7 @@ ghost use Rattle.machine_commands.specs.Schedule.{Whole};
 ghost use Rattle.machine_commands.specs.Session.{comes_by};
 ghost use Rattle.machine_commands.specs.WatchedSession.{IsPlanWatched, IsPlanWatchedSo, IsSessionWatched, IsSessionWatchedSo, IsWatchedSessionFault};
 
+use crate::progress::Offered;
 use crate::watching::{told_of, watched_status};
 use bin_tape::Image;
 use command_parts::inputs::{bytes_from, declaration_from, tape_from};
@@ -65,6 +66,7 @@ fn watch_operator<A: Allocator + Copy, D: Allocator, W: ByteSink>(
     image: &Image,
     declaration: &Declaration<D>,
     operator: &mut Operator<'_>,
+    offered: Offered,
     explained: bool,
     out: &mut W,
 ) -> Result<Status, Fault>
@@ -91,7 +93,15 @@ fn watch_operator<A: Allocator + Copy, D: Allocator, W: ByteSink>(
     );
     let happened = events_of(alloc, &mut world, operator)?;
     let watched = policy::watch(alloc, image, declaration, &start, &happened)?;
-    let text = told_of(alloc, image, declaration, &happened, watched, explained)?;
+    let text = told_of(
+        alloc,
+        image,
+        declaration,
+        &happened,
+        offered,
+        watched,
+        explained,
+    )?;
     put(out, &text)?;
     Ok(watched_status(watched))
 }
@@ -189,5 +199,17 @@ pub fn watch_session<
         &struck,
         options.mark,
     );
-    watch_operator(alloc, &image, &promised, &mut operator, explained, out)
+    let offered = Offered {
+        frames: frames.len(),
+        keys: struck.len(),
+    };
+    watch_operator(
+        alloc,
+        &image,
+        &promised,
+        &mut operator,
+        offered,
+        explained,
+        out,
+    )
 }

@@ -6,3 +6,4 @@ pub mod RunLemmas
 pub mod SessionLemmas
 pub mod WatchedSessionLemmas
 pub mod TypistLemmas
+pub mod TeletypeLemmas

@@ -1,6 +1,6 @@
 -- Frames and keys that are read while a session goes on.
 use Rattle.std.proofs.Common.{ℕ, zero, suc, ◌≡◌, ◌+◌, ◌*◌, ◌==◌, ◌<◌, ◌≤◌, Bool, true, false, ◌||◌, if◌then◌else◌, List, [], ◌∷◌, ◌++◌, drop, take, map, refl, sym, ◌∙◌, ap, arith, Some, None, Option, Ok, Err, Result, subst, unwrap_or, true≢false}
-use Rattle.std.specs.Prelude.{IsTrue, OnErr, OnOk}
+use Rattle.std.specs.Prelude.{IfOk, IsTrue, OnErr, OnOk, length, slice_index}
 use Rattle.std.specs.Io.KnownBytes.{Consumes, IsAtEnd}
 use Rattle.instruct.specs.declared.Profile.{Profile}
 use Rattle.peripherals.specs.declared.Event.{Event}
@@ -19,6 +19,16 @@ use Rattle.machine_commands.specs.Teletype.{AreAll}
 use Rattle.machine_commands.specs.Typing.{answer_due, asked_after, is_read, read_due, typed_as, typed_due, typing}
 use Rattle.machine_commands.specs.TypingParts.{Answered, Brought, IsLeft, Source, Types, bytes_left, frames_left, rounds_left, typed_plan}
 use Rattle.machine_commands.proofs.SessionLemmas.{device_goes, printer_done}
+
+pub or_true : (b : Bool) → b || true ≡ true
+or_true true = refl
+or_true false = refl
+
+-- a list of one
+pub one_item : (l : List ℕ) → length l ≡ 1 → l ≡ slice_index l 0 ∷ []
+one_item [] is = absurd (let no : 0 ≡ 1 = is in omega (arith, no))
+one_item (x ∷ []) is = refl
+one_item (x ∷ y ∷ l) is = absurd (omega (arith, is))
 
 -- the bytes that are left are all that a source tells
 pub all_left : (told : Option (List ℕ)) (ended : Bool) (left : List ℕ) → IsLeft told ended left → AreAll told left
@@ -269,6 +279,11 @@ happens_anyway p w x e (Err f) happens only none = absurd (let no : IsTrue false
 -- the printer and the punch got done
 pub both_done : (p q : Profile) (w m x : WorldState) → Happens p w PrinterDone m → Happens q m PunchDone x → x ≡ completed w
 both_done p q w m x printer punch = let first : m ≡ printer_done w = printer in let second : x ≡ with_devices m (record m.devices { punch = done m.devices.punch }) = punch in rw first at second
+
+-- of what is answered well, what follows from it
+pub ok_by : {T E : Type 0} (r : Result T E) (P Q : T → Type 0) → ((v : T) → P v → Q v) → IfOk r P → IfOk r Q
+ok_by (Ok v) P Q by is = by v is
+ok_by (Err e) P Q by is = tt
 
 -- how many events may come at most
 none_is : {e : Event} → None ≡ Some e → ⊥

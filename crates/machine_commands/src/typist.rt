@@ -1,7 +1,9 @@
 //! Who sits at the teletype: strikes a key where the program asks for one, and has a tape in the
 //! reader. Frames and keys are read one by one, each when it is due.
 
-ghost use Rattle.std.specs.Prelude.{ℕ, ◌≡◌, ◌||◌, false, true, None, Some, Ok, List, [], ◌∷◌, IfOk, IfSome, OnErr, is_err};
+ghost use Rattle.std.specs.Prelude.{ℕ, ◌≡◌, ◌||◌, false, true, None, Some, Ok, List, [], ◌∷◌, IfOk, IfErr, IfSome, OnErr, is_err};
+ghost use Rattle.command_parts.specs.declared.status.Fault.TheVariants.{Device};
+ghost use Rattle.command_parts.specs.declared.status.DeviceFault.TheVariants.{Read};
 ghost use Rattle.peripherals.specs.Operator.{round_due, struck_as};
 ghost use Rattle.peripherals.specs.declared.Event.TheVariants.{PunchDone};
 ghost use Rattle.peripherals.specs.Events.{completed};
@@ -14,7 +16,7 @@ use command_parts::status::{DeviceFault, Fault};
 pub use options::{Manner, TeletypeOptions};
 use peripherals::{Event, World};
 use std::alloc::Allocator;
-use streams::{ByteSource, Failed};
+use streams::ByteSource;
 
 /// A typist: where frames and keys come from, and how far the session has come.
 ///
@@ -31,7 +33,7 @@ pub struct Typist<F, K> {
 }
 
 /// The next byte of a source, which is asked for no more.
-fn next_byte<S: ByteSource>(source: &mut S) -> Result<Option<u8>, Failed>
+fn next_byte<S: ByteSource>(source: &mut S) -> Result<Option<u8>, Fault>
     requires { S.mark source.old ≡ false }
     ensures some { IfOk result (λ next. IfSome next (λ byte. (rest : List ℕ) →
         IsLeft (S.remaining source.new) (S.ended source.new) rest →
@@ -39,14 +41,19 @@ fn next_byte<S: ByteSource>(source: &mut S) -> Result<Option<u8>, Failed>
     ensures none { result ≡ Ok None → (rest : List ℕ) →
         IsLeft (S.remaining source.new) (S.ended source.new) rest →
         (rest ≡ []) × IsLeft (S.remaining source.old) (S.ended source.old) [] }
+    ensures faults { IfErr result (λ fault. fault ≡ Device Read) }
     ensures marks { S.mark source.new ≡ is_err result }
 {
     let mut piece = [0u8; 1];
-    let count = source.read(&mut piece)?;
-    if count == 0 {
-        return Ok(None);
+    match source.read(&mut piece) {
+        Err(_) => Err(Fault::Device(DeviceFault::Read)),
+        Ok(count) => {
+            if count == 0 {
+                return Ok(None);
+            }
+            Ok(Some(piece[0]))
+        }
     }
-    Ok(Some(piece[0]))
 }
 
 /// Whether the next instruction asks for a key.
@@ -130,30 +137,46 @@ impl<F: ByteSource, K: ByteSource> Typist<F, K> {
         }
     }
 
-    /// At the keyboard's turn: the next key where one is asked for, or nothing where none is left; else
-    /// a round.
-    fn answer_due(&mut self) -> Result<Option<Event>, Failed>
+    /// A key is asked for: the next one is due, or nothing where none is left.
+    fn key_due(&mut self) -> Result<Option<Event>, Fault>
         requires { K.mark self.old.keys ≡ false }
         ensures due { IfOk result (λ due. (after : List ℕ) →
             IsLeft (K.remaining self.new.keys) (K.ended self.new.keys) after →
-            Answered self.old.options self.old.asked self.old.rounds
+            Answered self.old.options true self.old.rounds
             (source (K.remaining self.old.keys) (K.ended self.old.keys)) due after) }
-        ensures asked { OnErr result (self.old.asked ≡ true) }
+        ensures faults { IfErr result (λ fault. fault ≡ Device Read) }
         ensures marks { K.mark self.new.keys ≡ is_err result }
         ensures same { self.new ≡ record self.old { keys = self.new.keys } }
     {
-        if !self.asked {
-            return Ok(self.round_due());
-        }
         match next_byte(&mut self.keys)? {
             Some(byte) => Ok(Some(Event::Key(typed_as(byte, self.options.manner)))),
             None => Ok(None),
         }
     }
 
+    /// At the keyboard's turn: the next key where one is asked for, or nothing where none is left; else
+    /// a round.
+    fn answer_due(&mut self) -> Result<Option<Event>, Fault>
+        requires { K.mark self.old.keys ≡ false }
+        ensures due { IfOk result (λ due. (after : List ℕ) →
+            IsLeft (K.remaining self.new.keys) (K.ended self.new.keys) after →
+            Answered self.old.options self.old.asked self.old.rounds
+            (source (K.remaining self.old.keys) (K.ended self.old.keys)) due after) }
+        ensures asked { OnErr result (self.old.asked ≡ true) }
+        ensures faults { IfErr result (λ fault. fault ≡ Device Read) }
+        ensures marks { K.mark self.new.keys ≡ is_err result }
+        ensures same { self.new ≡ record self.old { keys = self.new.keys } }
+    {
+        if self.asked {
+            self.key_due()
+        } else {
+            Ok(self.round_due())
+        }
+    }
+
     /// At the reader's turn: the next frame where the reader waits for one and one is left; else it is
     /// the keyboard's turn.
-    fn read_due<A: Allocator>(&mut self, world: &World<A>) -> Result<Option<Event>, Failed>
+    fn read_due<A: Allocator>(&mut self, world: &World<A>) -> Result<Option<Event>, Fault>
         requires reader { F.mark self.old.reader ≡ false }
         requires keys { K.mark self.old.keys ≡ false }
         ensures due { IfOk result (λ due. (frames bytes : List ℕ) →
@@ -165,6 +188,7 @@ impl<F: ByteSource, K: ByteSource> Typist<F, K> {
             (source (K.remaining self.old.keys) (K.ended self.old.keys)) due frames bytes) }
         ensures read { OnErr result
             (is_read (view world.now) self.old.asked (Some PunchDone) ≡ true) }
+        ensures faults { IfErr result (λ fault. fault ≡ Device Read) }
         ensures marks { F.mark self.new.reader || K.mark self.new.keys ≡ is_err result }
         ensures same { self.new ≡
             record self.old { reader = self.new.reader; keys = self.new.keys } }
@@ -179,7 +203,7 @@ impl<F: ByteSource, K: ByteSource> Typist<F, K> {
     }
 
     /// The event that is due.
-    fn due<A: Allocator>(&mut self, world: &World<A>) -> Result<Option<Event>, Failed>
+    fn due<A: Allocator>(&mut self, world: &World<A>) -> Result<Option<Event>, Fault>
         requires reader { F.mark self.old.reader ≡ false }
         requires keys { K.mark self.old.keys ≡ false }
         ensures due { IfOk result (λ due. (frames bytes : List ℕ) →
@@ -190,6 +214,7 @@ impl<F: ByteSource, K: ByteSource> Typist<F, K> {
             (source (K.remaining self.old.keys) (K.ended self.old.keys)) due frames bytes) }
         ensures read { OnErr result
             (is_read (view world.now) self.old.asked self.old.last ≡ true) }
+        ensures faults { IfErr result (λ fault. fault ≡ Device Read) }
         ensures marks { F.mark self.new.reader || K.mark self.new.keys ≡ is_err result }
         ensures same { self.new ≡
             record self.old { reader = self.new.reader; keys = self.new.keys } }
@@ -250,11 +275,7 @@ impl<F: ByteSource, K: ByteSource> Scheduler for Typist<F, K> {
         (source (K.remaining t.keys) (K.ended t.keys)) p };
 
     fn next_event<A: Allocator>(&mut self, world: &World<A>) -> Result<Option<Event>, Fault> {
-        let due = match self.due(world) {
-            Ok(due) => due,
-            Err(Failed) => return Err(Fault::Device(DeviceFault::Read)),
-        };
-        let Some(event) = due else {
+        let Some(event) = self.due(world)? else {
             return Ok(None);
         };
         self.note(&event, world);

@@ -601,7 +601,9 @@ operator_completes old new w p extent es stepped left last comes =
 
 -- with an operator fewer events are left after the completions
 pub completed_fewer : (old new : Operator) → has_stepped old.last ≡ true → plan_of new ≡ plan_of old → new.last ≡ Some PunchDone → events_left (plan_of new) new.last ≤ events_left (plan_of old) old.last
-completed_fewer old new stepped left last = rw (left, last, step_was old.last stepped) (omega arith)
+completed_fewer old new stepped left last =
+    let rounds : new.rounds ≡ old.rounds = ap (λ (q : Plan). q.rounds) left in
+    rw (rounds, last, step_was old.last stepped) (omega arith)
 
 -- Bytes that are typed one by one: these went out, and with those still to come they are all.
 pub record Typed (told now : Option (List ℕ)) (bytes : List ℕ) (from index : ℕ) : Type 0 where

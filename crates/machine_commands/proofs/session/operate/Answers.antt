@@ -20,11 +20,11 @@ loop-event-init g c = record {
   untyped = c.requires.typable;
 }
 
-pub returns-in_err-next_event-clause-broke : goal.returns-in_err-next_event-clause-broke
-returns-in_err-next_event-clause-broke g c =
+pub returns-in_err-event-clause-broke : goal.returns-in_err-event-clause-broke
+returns-in_err-event-clause-broke g c =
     let inv = c.loop-event.invariant in
     let p = profile_of c.args.world.now in
-    let cut : g.S.Scheduler.brings c.loop-event.schedule p (view c.loop-event.world) UpToRead [] = c.in_err-next_event.ensures.cut p in
+    let cut : g.S.Scheduler.brings c.loop-event.schedule p (view c.loop-event.world) UpToRead [] = c.in_err-event.ensures.cut p in
     let failed : g.S.Scheduler.unread c.next_event.new.self ≡ true = search rules in
     search (rules, sat_to_unread g.S.Scheduler.brings p c.args.trace c.args.schedule.now c.loop-event.schedule (view c.args.world.now) (view c.loop-event.world) c.loop-event.steps _ _ _ _ _ _ _ inv.sat inv.unmarked inv.untyped failed cut)
 
@@ -32,7 +32,7 @@ pub returns-in_err-play-clause-broke : goal.returns-in_err-play-clause-broke
 returns-in_err-play-clause-broke g c =
     let inv = c.loop-event.invariant in
     let p = profile_of c.args.world.now in
-    let next : IsNext g.S.Scheduler.brings c.loop-event.schedule c.next_event.new.self (view c.loop-event.world) c.in-Some.event = rw c.in-Some.is at c.in_ok-next_event.ensures.due in
+    let next : IsNext g.S.Scheduler.brings c.loop-event.schedule c.next_event.new.self (view c.loop-event.world) c.in-Some.event = rw c.in-Some.is at c.in_ok-event.ensures.due in
     let readable : g.S.Scheduler.unread c.next_event.new.self ≡ false = search rules in
     let front : PlayedFront p c.args.trace (view c.loop-event.world) c.in-Some.event (view c.play.new.world) (g.W.ByteSink.mark c.play.new.report) (g.T.ByteSink.mark c.play.new.teletype) (g.W.ByteSink.taken c.loop-event.report) (g.W.ByteSink.taken c.play.new.report) (g.T.ByteSink.taken c.loop-event.teletype) (g.T.ByteSink.taken c.play.new.teletype) = rw inv.profile at c.in_err-play.ensures.front in
     search (rules, sat_to_fault g.S.Scheduler.brings p c.args.trace c.args.schedule.now c.loop-event.schedule c.next_event.new.self c.in-Some.event (view c.args.world.now) (view c.loop-event.world) (view c.play.new.world) c.loop-event.steps _ _ _ _ _ _ _ _ _ inv.sat next g.S.Scheduler.anywhere readable front)
@@ -43,7 +43,7 @@ overflow_add-steps g c =
     let p = profile_of c.args.world.now in
     let played : Played p c.args.trace (view c.loop-event.world) c.in-Some.event Ran (view c.play.new.world) (g.W.ByteSink.taken c.loop-event.report) (g.W.ByteSink.taken c.play.new.report) (g.T.ByteSink.taken c.loop-event.teletype) (g.T.ByteSink.taken c.play.new.teletype) = rw (inv.profile, c.in-Ran.is) at c.in_ok-play.ensures.played in
     let one : steps_in c.in-Some.event ≡ 1 = ran_counts p (view c.loop-event.world) c.in-Some.event played.sees in
-    let taken : steps_in c.in-Some.event + g.S.Scheduler.steps_to_come c.next_event.new.self ≤ g.S.Scheduler.steps_to_come c.loop-event.schedule = rw c.in-Some.is at c.in_ok-next_event.ensures.steps in
+    let taken : steps_in c.in-Some.event + g.S.Scheduler.steps_to_come c.next_event.new.self ≤ g.S.Scheduler.steps_to_come c.loop-event.schedule = rw c.in-Some.is at c.in_ok-event.ensures.steps in
     let few : g.S.Scheduler.steps_to_come c.args.schedule.now < 18446744073709551616 = c.requires.few in
     let was : c.loop-event.steps + g.S.Scheduler.steps_to_come c.loop-event.schedule ≤ g.S.Scheduler.steps_to_come c.args.schedule.now = inv.steps in
     let bound : c.loop-event.steps + 1 < 18446744073709551616 = omega (arith, one, taken, few, was) in
@@ -55,7 +55,7 @@ overflow_add-result g c =
     let p = profile_of c.args.world.now in
     let played : Played p c.args.trace (view c.loop-event.world) c.in-Some.event Halted (view c.play.new.world) (g.W.ByteSink.taken c.loop-event.report) (g.W.ByteSink.taken c.play.new.report) (g.T.ByteSink.taken c.loop-event.teletype) (g.T.ByteSink.taken c.play.new.teletype) = rw (inv.profile, c.in-Halted.is) at c.in_ok-play.ensures.played in
     let one : steps_in c.in-Some.event ≡ 1 = halted_is_step p (view c.loop-event.world) c.in-Some.event played.sees in
-    let taken : steps_in c.in-Some.event + g.S.Scheduler.steps_to_come c.next_event.new.self ≤ g.S.Scheduler.steps_to_come c.loop-event.schedule = rw c.in-Some.is at c.in_ok-next_event.ensures.steps in
+    let taken : steps_in c.in-Some.event + g.S.Scheduler.steps_to_come c.next_event.new.self ≤ g.S.Scheduler.steps_to_come c.loop-event.schedule = rw c.in-Some.is at c.in_ok-event.ensures.steps in
     let few : g.S.Scheduler.steps_to_come c.args.schedule.now < 18446744073709551616 = c.requires.few in
     let was : c.loop-event.steps + g.S.Scheduler.steps_to_come c.loop-event.schedule ≤ g.S.Scheduler.steps_to_come c.args.schedule.now = inv.steps in
     let bound : c.loop-event.steps + 1 < 18446744073709551616 = omega (arith, one, taken, few, was) in
@@ -66,18 +66,18 @@ complete_devices-requires g c =
     let inv = c.loop-event.invariant in
     let p = profile_of c.args.world.now in
     let played : Played p c.args.trace (view c.loop-event.world) c.in-Some.event Ran (view c.play.new.world) (g.W.ByteSink.taken c.loop-event.report) (g.W.ByteSink.taken c.play.new.report) (g.T.ByteSink.taken c.loop-event.teletype) (g.T.ByteSink.taken c.play.new.teletype) = rw (inv.profile, c.in-Ran.is) at c.in_ok-play.ensures.played in
-    let stepped : c.in-Some.event ≡ Step → g.S.Scheduler.stepped c.next_event.new.self ≡ true = rw c.in-Some.is at c.in_ok-next_event.ensures.stepped in
+    let stepped : c.in-Some.event ≡ Step → g.S.Scheduler.stepped c.next_event.new.self ≡ true = rw c.in-Some.is at c.in_ok-event.ensures.stepped in
     record { stepped = stepped (ran_is_step p (view c.loop-event.world) c.in-Some.event played.sees) }
 
 pub loop-event-preserved-in-Ran : goal.loop-event-preserved-in-Ran
 loop-event-preserved-in-Ran g c =
     let inv = c.loop-event.invariant in
     let p = profile_of c.args.world.now in
-    let next : IsNext g.S.Scheduler.brings c.loop-event.schedule c.next_event.new.self (view c.loop-event.world) c.in-Some.event = rw c.in-Some.is at c.in_ok-next_event.ensures.due in
+    let next : IsNext g.S.Scheduler.brings c.loop-event.schedule c.next_event.new.self (view c.loop-event.world) c.in-Some.event = rw c.in-Some.is at c.in_ok-event.ensures.due in
     let played : Played p c.args.trace (view c.loop-event.world) c.in-Some.event Ran (view c.play.new.world) (g.W.ByteSink.taken c.loop-event.report) (g.W.ByteSink.taken c.play.new.report) (g.T.ByteSink.taken c.loop-event.teletype) (g.T.ByteSink.taken c.play.new.teletype) = rw (inv.profile, c.in-Ran.is) at c.in_ok-play.ensures.played in
     let ran = sat_more g.S.Scheduler.brings p c.args.trace c.args.schedule.now c.loop-event.schedule c.next_event.new.self c.in-Some.event (view c.args.world.now) (view c.loop-event.world) (view c.play.new.world) c.loop-event.steps Ran _ _ _ _ _ _ inv.sat next played refl in
     let one : steps_in c.in-Some.event ≡ 1 = ran_counts p (view c.loop-event.world) c.in-Some.event played.sees in
-    let taken : steps_in c.in-Some.event + g.S.Scheduler.steps_to_come c.next_event.new.self ≤ g.S.Scheduler.steps_to_come c.loop-event.schedule = rw c.in-Some.is at c.in_ok-next_event.ensures.steps in
+    let taken : steps_in c.in-Some.event + g.S.Scheduler.steps_to_come c.next_event.new.self ≤ g.S.Scheduler.steps_to_come c.loop-event.schedule = rw c.in-Some.is at c.in_ok-event.ensures.steps in
     let same : g.S.Scheduler.steps_to_come c.complete_devices.new.self ≡ g.S.Scheduler.steps_to_come c.next_event.new.self = c.complete_devices.ensures.steps in
     let was : c.loop-event.steps + g.S.Scheduler.steps_to_come c.loop-event.schedule ≤ g.S.Scheduler.steps_to_come c.args.schedule.now = inv.steps in
     let unread : g.S.Scheduler.unread c.next_event.new.self ≡ false = search rules in
@@ -94,9 +94,9 @@ pub loop-event-preserved-in-NotEnabled : goal.loop-event-preserved-in-NotEnabled
 loop-event-preserved-in-NotEnabled g c =
     let inv = c.loop-event.invariant in
     let p = profile_of c.args.world.now in
-    let next : IsNext g.S.Scheduler.brings c.loop-event.schedule c.next_event.new.self (view c.loop-event.world) c.in-Some.event = rw c.in-Some.is at c.in_ok-next_event.ensures.due in
+    let next : IsNext g.S.Scheduler.brings c.loop-event.schedule c.next_event.new.self (view c.loop-event.world) c.in-Some.event = rw c.in-Some.is at c.in_ok-event.ensures.due in
     let played : Played p c.args.trace (view c.loop-event.world) c.in-Some.event NotEnabled (view c.play.new.world) (g.W.ByteSink.taken c.loop-event.report) (g.W.ByteSink.taken c.play.new.report) (g.T.ByteSink.taken c.loop-event.teletype) (g.T.ByteSink.taken c.play.new.teletype) = rw (inv.profile, c.in-NotEnabled.is) at c.in_ok-play.ensures.played in
-    let taken : steps_in c.in-Some.event + g.S.Scheduler.steps_to_come c.next_event.new.self ≤ g.S.Scheduler.steps_to_come c.loop-event.schedule = rw c.in-Some.is at c.in_ok-next_event.ensures.steps in
+    let taken : steps_in c.in-Some.event + g.S.Scheduler.steps_to_come c.next_event.new.self ≤ g.S.Scheduler.steps_to_come c.loop-event.schedule = rw c.in-Some.is at c.in_ok-event.ensures.steps in
     let was : c.loop-event.steps + g.S.Scheduler.steps_to_come c.loop-event.schedule ≤ g.S.Scheduler.steps_to_come c.args.schedule.now = inv.steps in
     let unread : g.S.Scheduler.unread c.next_event.new.self ≡ false = search rules in
     record {
@@ -112,9 +112,9 @@ pub loop-event-preserved : goal.loop-event-preserved
 loop-event-preserved g c =
     let inv = c.loop-event.invariant in
     let p = profile_of c.args.world.now in
-    let next : IsNext g.S.Scheduler.brings c.loop-event.schedule c.next_event.new.self (view c.loop-event.world) c.in-Some.event = rw c.in-Some.is at c.in_ok-next_event.ensures.due in
+    let next : IsNext g.S.Scheduler.brings c.loop-event.schedule c.next_event.new.self (view c.loop-event.world) c.in-Some.event = rw c.in-Some.is at c.in_ok-event.ensures.due in
     let played : Played p c.args.trace (view c.loop-event.world) c.in-Some.event Changed (view c.play.new.world) (g.W.ByteSink.taken c.loop-event.report) (g.W.ByteSink.taken c.play.new.report) (g.T.ByteSink.taken c.loop-event.teletype) (g.T.ByteSink.taken c.play.new.teletype) = rw (inv.profile, c.in-Changed.is) at c.in_ok-play.ensures.played in
-    let taken : steps_in c.in-Some.event + g.S.Scheduler.steps_to_come c.next_event.new.self ≤ g.S.Scheduler.steps_to_come c.loop-event.schedule = rw c.in-Some.is at c.in_ok-next_event.ensures.steps in
+    let taken : steps_in c.in-Some.event + g.S.Scheduler.steps_to_come c.next_event.new.self ≤ g.S.Scheduler.steps_to_come c.loop-event.schedule = rw c.in-Some.is at c.in_ok-event.ensures.steps in
     let was : c.loop-event.steps + g.S.Scheduler.steps_to_come c.loop-event.schedule ≤ g.S.Scheduler.steps_to_come c.args.schedule.now = inv.steps in
     let unread : g.S.Scheduler.unread c.next_event.new.self ≡ false = search rules in
     record {
@@ -130,7 +130,7 @@ pub returns-in-Halted-clause-ran : goal.returns-in-Halted-clause-ran
 returns-in-Halted-clause-ran g c =
     let inv = c.loop-event.invariant in
     let p = profile_of c.args.world.now in
-    let next : IsNext g.S.Scheduler.brings c.loop-event.schedule c.next_event.new.self (view c.loop-event.world) c.in-Some.event = rw c.in-Some.is at c.in_ok-next_event.ensures.due in
+    let next : IsNext g.S.Scheduler.brings c.loop-event.schedule c.next_event.new.self (view c.loop-event.world) c.in-Some.event = rw c.in-Some.is at c.in_ok-event.ensures.due in
     let played : Played p c.args.trace (view c.loop-event.world) c.in-Some.event Halted (view c.play.new.world) (g.W.ByteSink.taken c.loop-event.report) (g.W.ByteSink.taken c.play.new.report) (g.T.ByteSink.taken c.loop-event.teletype) (g.T.ByteSink.taken c.play.new.teletype) = rw (inv.profile, c.in-Halted.is) at c.in_ok-play.ensures.played in
     sat_to_halt g.S.Scheduler.brings p c.args.trace c.args.schedule.now c.loop-event.schedule c.next_event.new.self c.in-Some.event (view c.args.world.now) (view c.loop-event.world) (view c.play.new.world) c.loop-event.steps _ _ _ _ _ _ _
     inv.sat next played refl c.end_of.ensures
@@ -139,7 +139,7 @@ pub returns-in-Unsupported-clause-ran : goal.returns-in-Unsupported-clause-ran
 returns-in-Unsupported-clause-ran g c =
     let inv = c.loop-event.invariant in
     let p = profile_of c.args.world.now in
-    let next : IsNext g.S.Scheduler.brings c.loop-event.schedule c.next_event.new.self (view c.loop-event.world) c.in-Some.event = rw c.in-Some.is at c.in_ok-next_event.ensures.due in
+    let next : IsNext g.S.Scheduler.brings c.loop-event.schedule c.next_event.new.self (view c.loop-event.world) c.in-Some.event = rw c.in-Some.is at c.in_ok-event.ensures.due in
     let played : Played p c.args.trace (view c.loop-event.world) c.in-Some.event (Unsupported c.in-Unsupported.field-0) (view c.play.new.world) (g.W.ByteSink.taken c.loop-event.report) (g.W.ByteSink.taken c.play.new.report) (g.T.ByteSink.taken c.loop-event.teletype) (g.T.ByteSink.taken c.play.new.teletype) = rw (inv.profile, c.in-Unsupported.is) at c.in_ok-play.ensures.played in
     sat_to_stuck g.S.Scheduler.brings p c.args.trace c.args.schedule.now c.loop-event.schedule c.next_event.new.self c.in-Some.event (view c.args.world.now) (view c.loop-event.world) (view c.play.new.world) c.loop-event.steps c.in-Unsupported.field-0 _ _ _ _ _ _ _
     inv.sat next played refl (search rules)

@@ -6,10 +6,10 @@ use Rattle.machine_commands.specs.Typing.{asked_after}
 use Rattle.machine_commands.proofs.TypistLemmas.{IsBrought, brought_less, types_last, types_on, types_output, types_over, types_read}
 use Rattle.machine_commands.proofs.typist.TypistScheduler.next_event.Goals as goal
 
-pub returns-in_err-due-clause-cut : goal.returns-in_err-due-clause-cut
-returns-in_err-due-clause-cut g c = λ p.
+pub returns-in_err-event-clause-cut : goal.returns-in_err-event-clause-cut
+returns-in_err-event-clause-cut g c = λ p.
     let t = c.args.self.now in
-    types_read t.options (view c.args.world.now) t.asked t.rounds t.last (source (g.F.ByteSource.remaining t.reader) (g.F.ByteSource.ended t.reader)) (source (g.K.ByteSource.remaining t.keys) (g.K.ByteSource.ended t.keys)) p c.in_err-due.ensures.read
+    types_read t.options (view c.args.world.now) t.asked t.rounds t.last (source (g.F.ByteSource.remaining t.reader) (g.F.ByteSource.ended t.reader)) (source (g.K.ByteSource.remaining t.keys) (g.K.ByteSource.ended t.keys)) p c.in_err-event.ensures.read
 
 pub returns-clause-due : goal.returns-clause-due
 returns-clause-due g c =
@@ -21,7 +21,7 @@ returns-clause-due g c =
     let keys = source (g.K.ByteSource.remaining t.keys) (g.K.ByteSource.ended t.keys) in
     let reader_after = source (g.F.ByteSource.remaining s.reader) (g.F.ByteSource.ended s.reader) in
     let keys_after = source (g.K.ByteSource.remaining s.keys) (g.K.ByteSource.ended s.keys) in
-    let brought : IsBrought t.options w t.asked t.rounds t.last reader keys (Some e) reader_after keys_after = rw c.in-Some.is at c.in_ok-due.ensures.due in
+    let brought : IsBrought t.options w t.asked t.rounds t.last reader keys (Some e) reader_after keys_after = rw c.in-Some.is at c.in_ok-event.ensures.due in
     record {
       on = λ p m extent es goes happens comes. types_on t.options w m t.asked t.rounds t.last reader keys reader_after keys_after e p extent es brought goes happens (rw (c.note.ensures, c.due.ensures.same) at comes);
       last = λ p extent ends. types_last t.options w t.asked t.rounds t.last reader keys reader_after keys_after e p extent brought ends;
@@ -33,7 +33,7 @@ returns-clause-fewer g c =
     let t = c.args.self.now in
     let s = c.due.new.self in
     let e = c.in-Some.event in
-    let brought : IsBrought t.options (view c.args.world.now) t.asked t.rounds t.last (source (g.F.ByteSource.remaining t.reader) (g.F.ByteSource.ended t.reader)) (source (g.K.ByteSource.remaining t.keys) (g.K.ByteSource.ended t.keys)) (Some e) (source (g.F.ByteSource.remaining s.reader) (g.F.ByteSource.ended s.reader)) (source (g.K.ByteSource.remaining s.keys) (g.K.ByteSource.ended s.keys)) = rw c.in-Some.is at c.in_ok-due.ensures.due in
+    let brought : IsBrought t.options (view c.args.world.now) t.asked t.rounds t.last (source (g.F.ByteSource.remaining t.reader) (g.F.ByteSource.ended t.reader)) (source (g.K.ByteSource.remaining t.keys) (g.K.ByteSource.ended t.keys)) (Some e) (source (g.F.ByteSource.remaining s.reader) (g.F.ByteSource.ended s.reader)) (source (g.K.ByteSource.remaining s.keys) (g.K.ByteSource.ended s.keys)) = rw c.in-Some.is at c.in_ok-event.ensures.due in
     let less = brought_less t.options (view c.args.world.now) t.asked t.rounds t.last _ _ _ _ e brought in
     rw (c.note.ensures, c.due.ensures.same) less.fewer
 
@@ -42,7 +42,7 @@ returns-clause-steps g c =
     let t = c.args.self.now in
     let s = c.due.new.self in
     let e = c.in-Some.event in
-    let brought : IsBrought t.options (view c.args.world.now) t.asked t.rounds t.last (source (g.F.ByteSource.remaining t.reader) (g.F.ByteSource.ended t.reader)) (source (g.K.ByteSource.remaining t.keys) (g.K.ByteSource.ended t.keys)) (Some e) (source (g.F.ByteSource.remaining s.reader) (g.F.ByteSource.ended s.reader)) (source (g.K.ByteSource.remaining s.keys) (g.K.ByteSource.ended s.keys)) = rw c.in-Some.is at c.in_ok-due.ensures.due in
+    let brought : IsBrought t.options (view c.args.world.now) t.asked t.rounds t.last (source (g.F.ByteSource.remaining t.reader) (g.F.ByteSource.ended t.reader)) (source (g.K.ByteSource.remaining t.keys) (g.K.ByteSource.ended t.keys)) (Some e) (source (g.F.ByteSource.remaining s.reader) (g.F.ByteSource.ended s.reader)) (source (g.K.ByteSource.remaining s.keys) (g.K.ByteSource.ended s.keys)) = rw c.in-Some.is at c.in_ok-event.ensures.due in
     let less = brought_less t.options (view c.args.world.now) t.asked t.rounds t.last _ _ _ _ e brought in
     rw (c.note.ensures, c.due.ensures.same) less.counted
 

@@ -1,7 +1,7 @@
 # Completions of pdp8 for bash.
 _pdp8() {
     local word=${COMP_WORDS[COMP_CWORD]} before=${COMP_WORDS[COMP_CWORD-1]} options=
-    local commands='verify assemble list source dump run watch check report declare guess refute place migrate explain help'
+    local commands='verify assemble list source dump run teletype watch check report declare guess refute place migrate explain help'
     if [ "$COMP_CWORD" -eq 1 ]; then
         COMPREPLY=($(compgen -W "$commands --help --version" -- "$word"))
         return
@@ -32,6 +32,7 @@ _pdp8() {
         source) options='--output --start --declaration --profile --why --help' ;;
         dump) options='--profile --why --help' ;;
         run) options='--start --steps --trace --profile --events --reader --punch --keys --mark --teletype --switches --why --help' ;;
+        teletype) options='--start --profile --reader --punch --switches --mark --raw --why --help' ;;
         watch) options='--source --reader --keys --mark --switches --steps --why --help' ;;
         check) options='--source --why --help' ;;
         report) options='--output --text --why --help' ;;

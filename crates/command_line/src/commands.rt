@@ -258,6 +258,13 @@ const TELETYPE: Argument = Argument {
     help: "what is printed goes to standard output, all else to standard error",
 };
 
+const RAW: Argument = Argument {
+    name: "raw",
+    short: None,
+    form: Form::Flag,
+    help: "strikes the bytes of keys as they come: no carriage return for a line feed, no channel 8",
+};
+
 const SWITCHES: Argument = Argument {
     name: "switches",
     short: None,
@@ -363,6 +370,18 @@ static RUN_ARGUMENTS: [Argument; 13] = [
     WHY_INPUT,
 ];
 
+static TELETYPE_ARGUMENTS: [Argument; 9] = [
+    TAPE,
+    START,
+    PROFILE,
+    READER,
+    PUNCH,
+    SWITCHES,
+    MARK,
+    RAW,
+    WHY_INPUT,
+];
+
 static DUMP_ARGUMENTS: [Argument; 3] = [TAPE, PROFILE, WHY_INPUT];
 
 static ASSEMBLE_ARGUMENTS: [Argument; 5] = [TAPE_OUT, OTHER_SOURCES, OUTPUT, PROFILE, WHY_SOURCE];
@@ -452,6 +471,13 @@ static RUN: Entry = Entry {
     usage: None,
     about: "Runs a tape and writes where it ended and what it printed and punched",
     after_help: "Example:\n  pdp8 run hello.bin --start 200 --trace",
+};
+
+static SESSION: Entry = Entry {
+    name: "teletype",
+    usage: None,
+    about: "Runs a tape with you at the teletype: what it prints comes at once, and it gets a key when it asks",
+    after_help: "Keys come from standard input, what is printed goes to standard output, and the summary to standard error. The session ends at a halt, at a word that isn't supported, and where a key is asked for and none is left.\n\nExample:\n  pdp8 teletype echo.bin",
 };
 
 static DUMP: Entry = Entry {
@@ -555,6 +581,7 @@ pub(crate) fn command<'a>(alloc: Global) -> Result<Command<'a>, AllocError> {
         .subcommand_required(true);
     let program = with_entry(alloc, program, &VERIFY, &VERIFY_ARGUMENTS)?;
     let program = with_entry(alloc, program, &RUN, &RUN_ARGUMENTS)?;
+    let program = with_entry(alloc, program, &SESSION, &TELETYPE_ARGUMENTS)?;
     let program = with_entry(alloc, program, &DUMP, &DUMP_ARGUMENTS)?;
     let program = with_entry(alloc, program, &ASSEMBLE, &ASSEMBLE_ARGUMENTS)?;
     let program = with_entry(alloc, program, &LIST, &LIST_ARGUMENTS)?;

@@ -11,7 +11,7 @@ mod sourced;
 mod table;
 
 pub use names::FileNames;
-pub use operator::{Joined, Session, WatchedSession};
+pub use operator::{Joined, Session, TeletypeSession, WatchedSession};
 pub use outputs::Destination;
 pub use reported::Reported;
 pub use requests::{CommandLine, Refused, Request, parse_arguments};

@@ -62,6 +62,11 @@ impl<'a> Request<'a> {
                 keys: session.joined.keys,
                 ..none
             },
+            Request::Teletype(session) => FileNames {
+                tape: Some(session.tape),
+                reader: session.reader,
+                ..none
+            },
             Request::Dump { tape, .. } => FileNames {
                 tape: Some(tape),
                 ..none

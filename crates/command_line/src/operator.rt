@@ -1,8 +1,8 @@
 //! The options of a run with an operator.
 
-use crate::requests::{Refused, run_options, share_standard_input};
+use crate::requests::{Refused, profile_of, run_options, share_standard_input, start_of};
 use clap::ArgMatches;
-use options::SessionOptions;
+use options::{Manner, SessionOptions, TeletypeOptions};
 use word12::Word;
 
 /// A run with an operator, as the options ask for it.
@@ -31,6 +31,19 @@ pub struct WatchedSession<'a> {
     pub options: SessionOptions,
     /// Whether it is said what breaks a rule.
     pub explained: bool,
+}
+
+/// A session at the teletype, as the options ask for it. The keys come from standard input.
+#[derive(Clone, Copy, Debug)]
+pub struct TeletypeSession<'a> {
+    /// The name of the tape's file.
+    pub tape: &'a str,
+    /// The name of the file whose frames are in the reader.
+    pub reader: Option<&'a str>,
+    /// The name of the file that the punched bytes go to.
+    pub punch: Option<&'a str>,
+    /// How it is held.
+    pub options: TeletypeOptions,
 }
 
 /// What the devices of a machine are joined to.
@@ -131,5 +144,32 @@ pub fn watched_session_of<'a>(
         keys,
         options: session_options(found)?,
         explained: found.get_flag("why"),
+    })
+}
+
+/// The session at the teletype that the options of `teletype` ask for.
+pub fn teletype_of<'a>(found: &ArgMatches<'a>) -> Result<TeletypeSession<'a>, Refused> {
+    let tape = found.get_str("TAPE").unwrap_or("-");
+    let reader = found.get_str("reader");
+    let punch = found.get_str("punch");
+    if share_standard_input(&[tape, reader.unwrap_or(""), "-"]) {
+        return Err(Refused::BothStandardInput);
+    }
+    if punch == Some("-") {
+        return Err(Refused::PunchToOutput);
+    }
+    Ok(TeletypeSession {
+        tape,
+        reader,
+        punch,
+        options: TeletypeOptions {
+            start: start_of(found)?,
+            profile: profile_of(found)?,
+            switches: switches_of(found)?,
+            manner: Manner {
+                raw: found.get_flag("raw"),
+                mark: found.get_flag("mark"),
+            },
+        },
     })
 }

@@ -2,7 +2,8 @@
 
 use crate::commands::command;
 use crate::operator::{
-    Session, WatchedSession, has_operator, is_watched_with_operator, session_of, watched_session_of,
+    Session, TeletypeSession, WatchedSession, has_operator, is_watched_with_operator, session_of,
+    teletype_of, watched_session_of,
 };
 use crate::outputs::{Destination, destination_of};
 use crate::reported::{Reported, report_request};
@@ -51,6 +52,8 @@ pub enum Request<'a> {
     },
     /// To run a tape with an operator.
     Session(Session<'a>),
+    /// To hold a session at the teletype.
+    Teletype(TeletypeSession<'a>),
     /// To list the words of a tape.
     Dump {
         /// The name of the tape's file.
@@ -234,7 +237,7 @@ impl From<OctalFault> for Refused {
     }
 }
 
-fn profile_of(found: &ArgMatches<'_>) -> Result<Profile, Refused> {
+pub(crate) fn profile_of(found: &ArgMatches<'_>) -> Result<Profile, Refused> {
     match found.get_str("profile") {
         None | Some("8i") => Ok(Profile::Pdp8I),
         Some("8e") => Ok(Profile::Pdp8E),
@@ -242,7 +245,7 @@ fn profile_of(found: &ArgMatches<'_>) -> Result<Profile, Refused> {
     }
 }
 
-fn start_of(found: &ArgMatches<'_>) -> Result<Word, Refused> {
+pub(crate) fn start_of(found: &ArgMatches<'_>) -> Result<Word, Refused> {
     Ok(Word::from_octal(found.get_str("start").unwrap_or("0200").as_bytes())?)
 }
 
@@ -507,6 +510,7 @@ fn request_of<'a>(
             tape: found.get_str("TAPE").unwrap_or("-"),
             profile: profile_of(found)?,
         }),
+        "teletype" => Ok(Request::Teletype(teletype_of(found)?)),
         "assemble" => assemble_request(alloc, found),
         "list" => list_request(alloc, found),
         "source" => source_request(found),

@@ -3,3 +3,4 @@ pub mod SessionsAnswered
 pub mod SourceLaws
 pub mod OneLemmas
 mod VerdictLaws
+pub mod TableLaws

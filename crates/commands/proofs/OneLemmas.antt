@@ -6,7 +6,6 @@ use Rattle.peripherals.specs.declared.Seen.{Seen}
 use Rattle.peripherals.specs.declared.Seen.TheVariants as seen
 use Rattle.peripherals.specs.Devices.{WorldState}
 use Rattle.peripherals.specs.Events.{Happens}
-use Rattle.peripherals.specs.Operator.{Plan, due, left_after}
 use Rattle.peripherals.specs.Seen.{seen_of}
 use Rattle.peripherals.proofs.OneLemmas.{one_world}
 use Rattle.machine_commands.specs.declared.follow.End.{End}
@@ -14,9 +13,13 @@ use Rattle.machine_commands.specs.declared.follow.End.TheVariants.{Unsupported}
 use Rattle.options.specs.declared.RunOptions.{RunOptions}
 use Rattle.machine_commands.specs.Follows.{Follows, Ended, Stuck, Stopped, Went, end_of, goes_on, counted}
 use Rattle.bin_tape.specs.Laws.{TapeImageIsOne}
-use Rattle.commands.specs.Laws.{RunsAreOne, SessionsAreOne, WatchedAsRun, as_declared}
+use Rattle.commands.specs.Laws.{RunsAreOne, SessionsAreOne, TypedAreOne, WatchedAsRun, as_declared}
 use Rattle.machine_commands.specs.Running.{IsRunOf, fresh, status_of}
-use Rattle.machine_commands.specs.Session.{Comes, Over, Cut, Final, Then, Whole, plan_for, printed_in, summary_where}
+use Rattle.machine_commands.specs.Schedule.{Comes, Over, Cut, Final, Then, Schedule, Whole, first_place, operating}
+use Rattle.machine_commands.specs.Session.{IsHeld, plan_for, printed_in, summary_where}
+use Rattle.machine_commands.specs.Teletype.{run_of}
+use Rattle.machine_commands.specs.Typing.{first_sitting, typing}
+use Rattle.command_parts.specs.declared.status.Status.{Status}
 use Rattle.machine_commands.specs.Summary.{summary}
 use Rattle.machine_commands.specs.Trace.{trace_of, traced}
 
@@ -74,45 +77,56 @@ runs_are_one options h events image text text' status status' a b =
 some_one : {e d : Event} → Some e ≡ Some d → e ≡ d
 some_one is = cc
 
-comes_one : (p : Profile) (plan : Plan) (last : Option Event) (w : WorldState) (es fs : List Event) → Comes p Whole plan last w es → Comes p Whole plan last w fs → es ≡ fs
-comes_one p plan last w es fs (Cut _ _ _ may) b = absurd may
-comes_one p plan last w es fs (Over _ _ _ none) (Cut _ _ _ may) = absurd may
-comes_one p plan last w es fs (Final _ _ _ e is off) (Cut _ _ _ may) = absurd may
-comes_one p plan last w es fs (Then _ _ _ m e more is on a f) (Cut _ _ _ may) = absurd may
-comes_one p plan last w es fs (Over _ _ _ none) (Over _ _ _ none') = refl
-comes_one p plan last w es fs (Over _ _ _ none) (Final _ _ _ e due' off') = absurd (let both : None ≡ Some e = sym none ∙ due' in cc)
-comes_one p plan last w es fs (Over _ _ _ none) (Then _ _ _ m e more due' on' a' f') = absurd (let both : None ≡ Some e = sym none ∙ due' in cc)
-comes_one p plan last w es fs (Final _ _ _ e is off) (Over _ _ _ none') = absurd (let both : None ≡ Some e = sym none' ∙ is in cc)
-comes_one p plan last w es fs (Final _ _ _ e is off) (Final _ _ _ d is' off') = ap (λ (x : Event). x ∷ []) (some_one (sym is ∙ is'))
-comes_one p plan last w es fs (Final _ _ _ e is off) (Then _ _ _ m d more is' on' a' f') =
+comes_one : {S : Type 0} (schedule : Schedule S) (p : Profile) (s : S) (w : WorldState) (es fs : List Event) → Comes schedule p Whole s w es → Comes schedule p Whole s w fs → es ≡ fs
+comes_one schedule p s w es fs (Cut _ _ may) b = absurd may
+comes_one schedule p s w es fs (Over _ _ none) (Cut _ _ may) = absurd may
+comes_one schedule p s w es fs (Final _ _ e is off) (Cut _ _ may) = absurd may
+comes_one schedule p s w es fs (Then _ _ m e more is on a f) (Cut _ _ may) = absurd may
+comes_one schedule p s w es fs (Over _ _ none) (Over _ _ none') = refl
+comes_one schedule p s w es fs (Over _ _ none) (Final _ _ e due' off') = absurd (let both : None ≡ Some e = sym none ∙ due' in cc)
+comes_one schedule p s w es fs (Over _ _ none) (Then _ _ m e more due' on' a' f') = absurd (let both : None ≡ Some e = sym none ∙ due' in cc)
+comes_one schedule p s w es fs (Final _ _ e is off) (Over _ _ none') = absurd (let both : None ≡ Some e = sym none' ∙ is in cc)
+comes_one schedule p s w es fs (Final _ _ e is off) (Final _ _ d is' off') = ap (λ (x : Event). x ∷ []) (some_one (sym is ∙ is'))
+comes_one schedule p s w es fs (Final _ _ e is off) (Then _ _ m d more is' on' a' f') =
     let same : e ≡ d = some_one (sym is ∙ is') in
     let on : goes_on true (seen_of p w e) ≡ true = subst (λ (x : Event). goes_on true (seen_of p w x) ≡ true) (sym same) on' in
     absurd (cc)
-comes_one p plan last w es fs (Then _ _ _ m e more is on a f) (Over _ _ _ none') = absurd (let both : None ≡ Some e = sym none' ∙ is in cc)
-comes_one p plan last w es fs (Then _ _ _ m e more is on a f) (Final _ _ _ d is' off') =
+comes_one schedule p s w es fs (Then _ _ m e more is on a f) (Over _ _ none') = absurd (let both : None ≡ Some e = sym none' ∙ is in cc)
+comes_one schedule p s w es fs (Then _ _ m e more is on a f) (Final _ _ d is' off') =
     let same : e ≡ d = some_one (sym is ∙ is') in
     let on' : goes_on true (seen_of p w d) ≡ true = subst (λ (x : Event). goes_on true (seen_of p w x) ≡ true) same on in
     absurd (cc)
-comes_one p plan last w es fs (Then _ _ _ m e more is on a f) (Then _ _ _ m' d more' is' on' a' f') =
+comes_one schedule p s w es fs (Then _ _ m e more is on a f) (Then _ _ m' d more' is' on' a' f') =
     let same : d ≡ e = some_one (sym is' ∙ is) in
     let here : Happens p w e m' = subst (λ (x : Event). Happens p w x m') same a' in
     let one : m' ≡ m = one_world p w e m' m here a in
-    let after : Comes p Whole (left_after e plan) (Some e) m' more' = subst (λ (x : Event). Comes p Whole (left_after x plan) (Some x) m' more') same f' in
-    let rest : more ≡ more' = comes_one p (left_after e plan) (Some e) m more more' f (subst (λ (y : WorldState). Comes p Whole (left_after e plan) (Some e) y more') one after) in
+    let after : Comes schedule p Whole (schedule.after s w e) m' more' = subst (λ (x : Event). Comes schedule p Whole (schedule.after s w x) m' more') same f' in
+    let rest : more ≡ more' = comes_one schedule p (schedule.after s w e) m more more' f (subst (λ (y : WorldState). Comes schedule p Whole (schedule.after s w e) y more') one after) in
     ap (λ (l : List Event). e ∷ l) rest ∙ ap (λ (x : Event). x ∷ more') (sym same)
 
-pub sessions_are_one : SessionsAreOne
-sessions_are_one options plan image text text' printed printed' punched punched' status status' a b =
-    let come : b.events ≡ a.events = comes_one options.profile plan None (fresh image options.start) b.events a.events b.come a.come in
+-- what is held by one schedule is one
+held_one : {S : Type 0} (schedule : Schedule S) (s : S) (options : RunOptions) (apart : Bool) (image : List (Option ℕ)) (text text' printed printed' punched punched' : List ℕ) (status status' : Status) →
+    IsHeld (λ p w extent es. Comes schedule p extent s w es) options apart Whole image text printed punched status → IsHeld (λ p w extent es. Comes schedule p extent s w es) options apart Whole image text' printed' punched' status' →
+    (text ≡ text') × (printed ≡ printed') × (punched ≡ punched') × (status ≡ status')
+held_one schedule s options apart image text text' printed printed' punched punched' status status' a b =
+    let come : b.events ≡ a.events = comes_one schedule options.profile s (fresh image options.start) b.events a.events b.come a.come in
     let follows : Follows options.profile true a.events (fresh image options.start) b.lines b.steps b.end b.final =
     subst (λ (es : List Event). Follows options.profile true es (fresh image options.start) b.lines b.steps b.end b.final) come b.follows in
     let one = follows_one options.profile true a.events (fresh image options.start) a.lines b.lines a.steps b.steps a.end b.end a.final b.final a.follows follows in (
-      a.text_is ∙ (ap (λ (l : List ℕ). traced options.trace l ++ summary a.end a.final a.steps) one.same_lines ∙ (ap (λ (e : End). traced options.trace b.lines ++ summary e a.final a.steps) one.same_end
-          ∙ (ap (λ (x : WorldState). traced options.trace b.lines ++ summary b.end x a.steps) one.same_final ∙ (ap (λ (n : ℕ). traced options.trace b.lines ++ summary b.end b.final n) one.same_steps ∙ sym b.text_is)))),
+      a.text_is ∙ (ap (λ (l : List ℕ). traced options.trace l ++ summary_where apart Whole a.end a.final a.steps) one.same_lines ∙ (ap (λ (e : End). traced options.trace b.lines ++ summary_where apart Whole e a.final a.steps) one.same_end
+          ∙ (ap (λ (x : WorldState). traced options.trace b.lines ++ summary_where apart Whole b.end x a.steps) one.same_final ∙ (ap (λ (n : ℕ). traced options.trace b.lines ++ summary_where apart Whole b.end b.final n) one.same_steps ∙ sym b.text_is)))),
       a.printed_is ∙ (ap (λ (x : WorldState). printed_in x) one.same_final ∙ sym b.printed_is),
       a.punched_is ∙ (ap (λ (x : WorldState). x.devices.punch.output) one.same_final ∙ sym b.punched_is),
       a.status_is ∙ (ap status_of one.same_end ∙ sym b.status_is),
     )
+
+pub sessions_are_one : SessionsAreOne
+sessions_are_one options plan image text text' printed printed' punched punched' status status' a b =
+    held_one operating (first_place plan) options false image text text' printed printed' punched punched' status status' a b
+
+pub typed_are_one : TypedAreOne
+typed_are_one options frames bytes image text text' printed printed' punched punched' status status' a b =
+    held_one typing (first_sitting options.switches options.manner frames bytes) (run_of options) true image text text' printed printed' punched punched' status status' a b
 
 -- what is watched is what is run
 pub watched_as_run : TapeImageIsOne → WatchedAsRun
@@ -121,6 +135,6 @@ watched_as_run one options tape text reader keys explained told seen written pri
     let image : run.image ≡ watched.image = one (take 65536 tape) run.image watched.image run.has_image watched.has_image in
     let frames : run.frames ≡ watched.frames = run.frames_are ∙ sym watched.frames_are in
     let bytes : run.bytes ≡ watched.bytes = run.bytes_are ∙ sym watched.bytes_are in
-    let come : Comes d.profile Whole (plan_for (as_declared d options) run.frames run.bytes) None (fresh run.image d.start) run.session.events = run.session.come in
-    let there : Comes d.profile Whole (plan_for options watched.frames watched.bytes) None (fresh watched.image d.start) run.session.events = rw (frames, bytes, image) at come in
-    comes_one d.profile (plan_for options watched.frames watched.bytes) None (fresh watched.image d.start) watched.watched.events run.session.events watched.watched.come there
+    let come : Comes operating d.profile Whole (first_place (plan_for (as_declared d options) run.frames run.bytes)) (fresh run.image d.start) run.session.events = run.session.come in
+    let there : Comes operating d.profile Whole (first_place (plan_for options watched.frames watched.bytes)) (fresh watched.image d.start) run.session.events = rw (frames, bytes, image) at come in
+    comes_one operating d.profile (first_place (plan_for options watched.frames watched.bytes)) (fresh watched.image d.start) watched.watched.events run.session.events watched.watched.come there

@@ -15,7 +15,8 @@ use Rattle.machine_commands.specs.declared.follow.End.TheVariants.{Unsupported}
 use Rattle.machine_commands.specs.Follows.{Ended, Stuck, Stopped, Went, end_of, goes_on, counted}
 use Rattle.commands.specs.Laws.{Carries, CarriesAll, SessionsEnd}
 use Rattle.machine_commands.specs.Running.{fresh, status_of}
-use Rattle.machine_commands.specs.Session.{Comes, Over, Final, Then, Whole, printed_in, summary_where}
+use Rattle.machine_commands.specs.Schedule.{Comes, Over, Final, Then, Place, Whole, operating}
+use Rattle.machine_commands.specs.Session.{printed_in, summary_where}
 use Rattle.machine_commands.specs.Trace.{trace_of, traced}
 use Rattle.commands.proofs.Answered.{Tells, goes, Ends}
 
@@ -155,7 +156,7 @@ last_one p e w m (seen.Unsupported word) sees off happens = ([], 0, Unsupported 
 -- the events of a plan, and the run that they make
 record Run (p : Profile) (plan : Plan) (last : Option Event) (w : WorldState) : Type 0 where
   events : List Event
-  come : Comes p Whole plan last w events
+  come : Comes operating p Whole (record { plan = plan; last = last }) w events
   ends : Ends p true events w
 
 next_one : (p : Profile) (plan : Plan) (last : Option Event) (w m : WorldState) (e : Event) (on : Bool) → due plan w last ≡ Some e →
@@ -163,19 +164,19 @@ next_one : (p : Profile) (plan : Plan) (last : Option Event) (w m : WorldState) 
 next_one p plan last w m e true is on happens later =
     let r = later.ends in record {
       events = e ∷ later.events;
-      come = Then plan last w m e later.events is on happens later.come;
+      come = Then (record { plan = plan; last = last }) w m e later.events is on happens later.come;
       ends = (trace_of p w e m ++ r.0, counted (seen_of p w e) + r.1, r.2, r.3, Went e later.events w m r.3 (seen_of p w e) r.0 r.1 r.2 refl on happens r.4);
     }
 next_one p plan last w m e false is off happens later = record {
   events = e ∷ [];
-  come = Final plan last w e is off;
+  come = Final (record { plan = plan; last = last }) w e is off;
   ends = last_one p e w m (seen_of p w e) refl off happens;
 }
 
 runs : (fuel : ℕ) (p : Profile) (plan : Plan) (last : Option Event) (w : WorldState) (d : Option Event) → due plan w last ≡ d → left plan last < fuel →
     CarriesAll plan → Tells w.devices → Run p plan last w
 runs zero p plan last w d is small all tells = absurd (omega arith)
-runs (suc fuel) p plan last w None none small all tells = record { events = []; come = Over plan last w none; ends = ([], 0, end_of w, w, Ended w) }
+runs (suc fuel) p plan last w None none small all tells = record { events = []; come = Over (record { plan = plan; last = last }) w none; ends = ([], 0, end_of w, w, Ended w) }
 runs (suc fuel) p plan last w (Some e) is small all tells =
     let next = goes p w e (carries plan w last e all is) tells in
     next_one p plan last w next.0 e (goes_on true (seen_of p w e)) is refl next.1
@@ -187,7 +188,7 @@ sessions_end options plan image all =
     let idles : Tells w.devices = record { key = omega arith; frame = omega arith; switches = omega arith } in
     let run : Run options.profile plan None w = runs (left plan None + 1) options.profile plan None w (due plan w None) refl (omega arith) all idles in
     let r = run.ends in (
-      traced options.trace r.0 ++ summary_where Whole r.2 r.3 r.1,
+      traced options.trace r.0 ++ summary_where false Whole r.2 r.3 r.1,
       printed_in r.3,
       r.3.devices.punch.output,
       status_of r.2,

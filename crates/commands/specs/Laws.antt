@@ -26,7 +26,14 @@ use Rattle.source_commands.specs.WrittenSource.{IsTapeSource}
 use Rattle.command_parts.specs.Inputs.{HasImage}
 use Rattle.machine_commands.specs.Running.{IsRunOf}
 use Rattle.peripherals.specs.Operator.{Plan}
-use Rattle.machine_commands.specs.Session.{IsSession, IsSessionOf, Whole}
+use Rattle.machine_commands.specs.Follows.{Follows}
+use Rattle.machine_commands.specs.Schedule.{Whole}
+use Rattle.machine_commands.specs.Session.{IsHeld, IsSession, IsSessionOf}
+use Rattle.machine_commands.specs.Teletype.{run_of, types_by}
+use Rattle.machine_commands.specs.declared.follow.End.{End}
+use Rattle.options.specs.declared.TeletypeOptions.{TeletypeOptions}
+use Rattle.peripherals.specs.Devices.{WorldState}
+use Rattle.processor.specs.Runs.{Run, Taken}
 use Rattle.machine_commands.specs.WatchedSession.{IsSessionWatchedSo}
 use Rattle.declaration.specs.Declaration.{Declaration}
 use Rattle.options.specs.declared.SessionOptions.{SessionOptions}
@@ -77,6 +84,22 @@ SessionsAreOne =
     IsSessionOf options Whole plan image text printed punched status →
     IsSessionOf options Whole plan image text' printed' punched' status' →
     (text ≡ text') × (printed ≡ printed') × (punched ≡ punched') × (status ≡ status')
+
+-- A session at the teletype with these frames and these bytes of keys has one end at most.
+abbrev pub TypedAreOne : Type 0
+TypedAreOne =
+    (options : TeletypeOptions) (frames bytes : List ℕ) (image : List (Option ℕ))
+    (text text' printed printed' punched punched' : List ℕ) (status status' : Status) →
+    IsHeld (types_by options frames bytes) (run_of options) true Whole image text printed punched status →
+    IsHeld (types_by options frames bytes) (run_of options) true Whole image text' printed' punched' status' →
+    (text ≡ text') × (printed ≡ printed') × (punched ≡ punched') × (status ≡ status')
+
+-- What events lead to in so many instructions, that many steps of the instruction table lead to, by some answers of the devices.
+abbrev pub FollowsTheTable : Type 0
+FollowsTheTable =
+    (profile : Profile) (ends_at_halt : Bool) (events : List Event) (w x : WorldState) (lines : List ℕ) (steps : ℕ) (end : End) →
+    Follows profile ends_at_halt events w lines steps end x →
+    (taken : List Taken) × (length taken ≡ steps) × Run profile w.state taken x.state
 
 -- These options, but with the start and the machine that are declared.
 abbrev pub as_declared : Declaration → SessionOptions → SessionOptions

@@ -1,9 +1,10 @@
 //! Laws over the definitions alone. Each is the contract of a function that does nothing.
 
-ghost use Rattle.commands.specs.Laws.{AssembledIsWritten, ChecksAreOne, EmptyHasNoTape, FaultIsNotWritten, FaultIsTheOne, FaultIsTold, GuessIsAccepted, GuessIsRead, MeantIsListed, MeantIsRead, MeantIsWritten, MigratedIsCheckedAlike, ReadIsMeant, RunsAreOne, RunsEnd, SessionsAreOne, SessionsEnd, TapeIsOne, TapeIsThere, WatchedAsRun, WrittenIsAssembled};
+ghost use Rattle.commands.specs.Laws.{AssembledIsWritten, ChecksAreOne, EmptyHasNoTape, FaultIsNotWritten, FaultIsTheOne, FaultIsTold, FollowsTheTable, GuessIsAccepted, GuessIsRead, MeantIsListed, MeantIsRead, MeantIsWritten, MigratedIsCheckedAlike, ReadIsMeant, RunsAreOne, RunsEnd, SessionsAreOne, SessionsEnd, TapeIsOne, TapeIsThere, TypedAreOne, WatchedAsRun, WrittenIsAssembled};
 
 use bin_tape::laws::tapes_have_one_answer;
 use pal_asm::laws::{meant_are_words, sources_have_one_answer};
+use peripherals::laws::events_are_runs;
 
 /// From every image each list of events has a run, with its text and its status, and has no other.
 /// So what a run is said to write is there, whatever the tape does.
@@ -19,6 +20,20 @@ pub fn sessions_end()
     ensures end { SessionsEnd }
     ensures one { SessionsAreOne }
 {}
+
+/// A session at the teletype comes to no other end, whatever frames are in the reader and whatever keys
+/// are struck.
+pub fn typed_sessions_are_one()
+    ensures { TypedAreOne }
+{}
+
+/// A run is one of the instruction table, whether rounds, a list of events, an operator or a session at
+/// the teletype drives it: as many steps of the table as it counts lead to its end.
+pub fn runs_follow_the_table()
+    ensures { FollowsTheTable }
+{
+    events_are_runs();
+}
 
 /// `watch` with an operator watches exactly the events that `run` makes of the same options, where the
 /// run is on the declared machine and begins at the declared start.

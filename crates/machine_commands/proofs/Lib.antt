@@ -5,3 +5,5 @@ pub mod WatchLemmas
 pub mod RunLemmas
 pub mod SessionLemmas
 pub mod WatchedSessionLemmas
+pub mod TypistLemmas
+pub mod TeletypeLemmas

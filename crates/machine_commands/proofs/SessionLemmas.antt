@@ -1,11 +1,11 @@
--- An operator's run, event by event.
+-- A run by a schedule, event by event.
 use Rattle.std.proofs.Common.{ℕ, zero, suc, ◌≡◌, ◌+◌, ◌*◌, ◌%◌, ◌==◌, ◌<◌, ◌≤◌, Bool, true, false, ◌||◌, if◌then◌else◌, List, [], ◌∷◌, ◌++◌, length, drop, take, map, refl, sym, ◌∙◌, ap, inl, inr, append_assoc, append-nil, add-zero, add-one, take_all, length-append, get_or, le_refl, arith, Some, None, Option, Result, Ok, Err, IfOk, OnErr, true≢false, subst, unwrap_or}
 use Rattle.std.specs.Io.KnownBytes.{Appends, Consumes}
 use Rattle.std.proofs.KnownBytes.{Appends-nil, Appends-trans}
 use Rattle.std.proofs.Transfers.{drop-appended}
 use Rattle.std.proofs.lemmas.List.{map-append, take-append-le, drop_all, length-map}
 use Rattle.std.proofs.Math.Seq.{drop-cons, take-append-add}
-use Rattle.std.specs.Prelude.{IfErr, is_some}
+use Rattle.std.specs.Prelude.{IfErr, IfSome, is_some}
 use Rattle.streams.specs.Bytes.{AppendsFront, Gave}
 use Rattle.instruct.specs.declared.Profile.{Profile}
 use Rattle.instruct.specs.Devices.{word_of}
@@ -15,9 +15,10 @@ use Rattle.peripherals.specs.declared.Event.{Event}
 use Rattle.peripherals.specs.declared.Event.TheVariants.{Step, Key, PrinterDone, ReaderDone, PunchDone, Switches, Continue}
 use Rattle.peripherals.specs.declared.Seen.{Seen}
 use Rattle.peripherals.specs.declared.Seen.TheVariants as seen
+use Rattle.peripherals.specs.declared.operator.Operator.{Operator}
 use Rattle.peripherals.specs.Devices.{Devices, Writer, WorldState, Instructs, word_at_pc, devices_after, fetches, clears_keyboard, given, fetched, with_writer_flag, with_reader_flag, with_keyboard_flag}
 use Rattle.peripherals.specs.Events.{Happens, Steps, completed, done, with_devices}
-use Rattle.peripherals.specs.Operator.{Plan, due, first_due, frame_due, key_due, left_after, round_due}
+use Rattle.peripherals.specs.Operator.{Plan, due, first_due, frame_due, key_due, left_after, plan_of, round_due}
 use Rattle.peripherals.specs.Seen.{puts_out, seen_of}
 use Rattle.machine_commands.specs.declared.follow.End.{End}
 use Rattle.machine_commands.specs.declared.follow.End.TheVariants.{Unsupported}
@@ -31,9 +32,9 @@ use Rattle.command_parts.specs.declared.status.Status.{Status}
 use Rattle.command_parts.specs.Faults.{IsBytesFault, fails_to_write}
 use Rattle.command_parts.specs.Inputs.{AreFirst, HasCome, HasImage, Input}
 use Rattle.machine_commands.specs.Running.{fresh, status_of}
-use Rattle.machine_commands.specs.Session.{AppendsSome, Comes, Over, Cut, Final, Then, Extent, Whole, UpToOutput, UpToAny, MayEnd, extent_after, summary_where, Operated, BrokeOff, FrontsOf, IsSession, IsSessionOf, NothingOrFronts, SessionFronts, WritesAll, character, plan_for, printed_in, taken, Taken, Failures, failures}
-use Rattle.machine_commands.specs.Summary.{summary}
-use Rattle.machine_commands.specs.SessionParts.{IsPartOf, Played, Unplayed, Faltered, PlayedFront, printed_from}
+use Rattle.machine_commands.specs.Schedule.{Comes, Over, Cut, Final, Then, Extent, Whole, UpToOutput, UpToRead, UpToAny, MayEnd, Place, operating}
+use Rattle.machine_commands.specs.Session.{AppendsSome, extent_after, extent_unread, summary_where, Operated, BrokeOff, FrontsOf, IsHeld, IsPartOfSession, IsSession, IsSessionOf, SessionFronts, WritesAll, character, comes_by, plan_for, printed_in, taken, Taken, Failures, failures}
+use Rattle.machine_commands.specs.SessionParts.{IsNext, IsPartOf, Played, Unplayed, Faltered, PlayedFront, events_left, has_stepped, place_of, printed_from, rank, steps_in}
 use Rattle.machine_commands.specs.Trace.{line_of, trace_of, traced}
 use Rattle.machine_commands.proofs.FollowLemmas.{Came, came_none, came_all, joined, leads_both, leads_one, front_after, no_line, one_by}
 
@@ -185,19 +186,19 @@ some_after a b c first second whole front = record {
   out = rw (take-append-add first second front.count) (Appends-trans a b c first (take front.count second) whole front.out);
 }
 
--- The run came so far: these events came, and what is still to come follows on them.
-pub record Sat (p : Profile) (trace : Bool) (plan now : Plan) (last : Option Event) (w x : WorldState) (n : ℕ) (old new told tells : Option (List ℕ)) : Type 0 where
+-- The run came so far: these events came, and whatever comes further comes after them.
+pub record Sat {S : Type 0} (brings : S → Profile → WorldState → Extent → List Event → Type 0) (p : Profile) (trace : Bool) (first now : S) (w x : WorldState) (n : ℕ) (old new told tells : Option (List ℕ)) : Type 0 where
   pub events : List Event
   pub came : Came p true trace events w n x old new
-  pub come : (extent : Extent) (rest : List Event) → Comes p extent now last x rest → Comes p extent plan None w (events ++ rest)
+  pub come : (extent : Extent) (rest : List Event) → brings now p x extent rest → brings first p w extent (events ++ rest)
   pub printed : Appends told tells (printed_in x)
 
-pub sat_none : (p : Profile) (trace : Bool) (plan : Plan) (w : WorldState) (last : Option Event) (old told : Option (List ℕ)) → last ≡ None → w.devices.printer.output ≡ [] →
-    Sat p trace plan plan last w w 0 old old told told
-sat_none p trace plan w last old told first empty = record {
+pub sat_none : {S : Type 0} (brings : S → Profile → WorldState → Extent → List Event → Type 0) (p : Profile) (trace : Bool) (s : S) (w : WorldState) (old told : Option (List ℕ)) → w.devices.printer.output ≡ [] →
+    Sat brings p trace s s w w 0 old old told told
+sat_none brings p trace s w old told empty = record {
   events = [];
   came = came_none p true trace w old;
-  come = λ extent rest comes. rw first at comes;
+  come = λ extent rest comes. comes;
   printed = rw empty (Appends-nil told);
 }
 
@@ -218,39 +219,38 @@ printed_next p x y e told mid tells happens before after =
 one_more : (es : List Event) (e : Event) (rest : List Event) → (es ++ e ∷ []) ++ rest ≡ es ++ (e ∷ rest)
 one_more es e rest = append_assoc es (e ∷ []) rest
 
-pub sat_more : (p : Profile) (trace : Bool) (plan now after : Plan) (last new_last : Option Event) (e : Event) (w x y : WorldState) (n : ℕ) (what : Seen) (old mid new told tmid tells : Option (List ℕ)) →
-    Sat p trace plan now last w x n old mid told tmid → due now x last ≡ Some e → after ≡ left_after e now → new_last ≡ Some e → Played p trace x e what y mid new tmid tells → goes_on true what ≡ true →
-    Sat p trace plan after new_last w y (n + counted what) old new told tells
-sat_more p trace plan now after last new_last e w x y n what old mid new told tmid tells sat is left next played goes = record {
+pub sat_more : {S : Type 0} (brings : S → Profile → WorldState → Extent → List Event → Type 0) (p : Profile) (trace : Bool) (first now after : S) (e : Event) (w x y : WorldState) (n : ℕ) (what : Seen) (old mid new told tmid tells : Option (List ℕ)) →
+    Sat brings p trace first now w x n old mid told tmid → IsNext brings now after x e → Played p trace x e what y mid new tmid tells → goes_on true what ≡ true →
+    Sat brings p trace first after w y (n + counted what) old new told tells
+sat_more brings p trace first now after e w x y n what old mid new told tmid tells sat next played goes = record {
   events = sat.events ++ e ∷ [];
   came = came_next p trace sat.events e w x y n what old mid new sat.came (sym played.sees) goes played.happens played.wrote;
   come = λ extent rest comes.
       let on : goes_on true (seen_of p x e) ≡ true = rw (← played.sees) goes in
-      let from : Comes p extent (left_after e now) (Some e) y rest = rw (left, next) at comes in
-      rw (one_more sat.events e rest) (sat.come extent (e ∷ rest) (Then now last x y e rest is on played.happens from));
+      rw (one_more sat.events e rest) (sat.come extent (e ∷ rest) (next.on p y extent rest on played.happens comes));
   printed = printed_next p x y e told tmid tells played.happens sat.printed played.printed;
 }
 
 -- nothing is due any more
-pub sat_all : (p : Profile) (trace : Bool) (plan now : Plan) (last : Option Event) (w x : WorldState) (outcome : Outcome) (old new told tells : Option (List ℕ)) →
-    Sat p trace plan now last w x outcome.steps old new told tells → due now x last ≡ None → outcome.end ≡ end_of x → Operated p trace plan w outcome x old new told tells
-sat_all p trace plan now last w x outcome old new told tells sat is ends = record {
+pub sat_all : {S : Type 0} (brings : S → Profile → WorldState → Extent → List Event → Type 0) (p : Profile) (trace : Bool) (first now : S) (w x : WorldState) (outcome : Outcome) (old new told tells : Option (List ℕ)) →
+    Sat brings p trace first now w x outcome.steps old new told tells → ((extent : Extent) → brings now p x extent []) → outcome.end ≡ end_of x → Operated (brings first p w) p trace w outcome x old new told tells
+sat_all brings p trace first now w x outcome old new told tells sat over ends = record {
   events = sat.events;
-  come = let all : Comes p Whole plan None w (sat.events ++ []) = sat.come Whole [] (Over now last x is) in rw (append-nil sat.events) at all;
+  come = λ extent. let all : brings first p w extent (sat.events ++ []) = sat.come extent [] (over extent) in rw (append-nil sat.events) at all;
   ran = came_all p true trace sat.events w x outcome old new sat.came ends;
   printed = sat.printed;
 }
 
-final_comes : (p : Profile) (extent : Extent) (now : Plan) (last : Option Event) (x : WorldState) (e : Event) (what : Seen) → due now x last ≡ Some e → what ≡ seen_of p x e → goes_on true what ≡ false →
-    Comes p extent now last x (e ∷ [])
-final_comes p extent now last x e what is sees ends = Final now last x e is (rw (← sees) ends)
+-- the run ends with the event that is due
+last_comes : {S : Type 0} (brings : S → Profile → WorldState → Extent → List Event → Type 0) (p : Profile) (s t : S) (x : WorldState) (e : Event) (what : Seen) (extent : Extent) → IsNext brings s t x e → what ≡ seen_of p x e → goes_on true what ≡ false → brings s p x extent (e ∷ [])
+last_comes brings p s t x e what extent next sees ends = next.last p extent (rw (← sees) ends)
 
-pub sat_to_halt : (p : Profile) (trace : Bool) (plan now : Plan) (last : Option Event) (e : Event) (w x y : WorldState) (n : ℕ) (outcome : Outcome) (old mid new told tmid tells : Option (List ℕ)) →
-    Sat p trace plan now last w x n old mid told tmid → due now x last ≡ Some e → Played p trace x e seen.Halted y mid new tmid tells → outcome.steps ≡ n + 1 → outcome.end ≡ end_of y →
-    Operated p trace plan w outcome y old new told tells
-sat_to_halt p trace plan now last e w x y n outcome old mid new told tmid tells sat is played steps ends = record {
+pub sat_to_halt : {S : Type 0} (brings : S → Profile → WorldState → Extent → List Event → Type 0) (p : Profile) (trace : Bool) (first now after : S) (e : Event) (w x y : WorldState) (n : ℕ) (outcome : Outcome) (old mid new told tmid tells : Option (List ℕ)) →
+    Sat brings p trace first now w x n old mid told tmid → IsNext brings now after x e → Played p trace x e seen.Halted y mid new tmid tells → outcome.steps ≡ n + 1 → outcome.end ≡ end_of y →
+    Operated (brings first p w) p trace w outcome y old new told tells
+sat_to_halt brings p trace first now after e w x y n outcome old mid new told tmid tells sat next played steps ends = record {
   events = sat.events ++ e ∷ [];
-  come = sat.come Whole (e ∷ []) (final_comes p Whole now last x e seen.Halted is played.sees refl);
+  come = λ extent. sat.come extent (e ∷ []) (last_comes brings p now after x e seen.Halted extent next played.sees refl);
   ran = record {
     lines = sat.came.lines ++ trace_of p x e y;
     follows = rw (steps, ends) (sat.came.leads (e ∷ []) (trace_of p x e y) 1 (end_of y) y (Stopped e [] x y refl (sym played.sees) played.happens));
@@ -259,15 +259,15 @@ sat_to_halt p trace plan now last e w x y n outcome old mid new told tmid tells 
   printed = printed_next p x y e told tmid tells played.happens sat.printed played.printed;
 }
 
-pub sat_to_stuck : (p : Profile) (trace : Bool) (plan now : Plan) (last : Option Event) (e : Event) (w x y : WorldState) (n word : ℕ) (outcome : Outcome) (old mid new told tmid tells : Option (List ℕ)) →
-    Sat p trace plan now last w x n old mid told tmid → due now x last ≡ Some e → Played p trace x e (seen.Unsupported word) y mid new tmid tells → outcome.steps ≡ n → outcome.end ≡ Unsupported y.state.pc →
-    Operated p trace plan w outcome y old new told tells
-sat_to_stuck p trace plan now last e w x y n word outcome old mid new told tmid tells sat is played steps ends =
+pub sat_to_stuck : {S : Type 0} (brings : S → Profile → WorldState → Extent → List Event → Type 0) (p : Profile) (trace : Bool) (first now after : S) (e : Event) (w x y : WorldState) (n word : ℕ) (outcome : Outcome) (old mid new told tmid tells : Option (List ℕ)) →
+    Sat brings p trace first now w x n old mid told tmid → IsNext brings now after x e → Played p trace x e (seen.Unsupported word) y mid new tmid tells → outcome.steps ≡ n → outcome.end ≡ Unsupported y.state.pc →
+    Operated (brings first p w) p trace w outcome y old new told tells
+sat_to_stuck brings p trace first now after e w x y n word outcome old mid new told tmid tells sat next played steps ends =
     let none : Appends mid new (traced trace []) = rw (no_line p e x y word (sym played.sees)) at played.wrote in
     let follows : Follows p true (sat.events ++ e ∷ []) w (sat.came.lines ++ []) (n + 0) (Unsupported y.state.pc) y = sat.came.leads (e ∷ []) [] 0 (Unsupported y.state.pc) y (Stuck e [] x y word (sym played.sees) played.happens) in
     record {
       events = sat.events ++ e ∷ [];
-      come = sat.come Whole (e ∷ []) (final_comes p Whole now last x e (seen.Unsupported word) is played.sees refl);
+      come = λ extent. sat.come extent (e ∷ []) (last_comes brings p now after x e (seen.Unsupported word) extent next played.sees refl);
       ran = record {
         lines = sat.came.lines ++ [];
         follows = rw (steps, ends) (rw (add-zero n) at follows);
@@ -276,36 +276,43 @@ sat_to_stuck p trace plan now last e w x y n word outcome old mid new told tmid 
       printed = printed_next p x y e told tmid tells played.happens sat.printed played.printed;
     }
 
--- a run may break off before an event that puts out a byte, whether a write failed or not
-ends_before : (failed : Bool) (now : Plan) (last : Option Event) (x : WorldState) (e : Event) → due now x last ≡ Some e → puts_out x e ≡ true → MayEnd (extent_after failed) now x last
-ends_before true now last x e is puts = tt
-ends_before false now last x e is puts = record { event = e; is_due = is; puts = puts }
-
--- the run broke off before the event
-broke_before : (p : Profile) (trace : Bool) (plan now : Plan) (last : Option Event) (e : Event) (w x y : WorldState) (n : ℕ) (reported typed : Bool) (old mid new told tmid tells : Option (List ℕ)) →
-    Sat p trace plan now last w x n old mid told tmid → due now x last ≡ Some e → Unplayed x e y reported typed mid new tmid tells → BrokeOff p trace plan w y reported typed old new told tells
+-- the run broke off where nothing happened since: before an event that puts out a byte, or where a frame or a key was read
+broke_here : {S : Type 0} (brings : S → Profile → WorldState → Extent → List Event → Type 0) (p : Profile) (trace : Bool) (first now : S) (w x : WorldState) (n : ℕ) (reported typed unread : Bool) (old new told tells : Option (List ℕ)) →
+    Sat brings p trace first now w x n old new told tells → (reported || typed) ≡ false → brings now p x (extent_unread unread) [] → BrokeOff (brings first p w) p trace w x reported typed unread old new told tells
 unfolding whole_front
-broke_before p trace plan now last e w x y n reported typed old mid new told tmid tells sat is un = rw (un.same, un.unwritten, un.unprinted) (record {
+broke_here brings p trace first now w x n reported typed unread old new told tells sat unfailed cut = record {
   events = sat.events;
-  come = let all : Comes p (extent_after (reported || typed)) plan None w (sat.events ++ []) = sat.come (extent_after (reported || typed)) [] (Cut now last x (ends_before (reported || typed) now last x e is un.wanted)) in rw (append-nil sat.events) at all;
+  come = let all : brings first p w (extent_unread unread) (sat.events ++ []) = sat.come (extent_unread unread) [] cut in rw unfailed (rw (append-nil sat.events) at all);
   lines = sat.came.lines;
   steps = n;
   end = end_of x;
   follows = let done : Follows p true (sat.events ++ []) w (sat.came.lines ++ []) (n + 0) (end_of x) x = sat.came.leads [] [] 0 (end_of x) x (Ended x) in
       rw (append-nil sat.events, append-nil sat.came.lines, add-zero n) at done;
-  wrote = whole_front old mid (traced trace sat.came.lines) sat.came.wrote;
-  printed = whole_front told tmid (printed_in x) sat.printed;
+  wrote = whole_front old new (traced trace sat.came.lines) sat.came.wrote;
+  printed = whole_front told tells (printed_in x) sat.printed;
   wrote_whole = λ no. sat.came.wrote;
   printed_whole = λ no. sat.printed;
-  wrote_front = λ yes. absurd (true≢false (sym yes ∙ or_left reported typed un.unfailed));
-  printed_front = λ yes. absurd (true≢false (sym yes ∙ or_right reported typed un.unfailed));
+  wrote_front = λ yes. absurd (true≢false (sym yes ∙ or_left reported typed unfailed));
+  printed_front = λ yes. absurd (true≢false (sym yes ∙ or_right reported typed unfailed));
   printed_nearly = one_over (length (printed_in x));
-})
+}
+
+broke_before : {S : Type 0} (brings : S → Profile → WorldState → Extent → List Event → Type 0) (p : Profile) (trace : Bool) (first now after : S) (e : Event) (w x y : WorldState) (n : ℕ) (reported typed unread : Bool) (old mid new told tmid tells : Option (List ℕ)) →
+    Sat brings p trace first now w x n old mid told tmid → IsNext brings now after x e → Unplayed x e y reported typed mid new tmid tells → unread ≡ false → BrokeOff (brings first p w) p trace w y reported typed unread old new told tells
+broke_before brings p trace first now after e w x y n reported typed unread old mid new told tmid tells sat next un readable = rw (un.same, un.unwritten, un.unprinted)
+    (broke_here brings p trace first now w x n reported typed unread old mid told tmid sat un.unfailed (rw readable (next.output p un.wanted)))
+
+-- a read of a frame or a key failed
+pub sat_to_unread : {S : Type 0} (brings : S → Profile → WorldState → Extent → List Event → Type 0) (p : Profile) (trace : Bool) (first now : S) (w x : WorldState) (n : ℕ) (reported typed unread : Bool) (old new told tells : Option (List ℕ)) →
+    Sat brings p trace first now w x n old new told tells → reported ≡ false → typed ≡ false → unread ≡ true → brings now p x UpToRead [] → BrokeOff (brings first p w) p trace w x reported typed unread old new told tells
+sat_to_unread brings p trace first now w x n reported typed unread old new told tells sat unreported untyped failed cut =
+    broke_here brings p trace first now w x n reported typed unread old new told tells sat (rw (unreported, untyped) refl) (rw failed cut)
 
 -- the events up to the one that is due
-cut_after : (p : Profile) (now : Plan) (last : Option Event) (x y : WorldState) (e : Event) (on : Bool) → due now x last ≡ Some e → goes_on true (seen_of p x e) ≡ on → Happens p x e y → Comes p UpToAny now last x (e ∷ [])
-cut_after p now last x y e true is goes happens = Then now last x y e [] is goes happens (Cut (left_after e now) (Some e) y tt)
-cut_after p now last x y e false is goes happens = Final now last x e is goes
+cut_after : {S : Type 0} (brings : S → Profile → WorldState → Extent → List Event → Type 0) (p : Profile) (now after : S) (x y : WorldState) (e : Event) (on : Bool) → IsNext brings now after x e → ((s : S) (q : Profile) (v : WorldState) → brings s q v UpToAny []) →
+    goes_on true (seen_of p x e) ≡ on → Happens p x e y → brings now p x UpToAny (e ∷ [])
+cut_after brings p now after x y e true next anywhere goes happens = next.on p y UpToAny [] goes happens (anywhere after p y)
+cut_after brings p now after x y e false next anywhere goes happens = next.last p UpToAny goes
 
 front_joined : (trace : Bool) (a b c : Option (List ℕ)) (first second : List ℕ) → Appends a b (traced trace first) → AppendsSome b c (traced trace second) → AppendsSome a c (traced trace (first ++ second))
 front_joined true a b c first second whole front = some_after a b c first second whole front
@@ -315,15 +322,15 @@ front_cut : (trace : Bool) (a b c : Option (List ℕ)) (first second : List ℕ)
 front_cut true a b c first second whole front = front_after a b c first second whole front
 front_cut false a b c first second whole front = front_after a b c [] [] whole front
 
-broke_after : (p : Profile) (trace : Bool) (plan now : Plan) (last : Option Event) (e : Event) (w x y : WorldState) (n : ℕ) (reported typed : Bool) (old mid new told tmid tells : Option (List ℕ)) →
-    Sat p trace plan now last w x n old mid told tmid → due now x last ≡ Some e → Faltered p trace x e y reported typed mid new tmid tells → BrokeOff p trace plan w y reported typed old new told tells
+broke_after : {S : Type 0} (brings : S → Profile → WorldState → Extent → List Event → Type 0) (p : Profile) (trace : Bool) (first now after : S) (e : Event) (w x y : WorldState) (n : ℕ) (reported typed unread : Bool) (old mid new told tmid tells : Option (List ℕ)) →
+    Sat brings p trace first now w x n old mid told tmid → IsNext brings now after x e → ((s : S) (q : Profile) (v : WorldState) → brings s q v UpToAny []) → Faltered p trace x e y reported typed mid new tmid tells → BrokeOff (brings first p w) p trace w y reported typed unread old new told tells
 unfolding some_same some_after
-broke_after p trace plan now last e w x y n reported typed old mid new told tmid tells sat is faltered =
+broke_after brings p trace first now after e w x y n reported typed unread old mid new told tmid tells sat next anywhere faltered =
     let one = one_by p true e x y (seen_of p x e) refl faltered.happens in
     let more = printed_more p x y e faltered.happens in
     record {
       events = sat.events ++ e ∷ [];
-      come = rw (faltered.failed) (sat.come UpToAny (e ∷ []) (cut_after p now last x y e (goes_on true (seen_of p x e)) is refl faltered.happens));
+      come = rw (faltered.failed) (sat.come UpToAny (e ∷ []) (cut_after brings p now after x y e (goes_on true (seen_of p x e)) next anywhere refl faltered.happens));
       lines = sat.came.lines ++ trace_of p x e y;
       steps = n + one.steps;
       end = one.end;
@@ -337,25 +344,19 @@ broke_after p trace plan now last e w x y n reported typed old mid new told tmid
       printed_nearly = nearly_all p x y e faltered.printed.count faltered.happens;
     }
 
-pub sat_to_fault : (p : Profile) (trace : Bool) (plan now : Plan) (last : Option Event) (e : Event) (w x y : WorldState) (n : ℕ) (reported typed : Bool) (old mid new told tmid tells : Option (List ℕ)) →
-    Sat p trace plan now last w x n old mid told tmid → due now x last ≡ Some e → PlayedFront p trace x e y reported typed mid new tmid tells → BrokeOff p trace plan w y reported typed old new told tells
-sat_to_fault p trace plan now last e w x y n reported typed old mid new told tmid tells sat is (inl un) = broke_before p trace plan now last e w x y n reported typed old mid new told tmid tells sat is un
-sat_to_fault p trace plan now last e w x y n reported typed old mid new told tmid tells sat is (inr faltered) = broke_after p trace plan now last e w x y n reported typed old mid new told tmid tells sat is faltered
-
--- the events of a whole run are the first ones too
-comes_first : (p : Profile) (extent : Extent) (plan : Plan) (last : Option Event) (w : WorldState) (es : List Event) → Comes p Whole plan last w es → Comes p extent plan last w es
-comes_first p extent _ _ _ _ (Over plan last w none) = Over plan last w none
-comes_first p extent _ _ _ _ (Cut plan last w cut) = absurd cut
-comes_first p extent _ _ _ _ (Final plan last w e is ends) = Final plan last w e is ends
-comes_first p extent _ _ _ _ (Then plan last w m e es is goes happens rest) = Then plan last w m e es is goes happens (comes_first p extent (left_after e plan) (Some e) m es rest)
+pub sat_to_fault : {S : Type 0} (brings : S → Profile → WorldState → Extent → List Event → Type 0) (p : Profile) (trace : Bool) (first now after : S) (e : Event) (w x y : WorldState) (n : ℕ) (reported typed unread : Bool) (old mid new told tmid tells : Option (List ℕ)) →
+    Sat brings p trace first now w x n old mid told tmid → IsNext brings now after x e → ((s : S) (q : Profile) (v : WorldState) → brings s q v UpToAny []) → unread ≡ false → PlayedFront p trace x e y reported typed mid new tmid tells →
+    BrokeOff (brings first p w) p trace w y reported typed unread old new told tells
+sat_to_fault brings p trace first now after e w x y n reported typed unread old mid new told tmid tells sat next anywhere readable (inl un) = broke_before brings p trace first now after e w x y n reported typed unread old mid new told tmid tells sat next un readable
+sat_to_fault brings p trace first now after e w x y n reported typed unread old mid new told tmid tells sat next anywhere readable (inr faltered) = broke_after brings p trace first now after e w x y n reported typed unread old mid new told tmid tells sat next anywhere faltered
 
 -- a whole run, of which no more is told
-pub operated_broke : (p : Profile) (trace : Bool) (plan : Plan) (w : WorldState) (outcome : Outcome) (x : WorldState) (reported typed : Bool) (old new told tells : Option (List ℕ)) →
-    Operated p trace plan w outcome x old new told tells → (reported || typed) ≡ false → BrokeOff p trace plan w x reported typed old new told tells
+pub operated_broke : (comes : Extent → List Event → Type 0) (p : Profile) (trace : Bool) (w : WorldState) (outcome : Outcome) (x : WorldState) (reported typed unread : Bool) (old new told tells : Option (List ℕ)) →
+    Operated comes p trace w outcome x old new told tells → (reported || typed) ≡ false → BrokeOff comes p trace w x reported typed unread old new told tells
 unfolding whole_front
-operated_broke p trace plan w outcome x reported typed old new told tells done unfailed = record {
+operated_broke comes p trace w outcome x reported typed unread old new told tells done unfailed = record {
   events = done.events;
-  come = comes_first p (extent_after (reported || typed)) plan None w done.events done.come;
+  come = done.come (extent_after (reported || typed) unread);
   lines = done.ran.lines;
   steps = outcome.steps;
   end = outcome.end;
@@ -369,20 +370,92 @@ operated_broke p trace plan w outcome x reported typed old new told tells done u
   printed_nearly = one_over (length (printed_in x));
 }
 
--- how many events may come at most in the round that has begun
-abbrev rank : Option Event → ℕ
-rank None = 1
-rank (Some Step) = 4
-rank (Some PrinterDone) = 3
-rank (Some PunchDone) = 2
-rank (Some (ReaderDone frame)) = 1
-rank (Some (Key key)) = 0
-rank (Some (Switches word)) = 0
-rank (Some Continue) = 0
+-- what is seen of an event that changes a device, where it is enabled
+abbrev device_seen : Bool → Seen
+device_seen enabled = if enabled then seen.Changed else seen.NotEnabled
 
--- how many events may come at most
-abbrev pub events_left : Plan → Option Event → ℕ
-events_left plan last = plan.rounds * 5 + rank last
+pub device_goes : (enabled : Bool) → goes_on true (device_seen enabled) ≡ true
+device_goes true = refl
+device_goes false = refl
+
+device_counts : (enabled : Bool) → counted (device_seen enabled) ≡ 0
+device_counts true = refl
+device_counts false = refl
+
+device_line : (p : Profile) (enabled trace : Bool) (at word : ℕ) (s : State) → traced trace (line_of p (device_seen enabled) at word s) ≡ []
+device_line p true true at word s = refl
+device_line p true false at word s = refl
+device_line p false true at word s = refl
+device_line p false false at word s = refl
+
+output_stays : (busy : Bool) (d : Writer) → (if busy then record d { busy = false; flag = true } else d).output ≡ d.output
+output_stays true d = refl
+output_stays false d = refl
+
+abbrev pub printer_done : WorldState → WorldState
+printer_done w = with_devices w (record w.devices { printer = done w.devices.printer })
+
+-- such an event writes nothing, and prints nothing where the output stays
+device_came : (p : Profile) (trace : Bool) (es : List Event) (w x y : WorldState) (n : ℕ) (e : Event) (enabled : Bool) (old new : Option (List ℕ)) →
+    Came p true trace es w n x old new → Happens p x e y → seen_of p x e ≡ device_seen enabled → Came p true trace (es ++ e ∷ []) w n y old new
+device_came p trace es w x y n e enabled old new came happens is =
+    let none : Appends new new (traced trace (trace_of p x e y)) = rw (is, device_line p enabled trace x.state.pc (word_at_pc x) y.state) (Appends-nil new) in
+    let next : Came p true trace (es ++ e ∷ []) w (n + counted (device_seen enabled)) y old new = came_next p trace es e w x y n (device_seen enabled) old new new came is (device_goes enabled) happens none in
+    rw (device_counts enabled, add-zero n) at next
+
+-- after an instruction the printer gets done, and the punch
+pub sat_completed : {S : Type 0} (brings : S → Profile → WorldState → Extent → List Event → Type 0) (p : Profile) (trace : Bool) (first now after : S) (w x : WorldState) (n : ℕ) (old new told tells : Option (List ℕ)) →
+    Sat brings p trace first now w x n old new told tells →
+    ((q : Profile) (extent : Extent) (es : List Event) → brings after q (completed x) extent es → brings now q x extent (PrinterDone ∷ PunchDone ∷ es)) →
+    Sat brings p trace first after w (completed x) n old new told tells
+sat_completed brings p trace first now after w x n old new told tells sat both =
+    let mid = printer_done x in
+    let half : Came p true trace (sat.events ++ PrinterDone ∷ []) w n mid old new = device_came p trace sat.events w x mid n PrinterDone x.devices.printer.busy old new sat.came refl refl in
+    record {
+      events = (sat.events ++ PrinterDone ∷ []) ++ PunchDone ∷ [];
+      came = device_came p trace (sat.events ++ PrinterDone ∷ []) w mid (completed x) n PunchDone mid.devices.punch.busy old new half refl refl;
+      come = λ extent rest comes. rw (one_more (sat.events ++ PrinterDone ∷ []) PunchDone rest, one_more sat.events PrinterDone (PunchDone ∷ rest)) (sat.come extent (PrinterDone ∷ PunchDone ∷ rest) (both p extent rest comes));
+      printed = rw (output_stays x.devices.printer.busy x.devices.printer) sat.printed;
+    }
+
+-- an event that carries out no instruction
+pub sat_still : {S : Type 0} (brings : S → Profile → WorldState → Extent → List Event → Type 0) (p : Profile) (trace : Bool) (first now after : S) (e : Event) (w x y : WorldState) (n : ℕ) (what : Seen) (old mid new told tmid tells : Option (List ℕ)) →
+    Sat brings p trace first now w x n old mid told tmid → IsNext brings now after x e → Played p trace x e what y mid new tmid tells → goes_on true what ≡ true → counted what ≡ 0 →
+    Sat brings p trace first after w y n old new told tells
+sat_still brings p trace first now after e w x y n what old mid new told tmid tells sat next played goes none =
+    let more : Sat brings p trace first after w y (n + counted what) old new told tells = sat_more brings p trace first now after e w x y n what old mid new told tmid tells sat next played goes in
+    rw (none, add-zero n) at more
+
+not_ran : (enabled : Bool) → seen.Ran ≡ device_seen enabled → ⊥
+not_ran true is = cc
+not_ran false is = cc
+
+not_halted : (enabled : Bool) → seen.Halted ≡ device_seen enabled → ⊥
+not_halted true is = cc
+not_halted false is = cc
+
+-- an instruction was carried out by a step alone
+pub ran_is_step : (p : Profile) (w : WorldState) (e : Event) → seen.Ran ≡ seen_of p w e → e ≡ Step
+ran_is_step p w Step is = refl
+ran_is_step p w (Key byte) is = absurd (not_ran true is)
+ran_is_step p w PrinterDone is = absurd (not_ran w.devices.printer.busy is)
+ran_is_step p w (ReaderDone byte) is = absurd (not_ran w.devices.reader.fetching is)
+ran_is_step p w PunchDone is = absurd (not_ran w.devices.punch.busy is)
+ran_is_step p w (Switches word) is = absurd (not_ran true is)
+ran_is_step p w Continue is = absurd (not_ran (is_some w.halted_at) is)
+
+-- and a step counts as one
+pub ran_counts : (p : Profile) (w : WorldState) (e : Event) → seen.Ran ≡ seen_of p w e → steps_in e ≡ 1
+ran_counts p w e is = rw (ran_is_step p w e is) refl
+
+pub halted_is_step : (p : Profile) (w : WorldState) (e : Event) → seen.Halted ≡ seen_of p w e → steps_in e ≡ 1
+halted_is_step p w Step is = refl
+halted_is_step p w (Key byte) is = absurd (not_halted true is)
+halted_is_step p w PrinterDone is = absurd (not_halted w.devices.printer.busy is)
+halted_is_step p w (ReaderDone byte) is = absurd (not_halted w.devices.reader.fetching is)
+halted_is_step p w PunchDone is = absurd (not_halted w.devices.punch.busy is)
+halted_is_step p w (Switches word) is = absurd (not_halted true is)
+halted_is_step p w Continue is = absurd (not_halted (is_some w.halted_at) is)
 
 -- fewer events are left after an event than before it
 abbrev Fewer : Plan → ℕ → Event → Type 0
@@ -434,6 +507,104 @@ due_fewer plan w (Some Continue) e is = round_fewer plan 0 plan.rounds e refl is
 pub fewer : (plan after : Plan) (w : WorldState) (last new_last : Option Event) (e : Event) → due plan w last ≡ Some e → after ≡ left_after e plan → new_last ≡ Some e → events_left after new_last < events_left plan last
 fewer plan after w last new_last e is left next = rw (left, next) (due_fewer plan w last e is)
 
+-- an instruction that is due takes one of the rounds
+step_counts : (rounds : ℕ) (e : Event) (after : Plan) (plan : Plan) → plan.rounds ≡ rounds → round_due rounds ≡ Some e → after ≡ left_after e plan → steps_in e + after.rounds ≤ plan.rounds
+step_counts zero e after plan is due left = absurd (none_is due)
+step_counts (suc n) e after plan is due left =
+    let step : Step ≡ e = event_is Step e due in
+    rw (left, ← step, is) (omega arith)
+
+-- any other event takes none
+other_counts : (e f : Event) (after plan : Plan) → Some f ≡ Some e → after ≡ left_after e plan → steps_in f ≡ 0 → (left_after f plan).rounds ≡ plan.rounds → steps_in e + after.rounds ≤ plan.rounds
+other_counts e f after plan is left none same =
+    let here : f ≡ e = event_is f e is in
+    rw (left, ← here, none, same) (omega arith)
+
+key_counts : (keys : List ℕ) (flag : Bool) (e : Event) (after plan : Plan) → key_due keys plan.rounds flag ≡ Some e → after ≡ left_after e plan → steps_in e + after.rounds ≤ plan.rounds
+key_counts [] flag e after plan due left = step_counts plan.rounds e after plan refl due left
+key_counts (key ∷ keys) true e after plan due left = step_counts plan.rounds e after plan refl due left
+key_counts (key ∷ keys) false e after plan due left = other_counts e (Key key) after plan due left refl refl
+
+frame_counts : (w : WorldState) (frames : List ℕ) (waits : Bool) (e : Event) (after plan : Plan) → w.devices.reader.fetching ≡ waits → frame_due plan w frames ≡ Some e → after ≡ left_after e plan → steps_in e + after.rounds ≤ plan.rounds
+frame_counts w [] waits e after plan is due left = key_counts plan.keys w.devices.keyboard.flag e after plan due left
+frame_counts w (frame ∷ frames) true e after plan is due left = other_counts e (ReaderDone frame) after plan (rw is at due) left refl refl
+frame_counts w (frame ∷ frames) false e after plan is due left = key_counts plan.keys w.devices.keyboard.flag e after plan (rw is at due) left
+
+first_counts : (switches : Option ℕ) (e : Event) (after plan : Plan) → first_due plan switches ≡ Some e → after ≡ left_after e plan → steps_in e + after.rounds ≤ plan.rounds
+first_counts None e after plan due left = step_counts plan.rounds e after plan refl due left
+first_counts (Some word) e after plan due left = other_counts e (Switches word) after plan due left refl refl
+
+pub due_counts : (plan after : Plan) (w : WorldState) (last : Option Event) (e : Event) → due plan w last ≡ Some e → after ≡ left_after e plan → steps_in e + after.rounds ≤ plan.rounds
+due_counts plan after w None e is left = first_counts plan.switches e after plan is left
+due_counts plan after w (Some Step) e is left = other_counts e PrinterDone after plan is left refl refl
+due_counts plan after w (Some PrinterDone) e is left = other_counts e PunchDone after plan is left refl refl
+due_counts plan after w (Some PunchDone) e is left = frame_counts w plan.frames w.devices.reader.fetching e after plan refl is left
+due_counts plan after w (Some (ReaderDone frame)) e is left = key_counts plan.keys w.devices.keyboard.flag e after plan is left
+due_counts plan after w (Some (Key key)) e is left = step_counts plan.rounds e after plan refl is left
+due_counts plan after w (Some (Switches word)) e is left = step_counts plan.rounds e after plan refl is left
+due_counts plan after w (Some Continue) e is left = step_counts plan.rounds e after plan refl is left
+
+-- what is due with an operator comes next
+pub operator_next : (old new : Operator) (w : WorldState) (e : Event) → due (plan_of old) w old.last ≡ Some e → plan_of new ≡ left_after e (plan_of old) → new.last ≡ Some e →
+    IsNext (λ (o : Operator) (p : Profile) (v : WorldState) (extent : Extent) (es : List Event). Comes operating p extent (place_of o) v es) old new w e
+operator_next old new w e is left next = record {
+  on = λ p m extent es goes happens comes. Then (place_of old) w m e es is goes happens (rw (left, next) at comes);
+  last = λ p extent ends. Final (place_of old) w e is ends;
+  output = λ p puts. Cut (place_of old) w (record { event = e; is_due = is; puts = puts });
+}
+
+-- the last event was an instruction
+pub step_was : (last : Option Event) → has_stepped last ≡ true → last ≡ Some Step
+step_was (Some Step) is = refl
+step_was None is = absurd (true≢false (sym is))
+step_was (Some (Key key)) is = absurd (true≢false (sym is))
+step_was (Some PrinterDone) is = absurd (true≢false (sym is))
+step_was (Some (ReaderDone frame)) is = absurd (true≢false (sym is))
+step_was (Some PunchDone) is = absurd (true≢false (sym is))
+step_was (Some (Switches word)) is = absurd (true≢false (sym is))
+step_was (Some Continue) is = absurd (true≢false (sym is))
+
+-- an answer that is one
+pub ok_is : {T E : Type 0} (a b : T) (r : Result T E) → r ≡ Ok a → r ≡ Ok b → a ≡ b
+ok_is a b r one other = let same : Ok a ≡ Ok b = sym one ∙ other in cc
+
+-- what an operator answers
+pub some_next : (o : Option Event) (old new : Operator) (w : WorldState) → o ≡ due (plan_of old) w old.last → IfSome o (λ e. plan_of new ≡ left_after e (plan_of old)) → IfSome o (λ e. new.last ≡ Some e) →
+    IfSome o (IsNext (λ (o : Operator) (p : Profile) (v : WorldState) (extent : Extent) (es : List Event). Comes operating p extent (place_of o) v es) old new w)
+some_next None old new w is left last = tt
+some_next (Some e) old new w is left last = operator_next old new w e (sym is) left last
+
+pub some_fewer : (o : Option Event) (old new : Operator) (w : WorldState) → o ≡ due (plan_of old) w old.last → IfSome o (λ e. plan_of new ≡ left_after e (plan_of old)) → IfSome o (λ e. new.last ≡ Some e) →
+    IfSome o (λ e. events_left (plan_of new) new.last < events_left (plan_of old) old.last)
+some_fewer None old new w is left last = tt
+some_fewer (Some e) old new w is left last = fewer (plan_of old) (plan_of new) w old.last new.last e (sym is) left last
+
+pub some_counts : (o : Option Event) (old new : Operator) (w : WorldState) → o ≡ due (plan_of old) w old.last → IfSome o (λ e. plan_of new ≡ left_after e (plan_of old)) →
+    IfSome o (λ e. steps_in e + new.rounds ≤ old.rounds)
+some_counts None old new w is left = tt
+some_counts (Some e) old new w is left = due_counts (plan_of old) (plan_of new) w old.last e (sym is) left
+
+pub some_stepped : (o : Option Event) (last : Option Event) → IfSome o (λ e. last ≡ Some e) → IfSome o (λ e. e ≡ Step → has_stepped last ≡ true)
+some_stepped None last is = tt
+some_stepped (Some e) last is = λ step. rw (is, step) refl
+
+-- after an instruction the two completions are due, with an operator
+pub operator_completes : (old new : Operator) (w : WorldState) (p : Profile) (extent : Extent) (es : List Event) → has_stepped old.last ≡ true → plan_of new ≡ plan_of old → new.last ≡ Some PunchDone →
+    Comes operating p extent (place_of new) (completed w) es → Comes operating p extent (place_of old) w (PrinterDone ∷ PunchDone ∷ es)
+operator_completes old new w p extent es stepped left last comes =
+    let begins : old.last ≡ Some Step = step_was old.last stepped in
+    let mid = printer_done w in
+    let after : Comes operating p extent (record { plan = plan_of old; last = Some PunchDone }) (completed w) es = rw (left, last) at comes in
+    let half : Comes operating p extent (record { plan = plan_of old; last = Some PrinterDone }) mid (PunchDone ∷ es) =
+    Then (record { plan = plan_of old; last = Some PrinterDone }) mid (completed w) PunchDone es refl (device_goes mid.devices.punch.busy) refl after in
+    rw begins (Then (record { plan = plan_of old; last = Some Step }) w mid PrinterDone (PunchDone ∷ es) refl (device_goes w.devices.printer.busy) refl half)
+
+-- with an operator fewer events are left after the completions
+pub completed_fewer : (old new : Operator) → has_stepped old.last ≡ true → plan_of new ≡ plan_of old → new.last ≡ Some PunchDone → events_left (plan_of new) new.last ≤ events_left (plan_of old) old.last
+completed_fewer old new stepped left last =
+    let rounds : new.rounds ≡ old.rounds = ap (λ (q : Plan). q.rounds) left in
+    rw (rounds, last, step_was old.last stepped) (omega arith)
+
 -- Bytes that are typed one by one: these went out, and with those still to come they are all.
 pub record Typed (told now : Option (List ℕ)) (bytes : List ℕ) (from index : ℕ) : Type 0 where
   pub sent : List ℕ
@@ -472,12 +643,12 @@ typed_front told now new bytes from index byte typed within is front =
     rw (← typed_rest bytes typed.sent from index within typed.rest) (cut_of_more told new (typed.sent ++ (get_or bytes index 0 % 128) ∷ []) (map character (drop (suc index) bytes)) cut)
 
 -- What a run that came to its end leaves.
-session_whole : (options : RunOptions) (plan : Plan) (image : List (Option ℕ)) (p : Profile) (w x : WorldState) (outcome : Outcome) (status : Status) (old mid told tells : Option (List ℕ)) →
-    p ≡ options.profile → w ≡ fresh image options.start → (done : Operated p options.trace plan w outcome x old mid told tells) → status ≡ status_of outcome.end →
-    IsSessionOf options Whole plan image (traced options.trace done.ran.lines ++ summary outcome.end x outcome.steps) (printed_in x) x.devices.punch.output status
-session_whole options plan image p w x outcome status old mid told tells profile begins done is = record {
+held_whole : (comes : Profile → WorldState → Extent → List Event → Type 0) (options : RunOptions) (apart : Bool) (image : List (Option ℕ)) (p : Profile) (w x : WorldState) (outcome : Outcome) (status : Status) (old mid told tells : Option (List ℕ)) →
+    p ≡ options.profile → w ≡ fresh image options.start → (done : Operated (comes p w) p options.trace w outcome x old mid told tells) → status ≡ status_of outcome.end →
+    IsHeld comes options apart Whole image (traced options.trace done.ran.lines ++ summary_where apart Whole outcome.end x outcome.steps) (printed_in x) x.devices.punch.output status
+held_whole comes options apart image p w x outcome status old mid told tells profile begins done is = record {
   events = done.events;
-  come = let come : Comes p Whole plan None w done.events = done.come in rw (profile, begins) at come;
+  come = let come : comes p w Whole done.events = done.come Whole in rw (profile, begins) at come;
   lines = done.ran.lines;
   steps = outcome.steps;
   end = outcome.end;
@@ -489,39 +660,39 @@ session_whole options plan image p w x outcome status old mid told tells profile
   status_is = is;
 }
 
-pub attended : (options : RunOptions) (plan : Plan) (image : List (Option ℕ)) (p : Profile) (w x : WorldState) (outcome : Outcome) (status : Status) (old mid new told tells held holds : Option (List ℕ)) →
-    p ≡ options.profile → w ≡ fresh image options.start → Operated p options.trace plan w outcome x old mid told tells → Appends held holds x.devices.punch.output →
-    Appends mid new (summary outcome.end x outcome.steps) → status ≡ status_of outcome.end →
-    WritesAll (λ text printed punched. IsSessionOf options Whole plan image text printed punched status) (taken old told held) (taken new tells holds)
-attended options plan image p w x outcome status old mid new told tells held holds profile begins done punched wrote is = record {
-  text = traced options.trace done.ran.lines ++ summary outcome.end x outcome.steps;
+pub attended : (comes : Profile → WorldState → Extent → List Event → Type 0) (options : RunOptions) (apart : Bool) (image : List (Option ℕ)) (p : Profile) (w x : WorldState) (outcome : Outcome) (status : Status) (old mid new told tells held holds : Option (List ℕ)) →
+    p ≡ options.profile → w ≡ fresh image options.start → Operated (comes p w) p options.trace w outcome x old mid told tells → Appends held holds x.devices.punch.output →
+    Appends mid new (summary_where apart Whole outcome.end x outcome.steps) → status ≡ status_of outcome.end →
+    WritesAll (λ text printed punched. IsHeld comes options apart Whole image text printed punched status) (taken old told held) (taken new tells holds)
+attended comes options apart image p w x outcome status old mid new told tells held holds profile begins done punched wrote is = record {
+  text = traced options.trace done.ran.lines ++ summary_where apart Whole outcome.end x outcome.steps;
   printed = printed_in x;
   punched = x.devices.punch.output;
-  is = session_whole options plan image p w x outcome status old mid told tells profile begins done is;
-  to_report = Appends-trans old mid new (traced options.trace done.ran.lines) (summary outcome.end x outcome.steps) done.ran.wrote wrote;
+  is = held_whole comes options apart image p w x outcome status old mid told tells profile begins done is;
+  to_report = Appends-trans old mid new (traced options.trace done.ran.lines) (summary_where apart Whole outcome.end x outcome.steps) done.ran.wrote wrote;
   to_teletype = done.printed;
   to_punch = punched;
 }
 
 -- the summary failed
-pub attended_front : (options : RunOptions) (plan : Plan) (image : List (Option ℕ)) (p : Profile) (w x : WorldState) (outcome : Outcome) (reported typed unpunched : Bool) (old mid new told tells held holds : Option (List ℕ)) →
-    p ≡ options.profile → w ≡ fresh image options.start → Operated p options.trace plan w outcome x old mid told tells → Appends held holds x.devices.punch.output →
-    AppendsFront mid new (summary outcome.end x outcome.steps) → reported ≡ true → typed ≡ false → unpunched ≡ false →
-    FrontsOf (IsPartOf options reported typed plan image) (failures reported typed unpunched) (taken old told held) (taken new tells holds)
+pub attended_front : (comes : Profile → WorldState → Extent → List Event → Type 0) (options : RunOptions) (apart : Bool) (image : List (Option ℕ)) (p : Profile) (w x : WorldState) (outcome : Outcome) (reported typed unread unpunched : Bool) (old mid new told tells held holds : Option (List ℕ)) →
+    p ≡ options.profile → w ≡ fresh image options.start → Operated (comes p w) p options.trace w outcome x old mid told tells → Appends held holds x.devices.punch.output →
+    AppendsFront mid new (summary_where apart Whole outcome.end x outcome.steps) → reported ≡ true → typed ≡ false → unpunched ≡ false →
+    FrontsOf (IsPartOf comes options apart reported typed unread image) (failures reported typed unpunched) (taken old told held) (taken new tells holds)
 unfolding whole_front
-attended_front options plan image p w x outcome reported typed unpunched old mid new told tells held holds profile begins done punched front failed untyped is_punched = record {
+attended_front comes options apart image p w x outcome reported typed unread unpunched old mid new told tells held holds profile begins done punched front failed untyped is_punched = record {
   extent = Whole;
-  text = traced options.trace done.ran.lines ++ summary outcome.end x outcome.steps;
+  text = traced options.trace done.ran.lines ++ summary_where apart Whole outcome.end x outcome.steps;
   printed = printed_in x;
   punched = x.devices.punch.output;
-  is = record { summed = λ all. failed; to_output = λ no. absurd (true≢false (sym failed ∙ or_left reported typed no)); status = status_of outcome.end; is = session_whole options plan image p w x outcome (status_of outcome.end) old mid told tells profile begins done refl };
-  to_report = some_of old new (traced options.trace done.ran.lines ++ summary outcome.end x outcome.steps) (front_after old mid new (traced options.trace done.ran.lines) (summary outcome.end x outcome.steps) done.ran.wrote front);
+  is = record { summed = λ all. failed; to_there = λ no. absurd (true≢false (sym failed ∙ or_left reported typed no)); status = status_of outcome.end; is = held_whole comes options apart image p w x outcome (status_of outcome.end) old mid told tells profile begins done refl };
+  to_report = some_of old new (traced options.trace done.ran.lines ++ summary_where apart Whole outcome.end x outcome.steps) (front_after old mid new (traced options.trace done.ran.lines) (summary_where apart Whole outcome.end x outcome.steps) done.ran.wrote front);
   to_teletype = whole_front told tells (printed_in x) done.printed;
   to_punch = whole_front held holds x.devices.punch.output punched;
   report_whole = λ no. absurd (true≢false (sym failed ∙ no));
   teletype_whole = λ no. done.printed;
   punch_whole = λ no. punched;
-  report_front = λ yes. front_after old mid new (traced options.trace done.ran.lines) (summary outcome.end x outcome.steps) done.ran.wrote front;
+  report_front = λ yes. front_after old mid new (traced options.trace done.ran.lines) (summary_where apart Whole outcome.end x outcome.steps) done.ran.wrote front;
   teletype_front = λ yes. absurd (true≢false (sym yes ∙ untyped));
   punch_front = λ yes. absurd (true≢false (sym yes ∙ is_punched));
   typed_nearly = one_over (length (printed_in x));
@@ -529,36 +700,38 @@ attended_front options plan image p w x outcome reported typed unpunched old mid
   punched_before_summary = λ all. punched;
 }
 
-not_whole : (failed : Bool) → extent_after failed ≡ Whole → ⊥
-not_whole true is = let e : UpToAny ≡ Whole = is in cc
-not_whole false is = let e : UpToOutput ≡ Whole = is in cc
+not_whole : (failed unread : Bool) → extent_after failed unread ≡ Whole → ⊥
+not_whole true unread is = let e : UpToAny ≡ Whole = is in cc
+not_whole false true is = let e : UpToRead ≡ Whole = is in cc
+not_whole false false is = let e : UpToOutput ≡ Whole = is in cc
 
-no_summary : (failed : Bool) (end : End) (x : WorldState) (steps : ℕ) → summary_where (extent_after failed) end x steps ≡ []
-no_summary true end x steps = refl
-no_summary false end x steps = refl
+no_summary : (apart failed unread : Bool) (end : End) (x : WorldState) (steps : ℕ) → summary_where apart (extent_after failed unread) end x steps ≡ []
+no_summary apart true unread end x steps = refl
+no_summary apart false true end x steps = refl
+no_summary apart false false end x steps = refl
 
-pub broke_front : (options : RunOptions) (plan : Plan) (image : List (Option ℕ)) (p : Profile) (w x : WorldState) (reported typed unpunched : Bool) (old new told tells held holds : Option (List ℕ)) →
-    p ≡ options.profile → w ≡ fresh image options.start → BrokeOff p options.trace plan w x reported typed old new told tells → AppendsSome held holds x.devices.punch.output →
+pub broke_front : (comes : Profile → WorldState → Extent → List Event → Type 0) (options : RunOptions) (apart : Bool) (image : List (Option ℕ)) (p : Profile) (w x : WorldState) (reported typed unread unpunched : Bool) (old new told tells held holds : Option (List ℕ)) →
+    p ≡ options.profile → w ≡ fresh image options.start → BrokeOff (comes p w) p options.trace w x reported typed unread old new told tells → AppendsSome held holds x.devices.punch.output →
     (unpunched ≡ false → Appends held holds x.devices.punch.output) → (unpunched ≡ true → AppendsFront held holds x.devices.punch.output) →
-    FrontsOf (IsPartOf options reported typed plan image) (failures reported typed unpunched) (taken old told held) (taken new tells holds)
-broke_front options plan image p w x reported typed unpunched old new told tells held holds profile begins broke punched whole cut = record {
-  extent = extent_after (reported || typed);
+    FrontsOf (IsPartOf comes options apart reported typed unread image) (failures reported typed unpunched) (taken old told held) (taken new tells holds)
+broke_front comes options apart image p w x reported typed unread unpunched old new told tells held holds profile begins broke punched whole cut = record {
+  extent = extent_after (reported || typed) unread;
   text = traced options.trace broke.lines ++ [];
   printed = printed_in x;
   punched = x.devices.punch.output;
   is = record {
-    summed = λ all. absurd (not_whole (reported || typed) all);
-    to_output = λ no. rw no refl;
+    summed = λ all. absurd (not_whole (reported || typed) unread all);
+    to_there = λ no. rw no refl;
     status = status_of broke.end;
     is = record {
       events = broke.events;
-      come = let come : Comes p (extent_after (reported || typed)) plan None w broke.events = broke.come in rw (profile, begins) at come;
+      come = let come : comes p w (extent_after (reported || typed) unread) broke.events = broke.come in rw (profile, begins) at come;
       lines = broke.lines;
       steps = broke.steps;
       end = broke.end;
       final = x;
       follows = let follows : Follows p true broke.events w broke.lines broke.steps broke.end x = broke.follows in rw (profile, begins) at follows;
-      text_is = ap (λ (l : List ℕ). traced options.trace broke.lines ++ l) (sym (no_summary (reported || typed) broke.end x broke.steps));
+      text_is = ap (λ (l : List ℕ). traced options.trace broke.lines ++ l) (sym (no_summary apart (reported || typed) unread broke.end x broke.steps));
       printed_is = refl;
       punched_is = refl;
       status_is = refl;
@@ -574,51 +747,36 @@ broke_front options plan image p w x reported typed unpunched old new told tells
   teletype_front = broke.printed_front;
   punch_front = cut;
   typed_nearly = broke.printed_nearly;
-  typed_before_summary = λ all. absurd (not_whole (reported || typed) all);
-  punched_before_summary = λ all. absurd (not_whole (reported || typed) all);
+  typed_before_summary = λ all. absurd (not_whole (reported || typed) unread all);
+  punched_before_summary = λ all. absurd (not_whole (reported || typed) unread all);
 }
 
 -- memory was refused for the summary
-pub summary_wanting : (options : RunOptions) (plan : Plan) (image : List (Option ℕ)) (p : Profile) (w x : WorldState) (outcome : Outcome) (reported typed unpunched : Bool) (old new told tells held holds : Option (List ℕ)) →
-    p ≡ options.profile → w ≡ fresh image options.start → Operated p options.trace plan w outcome x old new told tells → Appends held holds x.devices.punch.output → (reported || typed) ≡ false → unpunched ≡ false →
-    FrontsOf (IsPartOf options reported typed plan image) (failures reported typed unpunched) (taken old told held) (taken new tells holds)
-summary_wanting options plan image p w x outcome reported typed unpunched old new told tells held holds profile begins done punched unfailed is_punched =
-    broke_front options plan image p w x reported typed unpunched old new told tells held holds profile begins (operated_broke p options.trace plan w outcome x reported typed old new told tells done unfailed)
+pub summary_wanting : (comes : Profile → WorldState → Extent → List Event → Type 0) (options : RunOptions) (apart : Bool) (image : List (Option ℕ)) (p : Profile) (w x : WorldState) (outcome : Outcome) (reported typed unread unpunched : Bool) (old new told tells held holds : Option (List ℕ)) →
+    p ≡ options.profile → w ≡ fresh image options.start → Operated (comes p w) p options.trace w outcome x old new told tells → Appends held holds x.devices.punch.output → (reported || typed) ≡ false → unpunched ≡ false →
+    FrontsOf (IsPartOf comes options apart reported typed unread image) (failures reported typed unpunched) (taken old told held) (taken new tells holds)
+summary_wanting comes options apart image p w x outcome reported typed unread unpunched old new told tells held holds profile begins done punched unfailed is_punched =
+    broke_front comes options apart image p w x reported typed unread unpunched old new told tells held holds profile begins (operated_broke (comes p w) p options.trace w outcome x reported typed unread old new told tells done unfailed)
     (whole_front held holds x.devices.punch.output punched) (λ no. punched) (λ yes. absurd (true≢false (sym yes ∙ is_punched)))
 
 -- the punch failed, whatever the run brought
-pub failed_punch : (options : RunOptions) (plan : Plan) (image : List (Option ℕ)) (p : Profile) (w x : WorldState) (ran : Result Outcome Fault) (reported typed unpunched : Bool) (old new told tells held holds : Option (List ℕ)) →
-    p ≡ options.profile → w ≡ fresh image options.start → IfOk ran (λ outcome. Operated p options.trace plan w outcome x old new told tells) → OnErr ran (BrokeOff p options.trace plan w x reported typed old new told tells) →
-    (reported || typed) ≡ fails_to_write ran → AppendsFront held holds x.devices.punch.output → unpunched ≡ true → FrontsOf (IsPartOf options reported typed plan image) (failures reported typed unpunched) (taken old told held) (taken new tells holds)
-failed_punch options plan image p w x (Ok outcome) reported typed unpunched old new told tells held holds profile begins done broke marks punched failed =
-    broke_front options plan image p w x reported typed unpunched old new told tells held holds profile begins (operated_broke p options.trace plan w outcome x reported typed old new told tells done marks)
+pub failed_punch : (comes : Profile → WorldState → Extent → List Event → Type 0) (options : RunOptions) (apart : Bool) (image : List (Option ℕ)) (p : Profile) (w x : WorldState) (ran : Result Outcome Fault) (reported typed unread unpunched : Bool) (old new told tells held holds : Option (List ℕ)) →
+    p ≡ options.profile → w ≡ fresh image options.start → IfOk ran (λ outcome. Operated (comes p w) p options.trace w outcome x old new told tells) → OnErr ran (BrokeOff (comes p w) p options.trace w x reported typed unread old new told tells) →
+    (reported || typed) ≡ fails_to_write ran → AppendsFront held holds x.devices.punch.output → unpunched ≡ true → FrontsOf (IsPartOf comes options apart reported typed unread image) (failures reported typed unpunched) (taken old told held) (taken new tells holds)
+failed_punch comes options apart image p w x (Ok outcome) reported typed unread unpunched old new told tells held holds profile begins done broke marks punched failed =
+    broke_front comes options apart image p w x reported typed unread unpunched old new told tells held holds profile begins (operated_broke (comes p w) p options.trace w outcome x reported typed unread old new told tells done marks)
     (some_of held holds x.devices.punch.output punched) (λ no. absurd (true≢false (sym failed ∙ no))) (λ yes. punched)
-failed_punch options plan image p w x (Err fault) reported typed unpunched old new told tells held holds profile begins done broke marks punched failed =
-    broke_front options plan image p w x reported typed unpunched old new told tells held holds profile begins broke (some_of held holds x.devices.punch.output punched) (λ no. absurd (true≢false (sym failed ∙ no))) (λ yes. punched)
+failed_punch comes options apart image p w x (Err fault) reported typed unread unpunched old new told tells held holds profile begins done broke marks punched failed =
+    broke_front comes options apart image p w x reported typed unread unpunched old new told tells held holds profile begins broke (some_of held holds x.devices.punch.output punched) (λ no. absurd (true≢false (sym failed ∙ no))) (λ yes. punched)
 
--- the inputs are good
-pub session_fronts : (options : SessionOptions) (tape reader keys : Option (List ℕ)) (image : List (Option ℕ)) (frames bytes : List ℕ) (plan : Plan) (failed : Failures) (old new : Taken) →
-    HasImage tape image → AreFirst options.run.rounds reader frames → AreFirst options.run.rounds keys bytes → plan ≡ plan_for options frames bytes →
-    FrontsOf (IsPartOf options.run failed.report failed.teletype plan image) failed old new → SessionFronts options failed tape reader keys old new
-session_fronts options tape reader keys image frames bytes plan failed old new has_image frames_are bytes_are is fronts = record {
+-- fronts of what one schedule brings, by another that brings the same
+pub fronts_by : (P Q : Extent → List ℕ → List ℕ → List ℕ → Type 0) (failed : Failures) (old new : Taken) → ((extent : Extent) (text printed punched : List ℕ) → P extent text printed punched → Q extent text printed punched) → FrontsOf P failed old new → FrontsOf Q failed old new
+fronts_by P Q failed old new by fronts = record {
   extent = fronts.extent;
   text = fronts.text;
   printed = fronts.printed;
   punched = fronts.punched;
-  is = record {
-    summed = fronts.is.summed;
-    to_output = fronts.is.to_output;
-    status = fronts.is.status;
-    is = record {
-      image = image;
-      has_image = has_image;
-      frames = frames;
-      frames_are = frames_are;
-      bytes = bytes;
-      bytes_are = bytes_are;
-      session = let session : IsSessionOf options.run fronts.extent plan image fronts.text fronts.printed fronts.punched fronts.is.status = fronts.is.is in rw is at session;
-    };
-  };
+  is = by fronts.extent fronts.text fronts.printed fronts.punched fronts.is;
   to_report = fronts.to_report;
   to_teletype = fronts.to_teletype;
   to_punch = fronts.to_punch;
@@ -633,19 +791,47 @@ session_fronts options tape reader keys image frames bytes plan failed old new h
   punched_before_summary = fronts.punched_before_summary;
 }
 
-pub session_part : (options : SessionOptions) (tape reader keys : Option (List ℕ)) (image : List (Option ℕ)) (frames bytes : List ℕ) (plan : Plan) (failed : Failures) (old new : Taken) →
-    HasImage tape image → AreFirst options.run.rounds reader frames → AreFirst options.run.rounds keys bytes → plan ≡ plan_for options frames bytes →
-    FrontsOf (IsPartOf options.run failed.report failed.teletype plan image) failed old new → NothingOrFronts options failed tape reader keys old new
-session_part options tape reader keys image frames bytes plan failed old new has_image frames_are bytes_are is fronts =
-    inr (session_fronts options tape reader keys image frames bytes plan failed old new has_image frames_are bytes_are is fronts)
-
-pub session_is : (options : SessionOptions) (tape reader keys : Option (List ℕ)) (image : List (Option ℕ)) (frames bytes : List ℕ) (plan : Plan) (status : Status) (old new : Taken) →
-    HasImage tape image → AreFirst options.run.rounds reader frames → AreFirst options.run.rounds keys bytes → plan ≡ plan_for options frames bytes →
-    WritesAll (λ text printed punched. IsSessionOf options.run Whole plan image text printed punched status) old new → WritesAll (IsSession options Whole tape reader keys status) old new
-session_is options tape reader keys image frames bytes plan status old new has_image frames_are bytes_are is writes = record {
+-- the same of what is written whole
+pub writes_by : (P Q : List ℕ → List ℕ → List ℕ → Type 0) (old new : Taken) → ((text printed punched : List ℕ) → P text printed punched → Q text printed punched) → WritesAll P old new → WritesAll Q old new
+writes_by P Q old new by writes = record {
   text = writes.text;
   printed = writes.printed;
   punched = writes.punched;
+  is = by writes.text writes.printed writes.punched writes.is;
+  to_report = writes.to_report;
+  to_teletype = writes.to_teletype;
+  to_punch = writes.to_punch;
+}
+
+-- what is held by what comes, by what comes otherwise too
+pub held_by : (comes brings : Profile → WorldState → Extent → List Event → Type 0) (options : RunOptions) (apart : Bool) (extent : Extent) (image : List (Option ℕ)) (text printed punched : List ℕ) (status : Status) →
+    ((p : Profile) (w : WorldState) (es : List Event) → comes p w extent es → brings p w extent es) → IsHeld comes options apart extent image text printed punched status → IsHeld brings options apart extent image text printed punched status
+held_by comes brings options apart extent image text printed punched status by held = record {
+  events = held.events;
+  come = by options.profile (fresh image options.start) held.events held.come;
+  lines = held.lines;
+  steps = held.steps;
+  end = held.end;
+  final = held.final;
+  follows = held.follows;
+  text_is = held.text_is;
+  printed_is = held.printed_is;
+  punched_is = held.punched_is;
+  status_is = held.status_is;
+}
+
+-- an operator's place that is its first
+operator_comes : (plan : Plan) (o : Operator) (extent : Extent) (p : Profile) (w : WorldState) (es : List Event) → plan_of o ≡ plan → o.last ≡ None → Comes operating p extent (place_of o) w es → comes_by plan p w extent es
+operator_comes plan o extent p w es is first comes = rw (is, first) at comes
+
+-- the inputs are good
+session_part : (options : SessionOptions) (tape reader keys : Option (List ℕ)) (image : List (Option ℕ)) (frames bytes : List ℕ) (o : Operator) (reported typed : Bool) (extent : Extent) (text printed punched : List ℕ) →
+    HasImage tape image → AreFirst options.run.rounds reader frames → AreFirst options.run.rounds keys bytes → plan_of o ≡ plan_for options frames bytes → o.last ≡ None →
+    IsPartOf (λ p w extent es. Comes operating p extent (place_of o) w es) options.run false reported typed false image extent text printed punched → IsPartOfSession options reported typed tape reader keys extent text printed punched
+session_part options tape reader keys image frames bytes o reported typed extent text printed punched has_image frames_are bytes_are is first part = record {
+  summed = part.summed;
+  to_output = part.to_there;
+  status = part.status;
   is = record {
     image = image;
     has_image = has_image;
@@ -653,12 +839,30 @@ session_is options tape reader keys image frames bytes plan status old new has_i
     frames_are = frames_are;
     bytes = bytes;
     bytes_are = bytes_are;
-    session = let session : IsSessionOf options.run Whole plan image writes.text writes.printed writes.punched status = writes.is in rw is at session;
+    session = held_by (λ p w extent es. Comes operating p extent (place_of o) w es) (comes_by (plan_for options frames bytes)) options.run false extent image text printed punched part.status
+        (λ p w es comes. operator_comes (plan_for options frames bytes) o extent p w es is first comes) part.is;
   };
-  to_report = writes.to_report;
-  to_teletype = writes.to_teletype;
-  to_punch = writes.to_punch;
 }
+
+pub session_fronts : (options : SessionOptions) (tape reader keys : Option (List ℕ)) (image : List (Option ℕ)) (frames bytes : List ℕ) (o : Operator) (failed : Failures) (old new : Taken) →
+    HasImage tape image → AreFirst options.run.rounds reader frames → AreFirst options.run.rounds keys bytes → plan_of o ≡ plan_for options frames bytes → o.last ≡ None →
+    FrontsOf (IsPartOf (λ p w extent es. Comes operating p extent (place_of o) w es) options.run false failed.report failed.teletype false image) failed old new → SessionFronts options failed tape reader keys old new
+session_fronts options tape reader keys image frames bytes o failed old new has_image frames_are bytes_are is first fronts =
+    fronts_by _ _ failed old new (λ extent text printed punched part. session_part options tape reader keys image frames bytes o failed.report failed.teletype extent text printed punched has_image frames_are bytes_are is first part) fronts
+
+pub session_is : (options : SessionOptions) (tape reader keys : Option (List ℕ)) (image : List (Option ℕ)) (frames bytes : List ℕ) (o : Operator) (status : Status) (old new : Taken) →
+    HasImage tape image → AreFirst options.run.rounds reader frames → AreFirst options.run.rounds keys bytes → plan_of o ≡ plan_for options frames bytes → o.last ≡ None →
+    WritesAll (λ text printed punched. IsHeld (λ p w extent es. Comes operating p extent (place_of o) w es) options.run false Whole image text printed punched status) old new → WritesAll (IsSession options Whole tape reader keys status) old new
+session_is options tape reader keys image frames bytes o status old new has_image frames_are bytes_are is first writes = writes_by _ _ old new (λ text printed punched held. record {
+  image = image;
+  has_image = has_image;
+  frames = frames;
+  frames_are = frames_are;
+  bytes = bytes;
+  bytes_are = bytes_are;
+  session = held_by (λ p w extent es. Comes operating p extent (place_of o) w es) (comes_by (plan_for options frames bytes)) options.run false Whole image text printed punched status
+      (λ p w es comes. operator_comes (plan_for options frames bytes) o Whole p w es is first comes) held;
+}) writes
 
 -- a line of the trace failed, or memory was refused
 pub play_front : (p : Profile) (trace : Bool) (w : WorldState) (e : Event) (x : WorldState) (old new told : Option (List ℕ)) (marked typed : Bool) →
@@ -693,78 +897,6 @@ type_front p trace w e x marked typed old new told tells happens wrote front unm
   wrote_front = λ yes. absurd (true≢false (sym yes ∙ unmarked));
   printed_front = λ yes. front;
 })
-
--- an event that carries out no instruction
-pub sat_still : (p : Profile) (trace : Bool) (plan now after : Plan) (last new_last : Option Event) (e : Event) (w x y : WorldState) (n : ℕ) (what : Seen) (old mid new told tmid tells : Option (List ℕ)) →
-    Sat p trace plan now last w x n old mid told tmid → due now x last ≡ Some e → after ≡ left_after e now → new_last ≡ Some e → Played p trace x e what y mid new tmid tells → goes_on true what ≡ true → counted what ≡ 0 →
-    Sat p trace plan after new_last w y n old new told tells
-sat_still p trace plan now after last new_last e w x y n what old mid new told tmid tells sat is left next played goes none =
-    let more : Sat p trace plan after new_last w y (n + counted what) old new told tells = sat_more p trace plan now after last new_last e w x y n what old mid new told tmid tells sat is left next played goes in
-    rw (none, add-zero n) at more
-
--- what is seen of an event that changes a device, where it is enabled
-abbrev device_seen : Bool → Seen
-device_seen enabled = if enabled then seen.Changed else seen.NotEnabled
-
-device_goes : (enabled : Bool) → goes_on true (device_seen enabled) ≡ true
-device_goes true = refl
-device_goes false = refl
-
-device_counts : (enabled : Bool) → counted (device_seen enabled) ≡ 0
-device_counts true = refl
-device_counts false = refl
-
-device_line : (p : Profile) (enabled trace : Bool) (at word : ℕ) (s : State) → traced trace (line_of p (device_seen enabled) at word s) ≡ []
-device_line p true true at word s = refl
-device_line p true false at word s = refl
-device_line p false true at word s = refl
-device_line p false false at word s = refl
-
--- such an event writes nothing, and prints nothing where the output stays
-device_played : (p : Profile) (trace : Bool) (w x : WorldState) (e : Event) (enabled : Bool) (told tells : Option (List ℕ)) →
-    Happens p w e x → seen_of p w e ≡ device_seen enabled → x.devices.printer.output ≡ w.devices.printer.output → Played p trace w e (device_seen enabled) x told told tells tells
-device_played p trace w x e enabled told tells happens is same = record {
-  happens = happens;
-  sees = sym is;
-  wrote = rw (is, device_line p enabled trace w.state.pc (word_at_pc w) x.state) (Appends-nil told);
-  printed = rw (same, drop_all (length w.devices.printer.output) w.devices.printer.output (le_refl (length w.devices.printer.output))) (Appends-nil tells);
-}
-
-output_stays : (busy : Bool) (d : Writer) → (if busy then record d { busy = false; flag = true } else d).output ≡ d.output
-output_stays true d = refl
-output_stays false d = refl
-
-abbrev printer_done : WorldState → WorldState
-printer_done w = with_devices w (record w.devices { printer = done w.devices.printer })
-
--- after an instruction the printer gets done, and the punch
-pub sat_completed : (p : Profile) (trace : Bool) (plan now : Plan) (w x : WorldState) (n : ℕ) (old new told tells : Option (List ℕ)) →
-    Sat p trace plan now (Some Step) w x n old new told tells → Sat p trace plan now (Some PunchDone) w (completed x) n old new told tells
-sat_completed p trace plan now w x n old new told tells sat =
-    let mid = printer_done x in
-    let printed : Played p trace x PrinterDone (device_seen x.devices.printer.busy) mid new new tells tells =
-    device_played p trace x mid PrinterDone x.devices.printer.busy new tells refl refl (output_stays x.devices.printer.busy x.devices.printer) in
-    let punched : Played p trace mid PunchDone (device_seen mid.devices.punch.busy) (completed x) new new tells tells =
-    device_played p trace mid (completed x) PunchDone mid.devices.punch.busy new tells refl refl refl in
-    let half : Sat p trace plan now (Some PrinterDone) w mid n old new told tells =
-    sat_still p trace plan now now (Some Step) (Some PrinterDone) PrinterDone w x mid n (device_seen x.devices.printer.busy) old new new told tells tells
-    sat refl refl refl printed (device_goes x.devices.printer.busy) (device_counts x.devices.printer.busy) in
-    sat_still p trace plan now now (Some PrinterDone) (Some PunchDone) PunchDone w mid (completed x) n (device_seen mid.devices.punch.busy) old new new told tells tells
-    half refl refl refl punched (device_goes mid.devices.punch.busy) (device_counts mid.devices.punch.busy)
-
-not_ran : (enabled : Bool) → seen.Ran ≡ device_seen enabled → ⊥
-not_ran true is = cc
-not_ran false is = cc
-
--- an instruction was carried out by a step alone
-pub ran_is_step : (p : Profile) (w : WorldState) (e : Event) → seen.Ran ≡ seen_of p w e → e ≡ Step
-ran_is_step p w Step is = refl
-ran_is_step p w (Key byte) is = absurd (not_ran true is)
-ran_is_step p w PrinterDone is = absurd (not_ran w.devices.printer.busy is)
-ran_is_step p w (ReaderDone byte) is = absurd (not_ran w.devices.reader.fetching is)
-ran_is_step p w PunchDone is = absurd (not_ran w.devices.punch.busy is)
-ran_is_step p w (Switches word) is = absurd (not_ran true is)
-ran_is_step p w Continue is = absurd (not_ran (is_some w.halted_at) is)
 
 -- where a write failed, or memory was refused, what holds of a fault holds
 pub of_failure : {T X : Type 0} (r : Result T Fault) → fails_to_write r ≡ true → OnErr r X → X

@@ -12,13 +12,18 @@ use Rattle.policy.specs.declared.watcher.Watched.{Watched}
 use Rattle.command_parts.specs.declared.status.Status.{Status}
 use Rattle.machine_commands.specs.Follows.{goes_on}
 use Rattle.machine_commands.specs.Running.{fresh}
-use Rattle.machine_commands.specs.Session.{Comes, Over, Final, Then, Whole}
+use Rattle.machine_commands.specs.Schedule.{Comes, Over, Final, Then, Place, Whole, operating, first_place}
+use Rattle.machine_commands.specs.Session.{comes_by}
 use Rattle.machine_commands.specs.WatchText.{IsSeen, IsTold, watched_status}
 use Rattle.machine_commands.specs.WatchedSession.{IsPlanWatchedSo}
 
+-- The place of an operator with this plan, after this event.
+abbrev pub place : Plan → Option Event → Place
+place plan last = record { plan = plan; last = last }
+
 -- These events came, and whatever comes further comes after them.
 pub record Gathered (p : Profile) (plan now : Plan) (last : Option Event) (w x : WorldState) (events : List Event) : Type 0 where
-  pub come : (rest : List Event) → Comes p Whole now last x rest → Comes p Whole plan None w (events ++ rest)
+  pub come : (rest : List Event) → Comes operating p Whole (place now last) x rest → comes_by plan p w Whole (events ++ rest)
 
 pub gathered_none : (p : Profile) (plan : Plan) (last : Option Event) (w : WorldState) → last ≡ None → Gathered p plan plan last w w []
 gathered_none p plan last w first = record { come = λ rest comes. rw first at comes }
@@ -29,22 +34,22 @@ pub gathered_more : (p : Profile) (plan now after : Plan) (last next : Option Ev
 gathered_more p plan now after last next w x y events e what gathered is left new happens sees goes = record {
   come = λ rest comes.
       let on : goes_on true (seen_of p x e) ≡ true = rw (← sees) goes in
-      let from : Comes p Whole (left_after e now) (Some e) y rest = rw (left, new) at comes in
-      rw (append_assoc events (e ∷ []) rest) (gathered.come (e ∷ rest) (Then now last x y e rest is on happens from));
+      let from : Comes operating p Whole (place (left_after e now) (Some e)) y rest = rw (left, new) at comes in
+      rw (append_assoc events (e ∷ []) rest) (gathered.come (e ∷ rest) (Then (place now last) x y e rest is on happens from));
 }
 
 pub gathered_last : (p : Profile) (plan now : Plan) (last : Option Event) (w x : WorldState) (events : List Event) (e : Event) (what : Seen) →
-    Gathered p plan now last w x events → due now x last ≡ Some e → what ≡ seen_of p x e → goes_on true what ≡ false → Comes p Whole plan None w (events ++ e ∷ [])
+    Gathered p plan now last w x events → due now x last ≡ Some e → what ≡ seen_of p x e → goes_on true what ≡ false → comes_by plan p w Whole (events ++ e ∷ [])
 gathered_last p plan now last w x events e what gathered is sees ends =
-    let off : goes_on true (seen_of p x e) ≡ false = rw (← sees) ends in gathered.come (e ∷ []) (Final now last x e is off)
+    let off : goes_on true (seen_of p x e) ≡ false = rw (← sees) ends in gathered.come (e ∷ []) (Final (place now last) x e is off)
 
 pub gathered_all : (p : Profile) (plan now : Plan) (last : Option Event) (w x : WorldState) (events : List Event) →
-    Gathered p plan now last w x events → due now x last ≡ None → Comes p Whole plan None w events
-gathered_all p plan now last w x events gathered is = rw (append-nil events) at (gathered.come [] (Over now last x is))
+    Gathered p plan now last w x events → due now x last ≡ None → comes_by plan p w Whole events
+gathered_all p plan now last w x events gathered is = rw (append-nil events) at (gathered.come [] (Over (place now last) x is))
 
 -- what is seen and told of the events of a plan
 pub plan_watched : (plan : Plan) (image : List (Option ℕ)) (d : Declaration) (explained : Bool) (p : Profile) (w : WorldState) (events : List Event) (watched : Watched) (told : List ℕ) (status : Status) →
-    p ≡ d.profile → w ≡ fresh image d.start → Comes p Whole plan None w events → IsSeen image d events watched → IsTold watched explained told → status ≡ watched_status watched →
+    p ≡ d.profile → w ≡ fresh image d.start → comes_by plan p w Whole events → IsSeen image d events watched → IsTold watched explained told → status ≡ watched_status watched →
     IsPlanWatchedSo plan image d explained told status
 plan_watched plan image d explained p w events watched told status profile begins come sees is status_is = record {
   events = events;

@@ -8,3 +8,8 @@ pub mod RefuteText
 pub mod Session
 pub mod SessionParts
 pub mod WatchedSession
+pub mod Schedule
+pub mod Typing
+pub mod TypingParts
+pub mod Teletype
+pub mod Cuts

@@ -1,57 +1,27 @@
 -- A run with an operator: which events come, and what is written, printed and punched.
-use Rattle.std.specs.Prelude.{ℕ, ◌≡◌, ◌+◌, ◌≤◌, ◌%◌, Bool, true, false, ◌||◌, ◌⊎◌, Option, Some, None, List, [], ◌∷◌, ◌++◌, map, take, length}
+use Rattle.std.specs.Prelude.{ℕ, ◌≡◌, ◌+◌, ◌≤◌, ◌%◌, ◌==◌, Bool, true, false, not, ◌||◌, ◌&&◌, if◌then◌else◌, ◌⊎◌, Option, List, [], ◌∷◌, ◌++◌, map, take, length}
 use Rattle.std.specs.Io.KnownBytes.{Appends}
 use Rattle.streams.specs.Bytes.{AppendsFront}
 use Rattle.instruct.specs.declared.Profile.{Profile}
 use Rattle.peripherals.specs.declared.Event.{Event}
 use Rattle.peripherals.specs.Devices.{WorldState}
-use Rattle.peripherals.specs.Events.{Happens}
-use Rattle.peripherals.specs.Operator.{Plan, due, left_after, struck_as}
-use Rattle.peripherals.specs.Seen.{puts_out, seen_of}
+use Rattle.peripherals.specs.Operator.{Plan, struck_as}
 use Rattle.machine_commands.specs.declared.follow.End.{End}
 use Rattle.machine_commands.specs.declared.follow.Outcome.{Outcome}
 use Rattle.options.specs.declared.RunOptions.{RunOptions}
 use Rattle.options.specs.declared.SessionOptions.{SessionOptions}
+use Rattle.command_parts.specs.declared.status.Fault.{Fault}
+use Rattle.command_parts.specs.declared.status.Fault.TheVariants.{Device}
+use Rattle.command_parts.specs.declared.status.DeviceFault.TheVariants.{Read}
 use Rattle.command_parts.specs.declared.status.Status.{Status}
+use Rattle.command_parts.specs.Faults.{IsRunFault}
 use Rattle.machine_commands.specs.Course.{Ran}
-use Rattle.machine_commands.specs.Follows.{Follows, goes_on}
+use Rattle.machine_commands.specs.Follows.{Follows}
 use Rattle.command_parts.specs.Inputs.{AreFirst, HasImage}
 use Rattle.machine_commands.specs.Running.{fresh, status_of}
+use Rattle.machine_commands.specs.Schedule.{Comes, Extent, Whole, UpToOutput, UpToRead, UpToAny, first_place, operating}
 use Rattle.machine_commands.specs.Summary.{summary}
 use Rattle.machine_commands.specs.Trace.{traced}
-
--- How much of a run is told: all that comes; what comes up to an event that prints or punches; or what comes up to any event.
-pub data Extent : Type 0 where
-  Whole : Extent
-  UpToOutput : Extent
-  UpToAny : Extent
-
--- The event that is due in a world prints or punches.
-pub record OutputIsDue (plan : Plan) (w : WorldState) (last : Option Event) : Type 0 where
-  pub event : Event
-  pub is_due : due plan w last ≡ Some event
-  pub puts : puts_out w event ≡ true
-
--- No more is told from here on.
-abbrev pub MayEnd : Extent → Plan → WorldState → Option Event → Type 0
-MayEnd Whole plan w last = ⊥
-MayEnd UpToOutput plan w last = OutputIsDue plan w last
-MayEnd UpToAny plan w last = Unit {0}
-
--- From a world, after the last event if there was one, these events come: each is due where it comes. They are all that
--- come in the run, or, where the run isn't told whole, the first of them.
-pub data Comes (profile : Profile) (extent : Extent) : Plan → Option Event → WorldState → List Event → Type 0 where
-  -- nothing is due any more
-  Over : (plan : Plan) (last : Option Event) (w : WorldState) → due plan w last ≡ None → Comes profile extent plan last w []
-  -- what comes further isn't told
-  Cut : (plan : Plan) (last : Option Event) (w : WorldState) → MayEnd extent plan w last → Comes profile extent plan last w []
-  -- the run ends with the event that is due: it is stuck, or the machine halts
-  Final : (plan : Plan) (last : Option Event) (w : WorldState) (e : Event) →
-      due plan w last ≡ Some e → goes_on true (seen_of profile w e) ≡ false → Comes profile extent plan last w (e ∷ [])
-  -- the event that is due happens, and the others come after it
-  Then : (plan : Plan) (last : Option Event) (w m : WorldState) (e : Event) (es : List Event) →
-      due plan w last ≡ Some e → goes_on true (seen_of profile w e) ≡ true → Happens profile w e m →
-      Comes profile extent (left_after e plan) (Some e) m es → Comes profile extent plan last w (e ∷ es)
 
 -- The character of a byte on the teletype: channel 8 is dropped.
 abbrev pub character : ℕ → ℕ
@@ -61,11 +31,10 @@ character byte = byte % 128
 abbrev pub printed_in : WorldState → List ℕ
 printed_in w = map character w.devices.printer.output
 
--- An operator's run came to its end in x: the trace, if one was asked for, and the characters that were printed were
--- appended.
-pub record Operated (profile : Profile) (trace : Bool) (plan : Plan) (w : WorldState) (outcome : Outcome) (x : WorldState) (old new told tells : Option (List ℕ)) : Type 0 where
+-- A run came to its end in x, which is told to any extent: the trace, if one was asked for, and the characters that were printed were appended.
+pub record Operated (comes : Extent → List Event → Type 0) (profile : Profile) (trace : Bool) (w : WorldState) (outcome : Outcome) (x : WorldState) (old new told tells : Option (List ℕ)) : Type 0 where
   pub events : List Event
-  pub come : Comes profile Whole plan None w events
+  pub come : (extent : Extent) → comes extent events
   pub ran : Ran profile true trace events w outcome x old new
   pub printed : Appends told tells (printed_in x)
 
@@ -75,17 +44,22 @@ pub record AppendsSome (old new : Option (List ℕ)) (piece : List ℕ) : Type 0
   pub within : count ≤ length piece
   pub out : Appends old new (take count piece)
 
--- A run may break off at any event where a write failed, and else, where memory was refused, only before an event that
--- prints or punches.
-abbrev pub extent_after : Bool → Extent
-extent_after true = UpToAny
-extent_after false = UpToOutput
+-- Where no write failed a run breaks off where a frame or a key is read, if that read failed, and else, where memory was
+-- refused, before an event that prints or punches.
+abbrev pub extent_unread : Bool → Extent
+extent_unread true = UpToRead
+extent_unread false = UpToOutput
+
+-- It may break off at any event where a write failed.
+abbrev pub extent_after : Bool → Bool → Extent
+extent_after true unread = UpToAny
+extent_after false unread = extent_unread unread
 
 -- It broke off in x after some first events: fronts of the trace and of the characters went out. All of the trace did
 -- unless the report failed, and all the characters unless the report or the teletype did; at most the last one is missing.
-pub record BrokeOff (profile : Profile) (trace : Bool) (plan : Plan) (w x : WorldState) (reported typed : Bool) (old new told tells : Option (List ℕ)) : Type 0 where
+pub record BrokeOff (comes : Extent → List Event → Type 0) (profile : Profile) (trace : Bool) (w x : WorldState) (reported typed unread : Bool) (old new told tells : Option (List ℕ)) : Type 0 where
   pub events : List Event
-  pub come : Comes profile (extent_after (reported || typed)) plan None w events
+  pub come : comes (extent_after (reported || typed) unread) events
   pub lines : List ℕ
   pub steps : ℕ
   pub end : End
@@ -98,26 +72,51 @@ pub record BrokeOff (profile : Profile) (trace : Bool) (plan : Plan) (w x : Worl
   pub printed_front : typed ≡ true → AppendsFront told tells (printed_in x)
   pub printed_nearly : length (printed_in x) ≤ printed.count + 1
 
--- The summary stands after a whole run.
-abbrev pub summary_where : Extent → End → WorldState → ℕ → List ℕ
-summary_where Whole end w steps = summary end w steps
-summary_where UpToOutput end w steps = []
-summary_where UpToAny end w steps = []
+-- Whether what was printed leaves a line open: its last character is no line feed.
+abbrev pub leaves_open : List ℕ → Bool
+leaves_open [] = false
+leaves_open (c ∷ []) = not (c == 10)
+leaves_open (c ∷ d ∷ rest) = leaves_open (d ∷ rest)
 
--- From an image the events of this plan lead to an end. The text is the trace, if one is asked for, and the summary; and
--- these are the characters printed and the bytes punched. Where the run isn't whole, this is what its first events leave.
-pub record IsSessionOf (options : RunOptions) (extent : Extent) (plan : Plan) (image : List (Option ℕ)) (text printed punched : List ℕ) (status : Status) : Type 0 where
+-- The tape is good, and a read of a frame or a key failed, a write failed, or memory was refused.
+abbrev pub IsHeldFault : Fault → Type 0
+IsHeldFault (Device Read) = Unit {0}
+IsHeldFault fault = IsRunFault fault
+
+-- What stands before a summary: a line feed, where it begins on a line of its own and what was printed leaves one open.
+abbrev pub parting : Bool → List ℕ → List ℕ
+parting apart printed = if apart && leaves_open printed then 10 ∷ [] else []
+
+-- The summary stands after a whole run, behind the end of an open line where that is wanted.
+abbrev pub summary_where : Bool → Extent → End → WorldState → ℕ → List ℕ
+summary_where apart Whole end w steps = parting apart (printed_in w) ++ summary end w steps
+summary_where apart UpToOutput end w steps = []
+summary_where apart UpToRead end w steps = []
+summary_where apart UpToAny end w steps = []
+
+-- From an image the events that come lead to an end. The text is the trace, if one is asked for, and the summary; and these are
+-- the characters printed and the bytes punched. Where the run isn't whole, this is what its first events leave.
+pub record IsHeld (comes : Profile → WorldState → Extent → List Event → Type 0) (options : RunOptions) (apart : Bool) (extent : Extent) (image : List (Option ℕ)) (text printed punched : List ℕ) (status : Status) : Type 0 where
   pub events : List Event
-  pub come : Comes options.profile extent plan None (fresh image options.start) events
+  pub come : comes options.profile (fresh image options.start) extent events
   pub lines : List ℕ
   pub steps : ℕ
   pub end : End
   pub final : WorldState
   pub follows : Follows options.profile true events (fresh image options.start) lines steps end final
-  pub text_is : text ≡ traced options.trace lines ++ summary_where extent end final steps
+  pub text_is : text ≡ traced options.trace lines ++ summary_where apart extent end final steps
   pub printed_is : printed ≡ printed_in final
   pub punched_is : punched ≡ final.devices.punch.output
   pub status_is : status ≡ status_of end
+
+-- With an operator these events come, each where it is due by the plan.
+abbrev pub comes_by : Plan → Profile → WorldState → Extent → List Event → Type 0
+comes_by plan profile w extent events = Comes operating profile extent (first_place plan) w events
+
+-- From an image the events of this plan lead to an end, with this text, these characters and bytes, and this status.
+abbrev pub IsSessionOf : RunOptions → Extent → Plan → List (Option ℕ) → List ℕ → List ℕ → List ℕ → Status → Type 0
+IsSessionOf options extent plan image text printed punched status =
+    IsHeld (comes_by plan) options false extent image text printed punched status
 
 -- The plan for these frames and keys.
 abbrev pub plan_for : SessionOptions → List ℕ → List ℕ → Plan

@@ -1,18 +1,21 @@
 -- One event of an operator's run, and what a run leaves. Private contracts alone cite this.
-use Rattle.std.specs.Prelude.{ℕ, ◌≡◌, Bool, true, false, ◌||◌, ◌⊎◌, List, Option, drop, length, map}
+use Rattle.std.specs.Prelude.{ℕ, ◌≡◌, ◌+◌, ◌*◌, Bool, true, false, ◌||◌, ◌⊎◌, List, [], ◌∷◌, Option, Some, None, drop, length, map}
 use Rattle.std.specs.Io.KnownBytes.{Appends}
 use Rattle.streams.specs.Bytes.{AppendsFront}
 use Rattle.instruct.specs.declared.Profile.{Profile}
 use Rattle.peripherals.specs.declared.Event.{Event}
-use Rattle.peripherals.specs.declared.Event.TheVariants.{Step}
+use Rattle.peripherals.specs.declared.Event.TheVariants.{Step, Key, PrinterDone, ReaderDone, PunchDone, Switches, Continue}
 use Rattle.peripherals.specs.declared.Seen.{Seen}
 use Rattle.peripherals.specs.Devices.{WorldState}
 use Rattle.peripherals.specs.Events.{Happens}
-use Rattle.peripherals.specs.Operator.{Plan}
+use Rattle.peripherals.specs.Operator.{Plan, plan_of}
+use Rattle.peripherals.specs.declared.operator.Operator.{Operator}
 use Rattle.peripherals.specs.Seen.{puts_out, seen_of}
 use Rattle.options.specs.declared.RunOptions.{RunOptions}
 use Rattle.command_parts.specs.declared.status.Status.{Status}
-use Rattle.machine_commands.specs.Session.{AppendsSome, Extent, Whole, UpToOutput, IsSessionOf, character}
+use Rattle.machine_commands.specs.Follows.{goes_on}
+use Rattle.machine_commands.specs.Schedule.{Extent, Place, Whole, UpToOutput}
+use Rattle.machine_commands.specs.Session.{AppendsSome, IsHeld, character, extent_unread}
 use Rattle.machine_commands.specs.Trace.{trace_of, traced}
 
 -- The event is a step of the machine.
@@ -54,9 +57,46 @@ abbrev pub PlayedFront : Profile → Bool → WorldState → Event → WorldStat
 PlayedFront profile trace w e x reported typed old new told tells =
     Unplayed w e x reported typed old new told tells ⊎ Faltered profile trace w e x reported typed old new told tells
 
--- What the events of a plan, or the first of them, leave; all of them with the summary, where the report failed.
-pub record IsPartOf (options : RunOptions) (reported typed : Bool) (plan : Plan) (image : List (Option ℕ)) (extent : Extent) (text printed punched : List ℕ) : Type 0 where
+-- What the events that come, or the first of them, leave; all of them with the summary, where the report failed.
+pub record IsPartOf (comes : Profile → WorldState → Extent → List Event → Type 0) (options : RunOptions) (apart reported typed unread : Bool) (image : List (Option ℕ)) (extent : Extent) (text printed punched : List ℕ) : Type 0 where
   pub summed : extent ≡ Whole → reported ≡ true
-  pub to_output : (reported || typed) ≡ false → extent ≡ UpToOutput
+  pub to_there : (reported || typed) ≡ false → extent ≡ extent_unread unread
   pub status : Status
-  pub is : IsSessionOf options extent plan image text printed punched status
+  pub is : IsHeld comes options apart extent image text printed punched status
+
+-- An instruction counts as one step.
+abbrev pub steps_in : Event → ℕ
+steps_in Step = 1
+steps_in _ = 0
+
+-- An event is due, and leads from one state of a schedule to the next: whatever comes after it comes with it, the run ends with
+-- it where it doesn't go on, and it may break off before it where it prints or punches.
+pub record IsNext {S : Type 0} (comes : S → Profile → WorldState → Extent → List Event → Type 0) (s t : S) (w : WorldState) (e : Event) : Type 0 where
+  pub on : (p : Profile) (m : WorldState) (extent : Extent) (es : List Event) →
+      goes_on true (seen_of p w e) ≡ true → Happens p w e m → comes t p m extent es → comes s p w extent (e ∷ es)
+  pub last : (p : Profile) (extent : Extent) → goes_on true (seen_of p w e) ≡ false → comes s p w extent (e ∷ [])
+  pub output : (p : Profile) → puts_out w e ≡ true → comes s p w UpToOutput []
+
+-- The last event was an instruction.
+abbrev pub has_stepped : Option Event → Bool
+has_stepped (Some Step) = true
+has_stepped _ = false
+
+-- Where an operator is.
+abbrev pub place_of : Operator → Place
+place_of o = record { plan = plan_of o; last = o.last }
+
+-- how many events may come at most in the round that has begun
+abbrev pub rank : Option Event → ℕ
+rank None = 1
+rank (Some Step) = 4
+rank (Some PrinterDone) = 3
+rank (Some PunchDone) = 2
+rank (Some (ReaderDone frame)) = 1
+rank (Some (Key key)) = 0
+rank (Some (Switches word)) = 0
+rank (Some Continue) = 0
+
+-- how many events may come at most
+abbrev pub events_left : Plan → Option Event → ℕ
+events_left plan last = plan.rounds * 5 + rank last

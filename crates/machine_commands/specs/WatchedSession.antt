@@ -1,5 +1,5 @@
 -- What `watch` writes of a run with an operator.
-use Rattle.std.specs.Prelude.{ℕ, ◌≡◌, ◌⊎◌, Bool, None, List, Option}
+use Rattle.std.specs.Prelude.{ℕ, ◌≡◌, ◌⊎◌, Bool, List, Option}
 use Rattle.peripherals.specs.declared.Event.{Event}
 use Rattle.peripherals.specs.Operator.{Plan}
 use Rattle.declaration.specs.Declaration.{Declaration}
@@ -10,14 +10,15 @@ use Rattle.command_parts.specs.declared.status.Status.{Status}
 use Rattle.command_parts.specs.Faults.{IsBytesFault, IsDeclarationInputFault, IsRunFault, IsTapeInputFault}
 use Rattle.command_parts.specs.Inputs.{AreFirst, HasDeclaration, HasImage, Input, IsGoodDeclaration, IsGoodTape}
 use Rattle.machine_commands.specs.Running.{fresh}
-use Rattle.machine_commands.specs.Session.{Comes, Whole, plan_for}
+use Rattle.machine_commands.specs.Schedule.{Whole}
+use Rattle.machine_commands.specs.Session.{comes_by, plan_for}
 use Rattle.machine_commands.specs.WatchText.{IsSeen, IsTold, watched_status}
 
 -- From an image, on the declared machine and from the declared start, all the events of this plan come, as they do in a run
 -- with an operator; this is told of what is seen of the declared run of these events.
 pub record IsPlanWatchedSo (plan : Plan) (image : List (Option ℕ)) (d : Declaration) (explained : Bool) (told : List ℕ) (status : Status) : Type 0 where
   pub events : List Event
-  pub come : Comes d.profile Whole plan None (fresh image d.start) events
+  pub come : comes_by plan d.profile (fresh image d.start) Whole events
   pub watched : Watched
   pub sees : IsSeen image d events watched
   pub is : IsTold watched explained told

@@ -3,10 +3,14 @@
 #![tactic(auto)]
 
 pub mod follow;
+mod progress;
 pub mod refuting;
 pub mod running;
+mod schedule;
 pub mod session;
 pub mod summary;
+pub mod teletype;
 mod trace;
+mod typist;
 pub mod watched_session;
 pub mod watching;

@@ -7,6 +7,7 @@ ghost use Rattle.command_parts.specs.Writes.{FrontOf, Writes, WritesNothingOr};
 ghost use Rattle.command_parts.specs.declared.status.Status.TheVariants.{Done, Refused};
 ghost use Rattle.machine_commands.specs.RefuteText.{IsToldOfWitness, IsWitnessText, WritesWitness, unbroken_text};
 
+use crate::progress::offered_by;
 use crate::watching::told_of;
 use command_parts::inputs::{declaration_from, tape_from};
 use command_parts::status::{Fault, Status};
@@ -127,6 +128,7 @@ pub fn refute<A: Allocator + Copy, R: ByteSource, D: ByteSource, W: ByteSink, P:
         &image,
         &promised,
         &events,
+        offered_by(&events),
         watched,
         options.explained,
     )?;

@@ -3,17 +3,18 @@
 ghost use Rattle.std.specs.Prelude.{◌≡◌, ◌<◌, ◌||◌, ◌⊎◌, ◌%◌, [], ◌∷◌, false, true, None, Err, drop, get_or, is_err, map, IfOk, IfErr, OnOk, OnErr};
 ghost use Rattle.std.specs.Io.KnownBytes.{Appends};
 ghost use Rattle.streams.specs.Bytes.{AppendsFront, Gave};
-ghost use Rattle.peripherals.specs.Operator.{plan_of};
 ghost use Rattle.peripherals.specs.World.{view, profile_of};
 ghost use Rattle.command_parts.specs.declared.status.Fault.TheVariants.{NoMemory};
 ghost use Rattle.command_parts.specs.Faults.{is_fault_of_tape, fails_to_read, fails_to_write, IsRunFault, IsSessionFault};
 ghost use Rattle.command_parts.specs.Inputs.{AreFirst, HasCome, TakesAtMost, TakesTape, input};
-ghost use Rattle.machine_commands.specs.Session.{BrokeOff, FrontsOf, IsSession, IsSessionOf, NothingOrFronts, Operated, SessionFronts, Whole, WritesAll, character, failures, printed_in, taken};
+ghost use Rattle.machine_commands.specs.Schedule.{Whole};
+ghost use Rattle.machine_commands.specs.Session.{BrokeOff, FrontsOf, IsHeld, IsHeldFault, IsSession, NothingOrFronts, Operated, SessionFronts, WritesAll, character, failures, taken};
 ghost use Rattle.machine_commands.specs.SessionParts.{IsPartOf, Played, PlayedFront, is_step};
 
 use crate::follow::{End, Outcome, apply_event, end_of};
 use crate::running::status_of;
-use crate::summary::summary_of;
+use crate::schedule::Scheduler;
+use crate::summary::closing_of;
 use bin_tape::Image;
 use command_parts::inputs::{bytes_from, tape_from};
 use command_parts::status::{Fault, Status};
@@ -93,64 +94,68 @@ fn character_at(bytes: &[u8], index: usize) -> [u8; 1]
 
 /// Applies one event, adds its line to the trace if one is asked for, and types what it printed.
 #[inline(always)]
-fn play<A: Allocator, W: ByteSink, T: ByteSink, P>(
+fn play<A: Allocator, W: ByteSink, T: ByteSink>(
     world: &mut World<A>,
-    out: &mut Outputs<W, T, P>,
+    report: &mut W,
+    teletype: &mut T,
     trace: bool,
     event: Event,
 ) -> Result<Seen, Fault>
-    requires writable { W.mark out.old.report ≡ false }
-    requires typable { T.mark out.old.teletype ≡ false }
+    requires writable { W.mark report.old ≡ false }
+    requires typable { T.mark teletype.old ≡ false }
     ensures played { IfOk result (λ seen.
         Played (profile_of world.old) trace (view world.old) event seen (view world.new)
-        (W.taken out.old.report) (W.taken out.new.report)
-        (T.taken out.old.teletype) (T.taken out.new.teletype)) }
+        (W.taken report.old) (W.taken report.new)
+        (T.taken teletype.old) (T.taken teletype.new)) }
     ensures front { OnErr result
         (PlayedFront (profile_of world.old) trace (view world.old) event (view world.new)
-        (W.mark out.new.report) (T.mark out.new.teletype)
-        (W.taken out.old.report) (W.taken out.new.report)
-        (T.taken out.old.teletype) (T.taken out.new.teletype)) }
+        (W.mark report.new) (T.mark teletype.new)
+        (W.taken report.old) (W.taken report.new)
+        (T.taken teletype.old) (T.taken teletype.new)) }
     ensures profile { profile_of world.new ≡ profile_of world.old }
-    ensures punch { out.new.punch ≡ out.old.punch }
     ensures faults { IfErr result IsRunFault }
-    ensures marks { W.mark out.new.report || T.mark out.new.teletype ≡ fails_to_write result }
+    ensures marks { W.mark report.new || T.mark teletype.new ≡ fails_to_write result }
 {
     let before = world.printed().len();
-    let seen = apply_event(world, &mut out.report, trace, event)?;
-    type_printed(&event, world.printed(), before, &mut out.teletype)?;
+    let seen = apply_event(world, report, trace, event)?;
+    type_printed(&event, world.printed(), before, teletype)?;
     Ok(seen)
 }
 
-/// Lets happen what an operator brings. The run ends early at a halt and at an unsupported word.
-fn operate<A: Allocator, W: ByteSink, T: ByteSink, P>(
+/// Lets happen what a schedule brings. The run ends early at a halt and at an unsupported word.
+pub(crate) fn operate<A: Allocator, S: Scheduler, W: ByteSink, T: ByteSink>(
     world: &mut World<A>,
-    operator: &mut Operator<'_>,
+    schedule: &mut S,
     trace: bool,
-    out: &mut Outputs<W, T, P>,
+    report: &mut W,
+    teletype: &mut T,
 ) -> Result<Outcome, Fault>
-    requires writable { W.mark out.old.report ≡ false }
-    requires typable { T.mark out.old.teletype ≡ false }
-    requires first { operator.old.last ≡ None }
-    requires few { (plan_of operator.old).rounds < 4294967296 }
+    requires writable { W.mark report.old ≡ false }
+    requires typable { T.mark teletype.old ≡ false }
+    requires readable { S.unread schedule.old ≡ false }
+    requires few { S.steps_to_come schedule.old < 18446744073709551616 }
     requires unprinted { (view world.old).devices.printer.output ≡ [] }
     ensures ran { IfOk result (λ outcome.
-        Operated (profile_of world.old) trace (plan_of operator.old) (view world.old) outcome
-        (view world.new) (W.taken out.old.report) (W.taken out.new.report)
-        (T.taken out.old.teletype) (T.taken out.new.teletype)) }
+        Operated (S.brings schedule.old (profile_of world.old) (view world.old))
+        (profile_of world.old) trace (view world.old) outcome
+        (view world.new) (W.taken report.old) (W.taken report.new)
+        (T.taken teletype.old) (T.taken teletype.new)) }
     ensures broke { OnErr result
-        (BrokeOff (profile_of world.old) trace (plan_of operator.old) (view world.old)
-        (view world.new) (W.mark out.new.report) (T.mark out.new.teletype) (W.taken out.old.report) (W.taken out.new.report)
-        (T.taken out.old.teletype) (T.taken out.new.teletype)) }
-    ensures punch { out.new.punch ≡ out.old.punch }
-    ensures faults { IfErr result IsRunFault }
-    ensures marks { W.mark out.new.report || T.mark out.new.teletype ≡ fails_to_write result }
+        (BrokeOff (S.brings schedule.old (profile_of world.old) (view world.old))
+        (profile_of world.old) trace (view world.old) (view world.new)
+        (W.mark report.new) (T.mark teletype.new) (S.unread schedule.new)
+        (W.taken report.old) (W.taken report.new)
+        (T.taken teletype.old) (T.taken teletype.new)) }
+    ensures faults { IfErr result IsHeldFault }
+    ensures marks { W.mark report.new || T.mark teletype.new ≡ fails_to_write result }
+    ensures reads { S.unread schedule.new ≡ fails_to_read result }
 {
     let mut steps = 0;
-    while let Some(event) = operator.next(world) {
-        match play(world, out, trace, event)? {
+    while let Some(event) = schedule.next_event(world)? {
+        match play(world, report, teletype, trace, event)? {
             Seen::Ran => {
                 steps += 1;
-                operator.complete(world);
+                schedule.complete_devices(world);
             }
             Seen::Halted => {
                 return Ok(Outcome {
@@ -174,49 +179,57 @@ fn operate<A: Allocator, W: ByteSink, T: ByteSink, P>(
     })
 }
 
-/// Shows that rounds are few.
-fn are_few(rounds: u32)
-    ensures { rounds < 4294967296 }
-{}
-
-/// Runs an image with an operator, and writes what was punched in the end, also where the run broke
-/// off, and the summary.
-fn attend<A: Allocator + Copy, W: ByteSink, T: ByteSink, P: ByteSink>(
+/// Runs an image by a schedule, and writes what was punched in the end, also where the run broke
+/// off, and the summary, on a line of its own where it is to stand apart.
+pub(crate) fn attend<A: Allocator + Copy, S: Scheduler, W: ByteSink, T: ByteSink, P: ByteSink>(
     alloc: A,
     image: &Image,
-    operator: &mut Operator<'_>,
+    schedule: &mut S,
     options: RunOptions,
+    apart: bool,
     out: &mut Outputs<W, T, P>,
 ) -> Result<Status, Fault>
     requires writable { W.mark out.old.report ≡ false }
     requires typable { T.mark out.old.teletype ≡ false }
     requires punchable { P.mark out.old.punch ≡ false }
-    requires first { operator.old.last ≡ None }
-    requires rounds { (plan_of operator.old).rounds ≡ options.rounds }
+    requires readable { S.unread schedule.old ≡ false }
+    requires few { S.steps_to_come schedule.old < 18446744073709551616 }
     ensures run { IfOk result (λ status.
         WritesAll (λ text printed punched.
-        IsSessionOf options Whole (plan_of operator.old) image.now text printed punched status)
+        IsHeld (S.brings schedule.old) options apart Whole image.now text printed punched status)
         (taken (W.taken out.old.report) (T.taken out.old.teletype) (P.taken out.old.punch))
         (taken (W.taken out.new.report) (T.taken out.new.teletype) (P.taken out.new.punch))) }
     ensures front { OnErr result (FrontsOf
-        (IsPartOf options (W.mark out.new.report) (T.mark out.new.teletype)
-        (plan_of operator.old) image.now)
+        (IsPartOf (S.brings schedule.old) options apart (W.mark out.new.report)
+        (T.mark out.new.teletype) (S.unread schedule.new) image.now)
         (failures (W.mark out.new.report) (T.mark out.new.teletype) (P.mark out.new.punch))
         (taken (W.taken out.old.report) (T.taken out.old.teletype) (P.taken out.old.punch))
         (taken (W.taken out.new.report) (T.taken out.new.teletype) (P.taken out.new.punch))) }
-    ensures faults { IfErr result IsRunFault }
+    ensures faults { IfErr result IsHeldFault }
     ensures marks { (W.mark out.new.report || T.mark out.new.teletype) || P.mark out.new.punch
         ≡ fails_to_write result }
+    ensures reads { fails_to_read result ≡ true → S.unread schedule.new ≡ true }
+    ensures read_told { S.unread schedule.new ≡ true →
+        (fails_to_read result ≡ true) ⊎ (P.mark out.new.punch ≡ true) }
 {
     let mut world = World::load(alloc, image, options.start, &Start::zero(), options.profile);
-    are_few(options.rounds);
-    let ran = operate(&mut world, operator, options.trace, out);
-    put(&mut out.punch, world.punched())?;
+    let Outputs {
+        report,
+        teletype,
+        punch,
+    } = out;
+    let ran = operate(&mut world, schedule, options.trace, report, teletype);
+    put(punch, world.punched())?;
     let outcome = ran?;
-    let text = summary_of(alloc, &outcome, &world)?;
-    put(&mut out.report, &text)?;
+    let text = closing_of(alloc, &outcome, &world, apart)?;
+    put(report, &text)?;
     Ok(status_of(outcome.end))
 }
+
+/// Shows that rounds are few.
+fn are_few(rounds: u32)
+    ensures { rounds < 18446744073709551616 }
+{}
 
 /// Runs a tape with an operator: the frames of one source are in the reader, the bytes of another
 /// are the keys, and both are read before the run, as many bytes as there are rounds. What is
@@ -318,5 +331,6 @@ pub fn run_session<
         &struck,
         options.mark,
     );
-    attend(alloc, &image, &mut operator, options.run, out)
+    are_few(options.run.rounds);
+    attend(alloc, &image, &mut operator, options.run, false, out)
 }

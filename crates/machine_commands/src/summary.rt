@@ -1,9 +1,11 @@
 //! The summary of a run.
 
-ghost use Rattle.std.specs.Prelude.{ℕ, ◌≡◌, ◌≤◌, false, ◌++◌, codes, decimal, is_err, OnOk, IfOk};
+ghost use Rattle.std.specs.Prelude.{ℕ, ◌≡◌, ◌≤◌, false, ◌++◌, codes, decimal, is_err, map, OnOk, IfOk};
 ghost use Rattle.processor.specs.Steps.{state_of};
 ghost use Rattle.peripherals.specs.World.{view};
 ghost use Rattle.command_parts.specs.LinkText.{link_text};
+ghost use Rattle.machine_commands.specs.Schedule.{Whole};
+ghost use Rattle.machine_commands.specs.Session.{character, leaves_open, summary_where};
 ghost use Rattle.machine_commands.specs.Summary.{end_text, registers_text, state_line, byte_text, bytes_text, output_line, summary};
 
 use crate::follow::{End, Outcome};
@@ -108,6 +110,20 @@ fn push_output<A: Allocator>(
     text.extend_from_slice(b"\n")
 }
 
+/// Adds the summary of a run.
+fn push_summary<A: Allocator, B: Allocator>(
+    text: &mut Vec<u8, A>,
+    outcome: &Outcome,
+    world: &World<B>,
+) -> Result<(), AllocError>
+    ensures { OnOk result (text.new.items ≡ text.old.items
+        ++ summary outcome.now.end (view world.now) outcome.now.steps) }
+{
+    push_state(text, outcome, world)?;
+    push_output(text, b"PRINTED", world.printed())?;
+    push_output(text, b"PUNCHED", world.punched())
+}
+
 /// The summary of a run.
 pub fn summary_of<A: Allocator, B: Allocator>(
     alloc: A,
@@ -118,8 +134,34 @@ pub fn summary_of<A: Allocator, B: Allocator>(
         text.items ≡ summary outcome.now.end (view world.now) outcome.now.steps) }
 {
     let mut text = Vec::new(alloc);
-    push_state(&mut text, outcome, world)?;
-    push_output(&mut text, b"PRINTED", world.printed())?;
-    push_output(&mut text, b"PUNCHED", world.punched())?;
+    push_summary(&mut text, outcome, world)?;
+    Ok(text)
+}
+
+/// Whether bytes that were printed leave a line open: the last one is no line feed.
+fn leaves_open(printed: &[u8]) -> bool
+    ensures { result ≡ leaves_open (map character printed.now) }
+{
+    match printed.last() {
+        None => false,
+        Some(byte) => *byte % 128 != b'\n',
+    }
+}
+
+/// The end of a report: the summary, on a line of its own where it is to stand apart.
+pub(crate) fn closing_of<A: Allocator, B: Allocator>(
+    alloc: A,
+    outcome: &Outcome,
+    world: &World<B>,
+    apart: bool,
+) -> Result<Vec<u8, A>, AllocError>
+    ensures { IfOk result (λ text. text.items
+        ≡ summary_where apart Whole outcome.now.end (view world.now) outcome.now.steps) }
+{
+    let mut text = Vec::new(alloc);
+    if apart && leaves_open(world.printed()) {
+        text.push(b'\n')?;
+    }
+    push_summary(&mut text, outcome, world)?;
     Ok(text)
 }

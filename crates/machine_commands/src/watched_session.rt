@@ -9,9 +9,11 @@ ghost use Rattle.command_parts.specs.Faults.{IsRunFault, is_fault_of_declaration
 ghost use Rattle.command_parts.specs.Inputs.{AreFirst, IsGoodDeclaration, IsGoodTape, TakesAtMost, TakesTape, input};
 ghost use Rattle.command_parts.specs.Writes.{FrontOf, Writes};
 ghost use Rattle.machine_commands.specs.Follows.{goes_on};
-ghost use Rattle.machine_commands.specs.Session.{Comes, Whole};
+ghost use Rattle.machine_commands.specs.Schedule.{Whole};
+ghost use Rattle.machine_commands.specs.Session.{comes_by};
 ghost use Rattle.machine_commands.specs.WatchedSession.{IsPlanWatched, IsPlanWatchedSo, IsSessionWatched, IsSessionWatchedSo, IsWatchedSessionFault};
 
+use crate::progress::Offered;
 use crate::watching::{told_of, watched_status};
 use bin_tape::Image;
 use command_parts::inputs::{bytes_from, declaration_from, tape_from};
@@ -44,8 +46,8 @@ fn events_of<A: Allocator, B: Allocator>(
     operator: &mut Operator<'_>,
 ) -> Result<Vec<Event, A>, NoMemory>
     requires first { operator.old.last ≡ None }
-    ensures come { IfOk result (λ events. Comes (profile_of world.old) Whole
-        (plan_of operator.old) None (view world.old) events.items) }
+    ensures come { IfOk result (λ events.
+        comes_by (plan_of operator.old) (profile_of world.old) (view world.old) Whole events.items) }
 {
     let mut events = Vec::new(alloc);
     while let Some(event) = operator.next(world) {
@@ -64,6 +66,7 @@ fn watch_operator<A: Allocator + Copy, D: Allocator, W: ByteSink>(
     image: &Image,
     declaration: &Declaration<D>,
     operator: &mut Operator<'_>,
+    offered: Offered,
     explained: bool,
     out: &mut W,
 ) -> Result<Status, Fault>
@@ -90,7 +93,15 @@ fn watch_operator<A: Allocator + Copy, D: Allocator, W: ByteSink>(
     );
     let happened = events_of(alloc, &mut world, operator)?;
     let watched = policy::watch(alloc, image, declaration, &start, &happened)?;
-    let text = told_of(alloc, image, declaration, &happened, watched, explained)?;
+    let text = told_of(
+        alloc,
+        image,
+        declaration,
+        &happened,
+        offered,
+        watched,
+        explained,
+    )?;
     put(out, &text)?;
     Ok(watched_status(watched))
 }
@@ -188,5 +199,17 @@ pub fn watch_session<
         &struck,
         options.mark,
     );
-    watch_operator(alloc, &image, &promised, &mut operator, explained, out)
+    let offered = Offered {
+        frames: frames.len(),
+        keys: struck.len(),
+    };
+    watch_operator(
+        alloc,
+        &image,
+        &promised,
+        &mut operator,
+        offered,
+        explained,
+        out,
+    )
 }

@@ -1,12 +1,13 @@
 //! The command that watches a run.
 
-ghost use Rattle.std.specs.Prelude.{◌≡◌, ◌||◌, ◌⊎◌, false, true, Err, IfOk, IfErr, OnErr};
+ghost use Rattle.std.specs.Prelude.{◌≡◌, ◌||◌, ◌⊎◌, false, true, Err, [], IfOk, IfErr, OnErr};
 ghost use Rattle.command_parts.specs.Faults.{IsWatchFault, is_fault_of_declaration, is_fault_of_tape, fails_to_read, fails_to_write};
 ghost use Rattle.command_parts.specs.Inputs.{HasCome, IsGoodDeclaration, IsGoodEvents, IsGoodTape, TakesAtMost, TakesTape, input};
 ghost use Rattle.machine_commands.specs.WatchText.{IsTold, IsWatched, IsWatchedSo, broken_text, watched_status, watched_text};
 ghost use Rattle.command_parts.specs.Writes.{FrontOf, Writes};
 ghost use Rattle.command_parts.specs.declared.status.Fault.TheVariants.{NoMemory as Wanted};
 
+use crate::progress::{Offered, offered_by, progress_lines};
 use bin_tape::Image;
 use command_parts::inputs::{declaration_from, events_from, tape_from};
 use command_parts::status::{Fault, Status};
@@ -45,20 +46,48 @@ fn watched_line<A: Allocator>(alloc: A, watched: Watched) -> Result<Vec<u8, A>, 
     }
 }
 
+/// The lines behind the verdict of a watched run, if it is to be explained: how far a run came that keeps
+/// the rules, and what the step is about to do that breaks one.
+fn why_of<A: Allocator + Copy, D: Allocator>(
+    alloc: A,
+    image: &Image,
+    declaration: &Declaration<D>,
+    events: &[Event],
+    offered: Offered,
+    watched: Watched,
+    explained: bool,
+) -> Result<Vec<u8, A>, NoMemory>
+    ensures { IfOk result (λ text. explained ≡ false → text.items ≡ []) }
+{
+    match watched {
+        Watched::Clean if explained => progress_lines(alloc, image, declaration, events, offered),
+        _ => breach_lines(alloc, image, declaration, events, watched, explained),
+    }
+}
+
 /// What is told of a watched run: the line that says what was seen, and behind it, if it is to be
-/// explained, what the step is about to do that breaks a rule.
+/// explained, how far the run came, or what the step is about to do that breaks a rule.
 pub(crate) fn told_of<A: Allocator + Copy, D: Allocator>(
     alloc: A,
     image: &Image,
     declaration: &Declaration<D>,
     events: &[Event],
+    offered: Offered,
     watched: Watched,
     explained: bool,
 ) -> Result<Vec<u8, A>, NoMemory>
     ensures { IfOk result (λ text. IsTold watched explained text.items) }
 {
     let mut text = watched_line(alloc, watched)?;
-    let why = breach_lines(alloc, image, declaration, events, watched, explained)?;
+    let why = why_of(
+        alloc,
+        image,
+        declaration,
+        events,
+        offered,
+        watched,
+        explained,
+    )?;
     text.extend_from_slice(&why)?;
     Ok(text)
 }
@@ -76,7 +105,8 @@ pub(crate) fn watched_status(watched: Watched) -> Status
 /// Runs a tape by a list of events, from the declared start with all registers and all cells that
 /// aren't on the tape 0, and writes whether each of its steps is legal, or which event is the first
 /// that isn't and the least rule that it breaks; then the status is `Refused`. Where it is to be
-/// explained, lines follow that say what that step is about to do, which are tested and not proved.
+/// explained, lines follow that say how far the run came, or what that step is about to do; they are
+/// tested and not proved.
 ///
 /// # Errors
 ///
@@ -144,7 +174,15 @@ pub fn watch<A: Allocator + Copy, R: ByteSource, D: ByteSource, E: ByteSource, W
     let promised = declaration_from(alloc, declaration)?;
     let happened = events_from(alloc, list)?;
     let watched = policy::watch(alloc, &image, &promised, &Start::zero(), &happened)?;
-    let text = told_of(alloc, &image, &promised, &happened, watched, explained)?;
+    let text = told_of(
+        alloc,
+        &image,
+        &promised,
+        &happened,
+        offered_by(&happened),
+        watched,
+        explained,
+    )?;
     put(out, &text)?;
     Ok(watched_status(watched))
 }

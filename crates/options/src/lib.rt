@@ -60,3 +60,26 @@ pub struct VerifyOptions {
     /// How a run that breaks the declaration is looked for.
     pub search: RefuteOptions,
 }
+
+/// How the bytes of keys are struck at the teletype.
+#[derive(Clone, Copy, PartialEq, Eq, Debug)]
+pub struct Manner {
+    /// They are struck as they come. Else a carriage return is struck for a line feed, and each key has
+    /// channel 8 set, as people type at a terminal.
+    pub raw: bool,
+    /// Each key has channel 8 set, also where the bytes are struck as they come.
+    pub mark: bool,
+}
+
+/// How a session at the teletype is held.
+#[derive(Clone, Copy, PartialEq, Eq, Debug)]
+pub struct TeletypeOptions {
+    /// The address of the first instruction.
+    pub start: Word,
+    /// Whose instructions the machine has.
+    pub profile: Profile,
+    /// What the switches are set to first, if they are.
+    pub switches: Option<Word>,
+    /// How the bytes of keys are struck.
+    pub manner: Manner,
+}

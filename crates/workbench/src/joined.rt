@@ -3,9 +3,10 @@
 ghost use Rattle.std.specs.Prelude.{◌≡◌, false, IfOk};
 
 use crate::files::{input_of, open_input};
-use command_line::{Session, WatchedSession};
+use command_line::{Session, TeletypeSession, WatchedSession};
 use commands::session::{Outputs, run_session};
 use commands::status::{DeviceFault, Fault, Status};
+use commands::teletype::{Typist, teletype};
 use commands::watched_session::watch_session;
 use either::Either;
 use std::alloc::Global;
@@ -171,4 +172,29 @@ pub fn watch_joined<R: Files + Input + Print>(
         session.explained,
         &mut out,
     )
+}
+
+/// Holds a session at the teletype: keys come from standard input, what is printed goes to standard
+/// output, and the summary to standard error. The tape is opened first, then the reader's frames, and then
+/// the punch's file is made.
+///
+/// # Errors
+///
+/// As for `teletype`, and `Device` where a file can't be opened or made.
+#[inline(never)]
+pub fn sit_down<R: Files + Input + Print + Eprint>(
+    rt: &R,
+    alloc: Global,
+    session: &TeletypeSession<'_>,
+) -> Result<Status, Fault> {
+    let mut frames = open_input(rt, session.tape)?;
+    let reader = open_input_if(rt, session.reader)?;
+    let keys = Reads::new(rt.reader());
+    let mut outputs = Outputs {
+        report: tell_to(rt),
+        teletype: Writes::new(io::writer(rt)),
+        punch: make_punch(rt, session.punch)?,
+    };
+    let mut typist = Typist::new(reader, keys, session.options);
+    teletype(alloc, &mut frames, &mut typist, &mut outputs)
 }

@@ -5,7 +5,7 @@ ghost use Rattle.std.specs.Prelude.{◌≤◌};
 use crate::faults::{bound_lines, fault_lines, omissions, stuck_address, with_omissions};
 use crate::files::{open_input, open_output};
 use crate::from_source::answer_sourced;
-use crate::joined::{hold_session, tell_to, watch_joined};
+use crate::joined::{hold_session, sit_down, tell_to, watch_joined};
 use crate::reported::report_from;
 use crate::saving::{save_answer, save_proposed};
 use crate::sources::{assemble_to, list_from};
@@ -151,6 +151,7 @@ fn answer<R: Files + Input + Print + Eprint>(
             options,
         } => run_from(rt, alloc, tape, *events, *options),
         Request::Session(session) => hold_session(rt, alloc, session),
+        Request::Teletype(session) => sit_down(rt, alloc, session),
         Request::Dump { tape, profile } => dump_from(rt, alloc, tape, *profile),
         Request::Assemble {
             out,

@@ -3,18 +3,23 @@ use Rattle.std.proofs.lemmas.Result.{on_err_weaker}
 use Rattle.peripherals.specs.Operator.{plan_of}
 use Rattle.machine_commands.specs.Session.{plan_for}
 use Rattle.machine_commands.proofs.RunLemmas.{tape_wants_none}
-use Rattle.machine_commands.proofs.SessionLemmas.{bytes_came, came_whole, of_failure, of_refusal, session_fronts, session_part}
+use Rattle.machine_commands.proofs.SessionLemmas.{bytes_came, came_whole, of_failure, of_refusal, session_fronts, session_is}
 use Rattle.machine_commands.proofs.session.run_session.Goals as goal
+
+pub returns-clause-run : goal.returns-clause-run
+returns-clause-run g c =
+    let is : plan_of c.new-operator.result ≡ plan_for c.args.options c.in_ok-frames.frames.items c.in_ok-struck.struck.items = search rules in
+    search (rules, session_is c.args.options _ _ _ c.in_ok-image.image c.in_ok-frames.frames.items c.in_ok-struck.struck.items c.new-operator.result _ _ _ c.in_ok-image.ensures.tape c.in_ok-frames.ensures.bytes c.in_ok-struck.ensures.bytes is c.new-operator.ensures.first)
 
 pub returns-clause-front : goal.returns-clause-front
 returns-clause-front g c =
     let is : plan_of c.new-operator.result ≡ plan_for c.args.options c.in_ok-frames.frames.items c.in_ok-struck.struck.items = search rules in
-    on_err_weaker c.attend.result (session_part c.args.options _ _ _ c.in_ok-image.image c.in_ok-frames.frames.items c.in_ok-struck.struck.items (plan_of c.new-operator.result) _ _ _ c.in_ok-image.ensures.tape c.in_ok-frames.ensures.bytes c.in_ok-struck.ensures.bytes is) c.attend.ensures.front
+    on_err_weaker c.attend.result (λ fronts. inr (session_fronts c.args.options _ _ _ c.in_ok-image.image c.in_ok-frames.frames.items c.in_ok-struck.struck.items c.new-operator.result _ _ _ c.in_ok-image.ensures.tape c.in_ok-frames.ensures.bytes c.in_ok-struck.ensures.bytes is c.new-operator.ensures.first fronts)) c.attend.ensures.front
 
 pub returns-clause-front_of_failure : goal.returns-clause-front_of_failure
 returns-clause-front_of_failure g c = λ failed.
     let is : plan_of c.new-operator.result ≡ plan_for c.args.options c.in_ok-frames.frames.items c.in_ok-struck.struck.items = search rules in
-    session_fronts c.args.options _ _ _ c.in_ok-image.image c.in_ok-frames.frames.items c.in_ok-struck.struck.items (plan_of c.new-operator.result) _ _ _ c.in_ok-image.ensures.tape c.in_ok-frames.ensures.bytes c.in_ok-struck.ensures.bytes is (of_failure c.attend.result failed c.attend.ensures.front)
+    session_fronts c.args.options _ _ _ c.in_ok-image.image c.in_ok-frames.frames.items c.in_ok-struck.struck.items c.new-operator.result _ _ _ c.in_ok-image.ensures.tape c.in_ok-frames.ensures.bytes c.in_ok-struck.ensures.bytes is c.new-operator.ensures.first (of_failure c.attend.result failed c.attend.ensures.front)
 
 pub returns-in_err-image-clause-broke_off : goal.returns-in_err-image-clause-broke_off
 returns-in_err-image-clause-broke_off g c = λ same. absurd (tape_wants_none _ c.tape_from.result c.tape_from.ensures.faults (search rules))
@@ -28,7 +33,7 @@ returns-in_err-struck-clause-broke_off g c = λ same. inr (inl (bytes_came _ _ c
 pub returns-clause-broke_off : goal.returns-clause-broke_off
 returns-clause-broke_off g c = λ refused.
     let is : plan_of c.new-operator.result ≡ plan_for c.args.options c.in_ok-frames.frames.items c.in_ok-struck.struck.items = search rules in
-    inr (inr (session_fronts c.args.options _ _ _ c.in_ok-image.image c.in_ok-frames.frames.items c.in_ok-struck.struck.items (plan_of c.new-operator.result) _ _ _ c.in_ok-image.ensures.tape c.in_ok-frames.ensures.bytes c.in_ok-struck.ensures.bytes is (of_refusal c.attend.result refused c.attend.ensures.front)))
+    inr (inr (session_fronts c.args.options _ _ _ c.in_ok-image.image c.in_ok-frames.frames.items c.in_ok-struck.struck.items c.new-operator.result _ _ _ c.in_ok-image.ensures.tape c.in_ok-frames.ensures.bytes c.in_ok-struck.ensures.bytes is c.new-operator.ensures.first (of_refusal c.attend.result refused c.attend.ensures.front)))
 
 pub returns-in_err-struck-clause-keys_unread : goal.returns-in_err-struck-clause-keys_unread
 returns-in_err-struck-clause-keys_unread g c = inr (came_whole _ _ _ c.in_ok-frames.frames.items c.in_ok-frames.ensures.taken c.in_ok-frames.ensures.bytes)

@@ -1,7 +1,7 @@
 use Rattle.std.proofs.Common.{◌≡◌}
 use Rattle.peripherals.specs.Operator.{plan_of}
 use Rattle.peripherals.specs.World.{view, profile_of}
-use Rattle.machine_commands.proofs.SessionLemmas.{events_left}
+use Rattle.machine_commands.specs.SessionParts.{events_left}
 use Rattle.machine_commands.proofs.WatchedSessionLemmas.{Gathered}
 use Rattle.machine_commands.proofs.watched_session.events_of.Given as goal
 

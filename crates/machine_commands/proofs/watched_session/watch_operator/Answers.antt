@@ -6,7 +6,6 @@ use Rattle.peripherals.specs.Operator.{plan_of}
 use Rattle.peripherals.specs.World.{view, profile_of}
 use Rattle.declaration.specs.Kept.{meaning}
 use Rattle.machine_commands.specs.Running.{fresh}
-use Rattle.machine_commands.specs.Session.{Comes, Whole}
 use Rattle.machine_commands.specs.WatchText.{IsSeen, watched_status}
 use Rattle.machine_commands.proofs.WatchLemmas.{is_seen}
 use Rattle.machine_commands.proofs.WatchedSessionLemmas.{plan_watched}

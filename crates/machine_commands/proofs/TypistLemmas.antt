@@ -1,0 +1,340 @@
+-- Frames and keys that are read while a session goes on.
+use Rattle.std.proofs.Common.{ℕ, zero, suc, ◌≡◌, ◌+◌, ◌*◌, ◌==◌, ◌<◌, ◌≤◌, Bool, true, false, ◌||◌, if◌then◌else◌, List, [], ◌∷◌, ◌++◌, drop, take, map, refl, sym, ◌∙◌, ap, arith, Some, None, Option, Ok, Err, Result, subst, unwrap_or, true≢false}
+use Rattle.std.specs.Prelude.{IfOk, IsTrue, OnErr, OnOk, length, slice_index}
+use Rattle.std.specs.Io.KnownBytes.{Consumes, IsAtEnd}
+use Rattle.instruct.specs.declared.Profile.{Profile}
+use Rattle.peripherals.specs.declared.Event.{Event}
+use Rattle.peripherals.specs.declared.Event.TheVariants.{Step, Key, PrinterDone, ReaderDone, PunchDone, Switches, Continue}
+use Rattle.peripherals.specs.Devices.{WorldState}
+use Rattle.peripherals.specs.Events.{Happens, completed, done, with_devices}
+use Rattle.peripherals.specs.Operator.{Plan, first_due, left_after, one_less, round_due}
+use Rattle.peripherals.specs.Seen.{puts_out, seen_of}
+use Rattle.options.specs.declared.Manner.{Manner}
+use Rattle.options.specs.declared.TeletypeOptions.{TeletypeOptions}
+use Rattle.machine_commands.specs.Follows.{goes_on}
+use Rattle.machine_commands.specs.Cuts.{some_left}
+use Rattle.machine_commands.specs.Schedule.{Comes, Over, Cut, Final, Then, Extent, UpToOutput, UpToRead}
+use Rattle.machine_commands.specs.SessionParts.{rank, steps_in}
+use Rattle.machine_commands.specs.Teletype.{AreAll}
+use Rattle.machine_commands.specs.Typing.{answer_due, asked_after, is_read, read_due, typed_as, typed_due, typing}
+use Rattle.machine_commands.specs.TypingParts.{Answered, Brought, IsLeft, Source, Types, bytes_left, frames_left, rounds_left, typed_plan}
+use Rattle.machine_commands.proofs.SessionLemmas.{device_goes, printer_done}
+
+pub or_true : (b : Bool) → b || true ≡ true
+or_true true = refl
+or_true false = refl
+
+-- a list of one
+pub one_item : (l : List ℕ) → length l ≡ 1 → l ≡ slice_index l 0 ∷ []
+one_item [] is = absurd (let no : 0 ≡ 1 = is in omega (arith, no))
+one_item (x ∷ []) is = refl
+one_item (x ∷ y ∷ l) is = absurd (omega (arith, is))
+
+-- the bytes that are left are all that a source tells
+pub all_left : (told : Option (List ℕ)) (ended : Bool) (left : List ℕ) → IsLeft told ended left → AreAll told left
+all_left None ended left is = tt
+all_left (Some bytes) ended left is = is
+
+-- a byte came
+pub byte_came : (had left : Option (List ℕ)) (ended now : Bool) (n byte : ℕ) (piece rest : List ℕ) → (n ≡ 0 → ⊥) → n ≤ 1 → piece ≡ byte ∷ [] → Consumes had left (take n piece) →
+    (ended ≡ true → n ≡ 0) → IsLeft left now rest → IsLeft had ended (byte ∷ rest)
+byte_came None left ended now n byte piece rest some few is taken stays after = λ yes. absurd (some (stays yes))
+byte_came (Some xs) None ended now n byte piece rest some few is taken stays after = absurd taken
+byte_came (Some xs) (Some ys) ended now n byte piece rest some few is taken stays after =
+    let one : n ≡ 1 = exactly n some few in
+    let all : xs ≡ byte ∷ ys = rw (one, is) at taken in
+    rw after (sym all)
+  where
+    exactly : (n : ℕ) → (n ≡ 0 → ⊥) → n ≤ 1 → n ≡ 1
+    exactly zero some few = absurd (some refl)
+    exactly (suc zero) some few = refl
+    exactly (suc (suc n)) some few = absurd (omega (arith, few))
+
+-- the end came
+pub end_came : (had left : Option (List ℕ)) (ended now : Bool) (rest : List ℕ) → Consumes had left [] → IsAtEnd left → now ≡ true → IsLeft left now rest → (rest ≡ []) × IsLeft had ended []
+end_came None None ended now rest taken at_end done after = (after done, λ yes. refl)
+end_came None (Some ys) ended now rest taken at_end done after = (after ∙ at_end, λ yes. refl)
+end_came (Some xs) None ended now rest taken at_end done after = absurd taken
+end_came (Some xs) (Some ys) ended now rest taken at_end done after = (after ∙ at_end, sym (taken ∙ at_end))
+
+-- a round takes no key and no frame
+round_bytes : (rounds : ℕ) (bytes : List ℕ) → bytes ≡ bytes_left (round_due rounds) bytes
+round_bytes zero bytes = refl
+round_bytes (suc n) bytes = refl
+
+round_frames : (rounds : ℕ) (frames : List ℕ) → frames ≡ frames_left (round_due rounds) frames
+round_frames zero frames = refl
+round_frames (suc n) frames = refl
+
+-- no key is asked for
+pub unasked : (options : TeletypeOptions) (rounds : ℕ) (keys : Source) (after : List ℕ) → IsLeft keys.told keys.ended after → Answered options false rounds keys (round_due rounds) after
+unasked options rounds keys after is = record { bytes = after; bytes_are = is; is_due = refl; rest = round_bytes rounds after }
+
+-- one is, and it came
+pub key_came : (options : TeletypeOptions) (rounds : ℕ) (keys : Source) (byte key : ℕ) (after : List ℕ) → IsLeft keys.told keys.ended (byte ∷ after) → key ≡ typed_as options.manner byte →
+    Answered options true rounds keys (Some (Key key)) after
+key_came options rounds keys byte key after is same = record { bytes = byte ∷ after; bytes_are = is; is_due = rw same refl; rest = refl }
+
+-- one is, and none is left
+pub no_key : (options : TeletypeOptions) (rounds : ℕ) (keys : Source) (after : List ℕ) → after ≡ [] → IsLeft keys.told keys.ended [] → Answered options true rounds keys None after
+no_key options rounds keys after none is = record { bytes = []; bytes_are = is; is_due = refl; rest = none }
+
+-- at the keyboard's turn no frame is taken
+answer_frames : (asked : Bool) (keys : List ℕ) (rounds : ℕ) (due : Option Event) (frames : List ℕ) → answer_due asked keys rounds ≡ due → frames ≡ frames_left due frames
+answer_frames false keys rounds due frames is = rw (← is) (round_frames rounds frames)
+answer_frames true [] rounds due frames is = rw (← is) refl
+answer_frames true (key ∷ keys) rounds due frames is = rw (← is) refl
+
+not_read : (plan : Plan) (w : WorldState) (asked : Bool) (frames : List ℕ) → w.devices.reader.fetching ≡ false → read_due plan w asked frames ≡ answer_due asked plan.keys plan.rounds
+not_read plan w asked [] waits = refl
+not_read plan w asked (frame ∷ frames) waits = rw waits refl
+
+-- at the reader's turn: it waits for nothing
+pub not_waiting : (options : TeletypeOptions) (w : WorldState) (asked : Bool) (rounds : ℕ) (reader keys : Source) (due : Option Event) (frames bytes : List ℕ) → w.devices.reader.fetching ≡ false →
+    IsLeft reader.told reader.ended frames → Answered options asked rounds keys due bytes → Brought options w asked rounds (Some PunchDone) reader keys due frames bytes
+not_waiting options w asked rounds reader keys due frames bytes waits is answered = record {
+  frames = frames;
+  bytes = answered.bytes;
+  frames_are = is;
+  bytes_are = answered.bytes_are;
+  is_due = not_read (typed_plan options rounds frames answered.bytes) w asked frames waits ∙ answered.is_due;
+  frames_rest = answer_frames asked (map (typed_as options.manner) answered.bytes) rounds due frames answered.is_due;
+  bytes_rest = answered.rest;
+}
+
+-- it waits, and no frame is left
+pub no_frame : (options : TeletypeOptions) (w : WorldState) (asked : Bool) (rounds : ℕ) (reader keys : Source) (due : Option Event) (frames bytes : List ℕ) → frames ≡ [] →
+    IsLeft reader.told reader.ended [] → Answered options asked rounds keys due bytes → Brought options w asked rounds (Some PunchDone) reader keys due frames bytes
+no_frame options w asked rounds reader keys due frames bytes none is answered = record {
+  frames = [];
+  bytes = answered.bytes;
+  frames_are = is;
+  bytes_are = answered.bytes_are;
+  is_due = answered.is_due;
+  frames_rest = none ∙ answer_frames asked (map (typed_as options.manner) answered.bytes) rounds due [] answered.is_due;
+  bytes_rest = answered.rest;
+}
+
+-- it waits, and a frame came
+pub frame_came : (options : TeletypeOptions) (w : WorldState) (asked : Bool) (rounds : ℕ) (reader keys : Source) (frame : ℕ) (frames bytes : List ℕ) → w.devices.reader.fetching ≡ true →
+    IsLeft reader.told reader.ended (frame ∷ frames) → IsLeft keys.told keys.ended bytes → Brought options w asked rounds (Some PunchDone) reader keys (Some (ReaderDone frame)) frames bytes
+frame_came options w asked rounds reader keys frame frames bytes waits is bytes_are = record {
+  frames = frame ∷ frames;
+  bytes = bytes;
+  frames_are = is;
+  bytes_are = bytes_are;
+  is_due = rw waits refl;
+  frames_rest = refl;
+  bytes_rest = refl;
+}
+
+-- after a frame it is the keyboard's turn
+pub answered_after : (options : TeletypeOptions) (w : WorldState) (asked : Bool) (rounds frame : ℕ) (reader keys : Source) (due : Option Event) (frames bytes : List ℕ) →
+    IsLeft reader.told reader.ended frames → Answered options asked rounds keys due bytes → Brought options w asked rounds (Some (ReaderDone frame)) reader keys due frames bytes
+answered_after options w asked rounds frame reader keys due frames bytes is answered = record {
+  frames = frames;
+  bytes = answered.bytes;
+  frames_are = is;
+  bytes_are = answered.bytes_are;
+  is_due = answered.is_due;
+  frames_rest = answer_frames asked (map (typed_as options.manner) answered.bytes) rounds due frames answered.is_due;
+  bytes_rest = answered.rest;
+}
+
+-- what is due without a look at a source
+pub plainly : (options : TeletypeOptions) (w : WorldState) (asked : Bool) (rounds : ℕ) (last : Option Event) (reader keys : Source) (due : Option Event) (frames bytes : List ℕ) →
+    IsLeft reader.told reader.ended frames → IsLeft keys.told keys.ended bytes → typed_due (typed_plan options rounds frames bytes) w asked last ≡ due → frames ≡ frames_left due frames → bytes ≡ bytes_left due bytes →
+    Brought options w asked rounds last reader keys due frames bytes
+plainly options w asked rounds last reader keys due frames bytes frames_are bytes_are is frames_rest bytes_rest = record {
+  frames = frames;
+  bytes = bytes;
+  frames_are = frames_are;
+  bytes_are = bytes_are;
+  is_due = is;
+  frames_rest = frames_rest;
+  bytes_rest = bytes_rest;
+}
+
+-- a round
+pub round_plainly : (options : TeletypeOptions) (w : WorldState) (asked : Bool) (rounds : ℕ) (last : Option Event) (reader keys : Source) (frames bytes : List ℕ) →
+    IsLeft reader.told reader.ended frames → IsLeft keys.told keys.ended bytes → typed_due (typed_plan options rounds frames bytes) w asked last ≡ round_due rounds →
+    Brought options w asked rounds last reader keys (round_due rounds) frames bytes
+round_plainly options w asked rounds last reader keys frames bytes frames_are bytes_are is =
+    plainly options w asked rounds last reader keys (round_due rounds) frames bytes frames_are bytes_are is (round_frames rounds frames) (round_bytes rounds bytes)
+
+map_rest : (f : ℕ → ℕ) (bytes : List ℕ) → drop 1 (map f bytes) ≡ map f (drop 1 bytes)
+map_rest f [] = refl
+map_rest f (byte ∷ bytes) = refl
+
+-- what is still to come after an event
+plan_left : (options : TeletypeOptions) (rounds : ℕ) (frames bytes : List ℕ) (e : Event) →
+    left_after e (typed_plan options rounds frames bytes) ≡ typed_plan options (rounds_left e rounds) (frames_left (Some e) frames) (bytes_left (Some e) bytes)
+plan_left options rounds frames bytes Step = refl
+plan_left options rounds frames bytes (Key key) = ap (λ (keys : List ℕ). record { switches = options.switches; rounds = rounds; frames = frames; keys = keys }) (map_rest (typed_as options.manner) bytes)
+plan_left options rounds frames bytes PrinterDone = refl
+plan_left options rounds frames bytes (ReaderDone frame) = refl
+plan_left options rounds frames bytes PunchDone = refl
+plan_left options rounds frames bytes (Switches word) = refl
+plan_left options rounds frames bytes Continue = refl
+
+-- whatever is left after it, some was before it
+abbrev pub IsBrought : TeletypeOptions → WorldState → Bool → ℕ → Option Event → Source → Source → Option Event → Source → Source → Type 0
+IsBrought options w asked rounds last reader keys due reader_after keys_after =
+    (frames bytes : List ℕ) → IsLeft reader_after.told reader_after.ended frames → IsLeft keys_after.told keys_after.ended bytes → Brought options w asked rounds last reader keys due frames bytes
+
+-- the event that is due comes, and the others after it
+pub types_on : (options : TeletypeOptions) (w m : WorldState) (asked : Bool) (rounds : ℕ) (last : Option Event) (reader keys reader_after keys_after : Source) (e : Event) (p : Profile) (extent : Extent) (es : List Event) →
+    IsBrought options w asked rounds last reader keys (Some e) reader_after keys_after → goes_on true (seen_of p w e) ≡ true → Happens p w e m →
+    Types options (asked_after asked w e) (rounds_left e rounds) (Some e) reader_after keys_after p m extent es → Types options asked rounds last reader keys p w extent (e ∷ es)
+types_on options w m asked rounds last reader keys reader_after keys_after e p extent es brought goes happens later =
+    let b = brought later.frames later.bytes later.frames_are later.bytes_are in
+    let left : left_after e (typed_plan options rounds b.frames b.bytes) ≡ typed_plan options (rounds_left e rounds) later.frames later.bytes = rw (b.frames_rest, b.bytes_rest) (plan_left options rounds b.frames b.bytes e) in
+    let come : Comes typing p extent (record { plan = typed_plan options (rounds_left e rounds) later.frames later.bytes; last = Some e; asked = asked_after asked w e }) m es = later.come in
+    record {
+      frames = b.frames;
+      bytes = b.bytes;
+      frames_are = b.frames_are;
+      bytes_are = b.bytes_are;
+      come = Then (record { plan = typed_plan options rounds b.frames b.bytes; last = last; asked = asked }) w m e es b.is_due goes happens (rw (← left) at come);
+    }
+
+pub types_last : (options : TeletypeOptions) (w : WorldState) (asked : Bool) (rounds : ℕ) (last : Option Event) (reader keys reader_after keys_after : Source) (e : Event) (p : Profile) (extent : Extent) →
+    IsBrought options w asked rounds last reader keys (Some e) reader_after keys_after → goes_on true (seen_of p w e) ≡ false → Types options asked rounds last reader keys p w extent (e ∷ [])
+types_last options w asked rounds last reader keys reader_after keys_after e p extent brought ends =
+    let frames = some_left reader_after.told reader_after.ended in
+    let bytes = some_left keys_after.told keys_after.ended in
+    let b = brought frames.0 bytes.0 frames.1 bytes.1 in
+    record {
+      frames = b.frames;
+      bytes = b.bytes;
+      frames_are = b.frames_are;
+      bytes_are = b.bytes_are;
+      come = Final (record { plan = typed_plan options rounds b.frames b.bytes; last = last; asked = asked }) w e b.is_due ends;
+    }
+
+pub types_output : (options : TeletypeOptions) (w : WorldState) (asked : Bool) (rounds : ℕ) (last : Option Event) (reader keys reader_after keys_after : Source) (e : Event) (p : Profile) →
+    IsBrought options w asked rounds last reader keys (Some e) reader_after keys_after → puts_out w e ≡ true → Types options asked rounds last reader keys p w UpToOutput []
+types_output options w asked rounds last reader keys reader_after keys_after e p brought puts =
+    let frames = some_left reader_after.told reader_after.ended in
+    let bytes = some_left keys_after.told keys_after.ended in
+    let b = brought frames.0 bytes.0 frames.1 bytes.1 in
+    record {
+      frames = b.frames;
+      bytes = b.bytes;
+      frames_are = b.frames_are;
+      bytes_are = b.bytes_are;
+      come = Cut (record { plan = typed_plan options rounds b.frames b.bytes; last = last; asked = asked }) w (record { event = e; is_due = b.is_due; puts = puts });
+    }
+
+-- nothing is due
+pub types_over : (options : TeletypeOptions) (w : WorldState) (asked : Bool) (rounds : ℕ) (last : Option Event) (reader keys reader_after keys_after : Source) (p : Profile) (extent : Extent) →
+    IsBrought options w asked rounds last reader keys None reader_after keys_after → Types options asked rounds last reader keys p w extent []
+types_over options w asked rounds last reader keys reader_after keys_after p extent brought =
+    let frames = some_left reader_after.told reader_after.ended in
+    let bytes = some_left keys_after.told keys_after.ended in
+    let b = brought frames.0 bytes.0 frames.1 bytes.1 in
+    record {
+      frames = b.frames;
+      bytes = b.bytes;
+      frames_are = b.frames_are;
+      bytes_are = b.bytes_are;
+      come = Over (record { plan = typed_plan options rounds b.frames b.bytes; last = last; asked = asked }) w b.is_due;
+    }
+
+-- a read failed
+pub types_read : (options : TeletypeOptions) (w : WorldState) (asked : Bool) (rounds : ℕ) (last : Option Event) (reader keys : Source) (p : Profile) →
+    is_read w asked last ≡ true → Types options asked rounds last reader keys p w UpToRead []
+types_read options w asked rounds last reader keys p is =
+    let frames = some_left reader.told reader.ended in
+    let bytes = some_left keys.told keys.ended in
+    record {
+      frames = frames.0;
+      bytes = bytes.0;
+      frames_are = frames.1;
+      bytes_are = bytes.1;
+      come = Cut (record { plan = typed_plan options rounds frames.0 bytes.0; last = last; asked = asked }) w is;
+    }
+
+-- after an instruction the two completions come
+pub types_complete : (options : TeletypeOptions) (w : WorldState) (asked : Bool) (rounds : ℕ) (reader keys : Source) (p : Profile) (extent : Extent) (es : List Event) →
+    Types options asked rounds (Some PunchDone) reader keys p (completed w) extent es → Types options asked rounds (Some Step) reader keys p w extent (PrinterDone ∷ PunchDone ∷ es)
+types_complete options w asked rounds reader keys p extent es later =
+    let mid = printer_done w in
+    let plan = typed_plan options rounds later.frames later.bytes in
+    let half : Comes typing p extent (record { plan = plan; last = Some PrinterDone; asked = asked }) mid (PunchDone ∷ es) =
+    Then (record { plan = plan; last = Some PrinterDone; asked = asked }) mid (completed w) PunchDone es refl (device_goes mid.devices.punch.busy) refl later.come in
+    record {
+      frames = later.frames;
+      bytes = later.bytes;
+      frames_are = later.frames_are;
+      bytes_are = later.bytes_are;
+      come = Then (record { plan = plan; last = Some Step; asked = asked }) w mid PrinterDone (PunchDone ∷ es) refl (device_goes w.devices.printer.busy) refl half;
+    }
+
+-- an event that puts nothing out happens whatever memory there is
+pub happens_anyway : {T E : Type 0} (p : Profile) (w x : WorldState) (e : Event) (r : Result T E) → OnOk r (Happens p w e x) → OnErr r (IsTrue (puts_out w e)) → puts_out w e ≡ false → Happens p w e x
+happens_anyway p w x e (Ok v) happens only none = happens
+happens_anyway p w x e (Err f) happens only none = absurd (let no : IsTrue false = rw none at only in no)
+
+-- the printer and the punch got done
+pub both_done : (p q : Profile) (w m x : WorldState) → Happens p w PrinterDone m → Happens q m PunchDone x → x ≡ completed w
+both_done p q w m x printer punch = let first : m ≡ printer_done w = printer in let second : x ≡ with_devices m (record m.devices { punch = done m.devices.punch }) = punch in rw first at second
+
+-- of what is answered well, what follows from it
+pub ok_by : {T E : Type 0} (r : Result T E) (P Q : T → Type 0) → ((v : T) → P v → Q v) → IfOk r P → IfOk r Q
+ok_by (Ok v) P Q by is = by v is
+ok_by (Err e) P Q by is = tt
+
+-- how many events may come at most
+none_is : {e : Event} → None ≡ Some e → ⊥
+none_is is = cc
+
+event_is : (e f : Event) → Some e ≡ Some f → e ≡ f
+event_is e f is = ap (λ (o : Option Event). unwrap_or o Step) is
+
+-- an event leaves fewer, and an instruction takes a round
+pub record Less (rounds : ℕ) (last : Option Event) (e : Event) : Type 0 where
+  pub fewer : rounds_left e rounds * 5 + rank (Some e) < rounds * 5 + rank last
+  pub counted : steps_in e + rounds_left e rounds ≤ rounds
+
+step_less : (n : ℕ) (last : Option Event) → Less (suc n) last Step
+step_less n last = record { fewer = omega arith; counted = omega arith }
+
+other_less : (rounds : ℕ) (last : Option Event) (e f : Event) → Some f ≡ Some e → rounds_left f rounds ≡ rounds → steps_in f ≡ 0 → rank (Some f) < rank last → Less rounds last e
+other_less rounds last e f is same none less = subst (Less rounds last) (event_is f e is) (record { fewer = rw same (omega (arith, less)); counted = rw (same, none) (omega arith) })
+
+round_less : (rounds : ℕ) (last : Option Event) (e : Event) → round_due rounds ≡ Some e → Less rounds last e
+round_less zero last e due = absurd (none_is due)
+round_less (suc n) last e due = subst (Less (suc n) last) (event_is Step e due) (step_less n last)
+
+answer_less : (asked : Bool) (keys : List ℕ) (rounds : ℕ) (last : Option Event) (e : Event) → 0 < rank last → answer_due asked keys rounds ≡ Some e → Less rounds last e
+answer_less false keys rounds last e some due = round_less rounds last e due
+answer_less true [] rounds last e some due = absurd (none_is due)
+answer_less true (key ∷ keys) rounds last e some due = other_less rounds last e (Key key) due refl refl some
+
+read_less : (plan : Plan) (w : WorldState) (asked : Bool) (frames : List ℕ) (waits : Bool) (e : Event) → w.devices.reader.fetching ≡ waits → read_due plan w asked frames ≡ Some e → Less plan.rounds (Some PunchDone) e
+read_less plan w asked [] waits e is due = answer_less asked plan.keys plan.rounds (Some PunchDone) e (omega arith) due
+read_less plan w asked (frame ∷ frames) true e is due = other_less plan.rounds (Some PunchDone) e (ReaderDone frame) (rw is at due) refl refl (omega arith)
+read_less plan w asked (frame ∷ frames) false e is due = answer_less asked plan.keys plan.rounds (Some PunchDone) e (omega arith) (rw is at due)
+
+first_less : (plan : Plan) (switches : Option ℕ) (e : Event) → first_due plan switches ≡ Some e → Less plan.rounds None e
+first_less plan None e due = round_less plan.rounds None e due
+first_less plan (Some word) e due = other_less plan.rounds None e (Switches word) due refl refl (omega arith)
+
+typed_less : (plan : Plan) (w : WorldState) (asked : Bool) (last : Option Event) (e : Event) → typed_due plan w asked last ≡ Some e → Less plan.rounds last e
+typed_less plan w asked None e is = first_less plan plan.switches e is
+typed_less plan w asked (Some Step) e is = other_less plan.rounds (Some Step) e PrinterDone is refl refl (omega arith)
+typed_less plan w asked (Some PrinterDone) e is = other_less plan.rounds (Some PrinterDone) e PunchDone is refl refl (omega arith)
+typed_less plan w asked (Some PunchDone) e is = read_less plan w asked plan.frames w.devices.reader.fetching e refl is
+typed_less plan w asked (Some (ReaderDone frame)) e is = answer_less asked plan.keys plan.rounds (Some (ReaderDone frame)) e (omega arith) is
+typed_less plan w asked (Some (Key key)) e is = round_less plan.rounds (Some (Key key)) e is
+typed_less plan w asked (Some (Switches word)) e is = round_less plan.rounds (Some (Switches word)) e is
+typed_less plan w asked (Some Continue) e is = round_less plan.rounds (Some Continue) e is
+
+pub brought_less : (options : TeletypeOptions) (w : WorldState) (asked : Bool) (rounds : ℕ) (last : Option Event) (reader keys reader_after keys_after : Source) (e : Event) →
+    IsBrought options w asked rounds last reader keys (Some e) reader_after keys_after → Less rounds last e
+brought_less options w asked rounds last reader keys reader_after keys_after e brought =
+    let frames = some_left reader_after.told reader_after.ended in
+    let bytes = some_left keys_after.told keys_after.ended in
+    let b = brought frames.0 bytes.0 frames.1 bytes.1 in
+    typed_less (typed_plan options rounds b.frames b.bytes) w asked last e b.is_due

@@ -1,0 +1,69 @@
+-- Which events come in a run: each is due where it comes, by a schedule.
+use Rattle.std.specs.Prelude.{◌≡◌, Bool, true, false, Option, Some, None, List, [], ◌∷◌}
+use Rattle.instruct.specs.declared.Profile.{Profile}
+use Rattle.peripherals.specs.declared.Event.{Event}
+use Rattle.peripherals.specs.Devices.{WorldState}
+use Rattle.peripherals.specs.Events.{Happens}
+use Rattle.peripherals.specs.Operator.{Plan, due, left_after}
+use Rattle.peripherals.specs.Seen.{puts_out, seen_of}
+use Rattle.machine_commands.specs.Follows.{goes_on}
+
+-- A schedule has states. In each it says which event is due in a world, or none where the run is over; which state comes after
+-- an event in a world; and whether a frame or a key is read there.
+pub record Schedule (S : Type 0) : Type 0 where
+  pub due : S → WorldState → Option Event
+  pub after : S → WorldState → Event → S
+  pub reads : S → WorldState → Bool
+
+-- How much of a run is told: all that comes; what comes up to an event that prints or punches; what comes up to where a frame or
+-- a key is read; or what comes up to any event.
+pub data Extent : Type 0 where
+  Whole : Extent
+  UpToOutput : Extent
+  UpToRead : Extent
+  UpToAny : Extent
+
+-- The event that is due in a world prints or punches.
+pub record OutputIsDue {S : Type 0} (schedule : Schedule S) (s : S) (w : WorldState) : Type 0 where
+  pub event : Event
+  pub is_due : schedule.due s w ≡ Some event
+  pub puts : puts_out w event ≡ true
+
+-- No more is told from here on.
+abbrev pub MayEnd : {S : Type 0} → Extent → Schedule S → S → WorldState → Type 0
+MayEnd Whole schedule s w = ⊥
+MayEnd UpToOutput schedule s w = OutputIsDue schedule s w
+MayEnd UpToRead schedule s w = schedule.reads s w ≡ true
+MayEnd UpToAny schedule s w = Unit {0}
+
+-- From a state of a schedule and a world these events come: each is due where it comes. They are all that come in the run, or,
+-- where the run isn't told whole, the first of them.
+pub data Comes {S : Type 0} (schedule : Schedule S) (profile : Profile) (extent : Extent) : S → WorldState → List Event → Type 0 where
+  -- nothing is due any more
+  Over : (s : S) (w : WorldState) → schedule.due s w ≡ None → Comes schedule profile extent s w []
+  -- what comes further isn't told
+  Cut : (s : S) (w : WorldState) → MayEnd extent schedule s w → Comes schedule profile extent s w []
+  -- the run ends with the event that is due: it is stuck, or the machine halts
+  Final : (s : S) (w : WorldState) (e : Event) →
+      schedule.due s w ≡ Some e → goes_on true (seen_of profile w e) ≡ false → Comes schedule profile extent s w (e ∷ [])
+  -- the event that is due happens, and the others come after it
+  Then : (s : S) (w m : WorldState) (e : Event) (es : List Event) →
+      schedule.due s w ≡ Some e → goes_on true (seen_of profile w e) ≡ true → Happens profile w e m →
+      Comes schedule profile extent (schedule.after s w e) m es → Comes schedule profile extent s w (e ∷ es)
+
+-- Where an operator is: what is still to come, and the last event if there was one.
+pub record Place : Type 0 where
+  pub plan : Plan
+  pub last : Option Event
+
+-- An operator's schedule. All frames and keys are there before the run, so none is read in it.
+abbrev pub operating : Schedule Place
+operating = record {
+  due = λ s w. due s.plan w s.last;
+  after = λ s w e. record { plan = left_after e s.plan; last = Some e };
+  reads = λ s w. false;
+}
+
+-- An operator with this plan, before anything came.
+abbrev pub first_place : Plan → Place
+first_place plan = record { plan = plan; last = None }

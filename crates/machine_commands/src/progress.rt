@@ -1,0 +1,165 @@
+//! The lines that say how far a watched run came. They are tested and not proved.
+
+use bin_tape::Image;
+use command_parts::text::push_place;
+use declaration::Declaration;
+use instruct::target;
+use itoa::Buffer;
+use peripherals::{Event, NoMemory, Panel, Seen, Start, World};
+use processor::Cpu;
+use std::alloc::{AllocError, Allocator};
+use word12::Word;
+
+/// What there was to come for a run.
+#[derive(Clone, Copy)]
+pub(crate) struct Offered {
+    /// The frames in the reader.
+    pub frames: usize,
+    /// The keys to strike.
+    pub keys: usize,
+}
+
+/// How far a run came.
+#[derive(Clone, Copy)]
+struct Progress {
+    steps: usize,
+    frames: usize,
+    keys: usize,
+}
+
+impl Progress {
+    /// Counts an event by what was seen of it.
+    fn count(&mut self, event: &Event, seen: &Seen) {
+        match event {
+            Event::Step => {
+                if matches!(seen, Seen::Ran | Seen::Halted) {
+                    self.steps = self.steps.saturating_add(1);
+                }
+            }
+            Event::ReaderDone(_) => {
+                if matches!(seen, Seen::Changed) {
+                    self.frames = self.frames.saturating_add(1);
+                }
+            }
+            Event::Key(_) => self.keys = self.keys.saturating_add(1),
+            _ => {}
+        }
+    }
+}
+
+/// How many frames and keys a list of events has.
+pub(crate) fn offered_by(events: &[Event]) -> Offered {
+    let mut offered = Offered { frames: 0, keys: 0 };
+    for event in events {
+        match event {
+            Event::ReaderDone(_) => offered.frames = offered.frames.saturating_add(1),
+            Event::Key(_) => offered.keys = offered.keys.saturating_add(1),
+            _ => {}
+        }
+    }
+    offered
+}
+
+/// Where the word at an address jumps to, if it is a direct JMP.
+fn jump_from(cpu: &Cpu, at: Word) -> Option<Word> {
+    let word = cpu.memory.get(at);
+    if word.value() >> 8 == 0o12 {
+        Some(target(word, at))
+    } else {
+        None
+    }
+}
+
+/// The device whose flag a word asks for, where that is clear; else nothing.
+fn awaited(panel: &Panel, word: Word) -> &'static [u8] {
+    match word.value() {
+        0o6011 if !panel.reader.flag => b"reader",
+        0o6021 if !panel.punch.flag => b"punch",
+        0o6031 if !panel.keyboard.flag => b"keyboard",
+        0o6041 if !panel.printer.flag => b"printer",
+        _ => b"",
+    }
+}
+
+/// Adds where a run stands: at which HLT, or where it waits and for which device, or at which address.
+fn push_standing<A: Allocator, B: Allocator>(
+    text: &mut Vec<u8, A>,
+    world: &World<B>,
+) -> Result<(), AllocError> {
+    if let Some(at) = world.halted_at() {
+        push_place(text, b"halted at ", at)?;
+        return text.extend_from_slice(b"\n");
+    }
+    let cpu = world.cpu();
+    let at = jump_from(cpu, cpu.pc).unwrap_or(cpu.pc);
+    let device = match jump_from(cpu, at.add(Word::from_index(1))) {
+        Some(back) if back == at => awaited(&world.panel(), cpu.memory.get(at)),
+        _ => b"",
+    };
+    if device.is_empty() {
+        push_place(text, b"stands at ", cpu.pc)?;
+    } else {
+        push_place(text, b"waits at ", at)?;
+        text.extend_from_slice(b", for the ")?;
+        text.extend_from_slice(device)?;
+    }
+    text.extend_from_slice(b"\n")
+}
+
+/// Adds a name and a count.
+fn push_count<A: Allocator>(
+    text: &mut Vec<u8, A>,
+    name: &[u8],
+    count: usize,
+) -> Result<(), AllocError> {
+    text.extend_from_slice(name)?;
+    text.extend_from_slice(Buffer::new().format(count).as_bytes())
+}
+
+/// Adds how far a run came, and where it stands.
+fn push_progress<A: Allocator, B: Allocator>(
+    text: &mut Vec<u8, A>,
+    world: &World<B>,
+    came: &Progress,
+    offered: Offered,
+) -> Result<(), AllocError> {
+    push_count(text, b"steps ", came.steps)?;
+    push_count(text, b", frames read ", came.frames)?;
+    push_count(text, b" of ", offered.frames)?;
+    push_count(text, b", keys struck ", came.keys)?;
+    push_count(text, b" of ", offered.keys)?;
+    push_count(text, b", bytes printed ", world.printed().len())?;
+    push_count(text, b", bytes punched ", world.punched().len())?;
+    text.extend_from_slice(b"\n")?;
+    push_standing(text, world)
+}
+
+/// How far the declared run of some events came.
+pub(crate) fn progress_lines<A: Allocator + Copy, D: Allocator>(
+    alloc: A,
+    image: &Image,
+    declaration: &Declaration<D>,
+    events: &[Event],
+    offered: Offered,
+) -> Result<Vec<u8, A>, NoMemory> {
+    let start = Start::zero();
+    let mut world = World::load(
+        alloc,
+        image,
+        declaration.start(),
+        &start,
+        declaration.profile(),
+    );
+    let mut came = Progress {
+        steps: 0,
+        frames: 0,
+        keys: 0,
+    };
+    for event in events {
+        let seen = world.apply(*event)?;
+        came.count(event, &seen);
+    }
+    let mut text = Vec::new(alloc);
+    push_progress(&mut text, &world, &came, offered)?;
+    Ok(text)
+}

@@ -1,0 +1,101 @@
+//! The command that holds a session at the teletype.
+
+ghost use Rattle.std.specs.Prelude.{◌≡◌, ◌||◌, ◌⊎◌, false, true, Err, IfOk, IfErr, OnErr};
+ghost use Rattle.command_parts.specs.declared.status.Fault.TheVariants.{NoMemory};
+ghost use Rattle.command_parts.specs.Faults.{is_fault_of_tape, fails_to_read, fails_to_write};
+ghost use Rattle.command_parts.specs.Inputs.{TakesTape, input};
+ghost use Rattle.machine_commands.specs.Schedule.{Whole};
+ghost use Rattle.machine_commands.specs.Session.{WritesAll, failures, taken};
+ghost use Rattle.machine_commands.specs.Teletype.{IsTyped, IsTypedFault, TypedFronts, run_of};
+
+pub use crate::session::Outputs;
+use crate::session::attend;
+pub use crate::typist::{Manner, TeletypeOptions, Typist};
+use command_parts::inputs::tape_from;
+use command_parts::status::{Fault, Status};
+use options::RunOptions;
+use std::alloc::Allocator;
+use streams::{ByteSink, ByteSource};
+
+/// How the tape of a session is run.
+fn run_of(options: TeletypeOptions) -> RunOptions
+    ensures { result ≡ run_of options }
+{
+    RunOptions {
+        start: options.start,
+        rounds: 0,
+        trace: false,
+        profile: options.profile,
+    }
+}
+
+/// Runs a tape with somebody at the teletype. A key is struck in a round whose instruction asked for one:
+/// a KSF that found the keyboard's flag clear. Each frame and each key is read when it is due, and what
+/// was printed until then is typed before it. What is punched is written when the session is over, also
+/// where it broke off, and then the summary, on a line of its own. The session ends early at a halt, at an
+/// unsupported word, and where a key is asked for and none is left.
+///
+/// # Errors
+///
+/// The tape's fault; `Device` where a read failed, or a write, after which a front went out of what
+/// was to be reported, typed and punched; `NoMemory`.
+pub fn teletype<
+    A: Allocator + Copy,
+    R: ByteSource,
+    F: ByteSource,
+    K: ByteSource,
+    W: ByteSink,
+    T: ByteSink,
+    P: ByteSink,
+>(
+    alloc: A,
+    tape: &mut R,
+    typist: &mut Typist<F, K>,
+    out: &mut Outputs<W, T, P>,
+) -> Result<Status, Fault>
+    requires readable { R.mark tape.old ≡ false }
+    requires reader_readable { F.mark typist.old.reader ≡ false }
+    requires keys_readable { K.mark typist.old.keys ≡ false }
+    requires writable { W.mark out.old.report ≡ false }
+    requires typable { T.mark out.old.teletype ≡ false }
+    requires punchable { P.mark out.old.punch ≡ false }
+    // What is written, typed and punched is that of the run of the events that come.
+    ensures run { IfOk result (λ status.
+        WritesAll (IsTyped typist.old.options Whole (R.remaining tape.old)
+        (F.remaining typist.old.reader) (K.remaining typist.old.keys) status)
+        (taken (W.taken out.old.report) (T.taken out.old.teletype) (P.taken out.old.punch))
+        (taken (W.taken out.new.report) (T.taken out.new.teletype) (P.taken out.new.punch))) }
+    ensures faults { IfErr result (IsTypedFault
+        (input (R.mark tape.new) (R.remaining tape.old) (R.remaining tape.new))) }
+    // After a fault of a good tape fronts of what the first events leave went out, and all of it where
+    // no write failed: also where a read of a frame or a key failed, what was printed before is typed, and
+    // what was punched before is written.
+    ensures front { IfErr result (λ fault. (is_fault_of_tape fault ≡ true) ⊎ ((R.mark tape.new ≡ true)
+        ⊎ TypedFronts typist.old.options
+        (failures (W.mark out.new.report) (T.mark out.new.teletype) (P.mark out.new.punch))
+        (F.mark typist.new.reader || K.mark typist.new.keys)
+        (R.remaining tape.old) (F.remaining typist.old.reader) (K.remaining typist.old.keys)
+        (taken (W.taken out.old.report) (T.taken out.old.teletype) (P.taken out.old.punch))
+        (taken (W.taken out.new.report) (T.taken out.new.teletype) (P.taken out.new.punch)))) }
+    // Nothing is written where the tape is refused or a read of it failed, and no frame or key is read.
+    ensures nothing { IfErr result (λ fault. is_fault_of_tape fault ≡ true → out.new ≡ out.old) }
+    ensures nothing_after_failure { R.mark tape.new ≡ true → out.new ≡ out.old }
+    ensures unread { IfErr result (λ fault. is_fault_of_tape fault ≡ true →
+        typist.new ≡ typist.old) }
+    ensures unread_after_failure { R.mark tape.new ≡ true → typist.new ≡ typist.old }
+    // A write failed exactly where the answer says so; where it says that a read failed one did, and a read
+    // that failed is told unless what was punched couldn't be written after it.
+    ensures marks { (W.mark out.new.report || T.mark out.new.teletype) || P.mark out.new.punch
+        ≡ fails_to_write result }
+    ensures reads { fails_to_read result ≡ true →
+        (R.mark tape.new || (F.mark typist.new.reader || K.mark typist.new.keys)) ≡ true }
+    ensures read_told { (R.mark tape.new || (F.mark typist.new.reader || K.mark typist.new.keys)) ≡ true →
+        (fails_to_read result ≡ true) ⊎ (P.mark out.new.punch ≡ true) }
+    // The tape is not read past its limit.
+    ensures takes_tape { TakesTape (R.remaining tape.old) (R.remaining tape.new) }
+{
+    let image = tape_from(tape)?;
+    let options = run_of(typist.options());
+    typist.begin();
+    attend(alloc, &image, typist, options, true, out)
+}

@@ -1,0 +1,162 @@
+#!/usr/bin/env python3
+"""Sits at the teletype as a person does: starts `pdp8 teletype` in a terminal of tmux, sends keys and reads the screen; and at a
+pseudo-terminal as the other end of a line, by socat, where it is installed.
+
+usage: tests/teletype.py PDP8    PDP8 is the built program; names what went otherwise, exit status 1 where anything did
+
+The programs are those of tests/cases/teletype.md: the game `guess`, which answers each line, and the line editor `edit`, which
+takes a key back at a rubout; and examples/echo. No gate runs this: it wants tmux, and waits for screens.
+"""
+import contextlib
+import os
+import shutil
+import subprocess
+import sys
+import tempfile
+import time
+
+from cases import TOP, blocks_of
+
+SECONDS = 20
+
+
+def programs(pdp8, folder):
+    """Assembles the programs into the folder."""
+    with open(os.path.join(TOP, 'tests', 'cases', 'teletype.md'), encoding='utf-8') as file:
+        sources = {block.name: '\n'.join(block.lines) + '\n' for block in blocks_of(file.read()) if block.kind == 'file'}
+    with open(os.path.join(TOP, 'examples', 'echo.pal'), encoding='utf-8') as file:
+        sources['echo.pal'] = file.read()
+    for name in ('guess', 'edit', 'echo'):
+        with open(os.path.join(folder, f'{name}.pal'), 'w', encoding='utf-8') as file:
+            file.write(sources[f'{name}.pal'])
+        subprocess.run([pdp8, 'assemble', f'{name}.bin', f'{name}.pal'], cwd=folder, check=True)
+
+
+class Terminal:
+    """A terminal of tmux in which a command of the shell runs, and then says that it is over."""
+
+    def __init__(self, folder, command):
+        self.socket = os.path.join(tempfile.mkdtemp(dir=folder), 'tmux')
+        self.tmux('-f', '/dev/null', 'new-session', '-d', '-x', '80', '-y', '24', '-c', folder, f'sh -c "{command}; echo OVER; cat"')
+
+    def tmux(self, *words):
+        return subprocess.run(['tmux', '-S', self.socket, *words], stdout=subprocess.PIPE, check=True, text=True).stdout
+
+    def screen(self):
+        """The lines of the screen, up to the last that isn't empty."""
+        return self.tmux('capture-pane', '-p').rstrip('\n').split('\n')
+
+    def send(self, *keys):
+        self.tmux('send-keys', *keys)
+
+    def shows(self, lines):
+        """Waits until the screen begins with these lines, and says what it shows if it never does."""
+        until = time.monotonic() + SECONDS
+        while time.monotonic() < until:
+            if self.screen()[:len(lines)] == lines:
+                return None
+            time.sleep(0.05)
+        return self.screen()
+
+    def close(self):
+        with contextlib.suppress(subprocess.CalledProcessError):
+            self.tmux('kill-server')
+
+
+def play(folder, pdp8, command, script):
+    """Sends keys to a command, each of which the screen has to answer before the next is sent; names the first that it doesn't."""
+    terminal = Terminal(folder, command.replace('pdp8', pdp8))
+    try:
+        shown = []
+        for keys, lines in script:
+            if keys:
+                terminal.send(*keys)
+            shown = lines(shown) if callable(lines) else lines
+            seen = terminal.shows(shown)
+            if seen is not None:
+                return f'{command}: after the keys {keys} the screen should begin with {shown}, and shows {seen}'
+    finally:
+        terminal.close()
+    return None
+
+
+# The terminal gives a line at a time, and shows what is typed; the program types it again.
+GUESSING = [
+    ((), ['GUESS?']),
+    (('100', 'Enter'), ['GUESS? 100', '100', 'HIGH', 'GUESS?']),
+    (('17', 'Enter'), ['GUESS? 100', '100', 'HIGH', 'GUESS? 17', '17', 'LOW', 'GUESS?']),
+    (('42', 'Enter'), ['GUESS? 100', '100', 'HIGH', 'GUESS? 17', '17', 'LOW', 'GUESS? 42', '42', 'RIGHT', 'OVER']),
+]
+# The terminal gives each key, and shows none.
+EDITING = [
+    (('H',), ['H']),
+    (('E',), ['HE']),
+    (('X',), ['HEX']),
+    (('BSpace',), ['HEX\\']),
+    (('L', 'L', 'O'), ['HEX\\LLO']),
+    (('Enter',), ['HEX\\LLO', 'HELLO']),
+    (('BSpace', 'A', 'Enter'), ['HEX\\LLO', 'HELLO', 'A', 'A']),
+    (('Enter',), ['HEX\\LLO', 'HELLO', 'A', 'A', '', 'OVER']),
+]
+ECHOING = [
+    (('A',), ['A']),
+    (('B', 'C'), ['ABC']),
+]
+
+
+def at_a_terminal(folder, pdp8):
+    return [
+        play(folder, pdp8, 'pdp8 teletype guess.bin --switches 42 2>/dev/null', GUESSING),
+        play(folder, pdp8, 'stty -icanon -echo; pdp8 teletype edit.bin 2>/dev/null', EDITING),
+        play(folder, pdp8, 'stty raw -echo; pdp8 teletype echo.bin 2>/dev/null', ECHOING),
+    ]
+
+
+def read_until(line, wanted):
+    """What comes of a line, up to as many bytes as are wanted or until nothing comes."""
+    found = b''
+    until = time.monotonic() + SECONDS
+    while len(found) < len(wanted) and time.monotonic() < until:
+        with contextlib.suppress(BlockingIOError):
+            found += os.read(line, len(wanted) - len(found))
+        time.sleep(0.02)
+    return found
+
+
+def on_a_line(folder, pdp8):
+    """A session as the other end of a pseudo-terminal."""
+    if not shutil.which('socat'):
+        print('teletype: socat is not installed, so no line was tried')
+        return []
+    name = os.path.join(folder, 'line')
+    socat = subprocess.Popen(['socat', f'PTY,link={name},raw,echo=0,wait-slave', f'SYSTEM:{pdp8} teletype echo.bin --raw --mark 2>told'], cwd=folder)
+    try:
+        until = time.monotonic() + SECONDS
+        while not os.path.exists(name) and time.monotonic() < until:
+            time.sleep(0.05)
+        line = os.open(name, os.O_RDWR | os.O_NOCTTY | os.O_NONBLOCK)
+        said = [read_until(line, b'\0')]
+        for byte in (b'H', b'I', b'\r'):
+            os.write(line, byte)
+            said.append(read_until(line, byte))
+        os.close(line)
+        wanted = [b'\0', b'H', b'I', b'\r']
+        return [] if said == wanted else [f'echo on a line should say {wanted}, and said {said}']
+    finally:
+        socat.terminate()
+        socat.wait()
+
+
+def main():
+    if len(sys.argv) != 2:
+        sys.exit(__doc__)
+    pdp8 = os.path.abspath(sys.argv[1])
+    with tempfile.TemporaryDirectory() as folder:
+        programs(pdp8, folder)
+        wrong = [it for it in at_a_terminal(folder, pdp8) + on_a_line(folder, pdp8) if it]
+    print('\n'.join([*wrong, f'teletype: {len(wrong)} sessions went otherwise']))
+    sys.exit(1 if wrong else 0)
+
+
+if __name__ == '__main__':
+    main()

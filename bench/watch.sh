@@ -2,15 +2,16 @@
 # Times `pdp8 watch` beside `pdp8 run` on the same tape and the same events: a million steps of a loop that counts a cell up
 # through a routine, so that each fourth step is a call or a return. By turns in one run, so many times each; prints the
 # least processor time of each.
+# PDP8 names a built program in place of this repository's.
 # usage: bench/watch.sh [RUNS]
 set -euo pipefail
 top=$(cd "$(dirname "$0")/.." && pwd)
 runs=${1:-7}
 work=$(mktemp -d)
 trap 'rm -r "$work"' EXIT
+program=${PDP8:-$top/crates/pdp8/out/pdp8}
 # Building runs the program once, whose lines are left out.
-(cd "$top/crates/pdp8" && rt run <stdin >"$work/built" 2>&1) || { cat "$work/built"; exit 1; }
-program=$top/crates/pdp8/out/pdp8
+[ -x "$program" ] || (cd "$top/crates/pdp8" && rt run <stdin >"$work/built" 2>&1) || { cat "$work/built"; exit 1; }
 
 cat >"$work/loop.pal" <<'SOURCE'
 *200

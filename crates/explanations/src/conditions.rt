@@ -20,7 +20,7 @@ pub(crate) static CONDITIONS: [Explanation; 15] = [
         code: "V3",
         subject: Subject::Asked("each word that may stand there is an instruction"),
         meaning: "at most 64 words are possible, and each is supported",
-        advice: "A word of the PDP-8/E (docs/MACHINE.md), such as MQL, wants\n`profile 8e`. V3 also fails at a cell that isn't on the tape and is never\nstored in, since any word may stand there: does the program run on into\nnothing? In changeable code mask the word (`AND`) before it is stored, so that\nfew are possible.",
+        advice: "A word of the PDP-8/E (docs/MACHINE.md), such as MQL, needs `profile 8e`. V3\nalso fails at a cell that isn't on the tape and is never stored in, since any\nword may stand there: does it run on, or jump to a monitor or loader? In\nchangeable code mask the word (`AND`) before it is stored, so that few are\npossible.",
     },
     Explanation {
         code: "V4",
@@ -38,25 +38,25 @@ pub(crate) static CONDITIONS: [Explanation; 15] = [
         code: "V6",
         subject: Subject::Asked("what a routine writes is in its written set"),
         meaning: "each cell that a word may write, a JMS's own apart, is in the routine's\nwritten set, or its entry",
-        advice: "The routine's line wants the cell, as in `writes 0213`. Its callers\nthen forget after the call what they knew of that cell. Nothing is asked of\nmain.",
+        advice: "The routine's line needs the cell, as in `writes 0213`. Its callers\nthen forget after the call what they knew of that cell. Nothing is asked of\nmain.",
     },
     Explanation {
         code: "V7",
         subject: Subject::Asked("a JMS goes to a listed entry, and downwards"),
         meaning: "a JMS calls listed entries of lower rank, and not through an auto-index\ncell",
-        advice: "Declare the routine, as in `sub 0206 body 0207-0211 returns 0`. A\nJMS through a pointer wants one that can hold entries alone, outside 0010 to\n0017. In a routine the callee has a lower rank; main may call any. So routines\nthat call one another in a circle can't be certified: such a call overwrites a\nreturn address that is still needed. Break the circle: the search is stuck at\nthe least of its calls.",
+        advice: "Declare the routine, as in `sub 0206 body 0207-0211 returns 0`. A JMS through\na pointer needs one outside 0010 to 0017 that can hold entries alone. In a\nroutine the callee has a lower rank; main may call any. So routines that call\none another in a circle can't be certified: such a call overwrites a return\naddress that is still needed. Break the circle: Stuck names its call with the\nlowest address.",
     },
     Explanation {
         code: "V8",
         subject: Subject::Asked("what a callee writes, its caller writes"),
         meaning: "what a callee may write, and its entry, are in the caller's written set,\nand the caller's entry isn't in the callee's",
-        advice: "The caller's line wants the callee's entry and all that it writes,\nas in `writes 0206,0213`. Nothing is asked of main.",
+        advice: "The caller's line needs the callee's entry and all that it writes,\nas in `writes 0206,0213`. Nothing is asked of main.",
     },
     Explanation {
         code: "V9",
         subject: Subject::Asked("each call is a listed site"),
         meaning: "a JMS is at a listed site of its callee, and at most at 7767",
-        advice: "The callee's line wants the call, as in `sites 0204`. Move a JMS\nthat stands in 7770 to 7777: its return address plus an offset could pass 7777.",
+        advice: "The callee's line needs the call, as in `sites 0204`. Move a JMS\nthat stands in 7770 to 7777: its return address plus an offset could pass 7777.",
     },
     Explanation {
         code: "V10",
@@ -74,7 +74,7 @@ pub(crate) static CONDITIONS: [Explanation; 15] = [
         code: "V12",
         subject: Subject::Asked("a return is the routine's own, by a declared offset"),
         meaning: "a return is the routine's own, by declared offsets, and the exit lines\nallow what is possible",
-        advice: "Declare the offset, as in `returns 0 1`, or count the return word\nup as declared (ISZ of the entry). Return through the routine's own entry\nalone. In a certificate each offset wants its exit line, and the fact at the\nreturn entails it. Offsets are 0 to 7. So a routine that reads the text after\nits JMS in a loop up to a zero, and returns after that, gets no certificate:\nnothing ties the offset to the word that was read. Put the text's address after\nthe JMS (`returns 1`), or into AC.",
+        advice: "Declare the offset, as in `returns 0 1`, or count the return word\nup as declared (ISZ of the entry). Return through the routine's own entry\nalone. In a certificate each offset needs its exit line, and the fact at the\nreturn entails it. Offsets are 0 to 7. So a routine that reads the text after\nits JMS in a loop up to a zero, and returns after that, gets no certificate:\nnothing ties the offset to the word that was read. Put the text's address after\nthe JMS (`returns 1`), or into AC.",
     },
     Explanation {
         code: "V13",
@@ -86,7 +86,7 @@ pub(crate) static CONDITIONS: [Explanation; 15] = [
         code: "V14",
         subject: Subject::Asked("return words are left alone"),
         meaning: "no word writes an entry, save that a JMS enters it and ISZ may count the\nroutine's own",
-        advice: "A routine can't make its caller skip. Let it skip itself, and count\nthe caller's return word in the caller, after the call. ISZ may count the\nroutine's own entry where it can store nowhere else, and at most up to seven.",
+        advice: "A routine can't make its caller skip. Let it make its own skip return, and let\nthe caller count its own return word then. An ISZ may count its routine's own\nentry, up to seven, if it can store nowhere else.",
     },
     Explanation {
         code: "V15",

@@ -56,7 +56,7 @@ pub(crate) static FAULTS: [Explanation; 40] = [
         code: "EmptyImage",
         subject: Subject::Fault("tape: EmptyImage"),
         meaning: "the source has no word, so there is no tape to write",
-        advice: "the source says no word: is it the right one, and does `$` stand at\nits end?",
+        advice: "the source has no word: is it the right one, or does `$` come too early?",
     },
     Explanation {
         code: "IC",
@@ -205,13 +205,13 @@ pub(crate) static FAULTS: [Explanation; 40] = [
     Explanation {
         code: "Stuck",
         subject: Subject::Fault("guess: Stuck 0203"),
-        meaning: "mostly: `check` would refuse the instruction there by what is known; in a circle of calls, the least of them",
+        meaning: "mostly: `check` would refuse the instruction there by what is known; in a circle of calls, the one with the lowest address",
         advice: "`--why` names the condition",
     },
     Explanation {
         code: "TurnsSpent",
         subject: Subject::Fault("guess: TurnsSpent"),
-        meaning: "the search was given up after 2,000,000 turns, one for each time that a word's outcomes were asked for",
+        meaning: "the search was given up after 2,000,000 turns; a turn is one look at what an instruction may do",
         advice: "declare fewer variables; mask words (`AND`) before they are stored;\nor look for a run with more `--steps` of `refute`",
     },
     Explanation {

@@ -1,2 +1,4 @@
 pub mod Joins
+pub mod Machines
+pub mod Numbers
 pub mod Places

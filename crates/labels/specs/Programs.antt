@@ -3,12 +3,15 @@ use Rattle.std.specs.Prelude.{ℕ, ◌≡◌, List, Option, Ok, Err}
 use Rattle.instruct.specs.declared.Profile.{Profile}
 use Rattle.bin_tape.specs.Image.{IsEmptyImage}
 use Rattle.bin_tape.specs.Tape.{IsTape}
+use Rattle.bin_tape.specs.Written.{written_tape}
 use Rattle.pal_text.specs.declared.names.Name.{Name}
 use Rattle.pal_acts.specs.Permanent.{permanent_symbols}
 use Rattle.pal_asm.specs.Sources.{Means, IsFault}
 use Rattle.labels.specs.Lines.{placed_text, IsPlaceFault}
 use Rattle.labels.specs.Within.{machine}
 use Rattle.labels.specs.declared.fault.PlaceFault.{PlaceFault}
+use Rattle.labels.specs.declared.fault.PlaceFault.TheVariants.{BadLine, NoSymbol, PastMemory, Backwards, TooMany}
+use Rattle.labels.specs.declared.fault.PlaceFault.TheVariants as place
 use Rattle.labels.specs.declared.program.NumberingFault.{NumberingFault}
 use Rattle.labels.specs.declared.program.NumberingFault.TheVariants.{Source, EmptyImage, Placing}
 use Rattle.labels.specs.declared.program.NumberingFault.TheVariants as fault
@@ -17,11 +20,14 @@ use Rattle.labels.specs.declared.program.NumberingFault.TheVariants as fault
 pub record MeansFor (parts : List (List ℕ)) (declaration : List ℕ) (symbols : List (Name × ℕ)) (image : List (Option ℕ)) : Type 0 where
   pub means : Means (permanent_symbols (machine declaration)) parts symbols image
 
--- The tape is that of the image that the parts mean, and the declaration in numbers is what it means by their symbols.
+-- The tape is the one that is written of the image that the parts mean, which has a word; it reads back as that image. The
+-- declaration in numbers is what the declaration means by the symbols of the parts.
 pub record IsNumbered (parts : List (List ℕ)) (declaration tape numbers : List ℕ) : Type 0 where
   pub symbols : List (Name × ℕ)
   pub image : List (Option ℕ)
   pub source : MeansFor parts declaration symbols image
+  pub has_word : IsEmptyImage image → ⊥
+  pub tape_is : tape ≡ written_tape image
   pub reads_back : IsTape tape image
   pub placed : placed_text symbols declaration ≡ Ok numbers
 
@@ -32,11 +38,12 @@ pub record MeansNoWord (parts : List (List ℕ)) (declaration : List ℕ) : Type
   pub source : MeansFor parts declaration symbols image
   pub empty : IsEmptyImage image
 
--- The declaration has no place in numbers by the symbols of the parts, with this fault.
+-- The parts mean an image with a word, and the declaration has no place in numbers by their symbols, with this fault.
 pub record IsUnplaced (parts : List (List ℕ)) (declaration : List ℕ) (fault : PlaceFault) : Type 0 where
   pub symbols : List (Name × ℕ)
   pub image : List (Option ℕ)
   pub source : MeansFor parts declaration symbols image
+  pub has_word : IsEmptyImage image → ⊥
   pub is : placed_text symbols declaration ≡ Err fault
 
 -- Why there is no tape of an image: it has no word, or memory was refused.
@@ -50,6 +57,15 @@ abbrev pub IsSourceFault : Profile → List (List ℕ) → NumberingFault → Ty
 IsSourceFault profile parts (Source fault) = IsFault (permanent_symbols profile) parts fault
 IsSourceFault profile parts fault.NoMemory = Unit {0}
 IsSourceFault profile parts _ = ⊥
+
+-- What a fault of a declaration is for a source and its declaration.
+abbrev pub placing_fault : PlaceFault → NumberingFault
+placing_fault (BadLine n) = Placing (BadLine n)
+placing_fault (NoSymbol n) = Placing (NoSymbol n)
+placing_fault (PastMemory n) = Placing (PastMemory n)
+placing_fault (Backwards n) = Placing (Backwards n)
+placing_fault TooMany = Placing TooMany
+placing_fault place.NoMemory = fault.NoMemory
 
 -- Why a source and its declaration are refused: the fault of the source; that it has no word; the fault of the declaration
 -- by its symbols; or that memory was refused.

@@ -1,12 +1,12 @@
 //! A declaration with symbols, in numbers.
 
-ghost use Rattle.std.specs.Prelude.{◌≡◌, ◌++◌, ◌≤◌, ◌+◌, ◌∷◌, length, Ok, OnOk, IfOk, IfErr};
+ghost use Rattle.std.specs.Prelude.{◌≡◌, ◌++◌, ◌≤◌, ◌<◌, ◌+◌, ◌∷◌, length, Ok, Err, OnOk, IfOk, IfErr};
 ghost use Rattle.std.specs.List.{list_any, position, position_or_len, slice_split};
 ghost use Rattle.std.specs.Str.Lines.{strip_carriage_return};
 ghost use Rattle.streams.specs.Text.{is_slash};
 ghost use Rattle.streams.specs.TextLeft.{words_left};
 ghost use Rattle.labels.specs.Addresses.{is_capital};
-ghost use Rattle.labels.specs.Lines.{IsPlaceFault, comment, is_feed, length_behind, lines_behind, placed_by, placed_line, placed_lines, placed_text, placed_word, placed_words, prefixed, said, spaced};
+ghost use Rattle.labels.specs.Lines.{IsPlaceFault, comment, is_feed, length_behind, lines_behind, placed_all, placed_by, placed_line, placed_lines, placed_text, placed_word, placed_words, prefixed, said, spaced};
 
 use crate::address::{cells_of, is_capital};
 use crate::fault::PlaceFault;
@@ -222,6 +222,25 @@ fn place_lines<A: Allocator, S: Allocator + Copy>(
     Ok(())
 }
 
+/// Writes a declaration that isn't too long in numbers.
+fn place_all<A: Allocator, S: Allocator + Copy>(
+    alloc: A,
+    text: &[u8],
+    own: &SymbolTable<S>,
+) -> Result<Vec<u8, A>, PlaceFault>
+    requires { length text.now ≤ 16384 }
+    ensures placed { IfOk result (λ out.
+        placed_all own.now.entries (slice_split is_feed text.now) ≡ Ok out.items) }
+    ensures refused { IfErr result
+        (IsPlaceFault (placed_all own.now.entries (slice_split is_feed text.now))) }
+{
+    let mut out = Vec::new(alloc);
+    let cut = cut_line(text);
+    place_line(own, 1, cut.line, &mut out)?;
+    place_lines(own, 1, cut.rest, &mut out)?;
+    Ok(out)
+}
+
 /// Writes a declaration with symbols in numbers: each word with a capital letter behind the first word
 /// of its line is an address or a range, by the symbols of a source, and is written in octal digits. An
 /// address is one to four octal digits, or a symbol, which `+` or `-` and a number may follow. Lines stay
@@ -240,13 +259,11 @@ pub fn place<A: Allocator, S: Allocator + Copy>(
 ) -> Result<Vec<u8, A>, PlaceFault>
     ensures placed { IfOk result (λ out. placed_text own.now.entries text.now ≡ Ok out.items) }
     ensures refused { IfErr result (IsPlaceFault (placed_text own.now.entries text.now)) }
+    // A text that is too long is told before memory is asked for.
+    ensures sized { 16384 < length text.now → result ≡ Err PlaceFault.TooMany }
 {
     if text.len() > MOST_BYTES {
         return Err(PlaceFault::TooMany);
     }
-    let mut out = Vec::new(alloc);
-    let cut = cut_line(text);
-    place_line(own, 1, cut.line, &mut out)?;
-    place_lines(own, 1, cut.rest, &mut out)?;
-    Ok(out)
+    place_all(alloc, text, own)
 }

@@ -1,12 +1,14 @@
 //! A source and its declaration as a tape and a declaration in numbers.
 
-ghost use Rattle.std.specs.Prelude.{Some, IfOk, IfErr};
+ghost use Rattle.std.specs.Prelude.{◌≡◌, Some, IfOk, IfErr};
+ghost use Rattle.bin_tape.specs.Image.{IsEmptyImage};
 ghost use Rattle.bin_tape.specs.Tape.{IsTape};
+ghost use Rattle.bin_tape.specs.Written.{written_tape};
 ghost use Rattle.pal_acts.specs.Permanent.{permanent_symbols};
 ghost use Rattle.pal_asm.specs.Sources.{texts, Means};
 ghost use Rattle.pal_asm.specs.Programs.{symbols_in, image_in};
 ghost use Rattle.labels.specs.Within.{machine};
-ghost use Rattle.labels.specs.Programs.{IsEmptyFault, IsNumbered, IsNumberingFault, IsSourceFault};
+ghost use Rattle.labels.specs.Programs.{IsEmptyFault, IsNumbered, IsNumberingFault, IsSourceFault, placing_fault};
 
 use crate::fault::PlaceFault;
 use crate::placing::place;
@@ -67,7 +69,9 @@ impl<A: Allocator> ByteSink for TapeSink<A> {
 
 /// The tape of an image.
 fn tape_of<A: Allocator>(alloc: A, image: &Image) -> Result<Vec<u8, A>, NumberingFault>
+    ensures written { IfOk result (λ tape. tape.items ≡ written_tape image.now) }
     ensures tape { IfOk result (λ tape. IsTape tape.items image.now) }
+    ensures has_word { IfOk result (λ tape. IsEmptyImage image.now → ⊥) }
     ensures refused { IfErr result (IsEmptyFault image.now) }
 {
     let mut sink = TapeSink {
@@ -102,6 +106,16 @@ fn translation_of<A: Allocator + Copy>(
     }
 }
 
+/// What a fault of a declaration is for a source and its declaration.
+fn placing_fault(fault: PlaceFault) -> NumberingFault
+    ensures { result ≡ placing_fault fault }
+{
+    match fault {
+        PlaceFault::NoMemory => NumberingFault::NoMemory,
+        other => NumberingFault::Placing(other),
+    }
+}
+
 /// The tape that a source means, and its declaration with the source's symbols in numbers. The source is
 /// assembled for the machine that the declaration names.
 ///
@@ -114,18 +128,18 @@ pub fn number<A: Allocator + Copy>(
     parts: &[&[u8]],
     declaration: &[u8],
 ) -> Result<Numbered<A>, NumberingFault>
-    // The tape is that of the image that the source means, and the declaration the one that its symbols
-    // place.
+    // The tape is the one that is written of the image that the source means, and the declaration the one
+    // that its symbols place.
     ensures numbered { IfOk result (λ numbered. IsNumbered (texts parts.now) declaration.now
         numbered.tape.items numbered.declaration.items) }
-    // A fault is that of the source, or else of the declaration with the source's symbols.
+    // A fault is that of the source, or else that it has no word, or else of the declaration with the
+    // source's symbols.
     ensures refused { IfErr result (IsNumberingFault (texts parts.now) declaration.now) }
 {
     let translation = translation_of(alloc, parts, declaration)?;
     let tape = tape_of(alloc, translation.image())?;
     match place(alloc, declaration, translation.symbols()) {
         Ok(declaration) => Ok(Numbered { tape, declaration }),
-        Err(PlaceFault::NoMemory) => Err(NumberingFault::NoMemory),
-        Err(fault) => Err(NumberingFault::Placing(fault)),
+        Err(fault) => Err(placing_fault(fault)),
     }
 }

@@ -22,7 +22,10 @@ fn is_8e(line: &[u8]) -> bool
     let Some(machine) = words.next() else {
         return false;
     };
-    words.next().is_none() && text::is(name, "profile") && text::is(machine, "8e")
+    match words.next() {
+        None => text::is(name, "profile") && text::is(machine, "8e"),
+        Some(_) => false,
+    }
 }
 
 /// The machine that a declaration names: the 8/E where a line is `profile 8e`, else the 8/I.

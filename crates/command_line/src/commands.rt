@@ -66,7 +66,7 @@ const PLACED_OUT: Argument = Argument {
     name: "OUT",
     short: None,
     form: Form::Operand,
-    help: "where the declaration goes, or - for standard output; it is emptied first. With -o it is the first part of the source",
+    help: "where the declaration goes, or - for standard output; it is emptied when the inputs are read. With -o it is the first part of the source",
 };
 
 const LABELLED: Argument = Argument {
@@ -554,7 +554,7 @@ static PLACE: Entry = Entry {
     name: "place",
     usage: Some("pdp8 place [OPTIONS] [-o] <OUT> <SOURCE>..."),
     about: "Writes a declaration in numbers, whose addresses are symbols of a source",
-    after_help: "Without -o OUT comes first, and is emptied before a source is read, also where the source is refused.\n\nExample:\n  pdp8 place -o hello.declaration hello.pal",
+    after_help: "Without -o OUT comes first, and is emptied when the inputs are read: where one is refused it stays as it was.\n\nExample:\n  pdp8 place -o hello.declaration hello.pal",
 };
 
 static MIGRATE: Entry = Entry {

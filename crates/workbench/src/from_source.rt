@@ -6,6 +6,7 @@ use crate::files::{open_input, open_output};
 use crate::joined::{open_input_if, tell_to};
 use crate::numbering::{Prepared, Promise, read_all};
 use crate::saving::{save_answer, save_proposed};
+use crate::spots::{behind_lines, line_of, on_line, spot_of};
 use crate::telling::tell_with;
 use command_line::{Destination, Sourced, Task, WatchedSession};
 use command_parts::inputs::{declaration_from, tape_from};
@@ -18,6 +19,7 @@ use commands::stuck::guess_or_explain;
 use commands::verifying::{Answer, Lack, VerifyOptions, answer_status, verify, verify_proposed};
 use commands::watched_session::watch_session;
 use commands::watching::watch;
+use declaration::DeclarationFault;
 use fault_texts::{FaultyFile, push_fault, push_omissions};
 use labels::Numbered;
 use std::alloc::Global;
@@ -261,23 +263,24 @@ fn done_with<R: Files + Input + Print + Eprint>(
     }
 }
 
-/// Tells the fault of a declaration that stands within a source, and below its line where and why.
+/// Tells the fault of a declaration that stands within a source, and below it where and why.
 fn tell_within<R: Eprint>(
     rt: &R,
     alloc: Global,
-    fault: Fault,
+    fault: DeclarationFault,
     names: &[&str],
+    counts: &[usize],
     declaration: &[u8],
 ) -> Status {
+    let number = line_of(fault);
+    let spot = spot_of(names, counts, number);
+    let file = FaultyFile {
+        name: spot.name,
+        bytes: behind_lines(declaration, number.saturating_sub(spot.line)),
+    };
     let mut text = String::new(alloc);
-    if let Some(name) = names.first().copied() {
-        let file = FaultyFile {
-            name,
-            bytes: declaration,
-        };
-        let _ = push_fault(&mut text, fault, &file);
-    }
-    tell_with(rt, fault, &text)
+    let _ = push_fault(&mut text, Fault::Declared(on_line(fault, spot.line)), &file);
+    tell_with(rt, Fault::Declared(fault), &text)
 }
 
 /// Carries out a command that works on a source. The parts are opened and read in order, then the
@@ -299,12 +302,14 @@ pub fn answer_sourced<R: Files + Input + Print + Eprint>(
             numbered,
             declaration,
             promise,
+            counts,
         } => match done_with(rt, alloc, &numbered, &sourced.task, promise) {
-            Err(fault) if explained && promise == Promise::Within => Ok(tell_within(
+            Err(Fault::Declared(fault)) if explained && promise == Promise::Within => Ok(tell_within(
                 rt,
                 alloc,
                 fault,
                 &sourced.sources,
+                &counts,
                 &declaration,
             )),
             other => other,

@@ -11,6 +11,7 @@ mod program;
 mod reported;
 mod saving;
 mod sources;
+mod spots;
 mod telling;
 
 pub use commands::{

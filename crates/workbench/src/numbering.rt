@@ -2,10 +2,10 @@
 
 use crate::files::open_input;
 use crate::sources::{tell_of, tell_source, unopened};
+use crate::spots::{Spot, line_counts, spot_of};
 use crate::telling::tell;
 use command_line::{Sourced, Task};
 use commands::status::{Fault, Status};
-use fault_texts::FaultyFile;
 use instruct::Profile;
 use labels::{Numbered, NumberingFault, PlaceFault, declared_lines, number};
 use std::alloc::{AllocError, Global};
@@ -43,6 +43,8 @@ pub enum Prepared {
         declaration: Vec<u8>,
         /// Where it comes from.
         promise: Promise,
+        /// How many lines each part of the source has, where the declaration stands within it.
+        counts: Vec<usize>,
     },
 }
 
@@ -162,14 +164,14 @@ fn line_of(fault: PlaceFault) -> usize {
 fn tell_placing<R: Eprint>(
     rt: &R,
     fault: PlaceFault,
-    file: &FaultyFile<'_>,
+    spot: &Spot<'_>,
     explained: bool,
 ) -> Status {
     let told = eprintln!(rt; "pdp8: declaration: {fault}");
     if !explained || told.is_err() {
         return Status::Refused;
     }
-    let (name, line, said) = (file.name, line_of(fault), said_of(fault));
+    let (name, line, said) = (spot.name, spot.line, said_of(fault));
     let told = if line == 0 {
         eprintln!(rt; "{name}: {said}")
     } else {
@@ -178,6 +180,21 @@ fn tell_placing<R: Eprint>(
     match told {
         Ok(()) | Err(_) => Status::Refused,
     }
+}
+
+/// Where the fault of a declaration with symbols stands: in its file, or in a part of the source.
+fn placing_spot<'n>(
+    alloc: Global,
+    fault: PlaceFault,
+    sourced: &Sourced<'n>,
+    parts: &[&[u8]],
+) -> Result<Spot<'n>, AllocError> {
+    let line = line_of(fault);
+    if let Some(name) = sourced.declaration {
+        return Ok(Spot { name, line });
+    }
+    let counts = line_counts(alloc, parts)?;
+    Ok(spot_of(&sourced.sources, &counts, line))
 }
 
 /// Tells that a source or its declaration is refused.
@@ -205,12 +222,10 @@ fn tell_refused<R: Eprint>(
         }
         NumberingFault::EmptyImage => tell(rt, Fault::EmptyImage),
         NumberingFault::Placing(fault) => {
-            let first = sourced.sources.first().copied().unwrap_or("-");
-            let file = FaultyFile {
-                name: sourced.declaration.unwrap_or(first),
-                bytes: &given.text,
-            };
-            tell_placing(rt, fault, &file, explained)
+            match placing_spot(alloc, fault, sourced, parts) {
+                Ok(spot) => tell_placing(rt, fault, &spot, explained),
+                Err(_) => tell(rt, Fault::NoMemory),
+            }
         }
         NumberingFault::NoMemory => tell(rt, Fault::NoMemory),
     }
@@ -258,11 +273,17 @@ pub fn read_all<R: Files + Input + Eprint>(
     }
     match number(alloc, &slices, &given.text) {
         Ok(numbered) => {
+            let counts = if given.promise == Promise::Within {
+                line_counts(alloc, &slices)?
+            } else {
+                Vec::new(alloc)
+            };
             let Given { text, promise } = given;
             Ok(Prepared::Program {
                 numbered,
                 declaration: text,
                 promise,
+                counts,
             })
         }
         Err(fault) => Ok(Prepared::Told(tell_refused(rt, alloc, fault, sourced, &slices, &given))),

@@ -2,3 +2,4 @@ pub mod Joins
 pub mod Machines
 pub mod Numbers
 pub mod Places
+pub mod Withins

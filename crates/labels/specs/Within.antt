@@ -1,10 +1,20 @@
--- The lines of a declaration that stand within a source.
-use Rattle.std.specs.Prelude.{ℕ, ◌%◌, ◌==◌, Bool, false, ◌&&◌, if◌then◌else◌, List, [], ◌∷◌, codes}
+-- The lines of a declaration that stand within a source, and the machine that a declaration names.
+use Rattle.std.specs.Prelude.{ℕ, ◌≡◌, ◌<◌, ◌%◌, ◌==◌, Bool, true, false, ◌&&◌, if◌then◌else◌, List, [], ◌∷◌, ◌++◌, length, slice_range, codes, Result, Ok, Err, alloc_error, ◌⊎◌}
+use Rattle.std.specs.declared.alloc.AllocError.{AllocError}
 use Rattle.instruct.specs.declared.Profile.{Profile}
 use Rattle.instruct.specs.declared.Profile.TheVariants.{Pdp8I, Pdp8E}
 use Rattle.std.specs.Str.{bytes_eq}
-use Rattle.std.specs.List.{list_any}
+use Rattle.std.specs.List.{after_first, list_any}
 use Rattle.streams.specs.Text.{text_lines, words_of}
+use Rattle.pal_text.specs.declared.tokens.Token.{Token}
+use Rattle.pal_text.specs.declared.cut.Statement.{Statement}
+use Rattle.pal_text.specs.declared.cut.Ending.{Ending}
+use Rattle.pal_text.specs.declared.cut.Ending.TheVariants.{Dollar, Pause, Bytes}
+use Rattle.pal_text.specs.declared.fault.TextFault.{TextFault}
+use Rattle.pal_text.specs.declared.fault.TextFault.TheVariants.{Illegal, TooLong, NoMemory}
+use Rattle.pal_text.specs.declared.lines.Line.{Line}
+use Rattle.pal_text.specs.Characters.{characters}
+use Rattle.pal_text.specs.Parts.{IsPart, IsIllegal}
 
 -- The words are `profile 8e`.
 abbrev pub is_8e : List (List ℕ) → Bool
@@ -22,3 +32,48 @@ machine text = if names_8e text then Pdp8E else Pdp8I
 -- The byte is a slash, with channel 8 or without.
 abbrev pub is_slash_code : ℕ → Bool
 is_slash_code c = c % 128 == 47
+
+-- What follows a colon at the front of a comment, with channel 8 or without; nothing where none stands there.
+abbrev pub after_colon : List ℕ → List ℕ
+after_colon [] = []
+after_colon (first ∷ more) = if first % 128 == 58 then more else []
+
+-- The line of a declaration that a line of a source holds, and a line feed: the characters behind the `/:` with which its
+-- comment begins, and none where it doesn't begin so.
+abbrev pub declared_line : List ℕ → List ℕ
+declared_line line = characters (after_colon (after_first is_slash_code line)) ++ 10 ∷ []
+
+-- What these lines of a part declare, a line for each.
+abbrev pub declared_part : List ℕ → List Line → List ℕ
+declared_part source [] = []
+declared_part source (line ∷ lines) = declared_line (slice_range source line.start line.end) ++ declared_part source lines
+
+-- Behind a part that ends so the next one is read: behind any but one that a dollar sign ends.
+abbrev pub reads_on : Ending → Bool
+reads_on Dollar = false
+reads_on Pause = true
+reads_on Bytes = true
+
+-- Behind a part with this fault no other is read; that memory was refused is told.
+abbrev pub reads_on_after : TextFault → Result Bool AllocError
+reads_on_after (Illegal n) = Ok false
+reads_on_after TooLong = Ok false
+reads_on_after NoMemory = Err alloc_error
+
+-- What a part declares, and whether the next one is read behind it. A part that is too long or has a statement without a
+-- form declares nothing, and ends the source. Another declares by its lines, up to where it ends.
+pub data PartDeclares (source : List ℕ) : Bool → List ℕ → Type 0 where
+  unread : ((65536 < length source) ⊎ ((line : ℕ) × IsIllegal source line)) → PartDeclares source false []
+  read : (tokens : List Token) (told : List Statement) (lines : List Line) (ending : Ending) → IsPart source tokens told lines ending → PartDeclares source (reads_on ending) (declared_part source lines)
+
+-- This text stands as a declaration within these parts.
+pub data Declared : List (List ℕ) → List ℕ → Type 0 where
+  no_part : Declared [] []
+  last_part : (part : List ℕ) (parts : List (List ℕ)) (text : List ℕ) → PartDeclares part false text → Declared (part ∷ parts) text
+  next_part : (part : List ℕ) (parts : List (List ℕ)) (text more : List ℕ) → PartDeclares part true text → Declared parts more → Declared (part ∷ parts) (text ++ more)
+
+-- What a part declares was put behind a text.
+pub record Adds (source : List ℕ) (on : Bool) (old new : List ℕ) : Type 0 where
+  pub text : List ℕ
+  pub says : PartDeclares source on text
+  pub added : new ≡ old ++ text

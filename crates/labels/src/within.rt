@@ -1,13 +1,16 @@
 //! The lines of a declaration that stand within a source, and the machine that a declaration names.
 
-ghost use Rattle.std.specs.Prelude.{◌≡◌};
-ghost use Rattle.std.specs.List.{position};
+ghost use Rattle.std.specs.Prelude.{◌≡◌, ◌++◌, length, IfOk, OnOk};
+ghost use Rattle.std.specs.List.{AllByRecursion, after_first, position};
 ghost use Rattle.streams.specs.Text.{words_of};
-ghost use Rattle.labels.specs.Within.{is_8e, is_slash_code, machine};
+ghost use Rattle.pal_text.specs.Characters.{characters};
+ghost use Rattle.pal_text.specs.Order.{IsLineWithin};
+ghost use Rattle.pal_asm.specs.Sources.{texts};
+ghost use Rattle.labels.specs.Within.{Adds, Declared, after_colon, declared_line, declared_part, is_8e, is_slash_code, machine, reads_on, reads_on_after};
 
 use instruct::Profile;
 use pal_text::characters::is_character_code;
-use pal_text::{Ending, Part, TextFault, statements};
+use pal_text::{Ending, Line, TextFault, statements};
 use std::alloc::{AllocError, Allocator};
 use streams::text::{self, Lines, Words};
 
@@ -42,7 +45,9 @@ pub fn machine_of(declaration: &[u8]) -> Profile
 }
 
 /// Adds the characters of some bytes.
-fn push_characters<A: Allocator>(text: &mut Vec<u8, A>, bytes: &[u8]) -> Result<(), AllocError> {
+fn push_characters<A: Allocator>(text: &mut Vec<u8, A>, bytes: &[u8]) -> Result<(), AllocError>
+    ensures { OnOk result (text.new.items ≡ text.old.items ++ characters bytes.now) }
+{
     for byte in bytes {
         let code = *byte % 0o200;
         if is_character_code(code) {
@@ -60,39 +65,92 @@ fn place_of_slash(line: &[u8]) -> Option<usize>
 }
 
 /// The comment of a source's line, without its `/`.
-fn comment_of(line: &[u8]) -> &[u8] {
+fn comment_of(line: &[u8]) -> &[u8]
+    ensures { result.now ≡ after_first is_slash_code line.now }
+{
     match place_of_slash(line) {
-        Some(at) => &line[at + 1..],
+        Some(end) => &line[end + 1..],
         None => &[],
     }
 }
 
-/// Adds the line of a declaration that a line of a source holds, if it holds one.
-fn push_declared<A: Allocator>(text: &mut Vec<u8, A>, line: &[u8]) -> Result<(), AllocError> {
-    if let [first, more @ ..] = comment_of(line) {
-        if *first % 0o200 == b':' {
-            push_characters(text, more)?;
-        }
+/// What a comment says to a declaration: what follows a colon at its front.
+fn after_colon(comment: &[u8]) -> &[u8]
+    ensures { result.now ≡ after_colon comment.now }
+{
+    match comment {
+        [first, more @ ..] if *first % 0o200 == b':' => more,
+        _ => &[],
     }
+}
+
+/// Adds the line of a declaration that a line of a source holds; it's empty where that holds none.
+fn push_declared<A: Allocator>(text: &mut Vec<u8, A>, line: &[u8]) -> Result<(), AllocError>
+    ensures { OnOk result (text.new.items ≡ text.old.items ++ declared_line line.now) }
+{
+    push_characters(text, after_colon(comment_of(line)))?;
     text.extend_from_slice(b"\n")
 }
 
-/// Adds a line for each line of a part.
-fn push_part<A: Allocator, B: Allocator + Copy>(
+/// Adds a line for each of these lines of a part.
+fn push_lines<A: Allocator>(
     text: &mut Vec<u8, A>,
-    part: &Part<'_, B>,
-) -> Result<(), AllocError> {
-    for line in &part.lines {
-        let bytes = part.source.get(line.start..line.end).unwrap_or(&[]);
-        push_declared(text, bytes)?;
+    source: &[u8],
+    lines: &[Line],
+) -> Result<(), AllocError>
+    requires { AllByRecursion (IsLineWithin (length source.now)) lines.now }
+    ensures { OnOk result (text.new.items ≡
+        text.old.items ++ declared_part source.now lines.now) }
+{
+    for line in lines {
+        push_declared(text, &source[line.start..line.end])?;
     }
     Ok(())
 }
 
+/// Whether the part behind one that ends so is read.
+fn reads_on(ending: Ending) -> bool
+    ensures { result ≡ reads_on ending }
+{
+    match ending {
+        Ending::Dollar => false,
+        Ending::Pause => true,
+        Ending::Bytes => true,
+    }
+}
+
+/// Whether the part behind one with this fault is read: it isn't.
+fn reads_on_after(fault: TextFault) -> Result<bool, AllocError>
+    ensures { result ≡ reads_on_after fault }
+{
+    match fault {
+        TextFault::Illegal(_) => Ok(false),
+        TextFault::TooLong => Ok(false),
+        TextFault::NoMemory => Err(AllocError),
+    }
+}
+
+/// Adds what a part declares, and says whether the part behind it is read.
+fn push_part<A: Allocator + Copy>(
+    alloc: A,
+    text: &mut Vec<u8, A>,
+    source: &[u8],
+) -> Result<bool, AllocError>
+    ensures { IfOk result (λ on. Adds source.now on text.old.items text.new.items) }
+{
+    match statements(alloc, source) {
+        Ok(part) => {
+            push_lines(text, source, &part.lines)?;
+            Ok(reads_on(part.ending))
+        }
+        Err(fault) => reads_on_after(fault),
+    }
+}
+
 /// The declaration that stands within a source: for each line of the source a line, which has what
 /// follows the `/:` with which a comment begins, and is empty where there is no such comment. So a line
-/// has the number that it has in the source, counted on from part to part. What `$` or PAUSE ends isn't
-/// looked at, and neither is a part that has no form. That is tested and not proved.
+/// has the number that it has in the source, counted on from part to part. What stands behind `$` or
+/// PAUSE isn't looked at, nor is a part that has no form, nor any part behind it.
 ///
 /// # Errors
 ///
@@ -100,18 +158,14 @@ fn push_part<A: Allocator, B: Allocator + Copy>(
 pub fn declared_lines<A: Allocator + Copy>(
     alloc: A,
     parts: &[&[u8]],
-) -> Result<Vec<u8, A>, AllocError> {
+) -> Result<Vec<u8, A>, AllocError>
+    ensures { IfOk result (λ text. Declared (texts parts.now) text.items) }
+{
     let mut text = Vec::new(alloc);
     for source in parts {
-        match statements(alloc, source) {
-            Ok(part) => {
-                push_part(&mut text, &part)?;
-                if part.ending == Ending::Dollar {
-                    return Ok(text);
-                }
-            }
-            Err(TextFault::NoMemory) => return Err(AllocError),
-            Err(_) => {}
+        let on = push_part(alloc, &mut text, source)?;
+        if !on {
+            return Ok(text);
         }
     }
     Ok(text)

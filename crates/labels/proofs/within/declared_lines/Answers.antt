@@ -12,3 +12,8 @@ loop-source-preserved g c =
 
 pub returns : goal.returns
 returns g c = stands_whole c.args.parts.now c.loop-source.source-index c.loop-source.text.items c.loop-source-test.false c.loop-source.invariant
+
+pub returns-then-not-on : goal.returns-then-not-on
+returns-then-not-on g c =
+    let no_more : c.in_ok-on.on ≡ false = search rules in
+    stands_last c.args.parts.now c.loop-source.source-index _ c.in_ok-on.on c.loop-source.text.items c.push_part-on.new.text.items c.loop-source-test.true c.in_ok-on.ensures c.loop-source.invariant no_more

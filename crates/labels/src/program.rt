@@ -1,6 +1,6 @@
 //! A source and its declaration as a tape and a declaration in numbers.
 
-ghost use Rattle.std.specs.Prelude.{◌≡◌, Some, IfOk, IfErr};
+ghost use Rattle.std.specs.Prelude.{◌≡◌, ℕ, List, Some, IfOk, IfErr, MatchResult};
 ghost use Rattle.bin_tape.specs.Image.{IsEmptyImage};
 ghost use Rattle.bin_tape.specs.Tape.{IsTape};
 ghost use Rattle.bin_tape.specs.Written.{written_tape};
@@ -116,6 +116,24 @@ fn placing_fault(fault: PlaceFault) -> NumberingFault
     }
 }
 
+/// The tape that a source means, and its declaration in numbers, or why there are none.
+fn numbered_of<A: Allocator + Copy>(
+    alloc: A,
+    parts: &[&[u8]],
+    declaration: &[u8],
+) -> Result<Numbered<A>, NumberingFault>
+    ensures numbered { IfOk result (λ numbered. IsNumbered (texts parts.now) declaration.now
+        numbered.tape.items numbered.declaration.items) }
+    ensures refused { IfErr result (IsNumberingFault (texts parts.now) declaration.now) }
+{
+    let translation = translation_of(alloc, parts, declaration)?;
+    let tape = tape_of(alloc, translation.image())?;
+    match place(alloc, declaration, translation.symbols()) {
+        Ok(declaration) => Ok(Numbered { tape, declaration }),
+        Err(fault) => Err(placing_fault(fault)),
+    }
+}
+
 /// The tape that a source means, and its declaration with the source's symbols in numbers. The source is
 /// assembled for the machine that the declaration names.
 ///
@@ -135,11 +153,11 @@ pub fn number<A: Allocator + Copy>(
     // A fault is that of the source, or else that it has no word, or else of the declaration with the
     // source's symbols.
     ensures refused { IfErr result (IsNumberingFault (texts parts.now) declaration.now) }
+    // Parts and a declaration that have an answer are answered by no other, and by no fault.
+    ensures meant { (tape numbers : List ℕ) →
+        IsNumbered (texts parts.now) declaration.now tape numbers →
+        MatchResult result (λ numbered. (numbered.tape.items ≡ tape) ×
+        (numbered.declaration.items ≡ numbers)) (λ fault. fault ≡ NumberingFault.NoMemory) }
 {
-    let translation = translation_of(alloc, parts, declaration)?;
-    let tape = tape_of(alloc, translation.image())?;
-    match place(alloc, declaration, translation.symbols()) {
-        Ok(declaration) => Ok(Numbered { tape, declaration }),
-        Err(fault) => Err(placing_fault(fault)),
-    }
+    numbered_of(alloc, parts, declaration)
 }

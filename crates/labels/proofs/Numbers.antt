@@ -1,23 +1,20 @@
 -- What a source and its declaration are in numbers.
-use Rattle.std.proofs.Common.{ℕ, ◌≡◌, ◌∙◌, sym, ap, refl, subst, List, Option, Result, Ok, Err}
+use Rattle.std.proofs.Common.{ℕ, ◌≡◌, sym, refl, subst, List, Option, Result, Ok, Err}
 use Rattle.std.specs.Prelude.{◌↔◌}
 use Rattle.bin_tape.specs.Image.{IsEmptyImage}
-use Rattle.bin_tape.specs.Written.{written_tape}
 use Rattle.bin_tape.specs.declared.fault.WriteTapeFault.{WriteTapeFault}
 use Rattle.bin_tape.specs.declared.fault.WriteTapeFault.TheVariants.{EmptyImage}
 use Rattle.pal_text.specs.declared.names.Name.{Name}
 use Rattle.pal_acts.specs.Permanent.{permanent_symbols}
-use Rattle.pal_asm.specs.declared.fault.PalFault.{PalFault}
-use Rattle.pal_asm.specs.Sources.{Means, IsFault}
-use Rattle.pal_asm.proofs.One.{means_one, means_sound}
+use Rattle.pal_asm.specs.Sources.{Means}
 use Rattle.labels.specs.declared.fault.PlaceFault.{PlaceFault}
 use Rattle.labels.specs.declared.fault.PlaceFault.TheVariants.{BadLine, NoSymbol, PastMemory, Backwards, TooMany}
 use Rattle.labels.specs.declared.fault.PlaceFault.TheVariants as place
-use Rattle.labels.specs.declared.program.NumberingFault.{NumberingFault}
+
 use Rattle.labels.specs.declared.program.NumberingFault.TheVariants as fault
 use Rattle.labels.specs.Lines.{placed_text, IsPlaceFault}
 use Rattle.labels.specs.Within.{machine}
-use Rattle.labels.specs.Programs.{MeansFor, MeansNoWord, IsNumbered, IsUnplaced, IsNumberingFault, placing_fault}
+use Rattle.labels.specs.Programs.{MeansFor, IsNumberingFault, placing_fault}
 
 -- an image of which a tape was written has a word
 pub has_word : (r : Result Unit WriteTapeFault) (image : List (Option ℕ)) → ((r ≡ Err EmptyImage) ↔ IsEmptyImage image) → r ≡ Ok tt → IsEmptyImage image → ⊥

@@ -10,7 +10,6 @@ use Rattle.pal_asm.specs.Sources.{Means}
 use Rattle.labels.specs.declared.fault.PlaceFault.{PlaceFault}
 use Rattle.labels.specs.declared.fault.PlaceFault.TheVariants.{BadLine, NoSymbol, PastMemory, Backwards, TooMany}
 use Rattle.labels.specs.declared.fault.PlaceFault.TheVariants as place
-
 use Rattle.labels.specs.declared.program.NumberingFault.TheVariants as fault
 use Rattle.labels.specs.Lines.{placed_text, IsPlaceFault}
 use Rattle.labels.specs.Within.{machine}

@@ -10,10 +10,11 @@ use Rattle.pal_asm.specs.Sources.{Means}
 use Rattle.labels.specs.declared.fault.PlaceFault.{PlaceFault}
 use Rattle.labels.specs.declared.fault.PlaceFault.TheVariants.{BadLine, NoSymbol, PastMemory, Backwards, TooMany}
 use Rattle.labels.specs.declared.fault.PlaceFault.TheVariants as place
+use Rattle.labels.specs.declared.program.NumberingFault.{NumberingFault}
 use Rattle.labels.specs.declared.program.NumberingFault.TheVariants as fault
 use Rattle.labels.specs.Lines.{placed_text, IsPlaceFault}
 use Rattle.labels.specs.Within.{machine}
-use Rattle.labels.specs.Programs.{MeansFor, IsNumberingFault, placing_fault}
+use Rattle.labels.specs.Programs.{MeansFor, IsEmptyFault, IsNumberingFault, IsSourceFault, placing_fault}
 
 -- an image of which a tape was written has a word
 pub has_word : (r : Result Unit WriteTapeFault) (image : List (Option ℕ)) → ((r ≡ Err EmptyImage) ↔ IsEmptyImage image) → r ≡ Ok tt → IsEmptyImage image → ⊥
@@ -46,3 +47,17 @@ not_refused (PastMemory n) no_memory = refl
 not_refused (Backwards n) no_memory = refl
 not_refused TooMany no_memory = refl
 not_refused place.NoMemory no_memory = absurd (no_memory refl)
+
+-- a fault of the parts is one of both
+pub source_fault : (parts : List (List ℕ)) (declaration : List ℕ) (f : NumberingFault) → IsSourceFault (machine declaration) parts f → IsNumberingFault parts declaration f
+source_fault parts declaration (fault.Source f) is = is
+source_fault parts declaration fault.EmptyImage is = absurd is
+source_fault parts declaration (fault.Placing f) is = absurd is
+source_fault parts declaration fault.NoMemory is = tt
+
+-- that there is no word is one of both
+pub empty_fault : (parts : List (List ℕ)) (declaration : List ℕ) (symbols : List (Name × ℕ)) (image : List (Option ℕ)) (f : NumberingFault) → MeansFor parts declaration symbols image → IsEmptyFault image f → IsNumberingFault parts declaration f
+empty_fault parts declaration symbols image (fault.Source f) m is = absurd is
+empty_fault parts declaration symbols image fault.EmptyImage m is = record { symbols = symbols; image = image; source = m; empty = is }
+empty_fault parts declaration symbols image (fault.Placing f) m is = absurd is
+empty_fault parts declaration symbols image fault.NoMemory m is = tt

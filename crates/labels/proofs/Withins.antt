@@ -59,11 +59,11 @@ module _ (parts : List (Bor (List ℕ))) (i : ℕ) (d : Bor (List ℕ)) (on : Bo
       so_far more (subst P (sym (drop_more parts i d h)) here)
 
   pub stands_further : on ≡ true → StandsBefore parts (i + 1) new
-  stands_further yes more rest =
+  stands_further goes more rest =
       let P : Bool → Type 0 = λ b. PartDeclares (get_or parts i d).now b adds.text in
       let Q : List ℕ → Type 0 = λ l. Declared (texts parts) l in
       let all : Declared (texts parts) (old ++ (adds.text ++ more)) =
-      from_here (adds.text ++ more) (next_part (get_or parts i d).now (texts (drop (i + 1) parts)) adds.text more (subst P yes adds.says) rest) in
+      from_here (adds.text ++ more) (next_part (get_or parts i d).now (texts (drop (i + 1) parts)) adds.text more (subst P goes adds.says) rest) in
       subst Q (sym (ap (λ x. x ++ more) adds.added ∙ append_assoc old adds.text more)) all
 
   pub stands_last : on ≡ false → Declared (texts parts) new

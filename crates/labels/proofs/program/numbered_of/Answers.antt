@@ -17,8 +17,8 @@ returns-in-Ok-clause-numbered g c = record {
   placed = c.in-Ok.ensures.placed;
 }
 
-pub returns-in-Err-clause-refused : goal.returns-in-Err-clause-refused
-returns-in-Err-clause-refused g c =
+pub returns-clause-refused : goal.returns-clause-refused
+returns-clause-refused g c =
     let source : MeansFor (texts c.args.parts.now) c.args.declaration.now c.symbols.result.now.entries c.image.result.now =
     means_shown (texts c.args.parts.now) c.args.declaration.now (symbols_in c.in_ok-translation.translation) c.symbols.result.now.entries (image_in c.in_ok-translation.translation) c.image.result.now c.in_ok-translation.ensures.means c.symbols.ensures c.image.ensures in
     rw c.placing_fault.ensures (refused_placing (texts c.args.parts.now) c.args.declaration.now c.symbols.result.now.entries c.image.result.now c.in-Err.fault source c.in_ok-tape.ensures.has_word c.in-Err.ensures.refused)

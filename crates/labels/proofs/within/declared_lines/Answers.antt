@@ -8,7 +8,7 @@ loop-source-init g c = stands_first c.args.parts.now c.new-text.result.items (se
 pub loop-source-preserved : goal.loop-source-preserved
 loop-source-preserved g c =
     let yes : c.in_ok-on.on ≡ true = search rules in
-    stands_further c.args.parts.now c.loop-source.source-index _ c.in_ok-on.on c.loop-source.text.items c.push_part-on.new.text.items c.loop-source-test.true c.in_ok-on.ensures c.loop-source.invariant yes
+    stands_further c.args.parts.now c.loop-source.source-index _ c.in_ok-on.on c.loop-source.text.items c.push_part.new.text.items c.loop-source-test.true c.in_ok-on.ensures c.loop-source.invariant yes
 
 pub returns : goal.returns
 returns g c = stands_whole c.args.parts.now c.loop-source.source-index c.loop-source.text.items c.loop-source-test.false c.loop-source.invariant
@@ -16,4 +16,4 @@ returns g c = stands_whole c.args.parts.now c.loop-source.source-index c.loop-so
 pub returns-then-not-on : goal.returns-then-not-on
 returns-then-not-on g c =
     let no_more : c.in_ok-on.on ≡ false = search rules in
-    stands_last c.args.parts.now c.loop-source.source-index _ c.in_ok-on.on c.loop-source.text.items c.push_part-on.new.text.items c.loop-source-test.true c.in_ok-on.ensures c.loop-source.invariant no_more
+    stands_last c.args.parts.now c.loop-source.source-index _ c.in_ok-on.on c.loop-source.text.items c.push_part.new.text.items c.loop-source-test.true c.in_ok-on.ensures c.loop-source.invariant no_more

@@ -11,10 +11,10 @@ push_lines-requires g c =
     let P : List Line → Type 0 = λ ls. AllByRecursion (IsLineWithin (length c.args.source.now)) ls in
     subst P (sym c.deref.ensures.value) c.in-Ok.ensures.lines_within
 
-pub returns-in-Ok : goal.returns-in-Ok
-returns-in-Ok g c =
+pub returns-in_ok-push_lines-in-Ok : goal.returns-in_ok-push_lines-in-Ok
+returns-in_ok-push_lines-in-Ok g c =
     read_adds c.args.source.now (tokens_in c.in-Ok.part) c.in-Ok.part.statements.items c.in-Ok.part.lines.items c.deref.result.now c.in-Ok.part.ending c.reads_on.result c.args.text.now.items c.push_lines.new.text.items
-    c.in-Ok.ensures.part c.deref.ensures.value c.reads_on.ensures c.in_ok-push_lines.ensures
+    c.in-Ok.ensures.part c.deref.ensures.value c.reads_on.ensures c.in_ok-push_lines-in-Ok.ensures
 
 pub returns-in-Err : goal.returns-in-Err
 returns-in-Err g c =

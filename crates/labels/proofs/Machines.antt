@@ -1,7 +1,6 @@
 -- The machine that the lines of a declaration name.
 use Rattle.std.proofs.Common.{◌≡◌, List, [], ◌∷◌, ℕ, Bool, true, false, ◌||◌, if◌then◌else◌, sym, ap, subst}
 use Rattle.std.specs.List.{list_any}
-use Rattle.instruct.specs.declared.Profile.{Profile}
 use Rattle.instruct.specs.declared.Profile.TheVariants.{Pdp8I, Pdp8E}
 use Rattle.labels.specs.Within.{names_8e, machine}
 

@@ -1,6 +1,6 @@
 -- Places in a text.
 use Rattle.std.proofs.Common.{ℕ, ◌≡◌, ◌<◌, ◌≤◌, ◌+◌, ◌-◌, List, [], ◌∷◌, length, take, drop, arith, refl, sym, ◌∙◌, ap, Bool, not, true, false, Option, Some, None, ltb, inl, inr}
-use Rattle.std.specs.List.{position, position_or_len, before_first, after_first, slice_split}
+use Rattle.std.specs.List.{position, position_or_len, after_first, slice_split}
 use Rattle.std.proofs.lemmas.Bool.{cases_Bool, cases_lt, lt-ltb, le-ltb}
 use Rattle.std.proofs.lemmas.List.{take_all, drop_all, length-drop}
 use Rattle.std.proofs.lemmas.List.Sums.{prefix_len-le-length}

@@ -1,6 +1,6 @@
 -- The declaration that stands within parts, part by part.
-use Rattle.std.proofs.Common.{ℕ, ◌≡◌, ◌<◌, ◌≤◌, ◌+◌, ◌∙◌, sym, ap, subst, append_assoc, List, [], ◌∷◌, ◌++◌, length, get_or, drop, Bool, true, false, Result, Ok, Err, inl, inr}
-use Rattle.std.specs.Prelude.{IfOk, ◌↔◌, slice_range, alloc_error}
+use Rattle.std.proofs.Common.{ℕ, ◌≡◌, ◌<◌, ◌≤◌, ◌+◌, ◌∙◌, sym, ap, subst, append_assoc, List, [], ◌∷◌, ◌++◌, length, get_or, drop, Bool, true, false, Result, Err, inl, inr}
+use Rattle.std.specs.Prelude.{IfOk, ◌↔◌, slice_range}
 use Rattle.std.specs.Borrow.{Bor}
 use Rattle.std.specs.declared.alloc.AllocError.{AllocError}
 use Rattle.std.proofs.lemmas.List.{drop_more, drop_all, append-nil}

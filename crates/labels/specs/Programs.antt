@@ -7,7 +7,7 @@ use Rattle.bin_tape.specs.Written.{written_tape}
 use Rattle.pal_text.specs.declared.names.Name.{Name}
 use Rattle.pal_acts.specs.Permanent.{permanent_symbols}
 use Rattle.pal_asm.specs.Sources.{Means, IsFault}
-use Rattle.labels.specs.Lines.{placed_text, IsPlaceFault}
+use Rattle.labels.specs.Lines.{placed_text}
 use Rattle.labels.specs.Within.{machine}
 use Rattle.labels.specs.declared.fault.PlaceFault.{PlaceFault}
 use Rattle.labels.specs.declared.fault.PlaceFault.TheVariants.{BadLine, NoSymbol, PastMemory, Backwards, TooMany}

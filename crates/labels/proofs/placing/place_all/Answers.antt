@@ -1,4 +1,4 @@
-use Rattle.std.proofs.Common.{rules, ◌≡◌, [], List}
+use Rattle.std.proofs.Common.{rules}
 use Rattle.std.specs.List.{slice_split}
 use Rattle.pal_text.proofs.Cuts.{told_on}
 use Rattle.labels.specs.Lines.{IsPlaceFault, is_feed, lines_behind, placed_all}

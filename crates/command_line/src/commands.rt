@@ -371,15 +371,7 @@ static RUN_ARGUMENTS: [Argument; 13] = [
 ];
 
 static TELETYPE_ARGUMENTS: [Argument; 9] = [
-    TAPE,
-    START,
-    PROFILE,
-    READER,
-    PUNCH,
-    SWITCHES,
-    MARK,
-    RAW,
-    WHY_INPUT,
+    TAPE, START, PROFILE, READER, PUNCH, SWITCHES, MARK, RAW, WHY_INPUT,
 ];
 
 static DUMP_ARGUMENTS: [Argument; 3] = [TAPE, PROFILE, WHY_INPUT];
@@ -554,7 +546,7 @@ static PLACE: Entry = Entry {
     name: "place",
     usage: Some("pdp8 place [OPTIONS] [-o] <OUT> <SOURCE>..."),
     about: "Writes a declaration in numbers, whose addresses are symbols of a source",
-    after_help: "Without -o OUT comes first, and is emptied when the inputs are read: where one is refused it stays as it was.\n\nExample:\n  pdp8 place -o hello.declaration hello.pal",
+    after_help: "Without -o OUT comes first, and is emptied before the declaration is written: where an input is refused it stays as it was.\n\nExample:\n  pdp8 place -o hello.declaration hello.pal",
 };
 
 static MIGRATE: Entry = Entry {

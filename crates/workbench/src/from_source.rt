@@ -304,14 +304,9 @@ pub fn answer_sourced<R: Files + Input + Print + Eprint>(
             promise,
             counts,
         } => match done_with(rt, alloc, &numbered, &sourced.task, promise) {
-            Err(Fault::Declared(fault)) if explained && promise == Promise::Within => Ok(tell_within(
-                rt,
-                alloc,
-                fault,
-                &sourced.sources,
-                &counts,
-                &declaration,
-            )),
+            Err(Fault::Declared(fault)) if explained && promise == Promise::Within => Ok(
+                tell_within(rt, alloc, fault, &sourced.sources, &counts, &declaration),
+            ),
             other => other,
         },
     }

@@ -161,12 +161,7 @@ fn line_of(fault: PlaceFault) -> usize {
 }
 
 /// Tells the fault of a declaration with symbols, and below its line what is wrong, if that is asked for.
-fn tell_placing<R: Eprint>(
-    rt: &R,
-    fault: PlaceFault,
-    spot: &Spot<'_>,
-    explained: bool,
-) -> Status {
+fn tell_placing<R: Eprint>(rt: &R, fault: PlaceFault, spot: &Spot<'_>, explained: bool) -> Status {
     let told = eprintln!(rt; "pdp8: declaration: {fault}");
     if !explained || told.is_err() {
         return Status::Refused;

@@ -27,7 +27,7 @@ pub fn listing_below<A: Allocator + Copy, D: Allocator, C: Allocator>(
     alloc: A,
     report: &Report<'_, A, D, C>,
 ) -> Result<Vec<u8, A>, AllocError> {
-    let mut pen = Pen::new(alloc, Form::Text);
+    let mut pen = Pen::new(alloc, Form::Text, &report.lines());
     push_listing(&mut pen, report)?;
     Ok(pen.into_bytes())
 }

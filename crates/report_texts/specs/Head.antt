@@ -1,5 +1,6 @@
--- What stands before the verdict in a report.
-use Rattle.std.specs.Prelude.{ℕ, List, []}
+-- What stands before the verdict in a report, and right behind it.
+use Rattle.std.specs.Prelude.{ℕ, codes, List, [], Result, Ok, Err}
+use Rattle.judge.specs.declared.judging.Refusal.{Refusal}
 use Rattle.report_texts.specs.declared.pen.Form.{Form}
 use Rattle.report_texts.specs.declared.pen.Form.TheVariants.{Text, Page}
 use Rattle.report_texts.specs.declared.style.TheConstants.{HEAD}
@@ -8,3 +9,9 @@ use Rattle.report_texts.specs.declared.style.TheConstants.{HEAD}
 unfoldable pub head_of : Form → List ℕ
 head_of Text = []
 head_of Page = HEAD.now
+
+-- Behind the verdict a page tells what a yes shows, or that a no shows nothing.
+unfoldable pub opening : Form → Result (Unit {0}) Refusal → List ℕ
+opening Text _ = []
+opening Page (Ok _) = codes "</h1>\n<p>This is shown of <b>every</b> run"
+opening Page (Err _) = codes "</h1>\n<p>This certificate shows nothing: "

@@ -20,7 +20,7 @@ pub use pen::Form;
 use pen::Pen;
 pub use report::Report;
 use std::alloc::{AllocError, Allocator};
-pub use style::head_of;
+pub use style::{head_of, opening};
 
 /// The listing as plain text, as it stands below the verdict and its reason.
 pub fn listing_below<A: Allocator + Copy, D: Allocator, C: Allocator>(

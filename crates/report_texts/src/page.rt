@@ -98,12 +98,12 @@ fn write_points<A: Allocator, D: Allocator>(
     pen.put(b"</ul>\n")
 }
 
-/// Writes what a yes says, and what it doesn't.
+/// Writes the rest of what a yes says, and what it doesn't.
 fn write_yes<A: Allocator, D: Allocator>(
     pen: &mut Pen<A>,
     declaration: &Declaration<D>,
 ) -> Result<(), AllocError> {
-    pen.put(b"<p>This is shown of <b>every</b> run on a PDP-8/")?;
+    pen.put(b" on a PDP-8/")?;
     pen.put(match declaration.profile() {
         Profile::Pdp8I => b"I",
         Profile::Pdp8E => b"E",
@@ -121,29 +121,28 @@ fn write_yes<A: Allocator, D: Allocator>(
     pen.put(b"declaration is a wise one: if all cells may be written, a yes says little.</p>\n")
 }
 
-/// Writes why the verdict is no, and what that says.
+/// Writes the rest of what a no says, and why it is one.
 fn write_no<A: Allocator>(
     pen: &mut Pen<A>,
     refusal: &Refusal,
     why: &[u8],
 ) -> Result<(), AllocError> {
-    pen.put(b"<pre>")?;
-    pen.say(why)?;
-    pen.put(b"</pre>\n<p>This certificate shows nothing: a condition on it fails at ")?;
+    pen.put(b"a condition on it fails at ")?;
     pen.place(refusal.address)?;
     pen.put(
         b", which is marked below. The program may keep its declaration all the same. What stands below ",
     )?;
-    pen.put(b"is what the certificate claims, and it may be wrong.</p>\n")
+    pen.put(b"is what the certificate claims, and it may be wrong.</p>\n<pre>")?;
+    pen.say(why)?;
+    pen.put(b"</pre>\n")
 }
 
-/// Writes the verdict's meaning.
+/// Writes the verdict's meaning, behind what it opens with.
 fn write_verdict<A: Allocator, B: Allocator, D: Allocator, C: Allocator>(
     pen: &mut Pen<A>,
     report: &Report<'_, B, D, C>,
     why: &[u8],
 ) -> Result<(), AllocError> {
-    pen.put(b"</h1>\n")?;
     match report.verdict {
         Ok(()) => write_yes(pen, report.declaration)?,
         Err(refusal) => write_no(pen, refusal, why)?,
@@ -237,7 +236,7 @@ fn write_guide<A: Allocator>(
     pen.put(b"</p>\n<table>\n")
 }
 
-/// The page below the verdict. `why` is what is told of a no.
+/// The page behind the verdict and what `opening` says of it. `why` is what is told of a no.
 pub fn page_below<A: Allocator + Copy, D: Allocator, C: Allocator>(
     alloc: A,
     report: &Report<'_, A, D, C>,

@@ -1,9 +1,10 @@
-//! How a page looks, and with what it begins.
+//! How a page looks, with what it begins, and what it says right behind the verdict.
 
 ghost use Rattle.std.specs.Prelude.{◌≡◌};
-ghost use Rattle.report_texts.specs.Head.{head_of};
+ghost use Rattle.report_texts.specs.Head.{head_of, opening};
 
 use crate::pen::Form;
+use judge::Refusal;
 
 /// What a page begins with, up to the verdict.
 const HEAD: &[u8] =
@@ -17,5 +18,20 @@ pub fn head_of(form: Form) -> &'static [u8]
     match form {
         Form::Text => b"",
         Form::Page => HEAD,
+    }
+}
+
+/// What stands right behind the verdict in a form: in a page, what a yes shows, or that a no shows
+/// nothing.
+#[tactic(auto, unfolding(crate::specs::Head::opening))]
+pub fn opening(form: Form, verdict: &Result<(), Refusal>) -> &'static [u8]
+    ensures { result.now ≡ opening form verdict.now }
+{
+    match form {
+        Form::Text => b"",
+        Form::Page => match verdict {
+            Ok(()) => b"</h1>\n<p>This is shown of <b>every</b> run",
+            Err(_) => b"</h1>\n<p>This certificate shows nothing: ",
+        },
     }
 }

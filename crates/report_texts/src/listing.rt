@@ -197,6 +197,14 @@ impl Desk {
         true
     }
 
+    /// The fact of the address before one, where that is the line above.
+    fn above(&self, is_near: bool, at: Word) -> Option<&Fact> {
+        if !is_near {
+            return None;
+        }
+        Some(self.fact(before(at)))
+    }
+
     /// The fact of an even or an odd address that was read last.
     fn fact(&self, at: Word) -> &Fact {
         if at.index() % 2 == 0 {
@@ -221,11 +229,7 @@ fn write_with_fact<A: Allocator, B: Allocator, D: Allocator, C: Allocator>(
     if !desk.read(report.certificate, at) {
         return write_unknown(pen, report, &kind, at);
     }
-    let above = if near {
-        Some(desk.fact(before(at)))
-    } else {
-        None
-    };
+    let above = desk.above(near, at);
     write_known(pen, report, &kind, desk.fact(at), above, at)
 }
 

@@ -98,10 +98,11 @@ fn callers_of<B: Allocator, D: Allocator, C: Allocator>(
     for index in 0..4096 {
         let site = Word::from_index(index);
         if sites.contains(site) {
-            match report.declaration.owner_of(site) {
-                Some(Owner::Main) => main = true,
-                Some(Owner::Routine(entry)) => others.insert(entry),
-                None => {}
+            if let Some(owner) = report.declaration.owner_of(site) {
+                match owner {
+                    Owner::Main => main = true,
+                    Owner::Routine(entry) => others.insert(entry),
+                }
             }
         }
     }
@@ -217,12 +218,22 @@ fn write_row<A: Allocator, B: Allocator, D: Allocator, C: Allocator>(
 
 /// The number of boxes in the longest row.
 fn widest(spots: &[Spot]) -> usize {
-    spots.iter().map(|spot| spot.column).max().unwrap_or(0).saturating_add(1)
+    spots
+        .iter()
+        .map(|spot| spot.column)
+        .max()
+        .unwrap_or(0)
+        .saturating_add(1)
 }
 
 /// The number of rows, main's among them.
 fn rows(spots: &[Spot]) -> usize {
-    spots.iter().map(|spot| spot.row).max().unwrap_or(0).saturating_add(1)
+    spots
+        .iter()
+        .map(|spot| spot.row)
+        .max()
+        .unwrap_or(0)
+        .saturating_add(1)
 }
 
 /// Writes the drawing: the lines, and above them the boxes.

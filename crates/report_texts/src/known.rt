@@ -153,9 +153,7 @@ fn write_lost_cells<A: Allocator>(
 
 /// Whether some equation relates the same names.
 fn relates(equations: &[Equation], equation: &Equation) -> bool {
-    equations
-        .iter()
-        .any(|other| other.left == equation.left && other.right == equation.right)
+    equations.iter().any(|other| other.left == equation.left && other.right == equation.right)
 }
 
 /// Writes the item of an equation.

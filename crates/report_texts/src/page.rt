@@ -177,8 +177,12 @@ fn write_variables<A: Allocator, B: Allocator, D: Allocator, C: Allocator>(
 ) -> Result<(), AllocError> {
     pen.put(b"<h2 id=variables>Variables</h2>\n<p>The declared variables: ")?;
     pen.places(report.declaration.variables())?;
-    pen.put(b". By the certificate each of those below holds one of the words beside it, at every ")?;
-    pen.put(b"address at which something is said of it; all others may hold any word:</p>\n<table>\n")?;
+    pen.put(
+        b". By the certificate each of those below holds one of the words beside it, at every ",
+    )?;
+    pen.put(
+        b"address at which something is said of it; all others may hold any word:</p>\n<table>\n",
+    )?;
     pen.put(b"<tr><th>cell<th>on the tape<th>what it may hold\n")?;
     for index in 0..4096 {
         let cell = Word::from_index(index);

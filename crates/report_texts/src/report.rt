@@ -89,10 +89,12 @@ impl<A: Allocator, D: Allocator, C: Allocator> Report<'_, A, D, C> {
         if self.declaration.is_entry(at) {
             return Kind::Entry;
         }
-        match self.declaration.owner_of(at) {
-            Some(Owner::Main) => Kind::Main,
-            Some(Owner::Routine(entry)) => Kind::Routine(entry),
-            None => self.kind_outside(at),
+        let Some(owner) = self.declaration.owner_of(at) else {
+            return self.kind_outside(at);
+        };
+        match owner {
+            Owner::Main => Kind::Main,
+            Owner::Routine(entry) => Kind::Routine(entry),
         }
     }
 

@@ -106,8 +106,11 @@ class Report:
             return "variable", None
         return ("other", None) if at in self.image else ("unset", None)
 
+    def is_refused_at(self, at):
+        return self.refused is not None and self.refused[1] == at
+
     def is_quiet(self, at):
-        free = at not in self.image and at not in self.certificate.facts and at not in self.known
+        free = at not in self.image and at not in self.certificate.facts and at not in self.known and not self.is_refused_at(at)
         return free and self.kind(at)[0] == "variable"
 
     def access(self, at, fact):
@@ -151,7 +154,7 @@ class Report:
             items.append("no fact" if self.refused else "never reached")
         elif kind[0] == "variable":
             items += self.variable(at)
-        if self.refused and self.refused[1] == at:
+        if self.is_refused_at(at):
             items.append(f"HERE {self.refused[0]} FAILS")
         return items
 
@@ -189,7 +192,7 @@ class Report:
         lines, last, at = [], None, 0
         while at < 4096:
             kind = self.kind(at)
-            if kind[0] != "unset" or at in self.certificate.facts:
+            if kind[0] != "unset" or at in self.certificate.facts or self.is_refused_at(at):
                 lines += self.heading(at, last)
                 last, end = kind, at
                 if self.is_quiet(at):

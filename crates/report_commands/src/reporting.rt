@@ -9,7 +9,7 @@ ghost use Rattle.command_parts.specs.Writes.{FrontOf, Writes};
 ghost use Rattle.command_parts.specs.declared.status.Fault.TheVariants.{NoMemory};
 ghost use Rattle.verdict_texts.specs.CertificateFaults.{IsCheckFault};
 ghost use Rattle.verdict_texts.specs.CertificateInputs.{IsGoodCertificate, TakesCertificate};
-ghost use Rattle.report_texts.specs.Head.{head_of};
+ghost use Rattle.report_texts.specs.Head.{head_of, opening};
 ghost use Rattle.report_commands.specs.ReportText.{IsReported, IsReportedSo};
 
 use bin_tape::Image;
@@ -20,7 +20,7 @@ use declaration::Declaration;
 use judge::{Refusal, judge};
 use reasons::why;
 pub use report_texts::Form;
-use report_texts::{head_of, listing_below, page_below};
+use report_texts::{head_of, listing_below, opening, page_below};
 use std::alloc::{AllocError, Allocator};
 use streams::{ByteSink, ByteSource, put};
 use verdict_texts::certificates::certificate_from;
@@ -75,18 +75,21 @@ fn below<A: Allocator + Copy, D: Allocator, C: Allocator>(
     }
 }
 
-/// A line, with what stands before it in a form and what stands below it.
+/// The line of a verdict, with what stands before and right behind it in a form, and the rest.
 fn joined<A: Allocator>(
     alloc: A,
     form: Form,
+    verdict: &Result<(), Refusal>,
     line: &[u8],
     rest: &[u8],
 ) -> Result<Vec<u8, A>, AllocError>
-    ensures { IfOk result (λ page. page.items ≡ head_of form ++ (line.now ++ rest.now)) }
+    ensures { IfOk result (λ page. page.items ≡
+        head_of form ++ (line.now ++ (opening form verdict.now ++ rest.now))) }
 {
     let mut page = Vec::new(alloc);
     page.extend_from_slice(head_of(form))?;
     page.extend_from_slice(line)?;
+    page.extend_from_slice(opening(form, verdict))?;
     page.extend_from_slice(rest)?;
     Ok(page)
 }
@@ -114,7 +117,8 @@ pub fn report<A: Allocator + Copy, R: ByteSource, D: ByteSource, C: ByteSource, 
     requires declaration_readable { D.mark declaration.old ≡ false }
     requires certificate_readable { C.mark certificate.old ≡ false }
     requires writable { W.mark out.old ≡ false }
-    // What is written begins with the verdict; in a page its fixed head stands before that.
+    // What is written begins with the verdict; in a page its fixed head stands before that, and behind
+    // it stands what a yes shows, or that a no shows nothing.
     ensures reported { IfOk result (λ status. Writes
         (λ page. IsReportedSo form (R.remaining tape.old) (D.remaining declaration.old)
         (C.remaining certificate.old) page status)
@@ -167,7 +171,7 @@ pub fn report<A: Allocator + Copy, R: ByteSource, D: ByteSource, C: ByteSource, 
     let verdict = judge(&image, &promised, &claims);
     let line = verdict_line(alloc, &promised, &verdict)?;
     let rest = below(alloc, &image, &promised, &claims, &verdict, form)?;
-    let page = joined(alloc, form, &line, &rest)?;
+    let page = joined(alloc, form, &verdict, &line, &rest)?;
     put(out, &page)?;
     Ok(verdict_status(&verdict))
 }

@@ -185,10 +185,11 @@ pub(crate) fn write_access<A: Allocator, B: Allocator, D: Allocator, C: Allocato
     let routine = claimed_of(report.certificate, entry);
     let place = place_in(report.image, report.declaration, kind, &routine);
     let words = place.possible_words(fact, at);
-    if report.declaration.is_variable(at) || words.count() > MOST_WORDS {
+    let is_many = words.count() > MOST_WORDS;
+    if report.declaration.is_variable(at) || is_many {
         write_possible(pen, &words)?;
     }
-    if words.count() > MOST_WORDS {
+    if is_many {
         return Ok(());
     }
     write_each(pen, &access_of(&place, &routine, fact, at, &words))

@@ -5,6 +5,7 @@ use crate::pen::Pen;
 use crate::report::{Report, claimed_of};
 use crate::routines::{write_offsets, write_written};
 use declaration::{Owner, Routine};
+use judge::Refusal;
 use std::alloc::{AllocError, Allocator};
 use word12::Word;
 use wordset::WordSet;
@@ -72,13 +73,7 @@ fn spots_of<A: Allocator, B: Allocator, D: Allocator, C: Allocator>(
 
 /// How many boxes are in a row.
 fn count_in(spots: &[Spot], row: usize) -> usize {
-    let mut count = 0usize;
-    for spot in spots.iter() {
-        if spot.row == row {
-            count = count.saturating_add(1);
-        }
-    }
-    count
+    spots.iter().filter(|spot| spot.row == row).count()
 }
 
 /// The place of a box in the order of the declaration; of main none, and main's box is the first.
@@ -103,10 +98,11 @@ fn callers_of<B: Allocator, D: Allocator, C: Allocator>(
     for index in 0..4096 {
         let site = Word::from_index(index);
         if sites.contains(site) {
-            match report.declaration.owner_of(site) {
-                Some(Owner::Main) => main = true,
-                Some(Owner::Routine(entry)) => others.insert(entry),
-                None => {}
+            if let Some(owner) = report.declaration.owner_of(site) {
+                match owner {
+                    Owner::Main => main = true,
+                    Owner::Routine(entry) => others.insert(entry),
+                }
             }
         }
     }
@@ -222,20 +218,22 @@ fn write_row<A: Allocator, B: Allocator, D: Allocator, C: Allocator>(
 
 /// The number of boxes in the longest row.
 fn widest(spots: &[Spot]) -> usize {
-    let mut most = 0usize;
-    for spot in spots.iter() {
-        most = most.max(spot.column);
-    }
-    most.saturating_add(1)
+    spots
+        .iter()
+        .map(|spot| spot.column)
+        .max()
+        .unwrap_or(0)
+        .saturating_add(1)
 }
 
 /// The number of rows, main's among them.
 fn rows(spots: &[Spot]) -> usize {
-    let mut most = 0usize;
-    for spot in spots.iter() {
-        most = most.max(spot.row);
-    }
-    most.saturating_add(1)
+    spots
+        .iter()
+        .map(|spot| spot.row)
+        .max()
+        .unwrap_or(0)
+        .saturating_add(1)
 }
 
 /// Writes the drawing: the lines, and above them the boxes.
@@ -272,6 +270,18 @@ fn write_boxes<A: Allocator, B: Allocator, D: Allocator, C: Allocator>(
     Ok(())
 }
 
+/// What the ranks show; after a no it is only claimed.
+fn ranks_text(verdict: &Result<(), Refusal>) -> &'static [u8] {
+    match verdict {
+        Ok(()) => {
+            b"Ranks fall from caller to callee, so no routine is called again before it returned."
+        }
+        Err(_) => {
+            b"Ranks are to fall from caller to callee; this certificate doesn't show that they do."
+        }
+    }
+}
+
 /// Writes the routines: a drawing of who calls whom, and a table.
 pub(crate) fn write_graph<A: Allocator, S: Allocator, B: Allocator, D: Allocator, C: Allocator>(
     pen: &mut Pen<A>,
@@ -284,12 +294,11 @@ pub(crate) fn write_graph<A: Allocator, S: Allocator, B: Allocator, D: Allocator
     }
     let spots = spots_of(alloc, report)?;
     write_drawing(pen, report, &spots)?;
-    pen.put(
-        b"<p>A line leads from a caller down to what it calls. Ranks fall from caller to callee, so ",
-    )?;
-    pen.put(b"no routine is called again before it returned.</p>\n<table>\n")?;
+    pen.put(b"<p>A line leads from a caller down to what it calls. ")?;
+    pen.put(ranks_text(report.verdict))?;
+    pen.put(b"</p>\n<table>\n")?;
     pen.put(b"<tr><th>entry<th>rank<th>called from<th>it and what it calls may write")?;
-    pen.put(b"<th>how far after the word behind the call it returns\n")?;
+    pen.put(b"<th>words skipped behind the call when it returns\n")?;
     for routine in report.declaration.routines() {
         write_row(pen, report, routine)?;
     }

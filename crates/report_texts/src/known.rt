@@ -151,24 +151,9 @@ fn write_lost_cells<A: Allocator>(
     Ok(())
 }
 
-/// Whether an equation is among some.
-fn has_equation(equations: &[Equation], equation: &Equation) -> bool {
-    for other in equations {
-        if *other == *equation {
-            return true;
-        }
-    }
-    false
-}
-
 /// Whether some equation relates the same names.
 fn relates(equations: &[Equation], equation: &Equation) -> bool {
-    for other in equations {
-        if other.left == equation.left && other.right == equation.right {
-            return true;
-        }
-    }
-    false
+    equations.iter().any(|other| other.left == equation.left && other.right == equation.right)
 }
 
 /// Writes the item of an equation.
@@ -197,7 +182,7 @@ fn write_equations<A: Allocator>(
     for equation in fact.equations() {
         let same = match above {
             None => false,
-            Some(above) => has_equation(above.equations(), equation),
+            Some(above) => above.equations().contains(equation),
         };
         write_equation(pen, equation, same)?;
     }

@@ -20,14 +20,14 @@ pub use pen::Form;
 use pen::Pen;
 pub use report::Report;
 use std::alloc::{AllocError, Allocator};
-pub use style::head_of;
+pub use style::{head_of, opening};
 
 /// The listing as plain text, as it stands below the verdict and its reason.
 pub fn listing_below<A: Allocator + Copy, D: Allocator, C: Allocator>(
     alloc: A,
     report: &Report<'_, A, D, C>,
 ) -> Result<Vec<u8, A>, AllocError> {
-    let mut pen = Pen::new(alloc, Form::Text);
+    let mut pen = Pen::new(alloc, Form::Text, &report.lines());
     push_listing(&mut pen, report)?;
     Ok(pen.into_bytes())
 }

@@ -7,7 +7,7 @@ use crate::report::{Kind, Report, before};
 use crate::routines::{write_exits, write_routine};
 use certificate::Certificate;
 use facts::Fact;
-use instruct::{Instruction, Operation, decode, name, refers_indirectly, target};
+use instruct::{Instruction, decode, name, refers_indirectly, target};
 use std::alloc::{AllocError, Allocator};
 use word12::Word;
 use wordset::WordSet;
@@ -15,7 +15,7 @@ use wordset::WordSet;
 /// In which column of plain text the items begin.
 const COLUMN: usize = 25;
 
-/// Writes the name of a word; that of a direct jump or call leads to where it goes.
+/// Writes the name of a word; that of a direct memory reference leads to the line of its cell.
 fn write_name<A: Allocator, B: Allocator, D: Allocator, C: Allocator>(
     pen: &mut Pen<A>,
     report: &Report<'_, B, D, C>,
@@ -25,9 +25,8 @@ fn write_name<A: Allocator, B: Allocator, D: Allocator, C: Allocator>(
     let profile = report.declaration.profile();
     let found = name(word, profile);
     let length = found.as_str().len();
-    let jumps = matches!(Operation::of(word), Operation::Jmp | Operation::Jms);
     let is_memory = matches!(decode(word, profile), Instruction::Memory);
-    let linked = is_memory && jumps && !refers_indirectly(word);
+    let linked = is_memory && !refers_indirectly(word) && pen.has_line(target(word, at));
     if linked {
         pen.mark(b"<a href=#a")?;
         pen.mark(&target(word, at).to_octal())?;
@@ -198,6 +197,14 @@ impl Desk {
         true
     }
 
+    /// The fact of the address before one, where that is the line above.
+    fn above(&self, is_near: bool, at: Word) -> Option<&Fact> {
+        if !is_near {
+            return None;
+        }
+        Some(self.fact(before(at)))
+    }
+
     /// The fact of an even or an odd address that was read last.
     fn fact(&self, at: Word) -> &Fact {
         if at.index() % 2 == 0 {
@@ -222,11 +229,7 @@ fn write_with_fact<A: Allocator, B: Allocator, D: Allocator, C: Allocator>(
     if !desk.read(report.certificate, at) {
         return write_unknown(pen, report, &kind, at);
     }
-    let above = if near {
-        Some(desk.fact(before(at)))
-    } else {
-        None
-    };
+    let above = desk.above(near, at);
     write_known(pen, report, &kind, desk.fact(at), above, at)
 }
 
@@ -359,7 +362,7 @@ pub(crate) fn push_listing<A: Allocator, B: Allocator, D: Allocator, C: Allocato
     let mut last = None;
     for index in 0..4096 {
         let at = Word::from_index(index);
-        if report.has_line(at) {
+        if pen.has_line(at) {
             if needs_heading(report, at, &last) {
                 write_heading(pen, report, at)?;
             }

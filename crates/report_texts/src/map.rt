@@ -19,12 +19,11 @@ const STEP: usize = 10;
 
 /// The place of a routine among those that are declared.
 fn place_of<D: Allocator>(declaration: &Declaration<D>, entry: Word) -> usize {
-    for (place, routine) in declaration.routines().iter().enumerate() {
-        if routine.entry() == entry {
-            return place;
-        }
-    }
-    0
+    declaration
+        .routines()
+        .iter()
+        .position(|routine| routine.entry() == entry)
+        .unwrap_or(0)
 }
 
 /// The class of a colour for a routine.
@@ -167,7 +166,7 @@ fn write_cells<A: Allocator, B: Allocator, D: Allocator, C: Allocator>(
     let mut line = Word::ZERO;
     for index in 0..4096 {
         let at = Word::from_index(index);
-        if report.has_line(at) {
+        if pen.has_line(at) {
             line = at;
         }
         if report.kind_of(at) != Kind::Unset || report.is_refused_at(at) {

@@ -98,12 +98,12 @@ fn write_points<A: Allocator, D: Allocator>(
     pen.put(b"</ul>\n")
 }
 
-/// Writes what a yes says, and what it doesn't.
+/// Writes the rest of what a yes says, and what it doesn't.
 fn write_yes<A: Allocator, D: Allocator>(
     pen: &mut Pen<A>,
     declaration: &Declaration<D>,
 ) -> Result<(), AllocError> {
-    pen.put(b"<p>This is shown of <b>every</b> run on a PDP-8/")?;
+    pen.put(b" on a PDP-8/")?;
     pen.put(match declaration.profile() {
         Profile::Pdp8I => b"I",
         Profile::Pdp8E => b"E",
@@ -121,29 +121,28 @@ fn write_yes<A: Allocator, D: Allocator>(
     pen.put(b"declaration is a wise one: if all cells may be written, a yes says little.</p>\n")
 }
 
-/// Writes why the verdict is no, and what that says.
+/// Writes the rest of what a no says, and why it is one.
 fn write_no<A: Allocator>(
     pen: &mut Pen<A>,
     refusal: &Refusal,
     why: &[u8],
 ) -> Result<(), AllocError> {
-    pen.put(b"<pre>")?;
-    pen.say(why)?;
-    pen.put(b"</pre>\n<p>This certificate shows nothing: a condition on it fails at ")?;
+    pen.put(b"a condition on it fails at ")?;
     pen.place(refusal.address)?;
     pen.put(
         b", which is marked below. The program may keep its declaration all the same. What stands below ",
     )?;
-    pen.put(b"is what the certificate claims, and it may be wrong.</p>\n")
+    pen.put(b"is what the certificate claims, and it may be wrong.</p>\n<pre>")?;
+    pen.say(why)?;
+    pen.put(b"</pre>\n")
 }
 
-/// Writes the verdict's meaning.
+/// Writes the verdict's meaning, behind what it opens with.
 fn write_verdict<A: Allocator, B: Allocator, D: Allocator, C: Allocator>(
     pen: &mut Pen<A>,
     report: &Report<'_, B, D, C>,
     why: &[u8],
 ) -> Result<(), AllocError> {
-    pen.put(b"</h1>\n")?;
     match report.verdict {
         Ok(()) => write_yes(pen, report.declaration)?,
         Err(refusal) => write_no(pen, refusal, why)?,
@@ -176,12 +175,14 @@ fn write_variables<A: Allocator, B: Allocator, D: Allocator, C: Allocator>(
     pen: &mut Pen<A>,
     report: &Report<'_, B, D, C>,
 ) -> Result<(), AllocError> {
-    pen.put(b"<h2 id=variables>Variables</h2>\n<p>The cells that the program may change: ")?;
+    pen.put(b"<h2 id=variables>Variables</h2>\n<p>The declared variables: ")?;
     pen.places(report.declaration.variables())?;
     pen.put(
-        b". Those of which the certificate says something, with the words that they may hold at any ",
+        b". By the certificate each of those below holds one of the words beside it, at every ",
     )?;
-    pen.put(b"address at which it does; all others may hold any word:</p>\n<table>\n")?;
+    pen.put(
+        b"address at which something is said of it; all others may hold any word:</p>\n<table>\n",
+    )?;
     pen.put(b"<tr><th>cell<th>on the tape<th>what it may hold\n")?;
     for index in 0..4096 {
         let cell = Word::from_index(index);
@@ -192,12 +193,16 @@ fn write_variables<A: Allocator, B: Allocator, D: Allocator, C: Allocator>(
     pen.put(b"</table>\n")
 }
 
-/// Writes how the listing is read.
-fn write_guide<A: Allocator>(pen: &mut Pen<A>) -> Result<(), AllocError> {
-    pen.put(
-        b"<h2 id=listing>Listing</h2>\n<p>Beside each instruction stands what is known in every run ",
-    )?;
-    pen.put(b"<b>before</b> it is executed; what is the same as on the line above is grey.\n")?;
+/// What stands beside an instruction; after a no it is only claimed.
+fn listed_text(verdict: &Result<(), Refusal>) -> &'static [u8] {
+    match verdict {
+        Ok(()) => b"what is known in every run <b>before</b> it is executed",
+        Err(_) => b"what the certificate claims <b>before</b> it is executed, which isn't shown",
+    }
+}
+
+/// Writes how the items of the listing are read.
+fn write_items_guide<A: Allocator>(pen: &mut Pen<A>) -> Result<(), AllocError> {
     pen.put(b"<code>AC in 0305,0310</code>: the accumulator holds one of these words. ")?;
     pen.put(b"<code>0010 in 0224-0230</code>: so does the cell 0010. ")?;
     pen.put(
@@ -210,21 +215,43 @@ fn write_guide<A: Allocator>(pen: &mut Pen<A>) -> Result<(), AllocError> {
     pen.put(
         b"<code>reads</code>, <code>writes</code>: the cells that the instruction may read through a pointer ",
     )?;
-    pen.put(b"(the pointer is one of them), and those that it may write.</p>\n<table>\n")
+    pen.put(b"(the pointer is one of them), and those that it may write.\n")
 }
 
-/// The page below the verdict. `why` is what is told of a no.
+/// Writes how numbers and names of instructions are read.
+fn write_names_guide<A: Allocator>(pen: &mut Pen<A>) -> Result<(), AllocError> {
+    pen.put(b"All numbers are octal. <code>TAD Z010</code> names the cell 0010, ")?;
+    pen.put(b"and <code>TAD C024</code> the cell 024 of the page that the instruction is on; ")?;
+    pen.put(b"behind <code>I</code> stands the cell that holds the address; ")?;
+    pen.put(b"if that is one of 0010 to 0017, it is made one more first. ")?;
+    pen.put(b"<code>ISZ</code> makes a word one more, and skips an instruction if it is 0000 then.")
+}
+
+/// Writes how the listing is read.
+fn write_guide<A: Allocator>(
+    pen: &mut Pen<A>,
+    verdict: &Result<(), Refusal>,
+) -> Result<(), AllocError> {
+    pen.put(b"<h2 id=listing>Listing</h2>\n<p>Beside each instruction stands ")?;
+    pen.put(listed_text(verdict))?;
+    pen.put(b"; what is the same as on the line above is grey.\n")?;
+    write_items_guide(pen)?;
+    write_names_guide(pen)?;
+    pen.put(b"</p>\n<table>\n")
+}
+
+/// The page behind the verdict and what `opening` says of it. `why` is what is told of a no.
 pub fn page_below<A: Allocator + Copy, D: Allocator, C: Allocator>(
     alloc: A,
     report: &Report<'_, A, D, C>,
     why: &[u8],
 ) -> Result<Vec<u8, A>, AllocError> {
-    let mut pen = Pen::new(alloc, Form::Page);
+    let mut pen = Pen::new(alloc, Form::Page, &report.lines());
     write_verdict(&mut pen, report, why)?;
     write_map(&mut pen, report)?;
     write_graph(&mut pen, alloc, report)?;
     write_variables(&mut pen, report)?;
-    write_guide(&mut pen)?;
+    write_guide(&mut pen, report.verdict)?;
     push_listing(&mut pen, report)?;
     pen.put(b"</table>\n</body>\n</html>\n")?;
     Ok(pen.into_bytes())

@@ -22,6 +22,8 @@ pub enum Form {
 pub(crate) struct Pen<A: Allocator> {
     bytes: Vec<u8, A>,
     form: Form,
+    /// The addresses that have a line of the listing, to which links may lead.
+    lines: WordSet,
     /// How many blanks stand before the first item of the line.
     indent: usize,
     /// Whether the line has an item.
@@ -29,11 +31,12 @@ pub(crate) struct Pen<A: Allocator> {
 }
 
 impl<A: Allocator> Pen<A> {
-    /// A pen that has written nothing.
-    pub(crate) fn new(alloc: A, form: Form) -> Pen<A> {
+    /// A pen that has written nothing, for a listing with lines at these addresses.
+    pub(crate) fn new(alloc: A, form: Form, lines: &WordSet) -> Pen<A> {
         Pen {
             bytes: Vec::new(alloc),
             form,
+            lines: *lines,
             indent: 0,
             has_item: false,
         }
@@ -51,6 +54,11 @@ impl<A: Allocator> Pen<A> {
             Form::Text => false,
             Form::Page => true,
         }
+    }
+
+    /// Whether an address has a line of the listing.
+    pub(crate) fn has_line(&self, at: Word) -> bool {
+        self.lines.contains(at)
     }
 
     /// Writes bytes as they are.
@@ -101,9 +109,9 @@ impl<A: Allocator> Pen<A> {
         self.bytes.extend_from_slice(&word.to_octal())
     }
 
-    /// Writes an address, in a page with a link to its line.
+    /// Writes an address, in a page with a link to its line, if it has one.
     pub(crate) fn place(&mut self, at: Word) -> Result<(), AllocError> {
-        if !self.is_page() {
+        if !self.is_page() || !self.has_line(at) {
             return self.word(at);
         }
         self.put(b"<a href=#a")?;
@@ -161,7 +169,7 @@ impl<A: Allocator> Pen<A> {
         self.runs(set, false)
     }
 
-    /// Writes the addresses of a set, with links in a page.
+    /// Writes the addresses of a set, in a page with links to the lines that there are.
     pub(crate) fn places(&mut self, set: &WordSet) -> Result<(), AllocError> {
         self.runs(set, true)
     }

@@ -89,10 +89,12 @@ impl<A: Allocator, D: Allocator, C: Allocator> Report<'_, A, D, C> {
         if self.declaration.is_entry(at) {
             return Kind::Entry;
         }
-        match self.declaration.owner_of(at) {
-            Some(Owner::Main) => Kind::Main,
-            Some(Owner::Routine(entry)) => Kind::Routine(entry),
-            None => self.kind_outside(at),
+        let Some(owner) = self.declaration.owner_of(at) else {
+            return self.kind_outside(at);
+        };
+        match owner {
+            Owner::Main => Kind::Main,
+            Owner::Routine(entry) => Kind::Routine(entry),
         }
     }
 
@@ -114,19 +116,31 @@ impl<A: Allocator, D: Allocator, C: Allocator> Report<'_, A, D, C> {
 
     /// Whether nothing is to be said of a cell but that it is a variable.
     pub(crate) fn is_quiet(&self, at: Word) -> bool {
-        if self.image.get(at).is_some() || self.facts.contains(at) {
+        if self.image.get(at).is_some() || self.facts.contains(at) || self.is_refused_at(at) {
             return false;
         }
         self.kind_of(at) == Kind::Variable && self.held_in(at).is_none()
     }
 
-    /// Whether the listing has a line for an address: where something stands, unless it is in a row of
-    /// variables of which nothing is said.
+    /// Whether the listing has a line for an address: where something stands, or where the verdict is no,
+    /// unless it is in a row of variables of which nothing is said.
     pub(crate) fn has_line(&self, at: Word) -> bool {
         if self.kind_of(at) == Kind::Unset {
-            return self.facts.contains(at);
+            return self.facts.contains(at) || self.is_refused_at(at);
         }
         at == Word::ZERO || !self.is_quiet(at) || !self.is_quiet(before(at))
+    }
+
+    /// The addresses with a line of the listing.
+    pub(crate) fn lines(&self) -> WordSet {
+        let mut lines = WordSet::empty();
+        for index in 0..4096 {
+            let at = Word::from_index(index);
+            if self.has_line(at) {
+                lines.insert(at);
+            }
+        }
+        lines
     }
 
     /// Whether the word at an address is told as an instruction: in a body, or where there is a fact.

@@ -3,7 +3,7 @@ use Rattle.std.specs.Io.KnownBytes.{Appends}
 use Rattle.streams.specs.Bytes.{AppendsFront}
 use Rattle.declaration.specs.Kept.{meaning}
 use Rattle.certificate.specs.Kept.{meaning as lines_of}
-use Rattle.report_texts.specs.Head.{head_of}
+use Rattle.report_texts.specs.Head.{head_of, opening}
 use Rattle.verdict_texts.specs.CheckText.{checked_case, verdict_status, verdict_text}
 use Rattle.verdict_texts.proofs.CheckLemmas.{verdict_is}
 use Rattle.report_commands.proofs.reporting.report.Goals as goal
@@ -11,7 +11,7 @@ use Rattle.report_commands.proofs.reporting.report.Goals as goal
 pub returns-in_err-put-clause-front : goal.returns-in_err-put-clause-front
 returns-in_err-put-clause-front g c = λ marked.
     let d = meaning c.in_ok-promised.promised in
-    let page = head_of c.args.form ++ (verdict_text d c.judge-verdict.result ++ c.in_ok-rest.rest.items) in
+    let page = head_of c.args.form ++ (verdict_text d c.judge-verdict.result ++ (opening c.args.form c.judge-verdict.result ++ c.in_ok-rest.rest.items)) in
     let front : AppendsFront (g.W.ByteSink.taken c.args.out.now) (g.W.ByteSink.taken c.put.new.sink) page = search rules in
     record {
       text = page;
@@ -41,7 +41,7 @@ returns-in_err-put-clause-front g c = λ marked.
 pub returns-clause-reported : goal.returns-clause-reported
 returns-clause-reported g c =
     let d = meaning c.in_ok-promised.promised in
-    let page = head_of c.args.form ++ (verdict_text d c.judge-verdict.result ++ c.in_ok-rest.rest.items) in
+    let page = head_of c.args.form ++ (verdict_text d c.judge-verdict.result ++ (opening c.args.form c.judge-verdict.result ++ c.in_ok-rest.rest.items)) in
     let written : Appends (g.W.ByteSink.taken c.args.out.now) (g.W.ByteSink.taken c.put.new.sink) page = search rules in
     record {
       text = page;

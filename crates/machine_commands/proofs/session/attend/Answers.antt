@@ -1,4 +1,5 @@
 use Rattle.std.proofs.Common.{rules, ◌≡◌, ◌∙◌, ◌||◌, sym, true, false, true≢false, inl, inr}
+use Rattle.std.proofs.lemmas.Result.{err_from_is_err_and}
 use Rattle.std.specs.Io.KnownBytes.{Appends}
 use Rattle.streams.specs.Bytes.{AppendsFront}
 use Rattle.peripherals.specs.World.{view, profile_of}
@@ -63,3 +64,8 @@ returns-in_err-put-2-clause-read_told g c = λ yes. absurd (true≢false (sym ye
 
 pub returns-clause-read_told : goal.returns-clause-read_told
 returns-clause-read_told g c = λ yes. absurd (true≢false (sym yes ∙ c.in_ok-outcome.ensures.reads))
+
+pub returns-in_err-outcome-clause-read_told : goal.returns-in_err-outcome-clause-read_told
+returns-in_err-outcome-clause-read_told g c = λ yes.
+    let p = err_from_is_err_and c.from_residual-in_err-outcome.result c.from_residual-in_err-outcome.ensures.1 in
+    inl (rw (p.1, p.2) (sym c.in_err-outcome.ensures.reads ∙ yes))

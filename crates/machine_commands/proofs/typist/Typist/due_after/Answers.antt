@@ -31,7 +31,7 @@ pub returns-in-ReaderDone-clause-read : goal.returns-in-ReaderDone-clause-read
 returns-in-ReaderDone-clause-read g c = rw c.in-ReaderDone.is c.answer_due.ensures.asked
 
 pub returns-in-ReaderDone-clause-marks : goal.returns-in-ReaderDone-clause-marks
-returns-in-ReaderDone-clause-marks g c = second_failed _ _ _ (rw (ap (λ s. s.reader) c.answer_due.ensures.same) c.requires.reader) c.answer_due.ensures.marks
+returns-in-ReaderDone-clause-marks g c = second_failed (g.F.ByteSource.mark c.answer_due.new.self.reader) (g.K.ByteSource.mark c.answer_due.new.self.keys) _ (rw (ap (λ s. s.reader) c.answer_due.ensures.same) c.requires.reader) c.answer_due.ensures.marks
 
 pub returns-in-Key-clause-due : goal.returns-in-Key-clause-due
 returns-in-Key-clause-due g c = λ frames bytes left others.

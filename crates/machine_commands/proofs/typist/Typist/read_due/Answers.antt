@@ -17,7 +17,7 @@ pub returns-then-not-waits-clause-read : goal.returns-then-not-waits-clause-read
 returns-then-not-waits-clause-read g c = on_err_weaker c.answer_due.result (either_second _ c.args.self.now.asked) c.answer_due.ensures.asked
 
 pub returns-then-not-waits-clause-marks : goal.returns-then-not-waits-clause-marks
-returns-then-not-waits-clause-marks g c = second_failed _ _ _ (rw (ap (λ s. s.reader) c.answer_due.ensures.same) c.requires.reader) c.answer_due.ensures.marks
+returns-then-not-waits-clause-marks g c = second_failed (g.F.ByteSource.mark c.answer_due.new.self.reader) (g.K.ByteSource.mark c.answer_due.new.self.keys) _ (rw (ap (λ s. s.reader) c.answer_due.ensures.same) c.requires.reader) c.answer_due.ensures.marks
 
 pub returns-in_err-next_byte-clause-read : goal.returns-in_err-next_byte-clause-read
 returns-in_err-next_byte-clause-read g c =
@@ -43,4 +43,4 @@ pub returns-in-None-clause-read : goal.returns-in-None-clause-read
 returns-in-None-clause-read g c = on_err_weaker c.answer_due-in-None.result (either_second _ c.args.self.now.asked) c.answer_due-in-None.ensures.asked
 
 pub returns-in-None-clause-marks : goal.returns-in-None-clause-marks
-returns-in-None-clause-marks g c = second_failed _ _ _ (rw (ap (λ s. s.reader) c.answer_due-in-None.ensures.same) c.in_ok-next_byte.ensures.marks) c.answer_due-in-None.ensures.marks
+returns-in-None-clause-marks g c = second_failed (g.F.ByteSource.mark c.answer_due-in-None.new.self.reader) (g.K.ByteSource.mark c.answer_due-in-None.new.self.keys) _ (rw (ap (λ s. s.reader) c.answer_due-in-None.ensures.same) c.in_ok-next_byte.ensures.marks) c.answer_due-in-None.ensures.marks

@@ -63,8 +63,8 @@ none_failed a b c d no_a no_b no_c no_d = rw (no_a, no_b, no_c, no_d) refl
 -- the fault of a run with an operator
 pub session_faults : {T : Type 0} (most : ℕ) (tape reader keys : Input) (image : List (Option ℕ)) (r : Result T Fault) →
     HasImage tape.had image → (fails_to_read r ≡ true → false ≡ true) → IfErr r IsHeldFault → IfErr r (IsSessionFault most tape reader keys)
-session_faults most tape reader keys image (Ok v) good none held = tt
-session_faults most tape reader keys image (Err fault) good none held = inr (record { image = image; tape = good }, inr (inr (held_run (Err fault) none held)))
+session_faults {T} most tape reader keys image (Ok v) good none held = tt
+session_faults {T} most tape reader keys image (Err fault) good none held = inr (record { image = image; tape = good }, inr (inr (held_run {T = T} (Err fault) none held)))
 
 -- what it writes
 pub session_ok : (options : SessionOptions) (tape reader keys : Option (List ℕ)) (image : List (Option ℕ)) (frames bytes : List ℕ) (o : Operator) (r : Result Status Fault) (old new : Taken) →

@@ -252,10 +252,10 @@ second_failed a b c none is = rw none is
 
 -- of three only the first may have
 pub first_failed : (a b c : Bool) → b ≡ false → c ≡ false → (a || (b || c)) ≡ true → a ≡ true
-first_failed true b c no_b no_c yes = refl
-first_failed false b c no_b no_c yes =
+first_failed true b c no_b no_c one = refl
+first_failed false b c no_b no_c one =
     let none : (b || c) ≡ false = rw (no_b, no_c) refl in
-    let some : (b || c) ≡ true = yes in
+    let some : (b || c) ≡ true = one in
     absurd (true≢false (sym some ∙ none))
 
 -- the event that is due comes, and the others after it

@@ -11,14 +11,8 @@ returns-then-count-eq0-clause-none g c = λ is rest left.
     let done : g.S.ByteSource.ended c.read.new.self ≡ true = ends ∙ or_true (g.S.ByteSource.ended c.args.source.now) in
     end_came _ _ (g.S.ByteSource.ended c.args.source.now) (g.S.ByteSource.ended c.read.new.self) rest (rw none at c.in-Ok.ensures.bytes.0) (c.in-Ok.ensures.bytes.1 none some_room) done left
 
-pub returns-in-Ok-clause-some : goal.returns-in-Ok-clause-some
-returns-in-Ok-clause-some g c = λ rest left.
-    let sized : length c.read.new.piece ≡ 1 = c.read.auto.piece in
-    byte_came _ _ (g.S.ByteSource.ended c.args.source.now) (g.S.ByteSource.ended c.read.new.self) c.in-Ok.count _ c.read.new.piece rest c.if-count-eq0.false (let few = c.in-Ok.ensures.count in omega (arith, few, sized)) (one_item c.read.new.piece sized) c.in-Ok.ensures.bytes.0
-    (λ yes. let stays = c.in-Ok.ensures.stays yes in cc) left
-
-pub returns-clause-some : goal.returns-clause-some
-returns-clause-some g c = λ rest left.
+pub returns-else-count-eq0-clause-some : goal.returns-else-count-eq0-clause-some
+returns-else-count-eq0-clause-some g c = λ rest left.
     let sized : length c.read.new.piece ≡ 1 = c.read.auto.piece in
     byte_came _ _ (g.S.ByteSource.ended c.args.source.now) (g.S.ByteSource.ended c.read.new.self) c.in-Ok.count _ c.read.new.piece rest c.if-count-eq0.false (let few = c.in-Ok.ensures.count in omega (arith, few, sized)) (one_item c.read.new.piece sized) c.in-Ok.ensures.bytes.0
     (λ yes. let stays = c.in-Ok.ensures.stays yes in cc) left

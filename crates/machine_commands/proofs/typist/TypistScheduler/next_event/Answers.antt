@@ -15,11 +15,11 @@ due-requires g c = record {
   keys = or_right (g.F.ByteSource.mark c.args.self.now.reader) (g.K.ByteSource.mark c.args.self.now.keys) c.requires;
 }
 
-pub returns-in_err-due-clause-cut : goal.returns-in_err-due-clause-cut
-returns-in_err-due-clause-cut g c =
+pub returns-in_err-event-clause-cut : goal.returns-in_err-event-clause-cut
+returns-in_err-event-clause-cut g c =
     let t = c.args.self.now in
     let cut : (p : Profile) → Types t.options t.asked t.rounds t.last (source (g.F.ByteSource.remaining t.reader) (g.F.ByteSource.ended t.reader)) (source (g.K.ByteSource.remaining t.keys) (g.K.ByteSource.ended t.keys)) p (view c.args.world.now) UpToRead [] =
-    λ p. types_read t.options (view c.args.world.now) t.asked t.rounds t.last (source (g.F.ByteSource.remaining t.reader) (g.F.ByteSource.ended t.reader)) (source (g.K.ByteSource.remaining t.keys) (g.K.ByteSource.ended t.keys)) p c.in_err-due.ensures.read in
+    λ p. types_read t.options (view c.args.world.now) t.asked t.rounds t.last (source (g.F.ByteSource.remaining t.reader) (g.F.ByteSource.ended t.reader)) (source (g.K.ByteSource.remaining t.keys) (g.K.ByteSource.ended t.keys)) p c.in_err-event.ensures.read in
     search (rules, cut)
 
 pub returns-in-None-clause-over : goal.returns-in-None-clause-over
@@ -31,7 +31,7 @@ returns-in-None-clause-over g c =
     let keys = source (g.K.ByteSource.remaining t.keys) (g.K.ByteSource.ended t.keys) in
     let reader_after = source (g.F.ByteSource.remaining s.reader) (g.F.ByteSource.ended s.reader) in
     let keys_after = source (g.K.ByteSource.remaining s.keys) (g.K.ByteSource.ended s.keys) in
-    let brought : IsBrought t.options w t.asked t.rounds t.last reader keys None reader_after keys_after = rw c.in-None.is at c.in_ok-due.ensures.due in
+    let brought : IsBrought t.options w t.asked t.rounds t.last reader keys None reader_after keys_after = rw c.in-None.is at c.in_ok-event.ensures.due in
     λ none p extent. types_over t.options w t.asked t.rounds t.last reader keys reader_after keys_after p extent brought
 
 pub returns-in-Some-clause-due : goal.returns-in-Some-clause-due
@@ -44,7 +44,7 @@ returns-in-Some-clause-due g c =
     let keys = source (g.K.ByteSource.remaining t.keys) (g.K.ByteSource.ended t.keys) in
     let reader_after = source (g.F.ByteSource.remaining s.reader) (g.F.ByteSource.ended s.reader) in
     let keys_after = source (g.K.ByteSource.remaining s.keys) (g.K.ByteSource.ended s.keys) in
-    let brought : IsBrought t.options w t.asked t.rounds t.last reader keys (Some e) reader_after keys_after = rw c.in-Some.is at c.in_ok-due.ensures.due in
+    let brought : IsBrought t.options w t.asked t.rounds t.last reader keys (Some e) reader_after keys_after = rw c.in-Some.is at c.in_ok-event.ensures.due in
     record {
       on = λ p m extent es goes happens comes. types_on t.options w m t.asked t.rounds t.last reader keys reader_after keys_after e p extent es brought goes happens (rw (c.note.ensures, c.due.ensures.same) at comes);
       last = λ p extent ends. types_last t.options w t.asked t.rounds t.last reader keys reader_after keys_after e p extent brought ends;
@@ -60,7 +60,7 @@ returns-in-Some-clause-fewer g c =
     let keys = source (g.K.ByteSource.remaining t.keys) (g.K.ByteSource.ended t.keys) in
     let reader_after = source (g.F.ByteSource.remaining s.reader) (g.F.ByteSource.ended s.reader) in
     let keys_after = source (g.K.ByteSource.remaining s.keys) (g.K.ByteSource.ended s.keys) in
-    let brought : IsBrought t.options (view c.args.world.now) t.asked t.rounds t.last reader keys (Some e) reader_after keys_after = rw c.in-Some.is at c.in_ok-due.ensures.due in
+    let brought : IsBrought t.options (view c.args.world.now) t.asked t.rounds t.last reader keys (Some e) reader_after keys_after = rw c.in-Some.is at c.in_ok-event.ensures.due in
     let less : Less t.rounds t.last e = brought_less t.options (view c.args.world.now) t.asked t.rounds t.last reader keys reader_after keys_after e brought in
     rw (c.note.ensures, c.due.ensures.same) less.fewer
 
@@ -73,7 +73,7 @@ returns-in-Some-clause-steps g c =
     let keys = source (g.K.ByteSource.remaining t.keys) (g.K.ByteSource.ended t.keys) in
     let reader_after = source (g.F.ByteSource.remaining s.reader) (g.F.ByteSource.ended s.reader) in
     let keys_after = source (g.K.ByteSource.remaining s.keys) (g.K.ByteSource.ended s.keys) in
-    let brought : IsBrought t.options (view c.args.world.now) t.asked t.rounds t.last reader keys (Some e) reader_after keys_after = rw c.in-Some.is at c.in_ok-due.ensures.due in
+    let brought : IsBrought t.options (view c.args.world.now) t.asked t.rounds t.last reader keys (Some e) reader_after keys_after = rw c.in-Some.is at c.in_ok-event.ensures.due in
     let less : Less t.rounds t.last e = brought_less t.options (view c.args.world.now) t.asked t.rounds t.last reader keys reader_after keys_after e brought in
     rw (c.note.ensures, c.due.ensures.same) less.counted
 
@@ -81,4 +81,4 @@ pub returns-in-Some-clause-stepped : goal.returns-in-Some-clause-stepped
 returns-in-Some-clause-stepped g c = λ step. rw (c.note.ensures, step) refl
 
 pub returns-in-Some-clause-marks : goal.returns-in-Some-clause-marks
-returns-in-Some-clause-marks g c = rw c.note.ensures c.in_ok-due.ensures.marks
+returns-in-Some-clause-marks g c = rw c.note.ensures c.in_ok-event.ensures.marks

@@ -5,5 +5,6 @@ pub mod WatchLemmas
 pub mod RunLemmas
 pub mod SessionLemmas
 pub mod WatchedSessionLemmas
+pub mod HeldLemmas
 pub mod TypistLemmas
 pub mod TeletypeLemmas

@@ -1,15 +1,20 @@
 -- What a session at the teletype holds, and what it leaves where it has a fault.
-use Rattle.std.proofs.Common.{ℕ, ◌≡◌, Bool, true, false, List, Option, None, refl}
+use Rattle.std.proofs.Common.{ℕ, ◌≡◌, Bool, true, false, List, Option, None, Result, Ok, Err, IfOk, OnErr, refl, inl, inr}
+use Rattle.std.specs.Prelude.{◌⊎◌, IfErr}
 use Rattle.instruct.specs.declared.Profile.{Profile}
 use Rattle.peripherals.specs.declared.Event.{Event}
 use Rattle.peripherals.specs.Devices.{WorldState}
 use Rattle.options.specs.declared.TeletypeOptions.{TeletypeOptions}
 use Rattle.command_parts.specs.declared.status.Status.{Status}
-use Rattle.command_parts.specs.Inputs.{HasImage}
+use Rattle.command_parts.specs.declared.status.DeviceFault.TheVariants.{Read, Write}
+use Rattle.command_parts.specs.declared.status.Fault.{Fault}
+use Rattle.command_parts.specs.declared.status.Fault.TheVariants as fault_of
+use Rattle.command_parts.specs.Faults.{IsTapeInputFault, fails_to_read, is_fault_of_tape}
+use Rattle.command_parts.specs.Inputs.{HasImage, Input}
 use Rattle.machine_commands.specs.Schedule.{Extent, Whole}
-use Rattle.machine_commands.specs.Session.{Failures, FrontsOf, IsHeld, Taken, WritesAll}
+use Rattle.machine_commands.specs.Session.{Failures, FrontsOf, IsHeld, IsHeldFault, Taken, WritesAll}
 use Rattle.machine_commands.specs.SessionParts.{IsPartOf}
-use Rattle.machine_commands.specs.Teletype.{IsPartOfTyped, IsTyped, TypedFronts, run_of, types_by}
+use Rattle.machine_commands.specs.Teletype.{IsPartOfTyped, IsTyped, IsTypedFault, TypedFronts, run_of, types_by}
 use Rattle.machine_commands.specs.Typing.{all_rounds}
 use Rattle.machine_commands.specs.TypingParts.{Source, Types}
 use Rattle.machine_commands.proofs.SessionLemmas.{fronts_by, writes_by}
@@ -71,3 +76,35 @@ pub typed_is : (options : TeletypeOptions) (tape : Option (List ℕ)) (reader ke
     WritesAll (IsTyped options Whole tape reader.told keys.told status) old new
 typed_is options tape reader keys image status old new has_image writes =
     writes_by _ _ old new (λ text printed punched held. typed_held options Whole tape reader keys image status text printed punched has_image held) writes
+
+-- the same of what a session answers
+pub typed_ok : (options : TeletypeOptions) (tape : Option (List ℕ)) (reader keys : Source) (image : List (Option ℕ)) (r : Result Status Fault) (old new : Taken) → HasImage tape image →
+    IfOk r (λ status. WritesAll (λ text printed punched. IsHeld (begun options reader keys) (run_of options) true Whole image text printed punched status) old new) →
+    IfOk r (λ status. WritesAll (IsTyped options Whole tape reader.told keys.told status) old new)
+typed_ok options tape reader keys image (Ok status) old new has_image writes = typed_is options tape reader keys image status old new has_image writes
+typed_ok options tape reader keys image (Err fault) old new has_image writes = tt
+
+pub typed_err : {T : Type 0} (options : TeletypeOptions) (tape : Option (List ℕ)) (reader keys : Source) (image : List (Option ℕ)) (marked unread : Bool) (failed : Failures) (old new : Taken) (r : Result T Fault) → HasImage tape image →
+    OnErr r (FrontsOf (IsPartOf (begun options reader keys) (run_of options) true failed.report failed.teletype unread image) failed old new) →
+    IfErr r (λ fault. (is_fault_of_tape fault ≡ true) ⊎ ((marked ≡ true) ⊎ TypedFronts options failed unread tape reader.told keys.told old new))
+typed_err options tape reader keys image marked unread failed old new (Ok v) has_image fronts = tt
+typed_err options tape reader keys image marked unread failed old new (Err fault) has_image fronts = inr (inr (typed_fronts options tape reader keys image unread failed old new has_image fronts))
+
+-- its faults
+pub typed_faults : {T : Type 0} (tape : Input) (image : List (Option ℕ)) (r : Result T Fault) → HasImage tape.had image → IfErr r IsHeldFault → IfErr r (IsTypedFault tape)
+typed_faults tape image (Ok v) good held = tt
+typed_faults tape image (Err fault) good held = inr (record { image = image; tape = good }, held)
+
+-- the tape is refused, or a read of it failed
+pub tape_failed : {Z : Type 0} (tape : Input) (marked : Bool) (fault : Fault) → IsTapeInputFault tape fault → marked ≡ fails_to_read {T = Status} (Err fault) → (is_fault_of_tape fault ≡ true) ⊎ ((marked ≡ true) ⊎ Z)
+tape_failed tape marked (fault_of.Tape fault) is marks = inl refl
+tape_failed tape marked (fault_of.Device Read) is marks = inr (inl marks)
+tape_failed tape marked (fault_of.Device Write) is marks = absurd is
+tape_failed tape marked fault_of.EmptyImage is marks = absurd is
+tape_failed tape marked (fault_of.Source fault) is marks = absurd is
+tape_failed tape marked (fault_of.Declared fault) is marks = absurd is
+tape_failed tape marked (fault_of.Certificate fault) is marks = absurd is
+tape_failed tape marked (fault_of.Events fault) is marks = absurd is
+tape_failed tape marked (fault_of.Guess fault) is marks = absurd is
+tape_failed tape marked (fault_of.Declare fault) is marks = absurd is
+tape_failed tape marked fault_of.NoMemory is marks = absurd is

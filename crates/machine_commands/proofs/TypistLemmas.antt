@@ -1,11 +1,13 @@
 -- Frames and keys that are read while a session goes on.
 use Rattle.std.proofs.Common.{ℕ, zero, suc, ◌≡◌, ◌+◌, ◌*◌, ◌==◌, ◌<◌, ◌≤◌, Bool, true, false, ◌||◌, if◌then◌else◌, List, [], ◌∷◌, ◌++◌, drop, take, map, refl, sym, ◌∙◌, ap, arith, Some, None, Option, Ok, Err, Result, subst, unwrap_or, true≢false}
-use Rattle.std.specs.Prelude.{IfOk, IsTrue, OnErr, OnOk, length, slice_index}
+use Rattle.std.specs.Prelude.{◌&&◌, not, IfOk, IsTrue, OnErr, OnOk, length, slice_index}
 use Rattle.std.specs.Io.KnownBytes.{Consumes, IsAtEnd}
 use Rattle.instruct.specs.declared.Profile.{Profile}
 use Rattle.peripherals.specs.declared.Event.{Event}
 use Rattle.peripherals.specs.declared.Event.TheVariants.{Step, Key, PrinterDone, ReaderDone, PunchDone, Switches, Continue}
-use Rattle.peripherals.specs.Devices.{WorldState}
+use Rattle.instruct.specs.Devices.{word_of}
+use Rattle.instruct.specs.declared.devices.DeviceOperation.TheVariants.{SkipOnKeyboardFlag}
+use Rattle.peripherals.specs.Devices.{WorldState, word_at_pc}
 use Rattle.peripherals.specs.Events.{Happens, completed, done, with_devices}
 use Rattle.peripherals.specs.Operator.{Plan, first_due, left_after, one_less, round_due}
 use Rattle.peripherals.specs.Seen.{puts_out, seen_of}
@@ -16,7 +18,7 @@ use Rattle.machine_commands.specs.Cuts.{some_left}
 use Rattle.machine_commands.specs.Schedule.{Comes, Over, Cut, Final, Then, Extent, UpToOutput, UpToRead}
 use Rattle.machine_commands.specs.SessionParts.{rank, steps_in}
 use Rattle.machine_commands.specs.Teletype.{AreAll}
-use Rattle.machine_commands.specs.Typing.{answer_due, asked_after, is_read, read_due, typed_as, typed_due, typing}
+use Rattle.machine_commands.specs.Typing.{answer_due, asked_after, asks, is_read, read_due, typed_as, typed_due, typing}
 use Rattle.machine_commands.specs.TypingParts.{Answered, Brought, IsLeft, Source, Types, bytes_left, frames_left, rounds_left, typed_plan}
 use Rattle.machine_commands.proofs.SessionLemmas.{device_goes, printer_done}
 
@@ -166,11 +168,37 @@ map_rest : (f : ℕ → ℕ) (bytes : List ℕ) → drop 1 (map f bytes) ≡ map
 map_rest f [] = refl
 map_rest f (byte ∷ bytes) = refl
 
+-- the first event takes no frame and no key, and none is looked at
+first_same : (options : TeletypeOptions) (rounds : ℕ) (frames bytes : List ℕ) (switches : Option ℕ) → first_due (typed_plan options rounds frames bytes) switches ≡ first_due (typed_plan options rounds [] []) switches
+first_same options rounds frames bytes None = refl
+first_same options rounds frames bytes (Some word) = refl
+
+first_frames : (options : TeletypeOptions) (rounds : ℕ) (frames : List ℕ) (switches : Option ℕ) → frames ≡ frames_left (first_due (typed_plan options rounds [] []) switches) frames
+first_frames options rounds frames None = round_frames rounds frames
+first_frames options rounds frames (Some word) = refl
+
+first_bytes : (options : TeletypeOptions) (rounds : ℕ) (bytes : List ℕ) (switches : Option ℕ) → bytes ≡ bytes_left (first_due (typed_plan options rounds [] []) switches) bytes
+first_bytes options rounds bytes None = round_bytes rounds bytes
+first_bytes options rounds bytes (Some word) = refl
+
+pub first_plainly : (options : TeletypeOptions) (w : WorldState) (asked : Bool) (rounds : ℕ) (reader keys : Source) (due : Option Event) (frames bytes : List ℕ) → due ≡ first_due (typed_plan options rounds [] []) options.switches →
+    IsLeft reader.told reader.ended frames → IsLeft keys.told keys.ended bytes → Brought options w asked rounds None reader keys due frames bytes
+first_plainly options w asked rounds reader keys due frames bytes is frames_are bytes_are =
+    plainly options w asked rounds None reader keys due frames bytes frames_are bytes_are (first_same options rounds frames bytes options.switches ∙ sym is)
+    (rw is (first_frames options rounds frames options.switches)) (rw is (first_bytes options rounds bytes options.switches))
+
 -- what is still to come after an event
+with_keys : TeletypeOptions → ℕ → List ℕ → List ℕ → Plan
+with_keys options rounds frames keys = record { switches = options.switches; rounds = rounds; frames = frames; keys = keys }
+
+key_left : (options : TeletypeOptions) (rounds key : ℕ) (frames bytes : List ℕ) → left_after (Key key) (typed_plan options rounds frames bytes) ≡ typed_plan options rounds frames (drop 1 bytes)
+unfolding with_keys
+key_left options rounds key frames bytes = ap (with_keys options rounds frames) (map_rest (typed_as options.manner) bytes)
+
 plan_left : (options : TeletypeOptions) (rounds : ℕ) (frames bytes : List ℕ) (e : Event) →
     left_after e (typed_plan options rounds frames bytes) ≡ typed_plan options (rounds_left e rounds) (frames_left (Some e) frames) (bytes_left (Some e) bytes)
 plan_left options rounds frames bytes Step = refl
-plan_left options rounds frames bytes (Key key) = ap (λ (keys : List ℕ). record { switches = options.switches; rounds = rounds; frames = frames; keys = keys }) (map_rest (typed_as options.manner) bytes)
+plan_left options rounds frames bytes (Key key) = key_left options rounds key frames bytes
 plan_left options rounds frames bytes PrinterDone = refl
 plan_left options rounds frames bytes (ReaderDone frame) = refl
 plan_left options rounds frames bytes PunchDone = refl
@@ -182,21 +210,74 @@ abbrev pub IsBrought : TeletypeOptions → WorldState → Bool → ℕ → Optio
 IsBrought options w asked rounds last reader keys due reader_after keys_after =
     (frames bytes : List ℕ) → IsLeft reader_after.told reader_after.ended frames → IsLeft keys_after.told keys_after.ended bytes → Brought options w asked rounds last reader keys due frames bytes
 
+-- at the keyboard's turn too
+abbrev pub IsAnswered : TeletypeOptions → Bool → ℕ → Source → Option Event → Source → Type 0
+IsAnswered options asked rounds keys due keys_after = (after : List ℕ) → IsLeft keys_after.told keys_after.ended after → Answered options asked rounds keys due after
+
+-- the reader waits for nothing, and it is the keyboard's turn
+pub not_waiting_ok : {E : Type 0} (options : TeletypeOptions) (w : WorldState) (asked : Bool) (rounds : ℕ) (reader keys keys_after : Source) (r : Result (Option Event) E) → w.devices.reader.fetching ≡ false →
+    IfOk r (λ due. IsAnswered options asked rounds keys due keys_after) → IfOk r (λ due. IsBrought options w asked rounds (Some PunchDone) reader keys due reader keys_after)
+not_waiting_ok options w asked rounds reader keys keys_after (Ok due) waits answered = λ frames bytes left others. not_waiting options w asked rounds reader keys due frames bytes waits left (answered bytes others)
+not_waiting_ok options w asked rounds reader keys keys_after (Err fault) waits answered = tt
+
+-- the reader waits, no frame is left, and it is the keyboard's turn
+pub no_frame_ok : {E : Type 0} (options : TeletypeOptions) (w : WorldState) (asked : Bool) (rounds : ℕ) (reader reader_after keys keys_after : Source) (r : Result (Option Event) E) →
+    ((rest : List ℕ) → IsLeft reader_after.told reader_after.ended rest → (rest ≡ []) × IsLeft reader.told reader.ended []) →
+    IfOk r (λ due. IsAnswered options asked rounds keys due keys_after) → IfOk r (λ due. IsBrought options w asked rounds (Some PunchDone) reader keys due reader_after keys_after)
+no_frame_ok options w asked rounds reader reader_after keys keys_after (Ok due) none answered = λ frames bytes left others.
+    let ended = none frames left in
+    no_frame options w asked rounds reader keys due frames bytes ended.0 ended.1 (answered bytes others)
+no_frame_ok options w asked rounds reader reader_after keys keys_after (Err fault) none answered = tt
+
+-- a frame came, and it is the keyboard's turn
+pub answered_ok : {E : Type 0} (options : TeletypeOptions) (w : WorldState) (asked : Bool) (rounds frame : ℕ) (reader keys keys_after : Source) (r : Result (Option Event) E) →
+    IfOk r (λ due. IsAnswered options asked rounds keys due keys_after) → IfOk r (λ due. IsBrought options w asked rounds (Some (ReaderDone frame)) reader keys due reader keys_after)
+answered_ok options w asked rounds frame reader keys keys_after (Ok due) answered = λ frames bytes left others. answered_after options w asked rounds frame reader keys due frames bytes left (answered bytes others)
+answered_ok options w asked rounds frame reader keys keys_after (Err fault) answered = tt
+
+-- what holds anyway holds of a fault
+pub of_err : {T E X : Type 0} (r : Result T E) → X → OnErr r X
+of_err (Ok v) x = tt
+of_err (Err f) x = x
+
+pub either_second : (a b : Bool) → b ≡ true → (a || b) ≡ true
+either_second a b is = rw is (or_true a)
+
+pub either_first : (a b : Bool) → a ≡ true → (a || b) ≡ true
+either_first a b is = rw is refl
+
+-- of two only the second may have failed
+pub second_failed : (a b c : Bool) → a ≡ false → b ≡ c → (a || b) ≡ c
+second_failed a b c none is = rw none is
+
+-- of three only the first may have
+pub first_failed : (a b c : Bool) → b ≡ false → c ≡ false → (a || (b || c)) ≡ true → a ≡ true
+first_failed true b c no_b no_c one = refl
+first_failed false b c no_b no_c one =
+    let none : (b || c) ≡ false = rw (no_b, no_c) refl in
+    let some : (b || c) ≡ true = one in
+    absurd (true≢false (sym some ∙ none))
+
 -- the event that is due comes, and the others after it
-pub types_on : (options : TeletypeOptions) (w m : WorldState) (asked : Bool) (rounds : ℕ) (last : Option Event) (reader keys reader_after keys_after : Source) (e : Event) (p : Profile) (extent : Extent) (es : List Event) →
-    IsBrought options w asked rounds last reader keys (Some e) reader_after keys_after → goes_on true (seen_of p w e) ≡ true → Happens p w e m →
-    Types options (asked_after asked w e) (rounds_left e rounds) (Some e) reader_after keys_after p m extent es → Types options asked rounds last reader keys p w extent (e ∷ es)
-types_on options w m asked rounds last reader keys reader_after keys_after e p extent es brought goes happens later =
-    let b = brought later.frames later.bytes later.frames_are later.bytes_are in
-    let left : left_after e (typed_plan options rounds b.frames b.bytes) ≡ typed_plan options (rounds_left e rounds) later.frames later.bytes = rw (b.frames_rest, b.bytes_rest) (plan_left options rounds b.frames b.bytes e) in
-    let come : Comes typing p extent (record { plan = typed_plan options (rounds_left e rounds) later.frames later.bytes; last = Some e; asked = asked_after asked w e }) m es = later.come in
+types_then : (options : TeletypeOptions) (w m : WorldState) (asked : Bool) (rounds : ℕ) (last : Option Event) (reader keys : Source) (e : Event) (p : Profile) (extent : Extent) (es : List Event) (frames bytes : List ℕ) →
+    Brought options w asked rounds last reader keys (Some e) frames bytes → goes_on true (seen_of p w e) ≡ true → Happens p w e m →
+    Comes typing p extent (record { plan = typed_plan options (rounds_left e rounds) frames bytes; last = Some e; asked = asked_after asked w e }) m es → Types options asked rounds last reader keys p w extent (e ∷ es)
+types_then options w m asked rounds last reader keys e p extent es frames bytes b goes happens come =
+    let from : Comes typing p extent (record { plan = typed_plan options (rounds_left e rounds) (frames_left (Some e) b.frames) (bytes_left (Some e) b.bytes); last = Some e; asked = asked_after asked w e }) m es = rw (b.frames_rest, b.bytes_rest) at come in
     record {
       frames = b.frames;
       bytes = b.bytes;
       frames_are = b.frames_are;
       bytes_are = b.bytes_are;
-      come = Then (record { plan = typed_plan options rounds b.frames b.bytes; last = last; asked = asked }) w m e es b.is_due goes happens (rw (← left) at come);
+      come = Then (record { plan = typed_plan options rounds b.frames b.bytes; last = last; asked = asked }) w m e es b.is_due goes happens
+          (subst (λ (plan : Plan). Comes typing p extent (record { plan = plan; last = Some e; asked = asked_after asked w e }) m es) (sym (plan_left options rounds b.frames b.bytes e)) from);
     }
+
+pub types_on : (options : TeletypeOptions) (w m : WorldState) (asked : Bool) (rounds : ℕ) (last : Option Event) (reader keys reader_after keys_after : Source) (e : Event) (p : Profile) (extent : Extent) (es : List Event) →
+    IsBrought options w asked rounds last reader keys (Some e) reader_after keys_after → goes_on true (seen_of p w e) ≡ true → Happens p w e m →
+    Types options (asked_after asked w e) (rounds_left e rounds) (Some e) reader_after keys_after p m extent es → Types options asked rounds last reader keys p w extent (e ∷ es)
+types_on options w m asked rounds last reader keys reader_after keys_after e p extent es brought goes happens later =
+    types_then options w m asked rounds last reader keys e p extent es later.frames later.bytes (brought later.frames later.bytes later.frames_are later.bytes_are) goes happens later.come
 
 pub types_last : (options : TeletypeOptions) (w : WorldState) (asked : Bool) (rounds : ℕ) (last : Option Event) (reader keys reader_after keys_after : Source) (e : Event) (p : Profile) (extent : Extent) →
     IsBrought options w asked rounds last reader keys (Some e) reader_after keys_after → goes_on true (seen_of p w e) ≡ false → Types options asked rounds last reader keys p w extent (e ∷ [])
@@ -274,16 +355,11 @@ types_complete options w asked rounds reader keys p extent es later =
 -- an event that puts nothing out happens whatever memory there is
 pub happens_anyway : {T E : Type 0} (p : Profile) (w x : WorldState) (e : Event) (r : Result T E) → OnOk r (Happens p w e x) → OnErr r (IsTrue (puts_out w e)) → puts_out w e ≡ false → Happens p w e x
 happens_anyway p w x e (Ok v) happens only none = happens
-happens_anyway p w x e (Err f) happens only none = absurd (let no : IsTrue false = rw none at only in no)
+happens_anyway p w x e (Err f) happens only none = let yes : puts_out w e ≡ true = only in absurd (true≢false (sym yes ∙ none))
 
 -- the printer and the punch got done
 pub both_done : (p q : Profile) (w m x : WorldState) → Happens p w PrinterDone m → Happens q m PunchDone x → x ≡ completed w
 both_done p q w m x printer punch = let first : m ≡ printer_done w = printer in let second : x ≡ with_devices m (record m.devices { punch = done m.devices.punch }) = punch in rw first at second
-
--- of what is answered well, what follows from it
-pub ok_by : {T E : Type 0} (r : Result T E) (P Q : T → Type 0) → ((v : T) → P v → Q v) → IfOk r P → IfOk r Q
-ok_by (Ok v) P Q by is = by v is
-ok_by (Err e) P Q by is = tt
 
 -- how many events may come at most
 none_is : {e : Event} → None ≡ Some e → ⊥
@@ -338,3 +414,7 @@ brought_less options w asked rounds last reader keys reader_after keys_after e b
     let bytes = some_left keys_after.told keys_after.ended in
     let b = brought frames.0 bytes.0 frames.1 bytes.1 in
     typed_less (typed_plan options rounds b.frames b.bytes) w asked last e b.is_due
+
+-- whether the next instruction asks for a key
+pub asks_there : (w : WorldState) (word : ℕ) (flag : Bool) → word ≡ word_at_pc w → w.devices.keyboard.flag ≡ flag → (word == word_of SkipOnKeyboardFlag && not flag) ≡ asks w
+asks_there w word flag is same = rw (is, ← same) refl

@@ -5,7 +5,7 @@ ghost use Rattle.processor.specs.Steps.{state_of};
 ghost use Rattle.peripherals.specs.World.{view};
 ghost use Rattle.command_parts.specs.LinkText.{link_text};
 ghost use Rattle.machine_commands.specs.Schedule.{Whole};
-ghost use Rattle.machine_commands.specs.Session.{character, leaves_open, summary_where};
+ghost use Rattle.machine_commands.specs.Session.{character, leaves_open, parting, summary_where};
 ghost use Rattle.machine_commands.specs.Summary.{end_text, registers_text, state_line, byte_text, bytes_text, output_line, summary};
 
 use crate::follow::{End, Outcome};
@@ -139,13 +139,24 @@ pub fn summary_of<A: Allocator, B: Allocator>(
 }
 
 /// Whether bytes that were printed leave a line open: the last one is no line feed.
+#[tactic(auto, using(crate::proofs::SummaryLemmas::open_last))]
 fn leaves_open(printed: &[u8]) -> bool
     ensures { result ≡ leaves_open (map character printed.now) }
 {
-    match printed.last() {
-        None => false,
-        Some(byte) => *byte % 128 != b'\n',
+    if printed.is_empty() {
+        return false;
     }
+    printed[printed.len() - 1] % 128 != b'\n'
+}
+
+/// What stands before a summary that is to stand apart: the end of an open line.
+fn parting(apart: bool, printed: &[u8]) -> &'static [u8]
+    ensures { result.now ≡ parting apart (map character printed.now) }
+{
+    if !apart {
+        return b"";
+    }
+    if leaves_open(printed) { b"\n" } else { b"" }
 }
 
 /// The end of a report: the summary, on a line of its own where it is to stand apart.
@@ -159,9 +170,7 @@ pub(crate) fn closing_of<A: Allocator, B: Allocator>(
         ≡ summary_where apart Whole outcome.now.end (view world.now) outcome.now.steps) }
 {
     let mut text = Vec::new(alloc);
-    if apart && leaves_open(world.printed()) {
-        text.push(b'\n')?;
-    }
+    text.extend_from_slice(parting(apart, world.printed()))?;
     push_summary(&mut text, outcome, world)?;
     Ok(text)
 }

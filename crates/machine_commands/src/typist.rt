@@ -1,15 +1,18 @@
 //! Who sits at the teletype: strikes a key where the program asks for one, and has a tape in the
 //! reader. Frames and keys are read one by one, each when it is due.
 
-ghost use Rattle.std.specs.Prelude.{ℕ, ◌≡◌, ◌||◌, false, true, None, Some, Ok, List, [], ◌∷◌, IfOk, IfErr, IfSome, OnErr, is_err};
+ghost use Rattle.std.specs.Prelude.{ℕ, ◌≡◌, ◌==◌, ◌||◌, ◌&&◌, not, false, true, None, Some, Ok, List, [], ◌∷◌, IfOk, IfErr, IfSome, OnErr, is_err};
 ghost use Rattle.command_parts.specs.declared.status.Fault.TheVariants.{Device};
 ghost use Rattle.command_parts.specs.declared.status.DeviceFault.TheVariants.{Read};
-ghost use Rattle.peripherals.specs.Operator.{round_due, struck_as};
+ghost use Rattle.instruct.specs.Devices.{word_of};
+ghost use Rattle.instruct.specs.declared.devices.DeviceOperation.TheVariants.{SkipOnKeyboardFlag};
+ghost use Rattle.peripherals.specs.Devices.{word_at_pc};
+ghost use Rattle.peripherals.specs.Operator.{first_due, round_due, struck_as};
 ghost use Rattle.peripherals.specs.declared.Event.TheVariants.{PunchDone};
 ghost use Rattle.peripherals.specs.Events.{completed};
 ghost use Rattle.peripherals.specs.World.{view, profile_of};
 ghost use Rattle.machine_commands.specs.Typing.{asked_after, asks, is_read, typed_as};
-ghost use Rattle.machine_commands.specs.TypingParts.{Answered, Brought, IsLeft, rounds_left, source};
+ghost use Rattle.machine_commands.specs.TypingParts.{Answered, Brought, IsLeft, rounds_left, source, typed_plan};
 
 use crate::schedule::Scheduler;
 use command_parts::status::{DeviceFault, Fault};
@@ -17,6 +20,7 @@ pub use options::{Manner, TeletypeOptions};
 use peripherals::{Event, World};
 use std::alloc::Allocator;
 use streams::ByteSource;
+use word12::Word;
 
 /// A typist: where frames and keys come from, and how far the session has come.
 ///
@@ -56,12 +60,26 @@ fn next_byte<S: ByteSource>(source: &mut S) -> Result<Option<u8>, Fault>
     }
 }
 
+/// The next instruction.
+fn next_word<A: Allocator>(world: &World<A>) -> Word
+    ensures { result ≡ word_at_pc (view world.now) }
+{
+    let machine = world.cpu();
+    machine.memory.get(machine.pc)
+}
+
+/// Whether a word asks for a key, where the keyboard has this flag.
+fn asks_with(word: Word, flag: bool) -> bool
+    ensures { result ≡ (word == word_of SkipOnKeyboardFlag && not flag) }
+{
+    word.value() == 0o6031 && !flag
+}
+
 /// Whether the next instruction asks for a key.
 fn asks<A: Allocator>(world: &World<A>) -> bool
     ensures { result ≡ asks (view world.now) }
 {
-    let cpu = world.cpu();
-    cpu.memory.get(cpu.pc).value() == 0o6031 && !world.panel().keyboard.flag
+    asks_with(next_word(world), world.panel().keyboard.flag)
 }
 
 /// The byte of a key, on a teletype that sets channel 8 or doesn't.
@@ -193,12 +211,56 @@ impl<F: ByteSource, K: ByteSource> Typist<F, K> {
         ensures same { self.new ≡
             record self.old { reader = self.new.reader; keys = self.new.keys } }
     {
-        if !world.panel().reader.fetching {
+        let waits = world.panel().reader.fetching;
+        if !waits {
             return self.answer_due();
         }
         match next_byte(&mut self.reader)? {
             Some(frame) => Ok(Some(Event::ReaderDone(frame))),
             None => self.answer_due(),
+        }
+    }
+
+    /// The first event.
+    fn first_due(&self) -> Option<Event>
+        ensures { result ≡ first_due (typed_plan self.now.options self.now.rounds [] [])
+            self.now.options.switches }
+    {
+        match self.options.switches {
+            Some(word) => Some(Event::Switches(word)),
+            None => self.round_due(),
+        }
+    }
+
+    /// The event that is due after the last one.
+    fn due_after<A: Allocator>(
+        &mut self,
+        last: Event,
+        world: &World<A>,
+    ) -> Result<Option<Event>, Fault>
+        requires reader { F.mark self.old.reader ≡ false }
+        requires keys { K.mark self.old.keys ≡ false }
+        ensures due { IfOk result (λ due. (frames bytes : List ℕ) →
+            IsLeft (F.remaining self.new.reader) (F.ended self.new.reader) frames →
+            IsLeft (K.remaining self.new.keys) (K.ended self.new.keys) bytes →
+            Brought self.old.options (view world.now) self.old.asked self.old.rounds (Some last)
+            (source (F.remaining self.old.reader) (F.ended self.old.reader))
+            (source (K.remaining self.old.keys) (K.ended self.old.keys)) due frames bytes) }
+        ensures read { OnErr result (is_read (view world.now) self.old.asked (Some last) ≡ true) }
+        ensures faults { IfErr result (λ fault. fault ≡ Device Read) }
+        ensures marks { F.mark self.new.reader || K.mark self.new.keys ≡ is_err result }
+        ensures same { self.new ≡
+            record self.old { reader = self.new.reader; keys = self.new.keys } }
+    {
+        let round = self.round_due();
+        match last {
+            Event::Step => Ok(Some(Event::PrinterDone)),
+            Event::PrinterDone => Ok(Some(Event::PunchDone)),
+            Event::PunchDone => self.read_due(world),
+            Event::ReaderDone(_) => self.answer_due(),
+            Event::Key(_) => Ok(round),
+            Event::Switches(_) => Ok(round),
+            Event::Continue => Ok(round),
         }
     }
 
@@ -220,15 +282,8 @@ impl<F: ByteSource, K: ByteSource> Typist<F, K> {
             record self.old { reader = self.new.reader; keys = self.new.keys } }
     {
         match self.last {
-            None => match self.options.switches {
-                Some(word) => Ok(Some(Event::Switches(word))),
-                None => Ok(self.round_due()),
-            },
-            Some(Event::Step) => Ok(Some(Event::PrinterDone)),
-            Some(Event::PrinterDone) => Ok(Some(Event::PunchDone)),
-            Some(Event::PunchDone) => self.read_due(world),
-            Some(Event::ReaderDone(_)) => self.answer_due(),
-            Some(Event::Key(_) | Event::Switches(_) | Event::Continue) => Ok(self.round_due()),
+            Some(last) => self.due_after(last, world),
+            None => Ok(self.first_due()),
         }
     }
 
@@ -275,11 +330,13 @@ impl<F: ByteSource, K: ByteSource> Scheduler for Typist<F, K> {
         (source (K.remaining t.keys) (K.ended t.keys)) p };
 
     fn next_event<A: Allocator>(&mut self, world: &World<A>) -> Result<Option<Event>, Fault> {
-        let Some(event) = self.due(world)? else {
-            return Ok(None);
-        };
-        self.note(&event, world);
-        Ok(Some(event))
+        match self.due(world)? {
+            Some(event) => {
+                self.note(&event, world);
+                Ok(Some(event))
+            }
+            None => Ok(None),
+        }
     }
 
     fn complete_devices<A: Allocator>(&mut self, world: &mut World<A>) {

@@ -1,4 +1,5 @@
-use Rattle.std.proofs.Common.{rules, ◌≡◌, ◌∙◌, ◌||◌, sym, true, false, true≢false}
+use Rattle.std.proofs.Common.{rules, ◌≡◌, ◌∙◌, ◌||◌, sym, true, false, true≢false, inl, inr}
+use Rattle.std.proofs.lemmas.Result.{err_from_is_err_and}
 use Rattle.std.specs.Io.KnownBytes.{Appends}
 use Rattle.streams.specs.Bytes.{AppendsFront}
 use Rattle.peripherals.specs.World.{view, profile_of}
@@ -51,3 +52,20 @@ returns-clause-run g c =
     let punched : Appends (g.P.ByteSink.taken c.args.out.now.punch) (g.P.ByteSink.taken c.put.new.sink) (view c.operate-ran.new.world).devices.punch.output = search rules in
     let written : Appends (g.W.ByteSink.taken c.operate-ran.new.report) (g.W.ByteSink.taken c.put-2.new.sink) (summary_where c.args.apart Whole c.in_ok-outcome.outcome.end (view c.operate-ran.new.world) c.in_ok-outcome.outcome.steps) = search rules in
     attended (g.S.Scheduler.brings c.args.schedule.now) c.args.options c.args.apart c.args.image.now _ (view c.load-world.result) (view c.operate-ran.new.world) c.in_ok-outcome.outcome c.status_of.result _ _ _ _ _ _ _ profile begins c.in_ok-outcome.ensures.ran punched written c.status_of.ensures
+
+pub returns-in_err-put-clause-read_told : goal.returns-in_err-put-clause-read_told
+returns-in_err-put-clause-read_told g c = λ yes. let failed : g.P.ByteSink.mark c.put.new.sink ≡ true = search rules in inr failed
+
+pub returns-in_err-text-clause-read_told : goal.returns-in_err-text-clause-read_told
+returns-in_err-text-clause-read_told g c = λ yes. absurd (true≢false (sym yes ∙ c.in_ok-outcome.ensures.reads))
+
+pub returns-in_err-put-2-clause-read_told : goal.returns-in_err-put-2-clause-read_told
+returns-in_err-put-2-clause-read_told g c = λ yes. absurd (true≢false (sym yes ∙ c.in_ok-outcome.ensures.reads))
+
+pub returns-clause-read_told : goal.returns-clause-read_told
+returns-clause-read_told g c = λ yes. absurd (true≢false (sym yes ∙ c.in_ok-outcome.ensures.reads))
+
+pub returns-in_err-outcome-clause-read_told : goal.returns-in_err-outcome-clause-read_told
+returns-in_err-outcome-clause-read_told g c = λ yes.
+    let p = err_from_is_err_and c.from_residual-in_err-outcome.result c.from_residual-in_err-outcome.ensures.1 in
+    inl (rw (p.1, p.2) (sym c.in_err-outcome.ensures.reads ∙ yes))

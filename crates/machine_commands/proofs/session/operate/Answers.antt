@@ -25,7 +25,7 @@ returns-in_err-event-clause-broke g c =
     let inv = c.loop-event.invariant in
     let p = profile_of c.args.world.now in
     let cut : g.S.Scheduler.brings c.loop-event.schedule p (view c.loop-event.world) UpToRead [] = c.in_err-event.ensures.cut p in
-    let failed : g.S.Scheduler.unread c.next_event.new.self ≡ true = search rules in
+    let failed : g.S.Scheduler.unread c.next_event.new.self ≡ true = c.in_err-event.ensures.marks in
     search (rules, sat_to_unread g.S.Scheduler.brings p c.args.trace c.args.schedule.now c.loop-event.schedule (view c.args.world.now) (view c.loop-event.world) c.loop-event.steps _ _ _ _ _ _ _ inv.sat inv.unmarked inv.untyped failed cut)
 
 pub returns-in_err-play-clause-broke : goal.returns-in_err-play-clause-broke
@@ -33,9 +33,9 @@ returns-in_err-play-clause-broke g c =
     let inv = c.loop-event.invariant in
     let p = profile_of c.args.world.now in
     let next : IsNext g.S.Scheduler.brings c.loop-event.schedule c.next_event.new.self (view c.loop-event.world) c.in-Some.event = rw c.in-Some.is at c.in_ok-event.ensures.due in
-    let readable : g.S.Scheduler.unread c.next_event.new.self ≡ false = search rules in
+    let readable : g.S.Scheduler.unread c.next_event.new.self ≡ false = c.in_ok-event.ensures.marks in
     let front : PlayedFront p c.args.trace (view c.loop-event.world) c.in-Some.event (view c.play.new.world) (g.W.ByteSink.mark c.play.new.report) (g.T.ByteSink.mark c.play.new.teletype) (g.W.ByteSink.taken c.loop-event.report) (g.W.ByteSink.taken c.play.new.report) (g.T.ByteSink.taken c.loop-event.teletype) (g.T.ByteSink.taken c.play.new.teletype) = rw inv.profile at c.in_err-play.ensures.front in
-    search (rules, sat_to_fault g.S.Scheduler.brings p c.args.trace c.args.schedule.now c.loop-event.schedule c.next_event.new.self c.in-Some.event (view c.args.world.now) (view c.loop-event.world) (view c.play.new.world) c.loop-event.steps _ _ _ _ _ _ _ _ _ inv.sat next g.S.Scheduler.anywhere readable front)
+    search (rules, sat_to_fault g.S.Scheduler.brings p c.args.trace c.args.schedule.now c.loop-event.schedule c.next_event.new.self c.in-Some.event (view c.args.world.now) (view c.loop-event.world) (view c.play.new.world) c.loop-event.steps _ _ _ _ _ _ _ _ _ inv.sat next g.met.S.Scheduler.anywhere readable front)
 
 pub overflow_add-steps : goal.overflow_add-steps
 overflow_add-steps g c =
@@ -80,7 +80,7 @@ loop-event-preserved-in-Ran g c =
     let taken : steps_in c.in-Some.event + g.S.Scheduler.steps_to_come c.next_event.new.self ≤ g.S.Scheduler.steps_to_come c.loop-event.schedule = rw c.in-Some.is at c.in_ok-event.ensures.steps in
     let same : g.S.Scheduler.steps_to_come c.complete_devices.new.self ≡ g.S.Scheduler.steps_to_come c.next_event.new.self = c.complete_devices.ensures.steps in
     let was : c.loop-event.steps + g.S.Scheduler.steps_to_come c.loop-event.schedule ≤ g.S.Scheduler.steps_to_come c.args.schedule.now = inv.steps in
-    let unread : g.S.Scheduler.unread c.next_event.new.self ≡ false = search rules in
+    let unread : g.S.Scheduler.unread c.next_event.new.self ≡ false = c.in_ok-event.ensures.marks in
     record {
       sat = rw c.complete_devices.ensures.done (sat_completed g.S.Scheduler.brings p c.args.trace c.args.schedule.now c.next_event.new.self c.complete_devices.new.self (view c.args.world.now) (view c.play.new.world) _ _ _ _ _ ran c.complete_devices.ensures.brings);
       profile = c.complete_devices.ensures.profile ∙ c.play.ensures.profile ∙ inv.profile;
@@ -98,7 +98,7 @@ loop-event-preserved-in-NotEnabled g c =
     let played : Played p c.args.trace (view c.loop-event.world) c.in-Some.event NotEnabled (view c.play.new.world) (g.W.ByteSink.taken c.loop-event.report) (g.W.ByteSink.taken c.play.new.report) (g.T.ByteSink.taken c.loop-event.teletype) (g.T.ByteSink.taken c.play.new.teletype) = rw (inv.profile, c.in-NotEnabled.is) at c.in_ok-play.ensures.played in
     let taken : steps_in c.in-Some.event + g.S.Scheduler.steps_to_come c.next_event.new.self ≤ g.S.Scheduler.steps_to_come c.loop-event.schedule = rw c.in-Some.is at c.in_ok-event.ensures.steps in
     let was : c.loop-event.steps + g.S.Scheduler.steps_to_come c.loop-event.schedule ≤ g.S.Scheduler.steps_to_come c.args.schedule.now = inv.steps in
-    let unread : g.S.Scheduler.unread c.next_event.new.self ≡ false = search rules in
+    let unread : g.S.Scheduler.unread c.next_event.new.self ≡ false = c.in_ok-event.ensures.marks in
     record {
       sat = sat_still g.S.Scheduler.brings p c.args.trace c.args.schedule.now c.loop-event.schedule c.next_event.new.self c.in-Some.event (view c.args.world.now) (view c.loop-event.world) (view c.play.new.world) c.loop-event.steps NotEnabled _ _ _ _ _ _ inv.sat next played refl refl;
       profile = c.play.ensures.profile ∙ inv.profile;
@@ -116,7 +116,7 @@ loop-event-preserved g c =
     let played : Played p c.args.trace (view c.loop-event.world) c.in-Some.event Changed (view c.play.new.world) (g.W.ByteSink.taken c.loop-event.report) (g.W.ByteSink.taken c.play.new.report) (g.T.ByteSink.taken c.loop-event.teletype) (g.T.ByteSink.taken c.play.new.teletype) = rw (inv.profile, c.in-Changed.is) at c.in_ok-play.ensures.played in
     let taken : steps_in c.in-Some.event + g.S.Scheduler.steps_to_come c.next_event.new.self ≤ g.S.Scheduler.steps_to_come c.loop-event.schedule = rw c.in-Some.is at c.in_ok-event.ensures.steps in
     let was : c.loop-event.steps + g.S.Scheduler.steps_to_come c.loop-event.schedule ≤ g.S.Scheduler.steps_to_come c.args.schedule.now = inv.steps in
-    let unread : g.S.Scheduler.unread c.next_event.new.self ≡ false = search rules in
+    let unread : g.S.Scheduler.unread c.next_event.new.self ≡ false = c.in_ok-event.ensures.marks in
     record {
       sat = sat_still g.S.Scheduler.brings p c.args.trace c.args.schedule.now c.loop-event.schedule c.next_event.new.self c.in-Some.event (view c.args.world.now) (view c.loop-event.world) (view c.play.new.world) c.loop-event.steps Changed _ _ _ _ _ _ inv.sat next played refl refl;
       profile = c.play.ensures.profile ∙ inv.profile;

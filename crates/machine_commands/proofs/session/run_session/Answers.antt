@@ -1,20 +1,27 @@
-use Rattle.std.proofs.Common.{rules, ◌≡◌, inl, inr}
+use Rattle.std.proofs.Common.{rules, ◌≡◌, ap, inl, inr, sym, true≢false}
 use Rattle.std.proofs.lemmas.Result.{on_err_weaker}
-use Rattle.peripherals.specs.Operator.{plan_of}
+use Rattle.peripherals.specs.Operator.{Plan, plan_of}
 use Rattle.machine_commands.specs.Session.{plan_for}
+use Rattle.machine_commands.proofs.HeldLemmas.{held_no_tape, none_failed, not_read, session_faults, session_ok, session_or}
 use Rattle.machine_commands.proofs.RunLemmas.{tape_wants_none}
-use Rattle.machine_commands.proofs.SessionLemmas.{bytes_came, came_whole, of_failure, of_refusal, session_fronts, session_is}
+use Rattle.machine_commands.proofs.SessionLemmas.{bytes_came, came_whole, of_failure, of_refusal, session_fronts}
 use Rattle.machine_commands.proofs.session.run_session.Goals as goal
+
+pub attend-requires-clause-few : goal.attend-requires-clause-few
+attend-requires-clause-few g c = rw (ap (λ (q : Plan). q.rounds) c.new-operator.ensures.plan) c.are_few.ensures
 
 pub returns-clause-run : goal.returns-clause-run
 returns-clause-run g c =
     let is : plan_of c.new-operator.result ≡ plan_for c.args.options c.in_ok-frames.frames.items c.in_ok-struck.struck.items = search rules in
-    search (rules, session_is c.args.options _ _ _ c.in_ok-image.image c.in_ok-frames.frames.items c.in_ok-struck.struck.items c.new-operator.result _ _ _ c.in_ok-image.ensures.tape c.in_ok-frames.ensures.bytes c.in_ok-struck.ensures.bytes is c.new-operator.ensures.first)
+    session_ok c.args.options _ _ _ c.in_ok-image.image c.in_ok-frames.frames.items c.in_ok-struck.struck.items c.new-operator.result c.attend.result _ _ c.in_ok-image.ensures.tape c.in_ok-frames.ensures.bytes c.in_ok-struck.ensures.bytes is c.new-operator.ensures.first c.attend.ensures.run
+
+pub returns-clause-faults : goal.returns-clause-faults
+returns-clause-faults g c = session_faults _ _ _ _ c.in_ok-image.image c.attend.result c.in_ok-image.ensures.tape c.attend.ensures.reads c.attend.ensures.faults
 
 pub returns-clause-front : goal.returns-clause-front
 returns-clause-front g c =
     let is : plan_of c.new-operator.result ≡ plan_for c.args.options c.in_ok-frames.frames.items c.in_ok-struck.struck.items = search rules in
-    on_err_weaker c.attend.result (λ fronts. inr (session_fronts c.args.options _ _ _ c.in_ok-image.image c.in_ok-frames.frames.items c.in_ok-struck.struck.items c.new-operator.result _ _ _ c.in_ok-image.ensures.tape c.in_ok-frames.ensures.bytes c.in_ok-struck.ensures.bytes is c.new-operator.ensures.first fronts)) c.attend.ensures.front
+    on_err_weaker c.attend.result (session_or c.args.options _ _ _ c.in_ok-image.image c.in_ok-frames.frames.items c.in_ok-struck.struck.items c.new-operator.result _ _ _ c.in_ok-image.ensures.tape c.in_ok-frames.ensures.bytes c.in_ok-struck.ensures.bytes is c.new-operator.ensures.first) c.attend.ensures.front
 
 pub returns-clause-front_of_failure : goal.returns-clause-front_of_failure
 returns-clause-front_of_failure g c = λ failed.
@@ -34,6 +41,18 @@ pub returns-clause-broke_off : goal.returns-clause-broke_off
 returns-clause-broke_off g c = λ refused.
     let is : plan_of c.new-operator.result ≡ plan_for c.args.options c.in_ok-frames.frames.items c.in_ok-struck.struck.items = search rules in
     inr (inr (session_fronts c.args.options _ _ _ c.in_ok-image.image c.in_ok-frames.frames.items c.in_ok-struck.struck.items c.new-operator.result _ _ _ c.in_ok-image.ensures.tape c.in_ok-frames.ensures.bytes c.in_ok-struck.ensures.bytes is c.new-operator.ensures.first (of_refusal c.attend.result refused c.attend.ensures.front)))
+
+pub returns-clause-nothing : goal.returns-clause-nothing
+returns-clause-nothing g c = held_no_tape c.attend.result _ c.attend.ensures.faults
+
+pub returns-clause-nothing_after_failure : goal.returns-clause-nothing_after_failure
+returns-clause-nothing_after_failure g c = λ yes. absurd (true≢false (sym (c.attend.ensures.reads yes)))
+
+pub returns-clause-reads : goal.returns-clause-reads
+returns-clause-reads g c = none_failed _ _ _ _ c.in_ok-image.ensures.marks c.in_ok-frames.ensures.marks c.in_ok-struck.ensures.marks (not_read c.attend.result c.attend.ensures.reads)
+
+pub returns-clause-unread : goal.returns-clause-unread
+returns-clause-unread g c = held_no_tape c.attend.result _ c.attend.ensures.faults
 
 pub returns-in_err-struck-clause-keys_unread : goal.returns-in_err-struck-clause-keys_unread
 returns-in_err-struck-clause-keys_unread g c = inr (came_whole _ _ _ c.in_ok-frames.frames.items c.in_ok-frames.ensures.taken c.in_ok-frames.ensures.bytes)

@@ -1,8 +1,13 @@
-use Rattle.std.proofs.Common.{rules, ◌≡◌, ◌||◌, false, refl, inr, arith}
-use Rattle.machine_commands.specs.Session.{FrontsOf, failures, taken}
-use Rattle.machine_commands.specs.TypingParts.{source}
-use Rattle.machine_commands.proofs.TeletypeLemmas.{typed_fronts, typed_is}
-use Rattle.machine_commands.proofs.SessionLemmas.{or_left, or_right}
+use Rattle.std.proofs.Common.{rules, ◌≡◌, ◌||◌, ◌∙◌, List, Bool, true, false, IfOk, OnErr, refl, sym, inl, inr, arith}
+use Rattle.std.proofs.lemmas.Result.{err_from_is_err_and}
+use Rattle.machine_commands.specs.Schedule.{Whole}
+use Rattle.machine_commands.specs.Session.{FrontsOf, IsHeld, WritesAll, failures, taken}
+use Rattle.machine_commands.specs.SessionParts.{IsPartOf}
+use Rattle.machine_commands.specs.Teletype.{run_of}
+use Rattle.machine_commands.specs.TypingParts.{Source, source}
+use Rattle.machine_commands.proofs.HeldLemmas.{held_no_tape}
+use Rattle.machine_commands.proofs.TeletypeLemmas.{begun, tape_failed, typed_err, typed_faults, typed_ok}
+use Rattle.machine_commands.proofs.TypistLemmas.{either_first, either_second, first_failed}
 use Rattle.machine_commands.proofs.teletype.teletype.Goals as goal
 
 pub attend-requires : goal.attend-requires
@@ -17,4 +22,46 @@ attend-requires g c = record {
 pub returns-clause-run : goal.returns-clause-run
 returns-clause-run g c =
     let t = c.args.typist.now in
-    search (rules, typed_is t.options _ (source (g.F.ByteSource.remaining t.reader) (g.F.ByteSource.ended t.reader)) (source (g.K.ByteSource.remaining t.keys) (g.K.ByteSource.ended t.keys)) c.in_ok-image.image _ _ _ c.in_ok-image.ensures.tape)
+    let run = rw (c.begin.ensures, c.run_of-options.ensures, c.options.ensures) at c.attend.ensures.run in
+    typed_ok t.options (g.R.ByteSource.remaining c.args.tape.now) (source (g.F.ByteSource.remaining t.reader) (g.F.ByteSource.ended t.reader)) (source (g.K.ByteSource.remaining t.keys) (g.K.ByteSource.ended t.keys)) c.in_ok-image.image c.attend.result _ _ c.in_ok-image.ensures.tape run
+
+pub returns-clause-faults : goal.returns-clause-faults
+returns-clause-faults g c = typed_faults _ c.in_ok-image.image c.attend.result c.in_ok-image.ensures.tape c.attend.ensures.faults
+
+pub returns-clause-front : goal.returns-clause-front
+returns-clause-front g c =
+    let t = c.args.typist.now in
+    let n = c.attend.new.schedule in
+    let front = rw (c.begin.ensures, c.run_of-options.ensures, c.options.ensures) at c.attend.ensures.front in
+    typed_err t.options (g.R.ByteSource.remaining c.args.tape.now) (source (g.F.ByteSource.remaining t.reader) (g.F.ByteSource.ended t.reader)) (source (g.K.ByteSource.remaining t.keys) (g.K.ByteSource.ended t.keys)) c.in_ok-image.image
+    (g.R.ByteSource.mark c.tape_from.new.source) (g.F.ByteSource.mark n.reader || g.K.ByteSource.mark n.keys) (failures (g.W.ByteSink.mark c.attend.new.out.report) (g.T.ByteSink.mark c.attend.new.out.teletype) (g.P.ByteSink.mark c.attend.new.out.punch))
+    _ _ c.attend.result c.in_ok-image.ensures.tape front
+
+pub returns-in_err-image-clause-front : goal.returns-in_err-image-clause-front
+returns-in_err-image-clause-front g c =
+    let p = err_from_is_err_and c.from_residual.result c.from_residual.ensures.1 in
+    rw (p.1, p.2) (tape_failed _ _ _ c.in_err-image.ensures.faults c.in_err-image.ensures.marks)
+
+pub returns-clause-nothing : goal.returns-clause-nothing
+returns-clause-nothing g c = held_no_tape c.attend.result _ c.attend.ensures.faults
+
+pub returns-clause-unread : goal.returns-clause-unread
+returns-clause-unread g c = held_no_tape c.attend.result _ c.attend.ensures.faults
+
+pub returns-clause-reads : goal.returns-clause-reads
+returns-clause-reads g c = λ yes. either_second _ _ (c.attend.ensures.reads yes)
+
+pub returns-in_err-image-clause-reads : goal.returns-in_err-image-clause-reads
+returns-in_err-image-clause-reads g c = λ yes.
+    let p = err_from_is_err_and c.from_residual.result c.from_residual.ensures.1 in
+    let read = rw (p.1, p.2) at yes in
+    either_first _ _ (c.in_err-image.ensures.marks ∙ read)
+
+pub returns-clause-read_told : goal.returns-clause-read_told
+returns-clause-read_told g c = λ yes. c.attend.ensures.read_told (rw c.in_ok-image.ensures.marks at yes)
+
+pub returns-in_err-image-clause-read_told : goal.returns-in_err-image-clause-read_told
+returns-in_err-image-clause-read_told g c = λ yes.
+    let p = err_from_is_err_and c.from_residual.result c.from_residual.ensures.1 in
+    let marked = first_failed _ _ _ c.requires.reader_readable c.requires.keys_readable yes in
+    inl (rw (p.1, p.2) (sym c.in_err-image.ensures.marks ∙ marked))

@@ -6,6 +6,6 @@ use Rattle.machine_commands.proofs.typist.complete.Goals as goal
 
 pub returns-clause-done : goal.returns-clause-done
 returns-clause-done g c =
-    both_done _ _ (view c.args.world.now) (view c.apply-_printed.new.self) (view c.apply-_punched.new.self)
-    (happens_anyway _ (view c.args.world.now) (view c.apply-_printed.new.self) PrinterDone c.apply-_printed.result c.apply-_printed.ensures.happens c.apply-_printed.ensures.only_output refl)
-    (happens_anyway _ (view c.apply-_printed.new.self) (view c.apply-_punched.new.self) PunchDone c.apply-_punched.result c.apply-_punched.ensures.happens c.apply-_punched.ensures.only_output refl)
+    both_done (profile_of c.args.world.now) (profile_of c.apply-printed.new.self) (view c.args.world.now) (view c.apply-printed.new.self) (view c.apply-punched.new.self)
+    (happens_anyway (profile_of c.args.world.now) (view c.args.world.now) (view c.apply-printed.new.self) PrinterDone c.apply-printed.result c.apply-printed.ensures.happens c.apply-printed.ensures.only_output refl)
+    (happens_anyway (profile_of c.apply-printed.new.self) (view c.apply-printed.new.self) (view c.apply-punched.new.self) PunchDone c.apply-punched.result c.apply-punched.ensures.happens c.apply-punched.ensures.only_output refl)

@@ -1,18 +1,41 @@
-use Rattle.std.proofs.Common.{rules, ◌≡◌, ◌<◌, ◌≤◌, ◌+◌, ◌*◌, Some, None, Ok, ap, refl, arith}
+use Rattle.std.proofs.Common.{rules, ◌≡◌, ◌<◌, ◌≤◌, ◌+◌, ◌*◌, ◌||◌, List, [], Some, None, Ok, ap, refl, arith}
+use Rattle.instruct.specs.declared.Profile.{Profile}
 use Rattle.peripherals.specs.World.{view}
+use Rattle.machine_commands.specs.Schedule.{UpToRead}
 use Rattle.machine_commands.specs.SessionParts.{rank, steps_in}
-use Rattle.machine_commands.specs.TypingParts.{rounds_left, source}
+use Rattle.machine_commands.specs.TypingParts.{Types, rounds_left, source}
 use Rattle.machine_commands.specs.Typing.{asked_after}
-use Rattle.machine_commands.proofs.TypistLemmas.{IsBrought, brought_less, types_last, types_on, types_output, types_over, types_read}
+use Rattle.machine_commands.proofs.SessionLemmas.{or_left, or_right}
+use Rattle.machine_commands.proofs.TypistLemmas.{IsBrought, Less, brought_less, types_last, types_on, types_output, types_over, types_read}
 use Rattle.machine_commands.proofs.typist.TypistScheduler.next_event.Goals as goal
 
-pub returns-in_err-event-clause-cut : goal.returns-in_err-event-clause-cut
-returns-in_err-event-clause-cut g c = λ p.
-    let t = c.args.self.now in
-    types_read t.options (view c.args.world.now) t.asked t.rounds t.last (source (g.F.ByteSource.remaining t.reader) (g.F.ByteSource.ended t.reader)) (source (g.K.ByteSource.remaining t.keys) (g.K.ByteSource.ended t.keys)) p c.in_err-event.ensures.read
+pub due-requires : goal.due-requires
+due-requires g c = record {
+  reader = or_left (g.F.ByteSource.mark c.args.self.now.reader) (g.K.ByteSource.mark c.args.self.now.keys) c.requires;
+  keys = or_right (g.F.ByteSource.mark c.args.self.now.reader) (g.K.ByteSource.mark c.args.self.now.keys) c.requires;
+}
 
-pub returns-clause-due : goal.returns-clause-due
-returns-clause-due g c =
+pub returns-in_err-event-clause-cut : goal.returns-in_err-event-clause-cut
+returns-in_err-event-clause-cut g c =
+    let t = c.args.self.now in
+    let cut : (p : Profile) → Types t.options t.asked t.rounds t.last (source (g.F.ByteSource.remaining t.reader) (g.F.ByteSource.ended t.reader)) (source (g.K.ByteSource.remaining t.keys) (g.K.ByteSource.ended t.keys)) p (view c.args.world.now) UpToRead [] =
+    λ p. types_read t.options (view c.args.world.now) t.asked t.rounds t.last (source (g.F.ByteSource.remaining t.reader) (g.F.ByteSource.ended t.reader)) (source (g.K.ByteSource.remaining t.keys) (g.K.ByteSource.ended t.keys)) p c.in_err-event.ensures.read in
+    search (rules, cut)
+
+pub returns-in-None-clause-over : goal.returns-in-None-clause-over
+returns-in-None-clause-over g c =
+    let t = c.args.self.now in
+    let s = c.due.new.self in
+    let w = view c.args.world.now in
+    let reader = source (g.F.ByteSource.remaining t.reader) (g.F.ByteSource.ended t.reader) in
+    let keys = source (g.K.ByteSource.remaining t.keys) (g.K.ByteSource.ended t.keys) in
+    let reader_after = source (g.F.ByteSource.remaining s.reader) (g.F.ByteSource.ended s.reader) in
+    let keys_after = source (g.K.ByteSource.remaining s.keys) (g.K.ByteSource.ended s.keys) in
+    let brought : IsBrought t.options w t.asked t.rounds t.last reader keys None reader_after keys_after = rw c.in-None.is at c.in_ok-event.ensures.due in
+    λ none p extent. types_over t.options w t.asked t.rounds t.last reader keys reader_after keys_after p extent brought
+
+pub returns-in-Some-clause-due : goal.returns-in-Some-clause-due
+returns-in-Some-clause-due g c =
     let t = c.args.self.now in
     let s = c.due.new.self in
     let w = view c.args.world.now in
@@ -28,23 +51,34 @@ returns-clause-due g c =
       output = λ p puts. types_output t.options w t.asked t.rounds t.last reader keys reader_after keys_after e p brought puts;
     }
 
-pub returns-clause-fewer : goal.returns-clause-fewer
-returns-clause-fewer g c =
+pub returns-in-Some-clause-fewer : goal.returns-in-Some-clause-fewer
+returns-in-Some-clause-fewer g c =
     let t = c.args.self.now in
     let s = c.due.new.self in
     let e = c.in-Some.event in
-    let brought : IsBrought t.options (view c.args.world.now) t.asked t.rounds t.last (source (g.F.ByteSource.remaining t.reader) (g.F.ByteSource.ended t.reader)) (source (g.K.ByteSource.remaining t.keys) (g.K.ByteSource.ended t.keys)) (Some e) (source (g.F.ByteSource.remaining s.reader) (g.F.ByteSource.ended s.reader)) (source (g.K.ByteSource.remaining s.keys) (g.K.ByteSource.ended s.keys)) = rw c.in-Some.is at c.in_ok-event.ensures.due in
-    let less = brought_less t.options (view c.args.world.now) t.asked t.rounds t.last _ _ _ _ e brought in
+    let reader = source (g.F.ByteSource.remaining t.reader) (g.F.ByteSource.ended t.reader) in
+    let keys = source (g.K.ByteSource.remaining t.keys) (g.K.ByteSource.ended t.keys) in
+    let reader_after = source (g.F.ByteSource.remaining s.reader) (g.F.ByteSource.ended s.reader) in
+    let keys_after = source (g.K.ByteSource.remaining s.keys) (g.K.ByteSource.ended s.keys) in
+    let brought : IsBrought t.options (view c.args.world.now) t.asked t.rounds t.last reader keys (Some e) reader_after keys_after = rw c.in-Some.is at c.in_ok-event.ensures.due in
+    let less : Less t.rounds t.last e = brought_less t.options (view c.args.world.now) t.asked t.rounds t.last reader keys reader_after keys_after e brought in
     rw (c.note.ensures, c.due.ensures.same) less.fewer
 
-pub returns-clause-steps : goal.returns-clause-steps
-returns-clause-steps g c =
+pub returns-in-Some-clause-steps : goal.returns-in-Some-clause-steps
+returns-in-Some-clause-steps g c =
     let t = c.args.self.now in
     let s = c.due.new.self in
     let e = c.in-Some.event in
-    let brought : IsBrought t.options (view c.args.world.now) t.asked t.rounds t.last (source (g.F.ByteSource.remaining t.reader) (g.F.ByteSource.ended t.reader)) (source (g.K.ByteSource.remaining t.keys) (g.K.ByteSource.ended t.keys)) (Some e) (source (g.F.ByteSource.remaining s.reader) (g.F.ByteSource.ended s.reader)) (source (g.K.ByteSource.remaining s.keys) (g.K.ByteSource.ended s.keys)) = rw c.in-Some.is at c.in_ok-event.ensures.due in
-    let less = brought_less t.options (view c.args.world.now) t.asked t.rounds t.last _ _ _ _ e brought in
+    let reader = source (g.F.ByteSource.remaining t.reader) (g.F.ByteSource.ended t.reader) in
+    let keys = source (g.K.ByteSource.remaining t.keys) (g.K.ByteSource.ended t.keys) in
+    let reader_after = source (g.F.ByteSource.remaining s.reader) (g.F.ByteSource.ended s.reader) in
+    let keys_after = source (g.K.ByteSource.remaining s.keys) (g.K.ByteSource.ended s.keys) in
+    let brought : IsBrought t.options (view c.args.world.now) t.asked t.rounds t.last reader keys (Some e) reader_after keys_after = rw c.in-Some.is at c.in_ok-event.ensures.due in
+    let less : Less t.rounds t.last e = brought_less t.options (view c.args.world.now) t.asked t.rounds t.last reader keys reader_after keys_after e brought in
     rw (c.note.ensures, c.due.ensures.same) less.counted
 
-pub returns-clause-stepped : goal.returns-clause-stepped
-returns-clause-stepped g c = λ step. rw (c.note.ensures, step) refl
+pub returns-in-Some-clause-stepped : goal.returns-in-Some-clause-stepped
+returns-in-Some-clause-stepped g c = λ step. rw (c.note.ensures, step) refl
+
+pub returns-in-Some-clause-marks : goal.returns-in-Some-clause-marks
+returns-in-Some-clause-marks g c = rw c.note.ensures c.in_ok-event.ensures.marks

@@ -1,0 +1,83 @@
+-- What follows from the faults of a run, whichever its schedule; and what a run with an operator answers.
+use Rattle.std.proofs.Common.{ℕ, ◌≡◌, Bool, true, false, ◌||◌, List, Option, None, Result, Ok, Err, IfOk, refl, sym, ◌∙◌, inl, inr, true≢false}
+use Rattle.std.specs.Prelude.{◌⊎◌, IfErr}
+use Rattle.instruct.specs.declared.Profile.{Profile}
+use Rattle.peripherals.specs.declared.Event.{Event}
+use Rattle.peripherals.specs.declared.operator.Operator.{Operator}
+use Rattle.peripherals.specs.Devices.{WorldState}
+use Rattle.peripherals.specs.Operator.{plan_of}
+use Rattle.options.specs.declared.SessionOptions.{SessionOptions}
+use Rattle.command_parts.specs.declared.status.DeviceFault.TheVariants.{Read, Write}
+use Rattle.command_parts.specs.declared.status.Fault.{Fault}
+use Rattle.command_parts.specs.declared.status.Fault.TheVariants.{Tape, EmptyImage, Source, Declared, Certificate, Events, Guess, Declare, Device, NoMemory}
+use Rattle.command_parts.specs.declared.status.Status.{Status}
+use Rattle.command_parts.specs.Faults.{IsRunFault, IsSessionFault, fails_to_read, is_fault_of_tape}
+use Rattle.command_parts.specs.Inputs.{AreFirst, HasImage, Input}
+use Rattle.machine_commands.specs.Schedule.{Comes, Extent, Whole, operating}
+use Rattle.machine_commands.specs.Session.{Failures, FrontsOf, IsHeld, IsHeldFault, IsSession, NothingOrFronts, Taken, WritesAll, plan_for}
+use Rattle.machine_commands.specs.SessionParts.{IsPartOf, place_of}
+use Rattle.machine_commands.proofs.SessionLemmas.{session_fronts, session_is}
+
+-- a test that is true only where false is isn't true
+said : (b : Bool) → (b ≡ true → false ≡ true) → b ≡ false
+said true none = sym (none refl)
+said false none = refl
+
+-- where no read can fail none did
+pub not_read : {T : Type 0} (r : Result T Fault) → (fails_to_read r ≡ true → false ≡ true) → fails_to_read r ≡ false
+not_read r none = said (fails_to_read r) none
+
+-- and then a write failed, or memory was refused
+pub held_run : {T : Type 0} (r : Result T Fault) → (fails_to_read r ≡ true → false ≡ true) → IfErr r IsHeldFault → IfErr r IsRunFault
+held_run (Ok v) none held = tt
+held_run (Err (Tape fault)) none held = held
+held_run (Err EmptyImage) none held = held
+held_run (Err (Source fault)) none held = held
+held_run (Err (Declared fault)) none held = held
+held_run (Err (Certificate fault)) none held = held
+held_run (Err (Events fault)) none held = held
+held_run (Err (Guess fault)) none held = held
+held_run (Err (Declare fault)) none held = held
+held_run (Err (Device Read)) none held = absurd (true≢false (sym (none refl)))
+held_run (Err (Device Write)) none held = tt
+held_run (Err NoMemory) none held = tt
+
+-- the fault of a run is none of the tape
+pub held_no_tape : {T : Type 0} (r : Result T Fault) (X : Type 0) → IfErr r IsHeldFault → IfErr r (λ fault. is_fault_of_tape fault ≡ true → X)
+held_no_tape (Ok v) X held = tt
+held_no_tape (Err (Tape fault)) X held = λ yes. absurd held
+held_no_tape (Err EmptyImage) X held = λ yes. absurd held
+held_no_tape (Err (Source fault)) X held = λ yes. absurd held
+held_no_tape (Err (Declared fault)) X held = λ yes. absurd held
+held_no_tape (Err (Certificate fault)) X held = λ yes. absurd held
+held_no_tape (Err (Events fault)) X held = λ yes. absurd held
+held_no_tape (Err (Guess fault)) X held = λ yes. absurd held
+held_no_tape (Err (Declare fault)) X held = λ yes. absurd held
+held_no_tape (Err (Device fault)) X held = λ yes. absurd (true≢false (sym yes))
+held_no_tape (Err NoMemory) X held = λ yes. absurd (true≢false (sym yes))
+
+-- no source failed
+pub none_failed : (a b c d : Bool) → a ≡ false → b ≡ false → c ≡ false → d ≡ false → ((a || b) || c) ≡ d
+none_failed a b c d no_a no_b no_c no_d = rw (no_a, no_b, no_c, no_d) refl
+
+-- the fault of a run with an operator
+pub session_faults : {T : Type 0} (most : ℕ) (tape reader keys : Input) (image : List (Option ℕ)) (r : Result T Fault) →
+    HasImage tape.had image → (fails_to_read r ≡ true → false ≡ true) → IfErr r IsHeldFault → IfErr r (IsSessionFault most tape reader keys)
+session_faults {T} most tape reader keys image (Ok v) good none held = tt
+session_faults {T} most tape reader keys image (Err fault) good none held = inr (record { image = image; tape = good }, inr (inr (held_run {T = T} (Err fault) none held)))
+
+-- what it writes
+pub session_ok : (options : SessionOptions) (tape reader keys : Option (List ℕ)) (image : List (Option ℕ)) (frames bytes : List ℕ) (o : Operator) (r : Result Status Fault) (old new : Taken) →
+    HasImage tape image → AreFirst options.run.rounds reader frames → AreFirst options.run.rounds keys bytes → plan_of o ≡ plan_for options frames bytes → o.last ≡ None →
+    IfOk r (λ status. WritesAll (λ text printed punched. IsHeld (λ p w extent es. Comes operating p extent (place_of o) w es) options.run false Whole image text printed punched status) old new) →
+    IfOk r (λ status. WritesAll (IsSession options Whole tape reader keys status) old new)
+session_ok options tape reader keys image frames bytes o (Ok status) old new has_image frames_are bytes_are is first writes =
+    session_is options tape reader keys image frames bytes o status old new has_image frames_are bytes_are is first writes
+session_ok options tape reader keys image frames bytes o (Err fault) old new has_image frames_are bytes_are is first writes = tt
+
+-- what it leaves where it has a fault
+pub session_or : (options : SessionOptions) (tape reader keys : Option (List ℕ)) (image : List (Option ℕ)) (frames bytes : List ℕ) (o : Operator) (failed : Failures) (old new : Taken) →
+    HasImage tape image → AreFirst options.run.rounds reader frames → AreFirst options.run.rounds keys bytes → plan_of o ≡ plan_for options frames bytes → o.last ≡ None →
+    FrontsOf (IsPartOf (λ p w extent es. Comes operating p extent (place_of o) w es) options.run false failed.report failed.teletype false image) failed old new → NothingOrFronts options failed tape reader keys old new
+session_or options tape reader keys image frames bytes o failed old new has_image frames_are bytes_are is first fronts =
+    inr (session_fronts options tape reader keys image frames bytes o failed old new has_image frames_are bytes_are is first fronts)

@@ -1,10 +1,7 @@
 -- What follows from the faults of a run, whichever its schedule; and what a run with an operator answers.
-use Rattle.std.proofs.Common.{ℕ, ◌≡◌, Bool, true, false, ◌||◌, List, Option, None, Result, Ok, Err, IfOk, refl, sym, ◌∙◌, inl, inr, true≢false}
-use Rattle.std.specs.Prelude.{◌⊎◌, IfErr}
-use Rattle.instruct.specs.declared.Profile.{Profile}
-use Rattle.peripherals.specs.declared.Event.{Event}
+use Rattle.std.proofs.Common.{ℕ, ◌≡◌, Bool, true, false, ◌||◌, List, Option, None, Result, Ok, Err, IfOk, refl, sym, inr, true≢false}
+use Rattle.std.specs.Prelude.{IfErr}
 use Rattle.peripherals.specs.declared.operator.Operator.{Operator}
-use Rattle.peripherals.specs.Devices.{WorldState}
 use Rattle.peripherals.specs.Operator.{plan_of}
 use Rattle.options.specs.declared.SessionOptions.{SessionOptions}
 use Rattle.command_parts.specs.declared.status.DeviceFault.TheVariants.{Read, Write}
@@ -13,7 +10,7 @@ use Rattle.command_parts.specs.declared.status.Fault.TheVariants.{Tape, EmptyIma
 use Rattle.command_parts.specs.declared.status.Status.{Status}
 use Rattle.command_parts.specs.Faults.{IsRunFault, IsSessionFault, fails_to_read, is_fault_of_tape}
 use Rattle.command_parts.specs.Inputs.{AreFirst, HasImage, Input}
-use Rattle.machine_commands.specs.Schedule.{Comes, Extent, Whole, operating}
+use Rattle.machine_commands.specs.Schedule.{Comes, Whole, operating}
 use Rattle.machine_commands.specs.Session.{Failures, FrontsOf, IsHeld, IsHeldFault, IsSession, NothingOrFronts, Taken, WritesAll, plan_for}
 use Rattle.machine_commands.specs.SessionParts.{IsPartOf, place_of}
 use Rattle.machine_commands.proofs.SessionLemmas.{session_fronts, session_is}

@@ -32,8 +32,8 @@ use Rattle.command_parts.specs.declared.status.Status.{Status}
 use Rattle.command_parts.specs.Faults.{IsBytesFault, fails_to_write}
 use Rattle.command_parts.specs.Inputs.{AreFirst, HasCome, HasImage, Input}
 use Rattle.machine_commands.specs.Running.{fresh, status_of}
-use Rattle.machine_commands.specs.Schedule.{Comes, Over, Cut, Final, Then, Extent, Whole, UpToOutput, UpToRead, UpToAny, MayEnd, Place, operating}
-use Rattle.machine_commands.specs.Session.{AppendsSome, extent_after, extent_unread, summary_where, Operated, BrokeOff, FrontsOf, IsHeld, IsPartOfSession, IsSession, IsSessionOf, SessionFronts, WritesAll, character, comes_by, plan_for, printed_in, taken, Taken, Failures, failures}
+use Rattle.machine_commands.specs.Schedule.{Comes, Cut, Final, Then, Extent, Whole, UpToOutput, UpToRead, UpToAny, operating}
+use Rattle.machine_commands.specs.Session.{AppendsSome, extent_after, extent_unread, summary_where, Operated, BrokeOff, FrontsOf, IsHeld, IsPartOfSession, IsSession, SessionFronts, WritesAll, character, comes_by, plan_for, printed_in, taken, Taken, Failures, failures}
 use Rattle.machine_commands.specs.SessionParts.{IsNext, IsPartOf, Played, Unplayed, Faltered, PlayedFront, events_left, has_stepped, place_of, printed_from, rank, steps_in}
 use Rattle.machine_commands.specs.Trace.{line_of, trace_of, traced}
 use Rattle.machine_commands.proofs.FollowLemmas.{Came, came_none, came_all, joined, leads_both, leads_one, front_after, no_line, one_by}

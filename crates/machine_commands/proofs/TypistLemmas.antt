@@ -1,5 +1,5 @@
 -- Frames and keys that are read while a session goes on.
-use Rattle.std.proofs.Common.{ℕ, zero, suc, ◌≡◌, ◌+◌, ◌*◌, ◌==◌, ◌<◌, ◌≤◌, Bool, true, false, ◌||◌, if◌then◌else◌, List, [], ◌∷◌, ◌++◌, drop, take, map, refl, sym, ◌∙◌, ap, arith, Some, None, Option, Ok, Err, Result, subst, unwrap_or, true≢false}
+use Rattle.std.proofs.Common.{ℕ, zero, suc, ◌≡◌, ◌+◌, ◌*◌, ◌==◌, ◌<◌, ◌≤◌, Bool, true, false, ◌||◌, List, [], ◌∷◌, drop, take, map, refl, sym, ◌∙◌, ap, arith, Some, None, Option, Ok, Err, Result, subst, unwrap_or, true≢false}
 use Rattle.std.specs.Prelude.{◌&&◌, not, IfOk, IsTrue, OnErr, OnOk, length, slice_index}
 use Rattle.std.specs.Io.KnownBytes.{Consumes, IsAtEnd}
 use Rattle.instruct.specs.declared.Profile.{Profile}
@@ -9,9 +9,8 @@ use Rattle.instruct.specs.Devices.{word_of}
 use Rattle.instruct.specs.declared.devices.DeviceOperation.TheVariants.{SkipOnKeyboardFlag}
 use Rattle.peripherals.specs.Devices.{WorldState, word_at_pc}
 use Rattle.peripherals.specs.Events.{Happens, completed, done, with_devices}
-use Rattle.peripherals.specs.Operator.{Plan, first_due, left_after, one_less, round_due}
+use Rattle.peripherals.specs.Operator.{Plan, first_due, left_after, round_due}
 use Rattle.peripherals.specs.Seen.{puts_out, seen_of}
-use Rattle.options.specs.declared.Manner.{Manner}
 use Rattle.options.specs.declared.TeletypeOptions.{TeletypeOptions}
 use Rattle.machine_commands.specs.Follows.{goes_on}
 use Rattle.machine_commands.specs.Cuts.{some_left}

@@ -12,7 +12,7 @@ use Rattle.policy.specs.declared.watcher.Watched.{Watched}
 use Rattle.command_parts.specs.declared.status.Status.{Status}
 use Rattle.machine_commands.specs.Follows.{goes_on}
 use Rattle.machine_commands.specs.Running.{fresh}
-use Rattle.machine_commands.specs.Schedule.{Comes, Over, Final, Then, Place, Whole, operating, first_place}
+use Rattle.machine_commands.specs.Schedule.{Comes, Over, Final, Then, Place, Whole, operating}
 use Rattle.machine_commands.specs.Session.{comes_by}
 use Rattle.machine_commands.specs.WatchText.{IsSeen, IsTold, watched_status}
 use Rattle.machine_commands.specs.WatchedSession.{IsPlanWatchedSo}

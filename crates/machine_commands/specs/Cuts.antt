@@ -1,5 +1,5 @@
 -- That a run may be told up to anywhere, whatever its schedule.
-use Rattle.std.specs.Prelude.{ℕ, ◌≡◌, Bool, true, Option, Some, None, List, []}
+use Rattle.std.specs.Prelude.{ℕ, Bool, Option, Some, None, List, []}
 use Rattle.std.proofs.Common.{refl}
 use Rattle.instruct.specs.declared.Profile.{Profile}
 use Rattle.peripherals.specs.declared.Event.{Event}

@@ -1,14 +1,13 @@
 -- A session at the teletype: a key is struck where the program asks for one, and each frame and each key is read when it is due.
-use Rattle.std.specs.Prelude.{ℕ, ◌≡◌, ◌==◌, Bool, true, false, not, ◌||◌, ◌&&◌, if◌then◌else◌, Option, Some, None, List, [], ◌∷◌, map}
+use Rattle.std.specs.Prelude.{ℕ, ◌==◌, Bool, true, false, not, ◌||◌, ◌&&◌, if◌then◌else◌, Option, Some, None, List, [], ◌∷◌, map}
 use Rattle.instruct.specs.Devices.{word_of}
 use Rattle.instruct.specs.declared.devices.DeviceOperation.TheVariants.{SkipOnKeyboardFlag}
-use Rattle.instruct.specs.declared.Profile.{Profile}
 use Rattle.peripherals.specs.declared.Event.{Event}
 use Rattle.peripherals.specs.declared.Event.TheVariants.{Step, Key, PrinterDone, ReaderDone, PunchDone, Switches, Continue}
 use Rattle.peripherals.specs.Devices.{WorldState, word_at_pc}
 use Rattle.peripherals.specs.Operator.{Plan, first_due, left_after, round_due, struck_as}
 use Rattle.options.specs.declared.Manner.{Manner}
-use Rattle.machine_commands.specs.Schedule.{Comes, Extent, Schedule}
+use Rattle.machine_commands.specs.Schedule.{Schedule}
 
 -- The next instruction asks for a key: it is KSF, and finds the keyboard's flag clear.
 abbrev pub asks : WorldState → Bool

@@ -1,14 +1,13 @@
 -- How frames and keys are read while a session goes on. Private contracts alone cite this.
-use Rattle.std.specs.Prelude.{ℕ, ◌≡◌, Bool, true, false, ◌||◌, Option, Some, None, List, [], ◌∷◌, drop, map}
+use Rattle.std.specs.Prelude.{ℕ, ◌≡◌, Bool, true, Option, Some, None, List, [], drop, map}
 use Rattle.instruct.specs.declared.Profile.{Profile}
 use Rattle.peripherals.specs.declared.Event.{Event}
 use Rattle.peripherals.specs.declared.Event.TheVariants.{Step, Key, ReaderDone}
 use Rattle.peripherals.specs.Devices.{WorldState}
 use Rattle.peripherals.specs.Operator.{Plan, one_less}
-use Rattle.options.specs.declared.Manner.{Manner}
 use Rattle.options.specs.declared.TeletypeOptions.{TeletypeOptions}
 use Rattle.machine_commands.specs.Schedule.{Comes, Extent}
-use Rattle.machine_commands.specs.Typing.{Sitting, answer_due, typed_as, typed_due, typing}
+use Rattle.machine_commands.specs.Typing.{answer_due, typed_as, typed_due, typing}
 
 -- These bytes are still to come of a source: all that it tells; where it tells none they may be any, but none once its end was
 -- found.

@@ -1,11 +1,8 @@
-use Rattle.std.proofs.Common.{rules, ◌≡◌, ◌+◌, ◌<◌, ◌≤◌, ◌∙◌, List, [], true, false, sym, refl, arith}
-use Rattle.instruct.specs.declared.Profile.{Profile}
-use Rattle.peripherals.specs.declared.Event.{Event}
+use Rattle.std.proofs.Common.{rules, ◌≡◌, ◌+◌, ◌<◌, ◌≤◌, ◌∙◌, [], true, false, refl, arith}
 use Rattle.peripherals.specs.declared.Event.TheVariants.{Step}
 use Rattle.peripherals.specs.declared.Seen.TheVariants.{NotEnabled, Changed, Ran, Halted, Unsupported}
-use Rattle.peripherals.specs.Devices.{WorldState}
 use Rattle.peripherals.specs.World.{view, profile_of}
-use Rattle.machine_commands.specs.Schedule.{Extent, UpToAny, UpToRead}
+use Rattle.machine_commands.specs.Schedule.{Extent, UpToRead}
 use Rattle.machine_commands.specs.SessionParts.{IsNext, Played, PlayedFront, steps_in}
 use Rattle.machine_commands.proofs.SessionLemmas.{halted_is_step, or_left, or_right, ran_counts, ran_is_step, sat_all, sat_completed, sat_more, sat_none, sat_still, sat_to_fault, sat_to_halt, sat_to_stuck, sat_to_unread}
 use Rattle.machine_commands.proofs.session.operate.Goals as goal

@@ -1,12 +1,9 @@
-use Rattle.std.proofs.Common.{rules, ◌≡◌, ◌||◌, ◌∙◌, List, Bool, true, false, IfOk, OnErr, refl, sym, inl, inr, arith}
+use Rattle.std.proofs.Common.{◌||◌, ◌∙◌, refl, sym, inl, arith}
 use Rattle.std.proofs.lemmas.Result.{err_from_is_err_and}
-use Rattle.machine_commands.specs.Schedule.{Whole}
-use Rattle.machine_commands.specs.Session.{FrontsOf, IsHeld, WritesAll, failures, taken}
-use Rattle.machine_commands.specs.SessionParts.{IsPartOf}
-use Rattle.machine_commands.specs.Teletype.{run_of}
-use Rattle.machine_commands.specs.TypingParts.{Source, source}
+use Rattle.machine_commands.specs.Session.{failures}
+use Rattle.machine_commands.specs.TypingParts.{source}
 use Rattle.machine_commands.proofs.HeldLemmas.{held_no_tape}
-use Rattle.machine_commands.proofs.TeletypeLemmas.{begun, tape_failed, typed_err, typed_faults, typed_ok}
+use Rattle.machine_commands.proofs.TeletypeLemmas.{tape_failed, typed_err, typed_faults, typed_ok}
 use Rattle.machine_commands.proofs.TypistLemmas.{either_first, either_second, first_failed}
 use Rattle.machine_commands.proofs.teletype.teletype.Goals as goal
 

@@ -1,5 +1,4 @@
-use Rattle.std.proofs.Common.{rules, ◌≡◌, ◌<◌, ◌≤◌, ◌∙◌, ◌||◌, Bool, true, false, [], ◌∷◌, length, refl, arith}
-use Rattle.std.specs.Io.KnownBytes.{Consumes, IsAtEnd}
+use Rattle.std.proofs.Common.{◌≡◌, ◌<◌, ◌∙◌, ◌||◌, true, length, arith}
 use Rattle.machine_commands.proofs.TypistLemmas.{byte_came, end_came, one_item, or_true}
 use Rattle.machine_commands.proofs.typist.next_byte.Goals as goal
 

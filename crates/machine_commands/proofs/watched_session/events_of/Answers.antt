@@ -1,5 +1,4 @@
-use Rattle.std.proofs.Common.{rules, ◌≡◌, ◌∙◌, ◌++◌, ◌∷◌, [], Some, None, true, false, not, sym, ap, refl}
-use Rattle.peripherals.specs.declared.Event.{Event}
+use Rattle.std.proofs.Common.{rules, ◌≡◌, ◌∙◌, Some, None, true, false, sym, refl}
 use Rattle.peripherals.specs.Events.{Happens}
 use Rattle.peripherals.specs.Operator.{due, plan_of}
 use Rattle.peripherals.specs.World.{view, profile_of}

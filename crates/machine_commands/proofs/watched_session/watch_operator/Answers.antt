@@ -1,4 +1,4 @@
-use Rattle.std.proofs.Common.{rules, ◌≡◌, None, refl}
+use Rattle.std.proofs.Common.{rules, ◌≡◌, refl}
 use Rattle.std.specs.Io.KnownBytes.{Appends}
 use Rattle.streams.specs.Bytes.{AppendsFront}
 use Rattle.peripherals.specs.Loading.{image_of, loaded}

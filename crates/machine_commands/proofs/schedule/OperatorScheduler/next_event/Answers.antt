@@ -1,4 +1,4 @@
-use Rattle.std.proofs.Common.{◌≡◌, ◌∙◌, sym, None, Ok, refl}
+use Rattle.std.proofs.Common.{◌∙◌, sym, None, refl}
 use Rattle.peripherals.specs.World.{view}
 use Rattle.machine_commands.specs.Schedule.{Over}
 use Rattle.machine_commands.specs.SessionParts.{place_of}

@@ -1,4 +1,4 @@
-use Rattle.std.proofs.Common.{◌≡◌, List, ℕ, ◌∷◌, ap, Ok, refl}
+use Rattle.std.proofs.Common.{List, ℕ, ◌∷◌, ap, Ok}
 use Rattle.machine_commands.specs.TypingParts.{IsLeft, source}
 use Rattle.machine_commands.proofs.TypistLemmas.{key_came, no_key}
 use Rattle.machine_commands.proofs.typist.Typist.key_due.Goals as goal

@@ -1,4 +1,4 @@
-use Rattle.std.proofs.Common.{rules, ◌≡◌, ◌||◌, ◌∙◌, List, ℕ, [], ◌∷◌, true, false, ap, Ok, Some, refl}
+use Rattle.std.proofs.Common.{rules, ◌≡◌, ◌||◌, ◌∙◌, List, ℕ, ◌∷◌, true, false, ap, Ok, refl}
 use Rattle.std.proofs.lemmas.Result.{on_err_weaker}
 use Rattle.peripherals.specs.Devices.{Devices}
 use Rattle.peripherals.specs.World.{view}

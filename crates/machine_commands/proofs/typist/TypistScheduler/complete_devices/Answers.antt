@@ -1,7 +1,7 @@
-use Rattle.std.proofs.Common.{◌≡◌, ◌≤◌, Some, refl, arith}
+use Rattle.std.proofs.Common.{◌≡◌, Some, arith}
 use Rattle.peripherals.specs.declared.Event.TheVariants.{Step}
 use Rattle.peripherals.specs.World.{view}
-use Rattle.machine_commands.specs.TypingParts.{Types, source}
+use Rattle.machine_commands.specs.TypingParts.{source}
 use Rattle.machine_commands.proofs.SessionLemmas.{step_was}
 use Rattle.machine_commands.proofs.TypistLemmas.{types_complete}
 use Rattle.machine_commands.proofs.typist.TypistScheduler.complete_devices.Goals as goal

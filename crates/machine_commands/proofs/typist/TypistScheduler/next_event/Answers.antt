@@ -1,10 +1,8 @@
-use Rattle.std.proofs.Common.{rules, ◌≡◌, ◌<◌, ◌≤◌, ◌+◌, ◌*◌, ◌||◌, List, [], Some, None, Ok, ap, refl, arith}
+use Rattle.std.proofs.Common.{rules, [], Some, None, refl}
 use Rattle.instruct.specs.declared.Profile.{Profile}
 use Rattle.peripherals.specs.World.{view}
 use Rattle.machine_commands.specs.Schedule.{UpToRead}
-use Rattle.machine_commands.specs.SessionParts.{rank, steps_in}
-use Rattle.machine_commands.specs.TypingParts.{Types, rounds_left, source}
-use Rattle.machine_commands.specs.Typing.{asked_after}
+use Rattle.machine_commands.specs.TypingParts.{Types, source}
 use Rattle.machine_commands.proofs.SessionLemmas.{or_left, or_right}
 use Rattle.machine_commands.proofs.TypistLemmas.{IsBrought, Less, brought_less, types_last, types_on, types_output, types_over, types_read}
 use Rattle.machine_commands.proofs.typist.TypistScheduler.next_event.Goals as goal

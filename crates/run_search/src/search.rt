@@ -1,6 +1,6 @@
 //! The search: run after run, until one breaks a rule.
 
-ghost use Rattle.std.specs.Prelude.{◌≡◌, ◌≤◌};
+ghost use Rattle.std.specs.Prelude.{◌≡◌, ◌≤◌, IfOk};
 ghost use Rattle.declaration.specs.Kept.{meaning};
 ghost use Rattle.peripherals.specs.World.{profile_of};
 

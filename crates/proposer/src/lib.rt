@@ -23,7 +23,7 @@ mod variables;
 mod walk;
 
 use crate::map::Map;
-use crate::survey::{Findings, findings};
+use crate::survey::{Findings, surveyed};
 use crate::tape::{Tape, Visits};
 use crate::text::push_reads;
 use crate::variables::{Breadth, lists_needed, read, written};
@@ -116,7 +116,7 @@ pub fn propose<A: Allocator + Copy>(
     if proposal.is_safe() {
         return cut_down(alloc, &tape, &map, proposal, turns);
     }
-    match findings(alloc, image, &map) {
+    match surveyed(alloc, image, &map) {
         Ok(None) => Ok(proposal),
         Ok(Some(mut found)) => {
             // No run changes these, and so it needs no proof.

@@ -89,7 +89,7 @@ struct Survey<A: Allocator> {
 
 /// What runs of a tape's program are seen to do, beside what its words tell; none where that can't be
 /// declared.
-pub(crate) fn findings<A: Allocator + Copy>(
+pub(crate) fn surveyed<A: Allocator + Copy>(
     alloc: A,
     image: &Image,
     map: &Map,

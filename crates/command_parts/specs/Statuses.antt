@@ -10,7 +10,7 @@ use Rattle.command_parts.specs.declared.status.Status.TheVariants as status
 abbrev pub code_of : Status → ℕ
 code_of status.Done = 0
 code_of status.Refused = 1
-code_of status.Words = 2
+code_of status.Usage = 2
 code_of status.Device = 3
 code_of status.Memory = 4
 

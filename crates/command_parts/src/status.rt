@@ -24,8 +24,8 @@ pub enum Status {
     /// An input was refused, a run ended at an unsupported word, a watched run broke a rule, a
     /// condition fails, a search found nothing, or a proposal isn't shown to be kept.
     Refused = 1,
-    /// The program's words were bad.
-    Words = 2,
+    /// The command line is bad.
+    Usage = 2,
     /// A file or a stream failed.
     Device = 3,
     /// Memory was wanted.

@@ -223,7 +223,7 @@ impl TrackedCells {
     }
 
     /// The address of the one at a place.
-    pub(crate) fn address(&self, at: usize) -> Word
+    pub fn address(&self, at: usize) -> Word
         requires { at < length (tracked_cells self.now) }
         ensures address { result ≡ (cell_at (tracked_cells self.now) at).address }
         ensures small { (cell_at (tracked_cells self.now) at).address < 4096 }

@@ -231,7 +231,7 @@ fn tell_asked<R: Eprint>(rt: &R) -> Status {
     match eprintln!(rt;
         "error: a declaration has its own start and machine: '--start' and '--profile' can't stand beside it"
     ) {
-        Ok(()) | Err(_) => Status::Words,
+        Ok(()) | Err(_) => Status::Usage,
     }
 }
 

@@ -121,7 +121,7 @@ fn refuse<R: Print + Eprint>(rt: &R, refused: Refused) -> Status {
         Refused::Profile => eprintln!(rt; "error: bad value for '--profile': it is 8i or 8e"),
     };
     match told {
-        Ok(()) | Err(_) => Status::Words,
+        Ok(()) | Err(_) => Status::Usage,
     }
 }
 
@@ -129,7 +129,7 @@ fn refuse<R: Print + Eprint>(rt: &R, refused: Refused) -> Status {
 fn say<R: Print + Eprint>(rt: &R, text: &Error) -> Status {
     let written = text.print(rt);
     if text.use_stderr() {
-        return Status::Words;
+        return Status::Usage;
     }
     match written {
         Ok(()) => Status::Done,
@@ -272,7 +272,7 @@ fn explain_code<R: Print + Eprint>(
             if !push_explanations(&mut text, code)? {
                 let told = eprintln!(rt; "error: no code is '{code}': 'pdp8 explain' lists all");
                 return match told {
-                    Ok(()) | Err(_) => Ok(Status::Words),
+                    Ok(()) | Err(_) => Ok(Status::Usage),
                 };
             }
         }

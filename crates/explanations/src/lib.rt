@@ -62,6 +62,14 @@ impl Explanation {
         text.push_str("\n")
     }
 
+    /// Adds what is meant and what to do, a line each.
+    fn push_advice<A: Allocator>(&self, text: &mut String<A>) -> Result<(), AllocError> {
+        text.push_str(self.meaning)?;
+        text.push_str("\nwhat to do: ")?;
+        text.push_str(self.advice)?;
+        text.push_str("\n")
+    }
+
     /// Adds its line in the list of codes.
     fn push_listed<A: Allocator>(&self, text: &mut String<A>) -> Result<(), AllocError> {
         text.push_str(self.code)?;
@@ -117,6 +125,21 @@ pub fn push_explanations<A: Allocator>(
     let is_rule = push_from(text, &RULES, code)?;
     let is_fault = push_from(text, &FAULTS, code)?;
     Ok(is_condition || is_rule || is_fault)
+}
+
+/// Adds what is meant by a fault, by its code, such as `TurnsSpent`, and what to do. It is for faults that lie in no
+/// line of a file; of a code that no fault has it adds nothing.
+///
+/// # Errors
+///
+/// `AllocError` where a growth was refused.
+pub fn push_advice<A: Allocator>(text: &mut String<A>, code: &str) -> Result<(), AllocError> {
+    for explanation in &FAULTS {
+        if *explanation.code == *code {
+            explanation.push_advice(text)?;
+        }
+    }
+    Ok(())
 }
 
 /// Adds the list of codes, each with a line: conditions, rules and faults.

@@ -7,11 +7,14 @@ use bound_texts::push_bound;
 use command_line::FileNames;
 use command_parts::inputs::{declaration_from, tape_from};
 use commands::status::{DeviceFault, Fault};
+use declaration::DeclarationFault;
+use explanations::push_advice;
 use fault_texts::{FaultyFile, push_fault, push_omissions};
 use std::alloc::{AllocError, Global};
 use std::fmt::Write;
 use std::rt::Files;
 use streams::read_at_most;
+use turns::{GuessFault, ProposeFault};
 use word12::Word;
 
 /// How much of a file is looked at: a byte more than any input may have.
@@ -179,7 +182,26 @@ fn line_of(alloc: Global, name: Option<&str>, said: &str) -> String {
     text
 }
 
-/// What is said below the line of a fault: which file has it, where, and what may stand there.
+/// The lines on a fault that lies in no line of a file: what it means and what to do.
+fn advice(alloc: Global, code: &str) -> String {
+    let mut text = String::new(alloc);
+    let _ = push_advice(&mut text, code);
+    text
+}
+
+/// The lines on what was found and can't be declared: why, and what to do.
+fn undeclarable_lines(alloc: Global, fault: DeclarationFault) -> String {
+    let mut text = advice(alloc, "Undeclarable");
+    let file = FaultyFile {
+        name: "what was found",
+        bytes: b"",
+    };
+    let _ = push_fault(&mut text, Fault::Declared(fault), &file);
+    text
+}
+
+/// What is said below the line of a fault: which file has it, where, and what may stand there; or what the
+/// fault means and what to do.
 pub fn fault_lines<R: Files + Input>(
     rt: &R,
     alloc: Global,
@@ -194,6 +216,10 @@ pub fn fault_lines<R: Files + Input>(
         Fault::Device(DeviceFault::Write) => {
             line_of(alloc, names.output, "can't be made or written")
         }
+        Fault::Guess(GuessFault::TurnsSpent) => advice(alloc, "TurnsSpent"),
+        Fault::Declare(ProposeFault::Undeclarable(fault)) => undeclarable_lines(alloc, *fault),
+        Fault::Declare(ProposeFault::Mismatch) => advice(alloc, "Mismatch"),
+        Fault::NoMemory => advice(alloc, "NoMemory"),
         _ => input_lines(rt, alloc, fault, names),
     }
 }

@@ -224,7 +224,7 @@ pub(crate) static FAULTS: [Explanation; 40] = [
         code: "Mismatch",
         subject: Subject::Fault("declare: Mismatch"),
         meaning: "what was found isn't for the start, machine or reads that were asked; no program is known that brings it",
-        advice: "write the declaration by hand; NAME is the fault that the proposal\nhas",
+        advice: "write the declaration by hand",
     },
     Explanation {
         code: "ReadFault",

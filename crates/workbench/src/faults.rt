@@ -191,12 +191,13 @@ fn advice(alloc: Global, code: &str) -> String {
 
 /// The lines on what was found and can't be declared: why, and what to do.
 fn undeclarable_lines(alloc: Global, fault: DeclarationFault) -> String {
-    let mut text = advice(alloc, "Undeclarable");
-    let file = FaultyFile {
+    let mut text = String::new(alloc);
+    let found = FaultyFile {
         name: "what was found",
         bytes: b"",
     };
-    let _ = push_fault(&mut text, Fault::Declared(fault), &file);
+    let _ = push_fault(&mut text, Fault::Declared(fault), &found);
+    let _ = text.push_str("what to do: write the declaration by hand\n");
     text
 }
 

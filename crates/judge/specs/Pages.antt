@@ -4,7 +4,6 @@ use Rattle.wordset.specs.Lanes.{words}
 use Rattle.facts.specs.Meaning.{meaning}
 use Rattle.certificate.specs.Certificate.{Certificate}
 use Rattle.judge.specs.declared.spot.Page.{Page}
-use Rattle.judge.specs.declared.spot.Desk.{Desk}
 use Rattle.judge.specs.declared.lines.Body.{Body}
 use Rattle.judge.specs.declared.lines.Body.TheVariants.{Main, Of}
 
@@ -16,9 +15,3 @@ Shows c p = (a : ℕ) → p.address ≡ Some a → (c.has_fact a ≡ true) × (m
 abbrev pub Tells : Certificate → Body → Type 0
 Tells c Main = Unit {0}
 Tells c (Of e r) = (c.listed e ≡ true) × (words r.sites ≡ c.sites e) × (words r.writes ≡ c.writes e)
-
--- Both facts at addresses are those that are claimed, and the body's routine is what is claimed of it.
-pub record IsDesk (c : Certificate) (d : Desk) : Type 0 where
-  pub even : Shows c d.even
-  pub odd : Shows c d.odd
-  pub body : Tells c d.body

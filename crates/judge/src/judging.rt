@@ -6,11 +6,11 @@ ghost use Rattle.declaration.specs.Kept.{meaning};
 ghost use Rattle.policy.specs.Runs.{IsSafe};
 ghost use Rattle.judge.specs.Judged.{judged};
 ghost use Rattle.judge.specs.Conditions.{IsValid, IsFirst};
-ghost use Rattle.judge.specs.Pages.{IsDesk};
+ghost use Rattle.judge.specs.Pages.{Shows};
 
 use crate::claims::Claims;
-use crate::lines::Case;
-use crate::spot::Desk;
+use crate::lines::{Body, Case};
+use crate::spot::{Others, Page};
 use bin_tape::Image;
 use declaration::Declaration;
 use facts::Condition;
@@ -48,18 +48,29 @@ pub fn judge<A: Allocator, C: Claims>(
         MatchResult result (λ _. IsValid j) (λ r. IsFirst j r.condition r.address) }
     ensures safe { OnOk result (IsSafe (image_of image.now) (meaning declaration.now)) }
 {
-    judge_on(image, declaration, claims, &mut Desk::new())
+    judge_on(
+        image,
+        declaration,
+        claims,
+        &mut Page::new(),
+        &mut Page::new(),
+        &mut Others::new(),
+    )
 }
 
-/// The same, on a desk that is lent, so that it is made in one place and not copied.
+/// The same, with what claims are read into lent: each an argument of its own, so that it is made once,
+/// where it stays.
 #[inline(never)]
 fn judge_on<A: Allocator, C: Claims>(
     image: &Image,
     declaration: &Declaration<A>,
     claims: &C,
-    desk: &mut Desk,
+    even: &mut Page,
+    odd: &mut Page,
+    others: &mut Others,
 ) -> Result<(), Refusal>
-    requires { IsDesk (C.claims claims.now) desk.old }
+    requires even { Shows (C.claims claims.now) even.old }
+    requires odd { Shows (C.claims claims.now) odd.old }
     ensures exact { let j = judged image.now declaration.now (C.claims claims.now) in
         MatchResult result (λ _. IsValid j) (λ r. IsFirst j r.condition r.address) }
     ensures safe { OnOk result (IsSafe (image_of image.now) (meaning declaration.now)) }
@@ -70,15 +81,16 @@ fn judge_on<A: Allocator, C: Claims>(
         declaration,
         claims,
     };
-    if !case.starts_well(desk) {
+    if !case.starts_well(even) {
         return Err(Refusal {
             condition: Condition::V1,
             address: declaration.start(),
         });
     }
+    let mut body = Body::Main;
     let mut next = 0usize;
     while let Some(address) = claims.next_claimed(next) {
-        if let Err(condition) = case.check_at(address, desk) {
+        if let Err(condition) = case.check_at(address, even, odd, &mut body, others) {
             return Err(Refusal { condition, address });
         }
         next = address.index() + 1;

@@ -5,11 +5,11 @@ ghost use Rattle.wordset.specs.Words.{some_below};
 ghost use Rattle.facts.specs.Meaning.{meaning};
 ghost use Rattle.facts.specs.Places.{routine_of, sites_of, writes_of};
 ghost use Rattle.judge.specs.Conditions.{StartsWell, IsPlaced, fact_at};
-ghost use Rattle.judge.specs.Pages.{Shows, Tells, IsDesk};
+ghost use Rattle.judge.specs.Pages.{Shows, Tells};
 ghost use Rattle.judge.specs.Asked.{case_kept, RoutinesArePlaced, routine_with, sites_with, writes_with, IsBody, HoldsBetween, FailsAtLine};
 
 use crate::claims::Claims;
-use crate::spot::{Desk, Others, Page, Spot};
+use crate::spot::{Others, Page, Spot};
 use bin_tape::Image;
 use certificate::Routine;
 use declaration::{Declaration, Owner};
@@ -103,16 +103,16 @@ fn has_offset(fact: &Fact) -> bool
 
 impl<A: Allocator, C: Claims> Case<'_, A, C> {
     /// Whether there is a fact at the start, and it holds of every start.
-    pub(crate) fn starts_well(&self, desk: &mut Desk) -> bool
-        requires { IsDesk (C.claims self.now.claims.now) desk.old }
+    pub(crate) fn starts_well(&self, page: &mut Page) -> bool
+        requires { Shows (C.claims self.now.claims.now) page.old }
         ensures starts { IsTrue result ↔ StartsWell (case_kept C.claims self.now)
             (case_kept C.claims self.now).declaration.start }
-        ensures desk { IsDesk (C.claims self.now.claims.now) desk.new }
+        ensures page { Shows (C.claims self.now.claims.now) page.new }
     {
-        if !desk.even.turn_to(self.claims, self.declaration.start()) {
+        if !page.turn_to(self.claims, self.declaration.start()) {
             return false;
         }
-        holds_before(desk.even.fact(), self.image, self.declaration)
+        holds_before(page.fact(), self.image, self.declaration)
     }
 
     /// Whether the routine and exit lines at an address are where they may be: at an entry.
@@ -152,30 +152,30 @@ impl<A: Allocator, C: Claims> Case<'_, A, C> {
         }
     }
 
-    /// The first condition that fails at an address, if one does.
-    pub(crate) fn check_at(&self, at: Word, desk: &mut Desk) -> Result<(), Condition>
-        requires { IsDesk (C.claims self.now.claims.now) desk.old }
+    /// The first condition that fails at an address, if one does. Pages for even and for odd addresses
+    /// are lent.
+    pub(crate) fn check_at(
+        &self,
+        at: Word,
+        even: &mut Page,
+        odd: &mut Page,
+        body: &mut Body,
+        others: &mut Others,
+    ) -> Result<(), Condition>
+        requires even { Shows (C.claims self.now.claims.now) even.old }
+        requires odd { Shows (C.claims self.now.claims.now) odd.old }
+        requires body { Tells (C.claims self.now.claims.now) body.old }
         ensures checked { MatchResult result
             (λ _. HoldsBetween (case_kept C.claims self.now) 1 15 at)
             (λ v. FailsAtLine (case_kept C.claims self.now) at v) }
-        ensures desk { IsDesk (C.claims self.now.claims.now) desk.new }
+        ensures even { Shows (C.claims self.now.claims.now) even.new }
+        ensures odd { Shows (C.claims self.now.claims.now) odd.new }
+        ensures body { Tells (C.claims self.now.claims.now) body.new }
     {
         if at.index() % 2 == 0 {
-            self.check_page(
-                at,
-                &mut desk.even,
-                &mut desk.odd,
-                &mut desk.body,
-                &mut desk.others,
-            )
+            self.check_page(at, even, odd, body, others)
         } else {
-            self.check_page(
-                at,
-                &mut desk.odd,
-                &mut desk.even,
-                &mut desk.body,
-                &mut desk.others,
-            )
+            self.check_page(at, odd, even, body, others)
         }
     }
 

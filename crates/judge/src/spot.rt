@@ -5,7 +5,7 @@ ghost use Rattle.certificate.specs.Certificate as said;
 ghost use Rattle.facts.specs.Meaning.{meaning};
 ghost use Rattle.judge.specs.Judged.{judged};
 ghost use Rattle.judge.specs.Asked.{IsBody};
-ghost use Rattle.judge.specs.Pages.{Shows, IsDesk};
+ghost use Rattle.judge.specs.Pages.{Shows};
 ghost use Rattle.judge.specs.Spots.{IsSpot, case_of};
 
 use crate::claims::Claims;
@@ -16,7 +16,10 @@ use facts::{Fact, Place, Room};
 use std::alloc::Allocator;
 use word12::Word;
 
-/// A fact that claims are read into, and whose it is: that of an address, or of none.
+/// A fact that claims are read into, and whose it is: that of an address, or of none. It has some
+/// 35,000 bytes, so two are made, once: for the address that is looked at and for the next one, by
+/// turns. The fact that a run mostly goes on to is then the one that is looked at next, and is read
+/// once.
 #[derive(Drop)]
 pub(crate) struct Page {
     fact: Fact,
@@ -25,7 +28,7 @@ pub(crate) struct Page {
 
 impl Page {
     /// A fact of which nothing is known, and which is that of no address.
-    fn new() -> Page
+    pub(crate) fn new() -> Page
         ensures { (c : said.Certificate) → Shows c result }
     {
         Page {
@@ -70,17 +73,6 @@ impl Page {
     }
 }
 
-/// Facts to read claims into, each of some 35,000 bytes, so they are made once: those at two
-/// addresses, one after the other, and others that the one at an address is compared with. The
-/// fact that a run mostly goes on to is then the one that is looked at next, and is read once.
-#[derive(Drop)]
-pub(crate) struct Desk {
-    pub(crate) even: Page,
-    pub(crate) odd: Page,
-    pub(crate) body: Body,
-    pub(crate) others: Others,
-}
-
 /// Further facts that the one at an address is compared with: where the run goes on elsewhere, and
 /// at a return; and room for what comes of a word.
 #[derive(Drop)]
@@ -90,20 +82,13 @@ pub(crate) struct Others {
     pub(crate) room: Room,
 }
 
-impl Desk {
-    /// Facts of which nothing is known.
-    pub(crate) fn new() -> Desk
-        ensures { (c : said.Certificate) → IsDesk c result }
-    {
-        Desk {
-            even: Page::new(),
-            odd: Page::new(),
-            body: Body::Main,
-            others: Others {
-                next: Fact::any(),
-                exit: Fact::any(),
-                room: Room::new(),
-            },
+impl Others {
+    /// Facts of which nothing is known, and room that nothing stands in.
+    pub(crate) fn new() -> Others {
+        Others {
+            next: Fact::any(),
+            exit: Fact::any(),
+            room: Room::new(),
         }
     }
 }

@@ -26,7 +26,7 @@ returns-in-Err-clause-exact g c =
 pub loop-address-preserved : goal.loop-address-preserved
 loop-address-preserved g c =
     let j : Case = judged c.args.image.now c.args.declaration.now (g.C.Claims.claims c.args.claims.now) in
-    (one_more (λ a. HoldsBetween j 1 15 a) (claimed j.certificate) _ c.in-Some.ensures c.index-next.ensures.same c.in_default-check_at.ensures.checked c.loop-address.invariant.0, c.check_at.ensures.desk)
+    (one_more (λ a. HoldsBetween j 1 15 a) (claimed j.certificate) _ c.in-Some.ensures c.index-next.ensures.same c.in_default-check_at.ensures.checked c.loop-address.invariant.0, c.check_at.ensures.even, c.check_at.ensures.odd, c.check_at.ensures.body)
 
 pub returns-clause-exact : goal.returns-clause-exact
 returns-clause-exact g c =

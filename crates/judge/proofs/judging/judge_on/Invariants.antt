@@ -2,13 +2,15 @@ use Rattle.std.proofs.Common.{◌≡◌, ◌<◌, ◌-◌, ℕ, true}
 use Rattle.certificate.specs.Certificate.{claimed}
 use Rattle.judge.specs.Asked.{HoldsBetween}
 use Rattle.judge.specs.Judged.{judged}
-use Rattle.judge.specs.Pages.{IsDesk}
+use Rattle.judge.specs.Pages.{Shows, Tells}
 use Rattle.judge.proofs.judging.judge_on.Given as goal
 
 abbrev pub invariant-loop-address : goal.invariant-loop-address
 invariant-loop-address g l =
     ((a : ℕ) → a < l.next → claimed (g.C.Claims.claims l.claims) a ≡ true → HoldsBetween (judged l.image l.declaration (g.C.Claims.claims l.claims)) 1 15 a) ×
-    IsDesk (g.C.Claims.claims l.claims) l.desk
+    Shows (g.C.Claims.claims l.claims) l.even ×
+    Shows (g.C.Claims.claims l.claims) l.odd ×
+    Tells (g.C.Claims.claims l.claims) l.body
 
 abbrev pub decreases-loop-address : goal.decreases-loop-address
 decreases-loop-address g l = 4096 - l.next

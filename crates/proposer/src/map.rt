@@ -182,9 +182,8 @@ impl Map {
         let Some(visits) = tape.visits else {
             return;
         };
-        let owner = walk.owner();
         for visit in visits.places {
-            if visit.owner == owner && !self.entries.contains(visit.spot.at) {
+            if visit.entry == walk.entry && !self.entries.contains(visit.spot.at) {
                 walk.meet(visit.spot);
             }
         }

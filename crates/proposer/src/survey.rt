@@ -278,11 +278,7 @@ impl<A: Allocator + Copy> Survey<A> {
     }
 
     /// Widens the declaration by what was learned. False where that can't be declared.
-    fn widen<'x>(
-        &mut self,
-        image: &'x Image,
-        record: &'x Record<A>,
-    ) -> Result<bool, NoMemory>
+    fn widen<'x>(&mut self, image: &'x Image, record: &'x Record<A>) -> Result<bool, NoMemory>
         ensures profile { (meaning self.new.declaration).profile
             ≡ (meaning self.old.declaration).profile }
     {

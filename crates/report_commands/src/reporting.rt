@@ -79,14 +79,7 @@ fn below<A: Allocator + Copy, D: Allocator, C: Allocator>(
             condition_name(refusal.condition),
         ),
     };
-    let report = Report::new(
-        alloc,
-        image,
-        declaration,
-        certificate,
-        finding,
-        failing,
-    )?;
+    let report = Report::new(alloc, image, declaration, certificate, finding, failing)?;
     below_lines(alloc, &report, &lines, form)
 }
 

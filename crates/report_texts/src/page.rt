@@ -248,10 +248,7 @@ fn write_names_guide<A: Allocator>(pen: &mut Pen<A>) -> Result<(), AllocError> {
 }
 
 /// Writes how the listing is read.
-fn write_guide<A: Allocator>(
-    pen: &mut Pen<A>,
-    finding: Finding,
-) -> Result<(), AllocError> {
+fn write_guide<A: Allocator>(pen: &mut Pen<A>, finding: Finding) -> Result<(), AllocError> {
     pen.put(b"<h2 id=listing>Listing</h2>\n<p>Beside each instruction stands ")?;
     pen.put(listed_text(finding))?;
     pen.put(

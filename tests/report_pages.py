@@ -9,7 +9,7 @@ import sets
 from reports import ADDRESS, BEGIN, END, Report, all_of_fact, may_write, shown
 
 STYLE = Path(__file__).parent.parent / "crates" / "report_texts" / "src" / "style.rt"
-MOST_SAME = 4
+MOST_SAME = 8
 DIRECT = re.compile(r"(AND|TAD|ISZ|DCA|JMS|JMP) [ZC][0-7]{3}$")
 
 
@@ -191,7 +191,7 @@ class Page(Report):
         said = ("what is known in every run <b>before</b> it is executed" if self.refused is None
                 else "what the certificate claims <b>before</b> it is executed, which isn't shown")
         return (f"<h2 id=listing>Listing</h2>\n<p>Beside each instruction stands {said}; what is the same as on the line above is grey, "
-                "and of more than four such items only the number of the others is told.\n"
+                "and of more than eight such items only the number of the others is told.\n"
                 "<code>AC in 0305,0310</code>: the accumulator holds one of these words. "
                 "<code>0010 in 0224-0230</code>: so does the cell 0010. "
                 "<code>[0010] = [0224] + 0231</code>: the word in the cell 0010 is that in the cell 0224 and 0231 more, modulo 10000; "

@@ -252,7 +252,7 @@ fn write_guide<A: Allocator>(pen: &mut Pen<A>, finding: Finding) -> Result<(), A
     pen.put(b"<h2 id=listing>Listing</h2>\n<p>Beside each instruction stands ")?;
     pen.put(listed_text(finding))?;
     pen.put(
-        b"; what is the same as on the line above is grey, and of more than four such items only the number ",
+        b"; what is the same as on the line above is grey, and of more than eight such items only the number ",
     )?;
     pen.put(b"of the others is told.\n")?;
     write_items_guide(pen)?;

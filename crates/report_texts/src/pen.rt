@@ -9,7 +9,7 @@ use wordset::WordSet;
 const MOST_RUNS: usize = 16;
 
 /// How many items of a line are shown that are the same as on the line above.
-const MOST_SAME: usize = 4;
+const MOST_SAME: usize = 8;
 
 /// In which form a report is written.
 #[derive(Clone, Copy, PartialEq, Eq, Debug)]

@@ -1,13 +1,14 @@
 #!/usr/bin/env python3
-"""Compares what `report --text` writes with what the Python in reference/ makes of the same certificate. No gate runs it.
+"""Compares what `report` writes with what the Python in reference/ makes of the same certificate. No gate runs it.
 
-usage: tests/reports.py PDP8 [NAME..]             compares the examples, and their broken variants
+usage: tests/reports.py PDP8 [NAME..]             compares the examples, and their broken variants: text and page
        tests/reports.py PDP8 --write FILE NAME..  writes the wanted lines of these examples as cases to FILE
+       tests/reports.py PDP8 --pages FILE NAME..  the same with their pages, without head and numbers beside the map
+       tests/reports.py PDP8 TAPE DECLARATION CERTIFICATE  compares the report of these three files
 
 What is known, read, written, called and returned to is worked out by reference/. Of the program only the names of words
 are taken, from `dump`, and what stands above the listing, from `check` and `check --why`.
 """
-import html
 import re
 import subprocess
 import sys
@@ -24,6 +25,9 @@ from facts import AC, possible, targets  # noqa: E402
 from machine import named_cell  # noqa: E402
 
 MOST_RUNS = 16
+# An address that leads to its line in a page stands between these two.
+BEGIN, END = "\1", "\2"
+ADDRESS = BEGIN + "{:04o}" + END
 
 
 def runs_of(members):
@@ -36,10 +40,10 @@ def runs_of(members):
     return runs
 
 
-def shown(members):
-    """A set by its first runs, and how many words more there are."""
+def shown(members, address="{:04o}"):
+    """A set by its first runs, and how many words more there are. `address` says how the first word of a run is written."""
     runs = runs_of(members)
-    text = ",".join(f"{a:04o}" if a == b else f"{a:04o}-{b:04o}" for a, b in runs[:MOST_RUNS]) or "-"
+    text = ",".join(address.format(a) + ("" if a == b else f"-{b:04o}") for a, b in runs[:MOST_RUNS]) or "-"
     more = sum(b - a + 1 for a, b in runs[MOST_RUNS:])
     return text + (f" and {more} more" if more else "")
 
@@ -56,32 +60,33 @@ def link_text(link):
 
 
 def name_of(name):
-    return "AC" if name == AC else f"{name:04o}"
+    return "AC" if name == AC else f"[{name:04o}]"
+
+
+def all_of_fact(fact, above, offsets=True):
+    """What a fact says, item by item, and of each item whether the fact above says the same."""
+    near = above is not None
+    items = [("AC " + holds(fact.ac), near and fact.ac == above.ac)]
+    if fact.mq != sets.ALL or near and above.mq != sets.ALL:
+        items.append(("MQ " + holds(fact.mq), near and fact.mq == above.mq))
+    items.append((link_text(fact.link), near and fact.link == above.link))
+    for cell, members in sorted(fact.cells.items()):
+        items.append((f"{cell:04o} " + holds(members), near and members == above.set_of(cell)))
+    for cell, members in sorted(above.cells.items() if near else []):
+        if cell not in fact.cells and members != sets.ALL:
+            items.append((f"{cell:04o} any", False))
+    known = above.equations if near else set()
+    items += [(f"{name_of(x)} = [{y:04o}] + {k:04o}", (x, y, k) in known) for x, y, k in sorted(fact.equations)]
+    kept = {(x, y) for x, y, _ in fact.equations}
+    items += [(f"{name_of(x)} and [{y:04o}] unrelated", False) for x, y, _ in sorted(known) if (x, y) not in kept]
+    if offsets and (fact.offsets - {0} or near and above.offsets - {0}):
+        items.append(("return word up by " + ",".join(map(str, sorted(fact.offsets))), near and fact.offsets == above.offsets))
+    return items
 
 
 def of_fact(fact, above, offsets=True):
     """What a fact says that the one above it doesn't, item by item."""
-    items = []
-    if above is None or fact.ac != above.ac:
-        items.append("AC " + holds(fact.ac))
-    if fact.mq != (sets.ALL if above is None else above.mq):
-        items.append("MQ " + holds(fact.mq))
-    if above is None or fact.link != above.link:
-        items.append(link_text(fact.link))
-    for cell, members in sorted(fact.cells.items()):
-        if above is None or members != above.set_of(cell):
-            items.append(f"{cell:04o} " + holds(members))
-    for cell, members in sorted(above.cells.items() if above else []):
-        if cell not in fact.cells and members != sets.ALL:
-            items.append(f"{cell:04o} any")
-    known = set() if above is None else above.equations
-    items += [f"{name_of(x)} = {y:04o} + {k:04o}" for x, y, k in sorted(fact.equations - known)]
-    kept = {(x, y) for x, y, _ in fact.equations}
-    items += [f"{name_of(x)} and {y:04o} unrelated" for x, y, _ in sorted(known) if (x, y) not in kept]
-    counted = fact.offsets - {0} if above is None else fact.offsets != above.offsets
-    if offsets and counted:
-        items.append("return word up by " + ",".join(map(str, sorted(fact.offsets))))
-    return items
+    return [item for item, same in all_of_fact(fact, above, offsets) if not same]
 
 
 class Report:
@@ -126,7 +131,7 @@ class Report:
             did["writes"] |= self.judge.cells_written(fact, at, word, place)
             if word < 0o6000 and word & 0o400:
                 self.indirect(at, fact, word, place, did)
-        return items + [name + " " + ("any" if cells == sets.ALL else shown(cells)) for name, cells in did.items() if cells]
+        return items + [name + " " + ("any" if cells == sets.ALL else shown(cells, ADDRESS)) for name, cells in did.items() if cells]
 
     def indirect(self, at, fact, word, place, did):
         cell, reached = named_cell(word, at), targets(fact, at, word, place)[1]
@@ -148,22 +153,30 @@ class Report:
         items = [name for name, holds_here in marks if holds_here]
         kind = self.kind(at)
         if at in facts:
-            near = at > 0 and self.kind(at - 1) == kind
-            items += of_fact(facts[at], facts.get(at - 1) if near else None) + self.access(at, facts[at])
+            items += self.of_fact(facts[at], self.above(at)) + self.access(at, facts[at])
         elif kind[0] == "body":
             items.append("no fact" if self.refused else "never reached")
         elif kind[0] == "variable":
             items += self.variable(at)
-        if self.is_refused_at(at):
-            items.append(f"HERE {self.refused[0]} FAILS")
         return items
+
+    of_fact = staticmethod(of_fact)
+
+    def above(self, at):
+        """The fact on the line above, if it is of the same body."""
+        near = at > 0 and self.kind(at - 1) == self.kind(at)
+        return self.certificate.facts.get(at - 1) if near else None
+
+    def mark(self, at):
+        """The mark of the place of a no."""
+        return [f"HERE {self.refused[0]} FAILS"] if self.is_refused_at(at) else []
 
     def variable(self, cell):
         if cell not in self.known:
             return ["any word"]
         words, places = self.known[cell]
         unknown = sets.of(set(self.certificate.facts) - places)
-        return ["holds " + ("any word" if words == sets.ALL else shown(words))] + (["any word at " + shown(unknown)] if unknown else [])
+        return ["holds " + ("any word" if words == sets.ALL else shown(words))] + (["any word at " + shown(unknown, ADDRESS)] if unknown else [])
 
     def heading(self, at, last):
         kind, owner = self.kind(at)
@@ -181,8 +194,7 @@ class Report:
         if line is None:
             items.append("nothing is claimed of it")
         else:
-            writes = {0: "nothing", sets.ALL: "any cell"}.get(line.writes) or shown(line.writes)
-            items += [f"rank {line.rank}", f"called from {shown(line.sites)}", f"may write {writes}"]
+            items += [f"rank {line.rank}", f"called from {shown(line.sites, ADDRESS)}", f"may write {may_write(line)}"]
         items.append("returns by " + (",".join(map(str, offsets)) or "-"))
         exits = sorted((offset, fact) for (of, offset), fact in self.certificate.exits.items() if of == entry)
         return ["", "; ".join(items)] + [line_of(f"return by {offset}", of_fact(fact, None, False))
@@ -203,10 +215,10 @@ class Report:
                     word = f"{self.image[at]:04o}" if at in self.image else "----"
                     if at in self.image and (kind[0] == "body" or at in self.certificate.facts):
                         word += " " + self.names[at]
-                    lines.append(line_of(f"{at:04o} {word}", self.items(at)))
+                    lines.append(line_of(f"{at:04o} {word}", self.items(at) + self.mark(at)))
                 at = end
             at += 1
-        return "".join(line + "\n" for line in lines)
+        return re.sub(f"[{BEGIN}{END}]", "", "".join(line + "\n" for line in lines))
 
 
 def line_of(front, items):
@@ -219,8 +231,13 @@ def ran(*words):
     return subprocess.run([str(word) for word in words], capture_output=True, text=True).stdout
 
 
-def wanted(pdp8, tape, declaration, certificate):
-    """What a report is to say as plain text."""
+def may_write(line):
+    """What a routine may write, by its line."""
+    return {0: "nothing", sets.ALL: "any cell"}.get(line.writes) or shown(line.writes, ADDRESS)
+
+
+def wanted(pdp8, tape, declaration, certificate, kind=None):
+    """What a report is to say as plain text, or as a page."""
     image = second_reader.words(tape.read_bytes())
     declared = watch.declaration(declaration.read_bytes())
     claims = check.parse(certificate.read_text("ascii"))
@@ -233,32 +250,26 @@ def wanted(pdp8, tape, declaration, certificate):
         front = "".join(line for line in lines if not line.startswith(("fact ", "cell ", "equal ")))
     profile = declared.profile or "8i"
     names = {int(line[:4], 8): line[10:] for line in ran(pdp8, "dump", tape, "--profile", profile).splitlines()}
-    return front + Report(image, declared, claims, names, refused).listing()
+    report = (kind or Report)(image, declared, claims, names, refused)
+    return report.page(front) if kind else front + report.listing()
 
 
-def faults_of_page(page, text):
-    """What is wrong with a page beside the same report as text: its listing without what is grey is the text's."""
+def differs(name, want, found):
+    """Names the first line in which a report isn't what it is to be."""
+    if found == want:
+        return 0
+    pairs = zip(want.splitlines() + ["(end)"], found.splitlines() + ["(end)"])
+    print(name, *next((pair for pair in pairs if pair[0] != pair[1]), ("lengths",)), sep="\n  ")
+    return 1
+
+
+def faults_of_page(page):
+    """What is wrong with a page by itself."""
     names, places = re.findall(r"href=#(\w+)", page), re.findall(r" id=(\w+)", page)
     if len(set(places)) < len(places) or set(names) - set(places):
         yield f"links: {sorted(set(names) - set(places))}, twice {sorted(it for it in set(places) if places.count(it) > 1)}"
     if re.search(r"<script|<link|<img|src=|https?:", page):
         yield "it isn't by itself"
-    heading = re.search(r"<h1>(.*)\n</h1>", page)[1]
-    if heading != text.splitlines()[0]:
-        yield f"verdict: {heading}"
-    rows = []
-    for row in page.partition("<h2 id=listing>")[2].partition("<table>")[2].partition("</table>")[0].splitlines():
-        row = re.sub(r"<i>.*?</i>(; )?", "", row)
-        rows.append(" ".join(html.unescape(re.sub(r"<[^>]*>", " ", row)).replace(" - ", "-").split()).strip("; "))
-    listing = text.partition("\n\n")[2].splitlines()
-    for wanted, found in zip([it for it in listing if it] + ["(end)"], [it for it in rows if it] + ["(end)"]):
-        if squeezed(wanted) != squeezed(found):
-            yield f"{wanted}\n  {found}"
-            return
-
-
-def squeezed(line):
-    return re.sub(r"[\s;]+", "", line)
 
 
 def examples(pdp8, names, room):
@@ -274,32 +285,47 @@ def examples(pdp8, names, room):
         yield source.stem, tape, declaration, certificate
 
 
-def main():
-    pdp8, *names = sys.argv[1:]
-    target = None
-    if names[:1] == ["--write"]:
-        target, names, cases = Path(names[1]), names[2:], []
+def without_head(page):
+    """A page as the cases have it."""
+    lines = page.partition("<body>\n")[2].splitlines(keepends=True)
+    return "".join(line for line in lines if not line.startswith("<text"))
+
+
+def cases_of(pdp8, loads, pages):
+    """The cases of these loads."""
+    from report_pages import Page
+    for name, tape, declaration, certificate in loads:
+        want = wanted(pdp8, tape, declaration, certificate, Page if pages else None)
+        status = "[1]\n" if "no: " in want.partition("\n")[0] or "<h1>no: " in want else ""
+        command = f"report {name}.bin {declaration.name} {certificate.name} -"
+        filters, body = (" | sed '1,/<body>/d' | grep -v '^<text'", without_head(want)) if pages else (" --text", want)
+        yield f"```console\n$ pdp8 {command}{filters}\n{body}{'' if pages else status}```\n\n"
+
+
+def compared(pdp8, loads):
+    """Compares reports with what they are to be, and says how many are wrong."""
+    from report_pages import Page
     wrong = 0
-    with tempfile.TemporaryDirectory() as room:
-        for name, tape, declaration, certificate in examples(pdp8, names, room):
-            want = wanted(pdp8, tape, declaration, certificate)
-            if target:
-                cases.append((name, declaration.name, certificate.name, want))
-                continue
-            found = ran(pdp8, "report", tape, declaration, certificate, "-", "--text")
-            for fault in faults_of_page(ran(pdp8, "report", tape, declaration, certificate, "-"), found):
-                wrong += 1
-                print(f"{name}, page: {fault}")
-            if found != want:
-                wrong += 1
-                pairs = zip(want.splitlines() + ["(end)"], found.splitlines() + ["(end)"])
-                print(name, *next((pair for pair in pairs if pair[0] != pair[1]), ("lengths",)), sep="\n  ")
-    if target:
-        blocks = (f"```console\n$ pdp8 report {name}.bin {declared} {claims} - --text\n{want}"
-                  + ("[1]\n" if want.startswith("no") else "") + "```\n" for name, declared, claims, want in cases)
-        target.write_text("".join(block + "\n" for block in blocks))
+    for name, tape, declaration, certificate in loads:
+        page = ran(pdp8, "report", tape, declaration, certificate, "-")
+        wrong += differs(name, wanted(pdp8, tape, declaration, certificate), ran(pdp8, "report", tape, declaration, certificate, "-", "--text"))
+        wrong += differs(name + ", page", wanted(pdp8, tape, declaration, certificate, Page), page)
+        for fault in faults_of_page(page):
+            wrong += 1
+            print(f"{name}, page: {fault}")
     print(f"{wrong} wrong")
     return int(wrong > 0)
+
+
+def main():
+    pdp8, *names = sys.argv[1:]
+    with tempfile.TemporaryDirectory() as room:
+        if names[:1] in (["--write"], ["--pages"]):
+            cases = cases_of(pdp8, examples(pdp8, names[2:], room), names[0] == "--pages")
+            return 0 if Path(names[1]).write_text("".join(cases)) else 1
+        if len(names) == 3 and Path(names[0]).exists():
+            return compared(pdp8, [(names[0], *map(Path, names))])
+        return compared(pdp8, examples(pdp8, names, room))
 
 
 if __name__ == "__main__":

@@ -1,1 +1,2 @@
+pub mod DraftText
 pub mod ReportText

@@ -20,7 +20,7 @@ use declaration::Declaration;
 use judge::{Refusal, judge};
 use reasons::why;
 pub use report_texts::Form;
-use report_texts::{head_of, listing_below, opening, page_below};
+use report_texts::{Finding, Report, head_of, listing_below, opening, page_below};
 use std::alloc::{AllocError, Allocator};
 use streams::{ByteSink, ByteSource, put};
 use verdict_texts::certificates::certificate_from;
@@ -44,6 +44,24 @@ fn why_lines<A: Allocator, D: Allocator, C: Allocator>(
     Ok(text)
 }
 
+/// What stands below the line of a verdict: these lines, and the rest of the report.
+pub(crate) fn below_lines<A: Allocator + Copy, D: Allocator, C: Allocator>(
+    alloc: A,
+    report: &Report<'_, A, D, C>,
+    lines: &[u8],
+    form: Form,
+) -> Result<Vec<u8, A>, AllocError> {
+    match form {
+        Form::Page => page_below(alloc, report, lines),
+        Form::Text => {
+            let mut text = Vec::new(alloc);
+            text.extend_from_slice(lines)?;
+            text.extend_from_slice(&listing_below(alloc, report)?)?;
+            Ok(text)
+        }
+    }
+}
+
 /// What stands below the verdict.
 fn below<A: Allocator + Copy, D: Allocator, C: Allocator>(
     alloc: A,
@@ -53,26 +71,16 @@ fn below<A: Allocator + Copy, D: Allocator, C: Allocator>(
     verdict: &Result<(), Refusal>,
     form: Form,
 ) -> Result<Vec<u8, A>, AllocError> {
-    let mut lines = why_lines(alloc, image, declaration, certificate, verdict)?;
-    let failing = match verdict {
-        Ok(()) => "",
-        Err(refusal) => condition_name(refusal.condition),
+    let lines = why_lines(alloc, image, declaration, certificate, verdict)?;
+    let (finding, failing) = match verdict {
+        Ok(()) => (Finding::Shown, ""),
+        Err(refusal) => (
+            Finding::Refused(refusal.address),
+            condition_name(refusal.condition),
+        ),
     };
-    let report = report_texts::Report::new(
-        alloc,
-        image,
-        declaration,
-        certificate,
-        verdict,
-        failing,
-    )?;
-    match form {
-        Form::Page => page_below(alloc, &report, &lines),
-        Form::Text => {
-            lines.extend_from_slice(&listing_below(alloc, &report)?)?;
-            Ok(lines)
-        }
-    }
+    let report = Report::new(alloc, image, declaration, certificate, finding, failing)?;
+    below_lines(alloc, &report, &lines, form)
 }
 
 /// The line of a verdict, with what stands before and right behind it in a form, and the rest.

@@ -15,3 +15,8 @@ unfoldable pub opening : Form → Result (Unit {0}) Refusal → List ℕ
 opening Text _ = []
 opening Page (Ok _) = codes "</h1>\n<p>This is shown of <b>every</b> run"
 opening Page (Err _) = codes "</h1>\n<p>This certificate shows nothing: "
+
+-- Behind the line of a search that is stuck a page says that nothing is shown.
+unfoldable pub stuck_opening : Form → List ℕ
+stuck_opening Text = []
+stuck_opening Page = codes "</h1>\n<p>Nothing is shown: "

@@ -1,7 +1,7 @@
 //! What an instruction may read, write, call and jump to, as far as the fact at its address tells.
 
 use crate::pen::Pen;
-use crate::report::{Kind, Report, claimed_of, place_in};
+use crate::report::{Kind, Report, place_in};
 use certificate::Routine;
 use declaration::Declaration;
 use facts::{Fact, Place, reads, writes};
@@ -49,6 +49,14 @@ fn reads_operand(word: Word) -> bool {
     match Operation::of(word) {
         Operation::And | Operation::Tad | Operation::Isz => true,
         Operation::Dca | Operation::Jms | Operation::Jmp => false,
+    }
+}
+
+/// Whether a memory reference writes its operand.
+fn stores(word: Word) -> bool {
+    match Operation::of(word) {
+        Operation::Isz | Operation::Dca => true,
+        Operation::And | Operation::Tad | Operation::Jms | Operation::Jmp => false,
     }
 }
 
@@ -138,10 +146,6 @@ fn access_of<D: Allocator>(
     words: &WordSet,
 ) -> Access {
     let mut access = Access::none();
-    if let Some(word) = words.only() {
-        access.add(place, routine, fact, at, word);
-        return access;
-    }
     for index in 0..4096 {
         let word = Word::from_index(index);
         if words.contains(word) {
@@ -169,28 +173,66 @@ fn write_possible<A: Allocator>(pen: &mut Pen<A>, words: &WordSet) -> Result<(),
     pen.words(words)
 }
 
+/// Whether a word at most goes on to the next ones, or to the address that it names.
+fn is_plain<D: Allocator>(declaration: &Declaration<D>, word: Word) -> bool {
+    if !matches!(decode(word, declaration.profile()), Instruction::Memory) {
+        return true;
+    }
+    !refers_indirectly(word) && !stores(word)
+}
+
+/// Writes what the word of the tape does at an address where no other may stand.
+fn write_fixed<A: Allocator, D: Allocator>(
+    pen: &mut Pen<A>,
+    place: &Place<'_, D>,
+    routine: &Routine,
+    fact: &Fact,
+    at: Word,
+    word: Word,
+) -> Result<(), AllocError> {
+    if is_plain(place.declaration, word) {
+        return Ok(());
+    }
+    if !refers_indirectly(word) {
+        return write_places(pen, b"writes ", &writes(fact, at, word, place));
+    }
+    let mut access = Access::none();
+    access.add(place, routine, fact, at, word);
+    write_each(pen, &access)
+}
+
+/// Writes which words may stand at an address, and what they do, unless they are many.
+fn write_varying<A: Allocator, D: Allocator>(
+    pen: &mut Pen<A>,
+    place: &Place<'_, D>,
+    routine: &Routine,
+    fact: &Fact,
+    at: Word,
+) -> Result<(), AllocError> {
+    let words = place.possible_words(fact, at);
+    write_possible(pen, &words)?;
+    if words.count() > MOST_WORDS {
+        return Ok(());
+    }
+    write_each(pen, &access_of(place, routine, fact, at, &words))
+}
+
 /// Writes what the words at an address may do: the cells that they write, and where they go and what
-/// they read by indirect references.
+/// they read by indirect references. `routine` is what is claimed of that in whose body they are.
 pub(crate) fn write_access<A: Allocator, B: Allocator, D: Allocator, C: Allocator>(
     pen: &mut Pen<A>,
     report: &Report<'_, B, D, C>,
     kind: &Kind,
+    routine: &Routine,
     fact: &Fact,
     at: Word,
 ) -> Result<(), AllocError> {
-    let entry = match kind {
-        Kind::Routine(entry) => *entry,
-        _ => at,
-    };
-    let routine = claimed_of(report.certificate, entry);
-    let place = place_in(report.image, report.declaration, kind, &routine);
-    let words = place.possible_words(fact, at);
-    let is_many = words.count() > MOST_WORDS;
-    if report.declaration.is_variable(at) || is_many {
-        write_possible(pen, &words)?;
+    let place = place_in(report.image, report.declaration, kind, routine);
+    if report.declaration.is_variable(at) {
+        return write_varying(pen, &place, routine, fact, at);
     }
-    if is_many {
-        return Ok(());
+    match report.image.get(at) {
+        Some(word) => write_fixed(pen, &place, routine, fact, at, word),
+        None => write_varying(pen, &place, routine, fact, at),
     }
-    write_each(pen, &access_of(&place, &routine, fact, at, &words))
 }

@@ -2,10 +2,9 @@
 
 use crate::map::colour_of;
 use crate::pen::Pen;
-use crate::report::{Report, claimed_of};
+use crate::report::{Finding, Report, claimed_of};
 use crate::routines::{write_offsets, write_written};
 use declaration::{Owner, Routine};
-use judge::Refusal;
 use std::alloc::{AllocError, Allocator};
 use word12::Word;
 use wordset::WordSet;
@@ -271,13 +270,16 @@ fn write_boxes<A: Allocator, B: Allocator, D: Allocator, C: Allocator>(
 }
 
 /// What the ranks show; after a no it is only claimed.
-fn ranks_text(verdict: &Result<(), Refusal>) -> &'static [u8] {
-    match verdict {
-        Ok(()) => {
+fn ranks_text(finding: Finding) -> &'static [u8] {
+    match finding {
+        Finding::Shown => {
             b"Ranks fall from caller to callee, so no routine is called again before it returned."
         }
-        Err(_) => {
+        Finding::Refused(_) => {
             b"Ranks are to fall from caller to callee; this certificate doesn't show that they do."
+        }
+        Finding::Stuck(_) => {
+            b"Ranks are to fall from caller to callee; in a draft they are as far as the search came."
         }
     }
 }
@@ -295,7 +297,7 @@ pub(crate) fn write_graph<A: Allocator, S: Allocator, B: Allocator, D: Allocator
     let spots = spots_of(alloc, report)?;
     write_drawing(pen, report, &spots)?;
     pen.put(b"<p>A line leads from a caller down to what it calls. ")?;
-    pen.put(ranks_text(report.verdict))?;
+    pen.put(ranks_text(report.finding))?;
     pen.put(b"</p>\n<table>\n")?;
     pen.put(b"<tr><th>entry<th>rank<th>called from<th>it and what it calls may write")?;
     pen.put(b"<th>words skipped behind the call when it returns\n")?;

@@ -6,11 +6,23 @@ use std::alloc::{AllocError, Allocator};
 use word12::{Link, Word};
 use wordset::{Links, WordSet};
 
-/// Writes AC, or the address of a cell.
-fn write_name<A: Allocator>(pen: &mut Pen<A>, name: &Name) -> Result<(), AllocError> {
+/// Writes AC, or the address of a cell in brackets, for the word in it.
+fn write_held_in<A: Allocator>(pen: &mut Pen<A>, name: &Name) -> Result<(), AllocError> {
     match name {
         Name::Accumulator => pen.put(b"AC"),
-        Name::Cell(cell) => pen.word(*cell),
+        Name::Cell(cell) => {
+            pen.put(b"[")?;
+            pen.word(*cell)?;
+            pen.put(b"]")
+        }
+    }
+}
+
+/// Whether a set has one word.
+fn is_one(set: &WordSet) -> bool {
+    match set.least() {
+        None => false,
+        Some(least) => set.first_from(least.index() + 1).is_none(),
     }
 }
 
@@ -19,11 +31,7 @@ fn write_words<A: Allocator>(pen: &mut Pen<A>, set: &WordSet) -> Result<(), Allo
     if set.is_all() {
         return pen.put(b" any");
     }
-    pen.put(if set.only().is_some() {
-        b" is "
-    } else {
-        b" in "
-    })?;
+    pen.put(if is_one(set) { b" is " } else { b" in " })?;
     pen.words(set)
 }
 
@@ -90,7 +98,7 @@ fn write_registers<A: Allocator>(
 /// rise.
 fn place_from(cells: &TrackedCells, from: usize, cell: Word) -> usize {
     for place in from..cells.len() {
-        if cells.get(place).cell >= cell {
+        if cells.address(place) >= cell {
             return place;
         }
     }
@@ -99,18 +107,16 @@ fn place_from(cells: &TrackedCells, from: usize, cell: Word) -> usize {
 
 /// Whether the cell at a place is this one.
 fn is_at(cells: &TrackedCells, place: usize, cell: Word) -> bool {
-    place < cells.len() && cells.get(place).cell == cell
+    place < cells.len() && cells.address(place) == cell
 }
 
 /// Whether the cell at a place is this one with these words; one that isn't tracked may hold any word.
 fn is_same_at(cells: &TrackedCells, place: usize, tracked: &TrackedCell) -> bool {
-    if place < cells.len() {
-        let other = cells.get(place);
-        if other.cell == tracked.cell {
-            return other.set == tracked.set;
-        }
+    if is_at(cells, place, tracked.cell) {
+        cells.get(place).set == tracked.set
+    } else {
+        tracked.set.is_all()
     }
-    tracked.set.is_all()
 }
 
 /// Writes the items on cells.
@@ -142,10 +148,10 @@ fn write_lost_cells<A: Allocator>(
 ) -> Result<(), AllocError> {
     let mut place = 0usize;
     for index in 0..above.len() {
-        let tracked = above.get(index);
-        place = place_from(cells, place, tracked.cell);
-        if !is_at(cells, place, tracked.cell) && !tracked.set.is_all() {
-            write_item(pen, &tracked.cell.to_octal(), &WordSet::all(), false)?;
+        let cell = above.address(index);
+        place = place_from(cells, place, cell);
+        if !is_at(cells, place, cell) && !above.get(index).set.is_all() {
+            write_item(pen, &cell.to_octal(), &WordSet::all(), false)?;
         }
     }
     Ok(())
@@ -165,10 +171,10 @@ fn write_equation<A: Allocator>(
     if !pen.begin_item(same)? {
         return Ok(());
     }
-    write_name(pen, &equation.left)?;
-    pen.put(b" = ")?;
+    write_held_in(pen, &equation.left)?;
+    pen.put(b" = [")?;
     pen.word(equation.right)?;
-    pen.put(b" + ")?;
+    pen.put(b"] + ")?;
     pen.word(equation.more)?;
     pen.end_item(same)
 }
@@ -198,10 +204,10 @@ fn write_lost_equations<A: Allocator>(
     for equation in above.equations() {
         if !relates(fact.equations(), equation) {
             pen.begin_item(false)?;
-            write_name(pen, &equation.left)?;
-            pen.put(b" and ")?;
+            write_held_in(pen, &equation.left)?;
+            pen.put(b" and [")?;
             pen.word(equation.right)?;
-            pen.put(b" unrelated")?;
+            pen.put(b"] unrelated")?;
         }
     }
     Ok(())

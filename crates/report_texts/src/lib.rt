@@ -18,9 +18,9 @@ use listing::push_listing;
 pub use page::page_below;
 pub use pen::Form;
 use pen::Pen;
-pub use report::Report;
+pub use report::{Finding, Report};
 use std::alloc::{AllocError, Allocator};
-pub use style::{head_of, opening};
+pub use style::{head_of, opening, stuck_opening};
 
 /// The listing as plain text, as it stands below the verdict and its reason.
 pub fn listing_below<A: Allocator + Copy, D: Allocator, C: Allocator>(

@@ -3,9 +3,9 @@
 use crate::access::write_access;
 use crate::known::write_fact;
 use crate::pen::Pen;
-use crate::report::{Kind, Report, before};
+use crate::report::{Finding, Kind, Report, before, claimed_of, unclaimed};
 use crate::routines::{write_exits, write_routine};
-use certificate::Certificate;
+use certificate::{Certificate, Routine};
 use facts::Fact;
 use instruct::{Instruction, decode, name, refers_indirectly, target};
 use std::alloc::{AllocError, Allocator};
@@ -44,7 +44,7 @@ fn write_word<A: Allocator, B: Allocator, D: Allocator, C: Allocator>(
     at: Word,
 ) -> Result<(), AllocError> {
     pen.mark(b"<tr")?;
-    if report.is_refused_at(at) {
+    if report.is_marked(at) {
         pen.mark(b" class=bad")?;
     }
     pen.mark(b" id=a")?;
@@ -123,19 +123,6 @@ pub(crate) fn write_variable<A: Allocator, B: Allocator, D: Allocator, C: Alloca
     pen.places(&unknown)
 }
 
-/// Writes what is known at an address with a fact, and what the instruction does.
-fn write_known<A: Allocator, B: Allocator, D: Allocator, C: Allocator>(
-    pen: &mut Pen<A>,
-    report: &Report<'_, B, D, C>,
-    kind: &Kind,
-    fact: &Fact,
-    above: Option<&Fact>,
-    at: Word,
-) -> Result<(), AllocError> {
-    write_fact(pen, fact, above)?;
-    write_access(pen, report, kind, fact, at)
-}
-
 /// Writes what is told of an address without a fact.
 fn write_unknown<A: Allocator, B: Allocator, D: Allocator, C: Allocator>(
     pen: &mut Pen<A>,
@@ -144,31 +131,32 @@ fn write_unknown<A: Allocator, B: Allocator, D: Allocator, C: Allocator>(
     at: Word,
 ) -> Result<(), AllocError> {
     match kind {
-        Kind::Main | Kind::Routine(_) => match report.verdict {
-            Ok(()) => pen.item(b"never reached"),
-            Err(_) => pen.item(b"no fact"),
+        Kind::Main | Kind::Routine(_) => match report.finding {
+            Finding::Shown => pen.item(b"never reached"),
+            Finding::Refused(_) | Finding::Stuck(_) => pen.item(b"no fact"),
         },
         Kind::Variable => write_variable(pen, report, at),
         Kind::Entry | Kind::Other | Kind::Unset => Ok(()),
     }
 }
 
-/// Writes the mark of the address at which the verdict is no.
-fn write_refused<A: Allocator, B: Allocator, D: Allocator, C: Allocator>(
+/// Writes the mark of the address at which the verdict is no or the search is stuck.
+fn write_mark<A: Allocator, B: Allocator, D: Allocator, C: Allocator>(
     pen: &mut Pen<A>,
     report: &Report<'_, B, D, C>,
     at: Word,
 ) -> Result<(), AllocError> {
-    let Err(refusal) = report.verdict else {
-        return Ok(());
-    };
-    if refusal.address != at {
+    if !report.is_marked(at) {
         return Ok(());
     }
     pen.mark(b"<b>")?;
-    pen.item(b"HERE ")?;
-    pen.say(report.failing.as_bytes())?;
-    pen.put(b" FAILS")?;
+    if report.failing.is_empty() {
+        pen.item(b"STUCK HERE")?;
+    } else {
+        pen.item(b"HERE ")?;
+        pen.say(report.failing.as_bytes())?;
+        pen.put(b" FAILS")?;
+    }
     pen.mark(b"</b>")
 }
 
@@ -180,9 +168,39 @@ struct Desk {
     odd: Fact,
     /// The address of the fact that was read last.
     last: Option<Word>,
+    /// What is claimed of the routine that was looked up last, and its entry; of main nothing is.
+    routine: Routine,
+    entry: Option<Word>,
 }
 
 impl Desk {
+    /// A desk with nothing on it.
+    fn new() -> Desk {
+        Desk {
+            even: Fact::any(),
+            odd: Fact::any(),
+            last: None,
+            routine: unclaimed(),
+            entry: None,
+        }
+    }
+
+    /// Looks up what is claimed of the routine in whose body an address of this kind is, if it is in one.
+    fn look_up<C: Allocator>(&mut self, certificate: &Certificate<C>, kind: &Kind) {
+        let entry = match kind {
+            Kind::Routine(entry) => Some(*entry),
+            _ => None,
+        };
+        if self.entry == entry {
+            return;
+        }
+        self.entry = entry;
+        self.routine = match entry {
+            Some(entry) => claimed_of(certificate, entry),
+            None => unclaimed(),
+        };
+    }
+
     /// Whether there is a fact at an address, which then stands here.
     fn read<C: Allocator>(&mut self, certificate: &Certificate<C>, at: Word) -> bool {
         let found = if at.index() % 2 == 0 {
@@ -229,8 +247,10 @@ fn write_with_fact<A: Allocator, B: Allocator, D: Allocator, C: Allocator>(
     if !desk.read(report.certificate, at) {
         return write_unknown(pen, report, &kind, at);
     }
-    let above = desk.above(near, at);
-    write_known(pen, report, &kind, desk.fact(at), above, at)
+    desk.look_up(report.certificate, &kind);
+    write_fact(pen, desk.fact(at), desk.above(near, at))?;
+    pen.end_same()?;
+    write_access(pen, report, &kind, &desk.routine, desk.fact(at), at)
 }
 
 /// Writes the line of an address.
@@ -244,7 +264,7 @@ fn write_line<A: Allocator, B: Allocator, D: Allocator, C: Allocator>(
     pen.mark(b"<td>")?;
     write_declared(pen, report, at)?;
     write_with_fact(pen, report, desk, at)?;
-    write_refused(pen, report, at)?;
+    write_mark(pen, report, at)?;
     pen.put(b"\n")
 }
 
@@ -354,11 +374,7 @@ pub(crate) fn push_listing<A: Allocator, B: Allocator, D: Allocator, C: Allocato
     pen: &mut Pen<A>,
     report: &Report<'_, B, D, C>,
 ) -> Result<(), AllocError> {
-    let mut desk = Desk {
-        even: Fact::any(),
-        odd: Fact::any(),
-        last: None,
-    };
+    let mut desk = Desk::new();
     let mut last = None;
     for index in 0..4096 {
         let at = Word::from_index(index);

@@ -115,10 +115,36 @@ fn write_marks<A: Allocator, B: Allocator, D: Allocator, C: Allocator>(
     if declaration.start() == at {
         write_square(pen, at, b"s")?;
     }
-    if report.is_refused_at(at) {
+    if report.is_marked(at) {
         write_square(pen, at, b"\"s bad\"")?;
     }
     Ok(())
+}
+
+/// What is said of a cell where a pointer rests on it; of a routine's its entry stands behind it.
+fn kind_text(kind: &Kind) -> &'static [u8] {
+    match kind {
+        Kind::Entry => b" entry",
+        Kind::Main => b" main",
+        Kind::Routine(_) => b" routine ",
+        Kind::Variable => b" variable",
+        Kind::Other => b" other word",
+        Kind::Unset => b" unset",
+    }
+}
+
+/// Writes the name of a word that is told as an instruction.
+fn write_title_name<A: Allocator, B: Allocator, D: Allocator, C: Allocator>(
+    pen: &mut Pen<A>,
+    report: &Report<'_, B, D, C>,
+    at: Word,
+    word: Word,
+) -> Result<(), AllocError> {
+    if !report.is_code(at) {
+        return Ok(());
+    }
+    pen.put(b" ")?;
+    pen.say(name(word, report.declaration.profile()).as_str().as_bytes())
 }
 
 /// Writes what is shown where a pointer rests on a cell.
@@ -126,17 +152,18 @@ fn write_title<A: Allocator, B: Allocator, D: Allocator, C: Allocator>(
     pen: &mut Pen<A>,
     report: &Report<'_, B, D, C>,
     at: Word,
+    kind: &Kind,
 ) -> Result<(), AllocError> {
     pen.put(b"<title>")?;
     pen.word(at)?;
-    let word = if report.is_code(at) {
-        report.image.get(at)
-    } else {
-        None
-    };
-    if let Some(word) = word {
-        pen.put(b" ")?;
-        pen.say(name(word, report.declaration.profile()).as_str().as_bytes())?;
+    pen.put(kind_text(kind))?;
+    if let Kind::Routine(entry) = kind {
+        pen.word(*entry)?;
+    }
+    if let Some(word) = report.image.get(at) {
+        pen.put(b": ")?;
+        pen.word(word)?;
+        write_title_name(pen, report, at, word)?;
     }
     pen.put(b"</title>")
 }
@@ -152,7 +179,7 @@ fn write_cell<A: Allocator, B: Allocator, D: Allocator, C: Allocator>(
     pen.put(b"<a href=#a")?;
     pen.word(line)?;
     pen.put(b">")?;
-    write_title(pen, report, at)?;
+    write_title(pen, report, at, &kind)?;
     write_square(pen, at, class_of(report.declaration, &kind))?;
     write_marks(pen, report, at, &kind)?;
     pen.put(b"</a>\n")
@@ -169,7 +196,7 @@ fn write_cells<A: Allocator, B: Allocator, D: Allocator, C: Allocator>(
         if pen.has_line(at) {
             line = at;
         }
-        if report.kind_of(at) != Kind::Unset || report.is_refused_at(at) {
+        if report.kind_of(at) != Kind::Unset || report.is_marked(at) {
             write_cell(pen, report, at, line)?;
         }
     }

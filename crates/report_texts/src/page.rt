@@ -4,10 +4,9 @@ use crate::graph::write_graph;
 use crate::listing::{push_listing, write_variable};
 use crate::map::write_map;
 use crate::pen::{Form, Pen};
-use crate::report::Report;
+use crate::report::{Finding, Report};
 use declaration::Declaration;
 use instruct::Profile;
-use judge::Refusal;
 use std::alloc::{AllocError, Allocator};
 use word12::Word;
 use wordset::WordSet;
@@ -122,17 +121,28 @@ fn write_yes<A: Allocator, D: Allocator>(
 }
 
 /// Writes the rest of what a no says, and why it is one.
-fn write_no<A: Allocator>(
-    pen: &mut Pen<A>,
-    refusal: &Refusal,
-    why: &[u8],
-) -> Result<(), AllocError> {
+fn write_no<A: Allocator>(pen: &mut Pen<A>, at: Word, why: &[u8]) -> Result<(), AllocError> {
     pen.put(b"a condition on it fails at ")?;
-    pen.place(refusal.address)?;
+    pen.place(at)?;
     pen.put(
         b", which is marked below. The program may keep its declaration all the same. What stands below ",
     )?;
     pen.put(b"is what the certificate claims, and it may be wrong.</p>\n<pre>")?;
+    pen.say(why)?;
+    pen.put(b"</pre>\n")
+}
+
+/// Writes the rest of what is said of a search that is stuck, and why it is.
+fn write_stuck<A: Allocator>(pen: &mut Pen<A>, at: Word, why: &[u8]) -> Result<(), AllocError> {
+    pen.put(b"the search for a certificate is stuck at ")?;
+    pen.place(at)?;
+    pen.put(
+        b", which is marked below. The program may keep its declaration all the same. What stands below ",
+    )?;
+    pen.put(
+        b"is the search's draft: what it had found until then, which may be wrong; where there is no fact ",
+    )?;
+    pen.put(b"it hadn't come.</p>\n<pre>")?;
     pen.say(why)?;
     pen.put(b"</pre>\n")
 }
@@ -143,9 +153,10 @@ fn write_verdict<A: Allocator, B: Allocator, D: Allocator, C: Allocator>(
     report: &Report<'_, B, D, C>,
     why: &[u8],
 ) -> Result<(), AllocError> {
-    match report.verdict {
-        Ok(()) => write_yes(pen, report.declaration)?,
-        Err(refusal) => write_no(pen, refusal, why)?,
+    match report.finding {
+        Finding::Shown => write_yes(pen, report.declaration)?,
+        Finding::Refused(at) => write_no(pen, at, why)?,
+        Finding::Stuck(at) => write_stuck(pen, at, why)?,
     }
     pen.put(b"<p>On this page: <a href=#memory>memory</a>, <a href=#routines>routines</a>, ")?;
     pen.put(b"<a href=#variables>variables</a>, <a href=#listing>listing</a>.</p>\n")
@@ -194,10 +205,15 @@ fn write_variables<A: Allocator, B: Allocator, D: Allocator, C: Allocator>(
 }
 
 /// What stands beside an instruction; after a no it is only claimed.
-fn listed_text(verdict: &Result<(), Refusal>) -> &'static [u8] {
-    match verdict {
-        Ok(()) => b"what is known in every run <b>before</b> it is executed",
-        Err(_) => b"what the certificate claims <b>before</b> it is executed, which isn't shown",
+fn listed_text(finding: Finding) -> &'static [u8] {
+    match finding {
+        Finding::Shown => b"what is known in every run <b>before</b> it is executed",
+        Finding::Refused(_) => {
+            b"what the certificate claims <b>before</b> it is executed, which isn't shown"
+        }
+        Finding::Stuck(_) => {
+            b"what the search had found <b>before</b> it is executed, which isn't shown"
+        }
     }
 }
 
@@ -206,12 +222,16 @@ fn write_items_guide<A: Allocator>(pen: &mut Pen<A>) -> Result<(), AllocError> {
     pen.put(b"<code>AC in 0305,0310</code>: the accumulator holds one of these words. ")?;
     pen.put(b"<code>0010 in 0224-0230</code>: so does the cell 0010. ")?;
     pen.put(
-        b"<code>0010 = 0224 + 0231</code>: the word in the cell 0010 is that in the cell 0224 and 0231 more, ",
+        b"<code>[0010] = [0224] + 0231</code>: the word in the cell 0010 is that in the cell 0224 and 0231 more, ",
     )?;
     pen.put(
         b"modulo 10000; so as far as the one is bounded, the other is: of a pointer and a count that ",
     )?;
     pen.put(b"go up together, the pointer ends where the count does. ")?;
+    pen.put(
+        b"If the count were larger, the pointer would go further; if the program could then write outside ",
+    )?;
+    pen.put(b"its variables, the verdict would be no (V5).\n")?;
     pen.put(
         b"<code>reads</code>, <code>writes</code>: the cells that the instruction may read through a pointer ",
     )?;
@@ -228,19 +248,20 @@ fn write_names_guide<A: Allocator>(pen: &mut Pen<A>) -> Result<(), AllocError> {
 }
 
 /// Writes how the listing is read.
-fn write_guide<A: Allocator>(
-    pen: &mut Pen<A>,
-    verdict: &Result<(), Refusal>,
-) -> Result<(), AllocError> {
+fn write_guide<A: Allocator>(pen: &mut Pen<A>, finding: Finding) -> Result<(), AllocError> {
     pen.put(b"<h2 id=listing>Listing</h2>\n<p>Beside each instruction stands ")?;
-    pen.put(listed_text(verdict))?;
-    pen.put(b"; what is the same as on the line above is grey.\n")?;
+    pen.put(listed_text(finding))?;
+    pen.put(
+        b"; what is the same as on the line above is grey, and of more than eight such items only the number ",
+    )?;
+    pen.put(b"of the others is told.\n")?;
     write_items_guide(pen)?;
     write_names_guide(pen)?;
     pen.put(b"</p>\n<table>\n")
 }
 
-/// The page behind the verdict and what `opening` says of it. `why` is what is told of a no.
+/// The page behind the verdict and what `opening` or `stuck_opening` says of it. `why` is what is told of
+/// a no, or of a search that is stuck.
 pub fn page_below<A: Allocator + Copy, D: Allocator, C: Allocator>(
     alloc: A,
     report: &Report<'_, A, D, C>,
@@ -251,7 +272,7 @@ pub fn page_below<A: Allocator + Copy, D: Allocator, C: Allocator>(
     write_map(&mut pen, report)?;
     write_graph(&mut pen, alloc, report)?;
     write_variables(&mut pen, report)?;
-    write_guide(&mut pen, report.verdict)?;
+    write_guide(&mut pen, report.finding)?;
     push_listing(&mut pen, report)?;
     pen.put(b"</table>\n</body>\n</html>\n")?;
     Ok(pen.into_bytes())

@@ -8,6 +8,9 @@ use wordset::WordSet;
 /// How many runs of a set are shown.
 const MOST_RUNS: usize = 16;
 
+/// How many items of a line are shown that are the same as on the line above.
+const MOST_SAME: usize = 8;
+
 /// In which form a report is written.
 #[derive(Clone, Copy, PartialEq, Eq, Debug)]
 pub enum Form {
@@ -28,6 +31,8 @@ pub(crate) struct Pen<A: Allocator> {
     indent: usize,
     /// Whether the line has an item.
     has_item: bool,
+    /// How many items of the line are the same as on the line above.
+    same: usize,
 }
 
 impl<A: Allocator> Pen<A> {
@@ -39,6 +44,7 @@ impl<A: Allocator> Pen<A> {
             lines: *lines,
             indent: 0,
             has_item: false,
+            same: 0,
         }
     }
 
@@ -137,7 +143,6 @@ impl<A: Allocator> Pen<A> {
 
     /// Writes the words of a set by their runs, at most some of them; `-` where there is none.
     fn runs(&mut self, set: &WordSet, linked: bool) -> Result<(), AllocError> {
-        let others = WordSet::all().minus(set);
         let mut next = 0usize;
         for count in 0..MOST_RUNS {
             let Some(first) = set.first_from(next) else {
@@ -146,7 +151,7 @@ impl<A: Allocator> Pen<A> {
             if count > 0 {
                 self.put(b",")?;
             }
-            let last = last_before(&others, first);
+            let last = last_from(set, first);
             self.run(first, last, linked)?;
             next = last.index() + 1;
         }
@@ -178,6 +183,7 @@ impl<A: Allocator> Pen<A> {
     pub(crate) fn begin_items(&mut self, indent: usize) {
         self.indent = indent;
         self.has_item = false;
+        self.same = 0;
     }
 
     /// Writes what stands between an item and what is before it.
@@ -198,14 +204,28 @@ impl<A: Allocator> Pen<A> {
     /// Begins an item, unless it is the same as on the line above and is left out; tells whether it was
     /// begun.
     pub(crate) fn begin_item(&mut self, same: bool) -> Result<bool, AllocError> {
-        if same && !self.is_page() {
+        if !same {
+            self.separate()?;
+            return Ok(true);
+        }
+        self.same = self.same.saturating_add(1);
+        if !self.is_page() || self.same > MOST_SAME {
             return Ok(false);
         }
         self.separate()?;
-        if same {
-            self.put(b"<i>")?;
-        }
+        self.put(b"<i>")?;
         Ok(true)
+    }
+
+    /// Writes in a page how many items that are the same as on the line above were left out.
+    pub(crate) fn end_same(&mut self) -> Result<(), AllocError> {
+        if !self.is_page() || self.same <= MOST_SAME {
+            return Ok(());
+        }
+        self.separate()?;
+        self.put(b"<i>and ")?;
+        self.number(self.same - MOST_SAME)?;
+        self.put(b" more as above</i>")
     }
 
     /// Ends an item.
@@ -220,12 +240,15 @@ impl<A: Allocator> Pen<A> {
     }
 }
 
-/// The last word before the first one from `first` on that others have: of a run, where the others are
-/// all that aren't in the set.
-fn last_before(others: &WordSet, first: Word) -> Word {
-    match others.first_from(first.index()) {
-        Some(next) => next.add(Word::from_index(4095)),
-        None => Word::from_index(4095),
+/// The last word of the run of a set that begins with one of its words.
+fn last_from(set: &WordSet, first: Word) -> Word {
+    let last = Word::from_index(4095);
+    if first == last || !set.contains(first.add(Word::from_index(1))) {
+        return first;
+    }
+    match WordSet::all().minus(set).first_from(first.index()) {
+        Some(next) => next.add(last),
+        None => last,
     }
 }
 

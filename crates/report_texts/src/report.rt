@@ -5,7 +5,6 @@ use bin_tape::Image;
 use certificate::{Certificate, Routine};
 use declaration::{Declaration, Owner};
 use facts::{Place, Running};
-use judge::Refusal;
 use std::alloc::{AllocError, Allocator};
 use word12::Word;
 use wordset::WordSet;
@@ -27,36 +26,92 @@ pub(crate) enum Kind {
     Unset,
 }
 
-/// A certificate with the tape and the declaration that it is about, and how it was judged.
+/// What is known of a certificate.
+#[derive(Clone, Copy, PartialEq, Eq, Debug)]
+pub enum Finding {
+    /// All conditions hold of it.
+    Shown,
+    /// A condition on it fails at an address.
+    Refused(Word),
+    /// It is the draft of a search that is stuck at an address.
+    Stuck(Word),
+}
+
+/// A certificate with the tape and the declaration that it is about, and what is known of it.
 #[derive(Drop)]
 pub struct Report<'a, A: Allocator, D: Allocator, C: Allocator> {
     pub(crate) image: &'a Image,
     pub(crate) declaration: &'a Declaration<D>,
     pub(crate) certificate: &'a Certificate<C>,
-    pub(crate) verdict: &'a Result<(), Refusal>,
-    /// The name of the condition that fails, where the verdict is no.
+    pub(crate) finding: Finding,
+    /// The name of the condition that fails, or nothing where none is told.
     pub(crate) failing: &'a str,
+    /// What stands at each address.
+    kinds: Vec<Kind, A>,
     /// The addresses with a fact.
     pub(crate) facts: WordSet,
     /// What is known of variables.
     pub(crate) held: AllHeld<A>,
 }
 
+/// What stands at an address outside all bodies.
+fn kind_outside<D: Allocator>(image: &Image, declaration: &Declaration<D>, at: Word) -> Kind {
+    if declaration.is_variable(at) {
+        return Kind::Variable;
+    }
+    match image.get(at) {
+        Some(_) => Kind::Other,
+        None => Kind::Unset,
+    }
+}
+
+/// What stands at an address.
+fn kind_at<D: Allocator>(image: &Image, declaration: &Declaration<D>, at: Word) -> Kind {
+    if declaration.is_entry(at) {
+        return Kind::Entry;
+    }
+    let Some(owner) = declaration.owner_of(at) else {
+        return kind_outside(image, declaration, at);
+    };
+    match owner {
+        Owner::Main => Kind::Main,
+        Owner::Routine(entry) => Kind::Routine(entry),
+    }
+}
+
+/// What stands at each address.
+fn kinds_of<A: Allocator, D: Allocator>(
+    alloc: A,
+    image: &Image,
+    declaration: &Declaration<D>,
+) -> Result<Vec<Kind, A>, AllocError> {
+    let mut kinds = Vec::new(alloc);
+    for index in 0..4096 {
+        kinds.push(kind_at(image, declaration, Word::from_index(index)))?;
+    }
+    Ok(kinds)
+}
+
+/// A routine that is called from nowhere and writes nothing.
+pub(crate) fn unclaimed() -> Routine {
+    Routine {
+        rank: 0,
+        sites: WordSet::empty(),
+        writes: WordSet::empty(),
+    }
+}
+
 /// What is claimed of a routine, or that it is called from nowhere and writes nothing.
 pub(crate) fn claimed_of<C: Allocator>(certificate: &Certificate<C>, entry: Word) -> Routine {
     match certificate.routine(entry) {
         Some(routine) => routine,
-        None => Routine {
-            rank: 0,
-            sites: WordSet::empty(),
-            writes: WordSet::empty(),
-        },
+        None => unclaimed(),
     }
 }
 
 impl<'a, A: Allocator + Copy, D: Allocator, C: Allocator> Report<'a, A, D, C> {
-    /// The report of a certificate and of the verdict on it, with the name of the condition that fails,
-    /// if one does.
+    /// The report of a certificate and of what is known of it, with the name of the condition that fails,
+    /// if one is told.
     ///
     /// # Errors
     ///
@@ -66,17 +121,19 @@ impl<'a, A: Allocator + Copy, D: Allocator, C: Allocator> Report<'a, A, D, C> {
         image: &'a Image,
         declaration: &'a Declaration<D>,
         certificate: &'a Certificate<C>,
-        verdict: &'a Result<(), Refusal>,
+        finding: Finding,
         failing: &'a str,
     ) -> Result<Report<'a, A, D, C>, AllocError> {
+        let kinds = kinds_of(alloc, image, declaration)?;
         let mut facts = WordSet::empty();
         let held = held_of(alloc, declaration, certificate, &mut facts)?;
         Ok(Report {
             image,
             declaration,
             certificate,
-            verdict,
+            finding,
             failing,
+            kinds,
             facts,
             held,
         })
@@ -86,25 +143,8 @@ impl<'a, A: Allocator + Copy, D: Allocator, C: Allocator> Report<'a, A, D, C> {
 impl<A: Allocator, D: Allocator, C: Allocator> Report<'_, A, D, C> {
     /// What stands at an address.
     pub(crate) fn kind_of(&self, at: Word) -> Kind {
-        if self.declaration.is_entry(at) {
-            return Kind::Entry;
-        }
-        let Some(owner) = self.declaration.owner_of(at) else {
-            return self.kind_outside(at);
-        };
-        match owner {
-            Owner::Main => Kind::Main,
-            Owner::Routine(entry) => Kind::Routine(entry),
-        }
-    }
-
-    /// What stands at an address outside all bodies.
-    fn kind_outside(&self, at: Word) -> Kind {
-        if self.declaration.is_variable(at) {
-            return Kind::Variable;
-        }
-        match self.image.get(at) {
-            Some(_) => Kind::Other,
+        match self.kinds.get(at.index()) {
+            Some(kind) => *kind,
             None => Kind::Unset,
         }
     }
@@ -116,17 +156,17 @@ impl<A: Allocator, D: Allocator, C: Allocator> Report<'_, A, D, C> {
 
     /// Whether nothing is to be said of a cell but that it is a variable.
     pub(crate) fn is_quiet(&self, at: Word) -> bool {
-        if self.image.get(at).is_some() || self.facts.contains(at) || self.is_refused_at(at) {
+        if self.image.get(at).is_some() || self.facts.contains(at) || self.is_marked(at) {
             return false;
         }
         self.kind_of(at) == Kind::Variable && self.held_in(at).is_none()
     }
 
-    /// Whether the listing has a line for an address: where something stands, or where the verdict is no,
+    /// Whether the listing has a line for an address: where something stands, or at the place of a no,
     /// unless it is in a row of variables of which nothing is said.
     pub(crate) fn has_line(&self, at: Word) -> bool {
         if self.kind_of(at) == Kind::Unset {
-            return self.facts.contains(at) || self.is_refused_at(at);
+            return self.facts.contains(at) || self.is_marked(at);
         }
         at == Word::ZERO || !self.is_quiet(at) || !self.is_quiet(before(at))
     }
@@ -151,11 +191,11 @@ impl<A: Allocator, D: Allocator, C: Allocator> Report<'_, A, D, C> {
         }
     }
 
-    /// Whether an address is that at which the verdict is no.
-    pub(crate) fn is_refused_at(&self, at: Word) -> bool {
-        match self.verdict {
-            Ok(()) => false,
-            Err(refusal) => refusal.address == at,
+    /// Whether an address is that at which the verdict is no or the search is stuck.
+    pub(crate) fn is_marked(&self, at: Word) -> bool {
+        match self.finding {
+            Finding::Shown => false,
+            Finding::Refused(place) | Finding::Stuck(place) => place == at,
         }
     }
 }

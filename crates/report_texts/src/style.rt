@@ -1,7 +1,7 @@
 //! How a page looks, with what it begins, and what it says right behind the verdict.
 
 ghost use Rattle.std.specs.Prelude.{◌≡◌};
-ghost use Rattle.report_texts.specs.Head.{head_of, opening};
+ghost use Rattle.report_texts.specs.Head.{head_of, opening, stuck_opening};
 
 use crate::pen::Form;
 use judge::Refusal;
@@ -33,5 +33,16 @@ pub fn opening(form: Form, verdict: &Result<(), Refusal>) -> &'static [u8]
             Ok(()) => b"</h1>\n<p>This is shown of <b>every</b> run",
             Err(_) => b"</h1>\n<p>This certificate shows nothing: ",
         },
+    }
+}
+
+/// What stands right behind the line of a search that is stuck: in a page, that nothing is shown.
+#[tactic(auto, unfolding(crate::specs::Head::stuck_opening))]
+pub fn stuck_opening(form: Form) -> &'static [u8]
+    ensures { result.now ≡ stuck_opening form }
+{
+    match form {
+        Form::Text => b"",
+        Form::Page => b"</h1>\n<p>Nothing is shown: ",
     }
 }

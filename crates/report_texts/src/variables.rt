@@ -88,9 +88,9 @@ impl<A: Allocator> AllHeld<A> {
         at: Word,
     ) -> Result<(), AllocError> {
         for index in 0..fact.cells().len() {
-            let tracked = fact.cells().get(index);
-            if declaration.is_variable(tracked.cell) {
-                self.add(tracked.cell, &tracked.set, at)?;
+            let cell = fact.cells().address(index);
+            if declaration.is_variable(cell) {
+                self.add(cell, &fact.cells().get(index).set, at)?;
             }
         }
         Ok(())

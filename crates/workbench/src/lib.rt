@@ -2,6 +2,7 @@
 //! order, is tested and not proved.
 #![tactic(auto)]
 
+mod drafted;
 mod faults;
 mod files;
 mod from_source;

@@ -1,0 +1,49 @@
+//! The report of a search for a certificate that is stuck.
+
+use crate::files::{open_input, open_output};
+use command_line::Destination;
+use commands::drafting::report_draft;
+use commands::reporting::Form;
+use commands::status::{Fault, Status};
+use std::alloc::Global;
+use std::rt::Files;
+use streams::ByteSource;
+use turns::GuessFault;
+
+/// Whether the answer of a search is that it is stuck.
+pub fn is_stuck(answer: &Result<Status, Fault>) -> bool {
+    matches!(
+        answer,
+        Ok(Status::Refused) | Err(Fault::Guess(GuessFault::Stuck(_)))
+    )
+}
+
+/// Writes to a file what a search had found when it was stuck; it is made once more for that.
+#[inline(never)]
+pub fn report_stuck<R: Files + Print, T: ByteSource, D: ByteSource>(
+    rt: &R,
+    alloc: Global,
+    tape: &mut T,
+    declaration: &mut D,
+    name: &str,
+) -> Result<Status, Fault>
+    requires readable { T.mark tape.old ≡ false }
+    requires declaration_readable { D.mark declaration.old ≡ false }
+{
+    let mut page = open_output(rt, Destination::MadeLast(name))?;
+    report_draft(alloc, tape, declaration, &mut page, Form::Page)
+}
+
+/// Writes to a file what a search for the program of these files had found when it was stuck.
+#[inline(never)]
+pub fn report_stuck_files<R: Files + Input + Print>(
+    rt: &R,
+    alloc: Global,
+    tape: &str,
+    declaration: &str,
+    name: &str,
+) -> Result<Status, Fault> {
+    let mut frames = open_input(rt, tape)?;
+    let mut text = open_input(rt, declaration)?;
+    report_stuck(rt, alloc, &mut frames, &mut text, name)
+}

@@ -1,0 +1,256 @@
+"""What a page of `report` is to be, worked out by the Python in reference/ as its text is: tests/reports.py compares the two.
+
+How the page looks is read from the program's source: the one text that stands there as it stands in the page.
+"""
+import re
+from pathlib import Path
+
+import sets
+from reports import ADDRESS, BEGIN, END, Report, all_of_fact, may_write, shown
+
+STYLE = Path(__file__).parent.parent / "crates" / "report_texts" / "src" / "style.rt"
+MOST_SAME = 8
+DIRECT = re.compile(r"(AND|TAD|ISZ|DCA|JMS|JMP) [ZC][0-7]{3}$")
+
+
+def head():
+    text = re.search(r'const HEAD: &\[u8\] =\n    b"(.*)";\n', STYLE.read_text("utf-8"))[1]
+    return text.replace("\\n", "\n").replace('\\"', '"')
+
+
+def escaped(text):
+    for sign, name in (("&", "&amp;"), ("<", "&lt;"), (">", "&gt;"), ('"', "&quot;"), ("'", "&#39;")):
+        text = text.replace(sign, name)
+    return text
+
+
+def circle(at, kind, size):
+    return f"<circle class={kind} cx={34 + 10 * (at % 64) + 5} cy={14 + 10 * (at // 64) + 5} r={size} />"
+
+
+def square(at, kind):
+    return f"<rect class={kind} x={34 + 10 * (at % 64)} y={14 + 10 * (at // 64)} width=9 height=9 />"
+
+
+def point(text, members):
+    return f"<li>{text}{shown(members, ADDRESS) if members else 'none'}\n"
+
+
+class Page(Report):
+    """A report as a page."""
+
+    def page(self, front):
+        line, why = front.partition("\n")[::2]
+        self.rows = set(self.lines())
+        parts = [head(), line, "\n</h1>\n<p>", self.yes() if self.refused is None else self.no(why)]
+        parts.append("<p>On this page: <a href=#memory>memory</a>, <a href=#routines>routines</a>, "
+                     "<a href=#variables>variables</a>, <a href=#listing>listing</a>.</p>\n")
+        parts += [self.map(), self.graph(), self.variables(), self.guide(), self.table(), "</table>\n</body>\n</html>\n"]
+        return re.sub(f"{BEGIN}([0-7]*){END}", self.link, "".join(parts))
+
+    def link(self, found):
+        address = found[1]
+        return f"<a href=#a{address}>{address}</a>" if int(address, 8) in self.rows else address
+
+    def has_line(self, at):
+        if self.kind(at)[0] == "unset":
+            return at in self.certificate.facts or self.is_refused_at(at)
+        return at == 0 or not self.is_quiet(at) or not self.is_quiet(at - 1)
+
+    def lines(self):
+        return [at for at in range(4096) if self.has_line(at)]
+
+    # What the verdict means
+
+    def yes(self):
+        it = self.declared
+        bodies = sets.of(set(it.main).union(*(body for body, _ in it.routines.values())))
+        reads = ("<li>any cell may be read: the declaration has no list of reads\n" if it.reads is None
+                 else point("only these cells are read, and the entry of the routine that runs: ", sets.of(it.reads)))
+        return "".join((
+            f"This is shown of <b>every</b> run on a PDP-8/{'E' if it.profile == '8e' else 'I'} that starts at ",
+            ADDRESS.format(it.start), " with these words in memory, whatever all other cells, AC, the link and MQ hold, ",
+            "and however keys, tape frames, devices and switches come:</p>\n<ul>\n",
+            point("only these cells are executed: ", bodies),
+            point("only these cells are written, the variables: ", sets.of(it.variables)),
+            point("and the entries, by the JMS that calls the routine or by its ISZ that skips an argument: ", sets.of(set(it.routines))),
+            reads, "<li>each routine returns to the place after its own call, as far on as is declared\n",
+            point("it halts, if at all, only at: ", sets.of(set(it.stops) | set(it.pauses))),
+            point("of these CONTINUE may be pressed only at: ", sets.of(it.pauses)), "</ul>\n",
+            "<p>It is not shown that it ends, that it prints or computes what was meant, or that the declaration is a wise one: "
+            "if all cells may be written, a yes says little.</p>\n"))
+
+    def no(self, why):
+        return ("This certificate shows nothing: a condition on it fails at " + ADDRESS.format(self.refused[1])
+                + ", which is marked below. The program may keep its declaration all the same. What stands below is what the "
+                f"certificate claims, and it may be wrong.</p>\n<pre>{escaped(why)}</pre>\n")
+
+    # Memory
+
+    def colour(self, entry):
+        return f"r{list(self.declared.routines).index(entry) % 6}"
+
+    def map(self):
+        parts = ['<h2 id=memory>Memory</h2>\n<svg viewBox="0 0 680 660" width=680 role=img aria-label="map of memory">\n'
+                 "<rect class=u x=34 y=14 width=640 height=640 />\n"]
+        parts += [f"<text x=4 y={14 + 10 * row + 8}>{64 * row:04o}</text>" for row in range(64)]
+        parts += [f"<text x={34 + 80 * column} y=10>+{10 * column}</text>" for column in range(8)]
+        parts.append("\n")
+        line = 0
+        for at in range(4096):
+            line = at if at in self.rows else line
+            if self.kind(at)[0] != "unset" or self.is_refused_at(at):
+                parts.append(f"<a href=#a{line:04o}>{self.title(at)}{self.cell(at)}</a>\n")
+        parts += ["</svg>\n<p>", '<span class="k m"></span>main\n']
+        parts += [f'<span class="k {self.colour(entry)}"></span>routine {ADDRESS.format(entry)}\n' for entry in self.declared.routines]
+        parts.append('<span class="k e"></span>entry of a routine\n<span class="k v"></span>variable\n'
+                     '<span class="k o"></span>other word of the tape\n'
+                     "<br>A red ring is a declared halt, a black frame the start, a yellow dot a variable among instructions, a red "
+                     "frame the place of a no. Each row has 0100 cells. Numbers are octal. A cell leads to its line of the "
+                     "listing.</p>\n")
+        return "".join(parts)
+
+    def is_code(self, at):
+        return self.kind(at)[0] == "body" or at in self.certificate.facts
+
+    def title(self, at):
+        kind, owner = self.kind(at)
+        text = {"body": "main" if owner is None else f"routine {owner:04o}", "other": "other word"}.get(kind, kind)
+        if at in self.image:
+            text += f": {self.image[at]:04o}" + (" " + escaped(self.names[at]) if self.is_code(at) else "")
+        return f"<title>{at:04o} {text}</title>"
+
+    def cell(self, at):
+        kind, owner = self.kind(at)
+        body = "m" if kind == "body" and owner is None else self.colour(owner) if kind == "body" else kind[0]
+        marks = [square(at, body)]
+        if at in self.declared.variables and kind != "variable":
+            marks.append(circle(at, "w", "2.5"))
+        if at in self.declared.stops or at in self.declared.pauses:
+            marks.append(circle(at, "h", "3"))
+        if at == self.declared.start:
+            marks.append(square(at, "s"))
+        if self.is_refused_at(at):
+            marks.append(square(at, '"s bad"'))
+        return "".join(marks)
+
+    # Routines
+
+    def graph(self):
+        routines, claims = self.declared.routines, self.certificate.routines
+        if not routines:
+            return "<h2 id=routines>Routines</h2>\n<p>There are none: all is main.</p>\n"
+        rank = {entry: min(claims[entry].rank, 63) if entry in claims else 0 for entry in routines}
+        spots, in_row = {None: (0, 0)}, {}
+        for entry in routines:
+            row = len({it for it in rank.values() if it > rank[entry]}) + 1
+            spots[entry] = row, in_row.get(row, 0)
+            in_row[row] = in_row.get(row, 0) + 1
+        width, height = 150 * (max(column for _, column in spots.values()) + 1), 80 * (max(row for row, _ in spots.values()) + 1) - 30
+        parts = [f'<h2 id=routines>Routines</h2>\n<svg role=img aria-label="graph of calls" width={width} viewBox="0 0 {width} {height}">\n']
+        for entry in routines:
+            owners = {self.judge.owner(site) for site in sets.words(claims[entry].sites)} if entry in claims else set()
+            parts += [self.arrow(spots[caller], spots[entry]) for caller in spots if caller in owners]
+        parts.append(self.box(spots[None], "m", "main"))
+        for entry in routines:
+            parts.append(f"<a href=#a{entry:04o}>{self.box(spots[entry], self.colour(entry), f'{entry:04o}')}</a>")
+        parts.append("</svg>\n<p>A line leads from a caller down to what it calls. ")
+        parts.append("Ranks fall from caller to callee, so no routine is called again before it returned." if self.refused is None
+                     else "Ranks are to fall from caller to callee; this certificate doesn't show that they do.")
+        parts.append("</p>\n<table>\n<tr><th>entry<th>rank<th>called from<th>it and what it calls may write"
+                     "<th>words skipped behind the call when it returns\n")
+        for entry, (_, offsets) in routines.items():
+            line = claims.get(entry)
+            said = ("<td colspan=3>nothing is claimed of it" if line is None
+                    else f"<td>{line.rank}<td>{shown(line.sites, ADDRESS)}<td>{may_write(line)}")
+            parts.append(f"<tr><td>{ADDRESS.format(entry)}{said}<td>{','.join(map(str, sorted(offsets))) or '-'}\n")
+        return "".join(parts) + "</table>\n"
+
+    @staticmethod
+    def arrow(caller, callee):
+        return f'<path class=l d="M{150 * caller[1] + 70} {80 * caller[0] + 45}L{150 * callee[1] + 70} {80 * callee[0] + 5}" />'
+
+    @staticmethod
+    def box(spot, kind, name):
+        left, top = 150 * spot[1] + 10, 80 * spot[0] + 5
+        return (f"<rect class=b width=120 height=40 x={left} y={top} /><rect width=10 height=40 class={kind} x={left} y={top} />"
+                f"<text class=n x={left + 18} y={top + 24}>{name}</text>\n")
+
+    # Variables
+
+    def variables(self):
+        rows = "".join(f"<tr><td>{ADDRESS.format(cell)}<td>{f'{self.image[cell]:04o}' if cell in self.image else '----'}"
+                       f"<td>{'; '.join(self.variable(cell))}\n" for cell in sorted(self.known))
+        return (f"<h2 id=variables>Variables</h2>\n<p>The declared variables: {shown(sets.of(self.declared.variables), ADDRESS)}. By the "
+                "certificate each of those below holds one of the words beside it, at every address at which something is said of "
+                f"it; all others may hold any word:</p>\n<table>\n<tr><th>cell<th>on the tape<th>what it may hold\n{rows}</table>\n")
+
+    # The listing
+
+    def guide(self):
+        said = ("what is known in every run <b>before</b> it is executed" if self.refused is None
+                else "what the certificate claims <b>before</b> it is executed, which isn't shown")
+        return (f"<h2 id=listing>Listing</h2>\n<p>Beside each instruction stands {said}; what is the same as on the line above is grey, "
+                "and of more than eight such items only the number of the others is told.\n"
+                "<code>AC in 0305,0310</code>: the accumulator holds one of these words. "
+                "<code>0010 in 0224-0230</code>: so does the cell 0010. "
+                "<code>[0010] = [0224] + 0231</code>: the word in the cell 0010 is that in the cell 0224 and 0231 more, modulo 10000; "
+                "so as far as the one is bounded, the other is: of a pointer and a count that go up together, the pointer ends where "
+                "the count does. If the count were larger, the pointer would go further; if the program could then write outside its "
+                "variables, the verdict would be no (V5).\n"
+                "<code>reads</code>, <code>writes</code>: the cells that the instruction may read through a pointer (the pointer is "
+                "one of them), and those that it may write.\n"
+                "All numbers are octal. <code>TAD Z010</code> names the cell 0010, and <code>TAD C024</code> the cell 024 of the page "
+                "that the instruction is on; behind <code>I</code> stands the cell that holds the address; if that is one of 0010 to "
+                "0017, it is made one more first. <code>ISZ</code> makes a word one more, and skips an instruction if it is 0000 "
+                "then.</p>\n<table>\n")
+
+    @staticmethod
+    def of_fact(fact, above, offsets=True):
+        items, count = [], 0
+        for item, same in all_of_fact(fact, above, offsets):
+            count += same
+            if not same or count <= MOST_SAME:
+                items.append(f"<i>{item}</i>" if same else item)
+        return items + ([f"<i>and {count - MOST_SAME} more as above</i>"] if count > MOST_SAME else [])
+
+    def table(self):
+        parts, last = [], None
+        for at in sorted(self.rows):
+            kind = self.kind(at)
+            for line in self.heading(at, last):
+                parts.append(self.heading_row(line) + "\n")
+            last = kind
+            parts.append(self.quiet_row(at) if self.is_quiet(at) else self.row(at))
+        return "".join(parts)
+
+    @staticmethod
+    def heading_row(line):
+        if line.startswith("return by "):
+            front, items = line[:11], line[11:].lstrip()
+            return f"<tr><td colspan=3>{front}<td>{items}"
+        return f"<tr><th colspan=4>{line}" if line else ""
+
+    def quiet_row(self, at):
+        end = at
+        while end < 4095 and self.is_quiet(end + 1):
+            end += 1
+        run = f"{at:04o}" if at == end else f"{at:04o}-{end:04o}"
+        return f"<tr id=a{at:04o}><td colspan=3>{run}<td>any word\n"
+
+    def row(self, at):
+        bad = " class=bad" if self.is_refused_at(at) else ""
+        word = "----<td>" if at not in self.image else f"{self.image[at]:04o}<td class=c>{self.named(at)}"
+        items = "; ".join(self.items(at))
+        mark = "".join(f"<b>{'; ' if items else ''}{it}</b>" for it in self.mark(at))
+        return f"<tr{bad} id=a{at:04o}><td>{at:04o} <td>{word}<td>{items}{mark}\n"
+
+    def named(self, at):
+        if not self.is_code(at):
+            return ""
+        name = self.names[at]
+        if DIRECT.match(name):
+            cell = (at & 0o7600 if " C" in name else 0) | int(name[-3:], 8)
+            if cell in self.rows:
+                return f" <a href=#a{cell:04o}>{escaped(name)}</a>"
+        return " " + escaped(name)

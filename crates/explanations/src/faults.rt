@@ -3,7 +3,7 @@
 use crate::{Explanation, Subject};
 
 /// What is said of each, in the order of the pages.
-pub(crate) static FAULTS: [Explanation; 40] = [
+pub(crate) static FAULTS: [Explanation; 43] = [
     Explanation {
         code: "NoWord",
         subject: Subject::Fault("tape: NoWord"),
@@ -165,6 +165,24 @@ pub(crate) static FAULTS: [Explanation; 40] = [
         subject: Subject::Fault("declaration: TooMany"),
         meaning: "more than 64 routines, or more than 16,384 bytes",
         advice: "at most 64 routines and 16,384 bytes",
+    },
+    Explanation {
+        code: "NoSymbol",
+        subject: Subject::Fault("declaration: NoSymbol 2"),
+        meaning: "the source gives a symbol on the line no value",
+        advice: "use a symbol of the source; a range rises, within 0000 to 7777",
+    },
+    Explanation {
+        code: "PastMemory",
+        subject: Subject::Fault("declaration: PastMemory 2"),
+        meaning: "an address on the line is below 0000 or above 7777",
+        advice: "use a symbol of the source; a range rises, within 0000 to 7777",
+    },
+    Explanation {
+        code: "Backwards",
+        subject: Subject::Fault("declaration: Backwards 2"),
+        meaning: "a range on the line, with a symbol, ends below its first address",
+        advice: "use a symbol of the source; a range rises, within 0000 to 7777",
     },
     Explanation {
         code: "BadLine",

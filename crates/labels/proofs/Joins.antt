@@ -117,6 +117,15 @@ module _ (own : List (Name × ℕ)) (text : List ℕ) (short : length text ≤ 1
   pub short_stops : (fault : PlaceFault) → IsPlaceFault (placed_all own (slice_split is_feed text)) fault → IsPlaceFault (placed_text own text) fault
   short_stops fault is = subst (λ (p : Placed). IsPlaceFault p fault) short_text is
 
+-- a line with what stays at its end
+pub end_placed : (old mid new after : List ℕ) (p : Placed) → prefixed old p ≡ Ok mid → new ≡ mid ++ after → prefixed old (followed p after) ≡ Ok new
+end_placed old mid new after (Ok x) b w =
+    let r : (old ++ x) ++ after ≡ old ++ (x ++ after) = append_assoc old x after in cc
+end_placed old mid new after (Err f) b w = cc
+
+pub end_stops : (after : List ℕ) (p : Placed) (fault : PlaceFault) → IsPlaceFault p fault → IsPlaceFault (followed p after) fault
+end_stops after p fault is = passes p (followed p after) fault (λ f e. ap (λ (q : Placed). followed q after) e) is
+
 -- a line by its first word, the others and its comment
 module _ (own : List (Name × ℕ)) (n : ℕ) (old name comment : List ℕ) (left more : List (List ℕ)) (is : left ≡ name ∷ more) where
   put : (behind mid new after : List ℕ) (p : Placed) → behind ≡ old ++ name → prefixed behind p ≡ Ok mid → new ≡ mid ++ after → prefixed old (followed (prefixed name p) after) ≡ Ok new

@@ -1,5 +1,6 @@
 pub mod Joins
 pub mod Machines
+pub mod MeantLemmas
 pub mod Numbers
 pub mod OneNumber
 pub mod Places

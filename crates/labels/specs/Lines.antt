@@ -1,7 +1,7 @@
 -- A declaration with the symbols of a source, in numbers.
-use Rattle.std.specs.Prelude.{ℕ, ◌≡◌, ◌+◌, ◌==◌, nat_lt, Bool, if◌then◌else◌, List, [], ◌∷◌, ◌++◌, length, drop, Option, Some, None, Result, Ok, Err}
+use Rattle.std.specs.Prelude.{ℕ, ◌≡◌, ◌+◌, ◌-◌, ◌==◌, nat_lt, Bool, if◌then◌else◌, List, [], ◌∷◌, ◌++◌, length, drop, Option, Some, None, Result, Ok, Err}
 use Rattle.std.specs.Borrow.{Bor}
-use Rattle.std.specs.List.{before_first, list_any, position_or_len, slice_split}
+use Rattle.std.specs.List.{before_first, list_any, position_or_len, slice_index, slice_split}
 use Rattle.std.specs.Str.Lines.{strip_carriage_return}
 use Rattle.streams.specs.Text.{is_slash, words_of}
 use Rattle.pal_text.specs.declared.names.Name.{Name}
@@ -71,12 +71,20 @@ said line = before_first is_slash line
 abbrev pub comment : List ℕ → List ℕ
 comment line = drop (position_or_len is_slash line) line
 
+-- The carriage return at the end of a line, if there is one.
+abbrev pub return_of : List ℕ → List ℕ
+return_of line = if slice_index line (length line - 1) == 13 then 13 ∷ [] else []
+
+-- A line by what stands before the carriage return at its end, which stays.
+abbrev pub placed_body : List (Name × ℕ) → ℕ → List ℕ → List ℕ → Placed
+placed_body own n body after = followed (placed_by own n (words_of (said body)) (comment body)) after
+
 -- The line of this number in numbers. Without a capital letter before its comment it stays as it is, byte for byte. Of
--- another one the words stand behind one space each, and a carriage return at its end is dropped.
+-- another one the words stand behind one space each, and a carriage return at its end stays.
 abbrev pub placed_line : List (Name × ℕ) → ℕ → List ℕ → Placed
 placed_line own n line =
     if list_any is_capital (said line)
-    then placed_by own n (words_of (strip_carriage_return (said line))) (comment line)
+    then placed_body own n (strip_carriage_return line) (return_of line)
     else Ok line
 
 -- The byte is a line feed.

@@ -1,9 +1,13 @@
 -- A source and its declaration as a tape and a declaration in numbers.
-use Rattle.std.specs.Prelude.{ℕ, ◌≡◌, List, Option, Ok, Err}
+use Rattle.std.specs.Prelude.{ℕ, ◌≡◌, List, Option, Ok, Err, take}
 use Rattle.instruct.specs.declared.Profile.{Profile}
 use Rattle.bin_tape.specs.Image.{IsEmptyImage}
+use Rattle.bin_tape.specs.Refuses.{Refuses}
 use Rattle.bin_tape.specs.Tape.{IsTape}
 use Rattle.bin_tape.specs.Written.{written_tape}
+use Rattle.bin_tape.specs.declared.fault.TapeFault.{TapeFault}
+use Rattle.declaration.specs.Declaration.{Declaration}
+use Rattle.declaration.specs.Text.{Declares}
 use Rattle.pal_text.specs.declared.names.Name.{Name}
 use Rattle.pal_acts.specs.Permanent.{permanent_symbols}
 use Rattle.pal_asm.specs.Sources.{Means, IsFault}
@@ -20,15 +24,14 @@ use Rattle.labels.specs.declared.program.NumberingFault.TheVariants as fault
 pub record MeansFor (parts : List (List ℕ)) (declaration : List ℕ) (symbols : List (Name × ℕ)) (image : List (Option ℕ)) : Type 0 where
   pub means : Means (permanent_symbols (machine declaration)) parts symbols image
 
--- The tape is the one that is written of the image that the parts mean, which has a word; it reads back as that image. The
--- declaration in numbers is what the declaration means by the symbols of the parts.
+-- The tape is the one that is written of the image that the parts mean, which has a word. The declaration in numbers is what
+-- the declaration means by the symbols of the parts.
 pub record IsNumbered (parts : List (List ℕ)) (declaration tape numbers : List ℕ) : Type 0 where
   pub symbols : List (Name × ℕ)
   pub image : List (Option ℕ)
   pub source : MeansFor parts declaration symbols image
   pub has_word : IsEmptyImage image → ⊥
   pub tape_is : tape ≡ written_tape image
-  pub reads_back : IsTape tape image
   pub placed : placed_text symbols declaration ≡ Ok numbers
 
 -- The parts mean an image without a word.
@@ -74,3 +77,26 @@ IsNumberingFault parts declaration (Source fault) = IsFault (permanent_symbols (
 IsNumberingFault parts declaration EmptyImage = MeansNoWord parts declaration
 IsNumberingFault parts declaration (Placing fault) = IsUnplaced parts declaration fault
 IsNumberingFault parts declaration fault.NoMemory = Unit {0}
+
+-- The parts mean this image, which has a word; and by their symbols the declaration is one in numbers that declares this.
+pub record IsProgram (parts : List (List ℕ)) (text : List ℕ) (image : List (Option ℕ)) (declaration : Declaration) : Type 0 where
+  pub symbols : List (Name × ℕ)
+  pub source : MeansFor parts text symbols image
+  pub has_word : IsEmptyImage image → ⊥
+  pub numbers : List ℕ
+  pub placed : placed_text symbols text ≡ Ok numbers
+  pub declares : Declares numbers declaration
+
+-- Whatever is read of the tape, of which 65,536 frames are looked at, and of the declaration in numbers is the program that the
+-- parts and the declaration mean.
+abbrev pub NumberedIsMeant : Type 0
+NumberedIsMeant =
+    (parts : List (List ℕ)) (text tape numbers : List ℕ) (image : List (Option ℕ)) (declaration : Declaration) →
+    IsNumbered parts text tape numbers → IsTape (take 65536 tape) image → Declares numbers declaration →
+    IsProgram parts text image declaration
+
+-- The tape isn't refused.
+abbrev pub NumberedIsTape : Type 0
+NumberedIsTape =
+    (parts : List (List ℕ)) (text tape numbers : List ℕ) (fault : TapeFault) →
+    IsNumbered parts text tape numbers → Refuses 65536 tape fault → ⊥

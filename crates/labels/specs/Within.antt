@@ -33,15 +33,15 @@ machine text = if names_8e text then Pdp8E else Pdp8I
 abbrev pub is_slash_code : ℕ → Bool
 is_slash_code c = c % 128 == 47
 
--- What follows a colon at the front of a comment, with channel 8 or without; nothing where none stands there.
+-- What follows a colon at the front of some characters; nothing where none stands there.
 abbrev pub after_colon : List ℕ → List ℕ
 after_colon [] = []
-after_colon (first ∷ more) = if first % 128 == 58 then more else []
+after_colon (first ∷ more) = if first == 58 then more else []
 
 -- The line of a declaration that a line of a source holds, and a line feed: the characters behind the `/:` with which its
--- comment begins, and none where it doesn't begin so.
+-- comment begins, and none where it doesn't begin so. What is no character is passed over, also between `/` and `:`.
 abbrev pub declared_line : List ℕ → List ℕ
-declared_line line = characters (after_colon (after_first is_slash_code line)) ++ 10 ∷ []
+declared_line line = after_colon (characters (after_first is_slash_code line)) ++ 10 ∷ []
 
 -- What these lines of a part declare, a line for each.
 abbrev pub declared_part : List ℕ → List Line → List ℕ

@@ -4,6 +4,7 @@
 
 pub mod address;
 pub mod fault;
+pub mod laws;
 pub mod placing;
 pub mod program;
 pub mod within;

@@ -6,7 +6,7 @@ ghost use Rattle.std.specs.Str.Lines.{strip_carriage_return};
 ghost use Rattle.streams.specs.Text.{is_slash};
 ghost use Rattle.streams.specs.TextLeft.{words_left};
 ghost use Rattle.labels.specs.Addresses.{is_capital};
-ghost use Rattle.labels.specs.Lines.{IsPlaceFault, comment, is_feed, length_behind, lines_behind, placed_all, placed_by, placed_line, placed_lines, placed_text, placed_word, placed_words, prefixed, said, spaced};
+ghost use Rattle.labels.specs.Lines.{IsPlaceFault, comment, is_feed, length_behind, lines_behind, placed_all, placed_body, placed_by, placed_line, placed_lines, placed_text, placed_word, placed_words, prefixed, return_of, said, spaced};
 
 use crate::address::{cells_of, is_capital};
 use crate::fault::PlaceFault;
@@ -144,6 +144,34 @@ fn without_return(line: &[u8]) -> &[u8]
     }
 }
 
+/// The carriage return at the end of a line, if it has one.
+fn return_of(line: &[u8]) -> &[u8]
+    ensures { result.now ≡ return_of line.now }
+{
+    match line.split_last() {
+        Some((b'\r', _)) => b"\r",
+        _ => b"",
+    }
+}
+
+/// Adds the line of this number, in numbers, by what stands before its end and by its end.
+fn place_body<A: Allocator, S: Allocator + Copy>(
+    own: &SymbolTable<S>,
+    number: usize,
+    body: &[u8],
+    after: &[u8],
+    out: &mut Vec<u8, A>,
+) -> Result<(), PlaceFault>
+    ensures placed { OnOk result (prefixed out.old.items
+        (placed_body own.now.entries number body.now after.now) ≡ Ok out.new.items) }
+    ensures refused { IfErr result
+        (IsPlaceFault (placed_body own.now.entries number body.now after.now)) }
+{
+    place_by(own, number, Words::of(said_of(body)), comment_of(body), out)?;
+    out.extend_from_slice(after)?;
+    Ok(())
+}
+
 /// Adds the line of this number, in numbers.
 fn place_line<A: Allocator, S: Allocator + Copy>(
     own: &SymbolTable<S>,
@@ -156,13 +184,11 @@ fn place_line<A: Allocator, S: Allocator + Copy>(
     ensures refused { IfErr result
         (IsPlaceFault (placed_line own.now.entries number line.now)) }
 {
-    let said = said_of(line);
-    if !has_capital(said) {
+    if !has_capital(said_of(line)) {
         out.extend_from_slice(line)?;
         return Ok(());
     }
-    let words = Words::of(without_return(said));
-    place_by(own, number, words, comment_of(line), out)
+    place_body(own, number, without_return(line), return_of(line), out)
 }
 
 /// The first place of a line feed.

@@ -2,7 +2,6 @@
 
 ghost use Rattle.std.specs.Prelude.{◌≡◌, ℕ, List, Some, IfOk, IfErr, MatchResult};
 ghost use Rattle.bin_tape.specs.Image.{IsEmptyImage};
-ghost use Rattle.bin_tape.specs.Tape.{IsTape};
 ghost use Rattle.bin_tape.specs.Written.{written_tape};
 ghost use Rattle.pal_acts.specs.Permanent.{permanent_symbols};
 ghost use Rattle.pal_asm.specs.Sources.{texts, Means};
@@ -70,7 +69,6 @@ impl<A: Allocator> ByteSink for TapeSink<A> {
 /// The tape of an image.
 fn tape_of<A: Allocator>(alloc: A, image: &Image) -> Result<Vec<u8, A>, NumberingFault>
     ensures written { IfOk result (λ tape. tape.items ≡ written_tape image.now) }
-    ensures tape { IfOk result (λ tape. IsTape tape.items image.now) }
     ensures has_word { IfOk result (λ tape. IsEmptyImage image.now → ⊥) }
     ensures refused { IfErr result (IsEmptyFault image.now) }
 {

@@ -74,26 +74,33 @@ fn comment_of(line: &[u8]) -> &[u8]
     }
 }
 
-/// What a comment says to a declaration: what follows a colon at its front.
+/// What the characters of a comment say to a declaration: what follows a colon at their front.
 fn after_colon(comment: &[u8]) -> &[u8]
     ensures { result.now ≡ after_colon comment.now }
 {
     match comment {
-        [first, more @ ..] if *first % 0o200 == b':' => more,
+        [b':', more @ ..] => more,
         _ => &[],
     }
 }
 
 /// Adds the line of a declaration that a line of a source holds; it's empty where that holds none.
-fn push_declared<A: Allocator>(text: &mut Vec<u8, A>, line: &[u8]) -> Result<(), AllocError>
+fn push_declared<A: Allocator + Copy>(
+    alloc: A,
+    text: &mut Vec<u8, A>,
+    line: &[u8],
+) -> Result<(), AllocError>
     ensures { OnOk result (text.new.items ≡ text.old.items ++ declared_line line.now) }
 {
-    push_characters(text, after_colon(comment_of(line)))?;
+    let mut comment = Vec::new(alloc);
+    push_characters(&mut comment, comment_of(line))?;
+    text.extend_from_slice(after_colon(&comment))?;
     text.extend_from_slice(b"\n")
 }
 
 /// Adds a line for each of these lines of a part.
-fn push_lines<A: Allocator>(
+fn push_lines<A: Allocator + Copy>(
+    alloc: A,
     text: &mut Vec<u8, A>,
     source: &[u8],
     lines: &[Line],
@@ -103,7 +110,7 @@ fn push_lines<A: Allocator>(
         text.old.items ++ declared_part source.now lines.now) }
 {
     for line in lines {
-        push_declared(text, &source[line.start..line.end])?;
+        push_declared(alloc, text, &source[line.start..line.end])?;
     }
     Ok(())
 }
@@ -140,7 +147,7 @@ fn push_part<A: Allocator + Copy>(
 {
     match statements(alloc, source) {
         Ok(part) => {
-            push_lines(text, source, &part.lines)?;
+            push_lines(alloc, text, source, &part.lines)?;
             Ok(reads_on(part.ending))
         }
         Err(fault) => reads_on_after(fault),

@@ -3,11 +3,12 @@
 
 use crate::files::open_input;
 use analyser::{Attempt, guess_or_draft};
+use bin_tape::Image;
 use bound_texts::push_bound;
 use command_line::FileNames;
 use command_parts::inputs::{declaration_from, tape_from};
 use commands::status::{DeviceFault, Fault};
-use declaration::DeclarationFault;
+use declaration::{Declaration, DeclarationFault};
 use explanations::push_advice;
 use fault_texts::{FaultyFile, push_fault, push_omissions};
 use std::alloc::{AllocError, Global};
@@ -57,6 +58,20 @@ fn unread_input<'a, R: Files + Input>(
     None
 }
 
+/// What the draft of a search for this program that is stuck tells of the pointer there. The search is made
+/// once more for it.
+pub fn bound_text(
+    alloc: Global,
+    image: &Image,
+    promised: &Declaration<Global>,
+) -> Result<Vec<u8>, Fault> {
+    let mut text = Vec::new(alloc);
+    if let Attempt::Stuck(at, draft) = guess_or_draft(alloc, image, promised)? {
+        push_bound(alloc, &mut text, image, promised, &draft, at)?;
+    }
+    Ok(text)
+}
+
 /// What the draft of a search that is stuck tells of the pointer there.
 fn bound_of<R: Files + Input>(
     rt: &R,
@@ -66,11 +81,7 @@ fn bound_of<R: Files + Input>(
 ) -> Result<Vec<u8>, Fault> {
     let image = tape_from(&mut open_input(rt, tape)?)?;
     let promised = declaration_from(alloc, &mut open_input(rt, declaration)?)?;
-    let mut text = Vec::new(alloc);
-    if let Attempt::Stuck(at, draft) = guess_or_draft(alloc, &image, &promised)? {
-        push_bound(alloc, &mut text, &image, &promised, &draft, at)?;
-    }
-    Ok(text)
+    bound_text(alloc, &image, &promised)
 }
 
 /// What the draft of a search that is stuck tells of the pointer there, as lines for people. The search is

@@ -2,16 +2,15 @@
 //! memory and the declaration written in numbers; what is done then is done by the commands for tapes.
 
 use crate::drafted::{is_stuck, report_stuck};
-use crate::faults::stuck_address;
+use crate::faults::{bound_text, stuck_address, with_omissions};
 use crate::files::{open_input, open_output};
 use crate::joined::{open_input_if, tell_to};
-use crate::numbering::{Prepared, Promise, read_all};
+use crate::numbering::{Given, Prepared, Promise, lend, read_all, tell_refused};
 use crate::saving::{save_answer, save_proposed};
-use crate::spots::{behind_lines, line_of, on_line, spot_of};
+use crate::spots::{behind_lines, line_counts, line_of, on_line, spot_of};
 use crate::telling::tell_with;
 use command_line::{Destination, Sourced, Task, WatchedSession};
 use command_parts::inputs::{declaration_from, tape_from};
-use commands::checking::check;
 use commands::explaining::explain;
 use commands::guessing::guess;
 use commands::refuting::{RefuteOptions, refute};
@@ -23,6 +22,7 @@ use commands::watching::watch;
 use declaration::DeclarationFault;
 use fault_texts::{FaultyFile, push_fault, push_omissions};
 use labels::Numbered;
+use source_verdicts::SourceProgram;
 use std::alloc::Global;
 use std::io;
 use std::rt::Files;
@@ -44,17 +44,21 @@ fn promise_of(numbered: &Numbered<Global>) -> Reads<&[u8]>
     Reads::new(numbered.declaration.as_slice())
 }
 
-/// What a tape and a declaration in memory show by themselves, where a search is stuck at this address.
-fn omissions_of(
+/// The lines of a search that is stuck at this address, with what the program shows by itself before them,
+/// and what the draft tells of the pointer there behind them.
+fn with_reasons(
     alloc: Global,
     numbered: &Numbered<Global>,
+    report: &[u8],
     stuck: Option<Word>,
 ) -> Result<Vec<u8>, Fault> {
     let image = tape_from(&mut frames_of(numbered))?;
     let promised = declaration_from(alloc, &mut promise_of(numbered))?;
-    let mut text = Vec::new(alloc);
-    push_omissions(&mut text, &image, &promised, stuck)?;
-    Ok(text)
+    let mut others = Vec::new(alloc);
+    push_omissions(&mut others, &image, &promised, stuck)?;
+    let mut told = with_omissions(alloc, report, &others)?;
+    told.extend_from_slice(&bound_text(alloc, &image, &promised)?)?;
+    Ok(told)
 }
 
 /// Says whether the program keeps its declaration.
@@ -66,20 +70,21 @@ fn verify_numbered<R: Files + Print>(
     save: Option<&str>,
     options: &VerifyOptions,
 ) -> Result<Status, Fault> {
-    let mut out = Writes::new(io::writer(rt));
+    let mut report = Vec::new(alloc);
+    let mut lines = Writes::new(&mut report);
     let answer = verify(
         alloc,
         &mut frames_of(numbered),
         &mut promise_of(numbered),
         options.search,
-        &mut out,
+        &mut lines,
     )?;
     if let Answer::NotKnown(Lack::Stuck(at)) = &answer {
         if options.search.explained {
-            let others = omissions_of(alloc, numbered, Some(*at))?;
-            put(&mut Writes::new(io::writer(rt)), &others)?;
+            report = with_reasons(alloc, numbered, &report, Some(*at))?;
         }
     }
+    put(&mut Writes::new(io::writer(rt)), &report)?;
     save_answer(rt, alloc, save, &answer)?;
     Ok(answer_status(&answer))
 }
@@ -101,21 +106,26 @@ fn verify_alone<R: Files + Print>(
 
 /// Checks the certificate of a file.
 #[inline(never)]
-fn check_numbered<R: Files + Input + Print>(
+fn check_program<R: Files + Input + Print>(
     rt: &R,
     alloc: Global,
-    numbered: &Numbered<Global>,
+    program: &SourceProgram<'_, Global>,
     certificate: &str,
     explained: bool,
 ) -> Result<Status, Fault> {
-    let mut frames = frames_of(numbered);
-    let mut text = promise_of(numbered);
     let mut claims = open_input(rt, certificate)?;
     let mut out = Writes::new(io::writer(rt));
     if explained {
-        return explain(alloc, &mut frames, &mut text, &mut claims, &mut out);
+        let numbered = program.numbered();
+        return explain(
+            alloc,
+            &mut frames_of(numbered),
+            &mut promise_of(numbered),
+            &mut claims,
+            &mut out,
+        );
     }
-    check(alloc, &mut frames, &mut text, &mut claims, &mut out)
+    program.check(alloc, &mut claims, &mut out)
 }
 
 /// Watches a run by the events of a file.
@@ -181,9 +191,8 @@ fn guess_numbered<R: Files + Print + Eprint>(
     let mut lines = Writes::new(&mut report);
     let status = guess_or_explain(alloc, &mut frames, &mut text, &mut certificate, &mut lines)?;
     if status == Status::Refused {
-        let others = omissions_of(alloc, numbered, stuck_address(&report))?;
-        report.extend_from_slice(&others)?;
-        let _ = put(&mut tell_to(rt), &report);
+        let told = with_reasons(alloc, numbered, &report, stuck_address(&report))?;
+        let _ = put(&mut tell_to(rt), &told);
     }
     Ok(status)
 }
@@ -262,10 +271,11 @@ fn write_numbered<R: Files + Print>(
 fn done_with<R: Files + Input + Print + Eprint>(
     rt: &R,
     alloc: Global,
-    numbered: &Numbered<Global>,
+    program: &SourceProgram<'_, Global>,
     task: &Task<'_>,
     promise: Promise,
 ) -> Result<Status, Fault> {
+    let numbered = program.numbered();
     match task {
         Task::Verify { save, options, .. } => {
             if promise == Promise::Proposed {
@@ -277,7 +287,7 @@ fn done_with<R: Files + Input + Print + Eprint>(
         Task::Check {
             certificate,
             explained,
-        } => check_numbered(rt, alloc, numbered, certificate, *explained),
+        } => check_program(rt, alloc, program, certificate, *explained),
         Task::Watch { events, explained } => {
             watch_numbered(rt, alloc, numbered, events, *explained)
         }
@@ -298,18 +308,42 @@ fn tell_within<R: Eprint>(
     alloc: Global,
     fault: DeclarationFault,
     names: &[&str],
-    counts: &[usize],
-    declaration: &[u8],
-) -> Status {
+    parts: &[&[u8]],
+    text: &[u8],
+) -> Result<Status, Fault> {
+    let counts = line_counts(alloc, parts)?;
     let number = line_of(fault);
-    let spot = spot_of(names, counts, number);
+    let spot = spot_of(names, &counts, number);
     let file = FaultyFile {
         name: spot.name,
-        bytes: behind_lines(declaration, number.saturating_sub(spot.line)),
+        bytes: behind_lines(text, number.saturating_sub(spot.line)),
     };
-    let mut text = String::new(alloc);
-    let _ = push_fault(&mut text, Fault::Declared(on_line(fault, spot.line)), &file);
-    tell_with(rt, Fault::Declared(fault), &text)
+    let mut told = String::new(alloc);
+    let _ = push_fault(&mut told, Fault::Declared(on_line(fault, spot.line)), &file);
+    Ok(tell_with(rt, Fault::Declared(fault), &told))
+}
+
+/// Does what is asked for with a source and its declaration that were read, or tells why they are refused.
+fn answer_given<R: Files + Input + Print + Eprint>(
+    rt: &R,
+    alloc: Global,
+    sourced: &Sourced<'_>,
+    given: &Given,
+) -> Result<Status, Fault> {
+    let slices = lend(alloc, &given.parts)?;
+    let program = match SourceProgram::new(alloc, &slices, &given.text) {
+        Ok(program) => program,
+        Err(fault) => {
+            return Ok(tell_refused(rt, alloc, fault, sourced, &slices, &given.text));
+        }
+    };
+    let within = given.promise == Promise::Within && sourced.task.is_explained();
+    match done_with(rt, alloc, &program, &sourced.task, given.promise) {
+        Err(Fault::Declared(fault)) if within => {
+            tell_within(rt, alloc, fault, &sourced.sources, &slices, &given.text)
+        }
+        other => other,
+    }
 }
 
 /// Carries out a command that works on a source. The parts are opened and read in order, then the
@@ -324,19 +358,8 @@ pub fn answer_sourced<R: Files + Input + Print + Eprint>(
     alloc: Global,
     sourced: &Sourced<'_>,
 ) -> Result<Status, Fault> {
-    let explained = sourced.task.is_explained();
     match read_all(rt, alloc, sourced)? {
         Prepared::Told(status) => Ok(status),
-        Prepared::Program {
-            numbered,
-            declaration,
-            promise,
-            counts,
-        } => match done_with(rt, alloc, &numbered, &sourced.task, promise) {
-            Err(Fault::Declared(fault)) if explained && promise == Promise::Within => Ok(
-                tell_within(rt, alloc, fault, &sourced.sources, &counts, &declaration),
-            ),
-            other => other,
-        },
+        Prepared::Read(given) => answer_given(rt, alloc, sourced, &given),
     }
 }

@@ -7,7 +7,7 @@ use crate::telling::tell;
 use command_line::{Sourced, Task};
 use commands::status::{Fault, Status};
 use instruct::Profile;
-use labels::{Numbered, NumberingFault, PlaceFault, declared_lines, number};
+use labels::{NumberingFault, PlaceFault, declared_lines};
 use std::alloc::{AllocError, Global};
 use std::rt::Files;
 use streams::read_at_most;
@@ -30,22 +30,24 @@ pub enum Promise {
     Proposed,
 }
 
-/// A source and its declaration, as they were read.
+/// A source and its declaration with symbols, as they were read.
+#[derive(Drop)]
+pub struct Given {
+    /// The parts of the source.
+    pub parts: Vec<Vec<u8>>,
+    /// The declaration with its symbols.
+    pub text: Vec<u8>,
+    /// Where it comes from.
+    pub promise: Promise,
+}
+
+/// What became of the files of a source and its declaration.
 #[derive(Drop)]
 pub enum Prepared {
-    /// They are refused, which has been told, and this is the status.
+    /// They can't be taken, which has been told, and this is the status.
     Told(Status),
-    /// They are good.
-    Program {
-        /// The tape, and the declaration in numbers.
-        numbered: Numbered<Global>,
-        /// The declaration with its symbols.
-        declaration: Vec<u8>,
-        /// Where it comes from.
-        promise: Promise,
-        /// How many lines each part of the source has, where the declaration stands within it.
-        counts: Vec<usize>,
-    },
+    /// They were read.
+    Read(Given),
 }
 
 /// Reads the parts of a source in order, up to the first that can't be read, and puts them behind those
@@ -67,7 +69,7 @@ fn read_parts<R: Files + Input>(
 }
 
 /// The bytes of parts, lent.
-fn lend<'t>(alloc: Global, parts: &'t [Vec<u8>]) -> Result<Vec<&'t [u8]>, AllocError> {
+pub fn lend<'t>(alloc: Global, parts: &'t [Vec<u8>]) -> Result<Vec<&'t [u8]>, AllocError> {
     let mut slices = Vec::new(alloc);
     for part in parts {
         slices.push(part.as_slice())?;
@@ -104,7 +106,7 @@ fn unknown_declaration(alloc: Global, task: &Task<'_>) -> Result<Vec<u8>, AllocE
 
 /// A declaration with its symbols, and where it comes from.
 #[derive(Drop)]
-struct Given {
+struct Promised {
     text: Vec<u8>,
     promise: Promise,
 }
@@ -114,23 +116,24 @@ fn given_declaration<R: Files + Input>(
     rt: &R,
     alloc: Global,
     sourced: &Sourced<'_>,
-    parts: &[&[u8]],
-) -> Result<Given, Fault> {
+    parts: &[Vec<u8>],
+) -> Result<Promised, Fault> {
     if let Some(name) = sourced.declaration {
         let mut input = open_input(rt, name)?;
-        return Ok(Given {
+        return Ok(Promised {
             text: read_at_most(alloc, &mut input, MOST_DECLARATION)?,
             promise: Promise::File,
         });
     }
-    let text = declared_lines(alloc, parts)?;
+    let slices = lend(alloc, parts)?;
+    let text = declared_lines(alloc, &slices)?;
     if says_something(&text) || !matches!(sourced.task, Task::Verify { .. }) {
-        return Ok(Given {
+        return Ok(Promised {
             text,
             promise: Promise::Within,
         });
     }
-    Ok(Given {
+    Ok(Promised {
         text: unknown_declaration(alloc, &sourced.task)?,
         promise: Promise::Proposed,
     })
@@ -193,18 +196,18 @@ fn placing_spot<'n>(
 }
 
 /// Tells that a source or its declaration is refused.
-fn tell_refused<R: Eprint>(
+pub fn tell_refused<R: Eprint>(
     rt: &R,
     alloc: Global,
     fault: NumberingFault,
     sourced: &Sourced<'_>,
     parts: &[&[u8]],
-    given: &Given,
+    text: &[u8],
 ) -> Status {
     let explained = sourced.task.is_explained();
     match fault {
         NumberingFault::Source(fault) => {
-            let profile = labels::machine_of(&given.text);
+            let profile = labels::machine_of(text);
             tell_source(
                 rt,
                 alloc,
@@ -243,7 +246,7 @@ fn is_asked_twice(task: &Task<'_>, promise: Promise) -> bool {
     }
 }
 
-/// Reads a source and its declaration, and writes them as a tape and in numbers.
+/// Reads a source and its declaration.
 ///
 /// # Errors
 ///
@@ -261,26 +264,13 @@ pub fn read_all<R: Files + Input + Eprint>(
         let name = unopened(&sourced.sources, parts.len());
         return Ok(Prepared::Told(tell_of(rt, fault, name, "can't be opened or read")));
     }
-    let slices = lend(alloc, &parts)?;
-    let given = given_declaration(rt, alloc, sourced, &slices)?;
-    if is_asked_twice(&sourced.task, given.promise) {
+    let Promised { text, promise } = given_declaration(rt, alloc, sourced, &parts)?;
+    if is_asked_twice(&sourced.task, promise) {
         return Ok(Prepared::Told(tell_asked(rt)));
     }
-    match number(alloc, &slices, &given.text) {
-        Ok(numbered) => {
-            let counts = if given.promise == Promise::Within {
-                line_counts(alloc, &slices)?
-            } else {
-                Vec::new(alloc)
-            };
-            let Given { text, promise } = given;
-            Ok(Prepared::Program {
-                numbered,
-                declaration: text,
-                promise,
-                counts,
-            })
-        }
-        Err(fault) => Ok(Prepared::Told(tell_refused(rt, alloc, fault, sourced, &slices, &given))),
-    }
+    Ok(Prepared::Read(Given {
+        parts,
+        text,
+        promise,
+    }))
 }

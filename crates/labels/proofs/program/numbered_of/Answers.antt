@@ -13,7 +13,6 @@ returns-in-Ok-clause-numbered g c = record {
   source = means_shown (texts c.args.parts.now) c.args.declaration.now (symbols_in c.in_ok-translation.translation) c.symbols.result.now.entries (image_in c.in_ok-translation.translation) c.image.result.now c.in_ok-translation.ensures.means c.symbols.ensures c.image.ensures;
   has_word = c.in_ok-tape.ensures.has_word;
   tape_is = c.in_ok-tape.ensures.written;
-  reads_back = c.in_ok-tape.ensures.tape;
   placed = c.in-Ok.ensures.placed;
 }
 

@@ -1,0 +1,29 @@
+-- Why there is no verdict on a program of which the source is given.
+use Rattle.std.specs.Prelude.{ℕ, ◌≡◌, ◌⊎◌, List, Option, Ok}
+use Rattle.pal_text.specs.declared.names.Name.{Name}
+use Rattle.declaration.specs.declared.DeclarationFault.{DeclarationFault}
+use Rattle.labels.specs.Lines.{placed_text}
+use Rattle.labels.specs.Programs.{MeansFor}
+use Rattle.command_parts.specs.Faults.{IsDeclarationFault, IsRunFault}
+use Rattle.command_parts.specs.Inputs.{Input}
+use Rattle.command_parts.specs.declared.status.Fault.{Fault}
+use Rattle.command_parts.specs.declared.status.Fault.TheVariants.{Declared}
+use Rattle.verdict_texts.specs.CertificateFaults.{IsCertificateInputFault}
+
+-- The parts mean something, and the declaration in numbers that the text is by their symbols has this fault.
+pub record IsMisdeclared (parts : List (List ℕ)) (text : List ℕ) (fault : DeclarationFault) : Type 0 where
+  pub symbols : List (Name × ℕ)
+  pub image : List (Option ℕ)
+  pub source : MeansFor parts text symbols image
+  pub numbers : List ℕ
+  pub placed : placed_text symbols text ≡ Ok numbers
+  pub fails : IsDeclarationFault numbers fault
+
+-- Why there is no verdict on a program: its declaration in numbers has a fault, a write failed, or memory was refused.
+abbrev pub IsProgramFault : List (List ℕ) → List ℕ → Fault → Type 0
+IsProgramFault parts text (Declared fault) = IsMisdeclared parts text fault
+IsProgramFault parts text fault = IsRunFault fault
+
+-- Why a certificate of a program isn't checked: the same, or the fault of the certificate's text.
+abbrev pub IsCertifiedFault : List (List ℕ) → List ℕ → Input → Fault → Type 0
+IsCertifiedFault parts text certificate fault = IsProgramFault parts text fault ⊎ IsCertificateInputFault certificate fault

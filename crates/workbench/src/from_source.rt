@@ -28,6 +28,7 @@ use std::rt::Files;
 use streams::put;
 use streams::standard::{Reads, Writes};
 use word12::Word;
+use wordset::WordSet;
 
 /// A tape in memory.
 fn frames_of(numbered: &Numbered<Global>) -> Reads<&[u8]>
@@ -125,6 +126,7 @@ fn watch_numbered<R: Files + Input + Print>(
     numbered: &Numbered<Global>,
     events: &str,
     explained: bool,
+    show: &WordSet,
 ) -> Result<Status, Fault> {
     let mut list = open_input(rt, events)?;
     let mut out = Writes::new(io::writer(rt));
@@ -134,6 +136,7 @@ fn watch_numbered<R: Files + Input + Print>(
         &mut promise_of(numbered),
         &mut list,
         explained,
+        show,
         &mut out,
     )
 }
@@ -253,9 +256,11 @@ fn done_with<R: Files + Input + Print + Eprint>(
             certificate,
             explained,
         } => check_numbered(rt, alloc, numbered, certificate, *explained),
-        Task::Watch { events, explained } => {
-            watch_numbered(rt, alloc, numbered, events, *explained)
-        }
+        Task::Watch {
+            events,
+            explained,
+            show,
+        } => watch_numbered(rt, alloc, numbered, events, *explained, show),
         Task::WatchSession(session) => watch_session_numbered(rt, alloc, numbered, session),
         Task::Guess { out, explained } => guess_numbered(rt, alloc, numbered, *out, *explained),
         Task::Refute { out, options } => refute_numbered(rt, alloc, numbered, *out, *options),

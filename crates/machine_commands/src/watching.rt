@@ -1,26 +1,24 @@
 //! The command that watches a run.
 
-ghost use Rattle.std.specs.Prelude.{◌≡◌, ◌||◌, ◌⊎◌, false, true, Err, [], take, IfOk, IfErr, OnErr};
+ghost use Rattle.std.specs.Prelude.{◌≡◌, ◌||◌, ◌⊎◌, false, true, Err, [], IfOk, IfErr, OnErr};
 ghost use Rattle.wordset.specs.Lanes.{words};
 ghost use Rattle.declaration.specs.Kept.{meaning};
 ghost use Rattle.command_parts.specs.Faults.{IsWatchFault, is_fault_of_declaration, is_fault_of_tape, fails_to_read, fails_to_write};
 ghost use Rattle.command_parts.specs.Inputs.{HasCome, IsGoodDeclaration, IsGoodEvents, IsGoodTape, TakesAtMost, TakesTape, input};
-ghost use Rattle.machine_commands.specs.WatchText.{IsLeft, IsShown, IsTold, IsToldWithCells, IsWatched, IsWatchedSo, broken_text, happening, watched_status, watched_text};
+ghost use Rattle.machine_commands.specs.WatchText.{IsTold, IsToldWithCells, IsWatched, IsWatchedSo, broken_text, watched_status, watched_text};
 ghost use Rattle.command_parts.specs.Writes.{FrontOf, Writes};
 ghost use Rattle.command_parts.specs.declared.status.Fault.TheVariants.{NoMemory as Wanted};
 
-use crate::follow::{Course, follow};
 use crate::progress::{Offered, offered_by, progress_lines};
-use crate::summary::push_cells;
+use crate::shown::shown_of;
 use bin_tape::Image;
 use command_parts::inputs::{declaration_from, events_from, tape_from};
 use command_parts::status::{Fault, Status};
 use declaration::Declaration;
 use itoa::Buffer;
-use peripherals::{Event, NoMemory, Start, World};
+use peripherals::{Event, NoMemory, Start};
 use policy::{Rule, Watched};
 use std::alloc::{AllocError, Allocator};
-use streams::standard::Writes;
 use streams::{ByteSink, ByteSource, put};
 use watch_texts::breach_lines;
 use wordset::WordSet;
@@ -69,73 +67,6 @@ fn why_of<A: Allocator + Copy, D: Allocator>(
         Watched::Clean if explained => progress_lines(alloc, image, declaration, events, offered),
         _ => breach_lines(alloc, image, declaration, events, watched, explained),
     }
-}
-
-/// The first of some events, so many.
-fn first(events: &[Event], count: usize) -> &[Event]
-    ensures { result.now ≡ take count events.now }
-{
-    if count < events.len() {
-        &events[..count]
-    } else {
-        events
-    }
-}
-
-/// The events of a watched run that happen: all of them, or those before the one that breaks a rule.
-fn happening<'a>(watched: Watched, events: &'a [Event]) -> &'a [Event]
-    ensures { result.now ≡ happening watched events.now }
-{
-    match watched {
-        Watched::Clean => events,
-        Watched::Broken { event, .. } => first(events, event),
-    }
-}
-
-/// The cells that are to be shown, with their words after some events of a declared run.
-fn cells_after<A: Allocator + Copy, D: Allocator>(
-    alloc: A,
-    image: &Image,
-    declaration: &Declaration<D>,
-    events: &[Event],
-    show: &WordSet,
-) -> Result<Vec<u8, A>, NoMemory>
-    ensures { IfOk result (λ text.
-        IsLeft (words show.now) image.now (meaning declaration.now) events.now text.items) }
-{
-    let start = Start::zero();
-    let mut world = World::load(
-        alloc,
-        image,
-        declaration.start(),
-        &start,
-        declaration.profile(),
-    );
-    let mut nothing = Writes::new(Vec::new(alloc));
-    let Ok(_) = follow(&mut world, &mut nothing, false, &Course::Listed(events)) else {
-        return Err(NoMemory);
-    };
-    let mut text = Vec::new(alloc);
-    push_cells(&mut text, show, &world.cpu().memory)?;
-    Ok(text)
-}
-
-/// The lines of the cells that are to be shown when a watched run is over, if there are any.
-fn shown_of<A: Allocator + Copy, D: Allocator>(
-    alloc: A,
-    image: &Image,
-    declaration: &Declaration<D>,
-    events: &[Event],
-    watched: Watched,
-    show: &WordSet,
-) -> Result<Vec<u8, A>, NoMemory>
-    ensures { IfOk result (λ text. IsShown (words show.now) image.now (meaning declaration.now)
-        events.now watched text.items) }
-{
-    if show.is_empty() {
-        return Ok(Vec::new(alloc));
-    }
-    cells_after(alloc, image, declaration, happening(watched, events), show)
 }
 
 /// What is told of a watched run: the line that says what was seen, and behind it, if it is to be

@@ -17,7 +17,7 @@ _pdp8() {
             COMPREPLY=($(compgen -W '8i 8e' -- "$word"))
             return
             ;;
-        --start | --steps | --seed | --save | --switches)
+        --start | --steps | --seed | --save | --switches | --show)
             return
             ;;
     esac
@@ -31,9 +31,9 @@ _pdp8() {
         list) options='--profile --why --help' ;;
         source) options='--output --start --declaration --profile --why --help' ;;
         dump) options='--profile --why --help' ;;
-        run) options='--start --steps --trace --profile --events --reader --punch --keys --mark --teletype --switches --why --help' ;;
-        teletype) options='--start --profile --reader --punch --switches --mark --raw --why --help' ;;
-        watch) options='--source --reader --keys --mark --switches --steps --why --help' ;;
+        run) options='--start --steps --trace --profile --events --reader --punch --keys --mark --teletype --switches --show --why --help' ;;
+        teletype) options='--start --profile --reader --punch --switches --mark --raw --show --why --help' ;;
+        watch) options='--source --reader --keys --mark --switches --steps --show --why --help' ;;
         check) options='--source --why --help' ;;
         report) options='--output --text --why --help' ;;
         guess) options='--output --source --report --why --help' ;;

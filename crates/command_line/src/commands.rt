@@ -279,6 +279,13 @@ const SWITCHES: Argument = Argument {
     help: "the octal word that the switches are set to; leading zeros are allowed, 0000 without it",
 };
 
+const SHOW: Argument = Argument {
+    name: "show",
+    short: None,
+    form: Form::Values("R"),
+    help: "writes these cells when the run is over, such as 0324 or 0400-0417; several with spaces between them, or once for each",
+};
+
 const READS: Argument = Argument {
     name: "reads",
     short: None,
@@ -361,7 +368,7 @@ static VERIFY_ARGUMENTS: [Argument; 9] = [
     WHY_VERIFY,
 ];
 
-static RUN_ARGUMENTS: [Argument; 13] = [
+static RUN_ARGUMENTS: [Argument; 14] = [
     TAPE,
     START,
     ROUNDS,
@@ -374,11 +381,12 @@ static RUN_ARGUMENTS: [Argument; 13] = [
     MARK,
     TELETYPE,
     SWITCHES,
+    SHOW,
     WHY_INPUT,
 ];
 
-static TELETYPE_ARGUMENTS: [Argument; 9] = [
-    TAPE, START, PROFILE, READER, PUNCH, SWITCHES, MARK, RAW, WHY_INPUT,
+static TELETYPE_ARGUMENTS: [Argument; 10] = [
+    TAPE, START, PROFILE, READER, PUNCH, SWITCHES, MARK, RAW, SHOW, WHY_INPUT,
 ];
 
 static DUMP_ARGUMENTS: [Argument; 3] = [TAPE, PROFILE, WHY_INPUT];
@@ -397,7 +405,7 @@ static SOURCE_ARGUMENTS: [Argument; 7] = [
     WHY_INPUT,
 ];
 
-static WATCH_ARGUMENTS: [Argument; 10] = [
+static WATCH_ARGUMENTS: [Argument; 11] = [
     TAPE_OR_SOURCE,
     DECLARED,
     EVENTS,
@@ -407,6 +415,7 @@ static WATCH_ARGUMENTS: [Argument; 10] = [
     MARK,
     SWITCHES,
     ROUNDS,
+    SHOW,
     WHY_BROKEN,
 ];
 

@@ -7,6 +7,7 @@ mod operator;
 mod outputs;
 mod reported;
 mod requests;
+mod shown;
 mod sourced;
 mod table;
 

@@ -1,6 +1,7 @@
 //! The options of a run with an operator.
 
 use crate::requests::{Refused, profile_of, run_options, share_standard_input, start_of};
+use crate::shown::shown_cells;
 use clap::ArgMatches;
 use options::{Manner, SessionOptions, TeletypeOptions};
 use word12::Word;
@@ -170,6 +171,7 @@ pub fn teletype_of<'a>(found: &ArgMatches<'a>) -> Result<TeletypeSession<'a>, Re
                 raw: found.get_flag("raw"),
                 mark: found.get_flag("mark"),
             },
+            show: shown_cells(found)?,
         },
     })
 }

@@ -7,6 +7,7 @@ use crate::operator::{
 };
 use crate::outputs::{Destination, destination_of, report_of};
 use crate::reported::{Reported, report_request};
+use crate::shown::shown_cells;
 use crate::sourced::{
     Sourced, has_source, place_request, sourced_check, sourced_guess, sourced_refute,
     sourced_verify, sourced_watch,
@@ -19,6 +20,7 @@ use std::alloc::{AllocError, Global};
 use std::convert::AsStr;
 use streams::text::decimal_between;
 use word12::{OctalFault, Word};
+use wordset::WordSet;
 
 /// How many rounds are made without `--steps`.
 const ROUNDS: u32 = 100_000;
@@ -151,6 +153,8 @@ pub enum Request<'a> {
         events: &'a str,
         /// Whether it is said what breaks a rule.
         explained: bool,
+        /// The cells whose words are shown when the run is over.
+        show: WordSet,
     },
     /// To watch a run with an operator.
     WatchSession(WatchedSession<'a>),
@@ -189,6 +193,8 @@ pub enum Refused {
     NotText,
     /// The value of `--start` is no address.
     Start(OctalFault),
+    /// The value of `--show` has no cell, or something else than addresses and ranges.
+    Show,
     /// The value of `--switches` is no word.
     Switches(OctalFault),
     /// There are events, and an operator too.
@@ -268,6 +274,7 @@ pub(crate) fn run_options(found: &ArgMatches<'_>) -> Result<RunOptions, Refused>
         rounds,
         trace: found.get_flag("trace"),
         profile: profile_of(found)?,
+        show: shown_cells(found)?,
     })
 }
 
@@ -362,6 +369,7 @@ fn watch_request<'a>(found: &ArgMatches<'a>) -> Result<Request<'a>, Refused> {
         declaration,
         events,
         explained: found.get_flag("why"),
+        show: shown_cells(found)?,
     })
 }
 

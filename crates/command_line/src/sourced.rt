@@ -6,9 +6,11 @@ use crate::outputs::{Destination, destination_of, report_of};
 use crate::requests::{
     Refused, Request, refute_options, share_standard_input, source_names, verify_options,
 };
+use crate::shown::shown_cells;
 use clap::ArgMatches;
 use options::{RefuteOptions, VerifyOptions};
 use std::alloc::Global;
+use wordset::WordSet;
 
 /// What a command does with a source and its declaration.
 #[derive(Drop, Debug)]
@@ -46,6 +48,8 @@ pub enum Task<'a> {
         events: &'a str,
         /// Whether it is said what breaks a rule.
         explained: bool,
+        /// The cells whose words are shown when the run is over.
+        show: WordSet,
     },
     /// To watch a run with an operator. The names of the tape and of the declaration are empty.
     WatchSession(WatchedSession<'a>),
@@ -269,6 +273,7 @@ pub fn sourced_watch<'a>(alloc: Global, found: &ArgMatches<'a>) -> Result<Reques
         task: Task::Watch {
             events,
             explained: found.get_flag("why"),
+            show: shown_cells(found)?,
         },
     }))
 }

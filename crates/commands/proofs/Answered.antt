@@ -23,11 +23,12 @@ use Rattle.peripherals.specs.Events.{Happens, done, read, struck, with_devices}
 use Rattle.peripherals.specs.Seen.{seen_of}
 use Rattle.machine_commands.specs.declared.follow.End.{End}
 use Rattle.machine_commands.specs.declared.follow.End.TheVariants.{Unsupported}
+use Rattle.wordset.specs.Lanes.{words}
 use Rattle.options.specs.declared.RunOptions.{RunOptions}
 use Rattle.machine_commands.specs.Follows.{Follows, Ended, Stuck, Stopped, Went, end_of, goes_on, counted}
 use Rattle.commands.specs.Laws.{Carries, RunsEnd}
 use Rattle.machine_commands.specs.Running.{IsRunOf, fresh, status_of}
-use Rattle.machine_commands.specs.Summary.{summary}
+use Rattle.machine_commands.specs.Summary.{closing}
 use Rattle.machine_commands.specs.Trace.{trace_of, traced}
 
 -- what the devices may tell is a byte, and the switches show a word
@@ -223,7 +224,7 @@ ended p ends (e ∷ es) w all tells =
 
 run_of : (options : RunOptions) (ends : Bool) (events : List Event) (image : List (Option ℕ)) (lines : List ℕ) (n : ℕ) (end : End) (x : WorldState) →
     Follows options.profile ends events (fresh image options.start) lines n end x →
-    IsRunOf options ends events image (traced options.trace lines ++ summary end x n) (status_of end)
+    IsRunOf options ends events image (traced options.trace lines ++ closing (words options.show) end x n) (status_of end)
 run_of options ends events image lines n end x follows = record {
   lines = lines;
   steps = n;
@@ -238,4 +239,4 @@ pub runs_end : RunsEnd
 runs_end options ends events image all =
     let idles : Tells (fresh image options.start).devices = record { key = omega arith; frame = omega arith; switches = omega arith } in
     let run = ended options.profile ends events (fresh image options.start) all idles in
-    (traced options.trace run.0 ++ summary run.2 run.3 run.1, status_of run.2, run_of options ends events image run.0 run.1 run.2 run.3 run.4)
+    (traced options.trace run.0 ++ closing (words options.show) run.2 run.3 run.1, status_of run.2, run_of options ends events image run.0 run.1 run.2 run.3 run.4)

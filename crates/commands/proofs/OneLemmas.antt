@@ -10,6 +10,7 @@ use Rattle.peripherals.specs.Seen.{seen_of}
 use Rattle.peripherals.proofs.OneLemmas.{one_world}
 use Rattle.machine_commands.specs.declared.follow.End.{End}
 use Rattle.machine_commands.specs.declared.follow.End.TheVariants.{Unsupported}
+use Rattle.wordset.specs.Lanes.{words}
 use Rattle.options.specs.declared.RunOptions.{RunOptions}
 use Rattle.machine_commands.specs.Follows.{Follows, Ended, Stuck, Stopped, Went, end_of, goes_on, counted}
 use Rattle.bin_tape.specs.Laws.{TapeImageIsOne}
@@ -20,7 +21,7 @@ use Rattle.machine_commands.specs.Session.{IsHeld, plan_for, printed_in, summary
 use Rattle.machine_commands.specs.Teletype.{run_of}
 use Rattle.machine_commands.specs.Typing.{first_sitting, typing}
 use Rattle.command_parts.specs.declared.status.Status.{Status}
-use Rattle.machine_commands.specs.Summary.{summary}
+use Rattle.machine_commands.specs.Summary.{closing}
 use Rattle.machine_commands.specs.Trace.{trace_of, traced}
 
 -- two runs are one
@@ -67,8 +68,8 @@ follows_one p h (e ∷ es) w lines lines' n n' end end' x x' (Went _ _ _ m _ wha
 pub runs_are_one : RunsAreOne
 runs_are_one options h events image text text' status status' a b =
     let one = follows_one options.profile h events (fresh image options.start) a.lines b.lines a.steps b.steps a.end b.end a.final b.final a.follows b.follows in (
-      a.text_is ∙ (ap (λ (l : List ℕ). traced options.trace l ++ summary a.end a.final a.steps) one.same_lines ∙ (ap (λ (e : End). traced options.trace b.lines ++ summary e a.final a.steps) one.same_end
-          ∙ (ap (λ (x : WorldState). traced options.trace b.lines ++ summary b.end x a.steps) one.same_final ∙ (ap (λ (n : ℕ). traced options.trace b.lines ++ summary b.end b.final n) one.same_steps ∙ sym b.text_is)))),
+      a.text_is ∙ (ap (λ (l : List ℕ). traced options.trace l ++ closing (words options.show) a.end a.final a.steps) one.same_lines ∙ (ap (λ (e : End). traced options.trace b.lines ++ closing (words options.show) e a.final a.steps) one.same_end
+          ∙ (ap (λ (x : WorldState). traced options.trace b.lines ++ closing (words options.show) b.end x a.steps) one.same_final ∙ (ap (λ (n : ℕ). traced options.trace b.lines ++ closing (words options.show) b.end b.final n) one.same_steps ∙ sym b.text_is)))),
       a.status_is ∙ (ap status_of one.same_end ∙ sym b.status_is),
     )
 
@@ -113,8 +114,8 @@ held_one schedule s options apart image text text' printed printed' punched punc
     let follows : Follows options.profile true a.events (fresh image options.start) b.lines b.steps b.end b.final =
     subst (λ (es : List Event). Follows options.profile true es (fresh image options.start) b.lines b.steps b.end b.final) come b.follows in
     let one = follows_one options.profile true a.events (fresh image options.start) a.lines b.lines a.steps b.steps a.end b.end a.final b.final a.follows follows in (
-      a.text_is ∙ (ap (λ (l : List ℕ). traced options.trace l ++ summary_where apart Whole a.end a.final a.steps) one.same_lines ∙ (ap (λ (e : End). traced options.trace b.lines ++ summary_where apart Whole e a.final a.steps) one.same_end
-          ∙ (ap (λ (x : WorldState). traced options.trace b.lines ++ summary_where apart Whole b.end x a.steps) one.same_final ∙ (ap (λ (n : ℕ). traced options.trace b.lines ++ summary_where apart Whole b.end b.final n) one.same_steps ∙ sym b.text_is)))),
+      a.text_is ∙ (ap (λ (l : List ℕ). traced options.trace l ++ summary_where (words options.show) apart Whole a.end a.final a.steps) one.same_lines ∙ (ap (λ (e : End). traced options.trace b.lines ++ summary_where (words options.show) apart Whole e a.final a.steps) one.same_end
+          ∙ (ap (λ (x : WorldState). traced options.trace b.lines ++ summary_where (words options.show) apart Whole b.end x a.steps) one.same_final ∙ (ap (λ (n : ℕ). traced options.trace b.lines ++ summary_where (words options.show) apart Whole b.end b.final n) one.same_steps ∙ sym b.text_is)))),
       a.printed_is ∙ (ap (λ (x : WorldState). printed_in x) one.same_final ∙ sym b.printed_is),
       a.punched_is ∙ (ap (λ (x : WorldState). x.devices.punch.output) one.same_final ∙ sym b.punched_is),
       a.status_is ∙ (ap status_of one.same_end ∙ sym b.status_is),

@@ -16,6 +16,7 @@ use Rattle.machine_commands.specs.Follows.{Ended, Stuck, Stopped, Went, end_of, 
 use Rattle.commands.specs.Laws.{Carries, CarriesAll, SessionsEnd}
 use Rattle.machine_commands.specs.Running.{fresh, status_of}
 use Rattle.machine_commands.specs.Schedule.{Comes, Over, Final, Then, Place, Whole, operating}
+use Rattle.wordset.specs.Lanes.{words}
 use Rattle.machine_commands.specs.Session.{printed_in, summary_where}
 use Rattle.machine_commands.specs.Trace.{trace_of, traced}
 use Rattle.commands.proofs.Answered.{Tells, goes, Ends}
@@ -188,7 +189,7 @@ sessions_end options plan image all =
     let idles : Tells w.devices = record { key = omega arith; frame = omega arith; switches = omega arith } in
     let run : Run options.profile plan None w = runs (left plan None + 1) options.profile plan None w (due plan w None) refl (omega arith) all idles in
     let r = run.ends in (
-      traced options.trace r.0 ++ summary_where false Whole r.2 r.3 r.1,
+      traced options.trace r.0 ++ summary_where (words options.show) false Whole r.2 r.3 r.1,
       printed_in r.3,
       r.3.devices.punch.output,
       status_of r.2,

@@ -22,6 +22,7 @@ use std::alloc::{Allocator, Global};
 use testing::Refusing;
 use testing::memory::{MemorySink, MemorySource};
 use word12::Word;
+use wordset::WordSet;
 
 /// The commands, those that say why among them.
 #[derive(Clone, Copy, PartialEq, Eq, Debug)]
@@ -109,6 +110,7 @@ fn options(trace: bool) -> RunOptions {
         rounds: 10,
         trace,
         profile: MACHINE,
+        show: WordSet::empty(),
     }
 }
 
@@ -162,7 +164,15 @@ fn promised<A: Allocator + Copy>(
     match command {
         Command::Watch => {
             let mut events = plan.source(2, b"step\n");
-            watch(alloc, &mut tape, &mut text, &mut events, false, out)
+            watch(
+                alloc,
+                &mut tape,
+                &mut text,
+                &mut events,
+                false,
+                &WordSet::empty(),
+                out,
+            )
         }
         Command::WatchSession => {
             let mut frames = plan.source(2, b"\x00\x01");

@@ -8,6 +8,7 @@ use Rattle.instruct.specs.declared.Profile.{Profile}
 use Rattle.peripherals.specs.declared.Event.{Event}
 use Rattle.peripherals.specs.Devices.{WorldState}
 use Rattle.machine_commands.specs.declared.follow.Outcome.{Outcome}
+use Rattle.wordset.specs.Lanes.{words}
 use Rattle.options.specs.declared.RunOptions.{RunOptions}
 use Rattle.command_parts.specs.declared.status.Fault.{Fault}
 use Rattle.command_parts.specs.declared.status.Fault.TheVariants.{NoMemory}
@@ -17,14 +18,14 @@ use Rattle.command_parts.specs.Faults.{IsEventsInputFault, IsTapeInputFault, fai
 use Rattle.machine_commands.specs.Follows.{Follows, IsTraceOfSome, IsTraceUpToOutput, rounds}
 use Rattle.command_parts.specs.Inputs.{HasCome, HasEvents, HasImage, Input}
 use Rattle.machine_commands.specs.Running.{IsPartOf, IsRunOf, IsTraceOfEvents, IsTraceOfRounds, IsTraceToOutput, fresh, status_of}
-use Rattle.machine_commands.specs.Summary.{summary}
+use Rattle.machine_commands.specs.Summary.{closing}
 use Rattle.machine_commands.specs.Trace.{traced}
 use Rattle.command_parts.specs.Writes.{FrontOf, Writes}
 use Rattle.machine_commands.proofs.FollowLemmas.{front_after, output_traced, ran_whole}
 
 run_of : (options : RunOptions) (ends : Bool) (events : List Event) (image : List (Option ℕ)) (p : Profile) (w x : WorldState) (outcome : Outcome) (old mid : Option (List ℕ)) →
     p ≡ options.profile → w ≡ fresh image options.start → (ran : Ran p ends options.trace events w outcome x old mid) → (status : Status) → status ≡ status_of outcome.end →
-    IsRunOf options ends events image (traced options.trace ran.lines ++ summary outcome.end x outcome.steps) status
+    IsRunOf options ends events image (traced options.trace ran.lines ++ closing (words options.show) outcome.end x outcome.steps) status
 run_of options ends events image p w x outcome old mid profile begins ran status is = record {
   lines = ran.lines;
   steps = outcome.steps;
@@ -36,21 +37,21 @@ run_of options ends events image p w x outcome old mid profile begins ran status
 }
 
 pub run_whole : (options : RunOptions) (ends : Bool) (events : List Event) (image : List (Option ℕ)) (p : Profile) (w x : WorldState) (outcome : Outcome) (status : Status) (old mid new : Option (List ℕ)) →
-    p ≡ options.profile → w ≡ fresh image options.start → Ran p ends options.trace events w outcome x old mid → Appends mid new (summary outcome.end x outcome.steps) → status ≡ status_of outcome.end →
+    p ≡ options.profile → w ≡ fresh image options.start → Ran p ends options.trace events w outcome x old mid → Appends mid new (closing (words options.show) outcome.end x outcome.steps) → status ≡ status_of outcome.end →
     Writes (λ text. IsRunOf options ends events image text status) old new
 run_whole options ends events image p w x outcome status old mid new profile begins ran written is = record {
-  text = traced options.trace ran.lines ++ summary outcome.end x outcome.steps;
+  text = traced options.trace ran.lines ++ closing (words options.show) outcome.end x outcome.steps;
   is = run_of options ends events image p w x outcome old mid profile begins ran status is;
-  written = Appends-trans old mid new (traced options.trace ran.lines) (summary outcome.end x outcome.steps) ran.wrote written;
+  written = Appends-trans old mid new (traced options.trace ran.lines) (closing (words options.show) outcome.end x outcome.steps) ran.wrote written;
 }
 
 pub run_front : (options : RunOptions) (ends : Bool) (events : List Event) (image : List (Option ℕ)) (p : Profile) (w x : WorldState) (outcome : Outcome) (old mid new : Option (List ℕ)) →
-    p ≡ options.profile → w ≡ fresh image options.start → Ran p ends options.trace events w outcome x old mid → AppendsFront mid new (summary outcome.end x outcome.steps) →
+    p ≡ options.profile → w ≡ fresh image options.start → Ran p ends options.trace events w outcome x old mid → AppendsFront mid new (closing (words options.show) outcome.end x outcome.steps) →
     FrontOf (IsPartOf options ends events image) old new
 run_front options ends events image p w x outcome old mid new profile begins ran front = record {
-  text = traced options.trace ran.lines ++ summary outcome.end x outcome.steps;
+  text = traced options.trace ran.lines ++ closing (words options.show) outcome.end x outcome.steps;
   is = inl (status_of outcome.end, run_of options ends events image p w x outcome old mid profile begins ran (status_of outcome.end) refl);
-  front = front_after old mid new (traced options.trace ran.lines) (summary outcome.end x outcome.steps) ran.wrote front;
+  front = front_after old mid new (traced options.trace ran.lines) (closing (words options.show) outcome.end x outcome.steps) ran.wrote front;
 }
 
 -- the lines of the events before one that puts out a byte, and no more

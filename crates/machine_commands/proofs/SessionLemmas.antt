@@ -24,6 +24,7 @@ use Rattle.machine_commands.specs.declared.follow.End.{End}
 use Rattle.machine_commands.specs.declared.follow.End.TheVariants.{Unsupported}
 use Rattle.machine_commands.specs.declared.follow.Outcome.{Outcome}
 use Rattle.machine_commands.specs.Follows.{Follows, Ended, Stuck, Stopped, end_of, goes_on, counted}
+use Rattle.wordset.specs.Lanes.{words}
 use Rattle.options.specs.declared.RunOptions.{RunOptions}
 use Rattle.options.specs.declared.SessionOptions.{SessionOptions}
 use Rattle.command_parts.specs.declared.status.Fault.{Fault}
@@ -645,7 +646,7 @@ typed_front told now new bytes from index byte typed within is front =
 -- What a run that came to its end leaves.
 held_whole : (comes : Profile → WorldState → Extent → List Event → Type 0) (options : RunOptions) (apart : Bool) (image : List (Option ℕ)) (p : Profile) (w x : WorldState) (outcome : Outcome) (status : Status) (old mid told tells : Option (List ℕ)) →
     p ≡ options.profile → w ≡ fresh image options.start → (done : Operated (comes p w) p options.trace w outcome x old mid told tells) → status ≡ status_of outcome.end →
-    IsHeld comes options apart Whole image (traced options.trace done.ran.lines ++ summary_where apart Whole outcome.end x outcome.steps) (printed_in x) x.devices.punch.output status
+    IsHeld comes options apart Whole image (traced options.trace done.ran.lines ++ summary_where (words options.show) apart Whole outcome.end x outcome.steps) (printed_in x) x.devices.punch.output status
 held_whole comes options apart image p w x outcome status old mid told tells profile begins done is = record {
   events = done.events;
   come = let come : comes p w Whole done.events = done.come Whole in rw (profile, begins) at come;
@@ -662,14 +663,14 @@ held_whole comes options apart image p w x outcome status old mid told tells pro
 
 pub attended : (comes : Profile → WorldState → Extent → List Event → Type 0) (options : RunOptions) (apart : Bool) (image : List (Option ℕ)) (p : Profile) (w x : WorldState) (outcome : Outcome) (status : Status) (old mid new told tells held holds : Option (List ℕ)) →
     p ≡ options.profile → w ≡ fresh image options.start → Operated (comes p w) p options.trace w outcome x old mid told tells → Appends held holds x.devices.punch.output →
-    Appends mid new (summary_where apart Whole outcome.end x outcome.steps) → status ≡ status_of outcome.end →
+    Appends mid new (summary_where (words options.show) apart Whole outcome.end x outcome.steps) → status ≡ status_of outcome.end →
     WritesAll (λ text printed punched. IsHeld comes options apart Whole image text printed punched status) (taken old told held) (taken new tells holds)
 attended comes options apart image p w x outcome status old mid new told tells held holds profile begins done punched wrote is = record {
-  text = traced options.trace done.ran.lines ++ summary_where apart Whole outcome.end x outcome.steps;
+  text = traced options.trace done.ran.lines ++ summary_where (words options.show) apart Whole outcome.end x outcome.steps;
   printed = printed_in x;
   punched = x.devices.punch.output;
   is = held_whole comes options apart image p w x outcome status old mid told tells profile begins done is;
-  to_report = Appends-trans old mid new (traced options.trace done.ran.lines) (summary_where apart Whole outcome.end x outcome.steps) done.ran.wrote wrote;
+  to_report = Appends-trans old mid new (traced options.trace done.ran.lines) (summary_where (words options.show) apart Whole outcome.end x outcome.steps) done.ran.wrote wrote;
   to_teletype = done.printed;
   to_punch = punched;
 }
@@ -677,22 +678,22 @@ attended comes options apart image p w x outcome status old mid new told tells h
 -- the summary failed
 pub attended_front : (comes : Profile → WorldState → Extent → List Event → Type 0) (options : RunOptions) (apart : Bool) (image : List (Option ℕ)) (p : Profile) (w x : WorldState) (outcome : Outcome) (reported typed unread unpunched : Bool) (old mid new told tells held holds : Option (List ℕ)) →
     p ≡ options.profile → w ≡ fresh image options.start → Operated (comes p w) p options.trace w outcome x old mid told tells → Appends held holds x.devices.punch.output →
-    AppendsFront mid new (summary_where apart Whole outcome.end x outcome.steps) → reported ≡ true → typed ≡ false → unpunched ≡ false →
+    AppendsFront mid new (summary_where (words options.show) apart Whole outcome.end x outcome.steps) → reported ≡ true → typed ≡ false → unpunched ≡ false →
     FrontsOf (IsPartOf comes options apart reported typed unread image) (failures reported typed unpunched) (taken old told held) (taken new tells holds)
 unfolding whole_front
 attended_front comes options apart image p w x outcome reported typed unread unpunched old mid new told tells held holds profile begins done punched front failed untyped is_punched = record {
   extent = Whole;
-  text = traced options.trace done.ran.lines ++ summary_where apart Whole outcome.end x outcome.steps;
+  text = traced options.trace done.ran.lines ++ summary_where (words options.show) apart Whole outcome.end x outcome.steps;
   printed = printed_in x;
   punched = x.devices.punch.output;
   is = record { summed = λ all. failed; to_there = λ no. absurd (true≢false (sym failed ∙ or_left reported typed no)); status = status_of outcome.end; is = held_whole comes options apart image p w x outcome (status_of outcome.end) old mid told tells profile begins done refl };
-  to_report = some_of old new (traced options.trace done.ran.lines ++ summary_where apart Whole outcome.end x outcome.steps) (front_after old mid new (traced options.trace done.ran.lines) (summary_where apart Whole outcome.end x outcome.steps) done.ran.wrote front);
+  to_report = some_of old new (traced options.trace done.ran.lines ++ summary_where (words options.show) apart Whole outcome.end x outcome.steps) (front_after old mid new (traced options.trace done.ran.lines) (summary_where (words options.show) apart Whole outcome.end x outcome.steps) done.ran.wrote front);
   to_teletype = whole_front told tells (printed_in x) done.printed;
   to_punch = whole_front held holds x.devices.punch.output punched;
   report_whole = λ no. absurd (true≢false (sym failed ∙ no));
   teletype_whole = λ no. done.printed;
   punch_whole = λ no. punched;
-  report_front = λ yes. front_after old mid new (traced options.trace done.ran.lines) (summary_where apart Whole outcome.end x outcome.steps) done.ran.wrote front;
+  report_front = λ yes. front_after old mid new (traced options.trace done.ran.lines) (summary_where (words options.show) apart Whole outcome.end x outcome.steps) done.ran.wrote front;
   teletype_front = λ yes. absurd (true≢false (sym yes ∙ untyped));
   punch_front = λ yes. absurd (true≢false (sym yes ∙ is_punched));
   typed_nearly = one_over (length (printed_in x));
@@ -705,10 +706,10 @@ not_whole true unread is = let e : UpToAny ≡ Whole = is in cc
 not_whole false true is = let e : UpToRead ≡ Whole = is in cc
 not_whole false false is = let e : UpToOutput ≡ Whole = is in cc
 
-no_summary : (apart failed unread : Bool) (end : End) (x : WorldState) (steps : ℕ) → summary_where apart (extent_after failed unread) end x steps ≡ []
-no_summary apart true unread end x steps = refl
-no_summary apart false true end x steps = refl
-no_summary apart false false end x steps = refl
+no_summary : (named : ℕ → Bool) (apart failed unread : Bool) (end : End) (x : WorldState) (steps : ℕ) → summary_where named apart (extent_after failed unread) end x steps ≡ []
+no_summary named apart true unread end x steps = refl
+no_summary named apart false true end x steps = refl
+no_summary named apart false false end x steps = refl
 
 pub broke_front : (comes : Profile → WorldState → Extent → List Event → Type 0) (options : RunOptions) (apart : Bool) (image : List (Option ℕ)) (p : Profile) (w x : WorldState) (reported typed unread unpunched : Bool) (old new told tells held holds : Option (List ℕ)) →
     p ≡ options.profile → w ≡ fresh image options.start → BrokeOff (comes p w) p options.trace w x reported typed unread old new told tells → AppendsSome held holds x.devices.punch.output →
@@ -731,7 +732,7 @@ broke_front comes options apart image p w x reported typed unread unpunched old 
       end = broke.end;
       final = x;
       follows = let follows : Follows p true broke.events w broke.lines broke.steps broke.end x = broke.follows in rw (profile, begins) at follows;
-      text_is = ap (λ (l : List ℕ). traced options.trace broke.lines ++ l) (sym (no_summary apart (reported || typed) unread broke.end x broke.steps));
+      text_is = ap (λ (l : List ℕ). traced options.trace broke.lines ++ l) (sym (no_summary (words options.show) apart (reported || typed) unread broke.end x broke.steps));
       printed_is = refl;
       punched_is = refl;
       status_is = refl;

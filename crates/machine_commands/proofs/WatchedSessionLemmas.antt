@@ -14,7 +14,7 @@ use Rattle.machine_commands.specs.Follows.{goes_on}
 use Rattle.machine_commands.specs.Running.{fresh}
 use Rattle.machine_commands.specs.Schedule.{Comes, Over, Final, Then, Place, Whole, operating}
 use Rattle.machine_commands.specs.Session.{comes_by}
-use Rattle.machine_commands.specs.WatchText.{IsSeen, IsTold, watched_status}
+use Rattle.machine_commands.specs.WatchText.{IsSeen, IsToldWithCells, watched_status}
 use Rattle.machine_commands.specs.WatchedSession.{IsPlanWatchedSo}
 
 -- The place of an operator with this plan, after this event.
@@ -48,10 +48,10 @@ pub gathered_all : (p : Profile) (plan now : Plan) (last : Option Event) (w x : 
 gathered_all p plan now last w x events gathered is = rw (append-nil events) at (gathered.come [] (Over (place now last) x is))
 
 -- what is seen and told of the events of a plan
-pub plan_watched : (plan : Plan) (image : List (Option ℕ)) (d : Declaration) (explained : Bool) (p : Profile) (w : WorldState) (events : List Event) (watched : Watched) (told : List ℕ) (status : Status) →
-    p ≡ d.profile → w ≡ fresh image d.start → comes_by plan p w Whole events → IsSeen image d events watched → IsTold watched explained told → status ≡ watched_status watched →
-    IsPlanWatchedSo plan image d explained told status
-plan_watched plan image d explained p w events watched told status profile begins come sees is status_is = record {
+pub plan_watched : (plan : Plan) (image : List (Option ℕ)) (d : Declaration) (explained : Bool) (named : ℕ → Bool) (p : Profile) (w : WorldState) (events : List Event) (watched : Watched) (told : List ℕ) (status : Status) →
+    p ≡ d.profile → w ≡ fresh image d.start → comes_by plan p w Whole events → IsSeen image d events watched → IsToldWithCells image d events watched explained named told → status ≡ watched_status watched →
+    IsPlanWatchedSo plan image d explained named told status
+plan_watched plan image d explained named p w events watched told status profile begins come sees is status_is = record {
   events = events;
   come = rw (profile, begins) at come;
   watched = watched;

@@ -5,12 +5,13 @@ use Rattle.peripherals.specs.Devices.{WorldState, idle}
 use Rattle.peripherals.specs.Loading.{image_of, laid}
 use Rattle.machine_commands.specs.declared.follow.End.{End}
 use Rattle.machine_commands.specs.declared.follow.End.TheVariants.{Unsupported}
+use Rattle.wordset.specs.Lanes.{words}
 use Rattle.options.specs.declared.RunOptions.{RunOptions}
 use Rattle.command_parts.specs.declared.status.Status.{Status}
 use Rattle.command_parts.specs.declared.status.Status.TheVariants.{Done, Refused}
 use Rattle.command_parts.specs.Inputs.{HasImage, HasEvents}
 use Rattle.machine_commands.specs.Follows.{Follows, IsTraceOfSome, IsTraceUpToOutput, rounds}
-use Rattle.machine_commands.specs.Summary.{summary}
+use Rattle.machine_commands.specs.Summary.{closing}
 use Rattle.machine_commands.specs.Trace.{traced}
 
 -- A machine whose registers and other cells are 0, loaded with an image, which stands at an address.
@@ -26,15 +27,15 @@ abbrev pub status_of : End → Status
 status_of (Unsupported at) = Refused
 status_of _ = Done
 
--- From an image these events lead to an end: the text is the trace, if one is asked for, and the summary. Without a trace
--- it is the summary.
+-- From an image these events lead to an end: the text is the trace, if one is asked for, the summary, and the cells to be
+-- shown, each with its word in the world in which the run ended.
 pub record IsRunOf (options : RunOptions) (ends_at_halt : Bool) (events : List Event) (image : List (Option ℕ)) (text : List ℕ) (status : Status) : Type 0 where
   pub lines : List ℕ
   pub steps : ℕ
   pub end : End
   pub final : WorldState
   pub follows : Follows options.profile ends_at_halt events (fresh image options.start) lines steps end final
-  pub text_is : text ≡ traced options.trace lines ++ summary end final steps
+  pub text_is : text ≡ traced options.trace lines ++ closing (words options.show) end final steps
   pub status_is : status ≡ status_of end
 
 -- A trace is asked for, and the text is that of the run of some first events.

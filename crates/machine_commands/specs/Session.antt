@@ -8,6 +8,7 @@ use Rattle.peripherals.specs.Devices.{WorldState}
 use Rattle.peripherals.specs.Operator.{Plan, struck_as}
 use Rattle.machine_commands.specs.declared.follow.End.{End}
 use Rattle.machine_commands.specs.declared.follow.Outcome.{Outcome}
+use Rattle.wordset.specs.Lanes.{words}
 use Rattle.options.specs.declared.RunOptions.{RunOptions}
 use Rattle.options.specs.declared.SessionOptions.{SessionOptions}
 use Rattle.command_parts.specs.declared.status.Fault.{Fault}
@@ -20,7 +21,7 @@ use Rattle.machine_commands.specs.Follows.{Follows}
 use Rattle.command_parts.specs.Inputs.{AreFirst, HasImage}
 use Rattle.machine_commands.specs.Running.{fresh, status_of}
 use Rattle.machine_commands.specs.Schedule.{Comes, Extent, Whole, UpToOutput, UpToRead, UpToAny, first_place, operating}
-use Rattle.machine_commands.specs.Summary.{summary}
+use Rattle.machine_commands.specs.Summary.{closing}
 use Rattle.machine_commands.specs.Trace.{traced}
 
 -- The character of a byte on the teletype: channel 8 is dropped.
@@ -87,15 +88,15 @@ IsHeldFault fault = IsRunFault fault
 abbrev pub parting : Bool → List ℕ → List ℕ
 parting apart printed = if apart && leaves_open printed then 10 ∷ [] else []
 
--- The summary stands after a whole run, behind the end of an open line where that is wanted.
-abbrev pub summary_where : Bool → Extent → End → WorldState → ℕ → List ℕ
-summary_where apart Whole end w steps = parting apart (printed_in w) ++ summary end w steps
-summary_where apart UpToOutput end w steps = []
-summary_where apart UpToRead end w steps = []
-summary_where apart UpToAny end w steps = []
+-- The summary and the cells to be shown stand after a whole run, behind the end of an open line where that is wanted.
+abbrev pub summary_where : (ℕ → Bool) → Bool → Extent → End → WorldState → ℕ → List ℕ
+summary_where named apart Whole end w steps = parting apart (printed_in w) ++ closing named end w steps
+summary_where named apart UpToOutput end w steps = []
+summary_where named apart UpToRead end w steps = []
+summary_where named apart UpToAny end w steps = []
 
--- From an image the events that come lead to an end. The text is the trace, if one is asked for, and the summary; and these are
--- the characters printed and the bytes punched. Where the run isn't whole, this is what its first events leave.
+-- From an image the events that come lead to an end. The text is the trace, if one is asked for, the summary, and the cells to be
+-- shown, each with its word in the world in which the run ended; and these are the characters printed and the bytes punched. Where the run isn't whole, this is what its first events leave.
 pub record IsHeld (comes : Profile → WorldState → Extent → List Event → Type 0) (options : RunOptions) (apart : Bool) (extent : Extent) (image : List (Option ℕ)) (text printed punched : List ℕ) (status : Status) : Type 0 where
   pub events : List Event
   pub come : comes options.profile (fresh image options.start) extent events
@@ -104,7 +105,7 @@ pub record IsHeld (comes : Profile → WorldState → Extent → List Event → 
   pub end : End
   pub final : WorldState
   pub follows : Follows options.profile true events (fresh image options.start) lines steps end final
-  pub text_is : text ≡ traced options.trace lines ++ summary_where apart extent end final steps
+  pub text_is : text ≡ traced options.trace lines ++ summary_where (words options.show) apart extent end final steps
   pub printed_is : printed ≡ printed_in final
   pub punched_is : punched ≡ final.devices.punch.output
   pub status_is : status ≡ status_of end

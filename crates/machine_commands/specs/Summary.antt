@@ -1,7 +1,9 @@
 -- The summary of a run.
-use Rattle.std.specs.Prelude.{ℕ, ◌+◌, ◌/◌, ◌%◌, List, [], ◌∷◌, ◌++◌, codes, decimal}
+use Rattle.std.specs.Prelude.{ℕ, Bool, true, false, ◌+◌, ◌/◌, ◌%◌, List, [], ◌∷◌, ◌++◌, codes, decimal}
+use Rattle.std.proofs.Common.{zero, suc}
 use Rattle.word12.specs.Words.{octal_text}
 use Rattle.command_parts.specs.LinkText.{link_text}
+use Rattle.processor.specs.Cells.{Cells}
 use Rattle.processor.specs.Machine.{State}
 use Rattle.peripherals.specs.Devices.{WorldState}
 use Rattle.machine_commands.specs.declared.follow.End.{End}
@@ -43,3 +45,21 @@ abbrev pub summary : End → WorldState → ℕ → List ℕ
 summary end w steps =
     state_line end w steps ++ output_line (codes "PRINTED") w.devices.printer.output ++
     output_line (codes "PUNCHED") w.devices.punch.output
+
+-- The line of a cell, if it is named: its address and its word. A cell that isn't has no line.
+abbrev pub cell_line : Bool → ℕ → ℕ → List ℕ
+cell_line true at word = octal_text at ++ codes " " ++ octal_text word ++ codes "\n"
+cell_line false at word = []
+
+-- The lines of the named cells below an address, rising.
+unfoldable pub cells_below : (ℕ → Bool) → Cells → ℕ → List ℕ
+cells_below named memory zero = []
+cells_below named memory (suc at) = cells_below named memory at ++ cell_line (named at) at (memory at)
+
+-- The lines of all cells that are named, rising: each with its word in a world.
+abbrev pub cells_text : (ℕ → Bool) → WorldState → List ℕ
+cells_text named w = cells_below named w.state.memory 4096
+
+-- What stands at the end of a run that ended so in this world: the summary, and behind it the named cells with their words.
+abbrev pub closing : (ℕ → Bool) → End → WorldState → ℕ → List ℕ
+closing named end w steps = summary end w steps ++ cells_text named w

@@ -19,7 +19,7 @@ AreAll had all = IfSome had (λ bytes. all ≡ bytes)
 
 -- How the tape is run: from the start and on the machine of the session, without a trace. Rounds aren't counted.
 abbrev pub run_of : TeletypeOptions → RunOptions
-run_of options = record { start = options.start; rounds = 0; trace = false; profile = options.profile }
+run_of options = record { start = options.start; rounds = 0; trace = false; profile = options.profile; show = options.show }
 
 -- In a session with these frames and these bytes of keys these events come, each where it is due.
 abbrev pub types_by : TeletypeOptions → List ℕ → List ℕ → Profile → WorldState → Extent → List Event → Type 0

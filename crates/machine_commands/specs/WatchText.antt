@@ -1,6 +1,8 @@
 -- What `watch` writes.
-use Rattle.std.specs.Prelude.{ℕ, ◌≡◌, ◌++◌, Bool, false, codes, decimal, List, [], Option}
+use Rattle.std.specs.Prelude.{ℕ, ◌≡◌, ◌++◌, Bool, true, false, take, codes, decimal, List, [], Option}
+use Rattle.wordset.specs.Words.{has_some}
 use Rattle.peripherals.specs.declared.Event.{Event}
+use Rattle.peripherals.specs.Devices.{WorldState}
 use Rattle.peripherals.specs.Loading.{image_of}
 use Rattle.declaration.specs.Declaration.{Declaration}
 use Rattle.policy.specs.declared.rules.Rule.{Rule}
@@ -10,7 +12,10 @@ use Rattle.policy.specs.Watching.{IsClean, BreaksAt, number_of}
 use Rattle.command_parts.specs.declared.status.Status.{Status}
 use Rattle.command_parts.specs.declared.status.Status.TheVariants.{Done, Refused}
 use Rattle.command_parts.specs.Inputs.{HasImage, HasEvents, HasDeclaration}
+use Rattle.machine_commands.specs.declared.follow.End.{End}
+use Rattle.machine_commands.specs.Follows.{Follows}
 use Rattle.machine_commands.specs.Running.{fresh}
+use Rattle.machine_commands.specs.Summary.{cells_text}
 
 -- The line for event n, which breaks rule r.
 abbrev pub broken_text : ℕ → Rule → List ℕ
@@ -32,6 +37,27 @@ abbrev pub IsSeen : List (Option ℕ) → Declaration → List Event → Watched
 IsSeen image d events Clean = IsClean (image_of image) d events (fresh image d.start)
 IsSeen image d events (Broken n r) = BreaksAt (image_of image) d events (fresh image d.start) n r
 
+-- The events of a watched run that happen: all of them, or those before the one that breaks a rule.
+abbrev pub happening : Watched → List Event → List Event
+happening Clean events = events
+happening (Broken n r) events = take n events
+
+-- On the declared machine and from the declared start these events lead to a world, and these are the lines of the named cells,
+-- each with its word in that world.
+pub record IsLeft (named : ℕ → Bool) (image : List (Option ℕ)) (d : Declaration) (events : List Event) (shown : List ℕ) : Type 0 where
+  pub lines : List ℕ
+  pub steps : ℕ
+  pub end : End
+  pub final : WorldState
+  pub follows : Follows d.profile false events (fresh image d.start) lines steps end final
+  pub shown_is : shown ≡ cells_text named final
+
+-- What is shown of the cells when a watched run is over: each that is named, with its word after the events that happen; and
+-- nothing where none is named.
+pub record IsShown (named : ℕ → Bool) (image : List (Option ℕ)) (d : Declaration) (events : List Event) (watched : Watched) (shown : List ℕ) : Type 0 where
+  pub none : has_some named ≡ false → shown ≡ []
+  pub some : has_some named ≡ true → IsLeft named image d (happening watched events) shown
+
 -- What is told of a watched run: the line of what is seen, and behind it, only where it is to be explained, some lines more,
 -- of which nothing is said here.
 pub record IsTold (watched : Watched) (explained : Bool) (told : List ℕ) : Type 0 where
@@ -39,8 +65,16 @@ pub record IsTold (watched : Watched) (explained : Bool) (told : List ℕ) : Typ
   pub plain : explained ≡ false → why ≡ []
   pub told_is : told ≡ watched_text watched ++ why
 
+-- What is told of a watched run, and behind it the cells that are named.
+pub record IsToldWithCells (image : List (Option ℕ)) (d : Declaration) (events : List Event) (watched : Watched) (explained : Bool) (named : ℕ → Bool) (told : List ℕ) : Type 0 where
+  pub seen : List ℕ
+  pub is : IsTold watched explained seen
+  pub shown : List ℕ
+  pub shows : IsShown named image d events watched shown
+  pub told_is : told ≡ seen ++ shown
+
 -- The frames are a tape, the texts a declaration and a list of events; this is told of what is seen of them.
-pub record IsWatchedSo (frames text list : Option (List ℕ)) (explained : Bool) (told : List ℕ) (status : Status) : Type 0 where
+pub record IsWatchedSo (frames text list : Option (List ℕ)) (explained : Bool) (named : ℕ → Bool) (told : List ℕ) (status : Status) : Type 0 where
   pub image : List (Option ℕ)
   pub tape : HasImage frames image
   pub declaration : Declaration
@@ -49,10 +83,10 @@ pub record IsWatchedSo (frames text list : Option (List ℕ)) (explained : Bool)
   pub spells : HasEvents list events
   pub watched : Watched
   pub sees : IsSeen image declaration events watched
-  pub is : IsTold watched explained told
+  pub is : IsToldWithCells image declaration events watched explained named told
   pub status_is : status ≡ watched_status watched
 
 -- The frames are a tape, the texts a declaration and a list of events, and this is told of them, whichever status that
 -- has.
-abbrev pub IsWatched : Option (List ℕ) → Option (List ℕ) → Option (List ℕ) → Bool → List ℕ → Type 0
-IsWatched frames text list explained told = (status : Status) × IsWatchedSo frames text list explained told status
+abbrev pub IsWatched : Option (List ℕ) → Option (List ℕ) → Option (List ℕ) → Bool → (ℕ → Bool) → List ℕ → Type 0
+IsWatched frames text list explained named told = (status : Status) × IsWatchedSo frames text list explained named told status

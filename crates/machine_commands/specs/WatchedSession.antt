@@ -1,5 +1,6 @@
 -- What `watch` writes of a run with an operator.
 use Rattle.std.specs.Prelude.{ℕ, ◌≡◌, ◌⊎◌, Bool, List, Option}
+use Rattle.wordset.specs.Lanes.{words}
 use Rattle.peripherals.specs.declared.Event.{Event}
 use Rattle.peripherals.specs.Operator.{Plan}
 use Rattle.declaration.specs.Declaration.{Declaration}
@@ -12,21 +13,21 @@ use Rattle.command_parts.specs.Inputs.{AreFirst, HasDeclaration, HasImage, Input
 use Rattle.machine_commands.specs.Running.{fresh}
 use Rattle.machine_commands.specs.Schedule.{Whole}
 use Rattle.machine_commands.specs.Session.{comes_by, plan_for}
-use Rattle.machine_commands.specs.WatchText.{IsSeen, IsTold, watched_status}
+use Rattle.machine_commands.specs.WatchText.{IsSeen, IsToldWithCells, watched_status}
 
 -- From an image, on the declared machine and from the declared start, all the events of this plan come, as they do in a run
 -- with an operator; this is told of what is seen of the declared run of these events.
-pub record IsPlanWatchedSo (plan : Plan) (image : List (Option ℕ)) (d : Declaration) (explained : Bool) (told : List ℕ) (status : Status) : Type 0 where
+pub record IsPlanWatchedSo (plan : Plan) (image : List (Option ℕ)) (d : Declaration) (explained : Bool) (named : ℕ → Bool) (told : List ℕ) (status : Status) : Type 0 where
   pub events : List Event
   pub come : comes_by plan d.profile (fresh image d.start) Whole events
   pub watched : Watched
   pub sees : IsSeen image d events watched
-  pub is : IsTold watched explained told
+  pub is : IsToldWithCells image d events watched explained named told
   pub status_is : status ≡ watched_status watched
 
 -- The same, whichever status that has.
-abbrev pub IsPlanWatched : Plan → List (Option ℕ) → Declaration → Bool → List ℕ → Type 0
-IsPlanWatched plan image d explained told = (status : Status) × IsPlanWatchedSo plan image d explained told status
+abbrev pub IsPlanWatched : Plan → List (Option ℕ) → Declaration → Bool → (ℕ → Bool) → List ℕ → Type 0
+IsPlanWatched plan image d explained named told = (status : Status) × IsPlanWatchedSo plan image d explained named told status
 
 -- The frames are a tape and the text is that of a declaration; this is told of the run that an operator brings, with the frames
 -- of a reader and the bytes of keys, as many of each as there are rounds: no more can come.
@@ -39,7 +40,7 @@ pub record IsSessionWatchedSo (options : SessionOptions) (tape text reader keys 
   pub frames_are : AreFirst options.run.rounds reader frames
   pub bytes : List ℕ
   pub bytes_are : AreFirst options.run.rounds keys bytes
-  pub watched : IsPlanWatchedSo (plan_for options frames bytes) image declaration explained told status
+  pub watched : IsPlanWatchedSo (plan_for options frames bytes) image declaration explained (words options.run.show) told status
 
 -- The same, whichever status that has.
 abbrev pub IsSessionWatched : SessionOptions → Option (List ℕ) → Option (List ℕ) → Option (List ℕ) → Option (List ℕ) → Bool → List ℕ → Type 0

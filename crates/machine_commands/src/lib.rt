@@ -8,6 +8,7 @@ pub mod refuting;
 pub mod running;
 mod schedule;
 pub mod session;
+mod shown;
 pub mod summary;
 pub mod teletype;
 mod trace;

@@ -33,8 +33,8 @@ pub(crate) fn status_of(end: End) -> Status
     }
 }
 
-/// Lets an image's machine go through a course, and writes the trace, if it is asked for, and the
-/// summary.
+/// Lets an image's machine go through a course, and writes the trace, if it is asked for, the summary,
+/// and the cells that are to be shown.
 fn run_course<A: Allocator + Copy, W: ByteSink>(
     alloc: A,
     image: &Image,
@@ -60,14 +60,14 @@ fn run_course<A: Allocator + Copy, W: ByteSink>(
 {
     let mut world = World::load(alloc, image, options.start, &Start::zero(), options.profile);
     let outcome = follow(&mut world, out, options.trace, course)?;
-    let text = summary_of(alloc, &outcome, &world)?;
+    let text = summary_of(alloc, &outcome, &world, &options.show)?;
     put(out, &text)?;
     Ok(status_of(outcome.end))
 }
 
 /// Runs a tape in rounds of an instruction, a completion of the printer and one of the punch, and
-/// writes the summary, and before it the trace if it is asked for. The run ends early at a halt and
-/// at an unsupported word; the latter's status is `Refused`.
+/// writes the summary, before it the trace if it is asked for, and behind it the cells that are to be
+/// shown. The run ends early at a halt and at an unsupported word; the latter's status is `Refused`.
 ///
 /// # Errors
 ///

@@ -221,7 +221,7 @@ pub(crate) fn attend<A: Allocator + Copy, S: Scheduler, W: ByteSink, T: ByteSink
     let ran = operate(&mut world, schedule, options.trace, report, teletype);
     put(punch, world.punched())?;
     let outcome = ran?;
-    let text = closing_of(alloc, &outcome, &world, apart)?;
+    let text = closing_of(alloc, &outcome, &world, apart, &options.show)?;
     put(report, &text)?;
     Ok(status_of(outcome.end))
 }

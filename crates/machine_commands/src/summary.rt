@@ -1,20 +1,23 @@
 //! The summary of a run.
 
 ghost use Rattle.std.specs.Prelude.{ℕ, ◌≡◌, ◌≤◌, false, ◌++◌, codes, decimal, is_err, map, OnOk, IfOk};
+ghost use Rattle.wordset.specs.Lanes.{words};
+ghost use Rattle.processor.specs.Cells.{cell_of};
 ghost use Rattle.processor.specs.Steps.{state_of};
 ghost use Rattle.peripherals.specs.World.{view};
 ghost use Rattle.command_parts.specs.LinkText.{link_text};
 ghost use Rattle.machine_commands.specs.Schedule.{Whole};
 ghost use Rattle.machine_commands.specs.Session.{character, leaves_open, parting, summary_where};
-ghost use Rattle.machine_commands.specs.Summary.{end_text, registers_text, state_line, byte_text, bytes_text, output_line, summary};
+ghost use Rattle.machine_commands.specs.Summary.{end_text, registers_text, state_line, byte_text, bytes_text, output_line, summary, cell_line, cells_below, closing};
 
 use crate::follow::{End, Outcome};
 use command_parts::text::{push_place, push_word};
 use itoa::Buffer;
 use peripherals::World;
-use processor::Cpu;
+use processor::{Cpu, Memory};
 use std::alloc::{AllocError, Allocator};
-use word12::Link;
+use word12::{Link, Word};
+use wordset::WordSet;
 
 /// Adds how a run ended, and where.
 fn push_end<A: Allocator>(text: &mut Vec<u8, A>, end: End) -> Result<(), AllocError>
@@ -124,17 +127,67 @@ fn push_summary<A: Allocator, B: Allocator>(
     push_output(text, b"PUNCHED", world.punched())
 }
 
-/// The summary of a run.
+/// Adds the line of a cell, if it is to be shown.
+fn push_cell<A: Allocator>(
+    text: &mut Vec<u8, A>,
+    show: &WordSet,
+    memory: &Memory,
+    at: Word,
+) -> Result<(), AllocError>
+    ensures { OnOk result (text.new.items ≡ text.old.items
+        ++ cell_line (words show.now at) at (cell_of memory.now at)) }
+{
+    if !show.contains(at) {
+        return Ok(());
+    }
+    push_word(text, at)?;
+    text.extend_from_slice(b" ")?;
+    push_word(text, memory.get(at))?;
+    text.extend_from_slice(b"\n")
+}
+
+/// Adds the lines of the cells that are to be shown, by rising address.
+#[tactic(auto, using(crate::proofs::SummaryLemmas::cells_steps))]
+pub(crate) fn push_cells<A: Allocator>(
+    text: &mut Vec<u8, A>,
+    show: &WordSet,
+    memory: &Memory,
+) -> Result<(), AllocError>
+    ensures { OnOk result (text.new.items ≡ text.old.items
+        ++ cells_below (words show.now) (cell_of memory.now) 4096) }
+{
+    for index in 0..4096 {
+        push_cell(text, show, memory, Word::from_index(index))?;
+    }
+    Ok(())
+}
+
+/// Adds the summary of a run, and behind it the cells that are to be shown.
+fn push_closing<A: Allocator, B: Allocator>(
+    text: &mut Vec<u8, A>,
+    outcome: &Outcome,
+    world: &World<B>,
+    show: &WordSet,
+) -> Result<(), AllocError>
+    ensures { OnOk result (text.new.items ≡ text.old.items
+        ++ closing (words show.now) outcome.now.end (view world.now) outcome.now.steps) }
+{
+    push_summary(text, outcome, world)?;
+    push_cells(text, show, &world.cpu().memory)
+}
+
+/// The summary of a run, and behind it the cells that are to be shown.
 pub fn summary_of<A: Allocator, B: Allocator>(
     alloc: A,
     outcome: &Outcome,
     world: &World<B>,
+    show: &WordSet,
 ) -> Result<Vec<u8, A>, AllocError>
-    ensures { IfOk result (λ text.
-        text.items ≡ summary outcome.now.end (view world.now) outcome.now.steps) }
+    ensures { IfOk result (λ text. text.items
+        ≡ closing (words show.now) outcome.now.end (view world.now) outcome.now.steps) }
 {
     let mut text = Vec::new(alloc);
-    push_summary(&mut text, outcome, world)?;
+    push_closing(&mut text, outcome, world, show)?;
     Ok(text)
 }
 
@@ -159,18 +212,20 @@ fn parting(apart: bool, printed: &[u8]) -> &'static [u8]
     if leaves_open(printed) { b"\n" } else { b"" }
 }
 
-/// The end of a report: the summary, on a line of its own where it is to stand apart.
+/// The end of a report: the summary, on a line of its own where it is to stand apart, and the cells that
+/// are to be shown.
 pub(crate) fn closing_of<A: Allocator, B: Allocator>(
     alloc: A,
     outcome: &Outcome,
     world: &World<B>,
     apart: bool,
+    show: &WordSet,
 ) -> Result<Vec<u8, A>, AllocError>
-    ensures { IfOk result (λ text. text.items
-        ≡ summary_where apart Whole outcome.now.end (view world.now) outcome.now.steps) }
+    ensures { IfOk result (λ text. text.items ≡ summary_where (words show.now) apart Whole
+        outcome.now.end (view world.now) outcome.now.steps) }
 {
     let mut text = Vec::new(alloc);
     text.extend_from_slice(parting(apart, world.printed()))?;
-    push_summary(&mut text, outcome, world)?;
+    push_closing(&mut text, outcome, world, show)?;
     Ok(text)
 }

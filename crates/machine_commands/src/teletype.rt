@@ -26,6 +26,7 @@ fn run_of(options: TeletypeOptions) -> RunOptions
         rounds: 0,
         trace: false,
         profile: options.profile,
+        show: options.show,
     }
 }
 

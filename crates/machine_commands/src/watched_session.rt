@@ -2,6 +2,7 @@
 
 ghost use Rattle.std.specs.Prelude.{◌≡◌, ◌||◌, ◌⊎◌, ◌++◌, ◌∷◌, [], false, true, not, None, IfOk, IfErr, OnOk, OnErr};
 ghost use Rattle.streams.specs.Bytes.{Gave};
+ghost use Rattle.wordset.specs.Lanes.{words};
 ghost use Rattle.declaration.specs.Kept.{meaning};
 ghost use Rattle.peripherals.specs.Operator.{plan_of};
 ghost use Rattle.peripherals.specs.World.{view, profile_of};
@@ -14,7 +15,7 @@ ghost use Rattle.machine_commands.specs.Session.{comes_by};
 ghost use Rattle.machine_commands.specs.WatchedSession.{IsPlanWatched, IsPlanWatchedSo, IsSessionWatched, IsSessionWatchedSo, IsWatchedSessionFault};
 
 use crate::progress::Offered;
-use crate::watching::{told_of, watched_status};
+use crate::watching::{told_with_cells, watched_status};
 use bin_tape::Image;
 use command_parts::inputs::{bytes_from, declaration_from, tape_from};
 use command_parts::status::{Fault, Status};
@@ -23,6 +24,7 @@ pub use options::SessionOptions;
 use peripherals::{Event, NoMemory, Operator, Seen, Start, World};
 use std::alloc::Allocator;
 use streams::{ByteSink, ByteSource, put};
+use wordset::WordSet;
 
 /// Adds an event.
 fn keep<A: Allocator>(events: &mut Vec<Event, A>, event: &Event) -> Result<(), NoMemory>
@@ -68,17 +70,19 @@ fn watch_operator<A: Allocator + Copy, D: Allocator, W: ByteSink>(
     operator: &mut Operator<'_>,
     offered: Offered,
     explained: bool,
+    show: &WordSet,
     out: &mut W,
 ) -> Result<Status, Fault>
     requires writable { W.mark out.old ≡ false }
     requires first { operator.old.last ≡ None }
     ensures watched { IfOk result (λ status. Writes
         (λ told. IsPlanWatchedSo (plan_of operator.old) image.now (meaning declaration.now)
-        explained told status)
+        explained (words show.now) told status)
         (W.taken out.old) (W.taken out.new)) }
     ensures faults { IfErr result IsRunFault }
     ensures front { W.mark out.new ≡ true → FrontOf
-        (IsPlanWatched (plan_of operator.old) image.now (meaning declaration.now) explained)
+        (IsPlanWatched (plan_of operator.old) image.now (meaning declaration.now) explained
+        (words show.now))
         (W.taken out.old) (W.taken out.new) }
     ensures nothing { OnErr result (W.mark out.new ≡ false → W.taken out.new ≡ W.taken out.old) }
     ensures marks { W.mark out.new ≡ fails_to_write result }
@@ -93,7 +97,7 @@ fn watch_operator<A: Allocator + Copy, D: Allocator, W: ByteSink>(
     );
     let happened = events_of(alloc, &mut world, operator)?;
     let watched = policy::watch(alloc, image, declaration, &start, &happened)?;
-    let text = told_of(
+    let text = told_with_cells(
         alloc,
         image,
         declaration,
@@ -101,6 +105,7 @@ fn watch_operator<A: Allocator + Copy, D: Allocator, W: ByteSink>(
         offered,
         watched,
         explained,
+        show,
     )?;
     put(out, &text)?;
     Ok(watched_status(watched))
@@ -210,6 +215,7 @@ pub fn watch_session<
         &mut operator,
         offered,
         explained,
+        &options.run.show,
         out,
     )
 }

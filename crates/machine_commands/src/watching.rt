@@ -1,13 +1,16 @@
 //! The command that watches a run.
 
 ghost use Rattle.std.specs.Prelude.{◌≡◌, ◌||◌, ◌⊎◌, false, true, Err, [], IfOk, IfErr, OnErr};
+ghost use Rattle.wordset.specs.Lanes.{words};
+ghost use Rattle.declaration.specs.Kept.{meaning};
 ghost use Rattle.command_parts.specs.Faults.{IsWatchFault, is_fault_of_declaration, is_fault_of_tape, fails_to_read, fails_to_write};
 ghost use Rattle.command_parts.specs.Inputs.{HasCome, IsGoodDeclaration, IsGoodEvents, IsGoodTape, TakesAtMost, TakesTape, input};
-ghost use Rattle.machine_commands.specs.WatchText.{IsTold, IsWatched, IsWatchedSo, broken_text, watched_status, watched_text};
+ghost use Rattle.machine_commands.specs.WatchText.{IsTold, IsToldWithCells, IsWatched, IsWatchedSo, broken_text, watched_status, watched_text};
 ghost use Rattle.command_parts.specs.Writes.{FrontOf, Writes};
 ghost use Rattle.command_parts.specs.declared.status.Fault.TheVariants.{NoMemory as Wanted};
 
 use crate::progress::{Offered, offered_by, progress_lines};
+use crate::shown::shown_of;
 use bin_tape::Image;
 use command_parts::inputs::{declaration_from, events_from, tape_from};
 use command_parts::status::{Fault, Status};
@@ -18,6 +21,7 @@ use policy::{Rule, Watched};
 use std::alloc::{AllocError, Allocator};
 use streams::{ByteSink, ByteSource, put};
 use watch_texts::breach_lines;
+use wordset::WordSet;
 
 /// The line for a broken rule.
 fn broken_line<A: Allocator>(alloc: A, event: usize, rule: Rule) -> Result<Vec<u8, A>, AllocError>
@@ -92,6 +96,34 @@ pub(crate) fn told_of<A: Allocator + Copy, D: Allocator>(
     Ok(text)
 }
 
+/// What is told of a watched run, and behind it the cells that are to be shown.
+pub(crate) fn told_with_cells<A: Allocator + Copy, D: Allocator>(
+    alloc: A,
+    image: &Image,
+    declaration: &Declaration<D>,
+    events: &[Event],
+    offered: Offered,
+    watched: Watched,
+    explained: bool,
+    show: &WordSet,
+) -> Result<Vec<u8, A>, NoMemory>
+    ensures { IfOk result (λ text. IsToldWithCells image.now (meaning declaration.now) events.now
+        watched explained (words show.now) text.items) }
+{
+    let mut text = told_of(
+        alloc,
+        image,
+        declaration,
+        events,
+        offered,
+        watched,
+        explained,
+    )?;
+    let shown = shown_of(alloc, image, declaration, events, watched, show)?;
+    text.extend_from_slice(&shown)?;
+    Ok(text)
+}
+
 /// A run that breaks a rule is refused.
 pub(crate) fn watched_status(watched: Watched) -> Status
     ensures { result ≡ watched_status watched }
@@ -106,7 +138,8 @@ pub(crate) fn watched_status(watched: Watched) -> Status
 /// aren't on the tape 0, and writes whether each of its steps is legal, or which event is the first
 /// that isn't and the least rule that it breaks; then the status is `Refused`. Where it is to be
 /// explained, lines follow that say how far the run came, or what that step is about to do; they are
-/// tested and not proved.
+/// tested and not proved. Behind them stand the cells that are to be shown, with their words when the run
+/// was over: before a step that breaks a rule.
 ///
 /// # Errors
 ///
@@ -120,6 +153,7 @@ pub fn watch<A: Allocator + Copy, R: ByteSource, D: ByteSource, E: ByteSource, W
     declaration: &mut D,
     list: &mut E,
     explained: bool,
+    show: &WordSet,
     out: &mut W,
 ) -> Result<Status, Fault>
     requires readable { R.mark tape.old ≡ false }
@@ -129,7 +163,7 @@ pub fn watch<A: Allocator + Copy, R: ByteSource, D: ByteSource, E: ByteSource, W
     // What is written is what is seen of the run.
     ensures watched { IfOk result (λ status. Writes
         (λ told. IsWatchedSo (R.remaining tape.old) (D.remaining declaration.old)
-        (E.remaining list.old) explained told status)
+        (E.remaining list.old) explained (words show.now) told status)
         (W.taken out.old) (W.taken out.new)) }
     // A fault is that of the first input that has one.
     ensures faults { IfErr result (IsWatchFault
@@ -139,7 +173,7 @@ pub fn watch<A: Allocator + Copy, R: ByteSource, D: ByteSource, E: ByteSource, W
     // Where a write failed, a front of that went out,
     ensures front { W.mark out.new ≡ true → FrontOf
         (IsWatched (R.remaining tape.old) (D.remaining declaration.old) (E.remaining list.old)
-        explained)
+        explained (words show.now))
         (W.taken out.old) (W.taken out.new) }
     // and any other fault leaves the output as it was.
     ensures nothing { OnErr result (W.mark out.new ≡ false → W.taken out.new ≡ W.taken out.old) }
@@ -174,7 +208,7 @@ pub fn watch<A: Allocator + Copy, R: ByteSource, D: ByteSource, E: ByteSource, W
     let promised = declaration_from(alloc, declaration)?;
     let happened = events_from(alloc, list)?;
     let watched = policy::watch(alloc, &image, &promised, &Start::zero(), &happened)?;
-    let text = told_of(
+    let text = told_with_cells(
         alloc,
         &image,
         &promised,
@@ -182,6 +216,7 @@ pub fn watch<A: Allocator + Copy, R: ByteSource, D: ByteSource, E: ByteSource, W
         offered_by(&happened),
         watched,
         explained,
+        show,
     )?;
     put(out, &text)?;
     Ok(watched_status(watched))

@@ -3,6 +3,7 @@
 
 use instruct::Profile;
 use word12::Word;
+use wordset::WordSet;
 
 /// How a tape is run.
 #[derive(Clone, Copy, PartialEq, Eq, Debug)]
@@ -15,6 +16,8 @@ pub struct RunOptions {
     pub trace: bool,
     /// Whose instructions the machine has.
     pub profile: Profile,
+    /// The cells whose words are shown when the run is over.
+    pub show: WordSet,
 }
 
 /// How a tape is run with an operator.
@@ -82,4 +85,6 @@ pub struct TeletypeOptions {
     pub switches: Option<Word>,
     /// How the bytes of keys are struck.
     pub manner: Manner,
+    /// The cells whose words are shown when the session is over.
+    pub show: WordSet,
 }

@@ -29,6 +29,7 @@ use std::rt::Files;
 use streams::put;
 use streams::standard::{Reads, Writes};
 use word12::Word;
+use wordset::WordSet;
 
 /// A tape in memory.
 fn frames_of(numbered: &Numbered<Global>) -> Reads<&[u8]>
@@ -136,6 +137,7 @@ fn watch_numbered<R: Files + Input + Print>(
     numbered: &Numbered<Global>,
     events: &str,
     explained: bool,
+    show: &WordSet,
 ) -> Result<Status, Fault> {
     let mut list = open_input(rt, events)?;
     let mut out = Writes::new(io::writer(rt));
@@ -145,6 +147,7 @@ fn watch_numbered<R: Files + Input + Print>(
         &mut promise_of(numbered),
         &mut list,
         explained,
+        show,
         &mut out,
     )
 }
@@ -288,9 +291,11 @@ fn done_with<R: Files + Input + Print + Eprint>(
             certificate,
             explained,
         } => check_program(rt, alloc, program, certificate, *explained),
-        Task::Watch { events, explained } => {
-            watch_numbered(rt, alloc, numbered, events, *explained)
-        }
+        Task::Watch {
+            events,
+            explained,
+            show,
+        } => watch_numbered(rt, alloc, numbered, events, *explained, show),
         Task::WatchSession(session) => watch_session_numbered(rt, alloc, numbered, session),
         Task::Guess {
             out,

@@ -34,6 +34,7 @@ use std::{env, io};
 use streams::put;
 use streams::standard::Writes;
 use word12::Word;
+use wordset::WordSet;
 
 /// The arguments that stand for none at all.
 static RUN_STANDARD_INPUT: [&str; 3] = ["pdp8", "run", "-"];
@@ -92,6 +93,9 @@ fn refuse<R: Print + Eprint>(rt: &R, refused: Refused) -> Status {
         Refused::CommandLine(error) => return say(rt, &error),
         Refused::NotText => eprintln!(rt; "error: an argument isn't text"),
         Refused::Start(fault) => eprintln!(rt; "error: bad value for '--start': {fault}"),
+        Refused::Show => eprintln!(rt;
+            "error: bad value for '--show': it has octal addresses and ranges, such as 0324 0400-0417"
+        ),
         Refused::Switches(fault) => { eprintln!(rt; "error: bad value for '--switches': {fault}") }
         Refused::EventsAndOperator => eprintln!(rt;
             "error: '--events' can't stand beside the options for the reader, the punch, the teletype and the switches"
@@ -183,7 +187,8 @@ fn answer<R: Files + Input + Print + Eprint>(
             declaration,
             events,
             explained,
-        } => watch_from(rt, alloc, tape, declaration, events, *explained),
+            show,
+        } => watch_from(rt, alloc, tape, declaration, events, *explained, show),
         Request::WatchSession(session) => watch_joined(rt, alloc, session),
         Request::Check {
             tape,
@@ -306,6 +311,7 @@ fn watch_from<R: Files + Input + Print>(
     declaration: &str,
     events: &str,
     explained: bool,
+    show: &WordSet,
 ) -> Result<Status, Fault> {
     let mut frames = open_input(rt, tape)?;
     let mut text = open_input(rt, declaration)?;
@@ -317,6 +323,7 @@ fn watch_from<R: Files + Input + Print>(
         &mut text,
         &mut list,
         explained,
+        show,
         &mut out,
     )
 }

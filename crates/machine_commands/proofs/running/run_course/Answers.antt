@@ -4,7 +4,8 @@ use Rattle.streams.specs.Bytes.{AppendsFront}
 use Rattle.peripherals.specs.World.{view, profile_of}
 use Rattle.machine_commands.specs.Course.{ends_at_halt, events_in}
 use Rattle.machine_commands.specs.Running.{fresh}
-use Rattle.machine_commands.specs.Summary.{summary}
+use Rattle.wordset.specs.Lanes.{words}
+use Rattle.machine_commands.specs.Summary.{closing}
 use Rattle.machine_commands.proofs.RunLemmas.{run_front, run_whole, trace_front, trace_refused, trace_whole}
 use Rattle.machine_commands.proofs.FollowLemmas.{of_fault}
 use Rattle.machine_commands.proofs.running.run_course.Goals as goal
@@ -19,14 +20,14 @@ pub returns-in_err-put-clause-front : goal.returns-in_err-put-clause-front
 returns-in_err-put-clause-front g c = λ marked.
     let profile : profile_of c.load-world.result ≡ c.args.options.profile = c.load-world.ensures.profile in
     let begins : view c.load-world.result ≡ fresh c.args.image.now c.args.options.start = search rules in
-    let front : AppendsFront (g.W.ByteSink.taken c.follow.new.out) (g.W.ByteSink.taken c.put.new.sink) (summary c.in_ok-outcome.outcome.end (view c.follow.new.world) c.in_ok-outcome.outcome.steps) = search rules in
+    let front : AppendsFront (g.W.ByteSink.taken c.follow.new.out) (g.W.ByteSink.taken c.put.new.sink) (closing (words c.args.options.show) c.in_ok-outcome.outcome.end (view c.follow.new.world) c.in_ok-outcome.outcome.steps) = search rules in
     run_front c.args.options (ends_at_halt c.args.course.now) (events_in c.args.course.now) c.args.image.now _ (view c.load-world.result) (view c.follow.new.world) c.in_ok-outcome.outcome _ _ _ profile begins c.in_ok-outcome.ensures.ran front
 
 pub returns-clause-run : goal.returns-clause-run
 returns-clause-run g c =
     let profile : profile_of c.load-world.result ≡ c.args.options.profile = c.load-world.ensures.profile in
     let begins : view c.load-world.result ≡ fresh c.args.image.now c.args.options.start = search rules in
-    let written : Appends (g.W.ByteSink.taken c.follow.new.out) (g.W.ByteSink.taken c.put.new.sink) (summary c.in_ok-outcome.outcome.end (view c.follow.new.world) c.in_ok-outcome.outcome.steps) = search rules in
+    let written : Appends (g.W.ByteSink.taken c.follow.new.out) (g.W.ByteSink.taken c.put.new.sink) (closing (words c.args.options.show) c.in_ok-outcome.outcome.end (view c.follow.new.world) c.in_ok-outcome.outcome.steps) = search rules in
     run_whole c.args.options (ends_at_halt c.args.course.now) (events_in c.args.course.now) c.args.image.now _ (view c.load-world.result) (view c.follow.new.world) c.in_ok-outcome.outcome c.status_of.result _ _ _ profile begins c.in_ok-outcome.ensures.ran written c.status_of.ensures
 
 pub returns-in_err-outcome-clause-traced : goal.returns-in_err-outcome-clause-traced

@@ -3,6 +3,7 @@ use Rattle.std.proofs.lemmas.Result.{err_from_is_err_and}
 use Rattle.std.specs.Io.KnownBytes.{Appends}
 use Rattle.streams.specs.Bytes.{AppendsFront}
 use Rattle.peripherals.specs.World.{view, profile_of}
+use Rattle.wordset.specs.Lanes.{words}
 use Rattle.machine_commands.specs.Running.{fresh}
 use Rattle.machine_commands.specs.Schedule.{Whole}
 use Rattle.machine_commands.specs.Session.{summary_where}
@@ -39,7 +40,7 @@ returns-in_err-put-2-clause-front g c =
     let profile : profile_of c.load-world.result ≡ c.args.options.profile = c.load-world.ensures.profile in
     let begins : view c.load-world.result ≡ fresh c.args.image.now c.args.options.start = search rules in
     let punched : Appends (g.P.ByteSink.taken c.args.out.now.punch) (g.P.ByteSink.taken c.put.new.sink) (view c.operate-ran.new.world).devices.punch.output = search rules in
-    let front : AppendsFront (g.W.ByteSink.taken c.operate-ran.new.report) (g.W.ByteSink.taken c.put-2.new.sink) (summary_where c.args.apart Whole c.in_ok-outcome.outcome.end (view c.operate-ran.new.world) c.in_ok-outcome.outcome.steps) = search rules in
+    let front : AppendsFront (g.W.ByteSink.taken c.operate-ran.new.report) (g.W.ByteSink.taken c.put-2.new.sink) (summary_where (words c.args.options.show) c.args.apart Whole c.in_ok-outcome.outcome.end (view c.operate-ran.new.world) c.in_ok-outcome.outcome.steps) = search rules in
     let failed : g.W.ByteSink.mark c.put-2.new.sink ≡ true = search rules in
     let unfailed : (g.W.ByteSink.mark c.operate-ran.new.report || g.T.ByteSink.mark c.operate-ran.new.teletype) ≡ false = search rules in
     let is_punched : g.P.ByteSink.mark c.put.new.sink ≡ false = search rules in
@@ -50,7 +51,7 @@ returns-clause-run g c =
     let profile : profile_of c.load-world.result ≡ c.args.options.profile = c.load-world.ensures.profile in
     let begins : view c.load-world.result ≡ fresh c.args.image.now c.args.options.start = search rules in
     let punched : Appends (g.P.ByteSink.taken c.args.out.now.punch) (g.P.ByteSink.taken c.put.new.sink) (view c.operate-ran.new.world).devices.punch.output = search rules in
-    let written : Appends (g.W.ByteSink.taken c.operate-ran.new.report) (g.W.ByteSink.taken c.put-2.new.sink) (summary_where c.args.apart Whole c.in_ok-outcome.outcome.end (view c.operate-ran.new.world) c.in_ok-outcome.outcome.steps) = search rules in
+    let written : Appends (g.W.ByteSink.taken c.operate-ran.new.report) (g.W.ByteSink.taken c.put-2.new.sink) (summary_where (words c.args.options.show) c.args.apart Whole c.in_ok-outcome.outcome.end (view c.operate-ran.new.world) c.in_ok-outcome.outcome.steps) = search rules in
     attended (g.S.Scheduler.brings c.args.schedule.now) c.args.options c.args.apart c.args.image.now _ (view c.load-world.result) (view c.operate-ran.new.world) c.in_ok-outcome.outcome c.status_of.result _ _ _ _ _ _ _ profile begins c.in_ok-outcome.ensures.ran punched written c.status_of.ensures
 
 pub returns-in_err-put-clause-read_told : goal.returns-in_err-put-clause-read_told

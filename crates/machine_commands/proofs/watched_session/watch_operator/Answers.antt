@@ -1,6 +1,7 @@
 use Rattle.std.proofs.Common.{rules, ◌≡◌, refl}
 use Rattle.std.specs.Io.KnownBytes.{Appends}
 use Rattle.streams.specs.Bytes.{AppendsFront}
+use Rattle.wordset.specs.Lanes.{words}
 use Rattle.peripherals.specs.Loading.{image_of, loaded}
 use Rattle.peripherals.specs.Operator.{plan_of}
 use Rattle.peripherals.specs.World.{view, profile_of}
@@ -24,7 +25,7 @@ returns-in_err-put-clause-front g c = λ marked.
       text = c.in_ok-text.text.items;
       is = (
         watched_status c.in_ok-watched.watched,
-        plan_watched (plan_of c.args.operator.now) c.args.image.now d c.args.explained _ (view c.load-world.result) c.in_ok-happened.happened.items c.in_ok-watched.watched _ _ profile begins c.in_ok-happened.ensures.come sees c.in_ok-text.ensures refl,
+        plan_watched (plan_of c.args.operator.now) c.args.image.now d c.args.explained (words c.args.show.now) _ (view c.load-world.result) c.in_ok-happened.happened.items c.in_ok-watched.watched _ _ profile begins c.in_ok-happened.ensures.come sees c.in_ok-text.ensures refl,
       );
       front = front;
     }
@@ -40,6 +41,6 @@ returns-clause-watched g c =
     (rw c.deref.ensures.value at c.in_ok-watched.ensures.clean) (rw c.deref.ensures.value at c.in_ok-watched.ensures.broken) in
     record {
       text = c.in_ok-text.text.items;
-      is = plan_watched (plan_of c.args.operator.now) c.args.image.now d c.args.explained _ (view c.load-world.result) c.in_ok-happened.happened.items c.in_ok-watched.watched _ _ profile begins c.in_ok-happened.ensures.come sees c.in_ok-text.ensures c.watched_status.ensures;
+      is = plan_watched (plan_of c.args.operator.now) c.args.image.now d c.args.explained (words c.args.show.now) _ (view c.load-world.result) c.in_ok-happened.happened.items c.in_ok-watched.watched _ _ profile begins c.in_ok-happened.ensures.come sees c.in_ok-text.ensures c.watched_status.ensures;
       written = written;
     }

@@ -1,0 +1,38 @@
+//! The cells that `--show` names.
+
+use crate::requests::Refused;
+use clap::ArgMatches;
+use streams::text::{Words, octal_word};
+use wordset::WordSet;
+
+/// The cells of an address, or from one address to another, which isn't below it.
+fn range(word: &[u8]) -> Option<WordSet> {
+    let Some(at) = word.iter().position(|byte| *byte == b'-') else {
+        return octal_word(word).map(WordSet::one);
+    };
+    let low = octal_word(&word[..at])?;
+    let high = octal_word(&word[at + 1..])?;
+    if low.value() <= high.value() {
+        Some(WordSet::range(low, high))
+    } else {
+        None
+    }
+}
+
+/// The cells of addresses and ranges, one or more, as a line of a declaration spells them.
+fn cells(text: &[u8]) -> Option<WordSet> {
+    let mut set = WordSet::empty();
+    for word in Words::of(text) {
+        set = set.union(&range(word)?);
+    }
+    if set.is_empty() { None } else { Some(set) }
+}
+
+/// The cells whose words are shown when a run is over: those of each `--show`.
+pub(crate) fn shown_cells(found: &ArgMatches<'_>) -> Result<WordSet, Refused> {
+    let mut set = WordSet::empty();
+    for text in found.get_strs("show").unwrap_or(&[]) {
+        set = set.union(&cells(text.as_bytes()).ok_or(Refused::Show)?);
+    }
+    Ok(set)
+}

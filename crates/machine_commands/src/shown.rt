@@ -1,0 +1,83 @@
+//! The cells that are shown when a watched run is over.
+
+ghost use Rattle.std.specs.Prelude.{◌≡◌, take, IfOk};
+ghost use Rattle.wordset.specs.Lanes.{words};
+ghost use Rattle.declaration.specs.Kept.{meaning};
+ghost use Rattle.machine_commands.specs.WatchText.{IsLeft, IsShown, happening};
+
+use crate::follow::{Course, follow};
+use crate::summary::push_cells;
+use bin_tape::Image;
+use declaration::Declaration;
+use peripherals::{Event, NoMemory, Start, World};
+use policy::Watched;
+use std::alloc::Allocator;
+use streams::standard::Writes;
+use wordset::WordSet;
+
+/// The first of some events, so many.
+fn first(events: &[Event], count: usize) -> &[Event]
+    ensures { result.now ≡ take count events.now }
+{
+    if count < events.len() {
+        &events[..count]
+    } else {
+        events
+    }
+}
+
+/// The events of a watched run that happen: all of them, or those before the one that breaks a rule.
+fn happening<'a>(watched: Watched, events: &'a [Event]) -> &'a [Event]
+    ensures { result.now ≡ happening watched events.now }
+{
+    match watched {
+        Watched::Clean => events,
+        Watched::Broken { event, .. } => first(events, event),
+    }
+}
+
+/// The cells that are to be shown, with their words after some events of a declared run.
+fn cells_after<A: Allocator + Copy, D: Allocator>(
+    alloc: A,
+    image: &Image,
+    declaration: &Declaration<D>,
+    events: &[Event],
+    show: &WordSet,
+) -> Result<Vec<u8, A>, NoMemory>
+    ensures { IfOk result (λ text.
+        IsLeft (words show.now) image.now (meaning declaration.now) events.now text.items) }
+{
+    let start = Start::zero();
+    let mut world = World::load(
+        alloc,
+        image,
+        declaration.start(),
+        &start,
+        declaration.profile(),
+    );
+    let mut nothing = Writes::new(Vec::new(alloc));
+    let Ok(_) = follow(&mut world, &mut nothing, false, &Course::Listed(events)) else {
+        return Err(NoMemory);
+    };
+    let mut text = Vec::new(alloc);
+    push_cells(&mut text, show, &world.cpu().memory)?;
+    Ok(text)
+}
+
+/// The lines of the cells that are to be shown when a watched run is over, if there are any.
+pub(crate) fn shown_of<A: Allocator + Copy, D: Allocator>(
+    alloc: A,
+    image: &Image,
+    declaration: &Declaration<D>,
+    events: &[Event],
+    watched: Watched,
+    show: &WordSet,
+) -> Result<Vec<u8, A>, NoMemory>
+    ensures { IfOk result (λ text. IsShown (words show.now) image.now (meaning declaration.now)
+        events.now watched text.items) }
+{
+    if show.is_empty() {
+        return Ok(Vec::new(alloc));
+    }
+    cells_after(alloc, image, declaration, happening(watched, events), show)
+}

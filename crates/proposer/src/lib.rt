@@ -129,11 +129,11 @@ pub fn propose<A: Allocator + Copy>(
 }
 
 /// The proposal by what runs were seen to do; another one where that can't be declared.
-fn by_runs<A: Allocator + Copy>(
+fn by_runs<'x, A: Allocator + Copy>(
     alloc: A,
-    image: &Image,
+    image: &'x Image,
     proposal: Proposal<A>,
-    found: &Findings<A>,
+    found: &'x Findings<A>,
     turns: &mut Turns,
 ) -> Result<Proposal<A>, ProposeFault>
     requires fits { Fits found.now.map.start found.now.map.profile proposal }

@@ -2,7 +2,7 @@
 
 ghost use Rattle.std.specs.Prelude.{◌≡◌};
 
-use crate::tape::Tape;
+use crate::tape::{Tape, Visit};
 use crate::walk::{Spot, Walk};
 use instruct::Profile;
 use word12::Word;
@@ -179,12 +179,15 @@ impl Map {
 
     /// Meets the cells of a body from which runs were seen to make steps.
     fn meet_visits(&self, tape: &Tape<'_>, walk: &mut Walk) {
-        let Some(visits) = tape.visits else {
-            return;
-        };
-        let owner = walk.owner();
-        for visit in visits.places {
-            if visit.owner == owner && !self.entries.contains(visit.spot.at) {
+        if let Some(visits) = tape.visits {
+            self.meet_all(visits.places, walk);
+        }
+    }
+
+    /// Meets the cells of these visits that the running routine's body may have.
+    fn meet_all(&self, visits: &[Visit], walk: &mut Walk) {
+        for visit in visits {
+            if visit.entry == walk.entry && !self.entries.contains(visit.spot.at) {
                 walk.meet(visit.spot);
             }
         }

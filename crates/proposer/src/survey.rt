@@ -125,6 +125,14 @@ pub(crate) fn surveyed<A: Allocator + Copy>(
     survey.finish(image, &search)
 }
 
+/// The entry of a routine; main has none.
+fn entry_of(owner: &Owner) -> Option<Word> {
+    match owner {
+        Owner::Main => None,
+        Owner::Routine(entry) => Some(*entry),
+    }
+}
+
 /// The runs of a record.
 fn seen_in<A: Allocator>(record: &Record<A>) -> Seen {
     Seen {
@@ -255,13 +263,14 @@ impl<A: Allocator + Copy> Survey<A> {
         let mut next = 0usize;
         while let Some(at) = places.first_from(next) {
             if let Some(owner) = record.owner(at) {
+                let entry = entry_of(&owner);
+                if let Some(called) = entry {
+                    self.called.insert(called);
+                }
                 let spot = Spot { at, offset };
                 self.places
-                    .push(Visit { owner, spot })
+                    .push(Visit { entry, spot })
                     .map_err(|_| NoMemory)?;
-                if let Owner::Routine(entry) = owner {
-                    self.called.insert(entry);
-                }
             }
             next = at.index() + 1;
         }
@@ -269,7 +278,7 @@ impl<A: Allocator + Copy> Survey<A> {
     }
 
     /// Widens the declaration by what was learned. False where that can't be declared.
-    fn widen(&mut self, image: &Image, record: &Record<A>) -> Result<bool, NoMemory>
+    fn widen<'x>(&mut self, image: &'x Image, record: &'x Record<A>) -> Result<bool, NoMemory>
         ensures profile { (meaning self.new.declaration).profile
             ≡ (meaning self.old.declaration).profile }
     {

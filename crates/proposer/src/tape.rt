@@ -6,10 +6,10 @@ use bin_tape::Image;
 use declaration::Owner;
 use word12::Word;
 
-/// Where a step was made, and in which routine.
+/// Where a step was made, and the running routine's entry, if it wasn't main.
 #[derive(Clone, Copy)]
 pub(crate) struct Visit {
-    pub(crate) owner: Owner,
+    pub(crate) entry: Option<Word>,
     pub(crate) spot: Spot,
 }
 

@@ -1,4 +1,4 @@
-use Rattle.std.proofs.Common.{◌≡◌, ◌×◌, ◌-◌, ◌≤◌}
+use Rattle.std.proofs.Common.{◌≡◌, ◌-◌, ◌≤◌}
 use Rattle.proposer.proofs.survey.Survey.collect_from.Given as goal
 
 abbrev pub invariant-loop-at : goal.invariant-loop-at

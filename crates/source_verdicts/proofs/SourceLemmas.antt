@@ -1,6 +1,7 @@
 -- A verdict on the tape and the numbers of a program is one on the program.
-use Rattle.std.proofs.Common.{ℕ, ◌≡◌, List, Option, Some, Bool, true, false, Result, Ok, Err, refl, inl, inr}
+use Rattle.std.proofs.Common.{ℕ, ◌≡◌, ◌∙◌, sym, subst, List, Option, Some, true, false, Ok, inl, inr}
 use Rattle.std.specs.Prelude.{◌⊎◌}
+use Rattle.labels.specs.Lines.{placed_text}
 use Rattle.labels.specs.Programs.{IsNumbered, NumberedIsMeant, NumberedIsTape}
 use Rattle.command_parts.specs.Faults.{IsDeclarationInputFault, IsRunFault, IsTapeInputFault}
 use Rattle.command_parts.specs.Inputs.{Input, input}
@@ -20,6 +21,17 @@ writes_on P Q old new on w = record { text = w.text; is = on w.text w.is; writte
 
 pub front_on : (P Q : List ℕ → Type 0) (old new : Option (List ℕ)) → ((text : List ℕ) → P text → Q text) → FrontOf P old new → FrontOf Q old new
 front_on P Q old new on w = record { text = w.text; is = on w.text w.is; front = w.front }
+
+-- the same frames and the same numbers
+pub held : (parts : List (List ℕ)) (text tape numbers frames words : List ℕ) → frames ≡ tape → words ≡ numbers → IsNumbered parts text tape numbers → IsNumbered parts text frames words
+held parts text tape numbers frames words e f h = record {
+  symbols = h.symbols;
+  image = h.image;
+  source = h.source;
+  has_word = h.has_word;
+  tape_is = e ∙ h.tape_is;
+  placed = subst (λ (n : List ℕ). placed_text h.symbols text ≡ Ok n) (sym f) h.placed;
+}
 
 module _ (parts : List (List ℕ)) (text tape numbers : List ℕ) (h : IsNumbered parts text tape numbers) where
   module _ (meant : NumberedIsMeant) where

@@ -2,7 +2,8 @@
 //! source means and the declaration that its symbols place.
 #![tactic(auto)]
 
+pub mod checking;
+pub mod fault;
 mod memory;
-pub mod program;
 
-pub use program::SourceProgram;
+pub use fault::SourcedFault;

@@ -21,8 +21,9 @@ use commands::watched_session::watch_session;
 use commands::watching::watch;
 use declaration::DeclarationFault;
 use fault_texts::{FaultyFile, push_fault, push_omissions};
-use labels::Numbered;
-use source_verdicts::SourceProgram;
+use labels::{Numbered, number};
+use source_verdicts::SourcedFault;
+use source_verdicts::checking::check_source;
 use std::alloc::Global;
 use std::io;
 use std::rt::Files;
@@ -110,23 +111,35 @@ fn verify_alone<R: Files + Print>(
 fn check_program<R: Files + Input + Print>(
     rt: &R,
     alloc: Global,
-    program: &SourceProgram<'_, Global>,
+    parts: &[&[u8]],
+    text: &[u8],
     certificate: &str,
-    explained: bool,
+) -> Result<Status, SourcedFault> {
+    let mut claims = match open_input(rt, certificate) {
+        Ok(claims) => claims,
+        Err(fault) => return Err(SourcedFault::Command(fault)),
+    };
+    let mut out = Writes::new(io::writer(rt));
+    check_source(alloc, parts, text, &mut claims, &mut out)
+}
+
+/// Checks the certificate of a file, and says why the verdict is no.
+#[inline(never)]
+fn explain_numbered<R: Files + Input + Print>(
+    rt: &R,
+    alloc: Global,
+    numbered: &Numbered<Global>,
+    certificate: &str,
 ) -> Result<Status, Fault> {
     let mut claims = open_input(rt, certificate)?;
     let mut out = Writes::new(io::writer(rt));
-    if explained {
-        let numbered = program.numbered();
-        return explain(
-            alloc,
-            &mut frames_of(numbered),
-            &mut promise_of(numbered),
-            &mut claims,
-            &mut out,
-        );
-    }
-    program.check(alloc, &mut claims, &mut out)
+    explain(
+        alloc,
+        &mut frames_of(numbered),
+        &mut promise_of(numbered),
+        &mut claims,
+        &mut out,
+    )
 }
 
 /// Watches a run by the events of a file.
@@ -270,15 +283,14 @@ fn write_numbered<R: Files + Print>(
     Ok(Status::Done)
 }
 
-/// Does what is asked for with a program and its declaration.
-fn done_with<R: Files + Input + Print + Eprint>(
+/// Does what is asked for with the tape and the numbers of a program, but for a check that isn't explained.
+fn done_with_numbers<R: Files + Input + Print + Eprint>(
     rt: &R,
     alloc: Global,
-    program: &SourceProgram<'_, Global>,
+    numbered: &Numbered<Global>,
     task: &Task<'_>,
     promise: Promise,
 ) -> Result<Status, Fault> {
-    let numbered = program.numbered();
     match task {
         Task::Verify { save, options, .. } => {
             if promise == Promise::Proposed {
@@ -287,10 +299,7 @@ fn done_with<R: Files + Input + Print + Eprint>(
                 verify_numbered(rt, alloc, numbered, *save, options)
             }
         }
-        Task::Check {
-            certificate,
-            explained,
-        } => check_program(rt, alloc, program, certificate, *explained),
+        Task::Check { certificate, .. } => explain_numbered(rt, alloc, numbered, certificate),
         Task::Watch {
             events,
             explained,
@@ -304,6 +313,32 @@ fn done_with<R: Files + Input + Print + Eprint>(
         } => guess_and_report(rt, alloc, numbered, *out, *explained, *report),
         Task::Refute { out, options } => refute_numbered(rt, alloc, numbered, *out, *options),
         Task::Place { out, .. } => write_numbered(rt, numbered, *out),
+    }
+}
+
+/// Does what is asked for with a program and its declaration. Other files are opened after the source and
+/// its declaration are put in numbers.
+fn done_with<R: Files + Input + Print + Eprint>(
+    rt: &R,
+    alloc: Global,
+    parts: &[&[u8]],
+    given: &Given,
+    task: &Task<'_>,
+) -> Result<Status, SourcedFault> {
+    let numbered = match number(alloc, parts, &given.text) {
+        Ok(numbered) => numbered,
+        Err(fault) => return Err(SourcedFault::Numbering(fault)),
+    };
+    if let Task::Check {
+        certificate,
+        explained: false,
+    } = task
+    {
+        return check_program(rt, alloc, parts, &given.text, certificate);
+    }
+    match done_with_numbers(rt, alloc, &numbered, task, given.promise) {
+        Ok(status) => Ok(status),
+        Err(fault) => Err(SourcedFault::Command(fault)),
     }
 }
 
@@ -336,18 +371,16 @@ fn answer_given<R: Files + Input + Print + Eprint>(
     given: &Given,
 ) -> Result<Status, Fault> {
     let slices = lend(alloc, &given.parts)?;
-    let program = match SourceProgram::new(alloc, &slices, &given.text) {
-        Ok(program) => program,
-        Err(fault) => {
-            return Ok(tell_refused(rt, alloc, fault, sourced, &slices, &given.text));
-        }
-    };
     let within = given.promise == Promise::Within && sourced.task.is_explained();
-    match done_with(rt, alloc, &program, &sourced.task, given.promise) {
-        Err(Fault::Declared(fault)) if within => {
+    match done_with(rt, alloc, &slices, given, &sourced.task) {
+        Ok(status) => Ok(status),
+        Err(SourcedFault::Numbering(fault)) => {
+            Ok(tell_refused(rt, alloc, fault, sourced, &slices, &given.text))
+        }
+        Err(SourcedFault::Command(Fault::Declared(fault))) if within => {
             tell_within(rt, alloc, fault, &sourced.sources, &slices, &given.text)
         }
-        other => other,
+        Err(SourcedFault::Command(fault)) => Err(fault),
     }
 }
 

@@ -110,7 +110,8 @@ fn draft_page<A: Allocator + Copy, D: Allocator, C: Allocator>(
     ensures { IfOk result (λ page. IsDraftPage form at page.items) }
 {
     let rest = below_stuck(alloc, image, declaration, draft, at, form)?;
-    joined(alloc, form, at, &rest)
+    let page = joined(alloc, form, at, &rest)?;
+    Ok(page)
 }
 
 /// Looks for a certificate of a tape and a declaration. Where the search is stuck, writes what it had

@@ -112,11 +112,12 @@ fn is_at(cells: &TrackedCells, place: usize, cell: Word) -> bool {
 
 /// Whether the cell at a place is this one with these words; one that isn't tracked may hold any word.
 fn is_same_at(cells: &TrackedCells, place: usize, tracked: &TrackedCell) -> bool {
-    if is_at(cells, place, tracked.cell) {
-        cells.get(place).set == tracked.set
-    } else {
-        tracked.set.is_all()
+    if place < cells.len() {
+        if cells.address(place) == tracked.cell {
+            return cells.get(place).set == tracked.set;
+        }
     }
+    tracked.set.is_all()
 }
 
 /// Writes the items on cells.

@@ -219,12 +219,13 @@ impl<A: Allocator> Pen<A> {
 
     /// Writes in a page how many items that are the same as on the line above were left out.
     pub(crate) fn end_same(&mut self) -> Result<(), AllocError> {
-        if !self.is_page() || self.same <= MOST_SAME {
+        let more = self.same.saturating_sub(MOST_SAME);
+        if !self.is_page() || more == 0 {
             return Ok(());
         }
         self.separate()?;
         self.put(b"<i>and ")?;
-        self.number(self.same - MOST_SAME)?;
+        self.number(more)?;
         self.put(b" more as above</i>")
     }
 

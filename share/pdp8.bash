@@ -36,7 +36,7 @@ _pdp8() {
         watch) options='--source --reader --keys --mark --switches --steps --why --help' ;;
         check) options='--source --why --help' ;;
         report) options='--output --text --why --help' ;;
-        guess) options='--output --source --report --why --help' ;;
+        guess) options='--output --source --why --help' ;;
         refute) options='--output --source --steps --seed --why --help' ;;
         declare) options='--output --start --reads --profile --why --help' ;;
         place) options='--output --declaration --why --help' ;;

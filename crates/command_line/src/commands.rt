@@ -160,13 +160,6 @@ const REPORT_OUT: Argument = Argument {
     help: "where the report goes, or - for standard output; it is emptied first",
 };
 
-const REPORT_STUCK: Argument = Argument {
-    name: "report",
-    short: None,
-    form: Form::Value("FILE"),
-    help: "where the search is stuck, writes to FILE what it had found, as a page of HTML",
-};
-
 const TEXT: Argument = Argument {
     name: "text",
     short: None,
@@ -432,13 +425,12 @@ static DECLARE_ARGUMENTS: [Argument; 7] = [
     WHY_INPUT,
 ];
 
-static GUESS_ARGUMENTS: [Argument; 7] = [
+static GUESS_ARGUMENTS: [Argument; 6] = [
     TAPE_OR_SOURCE,
     DECLARED,
     GUESSED_OUT,
     OUTPUT,
     PARTS,
-    REPORT_STUCK,
     WHY_GUESS,
 ];
 

@@ -22,24 +22,6 @@ impl<'a> Destination<'a> {
     }
 }
 
-/// Where the report of a search that is stuck goes, if it is asked for: it is neither an input nor the
-/// result.
-pub fn report_of<'a>(
-    found: &ArgMatches<'a>,
-    others: &[&str],
-    out: &Destination<'_>,
-) -> Result<Option<&'a str>, Refused> {
-    let Some(name) = found.get_str("report") else {
-        return Ok(None);
-    };
-    let result = out.name();
-    let taken = *name == *result || others.iter().any(|other| **other == *name);
-    if name != "-" && taken {
-        return Err(Refused::ReportIsTaken);
-    }
-    Ok(Some(name))
-}
-
 /// Where the result goes: the value of `-o`, else the operand OUT. It is no input.
 pub fn destination_of<'a>(
     found: &ArgMatches<'a>,

@@ -5,7 +5,7 @@ use crate::operator::{
     Session, TeletypeSession, WatchedSession, has_operator, is_watched_with_operator, session_of,
     teletype_of, watched_session_of,
 };
-use crate::outputs::{Destination, destination_of, report_of};
+use crate::outputs::{Destination, destination_of};
 use crate::reported::{Reported, report_request};
 use crate::sourced::{
     Sourced, has_source, place_request, sourced_check, sourced_guess, sourced_refute,
@@ -126,8 +126,6 @@ pub enum Request<'a> {
         out: Destination<'a>,
         /// Whether it is said why the search is stuck.
         explained: bool,
-        /// Where the report of a search that is stuck goes.
-        report: Option<&'a str>,
     },
     /// To migrate a certificate.
     Migrate {
@@ -213,10 +211,6 @@ pub enum Refused {
     BothStandardInput,
     /// The result is to go to an input.
     OutputIsInput,
-    /// The report is to go to an input, or where the result goes.
-    ReportIsTaken,
-    /// There is a report, and standard input, which can't be read twice.
-    ReportOfStandardInput,
     /// Memory was refused.
     Memory,
 }
@@ -400,17 +394,11 @@ fn guess_request<'a>(found: &ArgMatches<'a>) -> Result<Request<'a>, Refused> {
     if tape == "-" && declaration == "-" {
         return Err(Refused::BothStandardInput);
     }
-    let out = destination_of(found, &[tape, declaration])?;
-    let report = report_of(found, &[tape, declaration], &out)?;
-    if report.is_some() && (tape == "-" || declaration == "-") {
-        return Err(Refused::ReportOfStandardInput);
-    }
     Ok(Request::Guess {
         tape,
         declaration,
-        out,
+        out: destination_of(found, &[tape, declaration])?,
         explained: found.get_flag("why"),
-        report,
     })
 }
 

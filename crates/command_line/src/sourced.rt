@@ -2,7 +2,7 @@
 
 use crate::names::FileNames;
 use crate::operator::{WatchedSession, is_watched_with_operator, watched_session_of};
-use crate::outputs::{Destination, destination_of, report_of};
+use crate::outputs::{Destination, destination_of};
 use crate::requests::{
     Refused, Request, refute_options, share_standard_input, source_names, verify_options,
 };
@@ -55,8 +55,6 @@ pub enum Task<'a> {
         out: Destination<'a>,
         /// Whether it is said why the search is stuck.
         explained: bool,
-        /// Where the report of a search that is stuck goes.
-        report: Option<&'a str>,
     },
     /// To look for a run that breaks the declaration.
     Refute {
@@ -279,17 +277,12 @@ pub fn sourced_guess<'a>(alloc: Global, found: &ArgMatches<'a>) -> Result<Reques
     let declaration = operands.declaration;
     let sources = parts_of(alloc, found, &[declaration.unwrap_or("")])?;
     let out = search_output(alloc, found, operands, &sources)?;
-    let report = report_of(found, &[declaration.unwrap_or("-")], &out)?;
-    if report.is_some_and(|name| sources.iter().any(|part| **part == *name)) {
-        return Err(Refused::ReportIsTaken);
-    }
     Ok(Request::Sourced(Sourced {
         sources,
         declaration,
         task: Task::Guess {
             out,
             explained: found.get_flag("why"),
-            report,
         },
     }))
 }

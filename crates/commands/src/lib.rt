@@ -4,10 +4,8 @@
 pub mod laws;
 
 pub use command_parts::status;
-pub use machine_commands::{
-    follow, refuting, running, session, teletype, watched_session, watching,
-};
-pub use report_commands::{drafting, reporting};
+pub use machine_commands::{follow, refuting, running, session, teletype, watched_session, watching};
+pub use report_commands::reporting;
 pub use search_commands::{declaring, guessing, stuck, verifying};
 pub use source_commands::{assembling, sourcing};
 pub use verdict_commands::{checking, explaining, migrating};

@@ -1,2 +1,1 @@
-pub mod DraftText
 pub mod ReportText

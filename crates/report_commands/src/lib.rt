@@ -1,5 +1,4 @@
-//! The commands that write what a certificate says, or what a search for one had found.
+//! The command that writes what a certificate says, to look at.
 #![tactic(auto)]
 
-pub mod drafting;
 pub mod reporting;

@@ -45,7 +45,7 @@ fn why_lines<A: Allocator, D: Allocator, C: Allocator>(
 }
 
 /// What stands below the line of a verdict: these lines, and the rest of the report.
-pub(crate) fn below_lines<A: Allocator + Copy, D: Allocator, C: Allocator>(
+fn below_lines<A: Allocator + Copy, D: Allocator, C: Allocator>(
     alloc: A,
     report: &Report<'_, A, D, C>,
     lines: &[u8],

@@ -1,7 +1,6 @@
 //! Commands that work on a source and its declaration in place of a tape. The source is assembled in
 //! memory and the declaration written in numbers; what is done then is done by the commands for tapes.
 
-use crate::drafted::{is_stuck, report_stuck};
 use crate::faults::stuck_address;
 use crate::files::{open_input, open_output};
 use crate::joined::{open_input_if, tell_to};
@@ -188,30 +187,6 @@ fn guess_numbered<R: Files + Print + Eprint>(
     Ok(status)
 }
 
-/// Guesses a certificate, and where the search is stuck writes a report, if one is asked for.
-fn guess_and_report<R: Files + Print + Eprint>(
-    rt: &R,
-    alloc: Global,
-    numbered: &Numbered<Global>,
-    out: Destination<'_>,
-    explained: bool,
-    report: Option<&str>,
-) -> Result<Status, Fault> {
-    let answer = guess_numbered(rt, alloc, numbered, out, explained);
-    if let Some(name) = report {
-        if is_stuck(&answer) {
-            report_stuck(
-                rt,
-                alloc,
-                &mut frames_of(numbered),
-                &mut promise_of(numbered),
-                name,
-            )?;
-        }
-    }
-    answer
-}
-
 /// Looks for a run that breaks the declaration.
 #[inline(never)]
 fn refute_numbered<R: Files + Print + Eprint>(
@@ -282,11 +257,7 @@ fn done_with<R: Files + Input + Print + Eprint>(
             watch_numbered(rt, alloc, numbered, events, *explained)
         }
         Task::WatchSession(session) => watch_session_numbered(rt, alloc, numbered, session),
-        Task::Guess {
-            out,
-            explained,
-            report,
-        } => guess_and_report(rt, alloc, numbered, *out, *explained, *report),
+        Task::Guess { out, explained } => guess_numbered(rt, alloc, numbered, *out, *explained),
         Task::Refute { out, options } => refute_numbered(rt, alloc, numbered, *out, *options),
         Task::Place { out, .. } => write_numbered(rt, numbered, *out),
     }

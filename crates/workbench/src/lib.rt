@@ -2,7 +2,6 @@
 //! order, is tested and not proved.
 #![tactic(auto)]
 
-mod drafted;
 mod faults;
 mod files;
 mod from_source;

@@ -2,7 +2,6 @@
 
 ghost use Rattle.std.specs.Prelude.{◌≤◌};
 
-use crate::drafted::{is_stuck, report_stuck_files};
 use crate::faults::{bound_lines, fault_lines, omissions, stuck_address, with_omissions};
 use crate::files::{open_input, open_output};
 use crate::from_source::answer_sourced;
@@ -119,12 +118,6 @@ fn refuse<R: Print + Eprint>(rt: &R, refused: Refused) -> Status {
         Refused::OutputIsInput => eprintln!(rt;
             "error: OUT is also an input: the result goes to a file of its own"
         ),
-        Refused::ReportIsTaken => eprintln!(rt;
-            "error: the report is also an input or OUT: it goes to a file of its own"
-        ),
-        Refused::ReportOfStandardInput => eprintln!(rt;
-            "error: '-' can't be read twice: with '--report' the inputs are files"
-        ),
         Refused::Profile => eprintln!(rt; "error: bad value for '--profile': it is 8i or 8e"),
     };
     match told {
@@ -198,16 +191,7 @@ fn answer<R: Files + Input + Print + Eprint>(
             declaration,
             out,
             explained,
-            report,
-        } => {
-            let answer = guess_from(rt, alloc, tape, declaration, *out, *explained);
-            if let Some(name) = report {
-                if is_stuck(&answer) {
-                    report_stuck_files(rt, alloc, tape, declaration, name)?;
-                }
-            }
-            answer
-        }
+        } => guess_from(rt, alloc, tape, declaration, *out, *explained),
         Request::Refute {
             tape,
             declaration,

@@ -162,6 +162,13 @@ pub(crate) fn push_cells<A: Allocator>(
     Ok(())
 }
 
+/// The memory of a world.
+pub(crate) fn memory_of<B: Allocator>(world: &World<B>) -> &Memory
+    ensures { cell_of result.now ≡ (view world.now).state.memory }
+{
+    &world.cpu().memory
+}
+
 /// Adds the summary of a run, and behind it the cells that are to be shown.
 fn push_closing<A: Allocator, B: Allocator>(
     text: &mut Vec<u8, A>,
@@ -173,7 +180,7 @@ fn push_closing<A: Allocator, B: Allocator>(
         ++ closing (words show.now) outcome.now.end (view world.now) outcome.now.steps) }
 {
     push_summary(text, outcome, world)?;
-    push_cells(text, show, &world.cpu().memory)
+    push_cells(text, show, memory_of(world))
 }
 
 /// The summary of a run, and behind it the cells that are to be shown.

@@ -6,7 +6,7 @@ ghost use Rattle.declaration.specs.Kept.{meaning};
 ghost use Rattle.machine_commands.specs.WatchText.{IsLeft, IsShown, happening};
 
 use crate::follow::{Course, follow};
-use crate::summary::{memory_of, push_cells};
+use crate::summary::push_shown;
 use bin_tape::Image;
 use declaration::Declaration;
 use peripherals::{Event, NoMemory, Start, World};
@@ -60,7 +60,7 @@ fn cells_after<A: Allocator + Copy, D: Allocator>(
         return Err(NoMemory);
     };
     let mut text = Vec::new(alloc);
-    push_cells(&mut text, show, memory_of(&world))?;
+    push_shown(&mut text, show, &world)?;
     Ok(text)
 }
 

@@ -6,7 +6,7 @@ ghost use Rattle.declaration.specs.Kept.{meaning};
 ghost use Rattle.machine_commands.specs.WatchText.{IsLeft, IsShown, happening};
 
 use crate::follow::{Course, follow};
-use crate::summary::push_cells;
+use crate::summary::push_shown;
 use bin_tape::Image;
 use declaration::Declaration;
 use peripherals::{Event, NoMemory, Start, World};
@@ -56,11 +56,11 @@ fn cells_after<A: Allocator + Copy, D: Allocator>(
         declaration.profile(),
     );
     let mut nothing = Writes::new(Vec::new(alloc));
-    let Ok(_) = follow(&mut world, &mut nothing, false, &Course::Listed(events)) else {
+    let Ok(outcome) = follow(&mut world, &mut nothing, false, &Course::Listed(events)) else {
         return Err(NoMemory);
     };
     let mut text = Vec::new(alloc);
-    push_cells(&mut text, show, &world.cpu().memory)?;
+    push_shown(&mut text, show, &world)?;
     Ok(text)
 }
 

@@ -8,7 +8,7 @@ ghost use Rattle.peripherals.specs.World.{view};
 ghost use Rattle.command_parts.specs.LinkText.{link_text};
 ghost use Rattle.machine_commands.specs.Schedule.{Whole};
 ghost use Rattle.machine_commands.specs.Session.{character, leaves_open, parting, summary_where};
-ghost use Rattle.machine_commands.specs.Summary.{end_text, registers_text, state_line, byte_text, bytes_text, output_line, summary, cell_line, cells_below, closing};
+ghost use Rattle.machine_commands.specs.Summary.{end_text, registers_text, state_line, byte_text, bytes_text, output_line, summary, cell_line, cells_below, cells_text, closing};
 
 use crate::follow::{End, Outcome};
 use command_parts::text::{push_place, push_word};
@@ -146,9 +146,9 @@ fn push_cell<A: Allocator>(
     text.extend_from_slice(b"\n")
 }
 
-/// Adds the lines of the cells that are to be shown, by rising address.
+/// Adds the lines of the cells that are to be shown, by rising address, with their words in a memory.
 #[tactic(auto, using(crate::proofs::SummaryLemmas::cells_steps))]
-pub(crate) fn push_cells<A: Allocator>(
+fn push_cells<A: Allocator>(
     text: &mut Vec<u8, A>,
     show: &WordSet,
     memory: &Memory,
@@ -162,6 +162,25 @@ pub(crate) fn push_cells<A: Allocator>(
     Ok(())
 }
 
+/// The memory of a world.
+fn memory_of<B: Allocator>(world: &World<B>) -> &Memory
+    ensures { cell_of result.now ≡ (view world.now).state.memory }
+{
+    &world.cpu().memory
+}
+
+/// Adds the lines of the cells that are to be shown, with their words in a world.
+pub(crate) fn push_shown<A: Allocator, B: Allocator>(
+    text: &mut Vec<u8, A>,
+    show: &WordSet,
+    world: &World<B>,
+) -> Result<(), AllocError>
+    ensures { OnOk result (text.new.items ≡ text.old.items
+        ++ cells_text (words show.now) (view world.now)) }
+{
+    push_cells(text, show, memory_of(world))
+}
+
 /// Adds the summary of a run, and behind it the cells that are to be shown.
 fn push_closing<A: Allocator, B: Allocator>(
     text: &mut Vec<u8, A>,
@@ -173,7 +192,7 @@ fn push_closing<A: Allocator, B: Allocator>(
         ++ closing (words show.now) outcome.now.end (view world.now) outcome.now.steps) }
 {
     push_summary(text, outcome, world)?;
-    push_cells(text, show, &world.cpu().memory)
+    push_shown(text, show, world)
 }
 
 /// The summary of a run, and behind it the cells that are to be shown.

@@ -25,7 +25,7 @@ returns-in_err-put-clause-front g c = λ marked.
       text = c.in_ok-text.text.items;
       is = (
         watched_status c.in_ok-watched.watched,
-        plan_watched (plan_of c.args.operator.now) c.args.image.now d c.args.explained (words c.args.show.now) _ (view c.load-world.result) c.in_ok-happened.happened.items c.in_ok-watched.watched _ _ profile begins c.in_ok-happened.ensures.come sees c.in_ok-text.ensures refl,
+        plan_watched (plan_of c.args.operator.now) c.args.image.now d c.args.explained (words c.args.show.now) _ (view c.load-world.result) c.in_ok-happened.happened.items c.in_ok-watched.watched _ _ profile begins c.in_ok-happened.ensures.come sees (rw c.deref-2.ensures.value at c.in_ok-text.ensures) refl,
       );
       front = front;
     }
@@ -41,6 +41,6 @@ returns-clause-watched g c =
     (rw c.deref.ensures.value at c.in_ok-watched.ensures.clean) (rw c.deref.ensures.value at c.in_ok-watched.ensures.broken) in
     record {
       text = c.in_ok-text.text.items;
-      is = plan_watched (plan_of c.args.operator.now) c.args.image.now d c.args.explained (words c.args.show.now) _ (view c.load-world.result) c.in_ok-happened.happened.items c.in_ok-watched.watched _ _ profile begins c.in_ok-happened.ensures.come sees c.in_ok-text.ensures c.watched_status.ensures;
+      is = plan_watched (plan_of c.args.operator.now) c.args.image.now d c.args.explained (words c.args.show.now) _ (view c.load-world.result) c.in_ok-happened.happened.items c.in_ok-watched.watched _ _ profile begins c.in_ok-happened.ensures.come sees (rw c.deref-2.ensures.value at c.in_ok-text.ensures) c.watched_status.ensures;
       written = written;
     }

@@ -28,7 +28,7 @@ returns-in_err-put-clause-front g c = λ marked.
           spells = c.in_ok-happened.ensures.spells;
           watched = c.in_ok-watched.watched;
           sees = sees;
-          is = c.in_ok-text.ensures;
+          is = rw c.deref-2.ensures.value at c.in_ok-text.ensures;
           status_is = refl;
         },
       );
@@ -53,7 +53,7 @@ returns-clause-watched g c =
         spells = c.in_ok-happened.ensures.spells;
         watched = c.in_ok-watched.watched;
         sees = sees;
-        is = c.in_ok-text.ensures;
+        is = rw c.deref-2.ensures.value at c.in_ok-text.ensures;
         status_is = c.watched_status.ensures;
       };
       written = written;

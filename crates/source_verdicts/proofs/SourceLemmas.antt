@@ -1,19 +1,21 @@
 -- A verdict on the tape and the numbers of a program is one on the program.
-use Rattle.std.proofs.Common.{ℕ, ◌≡◌, ◌∙◌, sym, subst, List, Option, Some, true, false, Ok, inl, inr}
+use Rattle.std.proofs.Common.{ℕ, ◌≡◌, ◌∙◌, sym, subst, List, Option, Some, Bool, true, false, Ok, inl, inr}
 use Rattle.std.specs.Prelude.{◌⊎◌}
 use Rattle.labels.specs.Lines.{placed_text}
 use Rattle.labels.specs.Programs.{IsNumbered, NumberedIsMeant, NumberedIsTape}
-use Rattle.command_parts.specs.Faults.{IsDeclarationInputFault, IsRunFault, IsTapeInputFault}
+use Rattle.command_parts.specs.Faults.{IsDeclarationInputFault, IsRefuteFault, IsRunFault, IsTapeInputFault}
 use Rattle.command_parts.specs.Inputs.{Input, input}
 use Rattle.command_parts.specs.Writes.{FrontOf, Writes}
 use Rattle.command_parts.specs.declared.status.Fault.{Fault}
 use Rattle.command_parts.specs.declared.status.Fault.TheVariants as fault
 use Rattle.command_parts.specs.declared.status.DeviceFault.TheVariants as device
 use Rattle.command_parts.specs.declared.status.Status.{Status}
+use Rattle.search_commands.specs.VerifyText.{IsSomeAnswer, IsVerified}
+use Rattle.search_commands.specs.declared.verifying.Answer.{Answer}
 use Rattle.verdict_texts.specs.CertificateFaults.{IsCertificateInputFault, IsCheckFault}
 use Rattle.verdict_texts.specs.CheckText.{IsChecked, IsCheckedSo}
 use Rattle.source_verdicts.specs.Faults.{IsProgramFault}
-use Rattle.source_verdicts.specs.Verdicts.{IsSourceChecked, IsSourceCheckedSo}
+use Rattle.source_verdicts.specs.Verdicts.{IsSomeSourceAnswer, IsSourceChecked, IsSourceCheckedSo, IsSourceVerified}
 
 -- what was written is right for more
 pub writes_on : (P Q : List ℕ → Type 0) (old new : Option (List ℕ)) → ((text : List ℕ) → P text → Q text) → Writes P old new → Writes Q old new
@@ -35,6 +37,17 @@ held parts text tape numbers frames words e f h = record {
 
 module _ (parts : List (List ℕ)) (text tape numbers : List ℕ) (h : IsNumbered parts text tape numbers) where
   module _ (meant : NumberedIsMeant) where
+    pub verified_so : {A : Type 0} (explained : Bool) (answer : Answer A) (told : List ℕ) → IsVerified (Some tape) (Some numbers) explained answer told → IsSourceVerified parts text explained answer told
+    verified_so explained answer told v = record {
+      tape = tape;
+      numbers = numbers;
+      verified = v;
+      program = meant parts text tape numbers v.image v.declaration h v.tape v.declares;
+    }
+
+    pub some_verified_so : (A : Type 0) (explained : Bool) (told : List ℕ) → IsSomeAnswer A (Some tape) (Some numbers) explained told → IsSomeSourceAnswer A parts text explained told
+    some_verified_so A explained told (answer, v) = (answer, verified_so explained answer told v)
+
     pub checked_so : (certificate : Option (List ℕ)) (line : List ℕ) (status : Status) → IsCheckedSo (Some tape) (Some numbers) certificate line status → IsSourceCheckedSo parts text certificate line status
     checked_so certificate line status v = record {
       tape = tape;
@@ -86,6 +99,11 @@ module _ (parts : List (List ℕ)) (text tape numbers : List ℕ) (h : IsNumbere
   work_fault (fault.Device device.Read) is = is
   work_fault (fault.Device device.Write) is = is
   work_fault fault.NoMemory is = is
+
+  pub verify_fault : NumberedIsTape → (left more : Option (List ℕ)) (f : Fault) → IsRefuteFault (input false (Some tape) left) (input false (Some numbers) more) f → IsProgramFault parts text f
+  verify_fault is_tape left more f (inl is) = absurd (no_tape_fault is_tape left f is)
+  verify_fault is_tape left more f (inr (good, inl is)) = declared_fault more f is
+  verify_fault is_tape left more f (inr (good, inr (declared, is))) = work_fault f is
 
   pub check_fault : NumberedIsTape → (left more : Option (List ℕ)) (certificate : Input) (f : Fault) → IsCheckFault (input false (Some tape) left) (input false (Some numbers) more) certificate f →
       IsProgramFault parts text f ⊎ IsCertificateInputFault certificate f

@@ -27,6 +27,12 @@ abbrev pub IsProgramFault : List (List ℕ) → List ℕ → Fault → Type 0
 IsProgramFault parts text (Declared fault) = IsMisdeclared parts text fault
 IsProgramFault parts text fault = IsRunFault fault
 
+-- Why there is no answer: the source, or the declaration with symbols, is refused; or else the declaration in numbers has a
+-- fault, a write failed, or memory was refused.
+abbrev pub IsSourcedFault : List (List ℕ) → List ℕ → SourcedFault → Type 0
+IsSourcedFault parts text (Numbering fault) = IsNumberingFault parts text fault
+IsSourcedFault parts text (Command fault) = IsProgramFault parts text fault
+
 -- Why a certificate of a program isn't checked: the source, or the declaration with symbols, is refused; or else the declaration
 -- in numbers or the certificate's text has a fault, a write failed, or memory was refused.
 abbrev pub IsCheckSourceFault : List (List ℕ) → List ℕ → Input → SourcedFault → Type 0

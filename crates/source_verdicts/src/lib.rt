@@ -5,5 +5,6 @@
 pub mod checking;
 pub mod fault;
 mod memory;
+pub mod verifying;
 
 pub use fault::SourcedFault;

@@ -16,7 +16,7 @@ use commands::guessing::guess;
 use commands::refuting::{RefuteOptions, refute};
 use commands::status::{Fault, Status};
 use commands::stuck::guess_or_explain;
-use commands::verifying::{Answer, Lack, VerifyOptions, answer_status, verify, verify_proposed};
+use commands::verifying::{Answer, Lack, VerifyOptions, answer_status, verify_proposed};
 use commands::watched_session::watch_session;
 use commands::watching::watch;
 use declaration::DeclarationFault;
@@ -24,6 +24,7 @@ use fault_texts::{FaultyFile, push_fault, push_omissions};
 use labels::{Numbered, number};
 use source_verdicts::SourcedFault;
 use source_verdicts::checking::check_source;
+use source_verdicts::verifying::verify_source;
 use std::alloc::Global;
 use std::io;
 use std::rt::Files;
@@ -31,6 +32,15 @@ use streams::put;
 use streams::standard::{Reads, Writes};
 use word12::Word;
 use wordset::WordSet;
+
+/// A source and the declaration of its program, as they were read.
+#[derive(Clone, Copy)]
+struct SourceText<'a> {
+    /// The parts of the source.
+    parts: &'a [&'a [u8]],
+    /// The declaration, which may have symbols of the source.
+    declaration: &'a [u8],
+}
 
 /// A tape in memory.
 fn frames_of(numbered: &Numbered<Global>) -> Reads<&[u8]>
@@ -63,32 +73,53 @@ fn with_reasons(
     Ok(told)
 }
 
-/// Says whether the program keeps its declaration.
-#[inline(never)]
-fn verify_numbered<R: Files + Print>(
+/// Tells the answer of a search, with what the program shows by itself where that is asked for, and saves what
+/// shows it.
+fn tell_answer<R: Files + Print>(
     rt: &R,
     alloc: Global,
     numbered: &Numbered<Global>,
+    answer: &Answer<Global>,
+    lines: &[u8],
     save: Option<&str>,
-    options: &VerifyOptions,
+    explained: bool,
 ) -> Result<Status, Fault> {
     let mut report = Vec::new(alloc);
-    let mut lines = Writes::new(&mut report);
-    let answer = verify(
+    match answer {
+        Answer::NotKnown(Lack::Stuck(at)) if explained => {
+            report.extend_from_slice(&with_reasons(alloc, numbered, lines, Some(*at))?)?;
+        }
+        _ => report.extend_from_slice(lines)?,
+    }
+    put(&mut Writes::new(io::writer(rt)), &report)?;
+    save_answer(rt, alloc, save, answer)?;
+    Ok(answer_status(answer))
+}
+
+/// Says whether the program keeps its declaration.
+#[inline(never)]
+fn verify_program<R: Files + Print>(
+    rt: &R,
+    alloc: Global,
+    given: &SourceText<'_>,
+    numbered: &Numbered<Global>,
+    save: Option<&str>,
+    options: &VerifyOptions,
+) -> Result<Status, SourcedFault> {
+    let mut text = Vec::new(alloc);
+    let mut lines = Writes::new(&mut text);
+    let answer = verify_source(
         alloc,
-        &mut frames_of(numbered),
-        &mut promise_of(numbered),
+        given.parts,
+        given.declaration,
         options.search,
         &mut lines,
     )?;
-    if let Answer::NotKnown(Lack::Stuck(at)) = &answer {
-        if options.search.explained {
-            report = with_reasons(alloc, numbered, &report, Some(*at))?;
-        }
+    let explained = options.search.explained;
+    match tell_answer(rt, alloc, numbered, &answer, &text, save, explained) {
+        Ok(status) => Ok(status),
+        Err(fault) => Err(SourcedFault::Command(fault)),
     }
-    put(&mut Writes::new(io::writer(rt)), &report)?;
-    save_answer(rt, alloc, save, &answer)?;
-    Ok(answer_status(&answer))
 }
 
 /// Says whether the program keeps the declaration that is proposed for it.
@@ -111,8 +142,7 @@ fn verify_alone<R: Files + Print>(
 fn check_program<R: Files + Input + Print>(
     rt: &R,
     alloc: Global,
-    parts: &[&[u8]],
-    text: &[u8],
+    given: &SourceText<'_>,
     certificate: &str,
 ) -> Result<Status, SourcedFault> {
     let mut claims = match open_input(rt, certificate) {
@@ -120,7 +150,7 @@ fn check_program<R: Files + Input + Print>(
         Err(fault) => return Err(SourcedFault::Command(fault)),
     };
     let mut out = Writes::new(io::writer(rt));
-    check_source(alloc, parts, text, &mut claims, &mut out)
+    check_source(alloc, given.parts, given.declaration, &mut claims, &mut out)
 }
 
 /// Checks the certificate of a file, and says why the verdict is no.
@@ -283,22 +313,15 @@ fn write_numbered<R: Files + Print>(
     Ok(Status::Done)
 }
 
-/// Does what is asked for with the tape and the numbers of a program, but for a check that isn't explained.
+/// Does what is asked for with the tape and the numbers of a program, but for what is said of its source.
 fn done_with_numbers<R: Files + Input + Print + Eprint>(
     rt: &R,
     alloc: Global,
     numbered: &Numbered<Global>,
     task: &Task<'_>,
-    promise: Promise,
 ) -> Result<Status, Fault> {
     match task {
-        Task::Verify { save, options, .. } => {
-            if promise == Promise::Proposed {
-                verify_alone(rt, alloc, numbered, *save, options)
-            } else {
-                verify_numbered(rt, alloc, numbered, *save, options)
-            }
-        }
+        Task::Verify { save, options, .. } => verify_alone(rt, alloc, numbered, *save, options),
         Task::Check { certificate, .. } => explain_numbered(rt, alloc, numbered, certificate),
         Task::Watch {
             events,
@@ -329,14 +352,21 @@ fn done_with<R: Files + Input + Print + Eprint>(
         Ok(numbered) => numbered,
         Err(fault) => return Err(SourcedFault::Numbering(fault)),
     };
-    if let Task::Check {
-        certificate,
-        explained: false,
-    } = task
-    {
-        return check_program(rt, alloc, parts, &given.text, certificate);
+    let source = SourceText {
+        parts,
+        declaration: &given.text,
+    };
+    match task {
+        Task::Check {
+            certificate,
+            explained: false,
+        } => return check_program(rt, alloc, &source, certificate),
+        Task::Verify { save, options, .. } if given.promise != Promise::Proposed => {
+            return verify_program(rt, alloc, &source, &numbered, *save, options);
+        }
+        _ => {}
     }
-    match done_with_numbers(rt, alloc, &numbered, task, given.promise) {
+    match done_with_numbers(rt, alloc, &numbered, task) {
         Ok(status) => Ok(status),
         Err(fault) => Err(SourcedFault::Command(fault)),
     }

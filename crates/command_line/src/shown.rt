@@ -1,21 +1,36 @@
 //! The cells that `--show` names.
 
+ghost use Rattle.std.specs.Prelude.{◌≡◌, ◌==◌};
+ghost use Rattle.std.specs.List.{position};
+
 use crate::requests::Refused;
 use clap::ArgMatches;
 use streams::text::{Words, octal_word};
 use wordset::WordSet;
 
-/// The cells of an address, or from one address to another, which isn't below it.
-fn range(word: &[u8]) -> Option<WordSet> {
-    let Some(at) = word.iter().position(|byte| *byte == b'-') else {
-        return octal_word(word).map(WordSet::one);
-    };
-    let low = octal_word(&word[..at])?;
-    let high = octal_word(&word[at + 1..])?;
+/// The first place of a dash.
+fn place_of_dash(word: &[u8]) -> Option<usize>
+    ensures { result ≡ position (λ c. c == 45) word.now }
+{
+    word.iter().position(|byte| *byte == b'-')
+}
+
+/// The cells from one address to another, which isn't below it.
+fn span(low: &[u8], high: &[u8]) -> Option<WordSet> {
+    let low = octal_word(low)?;
+    let high = octal_word(high)?;
     if low.value() <= high.value() {
         Some(WordSet::range(low, high))
     } else {
         None
+    }
+}
+
+/// The cells of an address, or from one address to another.
+fn range(word: &[u8]) -> Option<WordSet> {
+    match place_of_dash(word) {
+        None => octal_word(word).map(WordSet::one),
+        Some(at) => span(&word[..at], &word[at + 1..]),
     }
 }
 

@@ -13,7 +13,7 @@ from pathlib import Path
 sys.path.insert(0, str(Path(__file__).parent))
 from reports import examples, ran  # noqa: E402
 
-SIZES = {"wide": (1080, 2700), "narrow": (420, 4600)}
+SIZES = {"wide": (1080, 2780), "narrow": (420, 4600)}
 
 
 def browse(*words):
@@ -33,7 +33,7 @@ def main():
             browse(f"--screenshot={folder / f'{name}-{size}.png'}", f"--window-size={width},{height}", page.as_uri())
         browse(f"--print-to-pdf={folder / f'{name}.pdf'}", "--no-pdf-header-footer", page.as_uri())
         if name == "hello":
-            browse(f"--screenshot={folder / 'report.png'}", "--force-device-scale-factor=0.7", "--window-size=1080,2700", page.as_uri())
+            browse(f"--screenshot={folder / 'report.png'}", "--force-device-scale-factor=0.68", "--window-size=1080,2780", page.as_uri())
         print(*sorted(path.name for path in folder.glob(f"{name}[.-]*")))
 
 

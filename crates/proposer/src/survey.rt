@@ -28,6 +28,9 @@ const STEPS: u32 = 3_000_000;
 /// How many steps are tried at most, with those that break a declaration.
 const MOST_STEPS: u32 = STEPS + MOST_LESSONS;
 
+/// How many runs are made at most: a tape on which each is short has shown by then what it does.
+const MOST_RUNS: u32 = 20_000;
+
 /// How often the declaration is widened at most.
 const MOST_LESSONS: u32 = 1024;
 
@@ -116,7 +119,7 @@ pub(crate) fn surveyed<A: Allocator + Copy>(
         is_undeclarable: false,
     };
     let mut turns = Turns::new(MOST_STEPS);
-    for _run in 0..MOST_STEPS {
+    for _run in 0..MOST_RUNS {
         if turns.spent() >= turns.limit() || survey.is_undeclarable {
             break;
         }

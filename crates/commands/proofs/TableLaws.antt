@@ -1,5 +1,5 @@
 -- A run that events make is one of the instruction table.
-use Rattle.std.proofs.Common.{ℕ, ◌≡◌, ◌+◌, Bool, true, false, ◌&&◌, if◌then◌else◌, Option, Some, None, List, [], ◌∷◌, ◌++◌, length, length-append, refl, sym, ap, ◌∙◌}
+use Rattle.std.proofs.Common.{ℕ, suc, ◌≡◌, ◌+◌, Bool, true, false, ◌&&◌, if◌then◌else◌, Option, Some, None, List, [], ◌∷◌, ◌++◌, length, length-append, refl, sym, ap, ◌∙◌}
 use Rattle.std.specs.Prelude.{is_none, is_some}
 use Rattle.instruct.specs.declared.Profile.{Profile}
 use Rattle.instruct.specs.Instructions.{Meaning, Undefined, And, Tad, Isz, Dca, Jms, Jmp, Group1, Group2, Group3, Device}
@@ -82,7 +82,7 @@ happened p h events w x lines steps end (Went e es _ m _ what more n _ sees goes
 
 taken_counts : (taken : List Taken) → length (states_before taken) ≡ length taken
 taken_counts [] = refl
-taken_counts (k ∷ ks) = ap (λ (n : ℕ). n + 1) (taken_counts ks)
+taken_counts (k ∷ ks) = ap suc (taken_counts ks)
 
 pub follows_the_table : EventsAreRuns → FollowsTheTable
 follows_the_table runs profile ends events w x lines steps end follows =

@@ -1,5 +1,7 @@
 //! The report of a search for a certificate that is stuck.
 
+ghost use Rattle.std.specs.Prelude.{◌≡◌, false};
+
 use crate::files::{open_input, open_output};
 use command_line::Destination;
 use commands::drafting::report_draft;

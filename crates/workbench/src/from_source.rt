@@ -1,6 +1,8 @@
 //! Commands that work on a source and its declaration in place of a tape. The source is assembled in
 //! memory and the declaration written in numbers; what is done then is done by the commands for tapes.
 
+ghost use Rattle.std.specs.Prelude.{◌≡◌, false};
+
 use crate::drafted::{is_stuck, report_stuck};
 use crate::faults::{bound_text, stuck_address, with_omissions};
 use crate::files::{open_input, open_output};

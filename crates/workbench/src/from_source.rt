@@ -375,13 +375,13 @@ fn done_with<R: Files + Input + Print + Eprint>(
 }
 
 /// Tells the fault of a declaration that stands within a source, and below it where and why.
-fn tell_within<R: Eprint>(
+fn tell_within<'x, R: Eprint>(
     rt: &R,
     alloc: Global,
     fault: DeclarationFault,
-    names: &[&str],
+    names: &[&'x str],
     parts: &[&[u8]],
-    text: &[u8],
+    text: &'x [u8],
 ) -> Result<Status, Fault> {
     let counts = line_counts(alloc, parts)?;
     let number = line_of(fault);
@@ -395,6 +395,24 @@ fn tell_within<R: Eprint>(
     Ok(tell_with(rt, Fault::Declared(fault), &told))
 }
 
+/// Tells a fault of the command where it lies within the source; each other one is given on.
+fn tell_command<R: Eprint>(
+    rt: &R,
+    alloc: Global,
+    fault: Fault,
+    sourced: &Sourced<'_>,
+    given: &Given,
+    parts: &[&[u8]],
+) -> Result<Status, Fault> {
+    let Fault::Declared(declared) = fault else {
+        return Err(fault);
+    };
+    if given.promise == Promise::Within && sourced.task.is_explained() {
+        return tell_within(rt, alloc, declared, &sourced.sources, parts, &given.text);
+    }
+    Err(fault)
+}
+
 /// Does what is asked for with a source and its declaration that were read, or tells why they are refused.
 fn answer_given<R: Files + Input + Print + Eprint>(
     rt: &R,
@@ -403,16 +421,14 @@ fn answer_given<R: Files + Input + Print + Eprint>(
     given: &Given,
 ) -> Result<Status, Fault> {
     let slices = lend(alloc, &given.parts)?;
-    let within = given.promise == Promise::Within && sourced.task.is_explained();
     match done_with(rt, alloc, &slices, given, &sourced.task) {
         Ok(status) => Ok(status),
         Err(SourcedFault::Numbering(fault)) => {
             Ok(tell_refused(rt, alloc, fault, sourced, &slices, &given.text))
         }
-        Err(SourcedFault::Command(Fault::Declared(fault))) if within => {
-            tell_within(rt, alloc, fault, &sourced.sources, &slices, &given.text)
+        Err(SourcedFault::Command(fault)) => {
+            tell_command(rt, alloc, fault, sourced, given, &slices)
         }
-        Err(SourcedFault::Command(fault)) => Err(fault),
     }
 }
 

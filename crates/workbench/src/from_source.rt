@@ -9,7 +9,7 @@ use crate::files::{open_input, open_output};
 use crate::joined::{open_input_if, tell_to};
 use crate::numbering::{Given, Prepared, Promise, lend, read_all, tell_refused};
 use crate::saving::{save_answer, save_proposed};
-use crate::spots::{behind_lines, line_counts, line_of, on_line, spot_of};
+use crate::spots::{Spot, behind_lines, line_counts, line_of, on_line, spot_of};
 use crate::telling::tell_with;
 use command_line::{Destination, Sourced, Task, WatchedSession};
 use command_parts::inputs::{declaration_from, tape_from};
@@ -374,25 +374,45 @@ fn done_with<R: Files + Input + Print + Eprint>(
     }
 }
 
+/// The lines on a fault of a declaration within a source, of which the line stands there.
+fn within_lines<'x>(
+    alloc: Global,
+    fault: DeclarationFault,
+    spot: &Spot<'x>,
+    text: &'x [u8],
+) -> String {
+    let behind = line_of(fault).saturating_sub(spot.line);
+    let shown = Fault::Declared(on_line(fault, spot.line));
+    let file = FaultyFile {
+        name: spot.name,
+        bytes: behind_lines(text, behind),
+    };
+    let mut told = String::new(alloc);
+    let _ = push_fault(&mut told, shown, &file);
+    told
+}
+
 /// Tells the fault of a declaration that stands within a source, and below it where and why.
-fn tell_within<'x, R: Eprint>(
+fn tell_within<R: Eprint>(
     rt: &R,
     alloc: Global,
     fault: DeclarationFault,
-    names: &[&'x str],
+    names: &[&str],
     parts: &[&[u8]],
-    text: &'x [u8],
+    text: &[u8],
 ) -> Result<Status, Fault> {
     let counts = line_counts(alloc, parts)?;
-    let number = line_of(fault);
-    let spot = spot_of(names, &counts, number);
-    let file = FaultyFile {
-        name: spot.name,
-        bytes: behind_lines(text, number.saturating_sub(spot.line)),
-    };
-    let mut told = String::new(alloc);
-    let _ = push_fault(&mut told, Fault::Declared(on_line(fault, spot.line)), &file);
-    Ok(tell_with(rt, Fault::Declared(fault), &told))
+    let spot = spot_of(names, &counts, line_of(fault));
+    let lines = within_lines(alloc, fault, &spot, text);
+    Ok(tell_with(rt, Fault::Declared(fault), &lines))
+}
+
+/// The declaration's fault, if it is one.
+fn declaration_fault(fault: Fault) -> Option<DeclarationFault> {
+    match fault {
+        Fault::Declared(declared) => Some(declared),
+        _ => None,
+    }
 }
 
 /// Tells a fault of the command where it lies within the source; each other one is given on.
@@ -404,11 +424,10 @@ fn tell_command<R: Eprint>(
     given: &Given,
     parts: &[&[u8]],
 ) -> Result<Status, Fault> {
-    let Fault::Declared(declared) = fault else {
-        return Err(fault);
-    };
     if given.promise == Promise::Within && sourced.task.is_explained() {
-        return tell_within(rt, alloc, declared, &sourced.sources, parts, &given.text);
+        if let Some(declared) = declaration_fault(fault) {
+            return tell_within(rt, alloc, declared, &sourced.sources, parts, &given.text);
+        }
     }
     Err(fault)
 }

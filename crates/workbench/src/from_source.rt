@@ -377,12 +377,12 @@ fn done_with<R: Files + Input + Print + Eprint>(
 /// The lines on a fault of a declaration within a source, of which the line stands there.
 fn within_lines<'x>(
     alloc: Global,
-    fault: DeclarationFault,
+    fault: &DeclarationFault,
     spot: &Spot<'x>,
     text: &'x [u8],
 ) -> String {
-    let behind = line_of(fault).saturating_sub(spot.line);
-    let shown = Fault::Declared(on_line(fault, spot.line));
+    let behind = line_of(*fault).saturating_sub(spot.line);
+    let shown = Fault::Declared(on_line(*fault, spot.line));
     let file = FaultyFile {
         name: spot.name,
         bytes: behind_lines(text, behind),
@@ -396,21 +396,21 @@ fn within_lines<'x>(
 fn tell_within<R: Eprint>(
     rt: &R,
     alloc: Global,
-    fault: DeclarationFault,
+    fault: &DeclarationFault,
     names: &[&str],
     parts: &[&[u8]],
     text: &[u8],
 ) -> Result<Status, Fault> {
     let counts = line_counts(alloc, parts)?;
-    let spot = spot_of(names, &counts, line_of(fault));
+    let spot = spot_of(names, &counts, line_of(*fault));
     let lines = within_lines(alloc, fault, &spot, text);
-    Ok(tell_with(rt, Fault::Declared(fault), &lines))
+    Ok(tell_with(rt, Fault::Declared(*fault), &lines))
 }
 
 /// The declaration's fault, if it is one.
-fn declaration_fault(fault: Fault) -> Option<DeclarationFault> {
+fn declaration_fault(fault: &Fault) -> Option<DeclarationFault> {
     match fault {
-        Fault::Declared(declared) => Some(declared),
+        Fault::Declared(declared) => Some(*declared),
         _ => None,
     }
 }
@@ -419,17 +419,17 @@ fn declaration_fault(fault: Fault) -> Option<DeclarationFault> {
 fn tell_command<R: Eprint>(
     rt: &R,
     alloc: Global,
-    fault: Fault,
+    fault: &Fault,
     sourced: &Sourced<'_>,
     given: &Given,
     parts: &[&[u8]],
 ) -> Result<Status, Fault> {
     if given.promise == Promise::Within && sourced.task.is_explained() {
         if let Some(declared) = declaration_fault(fault) {
-            return tell_within(rt, alloc, declared, &sourced.sources, parts, &given.text);
+            return tell_within(rt, alloc, &declared, &sourced.sources, parts, &given.text);
         }
     }
-    Err(fault)
+    Err(*fault)
 }
 
 /// Does what is asked for with a source and its declaration that were read, or tells why they are refused.
@@ -446,7 +446,7 @@ fn answer_given<R: Files + Input + Print + Eprint>(
             Ok(tell_refused(rt, alloc, fault, sourced, &slices, &given.text))
         }
         Err(SourcedFault::Command(fault)) => {
-            tell_command(rt, alloc, fault, sourced, given, &slices)
+            tell_command(rt, alloc, &fault, sourced, given, &slices)
         }
     }
 }

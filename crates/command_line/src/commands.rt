@@ -156,7 +156,7 @@ const GUESSED_OUT: Argument = Argument {
 const REPORT_OUT: Argument = Argument {
     name: "OUT",
     short: None,
-    form: Form::ResultOperand,
+    form: Form::ResultOrSource,
     help: "where the report goes, or - for standard output; it is emptied first",
 };
 
@@ -421,12 +421,13 @@ static WATCH_ARGUMENTS: [Argument; 11] = [
 
 static CHECK_ARGUMENTS: [Argument; 5] = [TAPE_OR_SOURCE, DECLARED, CLAIMED, PARTS, WHY_CHECK];
 
-static REPORT_ARGUMENTS: [Argument; 7] = [
-    TAPE,
-    DECLARATION,
-    CERTIFICATE,
+static REPORT_ARGUMENTS: [Argument; 8] = [
+    TAPE_OR_SOURCE,
+    DECLARED,
+    CLAIMED,
     REPORT_OUT,
     OUTPUT,
+    PARTS,
     TEXT,
     WHY_INPUT,
 ];

@@ -16,6 +16,7 @@ use command_parts::inputs::{declaration_from, tape_from};
 use commands::explaining::explain;
 use commands::guessing::guess;
 use commands::refuting::{RefuteOptions, refute};
+use commands::reporting::{Form, report};
 use commands::status::{Fault, Status};
 use commands::stuck::guess_or_explain;
 use commands::verifying::{Answer, Lack, VerifyOptions, answer_status, verify_proposed};
@@ -174,6 +175,29 @@ fn explain_numbered<R: Files + Input + Print>(
     )
 }
 
+/// Writes what the certificate of a file says.
+#[inline(never)]
+fn report_numbered<R: Files + Input + Print>(
+    rt: &R,
+    alloc: Global,
+    numbered: &Numbered<Global>,
+    certificate: &str,
+    out: Destination<'_>,
+    text: bool,
+) -> Result<Status, Fault> {
+    let mut claims = open_input(rt, certificate)?;
+    let mut page = open_output(rt, out)?;
+    let form = if text { Form::Text } else { Form::Page };
+    report(
+        alloc,
+        &mut frames_of(numbered),
+        &mut promise_of(numbered),
+        &mut claims,
+        &mut page,
+        form,
+    )
+}
+
 /// Watches a run by the events of a file.
 #[inline(never)]
 fn watch_numbered<R: Files + Input + Print>(
@@ -325,6 +349,12 @@ fn done_with_numbers<R: Files + Input + Print + Eprint>(
     match task {
         Task::Verify { save, options, .. } => verify_alone(rt, alloc, numbered, *save, options),
         Task::Check { certificate, .. } => explain_numbered(rt, alloc, numbered, certificate),
+        Task::Report {
+            certificate,
+            out,
+            text,
+            ..
+        } => report_numbered(rt, alloc, numbered, certificate, *out, *text),
         Task::Watch {
             events,
             explained,

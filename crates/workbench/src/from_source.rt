@@ -9,6 +9,7 @@ use crate::files::{open_input, open_output};
 use crate::joined::{open_input_if, tell_to};
 use crate::numbering::{Given, Prepared, Promise, lend, read_all, tell_refused};
 use crate::saving::{save_answer, save_proposed};
+use crate::source_lines::with_source_lines;
 use crate::spots::{Spot, behind_lines, line_counts, line_of, on_line, spot_of};
 use crate::telling::tell_with;
 use command_line::{Destination, Sourced, Task, WatchedSession};
@@ -81,6 +82,7 @@ fn with_reasons(
 fn tell_answer<R: Files + Print>(
     rt: &R,
     alloc: Global,
+    given: &SourceText<'_>,
     numbered: &Numbered<Global>,
     answer: &Answer<Global>,
     lines: &[u8],
@@ -93,6 +95,9 @@ fn tell_answer<R: Files + Print>(
             report.extend_from_slice(&with_reasons(alloc, numbered, lines, Some(*at))?)?;
         }
         _ => report.extend_from_slice(lines)?,
+    }
+    if explained {
+        report = with_source_lines(alloc, given.parts, given.declaration, &report)?;
     }
     put(&mut Writes::new(io::writer(rt)), &report)?;
     save_answer(rt, alloc, save, answer)?;
@@ -119,7 +124,7 @@ fn verify_program<R: Files + Print>(
         &mut lines,
     )?;
     let explained = options.search.explained;
-    match tell_answer(rt, alloc, numbered, &answer, &text, save, explained) {
+    match tell_answer(rt, alloc, given, numbered, &answer, &text, save, explained) {
         Ok(status) => Ok(status),
         Err(fault) => Err(SourcedFault::Command(fault)),
     }

@@ -428,7 +428,7 @@ impl<A: Allocator + Copy> RunSearch<A> {
         turns.are_within();
         if let Some(glance) = trial.glance {
             trial.glance = None;
-            if let Some(breaks) = self.end_of_step(program, trial, glance, turns)? {
+            if let Some(breaks) = self.end_of_step(program, trial, &glance, turns)? {
                 return Ok(breaks);
             }
         }
@@ -445,7 +445,7 @@ impl<A: Allocator + Copy> RunSearch<A> {
             if !goes_on {
                 return Ok(false);
             }
-            if let Some(breaks) = self.end_of_step(program, trial, glance, turns)? {
+            if let Some(breaks) = self.end_of_step(program, trial, &glance, turns)? {
                 return Ok(breaks);
             }
         }
@@ -457,7 +457,7 @@ impl<A: Allocator + Copy> RunSearch<A> {
         &mut self,
         program: &DeclaredProgram<'_, D>,
         trial: &mut Trial<A>,
-        glance: Glance,
+        glance: &Glance,
         turns: &mut Turns,
     ) -> Result<Option<bool>, NoMemory>
         requires profile { profile_of trial.old.watcher.world
@@ -473,14 +473,14 @@ impl<A: Allocator + Copy> RunSearch<A> {
             &mut trial.watcher,
             &mut trial.run,
             &trial.plan,
-            &glance,
+            glance,
             turns,
         )?;
         match progress {
             Progress::GoesOn => Ok(None),
             Progress::Over => Ok(Some(false)),
             Progress::Broken => {
-                trial.glance = Some(glance);
+                trial.glance = Some(*glance);
                 Ok(Some(true))
             }
         }

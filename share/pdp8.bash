@@ -35,7 +35,7 @@ _pdp8() {
         teletype) options='--start --profile --reader --punch --switches --mark --raw --show --why --help' ;;
         watch) options='--source --reader --keys --mark --switches --steps --show --why --help' ;;
         check) options='--source --why --help' ;;
-        report) options='--output --text --why --help' ;;
+        report) options='--output --source --text --why --help' ;;
         guess) options='--output --source --report --why --help' ;;
         refute) options='--output --source --steps --seed --why --help' ;;
         declare) options='--output --start --reads --profile --why --help' ;;

@@ -18,7 +18,7 @@ const STATUSES: &str = "Exit status:
 Files are opened in the order of the operands; - is standard input, and for OUT standard output.
 
 Example:
-  pdp8 assemble hello.bin hello.pal && pdp8 run hello.bin";
+  pdp8 assemble -o hello.bin hello.pal && pdp8 run hello.bin";
 
 const TAPE: Argument = Argument {
     name: "TAPE",
@@ -101,7 +101,7 @@ const PROPOSED: Argument = Argument {
     name: "DECLARATION",
     short: None,
     form: Form::OptionalOperand,
-    help: "the declaration, or - for standard input; without it one is proposed",
+    help: "the declaration, or - for standard input; without it the /: lines of the source are, and where there are none one is proposed",
 };
 
 const TAPE_OUT: Argument = Argument {
@@ -156,7 +156,7 @@ const GUESSED_OUT: Argument = Argument {
 const REPORT_OUT: Argument = Argument {
     name: "OUT",
     short: None,
-    form: Form::ResultOperand,
+    form: Form::ResultOrSource,
     help: "where the report goes, or - for standard output; it is emptied first",
 };
 
@@ -421,12 +421,13 @@ static WATCH_ARGUMENTS: [Argument; 11] = [
 
 static CHECK_ARGUMENTS: [Argument; 5] = [TAPE_OR_SOURCE, DECLARED, CLAIMED, PARTS, WHY_CHECK];
 
-static REPORT_ARGUMENTS: [Argument; 7] = [
-    TAPE,
-    DECLARATION,
-    CERTIFICATE,
+static REPORT_ARGUMENTS: [Argument; 8] = [
+    TAPE_OR_SOURCE,
+    DECLARED,
+    CLAIMED,
     REPORT_OUT,
     OUTPUT,
+    PARTS,
     TEXT,
     WHY_INPUT,
 ];
@@ -472,7 +473,7 @@ static VERIFY: Entry = Entry {
     name: "verify",
     usage: Some("pdp8 verify [OPTIONS] <TAPE> [DECLARATION]"),
     about: "Says whether a program keeps its declaration: yes, no or not known",
-    after_help: "Without DECLARATION one is proposed for the start and the machine that --start and --profile name; with one they are its own.\n\nExample:\n  pdp8 verify hello.bin hello.declaration",
+    after_help: "Without DECLARATION, and without /: lines in the source, one is proposed for the start and the machine that --start and --profile name; with one they are its own.\n\nExample:\n  pdp8 verify hello.bin hello.declaration",
 };
 
 static RUN: Entry = Entry {

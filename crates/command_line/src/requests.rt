@@ -10,7 +10,7 @@ use crate::reported::{Reported, report_request};
 use crate::shown::shown_cells;
 use crate::sourced::{
     Sourced, has_source, place_request, sourced_check, sourced_guess, sourced_refute,
-    sourced_verify, sourced_watch,
+    sourced_report, sourced_verify, sourced_watch,
 };
 use clap::error::ErrorKind;
 use clap::{ArgMatches, Error};
@@ -512,6 +512,7 @@ fn sourced_request<'a>(
         "watch" => sourced_watch(alloc, found),
         "guess" => sourced_guess(alloc, found),
         "refute" => sourced_refute(alloc, found),
+        "report" => sourced_report(alloc, found),
         _ => sourced_check(alloc, found),
     }
 }

@@ -42,6 +42,17 @@ pub enum Task<'a> {
         /// Whether it is said why the verdict is no.
         explained: bool,
     },
+    /// To write what a certificate says.
+    Report {
+        /// The name of the certificate's file.
+        certificate: &'a str,
+        /// Where the report goes.
+        out: Destination<'a>,
+        /// Whether it is plain text.
+        text: bool,
+        /// Whether it is said what is wrong with an input that is refused.
+        explained: bool,
+    },
     /// To watch a run.
     Watch {
         /// The name of the file of events.
@@ -90,6 +101,15 @@ impl<'a> Sourced<'a> {
                 certificate: Some(certificate),
                 ..none
             },
+            Task::Report {
+                certificate,
+                out,
+                ..
+            } => FileNames {
+                certificate: Some(certificate),
+                output: Some(out.name()),
+                ..none
+            },
             Task::Watch { events, .. } => FileNames {
                 events: Some(events),
                 ..none
@@ -116,6 +136,7 @@ impl<'a> Task<'a> {
         match self {
             Task::Verify { options, .. } => options.search.explained,
             Task::Check { explained, .. }
+            | Task::Report { explained, .. }
             | Task::Watch { explained, .. }
             | Task::Guess { explained, .. }
             | Task::Place { explained, .. } => *explained,
@@ -246,6 +267,32 @@ pub fn sourced_check<'a>(alloc: Global, found: &ArgMatches<'a>) -> Result<Reques
         declaration,
         task: Task::Check {
             certificate,
+            explained: found.get_flag("why"),
+        },
+    }))
+}
+
+/// The request for the report of a certificate for a source. It goes to the value of `-o`: all operands are
+/// inputs.
+pub fn sourced_report<'a>(alloc: Global, found: &ArgMatches<'a>) -> Result<Request<'a>, Refused> {
+    if found.get_str("output").is_none() {
+        return Err(Refused::NoOperand("-o OUT"));
+    }
+    let operands = operands_of(found, Some("CERTIFICATE"))?;
+    let certificate = operands.last.unwrap_or("-");
+    let declaration = operands.declaration;
+    let sources = parts_of(alloc, found, &[declaration.unwrap_or(""), certificate])?;
+    let mut inputs = Vec::new(alloc);
+    inputs.extend_from_slice(&sources)?;
+    inputs.extend_from_slice(&[declaration.unwrap_or("-"), certificate])?;
+    let out = result_of(found, None, &inputs)?;
+    Ok(Request::Sourced(Sourced {
+        sources,
+        declaration,
+        task: Task::Report {
+            certificate,
+            out,
+            text: found.get_flag("text"),
             explained: found.get_flag("why"),
         },
     }))

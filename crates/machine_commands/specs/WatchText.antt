@@ -8,12 +8,10 @@ use Rattle.declaration.specs.Declaration.{Declaration}
 use Rattle.policy.specs.declared.rules.Rule.{Rule}
 use Rattle.policy.specs.declared.watcher.Watched.{Watched}
 use Rattle.policy.specs.declared.watcher.Watched.TheVariants.{Clean, Broken}
-use Rattle.policy.specs.Watching.{IsClean, BreaksAt, number_of}
+use Rattle.policy.specs.Watching.{IsClean, BreaksAt, LeadsTo, number_of}
 use Rattle.command_parts.specs.declared.status.Status.{Status}
 use Rattle.command_parts.specs.declared.status.Status.TheVariants.{Done, Refused}
 use Rattle.command_parts.specs.Inputs.{HasImage, HasEvents, HasDeclaration}
-use Rattle.machine_commands.specs.declared.follow.End.{End}
-use Rattle.machine_commands.specs.Follows.{Follows}
 use Rattle.machine_commands.specs.Running.{fresh}
 use Rattle.machine_commands.specs.Summary.{cells_text}
 
@@ -42,21 +40,18 @@ abbrev pub happening : Watched → List Event → List Event
 happening Clean events = events
 happening (Broken n r) events = take n events
 
--- On the declared machine and from the declared start these events lead to a world, and these are the lines of the named cells,
--- each with its word in that world.
-pub record IsLeft (named : ℕ → Bool) (image : List (Option ℕ)) (d : Declaration) (events : List Event) (shown : List ℕ) : Type 0 where
-  pub lines : List ℕ
-  pub steps : ℕ
-  pub end : End
+-- These events lead the declared run, in which a CONTINUE counts at a pause alone, from the declared start to a world, and these
+-- are the lines of the named cells, each with its word in that world.
+pub record CellsAfter (named : ℕ → Bool) (image : List (Option ℕ)) (d : Declaration) (events : List Event) (shown : List ℕ) : Type 0 where
   pub final : WorldState
-  pub follows : Follows d.profile false events (fresh image d.start) lines steps end final
+  pub leads : LeadsTo d events (fresh image d.start) final
   pub shown_is : shown ≡ cells_text named final
 
 -- What is shown of the cells when a watched run is over: each that is named, with its word after the events that happen; and
 -- nothing where none is named.
 pub record IsShown (named : ℕ → Bool) (image : List (Option ℕ)) (d : Declaration) (events : List Event) (watched : Watched) (shown : List ℕ) : Type 0 where
   pub none : has_some named ≡ false → shown ≡ []
-  pub some : has_some named ≡ true → IsLeft named image d (happening watched events) shown
+  pub some : has_some named ≡ true → CellsAfter named image d (happening watched events) shown
 
 -- What is told of a watched run: the line of what is seen, and behind it, only where it is to be explained, some lines more,
 -- of which nothing is said here.

@@ -134,6 +134,18 @@ fn push_progress<A: Allocator, B: Allocator>(
     push_standing(text, world)
 }
 
+/// Whether an event counts in a declared run: a CONTINUE does at a pause alone.
+fn counts<A: Allocator, D: Allocator>(
+    world: &World<A>,
+    declaration: &Declaration<D>,
+    event: &Event,
+) -> bool {
+    match (event, world.halted_at()) {
+        (Event::Continue, Some(at)) => declaration.is_pause(at),
+        _ => true,
+    }
+}
+
 /// How far the declared run of some events came.
 pub(crate) fn progress_lines<A: Allocator + Copy, D: Allocator>(
     alloc: A,
@@ -156,8 +168,10 @@ pub(crate) fn progress_lines<A: Allocator + Copy, D: Allocator>(
         keys: 0,
     };
     for event in events {
-        let seen = world.apply(*event)?;
-        came.count(event, &seen);
+        if counts(&world, declaration, event) {
+            let seen = world.apply(*event)?;
+            came.count(event, &seen);
+        }
     }
     let mut text = Vec::new(alloc);
     push_progress(&mut text, &world, &came, offered)?;

@@ -3,16 +3,14 @@
 ghost use Rattle.std.specs.Prelude.{◌≡◌, take, IfOk};
 ghost use Rattle.wordset.specs.Lanes.{words};
 ghost use Rattle.declaration.specs.Kept.{meaning};
-ghost use Rattle.machine_commands.specs.WatchText.{IsLeft, IsShown, happening};
+ghost use Rattle.machine_commands.specs.WatchText.{CellsAfter, IsShown, happening};
 
-use crate::follow::{Course, follow};
 use crate::summary::push_shown;
 use bin_tape::Image;
 use declaration::Declaration;
-use peripherals::{Event, NoMemory, Start, World};
-use policy::Watched;
+use peripherals::{Event, NoMemory, Start};
+use policy::{Watched, run_declared};
 use std::alloc::Allocator;
-use streams::standard::Writes;
 use wordset::WordSet;
 
 /// The first of some events, so many.
@@ -45,20 +43,10 @@ fn cells_after<A: Allocator + Copy, D: Allocator>(
     show: &WordSet,
 ) -> Result<Vec<u8, A>, NoMemory>
     ensures { IfOk result (λ text.
-        IsLeft (words show.now) image.now (meaning declaration.now) events.now text.items) }
+        CellsAfter (words show.now) image.now (meaning declaration.now) events.now text.items) }
 {
     let start = Start::zero();
-    let mut world = World::load(
-        alloc,
-        image,
-        declaration.start(),
-        &start,
-        declaration.profile(),
-    );
-    let mut nothing = Writes::new(Vec::new(alloc));
-    let Ok(outcome) = follow(&mut world, &mut nothing, false, &Course::Listed(events)) else {
-        return Err(NoMemory);
-    };
+    let world = run_declared(alloc, image, declaration, &start, events)?;
     let mut text = Vec::new(alloc);
     push_shown(&mut text, show, &world)?;
     Ok(text)

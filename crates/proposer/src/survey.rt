@@ -108,7 +108,7 @@ pub(crate) fn surveyed<A: Allocator + Copy>(
         image,
         declaration: &declaration,
     };
-    let mut search = RunSearch::new(alloc, &program, SEED)?;
+    let mut search = RunSearch::recording(alloc, &program, SEED)?;
     let mut survey = Survey {
         alloc,
         map: *map,

@@ -56,6 +56,8 @@ pub struct RunSearch<A: Allocator> {
     tree: Tree<A>,
     aims: Aims<A>,
     record: Record<A>,
+    /// Whether what steps do is recorded: that takes time.
+    records: bool,
     /// The steps that were made, and one for each run without a step.
     clock: u32,
     /// What it was when the last run began.
@@ -90,7 +92,8 @@ pub struct Trial<A: Allocator> {
 #[derive(Clone, Copy)]
 struct Glance {
     at: Word,
-    sight: Sight,
+    /// What is recorded of the step, if anything is.
+    sight: Option<Sight>,
     ac: Word,
     look: Look,
     /// The address that an indirect reference uses, or the cell that a direct one stores in.
@@ -117,11 +120,27 @@ impl<A: Allocator + Copy> RunSearch<A> {
             tree: Tree::new(alloc, program)?,
             aims: Aims::none(alloc)?,
             record: Record::nothing(alloc)?,
+            records: false,
             clock: 0,
             begun: 0,
             roamed: 0,
             lesson: FIRST_LESSON,
         })
+    }
+
+    /// The same, of a search that records what steps do.
+    ///
+    /// # Errors
+    ///
+    /// `NoMemory` where memory was refused.
+    pub fn recording<D: Allocator>(
+        alloc: A,
+        program: &DeclaredProgram<'_, D>,
+        seed: u64,
+    ) -> Result<RunSearch<A>, NoMemory> {
+        let mut search = RunSearch::new(alloc, program, seed)?;
+        search.records = true;
+        Ok(search)
     }
 
     /// One run. If it breaks a rule, what is told are its events as a text, without those that aren't
@@ -409,7 +428,7 @@ impl<A: Allocator + Copy> RunSearch<A> {
         turns.are_within();
         if let Some(glance) = trial.glance {
             trial.glance = None;
-            if let Some(breaks) = self.end_of_step(program, trial, glance, turns)? {
+            if let Some(breaks) = self.end_of_step(program, trial, &glance, turns)? {
                 return Ok(breaks);
             }
         }
@@ -426,7 +445,7 @@ impl<A: Allocator + Copy> RunSearch<A> {
             if !goes_on {
                 return Ok(false);
             }
-            if let Some(breaks) = self.end_of_step(program, trial, glance, turns)? {
+            if let Some(breaks) = self.end_of_step(program, trial, &glance, turns)? {
                 return Ok(breaks);
             }
         }
@@ -438,7 +457,7 @@ impl<A: Allocator + Copy> RunSearch<A> {
         &mut self,
         program: &DeclaredProgram<'_, D>,
         trial: &mut Trial<A>,
-        glance: Glance,
+        glance: &Glance,
         turns: &mut Turns,
     ) -> Result<Option<bool>, NoMemory>
         requires profile { profile_of trial.old.watcher.world
@@ -454,20 +473,21 @@ impl<A: Allocator + Copy> RunSearch<A> {
             &mut trial.watcher,
             &mut trial.run,
             &trial.plan,
-            &glance,
+            glance,
             turns,
         )?;
         match progress {
             Progress::GoesOn => Ok(None),
             Progress::Over => Ok(Some(false)),
             Progress::Broken => {
-                trial.glance = Some(glance);
+                trial.glance = Some(*glance);
                 Ok(Some(true))
             }
         }
     }
 
-    /// What steps were seen to do in all runs so far, apart from those that only break a rule once more.
+    /// What steps were seen to do in all runs so far, apart from those that only break a rule once more;
+    /// nothing but how many runs there were, where that isn't recorded.
     pub fn record(&self) -> &Record<A> {
         &self.record
     }
@@ -589,9 +609,14 @@ impl<A: Allocator + Copy> RunSearch<A> {
             Look::Stored => target(word, cpu.pc),
             _ => Word::ZERO,
         };
+        let sight = if self.records {
+            Some(Sight::of(watcher, cpu.profile))
+        } else {
+            None
+        };
         Glance {
             at: cpu.pc,
-            sight: Sight::of(watcher, cpu.profile),
+            sight,
             ac: cpu.ac,
             look,
             place,
@@ -633,7 +658,9 @@ impl<A: Allocator + Copy> RunSearch<A> {
         if plan.purpose == Purpose::Roam {
             self.roamed = self.roamed.saturating_add(1);
         }
-        self.record.makes(&glance.sight);
+        if let Some(sight) = &glance.sight {
+            self.record.makes(sight);
+        }
     }
 
     /// Notes what is new after a step.

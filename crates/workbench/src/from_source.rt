@@ -9,6 +9,7 @@ use crate::files::{open_input, open_output};
 use crate::joined::{open_input_if, tell_to};
 use crate::numbering::{Given, Prepared, Promise, lend, read_all, tell_refused};
 use crate::saving::{save_answer, save_proposed};
+use crate::source_lines::with_source_lines;
 use crate::spots::{Spot, behind_lines, line_counts, line_of, on_line, spot_of};
 use crate::telling::tell_with;
 use command_line::{Destination, Sourced, Task, WatchedSession};
@@ -16,6 +17,7 @@ use command_parts::inputs::{declaration_from, tape_from};
 use commands::explaining::explain;
 use commands::guessing::guess;
 use commands::refuting::{RefuteOptions, refute};
+use commands::reporting::{Form, report};
 use commands::status::{Fault, Status};
 use commands::stuck::guess_or_explain;
 use commands::verifying::{Answer, Lack, VerifyOptions, answer_status, verify_proposed};
@@ -80,6 +82,7 @@ fn with_reasons(
 fn tell_answer<R: Files + Print>(
     rt: &R,
     alloc: Global,
+    given: &SourceText<'_>,
     numbered: &Numbered<Global>,
     answer: &Answer<Global>,
     lines: &[u8],
@@ -92,6 +95,9 @@ fn tell_answer<R: Files + Print>(
             report.extend_from_slice(&with_reasons(alloc, numbered, lines, Some(*at))?)?;
         }
         _ => report.extend_from_slice(lines)?,
+    }
+    if explained {
+        report = with_source_lines(alloc, given.parts, given.declaration, &report)?;
     }
     put(&mut Writes::new(io::writer(rt)), &report)?;
     save_answer(rt, alloc, save, answer)?;
@@ -118,7 +124,7 @@ fn verify_program<R: Files + Print>(
         &mut lines,
     )?;
     let explained = options.search.explained;
-    match tell_answer(rt, alloc, numbered, &answer, &text, save, explained) {
+    match tell_answer(rt, alloc, given, numbered, &answer, &text, save, explained) {
         Ok(status) => Ok(status),
         Err(fault) => Err(SourcedFault::Command(fault)),
     }
@@ -171,6 +177,29 @@ fn explain_numbered<R: Files + Input + Print>(
         &mut promise_of(numbered),
         &mut claims,
         &mut out,
+    )
+}
+
+/// Writes what the certificate of a file says.
+#[inline(never)]
+fn report_numbered<R: Files + Input + Print>(
+    rt: &R,
+    alloc: Global,
+    numbered: &Numbered<Global>,
+    certificate: &str,
+    out: Destination<'_>,
+    text: bool,
+) -> Result<Status, Fault> {
+    let mut claims = open_input(rt, certificate)?;
+    let mut page = open_output(rt, out)?;
+    let form = if text { Form::Text } else { Form::Page };
+    report(
+        alloc,
+        &mut frames_of(numbered),
+        &mut promise_of(numbered),
+        &mut claims,
+        &mut page,
+        form,
     )
 }
 
@@ -325,6 +354,12 @@ fn done_with_numbers<R: Files + Input + Print + Eprint>(
     match task {
         Task::Verify { save, options, .. } => verify_alone(rt, alloc, numbered, *save, options),
         Task::Check { certificate, .. } => explain_numbered(rt, alloc, numbered, certificate),
+        Task::Report {
+            certificate,
+            out,
+            text,
+            ..
+        } => report_numbered(rt, alloc, numbered, certificate, *out, *text),
         Task::Watch {
             events,
             explained,

@@ -11,6 +11,7 @@ mod numbering;
 mod program;
 mod reported;
 mod saving;
+mod source_lines;
 mod sources;
 mod spots;
 mod telling;

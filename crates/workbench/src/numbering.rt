@@ -163,8 +163,26 @@ fn line_of(fault: PlaceFault) -> usize {
     }
 }
 
-/// Tells the fault of a declaration with symbols, and below its line what is wrong, if that is asked for.
-fn tell_placing<R: Eprint>(rt: &R, fault: PlaceFault, spot: &Spot<'_>, explained: bool) -> Status {
+/// The line of this number of a declaration, if it is text; else nothing.
+fn shown_line(text: &[u8], number: usize) -> &str {
+    let mut left = number;
+    for line in Lines::of(text) {
+        if left <= 1 {
+            return str::from_utf8(line).unwrap_or("");
+        }
+        left = left.saturating_sub(1);
+    }
+    ""
+}
+
+/// Tells the fault of a declaration with symbols, and below it the line and what is wrong, if that is asked for.
+fn tell_placing<R: Eprint>(
+    rt: &R,
+    fault: PlaceFault,
+    spot: &Spot<'_>,
+    text: &[u8],
+    explained: bool,
+) -> Status {
     let told = eprintln!(rt; "pdp8: declaration: {fault}");
     if !explained || told.is_err() {
         return Status::Refused;
@@ -173,7 +191,8 @@ fn tell_placing<R: Eprint>(rt: &R, fault: PlaceFault, spot: &Spot<'_>, explained
     let told = if line == 0 {
         eprintln!(rt; "{name}: {said}")
     } else {
-        eprintln!(rt; "{name}:{line}: {said}")
+        let shown = shown_line(text, line_of(fault));
+        eprintln!(rt; "{name}:{line}: {shown}\n{said}")
     };
     match told {
         Ok(()) | Err(_) => Status::Refused,
@@ -221,7 +240,7 @@ pub fn tell_refused<R: Eprint>(
         NumberingFault::EmptyImage => tell(rt, Fault::EmptyImage),
         NumberingFault::Placing(fault) => {
             match placing_spot(alloc, fault, sourced, parts) {
-                Ok(spot) => tell_placing(rt, fault, &spot, explained),
+                Ok(spot) => tell_placing(rt, fault, &spot, text, explained),
                 Err(_) => tell(rt, Fault::NoMemory),
             }
         }

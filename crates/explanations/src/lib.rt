@@ -103,6 +103,20 @@ fn push_from<A: Allocator>(
     Ok(is_known)
 }
 
+/// Adds what a table advises on a code.
+fn push_advice_from<A: Allocator>(
+    text: &mut String<A>,
+    table: &[Explanation],
+    code: &str,
+) -> Result<(), AllocError> {
+    for explanation in table {
+        if *explanation.code == *code {
+            explanation.push_advice(text)?;
+        }
+    }
+    Ok(())
+}
+
 /// Adds the lines of a table in the list of codes.
 fn push_table<A: Allocator>(text: &mut String<A>, table: &[Explanation]) -> Result<(), AllocError> {
     for explanation in table {
@@ -134,12 +148,7 @@ pub fn push_explanations<A: Allocator>(
 ///
 /// `AllocError` where a growth was refused.
 pub fn push_advice<A: Allocator>(text: &mut String<A>, code: &str) -> Result<(), AllocError> {
-    for explanation in &FAULTS {
-        if *explanation.code == *code {
-            explanation.push_advice(text)?;
-        }
-    }
-    Ok(())
+    push_advice_from(text, &FAULTS, code)
 }
 
 /// Adds the list of codes, each with a line: conditions, rules and faults.

@@ -3,7 +3,7 @@
 use crate::{Explanation, Subject};
 
 /// What is said of each, in the order of the pages.
-pub(crate) static CONDITIONS: [Explanation; 15] = [
+static CONDITIONS: [Explanation; 15] = [
     Explanation {
         code: "V1",
         subject: Subject::Asked("the fact at the start holds of every start"),
@@ -95,3 +95,8 @@ pub(crate) static CONDITIONS: [Explanation; 15] = [
         advice: "List the cell, as in `read 0212`. Or leave all `read` lines out:\nthen any cell may be read. Bound a pointer as for V5.",
     },
 ];
+
+/// What is said of the conditions.
+pub(crate) fn conditions() -> &'static [Explanation] {
+    &CONDITIONS
+}

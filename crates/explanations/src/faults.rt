@@ -3,7 +3,7 @@
 use crate::{Explanation, Subject};
 
 /// What is said of each, in the order of the pages.
-pub(crate) static FAULTS: [Explanation; 43] = [
+static FAULTS: [Explanation; 43] = [
     Explanation {
         code: "NoWord",
         subject: Subject::Fault("tape: NoWord"),
@@ -263,3 +263,8 @@ pub(crate) static FAULTS: [Explanation; 43] = [
         advice: "give the program more memory",
     },
 ];
+
+/// What is said of the faults.
+pub(crate) fn faults() -> &'static [Explanation] {
+    &FAULTS
+}

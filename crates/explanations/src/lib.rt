@@ -6,9 +6,9 @@ mod conditions;
 mod faults;
 mod rules;
 
-use crate::conditions::CONDITIONS;
-use crate::faults::FAULTS;
-use crate::rules::RULES;
+use crate::conditions::conditions;
+use crate::faults::faults;
+use crate::rules::rules;
 use std::alloc::{AllocError, Allocator};
 
 /// The column in which the list of codes says what they mean.
@@ -135,9 +135,9 @@ pub fn push_explanations<A: Allocator>(
     text: &mut String<A>,
     code: &str,
 ) -> Result<bool, AllocError> {
-    let is_condition = push_from(text, &CONDITIONS, code)?;
-    let is_rule = push_from(text, &RULES, code)?;
-    let is_fault = push_from(text, &FAULTS, code)?;
+    let is_condition = push_from(text, conditions(), code)?;
+    let is_rule = push_from(text, rules(), code)?;
+    let is_fault = push_from(text, faults(), code)?;
     Ok(is_condition || is_rule || is_fault)
 }
 
@@ -148,7 +148,7 @@ pub fn push_explanations<A: Allocator>(
 ///
 /// `AllocError` where a growth was refused.
 pub fn push_advice<A: Allocator>(text: &mut String<A>, code: &str) -> Result<(), AllocError> {
-    push_advice_from(text, &FAULTS, code)
+    push_advice_from(text, faults(), code)
 }
 
 /// Adds the list of codes, each with a line: conditions, rules and faults.
@@ -158,7 +158,7 @@ pub fn push_advice<A: Allocator>(text: &mut String<A>, code: &str) -> Result<(),
 /// `AllocError` where a growth was refused.
 pub fn push_codes<A: Allocator>(text: &mut String<A>) -> Result<(), AllocError> {
     text.push_str("pdp8 explain CODE says what is asked or meant, and what to do. The codes:\n")?;
-    push_table(text, &CONDITIONS)?;
-    push_table(text, &RULES)?;
-    push_table(text, &FAULTS)
+    push_table(text, conditions())?;
+    push_table(text, rules())?;
+    push_table(text, faults())
 }

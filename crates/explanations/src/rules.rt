@@ -3,7 +3,7 @@
 use crate::{Explanation, Subject};
 
 /// What is said of each, in the order of the pages.
-pub(crate) static RULES: [Explanation; 7] = [
+static RULES: [Explanation; 7] = [
     Explanation {
         code: "rule1",
         subject: Subject::Asked("the body"),
@@ -47,3 +47,8 @@ pub(crate) static RULES: [Explanation; 7] = [
         advice: "a `read` line, or a bound as for V5",
     },
 ];
+
+/// What is said of the rules.
+pub(crate) fn rules() -> &'static [Explanation] {
+    &RULES
+}

@@ -1,4 +1,4 @@
-use Rattle.std.proofs.Common.{List, ℕ, Some}
+use Rattle.std.proofs.Common.{Some}
 use Rattle.pal_asm.specs.Sources.{texts}
 use Rattle.labels.specs.Programs.{IsNumbered}
 use Rattle.search_commands.specs.GuessText.{IsGuess}

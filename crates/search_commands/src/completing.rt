@@ -47,7 +47,7 @@ struct Given<A: Allocator> {
 
 /// A text that is written, and the status behind it.
 #[derive(Drop)]
-struct Completed<A: Allocator> {
+struct Written<A: Allocator> {
     text: Vec<u8, A>,
     status: Status,
 }
@@ -194,10 +194,10 @@ fn remarked<A: Allocator + Copy, D: Allocator>(
     ensures faults { IfErr result IsMemoryFault }
 {
     let more = with_remarks(alloc, text, lack, proposal)?;
-    if extension(alloc, given, &more)?.is_some() {
-        return Ok(more);
+    match extension(alloc, given, &more)? {
+        Some(_found) => Ok(more),
+        None => Ok(copy_of(alloc, text)?),
     }
-    Ok(copy_of(alloc, text)?)
 }
 
 /// What is proposed for a tape with the start and the machine of a declaration, with a list of reads
@@ -219,13 +219,13 @@ fn proposal_by<A: Allocator + Copy>(
 }
 
 /// A text for which no certificate is found, if there is one.
-fn refused<A: Allocator>(text: Result<Vec<u8, A>, Fault>) -> Result<Completed<A>, Fault>
+fn refused<A: Allocator>(text: Result<Vec<u8, A>, Fault>) -> Result<Written<A>, Fault>
     ensures text { IfOk result (λ c. text ≡ Ok c.text) }
     ensures status { IfOk result (λ c. c.status ≡ Refused) }
     ensures fault { IfErr result (λ fault. text ≡ Err fault) }
 {
     match text {
-        Ok(text) => Ok(Completed {
+        Ok(text) => Ok(Written {
             text,
             status: Status::Refused,
         }),
@@ -241,7 +241,7 @@ fn completed<A: Allocator + Copy>(
     given: &Given<A>,
     lack: Lack,
     proposal: &Proposal<A>,
-) -> Result<Completed<A>, Fault>
+) -> Result<Written<A>, Fault>
     requires { Declares given.now.text.items (meaning given.now.declaration) }
     ensures completes { IfOk result (λ c.
         Completes image.now (meaning given.now.declaration) c.status c.text.items) }
@@ -251,7 +251,7 @@ fn completed<A: Allocator + Copy>(
     let promised = &given.declaration;
     let text = merged(alloc, &given.text, promised, &proposal.declaration)?;
     match tried(alloc, image, promised, &text)? {
-        Trial::Shown => Ok(Completed {
+        Trial::Shown => Ok(Written {
             text,
             status: Status::Done,
         }),

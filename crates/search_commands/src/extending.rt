@@ -22,10 +22,12 @@ fn keeps_body<A: Allocator, B: Allocator>(
     ensures { result ≡ true → (r : Routine) →
         (meaning given.now).body r at ≡ true → (meaning more.now).body r at ≡ true }
 {
-    match given.owner_of(at) {
-        None => true,
-        Some(Owner::Main) => more.in_main(at),
-        Some(Owner::Routine(entry)) => more.in_body(entry, at),
+    let Some(owner) = given.owner_of(at) else {
+        return true;
+    };
+    match owner {
+        Owner::Main => more.in_main(at),
+        Owner::Routine(entry) => more.in_body(entry, at),
     }
 }
 
@@ -81,7 +83,8 @@ fn keeps_cells<A: Allocator, B: Allocator>(given: &Declaration<A>, more: &Declar
 /// aren't.
 fn keeps_reads(given: Option<&WordSet>, more: Option<&WordSet>) -> bool
     ensures { result ≡ true → KeepsReads
-        (option_map (λ set. words set.now) given) (option_map (λ set. words set.now) more) }
+        (option_map (λ set. words set.now) given.entry)
+        (option_map (λ set. words set.now) more.entry) }
 {
     match given {
         None => more.is_none(),

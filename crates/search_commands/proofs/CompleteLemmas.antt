@@ -1,5 +1,5 @@
 -- What `complete` writes.
-use Rattle.std.proofs.Common.{ℕ, ◌≡◌, List, Option, refl}
+use Rattle.std.proofs.Common.{ℕ, List, Option, refl}
 use Rattle.std.specs.Prelude.{Some, None}
 use Rattle.wordset.specs.Words.{Words}
 use Rattle.peripherals.specs.Loading.{image_of}

@@ -95,17 +95,34 @@ fn keeps_reads(given: Option<&WordSet>, more: Option<&WordSet>) -> bool
     }
 }
 
+/// Whether start and machine are the same.
+fn is_alike<A: Allocator, B: Allocator>(given: &Declaration<A>, more: &Declaration<B>) -> bool
+    ensures start { result ≡ true → (meaning more.now).start ≡ (meaning given.now).start }
+    ensures profile { result ≡ true → (meaning more.now).profile ≡ (meaning given.now).profile }
+{
+    more.start() == given.start() && more.profile() == given.profile()
+}
+
+/// Whether variables and halts stay what they are.
+fn keeps_sets<A: Allocator, B: Allocator>(given: &Declaration<A>, more: &Declaration<B>) -> bool
+    ensures variables { result ≡ true →
+        IsWithin (meaning given.now).variable (meaning more.now).variable }
+    ensures stops { result ≡ true → IsWithin (meaning given.now).stop (meaning more.now).stop }
+    ensures pauses { result ≡ true → IsWithin (meaning given.now).pause (meaning more.now).pause }
+{
+    given.variables().is_subset(more.variables())
+        && given.stops().is_subset(more.stops())
+        && given.pauses().is_subset(more.pauses())
+}
+
 /// Whether the second declaration extends the first.
 pub fn extends<A: Allocator, B: Allocator>(given: &Declaration<A>, more: &Declaration<B>) -> bool
     ensures { result ≡ true → Extends (meaning given.now) (meaning more.now) }
 {
-    if more.start() != given.start() || more.profile() != given.profile() {
+    if !is_alike(given, more) {
         return false;
     }
-    if !given.variables().is_subset(more.variables()) {
-        return false;
-    }
-    if !given.stops().is_subset(more.stops()) || !given.pauses().is_subset(more.pauses()) {
+    if !keeps_sets(given, more) {
         return false;
     }
     if !keeps_reads(given.reads(), more.reads()) {

@@ -23,6 +23,21 @@ struct Access {
     returns: WordSet,
 }
 
+/// Whether an instruction of the tape writes through a pointer.
+pub(crate) fn writes_through<B: Allocator, D: Allocator, C: Allocator>(
+    report: &Report<'_, B, D, C>,
+) -> bool {
+    for index in 0..4096 {
+        let at = Word::from_index(index);
+        if let Some(word) = report.image.get(at) {
+            if report.is_code(at) && refers_indirectly(word) && stores(report.declaration, word) {
+                return true;
+            }
+        }
+    }
+    false
+}
+
 /// Writes an item with addresses, if there are any.
 fn write_places<A: Allocator>(pen: &mut Pen<A>, name: &[u8], set: &WordSet) {
     if set.is_empty() {

@@ -257,7 +257,7 @@ pub(crate) fn write_graph<A: Allocator, S: Allocator, B: Allocator, D: Allocator
     alloc: S,
     report: &Report<'_, B, D, C>,
 ) -> Result<(), AllocError> {
-    pen.put(b"<h2 id=routines>Routines</h2>\n");
+    pen.put(b"<h2 id=routines>Routines, addresses in octal and ranks in decimal</h2>\n");
     if report.declaration.routines().is_empty() {
         pen.put(b"<p>There are none: all is main.</p>\n");
         return Ok(());

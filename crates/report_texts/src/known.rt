@@ -1,7 +1,7 @@
 //! What is known at an address, item by item, and what of it is the same as on the line above.
 
 use crate::pen::Pen;
-use facts::{Equation, Fact, Name, TrackedCells};
+use facts::{Equation, Fact, Name, TrackedCells, narrowed};
 use std::alloc::Allocator;
 use word12::{Link, Word};
 use wordset::{Links, WordSet};
@@ -104,21 +104,28 @@ fn relates(equations: &[Equation], equation: &Equation) -> bool {
     false
 }
 
+/// Writes an equation, and the words that all that is known leaves to the name on its left.
+fn write_equation<A: Allocator>(pen: &mut Pen<A>, equation: &Equation, left: &WordSet) {
+    write_held_in(pen, &equation.left);
+    pen.put(b" = ");
+    write_bracketed(pen, equation.right);
+    pen.put(b" + ");
+    pen.word(equation.more);
+    if !left.is_all() {
+        pen.put(b", so ");
+        pen.words(left);
+    }
+}
+
 /// Writes the items of equations.
-fn write_equations<A: Allocator>(
-    pen: &mut Pen<A>,
-    equations: &[Equation],
-    above: &Fact,
-    near: bool,
-) {
-    for equation in equations {
-        let same = near && above.equations().contains(equation);
+fn write_equations<A: Allocator>(pen: &mut Pen<A>, fact: &Fact, above: &Fact, near: bool) {
+    for equation in fact.equations() {
+        let left = narrowed(fact, &equation.left);
+        let same = near
+            && above.equations().contains(equation)
+            && narrowed(above, &equation.left) == left;
         if pen.begin_item(same) {
-            write_held_in(pen, &equation.left);
-            pen.put(b" = ");
-            write_bracketed(pen, equation.right);
-            pen.put(b" + ");
-            pen.word(equation.more);
+            write_equation(pen, equation, &left);
             pen.end_item(same);
         }
     }
@@ -184,7 +191,7 @@ pub(crate) fn write_fact<A: Allocator>(pen: &mut Pen<A>, fact: &Fact, above: &Fa
     if near {
         write_lost_cells(pen, fact.cells(), above.cells());
     }
-    write_equations(pen, fact.equations(), above, near);
+    write_equations(pen, fact, above, near);
     if near {
         write_lost_equations(pen, fact.equations(), above.equations());
     }
@@ -195,5 +202,5 @@ pub(crate) fn write_fact<A: Allocator>(pen: &mut Pen<A>, fact: &Fact, above: &Fa
 pub(crate) fn write_exit<A: Allocator>(pen: &mut Pen<A>, exit: &Fact) {
     write_registers(pen, exit, exit, false);
     write_cells(pen, exit.cells(), exit, false);
-    write_equations(pen, exit.equations(), exit, false);
+    write_equations(pen, exit, exit, false);
 }

@@ -18,7 +18,7 @@ const TOP: usize = 14;
 const STEP: usize = 10;
 
 /// What the map begins with.
-const MAP: &[u8] = b"<h2 id=memory>Memory</h2>\n\
+const MAP: &[u8] = b"<h2 id=memory>Memory, addresses in octal</h2>\n\
 <svg viewBox=\"0 0 680 660\" width=680 role=img aria-label=\"map of memory\">\n\
 <rect class=u x=34 y=14 width=640 height=640 />\n";
 
@@ -27,7 +27,7 @@ const LEGEND: &[u8] = b"<span class=\"k e\"></span>entry of a routine\n\
 <span class=\"k v\"></span>variable\n\
 <span class=\"k o\"></span>other word of the tape\n\
 <br>A red ring is a declared halt, a black frame the start, a yellow dot a variable among instructions, a red frame \
-the place of a no. Each row has 0100 cells. Numbers are octal. A cell leads to its line of the listing.</p>\n";
+the place of a no. Each row has 0100 cells. A cell leads to its line of the listing.</p>\n";
 
 /// Where a cell stands from the left.
 fn left_of(at: Word) -> usize {

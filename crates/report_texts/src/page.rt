@@ -1,5 +1,6 @@
 //! The page: what the verdict means, memory, routines, variables, and the listing.
 
+use crate::access::writes_through;
 use crate::graph::write_graph;
 use crate::listing::{push_listing, write_variable};
 use crate::map::write_map;
@@ -32,9 +33,12 @@ const STUCK: &[u8] =
 below is the search's draft: what it had found until then, which may be wrong; where there is no fact it hadn't \
 come.</p>\n<pre>";
 
-/// The links to the parts of a page.
+/// What a declaration and a certificate are, and the links to the parts of a page.
 const PARTS: &[u8] =
-    b"<p>On this page: <a href=#memory>memory</a>, <a href=#routines>routines</a>, \
+    b"<p>A declaration says where the program starts and may halt, which cells are its instructions, which it may \
+write, and which routines it has. A certificate says what holds before each instruction, so that it can be checked \
+that the declaration is kept.</p>\n\
+<p>On this page: <a href=#memory>memory</a>, <a href=#routines>routines</a>, \
 <a href=#variables>variables</a>, <a href=#listing>listing</a>.</p>\n";
 
 /// What stands behind the declared variables, above the table of those of which something is known.
@@ -43,22 +47,31 @@ const VARIABLES: &[u8] =
 address at which something is said of it; all others may hold any word:</p>\n<table>\n\
 <tr><th>cell<th>on the tape<th>what it may hold\n";
 
-/// How the listing is read.
-const GUIDE: &[u8] =
+/// How the items of the listing are read.
+const ITEMS: &[u8] =
     b"; what is the same as on the line above is grey, and of more than eight such items only \
 the number of the others is told.\n\
 <code>AC in 0305,0310</code>: the accumulator holds one of these words. \
-<code>0010 in 0224-0230</code>: so does the cell 0010. \
-<code>[0010] = [0224] + 0231</code>: the word in the cell 0010 is that in the cell 0224 and 0231 more, modulo \
-10000; so as far as the one is bounded, the other is: of a pointer and a count that go up together, the pointer \
-ends where the count does. If the count were larger, the pointer would go further; if the program could then \
-write outside its variables, the verdict would be no (V5).\n\
+<code>0010 in 0224-0230</code>: so does the cell 0010. <code>any</code>: nothing is claimed. \
+<code>[0010] = [0224] + 0231, so 0224-0230</code>: the word in the cell 0010 is that in the cell 0224 and 0231 more, \
+modulo 10000; with what is known of both, the cell 0010 holds one of the words behind <code>so</code>. Of a pointer and \
+a count that go up together, the pointer ends where the count does.";
+
+/// What a larger count would do, where an instruction writes through a pointer.
+const LARGER: &[u8] =
+    b" If the count were larger, the pointer would go further; if the program could then write \
+outside its variables, the verdict would be no (V5).";
+
+/// How the rest of the listing is read.
+const NAMES: &[u8] = b"\n\
 <code>reads</code>, <code>writes</code>: the cells that the instruction may read through a pointer (the pointer \
 is one of them), and those that it may write.\n\
-All numbers are octal. <code>TAD Z010</code> names the cell 0010, and <code>TAD C024</code> the cell 024 of the \
-page that the instruction is on; behind <code>I</code> stands the cell that holds the address; if that is one of \
-0010 to 0017, it is made one more first. <code>ISZ</code> makes a word one more, and skips an instruction if it is \
-0000 then.</p>\n<table>\n";
+All numbers are octal, but how many more there are is told in decimal. <code>TAD Z010</code> names the cell 0010, and \
+<code>TAD C024</code> the cell 024 of the page that the instruction is on; behind <code>I</code> stands the cell that \
+holds the address; if that is one of 0010 to 0017, it is made one more first. <code>ISZ</code> makes a word one more, \
+and skips an instruction if it is 0000 then. <code>JMS</code> puts the address behind it into the cell that it names, \
+the entry of a routine, and goes on behind that cell; <code>JMP I</code> through the entry goes on at the address that \
+stands there: it returns.</p>\n<table>\n";
 
 /// The cells of all bodies.
 fn bodies_of<D: Allocator>(declaration: &Declaration<D>) -> WordSet {
@@ -133,8 +146,8 @@ fn write_points<A: Allocator, D: Allocator>(pen: &mut Pen<A>, declaration: &Decl
 /// Writes the rest of what a yes says, and what it doesn't.
 fn write_yes<A: Allocator, D: Allocator>(pen: &mut Pen<A>, declaration: &Declaration<D>) {
     pen.put(match declaration.profile() {
-        Profile::Pdp8I => b" on a PDP-8/I that starts at ",
-        Profile::Pdp8E => b" on a PDP-8/E that starts at ",
+        Profile::Pdp8I => b" This holds of <b>every</b> run on a PDP-8/I that starts at ",
+        Profile::Pdp8E => b" This holds of <b>every</b> run on a PDP-8/E that starts at ",
     });
     pen.place(declaration.start());
     pen.put(RUN);
@@ -160,11 +173,11 @@ fn write_verdict<A: Allocator, B: Allocator, D: Allocator, C: Allocator>(
     match report.finding {
         Finding::Shown => write_yes(pen, report.declaration),
         Finding::Refused(at) => {
-            write_reason(pen, b"a condition on it fails at ", at, REFUSED, why);
+            write_reason(pen, b" A condition on it fails at ", at, REFUSED, why);
         }
         Finding::Stuck(at) => write_reason(
             pen,
-            b"the search for a certificate is stuck at ",
+            b" The search for a certificate is stuck at ",
             at,
             STUCK,
             why,
@@ -197,7 +210,7 @@ fn write_variables<A: Allocator, B: Allocator, D: Allocator, C: Allocator>(
     pen: &mut Pen<A>,
     report: &Report<'_, B, D, C>,
 ) {
-    pen.put(b"<h2 id=variables>Variables</h2>\n<p>The declared variables: ");
+    pen.put(b"<h2 id=variables>Variables, in octal</h2>\n<p>The declared variables: ");
     pen.places(report.declaration.variables());
     pen.put(VARIABLES);
     for index in 0..4096 {
@@ -238,9 +251,13 @@ pub fn page_below<A: Allocator + Copy, D: Allocator, C: Allocator>(
     write_map(&mut pen, report);
     write_graph(&mut pen, alloc, report)?;
     write_variables(&mut pen, report);
-    pen.put(b"<h2 id=listing>Listing</h2>\n<p>Beside each instruction stands ");
+    pen.put(b"<h2 id=listing>Listing, in octal</h2>\n<p>Beside each instruction stands ");
     pen.put(listed_text(report.finding));
-    pen.put(GUIDE);
+    pen.put(ITEMS);
+    if writes_through(report) {
+        pen.put(LARGER);
+    }
+    pen.put(NAMES);
     push_listing(&mut pen, report);
     pen.put(b"</table>\n</body>\n</html>\n");
     pen.into_bytes()

@@ -12,7 +12,7 @@ const MOST_RUNS: usize = 16;
 const MOST_SAME: usize = 8;
 
 /// In which form a report is written.
-#[derive(Clone, Copy, PartialEq, Eq, Debug)]
+#[derive(Clone, Copy)]
 pub enum Form {
     /// Plain text.
     Text,
@@ -55,7 +55,7 @@ impl<A: Allocator> Pen<A> {
         Pen {
             bytes: Vec::new(alloc),
             written: Ok(()),
-            is_page: form == Form::Page,
+            is_page: matches!(form, Form::Page),
             lines: *lines,
             indent: 0,
             has_item: false,

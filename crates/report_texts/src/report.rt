@@ -10,7 +10,7 @@ use word12::Word;
 use wordset::WordSet;
 
 /// What stands at an address.
-#[derive(Clone, Copy, PartialEq, Eq, Debug)]
+#[derive(Clone, Copy, PartialEq)]
 pub(crate) enum Kind {
     /// The entry of a routine.
     Entry,
@@ -27,7 +27,7 @@ pub(crate) enum Kind {
 }
 
 /// What is known of a certificate.
-#[derive(Clone, Copy, PartialEq, Eq, Debug)]
+#[derive(Clone, Copy)]
 pub enum Finding {
     /// All conditions hold of it.
     Shown,

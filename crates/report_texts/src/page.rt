@@ -68,8 +68,8 @@ const NAMES: &[u8] = b"\n\
 is one of them), and those that it may write.\n\
 All numbers are octal, but how many more there are is told in decimal. <code>TAD Z010</code> names the cell 0010, and \
 <code>TAD C024</code> the cell 024 of the page that the instruction is on; behind <code>I</code> stands the cell that \
-holds the address; if that is one of 0010 to 0017, it is made one more first. <code>ISZ</code> makes a word one more, \
-and skips an instruction if it is 0000 then. <code>JMS</code> puts the address behind it into the cell that it names, \
+holds the address; one of 0010 to 0017 is made one more first. <code>ISZ</code> makes a word one more, \
+and skips if it is 0000 then. <code>JMS</code> puts the address behind it into the cell that it names, \
 the entry of a routine, and goes on behind that cell; <code>JMP I</code> through the entry goes on at the address that \
 stands there: it returns.</p>\n<table>\n";
 

@@ -11,6 +11,7 @@ mod page;
 mod pen;
 mod report;
 mod routines;
+mod source_notes;
 mod style;
 mod variables;
 
@@ -19,6 +20,7 @@ pub use page::page_below;
 pub use pen::Form;
 use pen::Pen;
 pub use report::{Finding, Report};
+pub use source_notes::{SourceNotes, notes_of};
 use std::alloc::{AllocError, Allocator};
 pub use style::{head_of, opening, stuck_opening};
 

@@ -234,6 +234,15 @@ fn write_with_fact<A: Allocator, B: Allocator, D: Allocator, C: Allocator>(
     write_access(pen, report, &kind, &desk.routine, fact, at);
 }
 
+/// Writes what the source says of an address: in a page in a further column.
+fn write_note<A: Allocator>(pen: &mut Pen<A>, note: &[u8]) {
+    if !note.is_empty() {
+        pen.mark(b"<td>");
+        pen.note();
+        pen.say(note);
+    }
+}
+
 /// Writes the line of an address.
 fn write_line<A: Allocator, B: Allocator, D: Allocator, C: Allocator>(
     pen: &mut Pen<A>,
@@ -246,6 +255,7 @@ fn write_line<A: Allocator, B: Allocator, D: Allocator, C: Allocator>(
     write_declared(pen, report, at);
     write_with_fact(pen, report, desk, at);
     write_mark(pen, report, at);
+    write_note(pen, report.note_at(at));
     pen.put(b"\n");
 }
 

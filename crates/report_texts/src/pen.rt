@@ -72,6 +72,11 @@ impl<A: Allocator> Pen<A> {
         }
     }
 
+    /// How many bytes were written.
+    pub(crate) fn len(&self) -> usize {
+        self.bytes.len()
+    }
+
     /// Whether an address has a line of the listing.
     pub(crate) fn has_line(&self, at: Word) -> bool {
         self.lines.contains(at)
@@ -239,6 +244,13 @@ impl<A: Allocator> Pen<A> {
     pub(crate) fn end_item(&mut self, same: bool) {
         if same {
             self.mark(b"</i>");
+        }
+    }
+
+    /// Writes in plain text what stands before a note behind the items.
+    pub(crate) fn note(&mut self) {
+        if !self.is_page {
+            self.put(b"  / ");
         }
     }
 

@@ -51,6 +51,8 @@ pub enum Misuse {
     BothStandardInput,
     /// The result is to go to an input.
     OutputIsInput,
+    /// A tape is to go to a file that is named as a source.
+    OutputIsSource,
     /// The report is to go to an input, or where the result goes.
     ReportIsTaken,
     /// There is a report, and standard input, which can't be read twice.
@@ -78,6 +80,8 @@ impl Misuse {
             Misuse::Profile => "bad value for '--profile': it is 8i or 8e",
             Misuse::BothStandardInput => "'-' stands for standard input in one place alone",
             Misuse::OutputIsInput => "OUT is also an input: the result goes to a file of its own",
+            Misuse::OutputIsSource =>
+                "OUT ends in .pal, as sources do: it takes the tape, and stands before the sources",
             Misuse::ReportIsTaken =>
                 "the report is also an input or OUT: it goes to a file of its own",
             Misuse::ReportOfStandardInput =>

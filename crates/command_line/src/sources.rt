@@ -2,7 +2,7 @@
 
 use crate::names::FileNames;
 use crate::outputs::{Destination, destination_of, has_output};
-use crate::refused::Refused;
+use crate::refused::{Misuse, Refused};
 use crate::values::{profile_of, read_standard_input_once};
 use clap::ArgMatches;
 use instruct::Profile;
@@ -56,14 +56,19 @@ pub(crate) fn source_names<'a>(
     Ok(names)
 }
 
-/// The tape that is asked for.
+/// The tape that is asked for. It doesn't go to a file that is named as a source: the operands may stand in the
+/// wrong order.
 pub(crate) fn assemble_request<'a>(
     alloc: Global,
     found: &ArgMatches<'a>,
 ) -> Result<AssembleRequest<'a>, Refused> {
     let sources = source_names(alloc, found)?;
+    let out = destination_of(found, &sources)?;
+    if out.name().ends_with(".pal") {
+        return Err(Refused::Misuse(Misuse::OutputIsSource));
+    }
     Ok(AssembleRequest {
-        out: destination_of(found, &sources)?,
+        out,
         sources,
         profile: profile_of(found)?,
         explained: found.get_flag("why"),

@@ -126,15 +126,23 @@ pub fn verify_program<R: Files + Print>(
     }
 }
 
-/// Says whether the program keeps the declaration that is proposed for it.
+/// Says on standard error that the declaration of an answer is proposed.
+fn tell_proposed<R: Eprint>(rt: &R) {
+    let _ = eprintln!(rt;
+        "no declaration is given, and the source has no /: line: the answer is on one that is proposed"
+    );
+}
+
+/// Says whether the program keeps the declaration that is proposed for it, and on standard error that it is.
 #[inline(never)]
-pub fn verify_alone<R: Files + Print>(
+pub fn verify_alone<R: Files + Print + Eprint>(
     rt: &R,
     alloc: Global,
     numbered: &Numbered<Global>,
     save: Option<&str>,
     options: &VerifyOptions,
 ) -> Result<Status, Fault> {
+    tell_proposed(rt);
     let mut out = Writes::new(io::writer(rt));
     let proposed = verify_proposed(alloc, &mut frames_of(numbered), *options, &mut out)?;
     save_proposed(rt, alloc, save, &proposed)?;

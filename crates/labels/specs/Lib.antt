@@ -1,4 +1,5 @@
 pub mod Addresses
 pub mod Lines
+pub mod Names
 pub mod Programs
 pub mod Within

@@ -1,15 +1,17 @@
-//! Declarations with the symbols of a source: their places in numbers, and the lines of a declaration
-//! that stand within a source.
+//! Declarations with the symbols of a source: their places in numbers, declarations in numbers with
+//! symbols, and the lines of a declaration that stand within a source.
 #![tactic(auto)]
 
 pub mod address;
 pub mod fault;
 pub mod laws;
+pub mod naming;
 pub mod placing;
 pub mod program;
 pub mod within;
 
 pub use fault::PlaceFault;
+pub use naming::name_declaration;
 pub use placing::place;
 pub use program::{Numbered, NumberingFault, number};
 pub use within::{declared_lines, machine_of};

@@ -70,7 +70,10 @@ fn place_words<A: Allocator, S: Allocator + Copy>(
 }
 
 /// Adds a comment behind a space, if there is one.
-fn push_comment<A: Allocator>(comment: &[u8], out: &mut Vec<u8, A>) -> Result<(), AllocError>
+pub(crate) fn push_comment<A: Allocator>(
+    comment: &[u8],
+    out: &mut Vec<u8, A>,
+) -> Result<(), AllocError>
     ensures { OnOk result (out.new.items ≡ out.old.items ++ spaced comment.now) }
 {
     if comment.is_empty() {
@@ -120,7 +123,7 @@ fn said_len(line: &[u8]) -> usize
 
 /// What a line says, before its comment.
 #[tactic(auto, using(crate::proofs::Places::position_or_len_le))]
-fn said_of(line: &[u8]) -> &[u8]
+pub(crate) fn said_of(line: &[u8]) -> &[u8]
     ensures { result.now ≡ said line.now }
 {
     &line[..said_len(line)]
@@ -128,14 +131,14 @@ fn said_of(line: &[u8]) -> &[u8]
 
 /// The comment of a line.
 #[tactic(auto, using(crate::proofs::Places::position_or_len_le))]
-fn comment_of(line: &[u8]) -> &[u8]
+pub(crate) fn comment_of(line: &[u8]) -> &[u8]
     ensures { result.now ≡ comment line.now }
 {
     &line[said_len(line)..]
 }
 
 /// A line without the carriage return at its end, if it has one.
-fn without_return(line: &[u8]) -> &[u8]
+pub(crate) fn without_return(line: &[u8]) -> &[u8]
     ensures { result.now ≡ strip_carriage_return line.now }
 {
     match line.split_last() {
@@ -145,7 +148,7 @@ fn without_return(line: &[u8]) -> &[u8]
 }
 
 /// The carriage return at the end of a line, if it has one.
-fn return_of(line: &[u8]) -> &[u8]
+pub(crate) fn return_of(line: &[u8]) -> &[u8]
     ensures { result.now ≡ return_of line.now }
 {
     match line.split_last() {
@@ -200,13 +203,13 @@ fn place_of_feed(text: &[u8]) -> Option<usize>
 
 /// A line, and what stands behind its line feed, if it has one.
 #[derive(Clone, Copy)]
-struct Cut<'a> {
-    line: &'a [u8],
-    rest: Option<&'a [u8]>,
+pub(crate) struct Cut<'a> {
+    pub(crate) line: &'a [u8],
+    pub(crate) rest: Option<&'a [u8]>,
 }
 
 /// The first line of a text, and the text behind it.
-fn cut_line(text: &[u8]) -> Cut<'_>
+pub(crate) fn cut_line(text: &[u8]) -> Cut<'_>
     ensures lines { slice_split is_feed text.now ≡
         result.line.now ∷ lines_behind result.rest }
     ensures shorter { length_behind result.rest ≤ length text.now }

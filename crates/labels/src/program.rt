@@ -87,7 +87,7 @@ fn tape_of<A: Allocator>(alloc: A, image: &Image) -> Result<Vec<u8, A>, Numberin
 }
 
 /// What the parts of a source mean, for the machine that its declaration names.
-fn translation_of<A: Allocator + Copy>(
+pub(crate) fn translation_of<A: Allocator + Copy>(
     alloc: A,
     parts: &[&[u8]],
     declaration: &[u8],

@@ -116,7 +116,7 @@ fn push_lines<A: Allocator + Copy>(
 }
 
 /// Whether the part behind one that ends so is read.
-fn reads_on(ending: Ending) -> bool
+pub(crate) fn reads_on(ending: Ending) -> bool
     ensures { result ≡ reads_on ending }
 {
     match ending {
@@ -127,7 +127,7 @@ fn reads_on(ending: Ending) -> bool
 }
 
 /// Whether the part behind one with this fault is read: it isn't.
-fn reads_on_after(fault: TextFault) -> Result<bool, AllocError>
+pub(crate) fn reads_on_after(fault: TextFault) -> Result<bool, AllocError>
     ensures { result ≡ reads_on_after fault }
 {
     match fault {

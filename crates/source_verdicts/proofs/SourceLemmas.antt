@@ -1,21 +1,30 @@
 -- A verdict on the tape and the numbers of a program is one on the program.
-use Rattle.std.proofs.Common.{ℕ, ◌≡◌, ◌∙◌, sym, subst, List, Option, Some, Bool, true, false, Ok, inl, inr}
+use Rattle.std.proofs.Common.{ℕ, ◌≡◌, ◌∙◌, ap, sym, subst, List, Option, Some, Bool, Bor, true, false, Ok, inl, inr}
 use Rattle.std.specs.Prelude.{◌⊎◌}
 use Rattle.labels.specs.Lines.{placed_text}
 use Rattle.labels.specs.Programs.{IsNumbered, NumberedIsMeant, NumberedIsTape}
-use Rattle.command_parts.specs.Faults.{IsDeclarationInputFault, IsRefuteFault, IsRunFault, IsTapeInputFault}
-use Rattle.command_parts.specs.Inputs.{Input, input}
-use Rattle.command_parts.specs.Writes.{FrontOf, Writes}
+use Rattle.command_parts.specs.Faults.{IsDeclarationInputFault, IsEventsInputFault, IsRefuteFault, IsRunFault, IsTapeInputFault, IsWatchFault}
+use Rattle.command_parts.specs.Inputs.{Input, IsGoodDeclaration, TakesAtMost, input}
+use Rattle.command_parts.proofs.InputLemmas as inputs
+use Rattle.command_parts.specs.Writes.{FrontOf, Writes, WritesNothingOr}
 use Rattle.command_parts.specs.declared.status.Fault.{Fault}
 use Rattle.command_parts.specs.declared.status.Fault.TheVariants as fault
 use Rattle.command_parts.specs.declared.status.DeviceFault.TheVariants as device
 use Rattle.command_parts.specs.declared.status.Status.{Status}
+use Rattle.machine_commands.specs.RefuteText.{IsToldOfWitness, IsWitness, IsWitnessText, WritesWitness}
+use Rattle.machine_commands.specs.WatchText.{IsWatched, IsWatchedSo}
+use Rattle.options.specs.declared.RefuteOptions.{RefuteOptions}
+use Rattle.search_commands.specs.GuessText.{IsGuess}
+use Rattle.search_commands.specs.SearchFaults.{IsGuessFault, IsSearchFault}
+use Rattle.search_commands.specs.StuckText.{IsStuck}
 use Rattle.search_commands.specs.VerifyText.{IsSomeAnswer, IsVerified}
 use Rattle.search_commands.specs.declared.verifying.Answer.{Answer}
 use Rattle.verdict_texts.specs.CertificateFaults.{IsCertificateInputFault, IsCheckFault}
+use Rattle.verdict_texts.specs.CertificateInputs.{TakesCertificate}
 use Rattle.verdict_texts.specs.CheckText.{IsChecked, IsCheckedSo}
-use Rattle.source_verdicts.specs.Faults.{IsProgramFault}
-use Rattle.source_verdicts.specs.Verdicts.{IsSomeSourceAnswer, IsSourceChecked, IsSourceCheckedSo, IsSourceVerified}
+use Rattle.verdict_texts.proofs.CertificateLemmas as certificates
+use Rattle.source_verdicts.specs.Faults.{IsGoodProgram, IsProgramFault}
+use Rattle.source_verdicts.specs.Verdicts.{IsSomeSourceAnswer, IsSourceChecked, IsSourceCheckedSo, IsSourceGuess, IsSourceStuck, IsSourceVerified, IsSourceWatched, IsSourceWatchedSo, IsSourceWitness, IsSourceWitnessText, IsToldOfSourceWitness, WritesSourceWitness}
 
 -- what was written is right for more
 pub writes_on : (P Q : List ℕ → Type 0) (old new : Option (List ℕ)) → ((text : List ℕ) → P text → Q text) → Writes P old new → Writes Q old new
@@ -23,6 +32,17 @@ writes_on P Q old new on w = record { text = w.text; is = on w.text w.is; writte
 
 pub front_on : (P Q : List ℕ → Type 0) (old new : Option (List ℕ)) → ((text : List ℕ) → P text → Q text) → FrontOf P old new → FrontOf Q old new
 front_on P Q old new on w = record { text = w.text; is = on w.text w.is; front = w.front }
+
+pub nothing_or_on : (P Q : List ℕ → Type 0) (old new : Option (List ℕ)) → ((text : List ℕ) → P text → Q text) → WritesNothingOr P old new → WritesNothingOr Q old new
+nothing_or_on P Q old new on (inl same) = inl same
+nothing_or_on P Q old new on (inr w) = inr (writes_on P Q old new on w)
+
+-- of what isn't read nothing is taken
+pub takes_no_text : (most : ℕ) (had : Option (List ℕ)) → TakesAtMost most had had
+takes_no_text most had = inputs.takes_no_text most had
+
+pub takes_no_certificate : (had : Option (List ℕ)) → TakesCertificate had had
+takes_no_certificate had = certificates.takes_no_certificate had
 
 -- the same frames and the same numbers
 pub held : (parts : List (List ℕ)) (text tape numbers frames words : List ℕ) → frames ≡ tape → words ≡ numbers → IsNumbered parts text tape numbers → IsNumbered parts text frames words
@@ -34,6 +54,11 @@ held parts text tape numbers frames words e f h = record {
   tape_is = e ∙ h.tape_is;
   placed = subst (λ (n : List ℕ). placed_text h.symbols text ≡ Ok n) (sym f) h.placed;
 }
+
+-- the frames and the numbers are lent
+pub held_by : (parts : List (List ℕ)) (text tape numbers : List ℕ) (b f c w : Bor (List ℕ)) → f ≡ b → b.now ≡ tape → w ≡ c → c.now ≡ numbers → IsNumbered parts text tape numbers → IsNumbered parts text f.now w.now
+held_by parts text tape numbers b f c w e is d are h =
+    held parts text tape numbers f.now w.now (ap (λ (x : Bor (List ℕ)). x.now) e ∙ is) (ap (λ (x : Bor (List ℕ)). x.now) d ∙ are) h
 
 module _ (parts : List (List ℕ)) (text tape numbers : List ℕ) (h : IsNumbered parts text tape numbers) where
   module _ (meant : NumberedIsMeant) where
@@ -59,6 +84,69 @@ module _ (parts : List (List ℕ)) (text tape numbers : List ℕ) (h : IsNumbere
     pub some_checked_so : (certificate : Option (List ℕ)) (line : List ℕ) → IsChecked (Some tape) (Some numbers) certificate line → IsSourceChecked parts text certificate line
     some_checked_so certificate line (status, v) = (status, checked_so certificate line status v)
 
+    pub watched_so : (list : Option (List ℕ)) (explained : Bool) (named : ℕ → Bool) (told : List ℕ) (status : Status) → IsWatchedSo (Some tape) (Some numbers) list explained named told status → IsSourceWatchedSo parts text list explained named told status
+    watched_so list explained named told status v = record {
+      tape = tape;
+      numbers = numbers;
+      watched = v;
+      program = meant parts text tape numbers v.image v.declaration h v.tape v.declares;
+    }
+
+    pub some_watched_so : (list : Option (List ℕ)) (explained : Bool) (named : ℕ → Bool) (told : List ℕ) → IsWatched (Some tape) (Some numbers) list explained named told → IsSourceWatched parts text list explained named told
+    some_watched_so list explained named told (status, v) = (status, watched_so list explained named told status v)
+
+    pub guess_so : (guess : List ℕ) → IsGuess (Some tape) (Some numbers) guess → IsSourceGuess parts text guess
+    guess_so guess v = record {
+      tape = tape;
+      numbers = numbers;
+      guessed = v;
+      program = meant parts text tape numbers v.image v.declaration h v.tape v.declares;
+    }
+
+    pub stuck_so : (report : List ℕ) → IsStuck (Some tape) (Some numbers) report → IsSourceStuck parts text report
+    stuck_so report v = record {
+      tape = tape;
+      numbers = numbers;
+      stuck = v;
+      program = meant parts text tape numbers v.image v.declaration h v.tape v.declares;
+    }
+
+    pub witness_so : (explained : Bool) (list told : List ℕ) → IsWitness (Some tape) (Some numbers) explained list told → IsSourceWitness parts text explained list told
+    witness_so explained list told v = record {
+      tape = tape;
+      numbers = numbers;
+      breaks = v;
+      program = meant parts text tape numbers v.image v.declaration h v.tape v.declares;
+    }
+
+    pub witness_text_so : (explained : Bool) (list : List ℕ) → IsWitnessText (Some tape) (Some numbers) explained list → IsSourceWitnessText parts text explained list
+    witness_text_so explained list (told, v) = (told, witness_so explained list told v)
+
+    pub told_so : (options : RefuteOptions) (told : List ℕ) → IsToldOfWitness (Some tape) (Some numbers) options told → IsToldOfSourceWitness parts text options told
+    told_so options told (inl (list, v)) = inl (list, witness_so options.explained list told v)
+    told_so options told (inr none) = inr none
+
+    pub writes_witness_so : (explained : Bool) (old new report_old report_new : Option (List ℕ)) → WritesWitness (Some tape) (Some numbers) explained old new report_old report_new → WritesSourceWitness parts text explained old new report_old report_new
+    writes_witness_so explained old new report_old report_new w = record {
+      list = w.list;
+      told = w.told;
+      is = witness_so explained w.list w.told w.is;
+      written = w.written;
+      reported = w.reported;
+    }
+
+  -- a declaration in numbers that is read makes a good program
+  good_program : IsGoodDeclaration (Some numbers) → IsGoodProgram parts text
+  good_program d = record {
+    image = h.image;
+    declaration = d.declaration;
+    program = record { symbols = h.symbols; source = h.source; has_word = h.has_word; numbers = numbers; placed = h.placed; declares = d.declares };
+  }
+
+  pub after_program : {X : Type 0} → X ⊎ IsGoodDeclaration (Some numbers) → X ⊎ IsGoodProgram parts text
+  after_program (inl same) = inl same
+  after_program (inr d) = inr (good_program d)
+
   -- the tape isn't refused, and no read of it fails
   no_tape_fault : NumberedIsTape → (left : Option (List ℕ)) (f : Fault) → IsTapeInputFault (input false (Some tape) left) f → ⊥
   no_tape_fault is_tape left (fault.Tape e) is = is_tape parts text tape numbers e h is
@@ -78,7 +166,7 @@ module _ (parts : List (List ℕ)) (text tape numbers : List ℕ) (h : IsNumbere
   declared_fault more (fault.Tape e) is = absurd is
   declared_fault more fault.EmptyImage is = absurd is
   declared_fault more (fault.Source e) is = absurd is
-  declared_fault more (fault.Declared e) is = record { symbols = h.symbols; image = h.image; source = h.source; numbers = numbers; placed = h.placed; fails = is }
+  declared_fault more (fault.Declared e) is = record { symbols = h.symbols; image = h.image; source = h.source; has_word = h.has_word; numbers = numbers; placed = h.placed; fails = is }
   declared_fault more (fault.Certificate e) is = absurd is
   declared_fault more (fault.Events e) is = absurd is
   declared_fault more (fault.Guess e) is = absurd is
@@ -106,8 +194,21 @@ module _ (parts : List (List ℕ)) (text tape numbers : List ℕ) (h : IsNumbere
   verify_fault is_tape left more f (inr (good, inr (declared, is))) = work_fault f is
 
   pub check_fault : NumberedIsTape → (left more : Option (List ℕ)) (certificate : Input) (f : Fault) → IsCheckFault (input false (Some tape) left) (input false (Some numbers) more) certificate f →
-      IsProgramFault parts text f ⊎ IsCertificateInputFault certificate f
+      IsProgramFault parts text f ⊎ (IsGoodProgram parts text × IsCertificateInputFault certificate f)
   check_fault is_tape left more certificate f (inl is) = absurd (no_tape_fault is_tape left f is)
   check_fault is_tape left more certificate f (inr (good, inl is)) = inl (declared_fault more f is)
-  check_fault is_tape left more certificate f (inr (good, inr (declared, inl is))) = inr is
+  check_fault is_tape left more certificate f (inr (good, inr (declared, inl is))) = inr (good_program declared, is)
   check_fault is_tape left more certificate f (inr (good, inr (declared, inr (claims, is)))) = inl (work_fault f is)
+
+  pub watch_fault : NumberedIsTape → (left more : Option (List ℕ)) (list : Input) (f : Fault) → IsWatchFault (input false (Some tape) left) (input false (Some numbers) more) list f →
+      IsProgramFault parts text f ⊎ (IsGoodProgram parts text × IsEventsInputFault list f)
+  watch_fault is_tape left more list f (inl is) = absurd (no_tape_fault is_tape left f is)
+  watch_fault is_tape left more list f (inr (good, inl is)) = inl (declared_fault more f is)
+  watch_fault is_tape left more list f (inr (good, inr (declared, inl is))) = inr (good_program declared, is)
+  watch_fault is_tape left more list f (inr (good, inr (declared, inr (events, is)))) = inl (work_fault f is)
+
+  pub guess_fault : NumberedIsTape → (left more : Option (List ℕ)) (f : Fault) → IsGuessFault (input false (Some tape) left) (input false (Some numbers) more) f →
+      IsProgramFault parts text f ⊎ (IsGoodProgram parts text × IsSearchFault f)
+  guess_fault is_tape left more f (inl is) = absurd (no_tape_fault is_tape left f is)
+  guess_fault is_tape left more f (inr (good, inl is)) = inl (declared_fault more f is)
+  guess_fault is_tape left more f (inr (good, inr (declared, is))) = inr (good_program declared, is)

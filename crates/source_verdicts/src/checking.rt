@@ -1,10 +1,11 @@
 //! Checks a certificate of a program of which the source is given.
 
-ghost use Rattle.std.specs.Prelude.{◌≡◌, false, true, IfOk, IfErr, OnErr};
+ghost use Rattle.std.specs.Prelude.{◌≡◌, ◌⊎◌, false, true, IfOk, IfErr, OnErr};
 ghost use Rattle.pal_asm.specs.Sources.{texts};
 ghost use Rattle.command_parts.specs.Inputs.{input};
 ghost use Rattle.command_parts.specs.Writes.{FrontOf, Writes};
-ghost use Rattle.source_verdicts.specs.Faults.{IsCheckSourceFault, sourced_write_fails};
+ghost use Rattle.verdict_texts.specs.CertificateInputs.{TakesCertificate};
+ghost use Rattle.source_verdicts.specs.Faults.{IsCheckSourceFault, IsGoodProgram, is_fault_of_program, sourced_read_fails, sourced_write_fails};
 ghost use Rattle.source_verdicts.specs.Verdicts.{IsSourceChecked, IsSourceCheckedSo};
 
 use crate::fault::SourcedFault;
@@ -25,6 +26,7 @@ use verdict_commands::checking::check;
 /// written then; `Command` with the fault of the declaration in numbers, with that of the certificate's
 /// text, with `Device` where a read or a write failed, after which a prefix of the line went out, or with
 /// `NoMemory`.
+#[tactic(auto, using(crate::proofs::SourceLemmas::takes_no_certificate))]
 pub fn check_source<A: Allocator + Copy, C: ByteSource, W: ByteSink>(
     alloc: A,
     parts: &[&[u8]],
@@ -51,8 +53,18 @@ pub fn check_source<A: Allocator + Copy, C: ByteSource, W: ByteSink>(
         (W.taken out.old) (W.taken out.new) }
     // and any other fault leaves the output as it was.
     ensures nothing { OnErr result (W.mark out.new ≡ false → W.taken out.new ≡ W.taken out.old) }
-    // A write failed exactly where the answer says so.
+    // A write failed exactly where the answer says so, and so did a read of the certificate.
     ensures marks { W.mark out.new ≡ sourced_write_fails result }
+    ensures reads { C.mark certificate.new ≡ sourced_read_fails result }
+    // The certificate isn't read where the source or the declaration is refused,
+    ensures unread { IfErr result (λ fault. is_fault_of_program fault ≡ true →
+        certificate.new ≡ certificate.old) }
+    // but only for a good program,
+    ensures certificate_after_program { (certificate.new ≡ certificate.old) ⊎
+        IsGoodProgram (texts parts.now) declaration.now }
+    // and not past its limit.
+    ensures takes_certificate { TakesCertificate
+        (C.remaining certificate.old) (C.remaining certificate.new) }
 {
     numbered_programs_are_meant();
     let numbered = number(alloc, parts, declaration)?;

@@ -4,7 +4,10 @@
 
 pub mod checking;
 pub mod fault;
+pub mod guessing;
 mod memory;
+pub mod refuting;
 pub mod verifying;
+pub mod watching;
 
 pub use fault::SourcedFault;

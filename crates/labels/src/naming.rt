@@ -1,0 +1,406 @@
+//! A declaration in numbers, with the symbols of a source.
+
+ghost use Rattle.std.specs.Prelude.{◌≡◌, ◌⊎◌, true, IfOk, IfErr};
+ghost use Rattle.pal_asm.specs.Sources.{texts};
+ghost use Rattle.labels.specs.Names.{IsNamed, IsReadBack};
+ghost use Rattle.labels.specs.Within.{machine};
+ghost use Rattle.labels.specs.Programs.{IsSourceFault};
+
+use crate::address::{Cells, cells_of};
+use crate::fault::PlaceFault;
+use crate::placing::{
+    comment_of, cut_line, place, push_comment, return_of, said_of, without_return,
+};
+use crate::program::{NumberingFault, translation_of};
+use crate::within::{machine_of, reads_on, reads_on_after};
+use pal_acts::SymbolTable;
+use pal_text::{Kind, Name, Token, statements};
+use std::alloc::{AllocError, Allocator};
+use streams::text::{self, Words};
+use word12::Word;
+
+/// How far behind a tag an address is named by it at most.
+const REACH: usize = 0o77;
+
+/// A tag of a source, and its address.
+#[derive(Clone, Copy)]
+struct Tag {
+    name: Name,
+    at: usize,
+}
+
+/// A symbol, and how many cells behind its value an address is.
+#[derive(Clone, Copy)]
+struct Spelling {
+    name: Name,
+    behind: usize,
+}
+
+/// The bytes between two places; none where they aren't within.
+fn bytes_between(bytes: &[u8], start: usize, end: usize) -> &[u8] {
+    match bytes.get(start..end) {
+        Some(found) => found,
+        None => &[],
+    }
+}
+
+/// Adds the tag that these bytes spell, if they are a symbol of the source.
+fn push_tag<A: Allocator, S: Allocator + Copy>(
+    own: &SymbolTable<S>,
+    bytes: &[u8],
+    tags: &mut Vec<Tag, A>,
+) -> Result<(), AllocError> {
+    let name = Name::new(bytes);
+    if let Some(value) = own.get(&name) {
+        let at = value.index();
+        tags.push(Tag { name, at })?;
+    }
+    Ok(())
+}
+
+/// Adds the tags among the tokens of a part: what stands before a comma.
+fn push_tags<A: Allocator, S: Allocator + Copy>(
+    own: &SymbolTable<S>,
+    source: &[u8],
+    tokens: &[Token],
+    tags: &mut Vec<Tag, A>,
+) -> Result<(), AllocError> {
+    let mut before: &[u8] = &[];
+    for token in tokens {
+        if token.kind == Kind::Comma {
+            push_tag(own, before, tags)?;
+        }
+        before = bytes_between(source, token.start, token.end);
+    }
+    Ok(())
+}
+
+/// Adds the tags of a part, and says whether the part behind it is read.
+fn push_part_tags<A: Allocator + Copy, S: Allocator + Copy>(
+    alloc: A,
+    own: &SymbolTable<S>,
+    source: &[u8],
+    tags: &mut Vec<Tag, A>,
+) -> Result<bool, AllocError> {
+    match statements(alloc, source) {
+        Ok(part) => {
+            push_tags(own, source, &part.tokens, tags)?;
+            Ok(reads_on(part.ending))
+        }
+        Err(fault) => reads_on_after(fault),
+    }
+}
+
+/// The tags of a source, in their order.
+fn tags_of<A: Allocator + Copy, S: Allocator + Copy>(
+    alloc: A,
+    own: &SymbolTable<S>,
+    parts: &[&[u8]],
+) -> Result<Vec<Tag, A>, AllocError> {
+    let mut tags = Vec::new(alloc);
+    for source in parts {
+        let on = push_part_tags(alloc, own, source, &mut tags)?;
+        if !on {
+            return Ok(tags);
+        }
+    }
+    Ok(tags)
+}
+
+/// An address by the last tag at it or before it, of several there the first, if one is near enough.
+fn by_tag(tags: &[Tag], at: usize) -> Option<Spelling> {
+    let mut found = None;
+    let mut least = REACH.saturating_add(1);
+    for tag in tags {
+        let behind = at.saturating_sub(tag.at);
+        if tag.at <= at && behind < least {
+            found = Some(Spelling {
+                name: tag.name,
+                behind,
+            });
+            least = behind;
+        }
+    }
+    found
+}
+
+/// An address by the first symbol that has it as its value.
+fn by_value<S: Allocator + Copy>(own: &SymbolTable<S>, at: usize) -> Option<Spelling> {
+    for index in 0..own.len() {
+        if let Some((name, value)) = own.get_index(index) {
+            if value.index() == at {
+                return Some(Spelling {
+                    name: *name,
+                    behind: 0,
+                });
+            }
+        }
+    }
+    None
+}
+
+/// An address by a tag, or else by another symbol that has it as its value.
+fn spelling_of<S: Allocator + Copy>(
+    own: &SymbolTable<S>,
+    tags: &[Tag],
+    at: Word,
+) -> Option<Spelling> {
+    match by_tag(tags, at.index()) {
+        Some(found) => Some(found),
+        None => by_value(own, at.index()),
+    }
+}
+
+/// Adds `+` and a number below 100 in octal digits.
+fn push_behind<A: Allocator>(behind: usize, text: &mut Vec<u8, A>) -> Result<(), AllocError> {
+    let number = if behind < 4096 { behind } else { 0 };
+    let [_, _, tens, ones] = Word::from_index(number).to_octal();
+    text.push(b'+')?;
+    if tens != b'0' {
+        text.push(tens)?;
+    }
+    text.push(ones)?;
+    Ok(())
+}
+
+/// Adds a symbol and how far behind it an address is, also where it is the symbol's own if that is asked.
+fn push_spelling<A: Allocator>(
+    spelling: &Spelling,
+    with_zero: bool,
+    text: &mut Vec<u8, A>,
+) -> Result<(), AllocError> {
+    text.extend_from_slice(spelling.name.letters.trim_ascii_end())?;
+    if spelling.behind == 0 && !with_zero {
+        return Ok(());
+    }
+    push_behind(spelling.behind, text)
+}
+
+/// Adds an address as it is spelled, or in digits.
+fn push_address<A: Allocator>(
+    spelling: &Option<Spelling>,
+    at: Word,
+    with_zero: bool,
+    text: &mut Vec<u8, A>,
+) -> Result<(), AllocError> {
+    match spelling {
+        Some(spelling) => push_spelling(spelling, with_zero, text),
+        None => text.extend_from_slice(&at.to_octal()),
+    }
+}
+
+/// Adds a range. Before the digits of its last address its first one ends with a number, since `-` would
+/// subtract behind a symbol.
+fn push_range<A: Allocator, S: Allocator + Copy>(
+    own: &SymbolTable<S>,
+    tags: &[Tag],
+    low: Word,
+    high: Word,
+    text: &mut Vec<u8, A>,
+) -> Result<(), AllocError> {
+    let last = spelling_of(own, tags, high);
+    push_address(&spelling_of(own, tags, low), low, last.is_none(), text)?;
+    text.push(b'-')?;
+    push_address(&last, high, false, text)
+}
+
+/// Adds cells.
+fn push_cells<A: Allocator, S: Allocator + Copy>(
+    own: &SymbolTable<S>,
+    tags: &[Tag],
+    cells: &Cells,
+    text: &mut Vec<u8, A>,
+) -> Result<(), AllocError> {
+    match cells {
+        Cells::One(at) => push_address(&spelling_of(own, tags, *at), *at, false, text),
+        Cells::Range(low, high) => push_range(own, tags, *low, *high, text),
+    }
+}
+
+/// Whether a word is as long as an address of four digits, or as a range of two.
+fn is_long_enough(word: &[u8]) -> bool {
+    matches!(word.len(), 4 | 9)
+}
+
+/// Adds a word, an address or a range with symbols.
+fn name_word<A: Allocator, S: Allocator + Copy>(
+    own: &SymbolTable<S>,
+    tags: &[Tag],
+    word: &[u8],
+    text: &mut Vec<u8, A>,
+) -> Result<(), AllocError> {
+    if !is_long_enough(word) {
+        return text.extend_from_slice(word);
+    }
+    match cells_of(own, word) {
+        Ok(cells) => push_cells(own, tags, &cells, text),
+        Err(_) => text.extend_from_slice(word),
+    }
+}
+
+/// Adds the words of a line behind its first one. Those behind `returns` are no addresses.
+fn name_words<A: Allocator, S: Allocator + Copy>(
+    own: &SymbolTable<S>,
+    tags: &[Tag],
+    words: Words<'_>,
+    text: &mut Vec<u8, A>,
+) -> Result<(), AllocError> {
+    let mut rest = words;
+    let mut are_offsets = false;
+    while let Some(word) = rest.next() {
+        text.push(b' ')?;
+        if are_offsets {
+            text.extend_from_slice(word)?;
+        } else {
+            name_word(own, tags, word, text)?;
+        }
+        are_offsets = are_offsets || text::is(word, "returns");
+    }
+    Ok(())
+}
+
+/// Adds a line with symbols in place of its addresses.
+fn name_line<A: Allocator, S: Allocator + Copy>(
+    own: &SymbolTable<S>,
+    tags: &[Tag],
+    line: &[u8],
+    text: &mut Vec<u8, A>,
+) -> Result<(), AllocError> {
+    let body = without_return(line);
+    let mut rest = Words::of(said_of(body));
+    if let Some(name) = rest.next() {
+        text.extend_from_slice(name)?;
+        name_words(own, tags, rest, text)?;
+    }
+    push_comment(comment_of(body), text)?;
+    text.extend_from_slice(return_of(line))
+}
+
+/// Whether two texts are the same.
+fn is_same(left: &[u8], right: &[u8]) -> bool
+    ensures { result ≡ true → left.now ≡ right.now }
+{
+    left == right
+}
+
+/// Whether a text with symbols is these numbers where it is placed, and names the same machine.
+fn reads_back<A: Allocator + Copy, S: Allocator + Copy>(
+    alloc: A,
+    own: &SymbolTable<S>,
+    text: &[u8],
+    numbers: &[u8],
+) -> Result<bool, AllocError>
+    ensures { IfOk result (λ yes. yes ≡ true →
+        IsReadBack own.now.entries numbers.now text.now) }
+{
+    match place(alloc, text, own) {
+        Ok(placed) => Ok(is_same(&placed, numbers) && machine_of(text) == machine_of(numbers)),
+        Err(PlaceFault::NoMemory) => Err(AllocError),
+        Err(_) => Ok(false),
+    }
+}
+
+/// Adds a line with symbols, or in numbers where the one with symbols isn't read back as this one.
+fn push_line<A: Allocator + Copy, S: Allocator + Copy>(
+    alloc: A,
+    own: &SymbolTable<S>,
+    tags: &[Tag],
+    line: &[u8],
+    text: &mut Vec<u8, A>,
+) -> Result<(), AllocError> {
+    let mut named = Vec::new(alloc);
+    name_line(own, tags, line, &mut named)?;
+    if reads_back(alloc, own, &named, line)? {
+        text.extend_from_slice(&named)
+    } else {
+        text.extend_from_slice(line)
+    }
+}
+
+/// Adds the lines behind the first one, each behind a line feed.
+fn push_lines<A: Allocator + Copy, S: Allocator + Copy>(
+    alloc: A,
+    own: &SymbolTable<S>,
+    tags: &[Tag],
+    behind: Option<&[u8]>,
+    text: &mut Vec<u8, A>,
+) -> Result<(), AllocError> {
+    let mut rest = behind;
+    while let Some(left) = rest {
+        let cut = cut_line(left);
+        text.push(b'\n')?;
+        push_line(alloc, own, tags, cut.line, text)?;
+        rest = cut.rest;
+    }
+    Ok(())
+}
+
+/// A declaration in numbers with symbols, line by line.
+fn name_lines<A: Allocator + Copy, S: Allocator + Copy>(
+    alloc: A,
+    parts: &[&[u8]],
+    own: &SymbolTable<S>,
+    numbers: &[u8],
+) -> Result<Vec<u8, A>, AllocError> {
+    let tags = tags_of(alloc, own, parts)?;
+    let mut text = Vec::new(alloc);
+    let cut = cut_line(numbers);
+    push_line(alloc, own, &tags, cut.line, &mut text)?;
+    push_lines(alloc, own, &tags, cut.rest, &mut text)?;
+    Ok(text)
+}
+
+/// The same bytes once more.
+fn copy_of<A: Allocator>(alloc: A, bytes: &[u8]) -> Result<Vec<u8, A>, AllocError>
+    ensures { IfOk result (λ text. text.items ≡ bytes.now) }
+{
+    let mut text = Vec::new(alloc);
+    text.extend_from_slice(bytes)?;
+    Ok(text)
+}
+
+/// A declaration in numbers with the symbols of a source, or the numbers.
+fn named_by<A: Allocator + Copy, S: Allocator + Copy>(
+    alloc: A,
+    parts: &[&[u8]],
+    own: &SymbolTable<S>,
+    numbers: &[u8],
+) -> Result<Vec<u8, A>, AllocError>
+    ensures { IfOk result (λ text. (text.items ≡ numbers.now) ⊎
+        IsReadBack own.now.entries numbers.now text.items) }
+{
+    let text = name_lines(alloc, parts, own, numbers)?;
+    if reads_back(alloc, own, &text, numbers)? {
+        return Ok(text);
+    }
+    copy_of(alloc, numbers)
+}
+
+/// Writes a declaration in numbers with the symbols of a source: an address with a tag as that tag, the
+/// first of several; an address at most 77 cells behind a tag as the last tag before it, `+` and a number;
+/// another one that an assignment gives a symbol as that symbol. Ranges are written by their two addresses.
+/// Comments stay, and what isn't four digits or a range of them, and what follows `returns`. A line that
+/// wouldn't be read back byte by byte stays in numbers, and so does the whole where it wouldn't, as where
+/// it has more than 16,384 bytes with symbols. Which names are taken is only tested.
+///
+/// # Errors
+///
+/// `Source` with the one fault of the source, which is assembled for the machine that the declaration
+/// names; `NoMemory`.
+pub fn name_declaration<A: Allocator + Copy>(
+    alloc: A,
+    parts: &[&[u8]],
+    numbers: &[u8],
+) -> Result<Vec<u8, A>, NumberingFault>
+    // What is given is placed as the numbers, byte by byte, by the symbols that the source means; or it is
+    // the numbers.
+    ensures named { IfOk result (λ text. IsNamed (texts parts.now) numbers.now text.items) }
+    // A fault is that of the source, or of memory.
+    ensures refused { IfErr result (IsSourceFault (machine numbers.now) (texts parts.now)) }
+{
+    let translation = translation_of(alloc, parts, numbers)?;
+    match named_by(alloc, parts, translation.symbols(), numbers) {
+        Ok(text) => Ok(text),
+        Err(_) => Err(NumberingFault::NoMemory),
+    }
+}

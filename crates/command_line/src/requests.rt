@@ -12,8 +12,8 @@ use crate::promises::{
 };
 use crate::refused::Refused;
 use crate::sourced::{
-    Sourced, has_source, place_request, sourced_check, sourced_guess, sourced_refute,
-    sourced_report, sourced_verify, sourced_watch,
+    Sourced, has_source, place_request, sourced_check, sourced_declare, sourced_guess,
+    sourced_refute, sourced_report, sourced_verify, sourced_watch,
 };
 use crate::sources::{AssembleRequest, ListRequest, assemble_request, list_request};
 use crate::tapes::{
@@ -105,6 +105,7 @@ fn sourced_request<'a>(
         "guess" => sourced_guess(alloc, found),
         "refute" => sourced_refute(alloc, found),
         "report" => sourced_report(alloc, found),
+        "declare" => sourced_declare(alloc, found),
         _ => sourced_check(alloc, found),
     }
 }

@@ -6,9 +6,11 @@ use crate::outputs::{Destination, destination_of, has_output, report_of};
 use crate::refused::{Misuse, Refused};
 use crate::shown::shown_cells;
 use crate::sources::source_names;
-use crate::values::{is_start_named, read_standard_input_once, refute_options, verify_options};
+use crate::values::{
+    declare_options, is_start_named, read_standard_input_once, refute_options, verify_options,
+};
 use clap::ArgMatches;
-use options::{RefuteOptions, VerifyOptions};
+use options::{DeclareOptions, RefuteOptions, VerifyOptions};
 use std::alloc::Global;
 use wordset::WordSet;
 
@@ -17,7 +19,8 @@ use wordset::WordSet;
 pub struct Sourced<'a> {
     /// The names of the files of the parts, in order.
     pub sources: Vec<&'a str>,
-    /// The name of the declaration's file; without one the lines within the source are the declaration.
+    /// The name of the declaration's file; without one the lines within the source are the declaration,
+    /// but where one is to be proposed.
     pub declaration: Option<&'a str>,
     /// What is done.
     pub task: Task<'a>,
@@ -80,6 +83,15 @@ pub enum Task<'a> {
         /// How it is looked for.
         options: RefuteOptions,
     },
+    /// To propose a declaration.
+    Declare {
+        /// Where it goes.
+        out: Destination<'a>,
+        /// What it's proposed for.
+        options: DeclareOptions,
+        /// Whether it is said what is wrong with an input that is refused.
+        explained: bool,
+    },
     /// To write the declaration in numbers.
     Place {
         /// Where it goes.
@@ -119,10 +131,11 @@ impl<'a> Sourced<'a> {
                 keys: session.keys,
                 ..none
             },
-            Task::Guess { out, .. } | Task::Place { out, .. } => FileNames {
-                output: Some(out.name()),
-                ..none
-            },
+            Task::Guess { out, .. } | Task::Declare { out, .. } | Task::Place { out, .. } =>
+                FileNames {
+                    output: Some(out.name()),
+                    ..none
+                },
             Task::Verify { .. } | Task::Refute { .. } => none,
         }
     }
@@ -137,6 +150,7 @@ impl<'a> Task<'a> {
             | Task::Report { explained, .. }
             | Task::Watch { explained, .. }
             | Task::Guess { explained, .. }
+            | Task::Declare { explained, .. }
             | Task::Place { explained, .. } => *explained,
             Task::WatchSession(session) => session.explained,
             Task::Refute { options, .. } => options.explained,
@@ -365,6 +379,24 @@ pub fn sourced_refute<'a>(alloc: Global, found: &ArgMatches<'a>) -> Result<Sourc
             out,
             options: refute_options(found)?,
         },
+    })
+}
+
+/// The request for a declaration that is proposed for a source.
+pub fn sourced_declare<'a>(alloc: Global, found: &ArgMatches<'a>) -> Result<Sourced<'a>, Refused> {
+    let operands = operands_of(found, needed_out(found))?;
+    if operands.declaration.is_some() {
+        return Err(Refused::Misuse(Misuse::TapeAndSource));
+    }
+    let sources = parts_of(alloc, found, &[])?;
+    Ok(Sourced {
+        task: Task::Declare {
+            out: search_output(alloc, found, operands.last, None, &sources)?,
+            options: declare_options(found)?,
+            explained: found.get_flag("why"),
+        },
+        sources,
+        declaration: None,
     })
 }
 

@@ -2,8 +2,8 @@
 
 use crate::numbering::{Given, Prepared, Promise, lend, read_all, tell_refused};
 use crate::programs::{
-    SourceText, check_program, explain_numbered, guess_and_report, refute_numbered,
-    report_numbered, verify_alone, verify_program, watch_numbered, watch_session_numbered,
+    SourceText, check_program, declare_program, explain_numbered, guess_program, refute_program,
+    report_numbered, verify_alone, verify_program, watch_program, watch_session_numbered,
     write_numbered,
 };
 use crate::spots::{Spot, behind_lines, line_counts, line_of, on_line, spot_of};
@@ -55,7 +55,7 @@ fn done_with_numbers<R: Files + Input + Print + Eprint>(
             events,
             explained,
             show,
-        } => of_command(watch_numbered(rt, alloc, numbered, events, *explained, show)),
+        } => watch_program(rt, alloc, source, events, *explained, show),
         Task::WatchSession(session) => {
             of_command(watch_session_numbered(rt, alloc, numbered, session))
         }
@@ -63,10 +63,11 @@ fn done_with_numbers<R: Files + Input + Print + Eprint>(
             out,
             explained,
             report,
-        } => of_command(guess_and_report(rt, alloc, numbered, *out, *explained, *report)),
-        Task::Refute { out, options } => of_command(refute_numbered(
-            rt, alloc, numbered, *out, *options,
-        )),
+        } => guess_program(rt, alloc, source, numbered, *out, *explained, *report),
+        Task::Refute { out, options } => refute_program(rt, alloc, source, *out, *options),
+        Task::Declare { out, options, .. } => {
+            declare_program(rt, alloc, source, numbered, *out, *options)
+        }
         Task::Place { out, .. } => of_command(write_numbered(rt, numbered, *out)),
     }
 }

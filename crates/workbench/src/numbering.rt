@@ -98,8 +98,10 @@ fn machine_line(profile: Profile) -> &'static [u8] {
 /// A declaration that is to be proposed, of which only the machine is known.
 fn unknown_declaration(alloc: Global, task: &Task<'_>) -> Result<Vec<u8>, AllocError> {
     let mut text = Vec::new(alloc);
-    if let Task::Verify { options, .. } = task {
-        text.extend_from_slice(machine_line(options.profile))?;
+    match task {
+        Task::Verify { options, .. } => text.extend_from_slice(machine_line(options.profile))?,
+        Task::Declare { options, .. } => text.extend_from_slice(machine_line(options.profile))?,
+        _ => {}
     }
     Ok(text)
 }
@@ -115,6 +117,7 @@ struct Promised {
 fn is_proposed(task: &Task<'_>, within: &[u8]) -> bool {
     match task {
         Task::Verify { .. } => !says_something(within),
+        Task::Declare { .. } => true,
         _ => false,
     }
 }

@@ -3,7 +3,7 @@
 
 ghost use Rattle.std.specs.Prelude.{◌≡◌, false};
 
-use crate::drafted::{is_stuck, report_stuck};
+use crate::drafted::report_stuck;
 use crate::faults::{bound_text, stuck_address, with_omissions};
 use crate::files::{open_input, open_output};
 use crate::joined::{open_input_if, report_to, tell_to};
@@ -11,25 +11,27 @@ use crate::saving::{save_answer, save_proposed};
 use crate::source_lines::with_source_lines;
 use command_line::{Destination, WatchedSession};
 use command_parts::inputs::{declaration_from, tape_from};
+use commands::declaring::{DeclareOptions, declare};
 use commands::explaining::explain;
-use commands::guessing::guess;
-use commands::refuting::{RefuteOptions, refute};
+use commands::refuting::RefuteOptions;
 use commands::reporting::{Form, report};
-use commands::status::{Fault, Status};
-use commands::stuck::guess_or_explain;
+use commands::status::{DeviceFault, Fault, Status};
 use commands::verifying::{Answer, Lack, VerifyOptions, answer_status, verify_proposed};
 use commands::watched_session::watch_session;
-use commands::watching::watch;
 use fault_texts::push_omissions;
-use labels::Numbered;
+use labels::{Numbered, name_declaration};
 use source_verdicts::SourcedFault;
 use source_verdicts::checking::check_source;
+use source_verdicts::guessing::{explain_source, guess_source};
+use source_verdicts::refuting::refute_source;
 use source_verdicts::verifying::verify_source;
+use source_verdicts::watching::watch_source;
 use std::alloc::Global;
 use std::io;
 use std::rt::Files;
 use streams::put;
 use streams::standard::{Reads, Writes};
+use turns::GuessFault;
 use word12::Word;
 use wordset::WordSet;
 
@@ -209,20 +211,23 @@ pub fn report_numbered<R: Files + Input + Print>(
 
 /// Watches a run by the events of a file.
 #[inline(never)]
-pub fn watch_numbered<R: Files + Input + Print>(
+pub fn watch_program<R: Files + Input + Print>(
     rt: &R,
     alloc: Global,
-    numbered: &Numbered<Global>,
+    given: &SourceText<'_>,
     events: &str,
     explained: bool,
     show: &WordSet,
-) -> Result<Status, Fault> {
-    let mut list = open_input(rt, events)?;
+) -> Result<Status, SourcedFault> {
+    let mut list = match open_input(rt, events) {
+        Ok(list) => list,
+        Err(fault) => return Err(SourcedFault::Command(fault)),
+    };
     let mut out = Writes::new(io::writer(rt));
-    watch(
+    watch_source(
         alloc,
-        &mut frames_of(numbered),
-        &mut promise_of(numbered),
+        given.parts,
+        given.declaration,
         &mut list,
         explained,
         show,
@@ -253,50 +258,94 @@ pub fn watch_session_numbered<R: Files + Input + Print>(
     )
 }
 
-/// Guesses a certificate, and says on standard error why the search is stuck where that is asked for.
+/// Guesses a certificate.
 #[inline(never)]
-fn guess_numbered<R: Files + Print + Eprint>(
+fn guess_alone<R: Files + Print>(
     rt: &R,
     alloc: Global,
+    given: &SourceText<'_>,
+    out: Destination<'_>,
+) -> Result<Status, SourcedFault> {
+    let mut certificate = match open_output(rt, out) {
+        Ok(certificate) => certificate,
+        Err(fault) => return Err(SourcedFault::Command(fault)),
+    };
+    guess_source(alloc, given.parts, given.declaration, &mut certificate)
+}
+
+/// Guesses a certificate, and gives the lines on a search that is stuck.
+fn guess_with_lines<R: Files + Print>(
+    rt: &R,
+    alloc: Global,
+    given: &SourceText<'_>,
+    out: Destination<'_>,
+    lines: &mut Vec<u8>,
+) -> Result<Status, SourcedFault> {
+    let mut certificate = match open_output(rt, out) {
+        Ok(certificate) => certificate,
+        Err(fault) => return Err(SourcedFault::Command(fault)),
+    };
+    explain_source(
+        alloc,
+        given.parts,
+        given.declaration,
+        &mut certificate,
+        &mut Writes::new(lines),
+    )
+}
+
+/// Guesses a certificate, and says on standard error why the search is stuck.
+#[inline(never)]
+fn guess_with_reasons<R: Files + Print + Eprint>(
+    rt: &R,
+    alloc: Global,
+    given: &SourceText<'_>,
     numbered: &Numbered<Global>,
     out: Destination<'_>,
-    explained: bool,
-) -> Result<Status, Fault> {
-    let mut frames = frames_of(numbered);
-    let mut text = promise_of(numbered);
-    let mut certificate = open_output(rt, out)?;
-    if !explained {
-        return guess(alloc, &mut frames, &mut text, &mut certificate);
-    }
-    let mut report = Vec::new(alloc);
-    let mut lines = Writes::new(&mut report);
-    let status = guess_or_explain(alloc, &mut frames, &mut text, &mut certificate, &mut lines)?;
+) -> Result<Status, SourcedFault> {
+    let mut lines = Vec::new(alloc);
+    let status = guess_with_lines(rt, alloc, given, out, &mut lines)?;
     if status == Status::Refused {
-        let told = with_reasons(alloc, numbered, &report, stuck_address(&report))?;
-        let _ = put(&mut tell_to(rt), &told);
+        match with_reasons(alloc, numbered, &lines, stuck_address(&lines)) {
+            Ok(told) => {
+                let _ = put(&mut tell_to(rt), &told);
+            }
+            Err(fault) => return Err(SourcedFault::Command(fault)),
+        }
     }
     Ok(status)
 }
 
+/// Whether the answer of a search is that it is stuck.
+fn is_stuck(answer: &Result<Status, SourcedFault>) -> bool {
+    matches!(
+        answer,
+        Ok(Status::Refused) | Err(SourcedFault::Command(Fault::Guess(GuessFault::Stuck(_))))
+    )
+}
+
 /// Guesses a certificate, and where the search is stuck writes a report, if one is asked for.
-pub fn guess_and_report<R: Files + Print + Eprint>(
+pub fn guess_program<R: Files + Print + Eprint>(
     rt: &R,
     alloc: Global,
+    given: &SourceText<'_>,
     numbered: &Numbered<Global>,
     out: Destination<'_>,
     explained: bool,
     report: Option<&str>,
-) -> Result<Status, Fault> {
-    let answer = guess_numbered(rt, alloc, numbered, out, explained);
-    if let Some(name) = report {
-        if is_stuck(&answer) {
-            report_stuck(
-                rt,
-                alloc,
-                &mut frames_of(numbered),
-                &mut promise_of(numbered),
-                name,
-            )?;
+) -> Result<Status, SourcedFault> {
+    let answer = if explained {
+        guess_with_reasons(rt, alloc, given, numbered, out)
+    } else {
+        guess_alone(rt, alloc, given, out)
+    };
+    let Some(name) = report else {
+        return answer;
+    };
+    if is_stuck(&answer) {
+        let mut frames = frames_of(numbered);
+        if let Err(fault) = report_stuck(rt, alloc, &mut frames, &mut promise_of(numbered), name) {
+            return Err(SourcedFault::Command(fault));
         }
     }
     answer
@@ -304,23 +353,53 @@ pub fn guess_and_report<R: Files + Print + Eprint>(
 
 /// Looks for a run that breaks the declaration.
 #[inline(never)]
-pub fn refute_numbered<R: Files + Print + Eprint>(
+pub fn refute_program<R: Files + Print + Eprint>(
     rt: &R,
     alloc: Global,
-    numbered: &Numbered<Global>,
+    given: &SourceText<'_>,
     out: Destination<'_>,
     options: RefuteOptions,
-) -> Result<Status, Fault> {
-    let mut events = open_output(rt, out)?;
+) -> Result<Status, SourcedFault> {
+    let mut events = match open_output(rt, out) {
+        Ok(events) => events,
+        Err(fault) => return Err(SourcedFault::Command(fault)),
+    };
     let mut report = report_to(rt, out.name() == "-");
-    refute(
+    refute_source(
         alloc,
-        &mut frames_of(numbered),
-        &mut promise_of(numbered),
+        given.parts,
+        given.declaration,
         options,
         &mut events,
         &mut report,
     )
+}
+
+/// Writes a declaration that is proposed, with the symbols of the source.
+#[inline(never)]
+pub fn declare_program<R: Files + Print>(
+    rt: &R,
+    alloc: Global,
+    given: &SourceText<'_>,
+    numbered: &Numbered<Global>,
+    out: Destination<'_>,
+    options: DeclareOptions,
+) -> Result<Status, SourcedFault> {
+    let mut text = match open_output(rt, out) {
+        Ok(text) => text,
+        Err(fault) => return Err(SourcedFault::Command(fault)),
+    };
+    let mut found = Vec::new(alloc);
+    let mut lines = Writes::new(&mut found);
+    let status = match declare(alloc, &mut frames_of(numbered), options, &mut lines) {
+        Ok(status) => status,
+        Err(fault) => return Err(SourcedFault::Command(fault)),
+    };
+    let named = name_declaration(alloc, given.parts, &found)?;
+    match put(&mut text, &named) {
+        Ok(()) => Ok(status),
+        Err(_) => Err(SourcedFault::Command(Fault::Device(DeviceFault::Write))),
+    }
 }
 
 /// Writes the declaration in numbers.

@@ -121,7 +121,7 @@ const OTHER_SOURCES: Argument = Argument {
 const DECLARATION_OUT: Argument = Argument {
     name: "OUT",
     short: None,
-    form: Form::ResultOperand,
+    form: Form::ResultOrSource,
     help: "where the declaration goes, or - for standard output; it is emptied first",
 };
 
@@ -432,10 +432,11 @@ static REPORT_ARGUMENTS: [Argument; 8] = [
     WHY_INPUT,
 ];
 
-static DECLARE_ARGUMENTS: [Argument; 7] = [
-    TAPE,
+static DECLARE_ARGUMENTS: [Argument; 8] = [
+    TAPE_OR_SOURCE,
     DECLARATION_OUT,
     OUTPUT,
+    PARTS,
     START,
     READS,
     PROFILE,

@@ -5,15 +5,25 @@ mod commands;
 mod names;
 mod operator;
 mod outputs;
-mod reported;
+mod promises;
+mod refused;
 mod requests;
 mod shown;
 mod sourced;
+mod sources;
 mod table;
+mod tapes;
+mod values;
 
 pub use names::FileNames;
 pub use operator::{Joined, Session, TeletypeSession, WatchedSession};
 pub use outputs::Destination;
-pub use reported::Reported;
-pub use requests::{CommandLine, Refused, Request, parse_arguments};
+pub use promises::{
+    CheckRequest, GuessRequest, MigrateRequest, RefuteRequest, ReportRequest, VerifyRequest,
+    WatchRequest,
+};
+pub use refused::{Misuse, Refused};
+pub use requests::{CommandLine, Request, parse_arguments};
 pub use sourced::{Sourced, Task};
+pub use sources::{AssembleRequest, ListRequest};
+pub use tapes::{DeclareRequest, DumpRequest, RunRequest, SourceRequest};

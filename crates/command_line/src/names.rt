@@ -3,7 +3,7 @@
 use crate::requests::Request;
 
 /// The names of the files of a request; `-` stands for a standard stream.
-#[derive(Clone, Copy, PartialEq, Eq, Debug)]
+#[derive(Clone, Copy)]
 pub struct FileNames<'a> {
     /// The tape's.
     pub tape: Option<&'a str>,
@@ -49,120 +49,24 @@ impl<'a> FileNames<'a> {
 impl<'a> Request<'a> {
     /// The names of its files, apart from the parts of a source.
     pub fn names(&self) -> FileNames<'a> {
-        let none = FileNames::NONE;
         match self {
-            Request::Run { tape, events, .. } => FileNames {
-                tape: Some(tape),
-                events: *events,
-                ..none
-            },
-            Request::Session(session) => FileNames {
-                tape: Some(session.tape),
-                reader: session.joined.reader,
-                keys: session.joined.keys,
-                ..none
-            },
-            Request::Teletype(session) => FileNames {
-                tape: Some(session.tape),
-                reader: session.reader,
-                ..none
-            },
-            Request::Dump { tape, .. } => FileNames {
-                tape: Some(tape),
-                ..none
-            },
-            Request::Assemble { out, .. } => FileNames {
-                output: Some(out.name()),
-                ..none
-            },
-            Request::List { .. } | Request::Explain { .. } => none,
+            Request::Run(run) => run.names(),
+            Request::Session(session) => session.names(),
+            Request::Teletype(session) => session.names(),
+            Request::Dump(dump) => dump.names(),
+            Request::Assemble(assemble) => assemble.names(),
+            Request::Source(source) => source.names(),
+            Request::List(_) | Request::Explain { .. } => FileNames::NONE,
+            Request::Check(check) => check.names(),
+            Request::Report(report) => report.names(),
+            Request::Declare(declare) => declare.names(),
+            Request::Guess(guess) => guess.names(),
+            Request::Migrate(migrate) => migrate.names(),
+            Request::Watch(watch) => watch.names(),
+            Request::WatchSession(session) => session.names(),
+            Request::Refute(refute) => refute.names(),
+            Request::Verify(verify) => verify.names(),
             Request::Sourced(sourced) => sourced.names(),
-            Request::Source {
-                tape,
-                declaration,
-                out,
-                ..
-            } => FileNames {
-                tape: Some(tape),
-                declaration: *declaration,
-                output: Some(out.name()),
-                ..none
-            },
-            Request::Watch {
-                tape,
-                declaration,
-                events,
-                ..
-            } => FileNames {
-                tape: Some(tape),
-                declaration: Some(declaration),
-                events: Some(events),
-                ..none
-            },
-            Request::WatchSession(session) => FileNames {
-                tape: Some(session.tape),
-                declaration: Some(session.declaration),
-                reader: session.reader,
-                keys: session.keys,
-                ..none
-            },
-            Request::Check {
-                tape,
-                declaration,
-                certificate,
-                ..
-            } => FileNames {
-                tape: Some(tape),
-                declaration: Some(declaration),
-                certificate: Some(certificate),
-                ..none
-            },
-            Request::Report(reported) => FileNames {
-                tape: Some(reported.tape),
-                declaration: Some(reported.declaration),
-                certificate: Some(reported.certificate),
-                output: Some(reported.out.name()),
-                ..none
-            },
-            Request::Declare { tape, out, .. } => FileNames {
-                tape: Some(tape),
-                output: Some(out.name()),
-                ..none
-            },
-            Request::Guess {
-                tape,
-                declaration,
-                out,
-                ..
-            } => FileNames {
-                tape: Some(tape),
-                declaration: Some(declaration),
-                output: Some(out.name()),
-                ..none
-            },
-            Request::Refute {
-                tape,
-                declaration,
-                ..
-            } => FileNames {
-                tape: Some(tape),
-                declaration: Some(declaration),
-                ..none
-            },
-            Request::Verify {
-                tape,
-                declaration,
-                ..
-            } => FileNames {
-                tape: Some(tape),
-                declaration: *declaration,
-                ..none
-            },
-            Request::Migrate { certificate, out } => FileNames {
-                certificate: Some(certificate),
-                output: Some(out.name()),
-                ..none
-            },
         }
     }
 }

@@ -1,13 +1,15 @@
 //! The options of a run with an operator.
 
-use crate::requests::{Refused, profile_of, run_options, share_standard_input, start_of};
+use crate::names::FileNames;
+use crate::refused::{Misuse, Refused};
 use crate::shown::shown_cells;
+use crate::values::{profile_of, read_standard_input_once, run_options, start_of};
 use clap::ArgMatches;
 use options::{Manner, SessionOptions, TeletypeOptions};
 use word12::Word;
 
 /// A run with an operator, as the options ask for it.
-#[derive(Clone, Copy, Debug)]
+#[derive(Clone, Copy)]
 pub struct Session<'a> {
     /// The name of the tape's file.
     pub tape: &'a str,
@@ -17,8 +19,19 @@ pub struct Session<'a> {
     pub options: SessionOptions,
 }
 
+impl<'a> Session<'a> {
+    pub(crate) fn names(&self) -> FileNames<'a> {
+        FileNames {
+            tape: Some(self.tape),
+            reader: self.joined.reader,
+            keys: self.joined.keys,
+            ..FileNames::NONE
+        }
+    }
+}
+
 /// A run with an operator that is watched, as the options ask for it.
-#[derive(Clone, Copy, Debug)]
+#[derive(Clone, Copy)]
 pub struct WatchedSession<'a> {
     /// The name of the tape's file.
     pub tape: &'a str,
@@ -34,8 +47,20 @@ pub struct WatchedSession<'a> {
     pub explained: bool,
 }
 
+impl<'a> WatchedSession<'a> {
+    pub(crate) fn names(&self) -> FileNames<'a> {
+        FileNames {
+            tape: Some(self.tape),
+            declaration: Some(self.declaration),
+            reader: self.reader,
+            keys: self.keys,
+            ..FileNames::NONE
+        }
+    }
+}
+
 /// A session at the teletype, as the options ask for it. The keys come from standard input.
-#[derive(Clone, Copy, Debug)]
+#[derive(Clone, Copy)]
 pub struct TeletypeSession<'a> {
     /// The name of the tape's file.
     pub tape: &'a str,
@@ -47,8 +72,18 @@ pub struct TeletypeSession<'a> {
     pub options: TeletypeOptions,
 }
 
+impl<'a> TeletypeSession<'a> {
+    pub(crate) fn names(&self) -> FileNames<'a> {
+        FileNames {
+            tape: Some(self.tape),
+            reader: self.reader,
+            ..FileNames::NONE
+        }
+    }
+}
+
 /// What the devices of a machine are joined to.
-#[derive(Clone, Copy, Debug)]
+#[derive(Clone, Copy)]
 pub struct Joined<'a> {
     /// The name of the file whose frames are in the reader.
     pub reader: Option<&'a str>,
@@ -89,18 +124,17 @@ fn switches_of(found: &ArgMatches<'_>) -> Result<Option<Word>, Refused> {
 }
 
 /// The run with an operator that the options of `run` ask for.
-pub fn session_of<'a>(tape: &'a str, found: &ArgMatches<'a>) -> Result<Session<'a>, Refused> {
+pub fn session_of<'a>(found: &ArgMatches<'a>) -> Result<Session<'a>, Refused> {
+    let tape = found.get_str("TAPE").unwrap_or("-");
     let reader = found.get_str("reader");
     let keys = found.get_str("keys");
     let punch = found.get_str("punch");
     if found.get_str("events").is_some() {
-        return Err(Refused::EventsAndOperator);
+        return Err(Refused::Misuse(Misuse::EventsAndOperator));
     }
-    if share_standard_input(&[tape, reader.unwrap_or(""), keys.unwrap_or("")]) {
-        return Err(Refused::BothStandardInput);
-    }
+    read_standard_input_once(&[tape, reader.unwrap_or(""), keys.unwrap_or("")])?;
     if punch == Some("-") {
-        return Err(Refused::PunchToOutput);
+        return Err(Refused::Misuse(Misuse::PunchToOutput));
     }
     Ok(Session {
         tape,
@@ -132,12 +166,10 @@ pub fn watched_session_of<'a>(
     let reader = found.get_str("reader");
     let keys = found.get_str("keys");
     if found.get_str("EVENTS").is_some() {
-        return Err(Refused::ListAndOperator);
+        return Err(Refused::Misuse(Misuse::ListAndOperator));
     }
     let inputs = [tape, declaration, reader.unwrap_or(""), keys.unwrap_or("")];
-    if share_standard_input(&inputs) {
-        return Err(Refused::BothStandardInput);
-    }
+    read_standard_input_once(&inputs)?;
     Ok(WatchedSession {
         tape,
         declaration,
@@ -153,11 +185,9 @@ pub fn teletype_of<'a>(found: &ArgMatches<'a>) -> Result<TeletypeSession<'a>, Re
     let tape = found.get_str("TAPE").unwrap_or("-");
     let reader = found.get_str("reader");
     let punch = found.get_str("punch");
-    if share_standard_input(&[tape, reader.unwrap_or(""), "-"]) {
-        return Err(Refused::BothStandardInput);
-    }
+    read_standard_input_once(&[tape, reader.unwrap_or(""), "-"])?;
     if punch == Some("-") {
-        return Err(Refused::PunchToOutput);
+        return Err(Refused::Misuse(Misuse::PunchToOutput));
     }
     Ok(TeletypeSession {
         tape,

@@ -1,10 +1,10 @@
 //! Where the result of a command goes.
 
-use crate::requests::Refused;
+use crate::refused::{Misuse, Refused};
 use clap::ArgMatches;
 
 /// Where a result goes: the name of a file, or `-` for standard output.
-#[derive(Clone, Copy, PartialEq, Eq, Debug)]
+#[derive(Clone, Copy)]
 pub enum Destination<'a> {
     /// The operand OUT: the file is emptied before an input is read.
     EmptiedFirst(&'a str),
@@ -22,6 +22,11 @@ impl<'a> Destination<'a> {
     }
 }
 
+/// Whether the result goes to the value of `-o`.
+pub fn has_output(found: &ArgMatches<'_>) -> bool {
+    found.get_str("output").is_some()
+}
+
 /// Where the report of a search that is stuck goes, if it is asked for: it is neither an input nor the
 /// result.
 pub fn report_of<'a>(
@@ -35,7 +40,7 @@ pub fn report_of<'a>(
     let result = out.name();
     let taken = *name == *result || others.iter().any(|other| **other == *name);
     if name != "-" && taken {
-        return Err(Refused::ReportIsTaken);
+        return Err(Refused::Misuse(Misuse::ReportIsTaken));
     }
     Ok(Some(name))
 }
@@ -51,7 +56,7 @@ pub fn destination_of<'a>(
     };
     let out = destination.name();
     if out != "-" && inputs.iter().any(|name| **name == *out) {
-        return Err(Refused::OutputIsInput);
+        return Err(Refused::Misuse(Misuse::OutputIsInput));
     }
     Ok(destination)
 }

@@ -3,7 +3,7 @@
 ghost use Rattle.std.specs.Prelude.{◌≡◌, ◌==◌};
 ghost use Rattle.std.specs.List.{position};
 
-use crate::requests::Refused;
+use crate::refused::{Misuse, Refused};
 use clap::ArgMatches;
 use streams::text::{Words, octal_word};
 use wordset::WordSet;
@@ -47,7 +47,7 @@ fn cells(text: &[u8]) -> Option<WordSet> {
 pub(crate) fn shown_cells(found: &ArgMatches<'_>) -> Result<WordSet, Refused> {
     let mut set = WordSet::empty();
     for text in found.get_strs("show").unwrap_or(&[]) {
-        set = set.union(&cells(text.as_bytes()).ok_or(Refused::Show)?);
+        set = set.union(&cells(text.as_bytes()).ok_or(Refused::Misuse(Misuse::Show))?);
     }
     Ok(set)
 }

@@ -2,29 +2,32 @@
 
 use crate::names::FileNames;
 use crate::operator::{WatchedSession, is_watched_with_operator, watched_session_of};
-use crate::outputs::{Destination, destination_of, report_of};
-use crate::requests::{
-    Refused, Request, refute_options, share_standard_input, source_names, verify_options,
-};
+use crate::outputs::{Destination, destination_of, has_output, report_of};
+use crate::refused::{Misuse, Refused};
 use crate::shown::shown_cells;
+use crate::sources::source_names;
+use crate::values::{
+    declare_options, is_start_named, read_standard_input_once, refute_options, verify_options,
+};
 use clap::ArgMatches;
-use options::{RefuteOptions, VerifyOptions};
+use options::{DeclareOptions, RefuteOptions, VerifyOptions};
 use std::alloc::Global;
 use wordset::WordSet;
 
 /// What a command does with a source and its declaration.
-#[derive(Drop, Debug)]
+#[derive(Drop)]
 pub struct Sourced<'a> {
     /// The names of the files of the parts, in order.
     pub sources: Vec<&'a str>,
-    /// The name of the declaration's file; without one the lines within the source are the declaration.
+    /// The name of the declaration's file; without one the lines within the source are the declaration,
+    /// but where one is to be proposed.
     pub declaration: Option<&'a str>,
     /// What is done.
     pub task: Task<'a>,
 }
 
 /// What is done with a source and its declaration.
-#[derive(Clone, Copy, Debug)]
+#[derive(Clone, Copy)]
 pub enum Task<'a> {
     /// To say whether the program keeps its declaration.
     Verify {
@@ -80,6 +83,15 @@ pub enum Task<'a> {
         /// How it is looked for.
         options: RefuteOptions,
     },
+    /// To propose a declaration.
+    Declare {
+        /// Where it goes.
+        out: Destination<'a>,
+        /// What it's proposed for.
+        options: DeclareOptions,
+        /// Whether it is said what is wrong with an input that is refused.
+        explained: bool,
+    },
     /// To write the declaration in numbers.
     Place {
         /// Where it goes.
@@ -119,13 +131,12 @@ impl<'a> Sourced<'a> {
                 keys: session.keys,
                 ..none
             },
-            Task::Guess { out, .. } | Task::Refute { out, .. } | Task::Place { out, .. } => {
+            Task::Guess { out, .. } | Task::Declare { out, .. } | Task::Place { out, .. } =>
                 FileNames {
                     output: Some(out.name()),
                     ..none
-                }
-            }
-            Task::Verify { .. } => none,
+                },
+            Task::Verify { .. } | Task::Refute { .. } => none,
         }
     }
 }
@@ -139,6 +150,7 @@ impl<'a> Task<'a> {
             | Task::Report { explained, .. }
             | Task::Watch { explained, .. }
             | Task::Guess { explained, .. }
+            | Task::Declare { explained, .. }
             | Task::Place { explained, .. } => *explained,
             Task::WatchSession(session) => session.explained,
             Task::Refute { options, .. } => options.explained,
@@ -169,12 +181,12 @@ fn operands_of<'a>(
         .iter()
         .any(|name| found.get_str(name).is_some());
     if third {
-        return Err(Refused::TapeAndSource);
+        return Err(Refused::Misuse(Misuse::TapeAndSource));
     }
     let (first, second) = (found.get_str("TAPE"), found.get_str("DECLARATION"));
     let Some(name) = needed else {
         if second.is_some() {
-            return Err(Refused::TapeAndSource);
+            return Err(Refused::Misuse(Misuse::TapeAndSource));
         }
         return Ok(Operands {
             declaration: first,
@@ -206,9 +218,7 @@ fn parts_of<'a>(
     let mut inputs = Vec::new(alloc);
     inputs.extend_from_slice(&names)?;
     inputs.extend_from_slice(others)?;
-    if share_standard_input(&inputs) {
-        return Err(Refused::BothStandardInput);
-    }
+    read_standard_input_once(&inputs)?;
     Ok(names)
 }
 
@@ -224,29 +234,25 @@ fn result_of<'a>(
     };
     let name = out.name();
     if name != "-" && inputs.iter().any(|input| **input == *name) {
-        return Err(Refused::OutputIsInput);
+        return Err(Refused::Misuse(Misuse::OutputIsInput));
     }
     Ok(out)
 }
 
 /// The last operand that a search needs: OUT, unless `-o` stands in its place.
 fn needed_out(found: &ArgMatches<'_>) -> Option<&'static str> {
-    if found.get_str("output").is_some() {
-        None
-    } else {
-        Some("OUT")
-    }
+    if has_output(found) { None } else { Some("OUT") }
 }
 
 /// The request for whether the program of a source keeps its declaration.
-pub fn sourced_verify<'a>(alloc: Global, found: &ArgMatches<'a>) -> Result<Request<'a>, Refused> {
+pub fn sourced_verify<'a>(alloc: Global, found: &ArgMatches<'a>) -> Result<Sourced<'a>, Refused> {
     let operands = operands_of(found, None)?;
     let declaration = operands.declaration;
-    let asked = found.get_str("start").is_some() || found.get_str("profile").is_some();
+    let asked = is_start_named(found);
     if declaration.is_some() && asked {
-        return Err(Refused::DeclarationAndStart);
+        return Err(Refused::Misuse(Misuse::DeclarationAndStart));
     }
-    Ok(Request::Sourced(Sourced {
+    Ok(Sourced {
         sources: parts_of(alloc, found, &[declaration.unwrap_or("")])?,
         declaration,
         task: Task::Verify {
@@ -254,29 +260,29 @@ pub fn sourced_verify<'a>(alloc: Global, found: &ArgMatches<'a>) -> Result<Reque
             options: verify_options(found)?,
             asked,
         },
-    }))
+    })
 }
 
 /// The request for the verdict on a certificate for a source.
-pub fn sourced_check<'a>(alloc: Global, found: &ArgMatches<'a>) -> Result<Request<'a>, Refused> {
+pub fn sourced_check<'a>(alloc: Global, found: &ArgMatches<'a>) -> Result<Sourced<'a>, Refused> {
     let operands = operands_of(found, Some("CERTIFICATE"))?;
     let certificate = operands.last.unwrap_or("-");
     let declaration = operands.declaration;
-    Ok(Request::Sourced(Sourced {
+    Ok(Sourced {
         sources: parts_of(alloc, found, &[declaration.unwrap_or(""), certificate])?,
         declaration,
         task: Task::Check {
             certificate,
             explained: found.get_flag("why"),
         },
-    }))
+    })
 }
 
 /// The request for the report of a certificate for a source. It goes to the value of `-o`: all operands are
 /// inputs.
-pub fn sourced_report<'a>(alloc: Global, found: &ArgMatches<'a>) -> Result<Request<'a>, Refused> {
-    if found.get_str("output").is_none() {
-        return Err(Refused::NoOperand("-o OUT"));
+pub fn sourced_report<'a>(alloc: Global, found: &ArgMatches<'a>) -> Result<Sourced<'a>, Refused> {
+    if !has_output(found) {
+        return Err(Refused::Misuse(Misuse::NoOutput));
     }
     let operands = operands_of(found, Some("CERTIFICATE"))?;
     let certificate = operands.last.unwrap_or("-");
@@ -286,7 +292,7 @@ pub fn sourced_report<'a>(alloc: Global, found: &ArgMatches<'a>) -> Result<Reque
     inputs.extend_from_slice(&sources)?;
     inputs.extend_from_slice(&[declaration.unwrap_or("-"), certificate])?;
     let out = result_of(found, None, &inputs)?;
-    Ok(Request::Sourced(Sourced {
+    Ok(Sourced {
         sources,
         declaration,
         task: Task::Report {
@@ -295,26 +301,26 @@ pub fn sourced_report<'a>(alloc: Global, found: &ArgMatches<'a>) -> Result<Reque
             text: found.get_flag("text"),
             explained: found.get_flag("why"),
         },
-    }))
+    })
 }
 
 /// The request for the verdict on a run of a source.
-pub fn sourced_watch<'a>(alloc: Global, found: &ArgMatches<'a>) -> Result<Request<'a>, Refused> {
+pub fn sourced_watch<'a>(alloc: Global, found: &ArgMatches<'a>) -> Result<Sourced<'a>, Refused> {
     if is_watched_with_operator(found) {
         let operands = operands_of(found, None)?;
         let declaration = operands.declaration;
         let session = watched_session_of("", "", found)?;
         let (reader, keys) = (session.reader.unwrap_or(""), session.keys.unwrap_or(""));
-        return Ok(Request::Sourced(Sourced {
+        return Ok(Sourced {
             sources: parts_of(alloc, found, &[declaration.unwrap_or(""), reader, keys])?,
             declaration,
             task: Task::WatchSession(session),
-        }));
+        });
     }
     let operands = operands_of(found, Some("EVENTS"))?;
     let events = operands.last.unwrap_or("-");
     let declaration = operands.declaration;
-    Ok(Request::Sourced(Sourced {
+    Ok(Sourced {
         sources: parts_of(alloc, found, &[declaration.unwrap_or(""), events])?,
         declaration,
         task: Task::Watch {
@@ -322,20 +328,20 @@ pub fn sourced_watch<'a>(alloc: Global, found: &ArgMatches<'a>) -> Result<Reques
             explained: found.get_flag("why"),
             show: shown_cells(found)?,
         },
-    }))
+    })
 }
 
 /// The request for a certificate for a source.
-pub fn sourced_guess<'a>(alloc: Global, found: &ArgMatches<'a>) -> Result<Request<'a>, Refused> {
+pub fn sourced_guess<'a>(alloc: Global, found: &ArgMatches<'a>) -> Result<Sourced<'a>, Refused> {
     let operands = operands_of(found, needed_out(found))?;
     let declaration = operands.declaration;
     let sources = parts_of(alloc, found, &[declaration.unwrap_or("")])?;
-    let out = search_output(alloc, found, operands, &sources)?;
+    let out = search_output(alloc, found, operands.last, declaration, &sources)?;
     let report = report_of(found, &[declaration.unwrap_or("-")], &out)?;
     if report.is_some_and(|name| sources.iter().any(|part| **part == *name)) {
-        return Err(Refused::ReportIsTaken);
+        return Err(Refused::Misuse(Misuse::ReportIsTaken));
     }
-    Ok(Request::Sourced(Sourced {
+    Ok(Sourced {
         sources,
         declaration,
         task: Task::Guess {
@@ -343,54 +349,71 @@ pub fn sourced_guess<'a>(alloc: Global, found: &ArgMatches<'a>) -> Result<Reques
             explained: found.get_flag("why"),
             report,
         },
-    }))
+    })
 }
 
 /// Where the result of a search goes, which is none of its inputs.
 fn search_output<'a>(
     alloc: Global,
     found: &ArgMatches<'a>,
-    operands: Operands<'a>,
+    last: Option<&'a str>,
+    declaration: Option<&'a str>,
     sources: &[&'a str],
 ) -> Result<Destination<'a>, Refused> {
     let mut inputs = Vec::new(alloc);
     inputs.extend_from_slice(sources)?;
-    inputs.extend_from_slice(&[operands.declaration.unwrap_or("-")])?;
-    result_of(found, operands.last, &inputs)
+    inputs.extend_from_slice(&[declaration.unwrap_or("-")])?;
+    result_of(found, last, &inputs)
 }
 
 /// The request for a run that breaks the declaration of a source.
-pub fn sourced_refute<'a>(alloc: Global, found: &ArgMatches<'a>) -> Result<Request<'a>, Refused> {
+pub fn sourced_refute<'a>(alloc: Global, found: &ArgMatches<'a>) -> Result<Sourced<'a>, Refused> {
     let operands = operands_of(found, needed_out(found))?;
     let declaration = operands.declaration;
     let sources = parts_of(alloc, found, &[declaration.unwrap_or("")])?;
-    let out = search_output(alloc, found, operands, &sources)?;
-    Ok(Request::Sourced(Sourced {
+    let out = search_output(alloc, found, operands.last, declaration, &sources)?;
+    Ok(Sourced {
         sources,
         declaration,
         task: Task::Refute {
             out,
             options: refute_options(found)?,
         },
-    }))
+    })
+}
+
+/// The request for a declaration that is proposed for a source.
+pub fn sourced_declare<'a>(alloc: Global, found: &ArgMatches<'a>) -> Result<Sourced<'a>, Refused> {
+    let operands = operands_of(found, needed_out(found))?;
+    if operands.declaration.is_some() {
+        return Err(Refused::Misuse(Misuse::TapeAndSource));
+    }
+    let sources = parts_of(alloc, found, &[])?;
+    Ok(Sourced {
+        task: Task::Declare {
+            out: search_output(alloc, found, operands.last, None, &sources)?,
+            options: declare_options(found)?,
+            explained: found.get_flag("why"),
+        },
+        sources,
+        declaration: None,
+    })
 }
 
 /// The request for the declaration of a source in numbers.
-pub fn place_request<'a>(alloc: Global, found: &ArgMatches<'a>) -> Result<Request<'a>, Refused> {
+pub fn place_request<'a>(alloc: Global, found: &ArgMatches<'a>) -> Result<Sourced<'a>, Refused> {
     let sources = source_names(alloc, found)?;
     let declaration = found.get_str("declaration");
     let mut inputs = Vec::new(alloc);
     inputs.extend_from_slice(&sources)?;
     inputs.extend_from_slice(&[declaration.unwrap_or("")])?;
-    if share_standard_input(&inputs) {
-        return Err(Refused::BothStandardInput);
-    }
-    Ok(Request::Sourced(Sourced {
+    read_standard_input_once(&inputs)?;
+    Ok(Sourced {
         task: Task::Place {
             out: destination_of(found, &inputs)?,
             explained: found.get_flag("why"),
         },
         sources,
         declaration,
-    }))
+    })
 }

@@ -149,6 +149,45 @@ fn answered<A: Allocator + Copy>(
     }
 }
 
+/// What is said of a run by a list of events.
+fn watched<A: Allocator + Copy>(
+    alloc: A,
+    plan: &Plan,
+    out: &mut MemorySink<Global>,
+) -> Result<Status, Fault>
+    requires { out.old.failed ≡ false }
+{
+    watch(
+        alloc,
+        &mut plan.source(0, HALT),
+        &mut plan.source(1, HALT_DECLARED),
+        &mut plan.source(2, b"step\n"),
+        false,
+        &WordSet::empty(),
+        out,
+    )
+}
+
+/// What is said of a run with an operator.
+fn watched_with_operator<A: Allocator + Copy>(
+    alloc: A,
+    plan: &Plan,
+    out: &mut MemorySink<Global>,
+) -> Result<Status, Fault>
+    requires { out.old.failed ≡ false }
+{
+    watch_session(
+        alloc,
+        &mut plan.source(0, HALT),
+        &mut plan.source(1, HALT_DECLARED),
+        &mut plan.source(2, b"\x00\x01"),
+        &mut plan.source(3, b"A"),
+        session(),
+        false,
+        out,
+    )
+}
+
 /// What a command on promises answers.
 fn promised<A: Allocator + Copy>(
     alloc: A,
@@ -162,32 +201,8 @@ fn promised<A: Allocator + Copy>(
     let mut text = plan.source(1, HALT_DECLARED);
     let mut certificate = plan.source(2, HALT_CERTIFICATE);
     match command {
-        Command::Watch => {
-            let mut events = plan.source(2, b"step\n");
-            watch(
-                alloc,
-                &mut tape,
-                &mut text,
-                &mut events,
-                false,
-                &WordSet::empty(),
-                out,
-            )
-        }
-        Command::WatchSession => {
-            let mut frames = plan.source(2, b"\x00\x01");
-            let mut keys = plan.source(3, b"A");
-            watch_session(
-                alloc,
-                &mut tape,
-                &mut text,
-                &mut frames,
-                &mut keys,
-                session(),
-                false,
-                out,
-            )
-        }
+        Command::Watch => watched(alloc, plan, out),
+        Command::WatchSession => watched_with_operator(alloc, plan, out),
         Command::Check => check(alloc, &mut tape, &mut text, &mut certificate, out),
         Command::Explain => {
             let mut text = plan.source(1, UNDECLARED);

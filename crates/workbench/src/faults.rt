@@ -162,6 +162,24 @@ pub fn stuck_address(report: &[u8]) -> Option<Word> {
     Word::from_octal(digits).ok()
 }
 
+/// Whether these are the characters of a text, as a source has them and a tape hasn't.
+fn is_text(bytes: &[u8]) -> bool {
+    bytes
+        .iter()
+        .all(|byte| matches!(*byte, b'\t'..=b'\r' | b' '..=b'~'))
+}
+
+/// Adds the line on a source that was taken for a tape.
+fn push_source_hint(text: &mut String, fault: &Fault, file: &FaultyFile<'_>) {
+    if matches!(fault, Fault::Tape(_)) && !file.bytes.is_empty() && is_text(file.bytes) {
+        let name = file.name;
+        let _ = writeln!(
+            text,
+            "{name} is text: a source wants --source, or is assembled first where a command hasn't that"
+        );
+    }
+}
+
 /// The lines on an input that has a fault. Of standard input, which can't be read twice, there are none.
 fn input_lines<R: Files + Input>(
     rt: &R,
@@ -180,6 +198,7 @@ fn input_lines<R: Files + Input>(
             bytes: &bytes,
         };
         let _ = push_fault(&mut text, *fault, &file);
+        push_source_hint(&mut text, fault, &file);
     }
     text
 }

@@ -88,14 +88,14 @@ fn make_punch<R: Files>(
     }
 }
 
-/// Where the report of a session goes: to standard error, where the teletype has standard output.
-fn report_to<'r, R: Print + Eprint>(
+/// Where a report goes: to standard error, where something else has standard output.
+pub(crate) fn report_to<'r, R: Print + Eprint>(
     rt: &'r R,
-    teletype: bool,
+    is_taken: bool,
 ) -> Writes<Either<Printer<'r, R>, Teller<'r, R>>>
     ensures { result.failed ≡ false }
 {
-    if teletype {
+    if is_taken {
         Writes::new(Either::Right(Teller { to: rt }))
     } else {
         Writes::new(Either::Left(io::writer(rt)))

@@ -9,11 +9,13 @@ mod from_source;
 mod joined;
 mod numbering;
 mod program;
-mod reported;
+mod programs;
+mod promises;
 mod saving;
 mod source_lines;
 mod sources;
 mod spots;
+mod tapes;
 mod telling;
 
 pub use commands::{

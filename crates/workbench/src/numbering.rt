@@ -3,8 +3,8 @@
 use crate::files::open_input;
 use crate::sources::{tell_of, tell_source, unopened};
 use crate::spots::{Spot, line_counts, spot_of};
-use crate::telling::tell;
-use command_line::{Sourced, Task};
+use crate::telling::{tell, tell_misuse};
+use command_line::{Misuse, Sourced, Task};
 use commands::status::{Fault, Status};
 use instruct::Profile;
 use labels::{NumberingFault, PlaceFault, declared_lines};
@@ -98,8 +98,10 @@ fn machine_line(profile: Profile) -> &'static [u8] {
 /// A declaration that is to be proposed, of which only the machine is known.
 fn unknown_declaration(alloc: Global, task: &Task<'_>) -> Result<Vec<u8>, AllocError> {
     let mut text = Vec::new(alloc);
-    if let Task::Verify { options, .. } = task {
-        text.extend_from_slice(machine_line(options.profile))?;
+    match task {
+        Task::Verify { options, .. } => text.extend_from_slice(machine_line(options.profile))?,
+        Task::Declare { options, .. } => text.extend_from_slice(machine_line(options.profile))?,
+        _ => {}
     }
     Ok(text)
 }
@@ -109,6 +111,15 @@ fn unknown_declaration(alloc: Global, task: &Task<'_>) -> Result<Vec<u8>, AllocE
 struct Promised {
     text: Vec<u8>,
     promise: Promise,
+}
+
+/// Whether a declaration is proposed where no file is named, by what the source says of one.
+fn is_proposed(task: &Task<'_>, within: &[u8]) -> bool {
+    match task {
+        Task::Verify { .. } => !says_something(within),
+        Task::Declare { .. } => true,
+        _ => false,
+    }
 }
 
 /// The declaration of a source: that of the file, else its lines within the source.
@@ -127,15 +138,15 @@ fn given_declaration<R: Files + Input>(
     }
     let slices = lend(alloc, parts)?;
     let text = declared_lines(alloc, &slices)?;
-    if says_something(&text) || !matches!(sourced.task, Task::Verify { .. }) {
+    if is_proposed(&sourced.task, &text) {
         return Ok(Promised {
-            text,
-            promise: Promise::Within,
+            text: unknown_declaration(alloc, &sourced.task)?,
+            promise: Promise::Proposed,
         });
     }
     Ok(Promised {
-        text: unknown_declaration(alloc, &sourced.task)?,
-        promise: Promise::Proposed,
+        text,
+        promise: Promise::Within,
     })
 }
 
@@ -248,15 +259,6 @@ pub fn tell_refused<R: Eprint>(
     }
 }
 
-/// Says that a start and a machine can't be named beside a declaration.
-fn tell_asked<R: Eprint>(rt: &R) -> Status {
-    match eprintln!(rt;
-        "error: a declaration has its own start and machine: '--start' and '--profile' can't stand beside it"
-    ) {
-        Ok(()) | Err(_) => Status::Usage,
-    }
-}
-
 /// Whether a start or a machine is named beside a declaration within the source.
 fn is_asked_twice(task: &Task<'_>, promise: Promise) -> bool {
     match task {
@@ -285,7 +287,7 @@ pub fn read_all<R: Files + Input + Eprint>(
     }
     let Promised { text, promise } = given_declaration(rt, alloc, sourced, &parts)?;
     if is_asked_twice(&sourced.task, promise) {
-        return Ok(Prepared::Told(tell_asked(rt)));
+        return Ok(Prepared::Told(tell_misuse(rt, &Misuse::DeclarationAndStart)));
     }
     Ok(Prepared::Read(Given {
         parts,

@@ -2,7 +2,7 @@
 
 use crate::files::{open_inputs, open_output, open_parts};
 use crate::telling::{tell, tell_with};
-use command_line::Destination;
+use command_line::{AssembleRequest, ListRequest};
 use commands::assembling::{assemble, list};
 use commands::status::{DeviceFault, Fault, Status};
 use instruct::Profile;
@@ -152,13 +152,12 @@ fn list_or_tell<R: Files + Input + Print + Eprint>(
 fn assemble_or_tell<R: Files + Input + Print + Eprint>(
     rt: &R,
     alloc: Global,
-    out: Destination<'_>,
-    names: &[&str],
-    profile: Profile,
+    asked: &AssembleRequest<'_>,
 ) -> Status {
-    let mut tape = match open_output(rt, out) {
+    let (names, out) = (asked.sources.as_slice(), asked.out.name());
+    let mut tape = match open_output(rt, asked.out) {
         Ok(tape) => tape,
-        Err(fault) => return tell_of(rt, fault, output_name(out.name()), "can't be made"),
+        Err(fault) => return tell_of(rt, fault, output_name(out), "can't be made"),
     };
     let mut parts = Vec::new(alloc);
     if let Err(fault) = open_parts(rt, names, &mut parts) {
@@ -168,49 +167,44 @@ fn assemble_or_tell<R: Files + Input + Print + Eprint>(
     match assemble(
         alloc,
         &mut parts,
-        profile,
+        asked.profile,
         Some(names),
         &mut told,
         &mut tape,
     ) {
         Ok(status) => status,
-        Err(fault) => tell_all(rt, fault, names, &parts, out.name(), &told),
+        Err(fault) => tell_all(rt, fault, names, &parts, out, &told),
     }
 }
 
-/// Lists the source whose parts are in these files.
+/// Lists the source whose parts are in files.
 #[inline(never)]
 pub fn list_from<R: Files + Input + Print + Eprint>(
     rt: &R,
     alloc: Global,
-    names: &[&str],
-    profile: Profile,
-    explained: bool,
+    asked: &ListRequest<'_>,
 ) -> Result<Status, Fault> {
-    if explained {
-        return Ok(list_or_tell(rt, alloc, names, profile));
+    if asked.explained {
+        return Ok(list_or_tell(rt, alloc, &asked.sources, asked.profile));
     }
-    let mut parts = open_inputs(rt, alloc, names)?;
+    let mut parts = open_inputs(rt, alloc, &asked.sources)?;
     let mut out = Writes::new(io::writer(rt));
     let mut told = String::new(alloc);
-    list(alloc, &mut parts, profile, None, &mut told, &mut out)
+    list(alloc, &mut parts, asked.profile, None, &mut told, &mut out)
 }
 
-/// Assembles the parts of these files into a tape.
+/// Assembles the parts of files into a tape.
 #[inline(never)]
 pub fn assemble_to<R: Files + Input + Print + Eprint>(
     rt: &R,
     alloc: Global,
-    out: Destination<'_>,
-    names: &[&str],
-    profile: Profile,
-    explained: bool,
+    asked: &AssembleRequest<'_>,
 ) -> Result<Status, Fault> {
-    if explained {
-        return Ok(assemble_or_tell(rt, alloc, out, names, profile));
+    if asked.explained {
+        return Ok(assemble_or_tell(rt, alloc, asked));
     }
-    let mut tape = open_output(rt, out)?;
-    let mut parts = open_inputs(rt, alloc, names)?;
+    let mut tape = open_output(rt, asked.out)?;
+    let mut parts = open_inputs(rt, alloc, &asked.sources)?;
     let mut told = String::new(alloc);
-    assemble(alloc, &mut parts, profile, None, &mut told, &mut tape)
+    assemble(alloc, &mut parts, asked.profile, None, &mut told, &mut tape)
 }

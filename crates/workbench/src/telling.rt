@@ -1,5 +1,6 @@
 //! What is told on standard error of a fault.
 
+use command_line::Misuse;
 use commands::status::{Fault, Status};
 
 /// Writes the line of a fault to standard error.
@@ -14,5 +15,13 @@ pub fn tell_with<R: Eprint>(rt: &R, fault: Fault, lines: &str) -> Status {
     let status = tell(rt, fault);
     match rt.eprint(lines) {
         Ok(()) | Err(_) => status,
+    }
+}
+
+/// Says what is wrong with the command line.
+pub fn tell_misuse<R: Eprint>(rt: &R, misuse: &Misuse) -> Status {
+    let text = misuse.text();
+    match eprintln!(rt; "error: {text}") {
+        Ok(()) | Err(_) => Status::Usage,
     }
 }

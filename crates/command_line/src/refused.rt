@@ -1,0 +1,113 @@
+//! Why a command line isn't carried out.
+
+use clap::Error;
+use clap::error::ErrorKind;
+use std::alloc::AllocError;
+use word12::OctalFault;
+
+/// Why nothing is done.
+#[derive(Drop)]
+pub enum Refused {
+    /// The command line is bad, or asks for help.
+    CommandLine(Error),
+    /// Its words are those of a command, but can't stand so.
+    Misuse(Misuse),
+    /// The value of `--start` is no address.
+    Start(OctalFault),
+    /// The value of `--switches` is no word.
+    Switches(OctalFault),
+    /// The operand of this name is missing.
+    NoOperand(&'static str),
+    /// The value of `--steps` is no number from 1 to this one.
+    Steps(u32),
+    /// Memory was refused.
+    Memory,
+}
+
+/// What is wrong with the words of a command line, where that is the same in each.
+#[derive(Clone, Copy)]
+pub enum Misuse {
+    /// An argument is no text.
+    NotText,
+    /// The value of `--show` has no cell, or something else than addresses and ranges.
+    Show,
+    /// There are events, and an operator too.
+    EventsAndOperator,
+    /// A run is to be watched by a list of events, and with an operator too.
+    ListAndOperator,
+    /// There is a declaration, and a start or a machine too.
+    DeclarationAndStart,
+    /// There is a source, and a tape or another operand too many.
+    TapeAndSource,
+    /// There is no `-o`, and each operand is an input.
+    NoOutput,
+    /// The punch is to go to standard output.
+    PunchToOutput,
+    /// The value of `--seed` is no number from 0 to 99,999,999.
+    Seed,
+    /// The value of `--profile` is neither `8i` nor `8e`.
+    Profile,
+    /// Two inputs are to come from standard input.
+    BothStandardInput,
+    /// The result is to go to an input.
+    OutputIsInput,
+    /// A tape is to go to a file that is named as a source.
+    OutputIsSource,
+    /// The report is to go to an input, or where the result goes.
+    ReportIsTaken,
+    /// There is a report, and standard input, which can't be read twice.
+    ReportOfStandardInput,
+}
+
+impl Misuse {
+    /// What is told of it.
+    pub fn text(&self) -> &'static str {
+        match self {
+            Misuse::NotText => "an argument isn't text",
+            Misuse::Show =>
+                "bad value for '--show': it has octal addresses and ranges, such as 0324 0400-0417",
+            Misuse::EventsAndOperator =>
+                "'--events' can't stand beside the options for the reader, the punch, the teletype and the switches",
+            Misuse::ListAndOperator =>
+                "EVENTS can't stand beside the options for the reader, the keys, the switches and the rounds",
+            Misuse::DeclarationAndStart =>
+                "a declaration has its own start and machine: '--start' and '--profile' can't stand beside it",
+            Misuse::TapeAndSource =>
+                "'--source' stands in place of TAPE: there is an operand too many",
+            Misuse::NoOutput => "'-o OUT' is missing: with '--source' each operand is an input",
+            Misuse::PunchToOutput => "'--punch' takes the name of a file",
+            Misuse::Seed => "bad value for '--seed': it is a number from 0 to 99999999",
+            Misuse::Profile => "bad value for '--profile': it is 8i or 8e",
+            Misuse::BothStandardInput => "'-' stands for standard input in one place alone",
+            Misuse::OutputIsInput => "OUT is also an input: the result goes to a file of its own",
+            Misuse::OutputIsSource =>
+                "OUT ends in .pal, as sources do: it takes the tape, and stands before the sources",
+            Misuse::ReportIsTaken =>
+                "the report is also an input or OUT: it goes to a file of its own",
+            Misuse::ReportOfStandardInput =>
+                "'-' can't be read twice: with '--report' the inputs are files",
+        }
+    }
+}
+
+impl From<Error> for Refused {
+    fn from(error: Error) -> Refused {
+        if error.kind() == ErrorKind::OutOfMemory {
+            Refused::Memory
+        } else {
+            Refused::CommandLine(error)
+        }
+    }
+}
+
+impl From<AllocError> for Refused {
+    fn from(_: AllocError) -> Refused {
+        Refused::Memory
+    }
+}
+
+impl From<OctalFault> for Refused {
+    fn from(fault: OctalFault) -> Refused {
+        Refused::Start(fault)
+    }
+}

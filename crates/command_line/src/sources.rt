@@ -1,0 +1,88 @@
+//! What may be asked for with a source that is assembled.
+
+use crate::names::FileNames;
+use crate::outputs::{Destination, destination_of, has_output};
+use crate::refused::{Misuse, Refused};
+use crate::values::{profile_of, read_standard_input_once};
+use clap::ArgMatches;
+use instruct::Profile;
+use std::alloc::Global;
+
+/// To assemble a source.
+#[derive(Drop)]
+pub struct AssembleRequest<'a> {
+    /// Where the tape goes.
+    pub out: Destination<'a>,
+    /// The names of the files of the parts, in order.
+    pub sources: Vec<&'a str>,
+    /// Whose permanent symbols there are.
+    pub profile: Profile,
+    /// Whether it is said what is wrong with a source that is refused.
+    pub explained: bool,
+}
+
+impl<'a> AssembleRequest<'a> {
+    pub(crate) fn names(&self) -> FileNames<'a> {
+        FileNames {
+            output: Some(self.out.name()),
+            ..FileNames::NONE
+        }
+    }
+}
+
+/// To list a source.
+#[derive(Drop)]
+pub struct ListRequest<'a> {
+    /// The names of the files of the parts, in order.
+    pub sources: Vec<&'a str>,
+    /// Whose permanent symbols there are.
+    pub profile: Profile,
+    /// Whether it is said what is wrong with a source that is refused.
+    pub explained: bool,
+}
+
+/// The names of a source's parts.
+pub(crate) fn source_names<'a>(
+    alloc: Global,
+    found: &ArgMatches<'a>,
+) -> Result<Vec<&'a str>, Refused> {
+    let mut names = Vec::new(alloc);
+    // With -o the first operand is a part of the source too.
+    if has_output(found) {
+        names.extend_from_slice(found.get_strs("OUT").unwrap_or(&[]))?;
+    }
+    names.extend_from_slice(found.get_strs("SOURCE").unwrap_or(&[]))?;
+    read_standard_input_once(&names)?;
+    Ok(names)
+}
+
+/// The tape that is asked for. It doesn't go to a file that is named as a source: the operands may stand in the
+/// wrong order.
+pub(crate) fn assemble_request<'a>(
+    alloc: Global,
+    found: &ArgMatches<'a>,
+) -> Result<AssembleRequest<'a>, Refused> {
+    let sources = source_names(alloc, found)?;
+    let out = destination_of(found, &sources)?;
+    if out.name().ends_with(".pal") {
+        return Err(Refused::Misuse(Misuse::OutputIsSource));
+    }
+    Ok(AssembleRequest {
+        out,
+        sources,
+        profile: profile_of(found)?,
+        explained: found.get_flag("why"),
+    })
+}
+
+/// The listing that is asked for.
+pub(crate) fn list_request<'a>(
+    alloc: Global,
+    found: &ArgMatches<'a>,
+) -> Result<ListRequest<'a>, Refused> {
+    Ok(ListRequest {
+        sources: source_names(alloc, found)?,
+        profile: profile_of(found)?,
+        explained: found.get_flag("why"),
+    })
+}

@@ -1,0 +1,145 @@
+//! What may be asked for with a tape alone.
+
+use crate::names::FileNames;
+use crate::outputs::{Destination, destination_of};
+use crate::refused::{Misuse, Refused};
+use crate::values::{
+    declare_options, is_start_named, profile_of, read_standard_input_once, run_options, start_of,
+};
+use clap::ArgMatches;
+use instruct::Profile;
+use options::{DeclareOptions, RunOptions};
+use word12::Word;
+
+/// To run a tape.
+#[derive(Clone, Copy)]
+pub struct RunRequest<'a> {
+    /// The name of the tape's file.
+    pub tape: &'a str,
+    /// The name of the file of events that stand in place of rounds.
+    pub events: Option<&'a str>,
+    /// How it is run.
+    pub options: RunOptions,
+}
+
+impl<'a> RunRequest<'a> {
+    pub(crate) fn names(&self) -> FileNames<'a> {
+        FileNames {
+            tape: Some(self.tape),
+            events: self.events,
+            ..FileNames::NONE
+        }
+    }
+}
+
+/// The run of a tape without an operator.
+pub(crate) fn run_request<'a>(found: &ArgMatches<'a>) -> Result<RunRequest<'a>, Refused> {
+    let tape = found.get_str("TAPE").unwrap_or("-");
+    let events = found.get_str("events");
+    read_standard_input_once(&[tape, events.unwrap_or("")])?;
+    Ok(RunRequest {
+        tape,
+        events,
+        options: run_options(found)?,
+    })
+}
+
+/// To list the words of a tape.
+#[derive(Clone, Copy)]
+pub struct DumpRequest<'a> {
+    /// The name of the tape's file.
+    pub tape: &'a str,
+    /// Whose names the words have.
+    pub profile: Profile,
+}
+
+impl<'a> DumpRequest<'a> {
+    pub(crate) fn names(&self) -> FileNames<'a> {
+        FileNames {
+            tape: Some(self.tape),
+            ..FileNames::NONE
+        }
+    }
+}
+
+/// The list of words that is asked for.
+pub(crate) fn dump_request<'a>(found: &ArgMatches<'a>) -> Result<DumpRequest<'a>, Refused> {
+    Ok(DumpRequest {
+        tape: found.get_str("TAPE").unwrap_or("-"),
+        profile: profile_of(found)?,
+    })
+}
+
+/// To write a source of a tape.
+#[derive(Clone, Copy)]
+pub struct SourceRequest<'a> {
+    /// The name of the tape's file.
+    pub tape: &'a str,
+    /// Where the source goes.
+    pub out: Destination<'a>,
+    /// The name of the declaration's file, if there is one.
+    pub declaration: Option<&'a str>,
+    /// Where the program starts, without a declaration.
+    pub start: Word,
+    /// For which machine it is, without a declaration.
+    pub profile: Profile,
+}
+
+impl<'a> SourceRequest<'a> {
+    pub(crate) fn names(&self) -> FileNames<'a> {
+        FileNames {
+            tape: Some(self.tape),
+            declaration: self.declaration,
+            output: Some(self.out.name()),
+            ..FileNames::NONE
+        }
+    }
+}
+
+/// The source that is asked for.
+pub(crate) fn source_request<'a>(found: &ArgMatches<'a>) -> Result<SourceRequest<'a>, Refused> {
+    let tape = found.get_str("TAPE").unwrap_or("-");
+    let declaration = found.get_str("declaration");
+    read_standard_input_once(&[tape, declaration.unwrap_or("")])?;
+    if declaration.is_some() && is_start_named(found) {
+        return Err(Refused::Misuse(Misuse::DeclarationAndStart));
+    }
+    Ok(SourceRequest {
+        tape,
+        out: destination_of(found, &[tape, declaration.unwrap_or("-")])?,
+        declaration,
+        start: start_of(found)?,
+        profile: profile_of(found)?,
+    })
+}
+
+/// To propose a declaration.
+#[derive(Clone, Copy)]
+pub struct DeclareRequest<'a> {
+    /// The name of the tape's file.
+    pub tape: &'a str,
+    /// Where the declaration goes.
+    pub out: Destination<'a>,
+    /// What it's proposed for.
+    pub options: DeclareOptions,
+}
+
+impl<'a> DeclareRequest<'a> {
+    pub(crate) fn names(&self) -> FileNames<'a> {
+        FileNames {
+            tape: Some(self.tape),
+            output: Some(self.out.name()),
+            ..FileNames::NONE
+        }
+    }
+}
+
+/// The declaration that is asked for.
+pub(crate) fn declare_request<'a>(found: &ArgMatches<'a>) -> Result<DeclareRequest<'a>, Refused> {
+    let tape = found.get_str("TAPE").unwrap_or("-");
+    Ok(DeclareRequest {
+        tape,
+        out: destination_of(found, &[tape])?,
+        options: declare_options(found)?,
+    })
+}

@@ -1,0 +1,233 @@
+//! Commands that work on a tape and its declaration, or on a certificate.
+
+ghost use Rattle.std.specs.Prelude.{◌≡◌, false};
+
+use crate::drafted::{is_stuck, report_stuck_files};
+use crate::faults::{bound_lines, omissions, stuck_address, with_omissions};
+use crate::files::{open_input, open_output};
+use crate::joined::{report_to, tell_to};
+use crate::saving::{save_answer, save_proposed};
+use command_line::{
+    CheckRequest, GuessRequest, MigrateRequest, RefuteRequest, ReportRequest, VerifyRequest,
+    WatchRequest,
+};
+use commands::checking::check;
+use commands::explaining::explain;
+use commands::guessing::guess;
+use commands::migrating::migrate;
+use commands::refuting::refute;
+use commands::reporting::{Form, report};
+use commands::status::{Fault, Status};
+use commands::stuck::guess_or_explain;
+use commands::verifying::{Answer, Lack, answer_status, verify, verify_proposed};
+use commands::watching::watch;
+use std::alloc::Global;
+use std::io;
+use std::rt::Files;
+use streams::put;
+use streams::standard::Writes;
+
+/// Migrates the certificate of a file.
+#[inline(never)]
+pub fn migrate_from<R: Files + Input + Print>(
+    rt: &R,
+    alloc: Global,
+    asked: &MigrateRequest<'_>,
+) -> Result<Status, Fault> {
+    let mut text = open_input(rt, asked.certificate)?;
+    let mut migrated = open_output(rt, asked.out)?;
+    migrate(alloc, &mut text, &mut migrated)
+}
+
+/// Watches a run of the tape of a file.
+#[inline(never)]
+pub fn watch_from<R: Files + Input + Print>(
+    rt: &R,
+    alloc: Global,
+    asked: &WatchRequest<'_>,
+) -> Result<Status, Fault> {
+    let mut frames = open_input(rt, asked.tape)?;
+    let mut text = open_input(rt, asked.declaration)?;
+    let mut list = open_input(rt, asked.events)?;
+    let mut out = Writes::new(io::writer(rt));
+    watch(
+        alloc,
+        &mut frames,
+        &mut text,
+        &mut list,
+        asked.explained,
+        &asked.show,
+        &mut out,
+    )
+}
+
+/// Checks the certificate of a file, and says why the verdict is no where that is asked for.
+#[inline(never)]
+pub fn check_from<R: Files + Input + Print>(
+    rt: &R,
+    alloc: Global,
+    asked: &CheckRequest<'_>,
+) -> Result<Status, Fault> {
+    let mut frames = open_input(rt, asked.tape)?;
+    let mut text = open_input(rt, asked.declaration)?;
+    let mut claims = open_input(rt, asked.certificate)?;
+    let mut out = Writes::new(io::writer(rt));
+    if asked.explained {
+        return explain(alloc, &mut frames, &mut text, &mut claims, &mut out);
+    }
+    check(alloc, &mut frames, &mut text, &mut claims, &mut out)
+}
+
+/// Writes what the certificate of a file says.
+#[inline(never)]
+pub fn report_from<R: Files + Input + Print>(
+    rt: &R,
+    alloc: Global,
+    asked: &ReportRequest<'_>,
+) -> Result<Status, Fault> {
+    let mut frames = open_input(rt, asked.tape)?;
+    let mut text = open_input(rt, asked.declaration)?;
+    let mut claims = open_input(rt, asked.certificate)?;
+    let mut page = open_output(rt, asked.out)?;
+    let form = if asked.text { Form::Text } else { Form::Page };
+    report(alloc, &mut frames, &mut text, &mut claims, &mut page, form)
+}
+
+/// Guesses a certificate for the tape of a file, and where the search is stuck writes a report, if one is
+/// asked for.
+#[inline(never)]
+pub fn guess_from<R: Files + Input + Print + Eprint>(
+    rt: &R,
+    alloc: Global,
+    asked: &GuessRequest<'_>,
+) -> Result<Status, Fault> {
+    let answer = if asked.explained {
+        guess_with_reasons(rt, alloc, asked)
+    } else {
+        guess_alone(rt, alloc, asked)
+    };
+    if let Some(name) = asked.report {
+        if is_stuck(&answer) {
+            report_stuck_files(rt, alloc, asked.tape, asked.declaration, name)?;
+        }
+    }
+    answer
+}
+
+/// Guesses a certificate for the tape of a file.
+#[inline(never)]
+fn guess_alone<R: Files + Input + Print>(
+    rt: &R,
+    alloc: Global,
+    asked: &GuessRequest<'_>,
+) -> Result<Status, Fault> {
+    let mut frames = open_input(rt, asked.tape)?;
+    let mut text = open_input(rt, asked.declaration)?;
+    let mut certificate = open_output(rt, asked.out)?;
+    guess(alloc, &mut frames, &mut text, &mut certificate)
+}
+
+/// Guesses a certificate for the tape of a file, and says on standard error why the search is stuck.
+#[inline(never)]
+fn guess_with_reasons<R: Files + Input + Print + Eprint>(
+    rt: &R,
+    alloc: Global,
+    asked: &GuessRequest<'_>,
+) -> Result<Status, Fault> {
+    let mut frames = open_input(rt, asked.tape)?;
+    let mut text = open_input(rt, asked.declaration)?;
+    let mut certificate = open_output(rt, asked.out)?;
+    let mut report = Vec::new(alloc);
+    let mut lines = Writes::new(&mut report);
+    let status = guess_or_explain(alloc, &mut frames, &mut text, &mut certificate, &mut lines)?;
+    if status == Status::Refused {
+        let others = omissions(
+            rt,
+            alloc,
+            asked.tape,
+            asked.declaration,
+            stuck_address(&report),
+        );
+        let mut told = with_omissions(alloc, &report, &others)?;
+        told.extend_from_slice(&bound_lines(rt, alloc, asked.tape, asked.declaration))?;
+        let _ = put(&mut tell_to(rt), &told);
+    }
+    Ok(status)
+}
+
+/// Says whether the program of a file's tape keeps its declaration, or the one that is proposed for it.
+#[inline(never)]
+pub fn verify_from<R: Files + Input + Print>(
+    rt: &R,
+    alloc: Global,
+    asked: &VerifyRequest<'_>,
+) -> Result<Status, Fault> {
+    match asked.declaration {
+        Some(declaration) => verify_declared(rt, alloc, asked, declaration),
+        None => verify_alone(rt, alloc, asked),
+    }
+}
+
+/// Says whether the program of a file's tape keeps the declaration that is proposed for it.
+#[inline(never)]
+fn verify_alone<R: Files + Input + Print>(
+    rt: &R,
+    alloc: Global,
+    asked: &VerifyRequest<'_>,
+) -> Result<Status, Fault> {
+    let mut frames = open_input(rt, asked.tape)?;
+    let mut out = Writes::new(io::writer(rt));
+    let proposed = verify_proposed(alloc, &mut frames, asked.options, &mut out)?;
+    save_proposed(rt, alloc, asked.save, &proposed)?;
+    Ok(answer_status(&proposed.answer))
+}
+
+/// Says whether the program of a file's tape keeps the declaration of a file.
+#[inline(never)]
+fn verify_declared<R: Files + Input + Print>(
+    rt: &R,
+    alloc: Global,
+    asked: &VerifyRequest<'_>,
+    declaration: &str,
+) -> Result<Status, Fault> {
+    let mut frames = open_input(rt, asked.tape)?;
+    let mut text = open_input(rt, declaration)?;
+    let search = asked.options.search;
+    let mut report = Vec::new(alloc);
+    let mut lines = Writes::new(&mut report);
+    let answer = verify(alloc, &mut frames, &mut text, search, &mut lines)?;
+    let mut others = Vec::new(alloc);
+    let mut bound = Vec::new(alloc);
+    if let Answer::NotKnown(Lack::Stuck(at)) = &answer {
+        if search.explained {
+            others = omissions(rt, alloc, asked.tape, declaration, Some(*at));
+            bound = bound_lines(rt, alloc, asked.tape, declaration);
+        }
+    }
+    let mut told = with_omissions(alloc, &report, &others)?;
+    told.extend_from_slice(&bound)?;
+    put(&mut Writes::new(io::writer(rt)), &told)?;
+    save_answer(rt, alloc, asked.save, &answer)?;
+    Ok(answer_status(&answer))
+}
+
+/// Looks for a run of the tape of a file that breaks its declaration.
+#[inline(never)]
+pub fn refute_from<R: Files + Input + Print + Eprint>(
+    rt: &R,
+    alloc: Global,
+    asked: &RefuteRequest<'_>,
+) -> Result<Status, Fault> {
+    let mut frames = open_input(rt, asked.tape)?;
+    let mut text = open_input(rt, asked.declaration)?;
+    let mut events = open_output(rt, asked.out)?;
+    let mut report = report_to(rt, asked.out.name() == "-");
+    refute(
+        alloc,
+        &mut frames,
+        &mut text,
+        asked.options,
+        &mut events,
+        &mut report,
+    )
+}

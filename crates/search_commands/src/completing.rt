@@ -32,7 +32,7 @@ use streams::{ByteSink, ByteSource, put, read_at_most};
 use turns::{ProposeFault, Turns};
 
 /// How many turns a proposal has at most.
-const MOST_TURNS: u32 = 2_000_000;
+const MOST_TURNS: u32 = 300_000;
 
 /// One byte more than the text of a declaration may have, so that a longer one is seen to be too
 /// long.

@@ -27,7 +27,7 @@ use word12::Word;
 use wordset::WordSet;
 
 /// How many turns there are at most.
-const MOST_TURNS: u32 = 150_000;
+const MOST_TURNS: u32 = 300_000;
 
 /// Adds a comment for each address at which control isn't followed.
 pub(crate) fn push_unfollowed<A: Allocator>(

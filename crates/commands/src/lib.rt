@@ -8,6 +8,6 @@ pub use machine_commands::{
     follow, refuting, running, session, teletype, watched_session, watching,
 };
 pub use report_commands::{drafting, reporting};
-pub use search_commands::{declaring, guessing, stuck, verifying};
+pub use search_commands::{completing, declaring, guessing, stuck, verifying};
 pub use source_commands::{assembling, sourcing};
 pub use verdict_commands::{checking, explaining, migrating};

@@ -21,7 +21,7 @@ is_done _ = false
 done_not_refused : {A : Type 0} → Done ≡ Refused → A
 done_not_refused is = absurd (true≢false (ap is_done is))
 
-refused_not_done : {A : Type 0} → Refused ≡ Done → A
+pub refused_not_done : {A : Type 0} → Refused ≡ Done → A
 refused_not_done is = absurd (true≢false (sym (ap is_done is)))
 
 -- with a certificate

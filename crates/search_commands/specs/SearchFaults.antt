@@ -30,3 +30,9 @@ IsProposeFault fault = IsRunFault fault
 -- Why no declaration is proposed: the tape's fault, or after a good tape that of the work.
 abbrev pub IsDeclareFault : Input → Fault → Type 0
 IsDeclareFault tape fault = IsTapeInputFault tape fault ⊎ (IsGoodTape tape.had × IsProposeFault fault)
+
+-- Why no declaration is completed: the tape's fault, after a good tape that of the declaration, and then that of the work.
+abbrev pub IsCompleteFault : Input → Input → Fault → Type 0
+IsCompleteFault tape text fault =
+    IsTapeInputFault tape fault ⊎ (IsGoodTape tape.had × (IsDeclarationInputFault text fault
+    ⊎ (IsGoodDeclaration text.had × IsProposeFault fault)))

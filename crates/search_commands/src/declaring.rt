@@ -30,7 +30,7 @@ use wordset::WordSet;
 const MOST_TURNS: u32 = 2_000_000;
 
 /// Adds a comment for each address at which control isn't followed.
-fn push_unfollowed<A: Allocator>(
+pub(crate) fn push_unfollowed<A: Allocator>(
     text: &mut Vec<u8, A>,
     addresses: &WordSet,
 ) -> Result<(), AllocError> {
@@ -60,7 +60,10 @@ fn push_verdict<A: Allocator, B: Allocator>(
 }
 
 /// Adds a comment that says in which runs it was seen what the program does, if it was.
-fn push_seen<A: Allocator>(text: &mut Vec<u8, A>, seen: Option<Seen>) -> Result<(), AllocError> {
+pub(crate) fn push_seen<A: Allocator>(
+    text: &mut Vec<u8, A>,
+    seen: Option<Seen>,
+) -> Result<(), AllocError> {
     let Some(seen) = seen else {
         return Ok(());
     };
@@ -72,7 +75,7 @@ fn push_seen<A: Allocator>(text: &mut Vec<u8, A>, seen: Option<Seen>) -> Result<
 }
 
 /// What is proposed for a tape's words, with a list of reads where one was asked for.
-fn proposal_for<A: Allocator + Copy>(
+pub(crate) fn proposal_for<A: Allocator + Copy>(
     alloc: A,
     image: &Image,
     options: &DeclareOptions,
@@ -96,7 +99,7 @@ fn proposal_for<A: Allocator + Copy>(
 }
 
 /// A copy of a text.
-fn copy_of<A: Allocator>(alloc: A, text: &[u8]) -> Result<Vec<u8, A>, AllocError>
+pub(crate) fn copy_of<A: Allocator>(alloc: A, text: &[u8]) -> Result<Vec<u8, A>, AllocError>
     ensures { IfOk result (λ copy. copy.items ≡ text.now) }
 {
     let mut copy = Vec::new(alloc);

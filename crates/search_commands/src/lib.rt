@@ -2,7 +2,10 @@
 //! one.
 #![tactic(auto)]
 
+pub mod completing;
 pub mod declaring;
+mod extending;
 pub mod guessing;
+mod merging;
 pub mod stuck;
 pub mod verifying;

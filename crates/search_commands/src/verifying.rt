@@ -97,7 +97,7 @@ fn refuted<A: Allocator + Copy, D: Allocator>(
 }
 
 /// Why it isn't known, where no certificate was found; a want of memory is told as one.
-fn lack_of(fault: GuessFault) -> Result<Lack, Fault>
+pub(crate) fn lack_of(fault: GuessFault) -> Result<Lack, Fault>
     ensures { IfErr result IsMemoryFault }
 {
     match fault {

@@ -1,0 +1,29 @@
+-- When one declaration extends another.
+use Rattle.std.specs.Prelude.{ℕ, ◌≡◌, ◌<◌, true, Option, Some, None}
+use Rattle.wordset.specs.Words.{Words, IsWithin}
+use Rattle.declaration.specs.Declaration.{Declaration, Routine}
+
+-- Whatever the one declaration says of a cell the other says too: each body that has the cell has it still, an entry stays
+-- an entry, and its routine may return at each offset, all of which are below 8, at which it might.
+pub record KeepsCell (given more : Declaration) (a : ℕ) : Type 0 where
+  pub body : (r : Routine) → given.body r a ≡ true → more.body r a ≡ true
+  pub entry : given.entry a ≡ true → more.entry a ≡ true
+  pub offset : (o : ℕ) → o < 8 → given.offset a o ≡ true → more.offset a o ≡ true
+
+-- Where reads aren't listed they still aren't, and where they are listed each cell is listed still.
+abbrev pub KeepsReads : Option Words → Option Words → Type 0
+KeepsReads None more = more ≡ None
+KeepsReads (Some cells) None = ⊥
+KeepsReads (Some cells) (Some more) = IsWithin cells more
+
+-- The second declaration extends the first: start and machine are the same, and all that the first says of bodies,
+-- routines, variables, halts and listed reads the second says too. It may say more. Since no cell is in two bodies, no
+-- entry is in a body or a variable, and no stop is a pause, whatever has one of these roles keeps it.
+pub record Extends (given more : Declaration) : Type 0 where
+  pub start_is : more.start ≡ given.start
+  pub profile_is : more.profile ≡ given.profile
+  pub cells : (a : ℕ) → a < 4096 → KeepsCell given more a
+  pub variables : IsWithin given.variable more.variable
+  pub stops : IsWithin given.stop more.stop
+  pub pauses : IsWithin given.pause more.pause
+  pub reads : KeepsReads given.reads more.reads

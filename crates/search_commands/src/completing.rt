@@ -1,0 +1,331 @@
+//! The command that adds to a declaration what is missing there.
+
+ghost use Rattle.std.specs.Prelude.{◌≡◌, ◌||◌, ◌⊎◌, false, true, Ok, Err, None, IfSome, IfOk, IfErr, OnErr};
+ghost use Rattle.command_parts.specs.declared.status.Status.TheVariants.{Done, Refused};
+ghost use Rattle.search_commands.specs.CompleteText.{Completes, IsCompleted, IsCompletion, IsExtension, IsTried};
+ghost use Rattle.search_commands.specs.Extending.{Extends};
+ghost use Rattle.search_commands.specs.SearchFaults.{IsCompleteFault};
+ghost use Rattle.search_commands.specs.VerifyText.{IsMemoryFault};
+ghost use Rattle.command_parts.specs.Faults.{IsDeclarationInputFault, is_fault_of_tape, fails_to_read, fails_to_write};
+ghost use Rattle.command_parts.specs.Inputs.{HasDeclaration, IsGoodTape, TakesAtMost, TakesTape, input};
+ghost use Rattle.command_parts.specs.Writes.{FrontOf, Writes};
+ghost use Rattle.declaration.specs.Kept.{meaning};
+ghost use Rattle.declaration.specs.Text.{Declares};
+ghost use Rattle.peripherals.specs.Loading.{image_of};
+ghost use Rattle.proposer.specs.Proposals.{IsTold};
+ghost use Rattle.policy.specs.Runs.{IsSafe};
+
+use crate::declaring::{copy_of, proposal_for, push_seen, push_unfollowed};
+use crate::extending::extends;
+use crate::merging::merged;
+use crate::verifying::{Lack, lack_of};
+use analyser::guess;
+use bin_tape::Image;
+use command_parts::inputs::tape_from;
+use command_parts::status::{Fault, Status};
+use command_parts::text::push_place;
+use declaration::{Declaration, DeclarationFault};
+use options::DeclareOptions;
+use proposer::Proposal;
+use std::alloc::{AllocError, Allocator};
+use streams::{ByteSink, ByteSource, put, read_at_most};
+use turns::{ProposeFault, Turns};
+
+/// How many turns a proposal has at most.
+const MOST_TURNS: u32 = 2_000_000;
+
+/// One byte more than the text of a declaration may have, so that a longer one is seen to be too
+/// long.
+const MOST_BYTES: usize = 16_385;
+
+/// A declaration and its text.
+#[derive(Drop)]
+struct Given<A: Allocator> {
+    text: Vec<u8, A>,
+    declaration: Declaration<A>,
+}
+
+/// A text that is written, and the status behind it.
+#[derive(Drop)]
+struct Written<A: Allocator> {
+    text: Vec<u8, A>,
+    status: Status,
+}
+
+/// What is found of a text that may complete a declaration.
+#[derive(Clone, Copy, PartialEq, Eq, Debug)]
+pub(crate) enum Trial {
+    /// It extends the declaration, and the program keeps it.
+    Shown,
+    /// It extends the declaration, and no certificate is found.
+    Lacking(Lack),
+    /// It is no text that extends the declaration.
+    Unfit,
+}
+
+/// Reads a declaration, and keeps its text.
+fn given_from<A: Allocator + Copy, R: ByteSource>(
+    alloc: A,
+    source: &mut R,
+) -> Result<Given<A>, Fault>
+    requires { R.mark source.old ≡ false }
+    ensures declares { IfOk result (λ given.
+        HasDeclaration (R.remaining source.old) (meaning given.declaration)) }
+    ensures text { IfOk result (λ given.
+        Declares given.text.items (meaning given.declaration)) }
+    ensures faults { IfErr result (IsDeclarationInputFault
+        (input (R.mark source.new) (R.remaining source.old) (R.remaining source.new))) }
+    ensures marks { R.mark source.new ≡ fails_to_read result }
+    ensures takes { TakesAtMost 16385 (R.remaining source.old) (R.remaining source.new) }
+{
+    let text = read_at_most(alloc, source, MOST_BYTES)?;
+    match Declaration::parse(alloc, &text) {
+        Ok(declaration) => Ok(Given { text, declaration }),
+        Err(fault) => Err(Fault::from(fault)),
+    }
+}
+
+/// Why no certificate is found for a declaration, if none is.
+fn lack_in<A: Allocator + Copy, D: Allocator>(
+    alloc: A,
+    image: &Image,
+    declaration: &Declaration<D>,
+) -> Result<Option<Lack>, Fault>
+    ensures shown { IfOk result (λ lack. lack ≡ None →
+        IsSafe (image_of image.now) (meaning declaration.now)) }
+    ensures faults { IfErr result IsMemoryFault }
+{
+    match guess(alloc, image, declaration) {
+        Ok(_certificate) => Ok(None),
+        Err(fault) => match lack_of(fault) {
+            Ok(lack) => Ok(Some(lack)),
+            Err(fault) => Err(fault),
+        },
+    }
+}
+
+/// What a text declares, if that extends a declaration.
+fn extension<A: Allocator + Copy, D: Allocator>(
+    alloc: A,
+    given: &Declaration<D>,
+    text: &[u8],
+) -> Result<Option<Declaration<A>>, Fault>
+    ensures declares { IfOk result (λ found. IfSome found (λ d. Declares text.now (meaning d))) }
+    ensures extends { IfOk result (λ found.
+        IfSome found (λ d. Extends (meaning given.now) (meaning d))) }
+    ensures faults { IfErr result IsMemoryFault }
+{
+    match Declaration::parse(alloc, text) {
+        Ok(more) => {
+            if extends(given, &more) {
+                Ok(Some(more))
+            } else {
+                Ok(None)
+            }
+        }
+        Err(DeclarationFault::NoMemory) => Err(Fault::NoMemory),
+        Err(_) => Ok(None),
+    }
+}
+
+/// What is found of a text that may complete a declaration.
+fn tried<A: Allocator + Copy, D: Allocator>(
+    alloc: A,
+    image: &Image,
+    given: &Declaration<D>,
+    text: &[u8],
+) -> Result<Trial, Fault>
+    ensures tried { IfOk result (IsTried image.now (meaning given.now) text.now) }
+    ensures faults { IfErr result IsMemoryFault }
+{
+    let Some(more) = extension(alloc, given, text)? else {
+        return Ok(Trial::Unfit);
+    };
+    match lack_in(alloc, image, &more)? {
+        None => Ok(Trial::Shown),
+        Some(lack) => Ok(Trial::Lacking(lack)),
+    }
+}
+
+/// Adds a comment that says why no certificate is found.
+fn push_lack<A: Allocator>(text: &mut Vec<u8, A>, lack: Lack) -> Result<(), AllocError> {
+    match lack {
+        Lack::Stuck(at) => push_place(text, b"/ No certificate is found: stuck at ", at)?,
+        Lack::TurnsSpent => {
+            text.extend_from_slice(b"/ No certificate is found within the turns that there are")?
+        }
+    }
+    text.extend_from_slice(b".\n")
+}
+
+/// Ends the last line of a text, if it lacks its end.
+fn end_text<A: Allocator>(text: &mut Vec<u8, A>) -> Result<(), AllocError> {
+    match text.last() {
+        None | Some(b'\n') => Ok(()),
+        Some(_) => text.extend_from_slice(b"\n"),
+    }
+}
+
+/// A text, and behind it comments that say what is missing.
+fn with_remarks<A: Allocator + Copy>(
+    alloc: A,
+    text: &[u8],
+    lack: Lack,
+    proposal: &Proposal<A>,
+) -> Result<Vec<u8, A>, AllocError> {
+    let mut more = copy_of(alloc, text)?;
+    end_text(&mut more)?;
+    push_lack(&mut more, lack)?;
+    push_seen(&mut more, proposal.seen)?;
+    push_unfollowed(&mut more, &proposal.unfollowed)?;
+    Ok(more)
+}
+
+/// A text that extends a declaration, with comments behind it where there is room for them.
+fn remarked<A: Allocator + Copy, D: Allocator>(
+    alloc: A,
+    given: &Declaration<D>,
+    text: &[u8],
+    lack: Lack,
+    proposal: &Proposal<A>,
+) -> Result<Vec<u8, A>, Fault>
+    requires { IsExtension (meaning given.now) text.now }
+    ensures extends { IfOk result (λ more. IsExtension (meaning given.now) more.items) }
+    ensures faults { IfErr result IsMemoryFault }
+{
+    let more = with_remarks(alloc, text, lack, proposal)?;
+    match extension(alloc, given, &more)? {
+        Some(_found) => Ok(more),
+        None => Ok(copy_of(alloc, text)?),
+    }
+}
+
+/// What is proposed for a tape with the start and the machine of a declaration, with a list of reads
+/// where the declaration has one and that is asked for.
+fn proposal_by<A: Allocator + Copy>(
+    alloc: A,
+    image: &Image,
+    given: &Declaration<A>,
+    reads: bool,
+) -> Result<Proposal<A>, ProposeFault>
+    ensures { IfErr result IsTold }
+{
+    let options = DeclareOptions {
+        start: given.start(),
+        profile: given.profile(),
+        reads: reads && given.reads_listed(),
+    };
+    proposal_for(alloc, image, &options, &mut Turns::new(MOST_TURNS))
+}
+
+/// A text for which no certificate is found, if there is one.
+fn refused<A: Allocator>(text: Result<Vec<u8, A>, Fault>) -> Result<Written<A>, Fault>
+    ensures text { IfOk result (λ c. text ≡ Ok c.text) }
+    ensures status { IfOk result (λ c. c.status ≡ Refused) }
+    ensures fault { IfErr result (λ fault. text ≡ Err fault) }
+{
+    match text {
+        Ok(text) => Ok(Written {
+            text,
+            status: Status::Refused,
+        }),
+        Err(fault) => Err(fault),
+    }
+}
+
+/// The text that completes a declaration for which no certificate is found, by what is proposed for the
+/// tape.
+fn completed<A: Allocator + Copy>(
+    alloc: A,
+    image: &Image,
+    given: &Given<A>,
+    lack: Lack,
+    proposal: &Proposal<A>,
+) -> Result<Written<A>, Fault>
+    requires { Declares given.now.text.items (meaning given.now.declaration) }
+    ensures completes { IfOk result (λ c.
+        Completes image.now (meaning given.now.declaration) c.status c.text.items) }
+    ensures statuses { IfOk result (λ c. (c.status ≡ Done) ⊎ (c.status ≡ Refused)) }
+    ensures faults { IfErr result IsMemoryFault }
+{
+    let promised = &given.declaration;
+    let text = merged(alloc, &given.text, promised, &proposal.declaration)?;
+    match tried(alloc, image, promised, &text)? {
+        Trial::Shown => Ok(Written {
+            text,
+            status: Status::Done,
+        }),
+        Trial::Lacking(lack) => refused(remarked(alloc, promised, &text, lack, proposal)),
+        Trial::Unfit => refused(remarked(alloc, promised, &given.text, lack, proposal)),
+    }
+}
+
+/// Adds to a declaration what is missing there, by the tape, and writes its text. What was written there
+/// stays: each line as it is, but that the line of a routine may get ranges and offsets, with a comment
+/// behind that names them; other lines come behind, each with the comment `/ added`. A declaration for
+/// which a certificate is found is written as it is. `Done` says that no run of the program breaks what
+/// is written. Else it's `Refused`: no certificate is found that shows that. Comments behind the text say
+/// why then, if there is room for them. What is added is what `declare` proposes for the tape, the start
+/// and the machine, except what has another role already; also cells that may be read where reads are
+/// listed and `reads` asks for it. Which cells these are, and what the comments say, is tested, not proved.
+///
+/// # Errors
+///
+/// The fault of the tape or of the declaration: each is read and, if it has a fault, refused before
+/// the next is read; `Declare` where what is found can't be declared; `Device` where a read or a write
+/// failed, after which a prefix of the text went out; `NoMemory`. Nothing is written but where a write
+/// failed.
+#[tactic(auto, using(crate::proofs::UnreadLemmas::takes_no_text))]
+pub fn complete<A: Allocator + Copy, R: ByteSource, D: ByteSource, W: ByteSink>(
+    alloc: A,
+    tape: &mut R,
+    declaration: &mut D,
+    reads: bool,
+    out: &mut W,
+) -> Result<Status, Fault>
+    requires readable { R.mark tape.old ≡ false }
+    requires declaration_readable { D.mark declaration.old ≡ false }
+    requires writable { W.mark out.old ≡ false }
+    // What is written declares a program, and it extends the declaration that is read; and where the
+    // command is done no run of the tape's program breaks what is written.
+    ensures completed { IfOk result (λ status. Writes
+        (IsCompletion (R.remaining tape.old) (D.remaining declaration.old) status)
+        (W.taken out.old) (W.taken out.new)) }
+    ensures statuses { IfOk result (λ status. (status ≡ Done) ⊎ (status ≡ Refused)) }
+    // A fault is that of the first input that has one, or else of what was found or of a write.
+    ensures faults { IfErr result (IsCompleteFault
+        (input (R.mark tape.new) (R.remaining tape.old) (R.remaining tape.new))
+        (input (D.mark declaration.new) (D.remaining declaration.old)
+        (D.remaining declaration.new))) }
+    // Where a write failed, a front of such a text went out,
+    ensures front { W.mark out.new ≡ true → FrontOf
+        (IsCompleted (R.remaining tape.old) (D.remaining declaration.old))
+        (W.taken out.old) (W.taken out.new) }
+    // and any other fault leaves the output as it was.
+    ensures nothing { OnErr result (W.mark out.new ≡ false → W.taken out.new ≡ W.taken out.old) }
+    // A write failed exactly where the answer says so, and so did a read.
+    ensures marks { W.mark out.new ≡ fails_to_write result }
+    ensures reads { R.mark tape.new || D.mark declaration.new ≡ fails_to_read result }
+    // The declaration isn't read after a tape that is refused, or whose read failed.
+    ensures unread { IfErr result (λ fault. is_fault_of_tape fault ≡ true →
+        declaration.new ≡ declaration.old) }
+    ensures unread_after_failure { R.mark tape.new ≡ true → declaration.new ≡ declaration.old }
+    // It is read only after a good tape.
+    ensures declaration_after_tape { (declaration.new ≡ declaration.old) ⊎
+        IsGoodTape (R.remaining tape.old) }
+    // No input is read past its limit.
+    ensures takes_tape { TakesTape (R.remaining tape.old) (R.remaining tape.new) }
+    ensures takes_declaration { TakesAtMost 16385
+        (D.remaining declaration.old) (D.remaining declaration.new) }
+{
+    let image = tape_from(tape)?;
+    let given = given_from(alloc, declaration)?;
+    let Some(lack) = lack_in(alloc, &image, &given.declaration)? else {
+        put(out, &given.text)?;
+        return Ok(Status::Done);
+    };
+    let proposal = proposal_by(alloc, &image, &given.declaration, reads)?;
+    let written = completed(alloc, &image, &given, lack, &proposal)?;
+    put(out, &written.text)?;
+    Ok(written.status)
+}

@@ -1,0 +1,419 @@
+//! The text of a declaration with what another declaration has and it lacks.
+
+ghost use Rattle.std.specs.Prelude.{◌≤◌};
+
+use declaration::{Declaration, Offsets, Routine};
+use std::alloc::{AllocError, Allocator};
+use streams::text::{self, Words};
+use word12::Word;
+use wordset::WordSet;
+
+/// How many ranges an added line has at most, where there may be several of its kind.
+const MOST_RANGES: usize = 7;
+
+/// What a declaration says of cells, as far as it tells what may be added.
+#[derive(Clone, Copy)]
+struct Held {
+    bodies: WordSet,
+    entries: WordSet,
+    variables: WordSet,
+}
+
+/// What is added to the line of a routine.
+#[derive(Clone, Copy)]
+struct Addition {
+    body: WordSet,
+    offsets: WordSet,
+}
+
+/// The cells of main's body and of those of some routines.
+fn bodies(main: &WordSet, routines: &[Routine]) -> WordSet {
+    let mut cells = *main;
+    for routine in routines {
+        cells = cells.union(routine.body());
+    }
+    cells
+}
+
+/// The entries of some routines.
+fn entries(routines: &[Routine]) -> WordSet {
+    let mut cells = WordSet::empty();
+    for routine in routines {
+        cells.insert(routine.entry());
+    }
+    cells
+}
+
+/// The cells that are added to bodies.
+fn added_bodies(held: &Held, main: &WordSet, routines: &[Routine]) -> WordSet {
+    let mut cells = held.free(main);
+    for routine in routines {
+        if held.entries.contains(routine.entry()) || held.admits(routine) {
+            cells = cells.union(&held.free(routine.body()));
+        }
+    }
+    cells
+}
+
+/// The routine of an entry, if there is one.
+fn routine_of(routines: &[Routine], entry: Word) -> Option<&Routine> {
+    routines.iter().find(|routine| routine.entry() == entry)
+}
+
+/// Offsets as a set.
+fn set_of(offsets: &Offsets) -> WordSet {
+    let mut set = WordSet::empty();
+    for index in 0..8usize {
+        let offset = Word::from_index(index);
+        if offsets.contains(offset) {
+            set.insert(offset);
+        }
+    }
+    set
+}
+
+impl Held {
+    /// What a declaration says.
+    fn by<A: Allocator>(declaration: &Declaration<A>) -> Held {
+        Held {
+            bodies: bodies(declaration.main(), declaration.routines()),
+            entries: entries(declaration.routines()),
+            variables: *declaration.variables(),
+        }
+    }
+
+    /// The cells that are in no body and no entry.
+    fn free(&self, body: &WordSet) -> WordSet {
+        body.minus(&self.bodies).minus(&self.entries)
+    }
+
+    /// Whether a routine may be added: its entry has no other role, and its body a free cell.
+    fn admits(&self, routine: &Routine) -> bool {
+        let entry = routine.entry();
+        if self.entries.contains(entry) || self.bodies.contains(entry) {
+            return false;
+        }
+        !self.variables.contains(entry) && !self.free(routine.body()).is_empty()
+    }
+
+    /// The variables that may be added. A cell of a body becomes one only where it is in a body of the
+    /// other declaration too.
+    fn added_variables<A: Allocator>(&self, proposed: &Declaration<A>) -> WordSet {
+        let code = bodies(proposed.main(), proposed.routines());
+        let kept = self.bodies.minus(&code).union(&self.entries);
+        proposed.variables().minus(&self.variables).minus(&kept)
+    }
+}
+
+/// The entry of a routine's line, if a line is one.
+fn entry_on(line: &[u8]) -> Option<Word> {
+    let mut words = Words::of(line);
+    match words.next() {
+        Some(first) if text::is(first, "sub") => match words.next() {
+            Some(entry) => text::octal_word(entry),
+            None => None,
+        },
+        _ => None,
+    }
+}
+
+/// What is added to a line, if anything is.
+fn addition_to<A: Allocator, B: Allocator>(
+    line: &[u8],
+    given: &Declaration<A>,
+    proposed: &Declaration<B>,
+    held: &Held,
+) -> Option<Addition> {
+    let entry = entry_on(line)?;
+    let routine = routine_of(given.routines(), entry)?;
+    let other = routine_of(proposed.routines(), entry)?;
+    let body = held.free(other.body());
+    let offsets = set_of(&other.offsets()).minus(&set_of(&routine.offsets()));
+    if body.is_empty() && offsets.is_empty() {
+        return None;
+    }
+    Some(Addition { body, offsets })
+}
+
+/// Adds a range, behind a space.
+fn push_range<A: Allocator>(
+    text: &mut Vec<u8, A>,
+    low: Word,
+    high: Word,
+) -> Result<(), AllocError> {
+    text.extend_from_slice(b" ")?;
+    text.extend_from_slice(&low.to_octal())?;
+    if low == high {
+        return Ok(());
+    }
+    text.extend_from_slice(b"-")?;
+    text.extend_from_slice(&high.to_octal())
+}
+
+/// The last word of the range of a set that begins with a word.
+fn last_of_range(set: &WordSet, low: Word) -> Word
+    ensures { low ≤ result }
+{
+    match WordSet::all().minus(set).first_from(low.index() + 1) {
+        None => Word::from_index(0o7777),
+        Some(end) => Word::from_index(end.index() - 1),
+    }
+}
+
+/// Adds the ranges of a set, each behind a space.
+fn push_ranges<A: Allocator>(text: &mut Vec<u8, A>, set: &WordSet) -> Result<(), AllocError> {
+    let mut next = 0usize;
+    while let Some(low) = set.first_from(next) {
+        let high = last_of_range(set, low);
+        push_range(text, low, high)?;
+        next = high.index() + 1;
+    }
+    Ok(())
+}
+
+/// Adds the offsets of a set, each behind a space.
+fn push_offsets<A: Allocator>(text: &mut Vec<u8, A>, set: &WordSet) -> Result<(), AllocError> {
+    for offset in 0..8usize {
+        if set.contains(Word::from_index(offset)) {
+            text.extend_from_slice(b" ")?;
+            text.push(b'0' + offset as u8)?;
+        }
+    }
+    Ok(())
+}
+
+/// Ends a line that is added.
+fn end_line<A: Allocator>(text: &mut Vec<u8, A>) -> Result<(), AllocError> {
+    text.extend_from_slice(b" / added\n")
+}
+
+/// Begins an added line after so many ranges, if there is none yet or the last is full.
+fn push_line_break<A: Allocator>(
+    text: &mut Vec<u8, A>,
+    kind: &[u8],
+    ranges: usize,
+) -> Result<(), AllocError> {
+    if ranges % MOST_RANGES != 0 {
+        return Ok(());
+    }
+    if ranges != 0 {
+        end_line(text)?;
+    }
+    text.extend_from_slice(kind)
+}
+
+/// Adds lines of a kind with the ranges of a set, if it has a word.
+fn push_cells<A: Allocator>(
+    text: &mut Vec<u8, A>,
+    kind: &[u8],
+    set: &WordSet,
+) -> Result<(), AllocError> {
+    let mut next = 0usize;
+    let mut ranges = 0usize;
+    while let Some(low) = set.first_from(next) {
+        push_line_break(text, kind, ranges)?;
+        let high = last_of_range(set, low);
+        push_range(text, low, high)?;
+        next = high.index() + 1;
+        ranges = ranges.saturating_add(1);
+    }
+    if ranges != 0 {
+        end_line(text)?;
+    }
+    Ok(())
+}
+
+/// Adds a line of a kind for each cell of a set.
+fn push_halts<A: Allocator>(
+    text: &mut Vec<u8, A>,
+    kind: &[u8],
+    set: &WordSet,
+) -> Result<(), AllocError> {
+    let mut next = 0usize;
+    while let Some(at) = set.first_from(next) {
+        text.extend_from_slice(kind)?;
+        push_range(text, at, at)?;
+        end_line(text)?;
+        next = at.index() + 1;
+    }
+    Ok(())
+}
+
+/// Adds the line of a routine, with those cells of its body that are free.
+fn push_routine<A: Allocator>(
+    text: &mut Vec<u8, A>,
+    held: &Held,
+    routine: &Routine,
+) -> Result<(), AllocError> {
+    text.extend_from_slice(b"sub")?;
+    push_range(text, routine.entry(), routine.entry())?;
+    text.extend_from_slice(b" body")?;
+    push_ranges(text, &held.free(routine.body()))?;
+    text.extend_from_slice(b" returns")?;
+    push_offsets(text, &set_of(&routine.offsets()))?;
+    end_line(text)
+}
+
+/// Adds the lines of the routines that may be added.
+fn push_routines<A: Allocator>(
+    text: &mut Vec<u8, A>,
+    held: &Held,
+    routines: &[Routine],
+) -> Result<(), AllocError> {
+    for routine in routines {
+        if held.admits(routine) {
+            push_routine(text, held, routine)?;
+        }
+    }
+    Ok(())
+}
+
+/// The words of a part of a line, up to its comment, and what stands behind them.
+fn parted(part: &[u8]) -> (&[u8], &[u8]) {
+    let front = match part.iter().position(|byte| *byte == b'/') {
+        None => part,
+        Some(end) => &part[..end],
+    };
+    let words = front.trim_ascii_end();
+    match part.strip_prefix(words) {
+        None => (part, &[]),
+        Some(rest) => (words, rest),
+    }
+}
+
+/// Adds the end of a routine's line, from the word `returns` on, with what is added to the line.
+fn push_end<A: Allocator>(
+    text: &mut Vec<u8, A>,
+    end: &[u8],
+    addition: &Addition,
+) -> Result<(), AllocError> {
+    let (words, rest) = parted(end);
+    text.extend_from_slice(words)?;
+    push_offsets(text, &addition.offsets)?;
+    text.extend_from_slice(rest)?;
+    text.extend_from_slice(b" / added")?;
+    push_ranges(text, &addition.body)?;
+    if addition.offsets.is_empty() {
+        return Ok(());
+    }
+    text.extend_from_slice(b" returns")?;
+    push_offsets(text, &addition.offsets)
+}
+
+/// Adds a routine's line with what is added to it. Its first letter `r` is that of `returns`.
+fn push_extended<A: Allocator>(
+    text: &mut Vec<u8, A>,
+    line: &[u8],
+    addition: &Addition,
+) -> Result<(), AllocError> {
+    let Some(at) = line.iter().position(|byte| *byte == b'r') else {
+        return text.extend_from_slice(line);
+    };
+    let (words, rest) = parted(&line[..at]);
+    text.extend_from_slice(words)?;
+    push_ranges(text, &addition.body)?;
+    text.extend_from_slice(rest)?;
+    push_end(text, &line[at..], addition)
+}
+
+/// Adds a line that is given, without its end, and what is added to it.
+fn push_line<A: Allocator>(
+    text: &mut Vec<u8, A>,
+    line: &[u8],
+    addition: &Option<Addition>,
+) -> Result<(), AllocError> {
+    let Some(addition) = addition else {
+        return text.extend_from_slice(line);
+    };
+    match line.split_last() {
+        Some((b'\r', front)) => {
+            push_extended(text, front, addition)?;
+            text.extend_from_slice(b"\r")
+        }
+        _ => push_extended(text, line, addition),
+    }
+}
+
+/// Takes a byte of the given text: at the end of a line adds the line.
+fn take_byte<A: Allocator, B: Allocator>(
+    text: &mut Vec<u8, A>,
+    line: &mut Vec<u8, A>,
+    byte: u8,
+    given: &Declaration<B>,
+    proposed: &Declaration<B>,
+    held: &Held,
+) -> Result<(), AllocError> {
+    if byte != b'\n' {
+        return line.extend_from_slice(&[byte]);
+    }
+    push_line(text, line, &addition_to(line, given, proposed, held))?;
+    line.clear();
+    text.extend_from_slice(b"\n")
+}
+
+/// Adds the lines that are given, with what is added to them.
+fn push_given<A: Allocator, B: Allocator>(
+    text: &mut Vec<u8, A>,
+    line: &mut Vec<u8, A>,
+    bytes: &[u8],
+    given: &Declaration<B>,
+    proposed: &Declaration<B>,
+    held: &Held,
+) -> Result<(), AllocError> {
+    for byte in bytes {
+        take_byte(text, line, *byte, given, proposed, held)?;
+    }
+    if line.is_empty() {
+        return Ok(());
+    }
+    take_byte(text, line, b'\n', given, proposed, held)
+}
+
+/// Adds the lines of the halts that may be added: each is in some body, and is no halt yet.
+fn push_all_halts<A: Allocator, B: Allocator>(
+    text: &mut Vec<u8, A>,
+    given: &Declaration<B>,
+    proposed: &Declaration<B>,
+    held: &Held,
+) -> Result<(), AllocError> {
+    let inside = added_bodies(held, proposed.main(), proposed.routines()).union(&held.bodies);
+    let open = inside.minus(given.stops()).minus(given.pauses());
+    push_halts(text, b"stop", &proposed.stops().meet(&open))?;
+    push_halts(text, b"pause", &proposed.pauses().meet(&open))
+}
+
+/// Adds the lines of the cells that may be read and aren't listed yet, where reads are listed.
+fn push_reads<A: Allocator, B: Allocator>(
+    text: &mut Vec<u8, A>,
+    given: &Declaration<B>,
+    proposed: &Declaration<B>,
+) -> Result<(), AllocError> {
+    let Some(listed) = given.reads() else {
+        return Ok(());
+    };
+    let Some(cells) = proposed.reads() else {
+        return Ok(());
+    };
+    push_cells(text, b"read", &cells.minus(listed))
+}
+
+/// The text of a declaration with what another one has and it lacks: ranges and offsets in the lines of
+/// its routines, and lines behind, each marked by a comment. What is in a body, an entry or a halt
+/// stays so.
+pub(crate) fn merged<A: Allocator + Copy, B: Allocator>(
+    alloc: A,
+    bytes: &[u8],
+    given: &Declaration<B>,
+    proposed: &Declaration<B>,
+) -> Result<Vec<u8, A>, AllocError> {
+    let held = Held::by(given);
+    let mut text = Vec::new(alloc);
+    let mut line = Vec::new(alloc);
+    push_given(&mut text, &mut line, bytes, given, proposed, &held)?;
+    push_cells(&mut text, b"main", &held.free(proposed.main()))?;
+    push_routines(&mut text, &held, proposed.routines())?;
+    push_cells(&mut text, b"var", &held.added_variables(proposed))?;
+    push_all_halts(&mut text, given, proposed, &held)?;
+    push_reads(&mut text, given, proposed)?;
+    Ok(text)
+}

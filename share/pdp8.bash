@@ -38,7 +38,7 @@ _pdp8() {
         report) options='--output --source --text --why --help' ;;
         guess) options='--output --source --report --why --help' ;;
         refute) options='--output --source --steps --seed --why --help' ;;
-        declare) options='--output --source --start --reads --profile --why --help' ;;
+        declare) options='--output --source --from --start --reads --profile --why --help' ;;
         place) options='--output --declaration --why --help' ;;
         migrate) options='--output --why --help' ;;
         explain) options='--help' ;;

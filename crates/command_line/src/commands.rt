@@ -125,6 +125,13 @@ const DECLARATION_OUT: Argument = Argument {
     help: "where the declaration goes, or - for standard output; it is emptied first",
 };
 
+const COMPLETED: Argument = Argument {
+    name: "from",
+    short: None,
+    form: Form::Value("FILE"),
+    help: "a declaration, or - for standard input: it is kept, and what it lacks is added; start and machine are its own",
+};
+
 const SOURCE_OUT: Argument = Argument {
     name: "OUT",
     short: None,
@@ -432,11 +439,12 @@ static REPORT_ARGUMENTS: [Argument; 8] = [
     WHY_INPUT,
 ];
 
-static DECLARE_ARGUMENTS: [Argument; 8] = [
+static DECLARE_ARGUMENTS: [Argument; 9] = [
     TAPE_OR_SOURCE,
     DECLARATION_OUT,
     OUTPUT,
     PARTS,
+    COMPLETED,
     START,
     READS,
     PROFILE,

@@ -83,7 +83,7 @@ pub enum Task<'a> {
         /// How it is looked for.
         options: RefuteOptions,
     },
-    /// To propose a declaration.
+    /// To propose a declaration, or to complete that of the file.
     Declare {
         /// Where it goes.
         out: Destination<'a>,
@@ -382,21 +382,25 @@ pub fn sourced_refute<'a>(alloc: Global, found: &ArgMatches<'a>) -> Result<Sourc
     })
 }
 
-/// The request for a declaration that is proposed for a source.
+/// The request for a declaration that is proposed for a source, or completed.
 pub fn sourced_declare<'a>(alloc: Global, found: &ArgMatches<'a>) -> Result<Sourced<'a>, Refused> {
     let operands = operands_of(found, needed_out(found))?;
     if operands.declaration.is_some() {
         return Err(Refused::Misuse(Misuse::TapeAndSource));
     }
-    let sources = parts_of(alloc, found, &[])?;
+    let from = found.get_str("from");
+    if from.is_some() && is_start_named(found) {
+        return Err(Refused::Misuse(Misuse::DeclarationAndStart));
+    }
+    let sources = parts_of(alloc, found, &[from.unwrap_or("")])?;
     Ok(Sourced {
         task: Task::Declare {
-            out: search_output(alloc, found, operands.last, None, &sources)?,
+            out: search_output(alloc, found, operands.last, from, &sources)?,
             options: declare_options(found)?,
             explained: found.get_flag("why"),
         },
         sources,
-        declaration: None,
+        declaration: from,
     })
 }
 

@@ -118,6 +118,8 @@ pub(crate) fn source_request<'a>(found: &ArgMatches<'a>) -> Result<SourceRequest
 pub struct DeclareRequest<'a> {
     /// The name of the tape's file.
     pub tape: &'a str,
+    /// The name of the file of a declaration that is completed, if there is one.
+    pub from: Option<&'a str>,
     /// Where the declaration goes.
     pub out: Destination<'a>,
     /// What it's proposed for.
@@ -128,6 +130,7 @@ impl<'a> DeclareRequest<'a> {
     pub(crate) fn names(&self) -> FileNames<'a> {
         FileNames {
             tape: Some(self.tape),
+            declaration: self.from,
             output: Some(self.out.name()),
             ..FileNames::NONE
         }
@@ -137,9 +140,15 @@ impl<'a> DeclareRequest<'a> {
 /// The declaration that is asked for.
 pub(crate) fn declare_request<'a>(found: &ArgMatches<'a>) -> Result<DeclareRequest<'a>, Refused> {
     let tape = found.get_str("TAPE").unwrap_or("-");
+    let from = found.get_str("from");
+    read_standard_input_once(&[tape, from.unwrap_or("")])?;
+    if from.is_some() && is_start_named(found) {
+        return Err(Refused::Misuse(Misuse::DeclarationAndStart));
+    }
     Ok(DeclareRequest {
         tape,
-        out: destination_of(found, &[tape])?,
+        from,
+        out: destination_of(found, &[tape, from.unwrap_or("-")])?,
         options: declare_options(found)?,
     })
 }

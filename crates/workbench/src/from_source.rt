@@ -66,7 +66,7 @@ fn done_with_numbers<R: Files + Input + Print + Eprint>(
         } => guess_program(rt, alloc, source, numbered, *out, *explained, *report),
         Task::Refute { out, options } => refute_program(rt, alloc, source, *out, *options),
         Task::Declare { out, options, .. } => {
-            declare_program(rt, alloc, source, numbered, *out, *options)
+            declare_program(rt, alloc, source, numbered, promise, *out, *options)
         }
         Task::Place { out, .. } => of_command(write_numbered(rt, numbered, *out)),
     }

@@ -7,10 +7,12 @@ use crate::drafted::report_stuck;
 use crate::faults::{bound_text, stuck_address, with_omissions};
 use crate::files::{open_input, open_output};
 use crate::joined::{open_input_if, report_to, tell_to};
+use crate::numbering::Promise;
 use crate::saving::{save_answer, save_proposed};
 use crate::source_lines::with_source_lines;
 use command_line::{Destination, WatchedSession};
 use command_parts::inputs::{declaration_from, tape_from};
+use commands::completing::complete;
 use commands::declaring::{DeclareOptions, declare};
 use commands::explaining::explain;
 use commands::refuting::RefuteOptions;
@@ -375,13 +377,31 @@ pub fn refute_program<R: Files + Print + Eprint>(
     )
 }
 
-/// Writes a declaration that is proposed, with the symbols of the source.
+/// Adds a declaration that is proposed, or that in numbers completed.
+fn push_proposal(
+    alloc: Global,
+    numbered: &Numbered<Global>,
+    promise: Promise,
+    options: DeclareOptions,
+    found: &mut Vec<u8>,
+) -> Result<Status, Fault> {
+    let mut frames = frames_of(numbered);
+    let mut text = Writes::new(found);
+    if promise == Promise::Proposed {
+        return declare(alloc, &mut frames, options, &mut text);
+    }
+    let mut promised = promise_of(numbered);
+    complete(alloc, &mut frames, &mut promised, options.reads, &mut text)
+}
+
+/// Writes a declaration that is proposed, or that of the file completed, with the symbols of the source.
 #[inline(never)]
 pub fn declare_program<R: Files + Print>(
     rt: &R,
     alloc: Global,
     given: &SourceText<'_>,
     numbered: &Numbered<Global>,
+    promise: Promise,
     out: Destination<'_>,
     options: DeclareOptions,
 ) -> Result<Status, SourcedFault> {
@@ -390,8 +410,7 @@ pub fn declare_program<R: Files + Print>(
         Err(fault) => return Err(SourcedFault::Command(fault)),
     };
     let mut found = Vec::new(alloc);
-    let mut lines = Writes::new(&mut found);
-    let status = match declare(alloc, &mut frames_of(numbered), options, &mut lines) {
+    let status = match push_proposal(alloc, numbered, promise, options, &mut found) {
         Ok(status) => status,
         Err(fault) => return Err(SourcedFault::Command(fault)),
     };

@@ -4,6 +4,7 @@ ghost use Rattle.std.specs.Prelude.{◌≡◌, false};
 
 use crate::files::{open_input, open_output};
 use command_line::{DeclareRequest, DumpRequest, RunRequest, SourceRequest};
+use commands::completing::complete;
 use commands::declaring::declare;
 use commands::running::{dump, run, run_events};
 use commands::sourcing::{declared_source, source};
@@ -60,7 +61,8 @@ pub fn source_from<R: Files + Input + Print>(
     declared_source(alloc, &mut frames, &mut promise, &mut text)
 }
 
-/// Proposes a declaration for the tape of a file.
+/// Proposes a declaration for the tape of a file, or completes that of a file, which is opened before the
+/// file that it goes to is made.
 #[inline(never)]
 pub fn declare_from<R: Files + Input + Print>(
     rt: &R,
@@ -68,6 +70,17 @@ pub fn declare_from<R: Files + Input + Print>(
     asked: &DeclareRequest<'_>,
 ) -> Result<Status, Fault> {
     let mut frames = open_input(rt, asked.tape)?;
+    let Some(from) = asked.from else {
+        let mut text = open_output(rt, asked.out)?;
+        return declare(alloc, &mut frames, asked.options, &mut text);
+    };
+    let mut promise = open_input(rt, from)?;
     let mut text = open_output(rt, asked.out)?;
-    declare(alloc, &mut frames, asked.options, &mut text)
+    complete(
+        alloc,
+        &mut frames,
+        &mut promise,
+        asked.options.reads,
+        &mut text,
+    )
 }

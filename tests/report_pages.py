@@ -10,6 +10,8 @@ from reports import ADDRESS, BEGIN, END, Report, all_of_fact, may_write, shown
 
 STYLE = Path(__file__).parent.parent / "crates" / "report_texts" / "src" / "style.rt"
 MOST_SAME = 8
+LARGER = (" If the count were larger, the pointer would go further; if the program could then write outside its variables, the "
+          "verdict would be no (V5).")
 DIRECT = re.compile(r"(AND|TAD|ISZ|DCA|JMS|JMP) [ZC][0-7]{3}$")
 
 
@@ -43,6 +45,9 @@ class Page(Report):
         line, why = front.partition("\n")[::2]
         self.rows = set(self.lines())
         parts = [head(), line, "\n</h1>\n<p>", self.yes() if self.refused is None else self.no(why)]
+        parts.append("<p>A declaration says where the program starts and may halt, which cells are its instructions, which it may "
+                     "write, and which routines it has. A certificate says what holds before each instruction, so that it can be "
+                     "checked that the declaration is kept.</p>\n")
         parts.append("<p>On this page: <a href=#memory>memory</a>, <a href=#routines>routines</a>, "
                      "<a href=#variables>variables</a>, <a href=#listing>listing</a>.</p>\n")
         parts += [self.map(), self.graph(), self.variables(), self.guide(), self.table(), "</table>\n</body>\n</html>\n"]
@@ -68,7 +73,7 @@ class Page(Report):
         reads = ("<li>any cell may be read: the declaration has no list of reads\n" if it.reads is None
                  else point("only these cells are read, and the entry of the routine that runs: ", sets.of(it.reads)))
         return "".join((
-            f"This is shown of <b>every</b> run on a PDP-8/{'E' if it.profile == '8e' else 'I'} that starts at ",
+            f"Shown is that no run breaks the declaration. This holds of <b>every</b> run on a PDP-8/{'E' if it.profile == '8e' else 'I'} that starts at ",
             ADDRESS.format(it.start), " with these words in memory, whatever all other cells, AC, the link and MQ hold, ",
             "and however keys, tape frames, devices and switches come:</p>\n<ul>\n",
             point("only these cells are executed: ", bodies),
@@ -81,7 +86,7 @@ class Page(Report):
             "if all cells may be written, a yes says little.</p>\n"))
 
     def no(self, why):
-        return ("This certificate shows nothing: a condition on it fails at " + ADDRESS.format(self.refused[1])
+        return ("This certificate shows nothing. A condition on it fails at " + ADDRESS.format(self.refused[1])
                 + ", which is marked below. The program may keep its declaration all the same. What stands below is what the "
                 f"certificate claims, and it may be wrong.</p>\n<pre>{escaped(why)}</pre>\n")
 
@@ -91,7 +96,7 @@ class Page(Report):
         return f"r{list(self.declared.routines).index(entry) % 6}"
 
     def map(self):
-        parts = ['<h2 id=memory>Memory</h2>\n<svg viewBox="0 0 680 660" width=680 role=img aria-label="map of memory">\n'
+        parts = ['<h2 id=memory>Memory, addresses in octal</h2>\n<svg viewBox="0 0 680 660" width=680 role=img aria-label="map of memory">\n'
                  "<rect class=u x=34 y=14 width=640 height=640 />\n"]
         parts += [f"<text x=4 y={14 + 10 * row + 8}>{64 * row:04o}</text>" for row in range(64)]
         parts += [f"<text x={34 + 80 * column} y=10>+{10 * column}</text>" for column in range(8)]
@@ -106,7 +111,7 @@ class Page(Report):
         parts.append('<span class="k e"></span>entry of a routine\n<span class="k v"></span>variable\n'
                      '<span class="k o"></span>other word of the tape\n'
                      "<br>A red ring is a declared halt, a black frame the start, a yellow dot a variable among instructions, a red "
-                     "frame the place of a no. Each row has 0100 cells. Numbers are octal. A cell leads to its line of the "
+                     "frame the place of a no. Each row has 0100 cells. A cell leads to its line of the "
                      "listing.</p>\n")
         return "".join(parts)
 
@@ -139,7 +144,7 @@ class Page(Report):
     def graph(self):
         routines, claims = self.declared.routines, self.certificate.routines
         if not routines:
-            return "<h2 id=routines>Routines</h2>\n<p>There are none: all is main.</p>\n"
+            return "<h2 id=routines>Routines, addresses in octal and ranks in decimal</h2>\n<p>There are none: all is main.</p>\n"
         rank = {entry: min(claims[entry].rank, 63) if entry in claims else 0 for entry in routines}
         spots, in_row = {None: (0, 0)}, {}
         for entry in routines:
@@ -147,7 +152,7 @@ class Page(Report):
             spots[entry] = row, in_row.get(row, 0)
             in_row[row] = in_row.get(row, 0) + 1
         width, height = 150 * (max(column for _, column in spots.values()) + 1), 80 * (max(row for row, _ in spots.values()) + 1) - 30
-        parts = [f'<h2 id=routines>Routines</h2>\n<svg role=img aria-label="graph of calls" width={width} viewBox="0 0 {width} {height}">\n']
+        parts = [f'<h2 id=routines>Routines, addresses in octal and ranks in decimal</h2>\n<svg role=img aria-label="graph of calls" width={width} viewBox="0 0 {width} {height}">\n']
         for entry in routines:
             owners = {self.judge.owner(site) for site in sets.words(claims[entry].sites)} if entry in claims else set()
             parts += [self.arrow(spots[caller], spots[entry]) for caller in spots if caller in owners]
@@ -181,7 +186,7 @@ class Page(Report):
     def variables(self):
         rows = "".join(f"<tr><td>{ADDRESS.format(cell)}<td>{f'{self.image[cell]:04o}' if cell in self.image else '----'}"
                        f"<td>{'; '.join(self.variable(cell))}\n" for cell in sorted(self.known))
-        return (f"<h2 id=variables>Variables</h2>\n<p>The declared variables: {shown(sets.of(self.declared.variables), ADDRESS)}. By the "
+        return (f"<h2 id=variables>Variables, in octal</h2>\n<p>The declared variables: {shown(sets.of(self.declared.variables), ADDRESS)}. By the "
                 "certificate each of those below holds one of the words beside it, at every address at which something is said of "
                 f"it; all others may hold any word:</p>\n<table>\n<tr><th>cell<th>on the tape<th>what it may hold\n{rows}</table>\n")
 
@@ -190,20 +195,24 @@ class Page(Report):
     def guide(self):
         said = ("what is known in every run <b>before</b> it is executed" if self.refused is None
                 else "what the certificate claims <b>before</b> it is executed, which isn't shown")
-        return (f"<h2 id=listing>Listing</h2>\n<p>Beside each instruction stands {said}; what is the same as on the line above is grey, "
+        return (f"<h2 id=listing>Listing, in octal</h2>\n<p>Beside each instruction stands {said}; what is the same as on the line above is grey, "
                 "and of more than eight such items only the number of the others is told.\n"
                 "<code>AC in 0305,0310</code>: the accumulator holds one of these words. "
-                "<code>0010 in 0224-0230</code>: so does the cell 0010. "
-                "<code>[0010] = [0224] + 0231</code>: the word in the cell 0010 is that in the cell 0224 and 0231 more, modulo 10000; "
-                "so as far as the one is bounded, the other is: of a pointer and a count that go up together, the pointer ends where "
-                "the count does. If the count were larger, the pointer would go further; if the program could then write outside its "
-                "variables, the verdict would be no (V5).\n"
+                "<code>0010 in 0224-0230</code>: so does the cell 0010. <code>any</code>: nothing is claimed. "
+                "<code>[0010] = [0224] + 0231, so 0224-0230</code>: the word in the cell 0010 is that in the cell 0224 and 0231 more, "
+                "modulo 10000; with what is known of both, the cell 0010 holds one of the words behind <code>so</code>. Of a pointer "
+                f"and a count that go up together, the pointer ends where the count does.{LARGER if self.writes_through() else ''}\n"
                 "<code>reads</code>, <code>writes</code>: the cells that the instruction may read through a pointer (the pointer is "
                 "one of them), and those that it may write.\n"
-                "All numbers are octal. <code>TAD Z010</code> names the cell 0010, and <code>TAD C024</code> the cell 024 of the page "
+                "All numbers are octal, but how many more there are is told in decimal. <code>TAD Z010</code> names the cell 0010, and <code>TAD C024</code> the cell 024 of the page "
                 "that the instruction is on; behind <code>I</code> stands the cell that holds the address; if that is one of 0010 to "
                 "0017, it is made one more first. <code>ISZ</code> makes a word one more, and skips an instruction if it is 0000 "
-                "then.</p>\n<table>\n")
+                "then. <code>JMS</code> puts the address behind it into the cell that it names, the entry of a routine, and goes on "
+                "behind that cell; <code>JMP I</code> through the entry goes on at the address that stands there: it returns.</p>\n<table>\n")
+
+    def writes_through(self):
+        """Whether an instruction of the tape writes through a pointer."""
+        return any(self.is_code(at) and word & 0o400 and word >> 9 in (2, 3) for at, word in self.image.items())
 
     @staticmethod
     def of_fact(fact, above, offsets=True):

@@ -63,6 +63,14 @@ def name_of(name):
     return "AC" if name == AC else f"[{name:04o}]"
 
 
+def equation_items(fact, above):
+    """The equations of a fact, each with the words that they and the sets leave to the name on its left."""
+    for x, y, k in sorted(fact.equations):
+        left = fact.narrowed(x)
+        same = above is not None and (x, y, k) in above.equations and above.narrowed(x) == left
+        yield f"{name_of(x)} = [{y:04o}] + {k:04o}" + ("" if left == sets.ALL else ", so " + shown(left)), same
+
+
 def all_of_fact(fact, above, offsets=True):
     """What a fact says, item by item, and of each item whether the fact above says the same."""
     near = above is not None
@@ -75,8 +83,8 @@ def all_of_fact(fact, above, offsets=True):
     for cell, members in sorted(above.cells.items() if near else []):
         if cell not in fact.cells and members != sets.ALL:
             items.append((f"{cell:04o} any", False))
+    items += equation_items(fact, above)
     known = above.equations if near else set()
-    items += [(f"{name_of(x)} = [{y:04o}] + {k:04o}", (x, y, k) in known) for x, y, k in sorted(fact.equations)]
     kept = {(x, y) for x, y, _ in fact.equations}
     items += [(f"{name_of(x)} and [{y:04o}] unrelated", False) for x, y, _ in sorted(known) if (x, y) not in kept]
     if offsets and (fact.offsets - {0} or near and above.offsets - {0}):

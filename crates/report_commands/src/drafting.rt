@@ -22,7 +22,7 @@ use command_parts::text::push_place;
 use declaration::Declaration;
 use judge::Refusal;
 use reasons::{Reason, why_stuck};
-use report_texts::{Finding, Form, Report, head_of, stuck_opening};
+use report_texts::{Finding, Form, Report, SourceNotes, head_of, stuck_opening};
 use std::alloc::{AllocError, Allocator};
 use streams::{ByteSink, ByteSource, put};
 use verdict_texts::reason_text::push_why;
@@ -61,6 +61,7 @@ fn below_stuck<A: Allocator + Copy, D: Allocator, C: Allocator>(
     draft: &Certificate<C>,
     at: Word,
     form: Form,
+    notes: Option<&SourceNotes<A>>,
 ) -> Result<Vec<u8, A>, AllocError> {
     let told = why_stuck(image, declaration, draft, at);
     let lines = why_lines(alloc, image, declaration, draft, at, &told)?;
@@ -75,6 +76,7 @@ fn below_stuck<A: Allocator + Copy, D: Allocator, C: Allocator>(
         draft,
         Finding::Stuck(at),
         failing,
+        notes,
     )?;
     below_lines(alloc, &report, &lines, form)
 }
@@ -106,10 +108,11 @@ fn draft_page<A: Allocator + Copy, D: Allocator, C: Allocator>(
     draft: &Certificate<C>,
     at: Word,
     form: Form,
+    notes: Option<&SourceNotes<A>>,
 ) -> Result<Vec<u8, A>, AllocError>
     ensures { IfOk result (λ page. IsDraftPage form at page.items) }
 {
-    let rest = below_stuck(alloc, image, declaration, draft, at, form)?;
+    let rest = below_stuck(alloc, image, declaration, draft, at, form, notes)?;
     let page = joined(alloc, form, at, &rest)?;
     Ok(page)
 }
@@ -117,7 +120,8 @@ fn draft_page<A: Allocator + Copy, D: Allocator, C: Allocator>(
 /// Looks for a certificate of a tape and a declaration. Where the search is stuck, writes what it had
 /// found until then, to look at: the line of that answer as `verify` writes it, why it is stuck as far as
 /// that is told, and below it the listing with what was known at each address; as a page of HTML also
-/// memory as a map, and the routines. The status is `Refused` then. Where a certificate is found nothing is
+/// memory as a map, and the routines. Where the program's source is known, `notes` is what it says of addresses.
+/// The status is `Refused` then. Where a certificate is found nothing is
 /// written. All else than the answer is tested and not proved.
 ///
 /// # Errors
@@ -132,6 +136,7 @@ pub fn report_draft<A: Allocator + Copy, R: ByteSource, D: ByteSource, W: ByteSi
     declaration: &mut D,
     out: &mut W,
     form: Form,
+    notes: Option<&SourceNotes<A>>,
 ) -> Result<Status, Fault>
     requires readable { R.mark tape.old ≡ false }
     requires declaration_readable { D.mark declaration.old ≡ false }
@@ -173,7 +178,7 @@ pub fn report_draft<A: Allocator + Copy, R: ByteSource, D: ByteSource, W: ByteSi
     match &attempt {
         Attempt::Found(_) => Ok(Status::Done),
         Attempt::Stuck(at, draft) => {
-            let page = draft_page(alloc, &image, &promised, draft, *at, form)?;
+            let page = draft_page(alloc, &image, &promised, draft, *at, form, notes)?;
             put(out, &page)?;
             Ok(Status::Refused)
         }

@@ -19,8 +19,8 @@ use command_parts::status::{Fault, Status};
 use declaration::Declaration;
 use judge::{Refusal, judge};
 use reasons::why;
-pub use report_texts::Form;
 use report_texts::{Finding, Report, head_of, listing_below, opening, page_below};
+pub use report_texts::{Form, SourceNotes, notes_of};
 use std::alloc::{AllocError, Allocator};
 use streams::{ByteSink, ByteSource, put};
 use verdict_texts::certificates::certificate_from;
@@ -70,6 +70,7 @@ fn below<A: Allocator + Copy, D: Allocator, C: Allocator>(
     certificate: &Certificate<C>,
     verdict: &Result<(), Refusal>,
     form: Form,
+    notes: Option<&SourceNotes<A>>,
 ) -> Result<Vec<u8, A>, AllocError> {
     let lines = why_lines(alloc, image, declaration, certificate, verdict)?;
     let (finding, failing) = match verdict {
@@ -79,7 +80,15 @@ fn below<A: Allocator + Copy, D: Allocator, C: Allocator>(
             condition_name(refusal.condition),
         ),
     };
-    let report = Report::new(alloc, image, declaration, certificate, finding, failing)?;
+    let report = Report::new(
+        alloc,
+        image,
+        declaration,
+        certificate,
+        finding,
+        failing,
+        notes,
+    )?;
     below_lines(alloc, &report, &lines, form)
 }
 
@@ -105,7 +114,8 @@ fn joined<A: Allocator>(
 /// Writes what a certificate of a tape and a declaration says, to look at: the verdict as `check`
 /// writes it, why it is no if it is, and below it the listing with what is known at each address; as
 /// a page of HTML also what the verdict means, memory as a map, and the routines. After a yes the
-/// program keeps its declaration in every run. All else than the verdict is tested and not proved.
+/// program keeps its declaration in every run. Where the program's source is known, `notes` is what it says
+/// of addresses. All else than the verdict is tested and not proved.
 ///
 /// # Errors
 ///
@@ -120,6 +130,7 @@ pub fn report<A: Allocator + Copy, R: ByteSource, D: ByteSource, C: ByteSource, 
     certificate: &mut C,
     out: &mut W,
     form: Form,
+    notes: Option<&SourceNotes<A>>,
 ) -> Result<Status, Fault>
     requires readable { R.mark tape.old ≡ false }
     requires declaration_readable { D.mark declaration.old ≡ false }
@@ -178,7 +189,7 @@ pub fn report<A: Allocator + Copy, R: ByteSource, D: ByteSource, C: ByteSource, 
     let claims = certificate_from(alloc, certificate)?;
     let verdict = judge(&image, &promised, &claims);
     let line = verdict_line(alloc, &promised, &verdict)?;
-    let rest = below(alloc, &image, &promised, &claims, &verdict, form)?;
+    let rest = below(alloc, &image, &promised, &claims, &verdict, form, notes)?;
     let page = joined(alloc, form, &verdict, &line, &rest)?;
     put(out, &page)?;
     Ok(verdict_status(&verdict))

@@ -10,13 +10,14 @@ unfoldable pub head_of : Form → List ℕ
 head_of Text = []
 head_of Page = HEAD.now
 
--- Behind the verdict a page tells what a yes shows, or that a no shows nothing.
+-- Behind the verdict a page says, in a whole sentence, that no run breaks the declaration after a yes, and that nothing is
+-- shown after a no.
 unfoldable pub opening : Form → Result (Unit {0}) Refusal → List ℕ
 opening Text _ = []
-opening Page (Ok _) = codes "</h1>\n<p>This is shown of <b>every</b> run"
-opening Page (Err _) = codes "</h1>\n<p>This certificate shows nothing: "
+opening Page (Ok _) = codes "</h1>\n<p>Shown is that no run breaks the declaration."
+opening Page (Err _) = codes "</h1>\n<p>This certificate shows nothing."
 
 -- Behind the line of a search that is stuck a page says that nothing is shown.
 unfoldable pub stuck_opening : Form → List ℕ
 stuck_opening Text = []
-stuck_opening Page = codes "</h1>\n<p>Nothing is shown: "
+stuck_opening Page = codes "</h1>\n<p>Nothing is shown."

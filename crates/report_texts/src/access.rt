@@ -6,7 +6,7 @@ use certificate::Routine;
 use declaration::Declaration;
 use facts::{Fact, Place, reads, writes};
 use instruct::{Instruction, Operation, decode, refers_indirectly, target};
-use std::alloc::{AllocError, Allocator};
+use std::alloc::Allocator;
 use word12::Word;
 use wordset::WordSet;
 
@@ -23,20 +23,32 @@ struct Access {
     returns: WordSet,
 }
 
+/// Whether an instruction of the tape writes through a pointer.
+pub(crate) fn writes_through<B: Allocator, D: Allocator, C: Allocator>(
+    report: &Report<'_, B, D, C>,
+) -> bool {
+    for index in 0..4096 {
+        let at = Word::from_index(index);
+        if let Some(word) = report.image.get(at) {
+            if report.is_code(at) && refers_indirectly(word) && stores(report.declaration, word) {
+                return true;
+            }
+        }
+    }
+    false
+}
+
 /// Writes an item with addresses, if there are any.
-fn write_places<A: Allocator>(
-    pen: &mut Pen<A>,
-    name: &[u8],
-    set: &WordSet,
-) -> Result<(), AllocError> {
+fn write_places<A: Allocator>(pen: &mut Pen<A>, name: &[u8], set: &WordSet) {
     if set.is_empty() {
-        return Ok(());
+        return;
     }
-    pen.item(name)?;
+    pen.item(name);
     if set.is_all() {
-        return pen.put(b"any");
+        pen.put(b"any");
+    } else {
+        pen.places(set);
     }
-    pen.places(set)
 }
 
 /// Whether a word is an indirect memory reference.
@@ -44,31 +56,15 @@ fn is_indirect<D: Allocator>(declaration: &Declaration<D>, word: Word) -> bool {
     matches!(decode(word, declaration.profile()), Instruction::Memory) && refers_indirectly(word)
 }
 
-/// Whether a memory reference reads its operand.
-fn reads_operand(word: Word) -> bool {
-    match Operation::of(word) {
-        Operation::And | Operation::Tad | Operation::Isz => true,
-        Operation::Dca | Operation::Jms | Operation::Jmp => false,
-    }
-}
-
-/// Whether a memory reference writes its operand.
-fn stores(word: Word) -> bool {
-    match Operation::of(word) {
-        Operation::Isz | Operation::Dca => true,
-        Operation::And | Operation::Tad | Operation::Jms | Operation::Jmp => false,
-    }
+/// Whether a word is a memory reference that stores into its operand.
+fn stores<D: Allocator>(declaration: &Declaration<D>, word: Word) -> bool {
+    matches!(decode(word, declaration.profile()), Instruction::Memory)
+        && matches!(Operation::of(word), Operation::Isz | Operation::Dca)
 }
 
 /// Where a JMP I that isn't a return goes: where the cell that it names points, one up through an
 /// auto-index cell.
 fn jumped<D: Allocator>(place: &Place<'_, D>, fact: &Fact, at: Word, word: Word) -> WordSet {
-    match Operation::of(word) {
-        Operation::Jmp => {}
-        Operation::And | Operation::Tad | Operation::Isz | Operation::Dca | Operation::Jms => {
-            return WordSet::empty();
-        }
-    }
     let named = target(word, at);
     let words = place.possible_words(fact, named);
     if 0o10 <= named.value() && named.value() <= 0o17 {
@@ -110,14 +106,19 @@ impl Access {
         at: Word,
         word: Word,
     ) {
-        if reads_operand(word) {
-            self.reads = self.reads.union(&reads(fact, at, word, place));
-        }
-        self.calls = self.calls.union(&place.calls(fact, at, word));
-        if place.returned_entry(at, word).is_some() {
-            self.returns = self.returns.union(&returned(routine, fact));
-        } else {
-            self.jumps = self.jumps.union(&jumped(place, fact, at, word));
+        match Operation::of(word) {
+            Operation::And | Operation::Tad | Operation::Isz => {
+                self.reads = self.reads.union(&reads(fact, at, word, place));
+            }
+            Operation::Dca => {}
+            Operation::Jms => self.calls = self.calls.union(&place.calls(fact, at, word)),
+            Operation::Jmp => {
+                if place.returned_entry(at, word).is_some() {
+                    self.returns = self.returns.union(&returned(routine, fact));
+                } else {
+                    self.jumps = self.jumps.union(&jumped(place, fact, at, word));
+                }
+            }
         }
     }
 
@@ -156,29 +157,12 @@ fn access_of<D: Allocator>(
 }
 
 /// Writes what an instruction may do, beside what its name says.
-fn write_each<A: Allocator>(pen: &mut Pen<A>, access: &Access) -> Result<(), AllocError> {
-    write_places(pen, b"reads ", &access.reads)?;
-    write_places(pen, b"writes ", &access.writes)?;
-    write_places(pen, b"calls ", &access.calls)?;
-    write_places(pen, b"jumps to ", &access.jumps)?;
-    write_places(pen, b"returns to ", &access.returns)
-}
-
-/// Writes which words may stand at an address where that isn't the tape's alone.
-fn write_possible<A: Allocator>(pen: &mut Pen<A>, words: &WordSet) -> Result<(), AllocError> {
-    if words.is_all() {
-        return pen.item(b"may be any word");
-    }
-    pen.item(b"may be ")?;
-    pen.words(words)
-}
-
-/// Whether a word at most goes on to the next ones, or to the address that it names.
-fn is_plain<D: Allocator>(declaration: &Declaration<D>, word: Word) -> bool {
-    if !matches!(decode(word, declaration.profile()), Instruction::Memory) {
-        return true;
-    }
-    !refers_indirectly(word) && !stores(word)
+fn write_each<A: Allocator>(pen: &mut Pen<A>, access: &Access) {
+    write_places(pen, b"reads ", &access.reads);
+    write_places(pen, b"writes ", &access.writes);
+    write_places(pen, b"calls ", &access.calls);
+    write_places(pen, b"jumps to ", &access.jumps);
+    write_places(pen, b"returns to ", &access.returns);
 }
 
 /// Writes what the word of the tape does at an address where no other may stand.
@@ -189,16 +173,15 @@ fn write_fixed<A: Allocator, D: Allocator>(
     fact: &Fact,
     at: Word,
     word: Word,
-) -> Result<(), AllocError> {
-    if is_plain(place.declaration, word) {
-        return Ok(());
+) {
+    if is_indirect(place.declaration, word) {
+        let mut access = Access::none();
+        access.add_indirect(place, routine, fact, at, word);
+        access.writes = writes(fact, at, word, place);
+        write_each(pen, &access);
+    } else if stores(place.declaration, word) {
+        write_places(pen, b"writes ", &WordSet::one(target(word, at)));
     }
-    if !refers_indirectly(word) {
-        return write_places(pen, b"writes ", &writes(fact, at, word, place));
-    }
-    let mut access = Access::none();
-    access.add(place, routine, fact, at, word);
-    write_each(pen, &access)
 }
 
 /// Writes which words may stand at an address, and what they do, unless they are many.
@@ -208,13 +191,16 @@ fn write_varying<A: Allocator, D: Allocator>(
     routine: &Routine,
     fact: &Fact,
     at: Word,
-) -> Result<(), AllocError> {
+) {
     let words = place.possible_words(fact, at);
-    write_possible(pen, &words)?;
-    if words.count() > MOST_WORDS {
-        return Ok(());
+    if words.is_all() {
+        return pen.item(b"may be any word");
     }
-    write_each(pen, &access_of(place, routine, fact, at, &words))
+    pen.item(b"may be ");
+    pen.words(&words);
+    if words.count() <= MOST_WORDS {
+        write_each(pen, &access_of(place, routine, fact, at, &words));
+    }
 }
 
 /// Writes what the words at an address may do: the cells that they write, and where they go and what
@@ -226,7 +212,7 @@ pub(crate) fn write_access<A: Allocator, B: Allocator, D: Allocator, C: Allocato
     routine: &Routine,
     fact: &Fact,
     at: Word,
-) -> Result<(), AllocError> {
+) {
     let place = place_in(report.image, report.declaration, kind, routine);
     if report.declaration.is_variable(at) {
         return write_varying(pen, &place, routine, fact, at);

@@ -21,6 +21,14 @@ struct Spot {
     column: usize,
 }
 
+/// What stands between what ranks show and the rows of the table.
+const COLUMNS: &[u8] =
+    b"</p>\n<table>\n<tr><th>entry<th>rank<th>called from<th>it and what it calls may write\
+<th>words skipped behind the call when it returns\n";
+
+/// The box of main, which is the first.
+const MAIN: Spot = Spot { row: 0, column: 0 };
+
 impl Spot {
     /// The middle of the box.
     fn middle(&self) -> usize {
@@ -72,18 +80,20 @@ fn spots_of<A: Allocator, B: Allocator, D: Allocator, C: Allocator>(
 
 /// How many boxes are in a row.
 fn count_in(spots: &[Spot], row: usize) -> usize {
-    spots.iter().filter(|spot| spot.row == row).count()
+    let mut count = 0usize;
+    for spot in spots {
+        if spot.row == row {
+            count = count.saturating_add(1);
+        }
+    }
+    count
 }
 
-/// The place of a box in the order of the declaration; of main none, and main's box is the first.
-fn spot_at(spots: &[Spot], place: Option<usize>) -> Spot {
-    let main = Spot { row: 0, column: 0 };
-    let Some(place) = place else {
-        return main;
-    };
+/// The box of the routine at a place in the order of the declaration.
+fn spot_at(spots: &[Spot], place: usize) -> Spot {
     match spots.get(place) {
         Some(spot) => *spot,
-        None => main,
+        None => MAIN,
     }
 }
 
@@ -109,20 +119,12 @@ fn callers_of<B: Allocator, D: Allocator, C: Allocator>(
 }
 
 /// Writes a line from a caller's box to a callee's.
-fn write_line<A: Allocator>(
-    pen: &mut Pen<A>,
-    caller: &Spot,
-    callee: &Spot,
-) -> Result<(), AllocError> {
-    pen.put(b"<path class=l d=\"M")?;
-    pen.number(caller.middle())?;
-    pen.put(b" ")?;
-    pen.number(caller.top().saturating_add(40))?;
-    pen.put(b"L")?;
-    pen.number(callee.middle())?;
-    pen.put(b" ")?;
-    pen.number(callee.top())?;
-    pen.put(b"\" />")
+fn write_line<A: Allocator>(pen: &mut Pen<A>, caller: &Spot, callee: &Spot) {
+    pen.numbered(b"<path class=l d=\"M", caller.middle());
+    pen.numbered(b" ", caller.top().saturating_add(40));
+    pen.numbered(b"L", callee.middle());
+    pen.numbered(b" ", callee.top());
+    pen.put(b"\" />");
 }
 
 /// Writes the lines from the callers of a routine to it.
@@ -132,63 +134,41 @@ fn write_lines<A: Allocator, B: Allocator, D: Allocator, C: Allocator>(
     spots: &[Spot],
     place: usize,
     routine: &Routine,
-) -> Result<(), AllocError> {
-    let callee = spot_at(spots, Some(place));
+) {
+    let callee = spot_at(spots, place);
     let claimed = claimed_of(report.certificate, routine.entry());
     let (main, others) = callers_of(report, &claimed.sites);
     if main {
-        write_line(pen, &spot_at(spots, None), &callee)?;
+        write_line(pen, &MAIN, &callee);
     }
     for (at, other) in report.declaration.routines().iter().enumerate() {
         if others.contains(other.entry()) {
-            write_line(pen, &spot_at(spots, Some(at)), &callee)?;
+            write_line(pen, &spot_at(spots, at), &callee);
         }
     }
-    Ok(())
 }
 
 /// Writes a box with a name.
-fn write_box<A: Allocator>(
-    pen: &mut Pen<A>,
-    spot: &Spot,
-    class: &[u8],
-    entry: Option<Word>,
-) -> Result<(), AllocError> {
+fn write_box<A: Allocator>(pen: &mut Pen<A>, spot: &Spot, class: &[u8], name: &[u8]) {
     let left = spot.column.saturating_mul(ACROSS).saturating_add(10);
-    pen.put(b"<rect class=b width=120 height=40 x=")?;
-    pen.number(left)?;
-    pen.put(b" y=")?;
-    pen.number(spot.top())?;
-    pen.put(b" /><rect width=10 height=40 class=")?;
-    pen.put(class)?;
-    pen.put(b" x=")?;
-    pen.number(left)?;
-    pen.put(b" y=")?;
-    pen.number(spot.top())?;
-    pen.put(b" /><text class=n x=")?;
-    pen.number(left.saturating_add(18))?;
-    pen.put(b" y=")?;
-    pen.number(spot.top().saturating_add(24))?;
-    pen.put(b">")?;
-    match entry {
-        None => pen.put(b"main")?,
-        Some(entry) => pen.word(entry)?,
-    }
-    pen.put(b"</text>\n")
+    pen.numbered(b"<rect class=b width=120 height=40 x=", left);
+    pen.numbered(b" y=", spot.top());
+    pen.put(b" /><rect width=10 height=40 class=");
+    pen.put(class);
+    pen.numbered(b" x=", left);
+    pen.numbered(b" y=", spot.top());
+    pen.numbered(b" /><text class=n x=", left.saturating_add(18));
+    pen.numbered(b" y=", spot.top().saturating_add(24));
+    pen.put(b">");
+    pen.put(name);
+    pen.put(b"</text>\n");
 }
 
 /// Writes the box of a routine, which leads to its line.
-fn write_routine_box<A: Allocator>(
-    pen: &mut Pen<A>,
-    spot: &Spot,
-    place: usize,
-    entry: Word,
-) -> Result<(), AllocError> {
-    pen.put(b"<a href=#a")?;
-    pen.word(entry)?;
-    pen.put(b">")?;
-    write_box(pen, spot, colour_of(place), Some(entry))?;
-    pen.put(b"</a>")
+fn write_routine_box<A: Allocator>(pen: &mut Pen<A>, spot: &Spot, place: usize, entry: Word) {
+    pen.link(entry);
+    write_box(pen, spot, colour_of(place), &entry.to_octal());
+    pen.put(b"</a>");
 }
 
 /// Writes the row of a routine in the table.
@@ -196,43 +176,32 @@ fn write_row<A: Allocator, B: Allocator, D: Allocator, C: Allocator>(
     pen: &mut Pen<A>,
     report: &Report<'_, B, D, C>,
     routine: &Routine,
-) -> Result<(), AllocError> {
-    pen.put(b"<tr><td>")?;
-    pen.place(routine.entry())?;
+) {
+    pen.put(b"<tr><td>");
+    pen.place(routine.entry());
     match report.certificate.routine(routine.entry()) {
-        None => pen.put(b"<td colspan=3>nothing is claimed of it")?,
+        None => pen.put(b"<td colspan=3>nothing is claimed of it"),
         Some(claimed) => {
-            pen.put(b"<td>")?;
-            pen.number(claimed.rank)?;
-            pen.put(b"<td>")?;
-            pen.places(&claimed.sites)?;
-            pen.put(b"<td>")?;
-            write_written(pen, &claimed.writes)?;
+            pen.numbered(b"<td>", claimed.rank);
+            pen.put(b"<td>");
+            pen.places(&claimed.sites);
+            pen.put(b"<td>");
+            write_written(pen, &claimed.writes);
         }
     }
-    pen.put(b"<td>")?;
-    write_offsets(pen, routine)?;
+    pen.put(b"<td>");
+    write_offsets(pen, routine);
     pen.put(b"\n")
 }
 
-/// The number of boxes in the longest row.
-fn widest(spots: &[Spot]) -> usize {
-    spots
-        .iter()
-        .map(|spot| spot.column)
-        .max()
-        .unwrap_or(0)
-        .saturating_add(1)
-}
-
-/// The number of rows, main's among them.
-fn rows(spots: &[Spot]) -> usize {
-    spots
-        .iter()
-        .map(|spot| spot.row)
-        .max()
-        .unwrap_or(0)
-        .saturating_add(1)
+/// The lowest row and the last column that have a box.
+fn corner(spots: &[Spot]) -> Spot {
+    let mut corner = MAIN;
+    for spot in spots {
+        corner.row = corner.row.max(spot.row);
+        corner.column = corner.column.max(spot.column);
+    }
+    corner
 }
 
 /// Writes the drawing: the lines, and above them the boxes.
@@ -240,21 +209,20 @@ fn write_drawing<A: Allocator, B: Allocator, D: Allocator, C: Allocator>(
     pen: &mut Pen<A>,
     report: &Report<'_, B, D, C>,
     spots: &[Spot],
-) -> Result<(), AllocError> {
-    let width = widest(spots).saturating_mul(ACROSS);
-    pen.put(b"<svg role=img aria-label=\"graph of calls\" width=")?;
-    pen.number(width)?;
-    pen.put(b" viewBox=\"0 0 ")?;
-    pen.number(width)?;
-    pen.put(b" ")?;
-    pen.number(rows(spots).saturating_mul(DOWN).saturating_sub(30))?;
-    pen.put(b"\">\n")?;
+) {
+    let Spot { row, column } = corner(spots);
+    let width = column.saturating_add(1).saturating_mul(ACROSS);
+    let height = row.saturating_add(1).saturating_mul(DOWN);
+    pen.numbered(b"<svg role=img aria-label=\"graph of calls\" width=", width);
+    pen.numbered(b" viewBox=\"0 0 ", width);
+    pen.numbered(b" ", height.saturating_sub(30));
+    pen.put(b"\">\n");
     for (place, routine) in report.declaration.routines().iter().enumerate() {
-        write_lines(pen, report, spots, place, routine)?;
+        write_lines(pen, report, spots, place, routine);
     }
-    write_box(pen, &spot_at(spots, None), b"m", None)?;
-    write_boxes(pen, report, spots)?;
-    pen.put(b"</svg>\n")
+    write_box(pen, &MAIN, b"m", b"main");
+    write_boxes(pen, report, spots);
+    pen.put(b"</svg>\n");
 }
 
 /// Writes the boxes of the routines.
@@ -262,11 +230,10 @@ fn write_boxes<A: Allocator, B: Allocator, D: Allocator, C: Allocator>(
     pen: &mut Pen<A>,
     report: &Report<'_, B, D, C>,
     spots: &[Spot],
-) -> Result<(), AllocError> {
+) {
     for (place, routine) in report.declaration.routines().iter().enumerate() {
-        write_routine_box(pen, &spot_at(spots, Some(place)), place, routine.entry())?;
+        write_routine_box(pen, &spot_at(spots, place), place, routine.entry());
     }
-    Ok(())
 }
 
 /// What the ranks show; after a no it is only claimed.
@@ -290,19 +257,19 @@ pub(crate) fn write_graph<A: Allocator, S: Allocator, B: Allocator, D: Allocator
     alloc: S,
     report: &Report<'_, B, D, C>,
 ) -> Result<(), AllocError> {
-    pen.put(b"<h2 id=routines>Routines</h2>\n")?;
+    pen.put(b"<h2 id=routines>Routines, addresses in octal and ranks in decimal</h2>\n");
     if report.declaration.routines().is_empty() {
-        return pen.put(b"<p>There are none: all is main.</p>\n");
+        pen.put(b"<p>There are none: all is main.</p>\n");
+        return Ok(());
     }
     let spots = spots_of(alloc, report)?;
-    write_drawing(pen, report, &spots)?;
-    pen.put(b"<p>A line leads from a caller down to what it calls. ")?;
-    pen.put(ranks_text(report.finding))?;
-    pen.put(b"</p>\n<table>\n")?;
-    pen.put(b"<tr><th>entry<th>rank<th>called from<th>it and what it calls may write")?;
-    pen.put(b"<th>words skipped behind the call when it returns\n")?;
+    write_drawing(pen, report, &spots);
+    pen.put(b"<p>A line leads from a caller down to what it calls. ");
+    pen.put(ranks_text(report.finding));
+    pen.put(COLUMNS);
     for routine in report.declaration.routines() {
-        write_row(pen, report, routine)?;
+        write_row(pen, report, routine);
     }
-    pen.put(b"</table>\n")
+    pen.put(b"</table>\n");
+    Ok(())
 }

@@ -11,6 +11,7 @@ mod page;
 mod pen;
 mod report;
 mod routines;
+mod source_notes;
 mod style;
 mod variables;
 
@@ -19,15 +20,20 @@ pub use page::page_below;
 pub use pen::Form;
 use pen::Pen;
 pub use report::{Finding, Report};
+pub use source_notes::{SourceNotes, notes_of};
 use std::alloc::{AllocError, Allocator};
 pub use style::{head_of, opening, stuck_opening};
 
 /// The listing as plain text, as it stands below the verdict and its reason.
+///
+/// # Errors
+///
+/// Memory was refused.
 pub fn listing_below<A: Allocator + Copy, D: Allocator, C: Allocator>(
     alloc: A,
     report: &Report<'_, A, D, C>,
 ) -> Result<Vec<u8, A>, AllocError> {
     let mut pen = Pen::new(alloc, Form::Text, &report.lines());
-    push_listing(&mut pen, report)?;
-    Ok(pen.into_bytes())
+    push_listing(&mut pen, report);
+    pen.into_bytes()
 }

@@ -8,12 +8,15 @@ use crate::routines::{write_exits, write_routine};
 use certificate::{Certificate, Routine};
 use facts::Fact;
 use instruct::{Instruction, decode, name, refers_indirectly, target};
-use std::alloc::{AllocError, Allocator};
+use std::alloc::Allocator;
 use word12::Word;
 use wordset::WordSet;
 
-/// In which column of plain text the items begin.
-const COLUMN: usize = 25;
+/// How many blanks stand in plain text between an address with its word, or a row of addresses, and the items.
+const SHORT: usize = 16;
+
+/// How many stand behind an address alone.
+const ALONE: usize = 21;
 
 /// Writes the name of a word; that of a direct memory reference leads to the line of its cell.
 fn write_name<A: Allocator, B: Allocator, D: Allocator, C: Allocator>(
@@ -21,20 +24,20 @@ fn write_name<A: Allocator, B: Allocator, D: Allocator, C: Allocator>(
     report: &Report<'_, B, D, C>,
     at: Word,
     word: Word,
-) -> Result<(), AllocError> {
+) {
     let profile = report.declaration.profile();
     let found = name(word, profile);
     let length = found.as_str().len();
     let is_memory = matches!(decode(word, profile), Instruction::Memory);
     let linked = is_memory && !refers_indirectly(word) && pen.has_line(target(word, at));
     if linked {
-        pen.mark(b"<a href=#a")?;
-        pen.mark(&target(word, at).to_octal())?;
-        pen.mark(b">")?;
+        pen.link(target(word, at));
     }
-    pen.say(found.as_str().as_bytes())?;
-    pen.begin_items(if length < 14 { 15 - length } else { 2 });
-    if linked { pen.mark(b"</a>") } else { Ok(()) }
+    pen.say(found.as_str().as_bytes());
+    pen.begin_items(15usize.saturating_sub(length).max(2));
+    if linked {
+        pen.mark(b"</a>");
+    }
 }
 
 /// Writes address and word, and the name of an instruction.
@@ -42,35 +45,27 @@ fn write_word<A: Allocator, B: Allocator, D: Allocator, C: Allocator>(
     pen: &mut Pen<A>,
     report: &Report<'_, B, D, C>,
     at: Word,
-) -> Result<(), AllocError> {
-    pen.mark(b"<tr")?;
-    if report.is_marked(at) {
-        pen.mark(b" class=bad")?;
-    }
-    pen.mark(b" id=a")?;
-    pen.mark(&at.to_octal())?;
-    pen.mark(b"><td>")?;
-    pen.word(at)?;
-    pen.put(b" ")?;
-    pen.mark(b"<td>")?;
-    match report.image.get(at) {
-        None => {
-            pen.put(b"----")?;
-            pen.mark(b"<td>")?;
-            pen.begin_items(COLUMN - 9);
-            Ok(())
-        }
-        Some(word) => {
-            pen.word(word)?;
-            pen.mark(b"<td class=c>")?;
-            pen.begin_items(COLUMN - 9);
-            if report.is_code(at) {
-                pen.put(b" ")?;
-                write_name(pen, report, at, word)
-            } else {
-                Ok(())
-            }
-        }
+) {
+    pen.mark(if report.is_marked(at) {
+        b"<tr class=bad id=a"
+    } else {
+        b"<tr id=a"
+    });
+    pen.mark(&at.to_octal());
+    pen.mark(b"><td>");
+    pen.word(at);
+    pen.put(b" ");
+    pen.mark(b"<td>");
+    pen.begin_items(SHORT);
+    let Some(word) = report.image.get(at) else {
+        pen.put(b"----");
+        return pen.mark(b"<td>");
+    };
+    pen.word(word);
+    pen.mark(b"<td class=c>");
+    if report.is_code(at) {
+        pen.put(b" ");
+        write_name(pen, report, at, word);
     }
 }
 
@@ -79,30 +74,20 @@ fn write_declared<A: Allocator, B: Allocator, D: Allocator, C: Allocator>(
     pen: &mut Pen<A>,
     report: &Report<'_, B, D, C>,
     at: Word,
-) -> Result<(), AllocError> {
+) {
     let declaration = report.declaration;
     if declaration.start() == at {
-        pen.item(b"start")?;
+        pen.item(b"start");
     }
     if declaration.is_stop(at) {
-        pen.item(b"stop")?;
+        pen.item(b"stop");
     }
     if declaration.is_pause(at) {
-        pen.item(b"pause")?;
+        pen.item(b"pause");
     }
     if declaration.is_entry(at) {
-        pen.item(b"entry")?;
+        pen.item(b"entry");
     }
-    Ok(())
-}
-
-/// Writes which words a variable may hold wherever something is known of it.
-fn write_held<A: Allocator>(pen: &mut Pen<A>, words: &WordSet) -> Result<(), AllocError> {
-    if words.is_all() {
-        return pen.item(b"holds any word");
-    }
-    pen.item(b"holds ")?;
-    pen.words(words)
 }
 
 /// Writes which words a variable may hold, and where nothing is known of it.
@@ -110,17 +95,21 @@ pub(crate) fn write_variable<A: Allocator, B: Allocator, D: Allocator, C: Alloca
     pen: &mut Pen<A>,
     report: &Report<'_, B, D, C>,
     cell: Word,
-) -> Result<(), AllocError> {
+) {
     let Some(held) = report.held_in(cell) else {
         return pen.item(b"any word");
     };
-    write_held(pen, &held.words)?;
-    let unknown = report.facts.minus(&held.known_at);
-    if unknown.is_empty() {
-        return Ok(());
+    pen.item(b"holds ");
+    if held.words.is_all() {
+        pen.put(b"any word");
+    } else {
+        pen.words(&held.words);
     }
-    pen.item(b"any word at ")?;
-    pen.places(&unknown)
+    let unknown = report.facts.minus(&held.known_at);
+    if !unknown.is_empty() {
+        pen.item(b"any word at ");
+        pen.places(&unknown);
+    }
 }
 
 /// Writes what is told of an address without a fact.
@@ -129,14 +118,14 @@ fn write_unknown<A: Allocator, B: Allocator, D: Allocator, C: Allocator>(
     report: &Report<'_, B, D, C>,
     kind: &Kind,
     at: Word,
-) -> Result<(), AllocError> {
+) {
     match kind {
         Kind::Main | Kind::Routine(_) => match report.finding {
             Finding::Shown => pen.item(b"never reached"),
             Finding::Refused(_) | Finding::Stuck(_) => pen.item(b"no fact"),
         },
         Kind::Variable => write_variable(pen, report, at),
-        Kind::Entry | Kind::Other | Kind::Unset => Ok(()),
+        Kind::Entry | Kind::Other | Kind::Unset => {}
     }
 }
 
@@ -145,19 +134,24 @@ fn write_mark<A: Allocator, B: Allocator, D: Allocator, C: Allocator>(
     pen: &mut Pen<A>,
     report: &Report<'_, B, D, C>,
     at: Word,
-) -> Result<(), AllocError> {
+) {
     if !report.is_marked(at) {
-        return Ok(());
+        return;
     }
-    pen.mark(b"<b>")?;
+    pen.mark(b"<b>");
     if report.failing.is_empty() {
-        pen.item(b"STUCK HERE")?;
+        pen.item(b"STUCK HERE");
     } else {
-        pen.item(b"HERE ")?;
-        pen.say(report.failing.as_bytes())?;
-        pen.put(b" FAILS")?;
+        pen.item(b"HERE ");
+        pen.say(report.failing.as_bytes());
+        pen.put(b" FAILS");
     }
-    pen.mark(b"</b>")
+    pen.mark(b"</b>");
+}
+
+/// Whether an address is even.
+fn is_even(at: Word) -> bool {
+    at.index() % 2 == 0
 }
 
 /// Facts to read what is claimed into: those at even and those at odd addresses, so that the one above
@@ -203,33 +197,20 @@ impl Desk {
 
     /// Whether there is a fact at an address, which then stands here.
     fn read<C: Allocator>(&mut self, certificate: &Certificate<C>, at: Word) -> bool {
-        let found = if at.index() % 2 == 0 {
+        let found = if is_even(at) {
             certificate.fact_into(at, &mut self.even)
         } else {
             certificate.fact_into(at, &mut self.odd)
         };
-        if !found {
-            return false;
+        if found {
+            self.last = Some(at);
         }
-        self.last = Some(at);
-        true
-    }
-
-    /// The fact of the address before one, where that is the line above.
-    fn above(&self, is_near: bool, at: Word) -> Option<&Fact> {
-        if !is_near {
-            return None;
-        }
-        Some(self.fact(before(at)))
+        found
     }
 
     /// The fact of an even or an odd address that was read last.
-    fn fact(&self, at: Word) -> &Fact {
-        if at.index() % 2 == 0 {
-            &self.even
-        } else {
-            &self.odd
-        }
+    fn fact(&self, is_even: bool) -> &Fact {
+        if is_even { &self.even } else { &self.odd }
     }
 }
 
@@ -239,18 +220,27 @@ fn write_with_fact<A: Allocator, B: Allocator, D: Allocator, C: Allocator>(
     report: &Report<'_, B, D, C>,
     desk: &mut Desk,
     at: Word,
-) -> Result<(), AllocError> {
+) {
     let kind = report.kind_of(at);
-    let near = at != Word::ZERO
-        && desk.last == Some(before(at))
-        && report.kind_of(before(at)) == kind;
+    let above = before(at);
+    let near = at != Word::ZERO && desk.last == Some(above) && report.kind_of(above) == kind;
     if !desk.read(report.certificate, at) {
         return write_unknown(pen, report, &kind, at);
     }
     desk.look_up(report.certificate, &kind);
-    write_fact(pen, desk.fact(at), desk.above(near, at))?;
-    pen.end_same()?;
-    write_access(pen, report, &kind, &desk.routine, desk.fact(at), at)
+    let fact = desk.fact(is_even(at));
+    write_fact(pen, fact, desk.fact(!is_even(at)), near);
+    pen.end_same();
+    write_access(pen, report, &kind, &desk.routine, fact, at);
+}
+
+/// Writes what the source says of an address: in a page in a further column.
+fn write_note<A: Allocator>(pen: &mut Pen<A>, note: &[u8]) {
+    if !note.is_empty() {
+        pen.mark(b"<td>");
+        pen.note();
+        pen.say(note);
+    }
 }
 
 /// Writes the line of an address.
@@ -259,13 +249,14 @@ fn write_line<A: Allocator, B: Allocator, D: Allocator, C: Allocator>(
     report: &Report<'_, B, D, C>,
     desk: &mut Desk,
     at: Word,
-) -> Result<(), AllocError> {
-    write_word(pen, report, at)?;
-    pen.mark(b"<td>")?;
-    write_declared(pen, report, at)?;
-    write_with_fact(pen, report, desk, at)?;
-    write_mark(pen, report, at)?;
-    pen.put(b"\n")
+) {
+    write_word(pen, report, at);
+    pen.mark(b"<td>");
+    write_declared(pen, report, at);
+    write_with_fact(pen, report, desk, at);
+    write_mark(pen, report, at);
+    write_note(pen, report.note_at(at));
+    pen.put(b"\n");
 }
 
 /// The last address of the row of variables that begins at one, of which nothing is said.
@@ -289,19 +280,15 @@ fn write_quiet<A: Allocator, B: Allocator, D: Allocator, C: Allocator>(
     pen: &mut Pen<A>,
     report: &Report<'_, B, D, C>,
     first: Word,
-) -> Result<(), AllocError> {
-    pen.mark(b"<tr id=a")?;
-    pen.mark(&first.to_octal())?;
-    pen.mark(b"><td colspan=3>")?;
+) {
+    pen.mark(b"<tr id=a");
+    pen.mark(&first.to_octal());
+    pen.mark(b"><td colspan=3>");
     let last = last_quiet(report, first);
-    pen.run(first, last, false)?;
-    pen.mark(b"<td>")?;
-    pen.begin_items(if first == last {
-        COLUMN - 4
-    } else {
-        COLUMN - 9
-    });
-    pen.item(b"any word\n")
+    pen.run(first, last, false);
+    pen.mark(b"<td>");
+    pen.begin_items(if first == last { ALONE } else { SHORT });
+    pen.item(b"any word\n");
 }
 
 /// Writes the heading of lines of a kind; that of a routine with what is claimed of it.
@@ -309,27 +296,27 @@ fn write_heading<A: Allocator, B: Allocator, D: Allocator, C: Allocator>(
     pen: &mut Pen<A>,
     report: &Report<'_, B, D, C>,
     at: Word,
-) -> Result<(), AllocError> {
-    pen.put(b"\n")?;
-    pen.mark(b"<tr><th colspan=4>")?;
+) {
+    pen.put(b"\n");
+    pen.mark(b"<tr><th colspan=4>");
     match report.kind_of(at) {
         Kind::Main => pen.put(b"main\n"),
         Kind::Variable => pen.put(b"variables\n"),
         Kind::Other => pen.put(b"other words of the tape\n"),
         Kind::Unset => pen.put(b"nothing is declared here\n"),
         Kind::Routine(entry) => {
-            pen.put(b"body of routine ")?;
-            pen.word(entry)?;
-            pen.put(b"\n")
+            pen.put(b"body of routine ");
+            pen.word(entry);
+            pen.put(b"\n");
         }
         Kind::Entry => {
             for routine in report.declaration.routines() {
                 if routine.entry() == at {
-                    write_routine(pen, report, routine)?;
+                    write_routine(pen, report, routine);
                 }
             }
-            pen.put(b"\n")?;
-            write_exits(pen, report, at)
+            pen.put(b"\n");
+            write_exits(pen, report, at);
         }
     }
 }
@@ -355,36 +342,25 @@ fn needs_heading<B: Allocator, D: Allocator, C: Allocator>(
     }
 }
 
-/// Writes the line of an address or of the row of variables that begins there.
-fn write_at<A: Allocator, B: Allocator, D: Allocator, C: Allocator>(
-    pen: &mut Pen<A>,
-    report: &Report<'_, B, D, C>,
-    desk: &mut Desk,
-    at: Word,
-) -> Result<(), AllocError> {
-    if report.is_quiet(at) {
-        write_quiet(pen, report, at)
-    } else {
-        write_line(pen, report, desk, at)
-    }
-}
-
 /// Writes the listing.
 pub(crate) fn push_listing<A: Allocator, B: Allocator, D: Allocator, C: Allocator>(
     pen: &mut Pen<A>,
     report: &Report<'_, B, D, C>,
-) -> Result<(), AllocError> {
+) {
     let mut desk = Desk::new();
     let mut last = None;
     for index in 0..4096 {
         let at = Word::from_index(index);
         if pen.has_line(at) {
             if needs_heading(report, at, &last) {
-                write_heading(pen, report, at)?;
+                write_heading(pen, report, at);
             }
-            write_at(pen, report, &mut desk, at)?;
+            if report.is_quiet(at) {
+                write_quiet(pen, report, at);
+            } else {
+                write_line(pen, report, &mut desk, at);
+            }
             last = Some(at);
         }
     }
-    Ok(())
 }

@@ -4,7 +4,7 @@ use crate::pen::Pen;
 use crate::report::{Kind, Report};
 use declaration::Declaration;
 use instruct::name;
-use std::alloc::{AllocError, Allocator};
+use std::alloc::Allocator;
 use word12::Word;
 
 /// How many colours there are for routines.
@@ -17,13 +17,36 @@ const TOP: usize = 14;
 
 const STEP: usize = 10;
 
+/// What the map begins with.
+const MAP: &[u8] = b"<h2 id=memory>Memory, addresses in octal</h2>\n\
+<svg viewBox=\"0 0 680 660\" width=680 role=img aria-label=\"map of memory\">\n\
+<rect class=u x=34 y=14 width=640 height=640 />\n";
+
+/// What colours and marks mean that aren't those of a body.
+const LEGEND: &[u8] = b"<span class=\"k e\"></span>entry of a routine\n\
+<span class=\"k v\"></span>variable\n\
+<span class=\"k o\"></span>other word of the tape\n\
+<br>A red ring is a declared halt, a black frame the start, a yellow dot a variable among instructions, a red frame \
+the place of a no. Each row has 0100 cells. A cell leads to its line of the listing.</p>\n";
+
+/// Where a cell stands from the left.
+fn left_of(at: Word) -> usize {
+    LEFT + STEP * usize::from(at.low_half())
+}
+
+/// Where a cell stands from above.
+fn top_of(at: Word) -> usize {
+    TOP + STEP * usize::from(at.high_half())
+}
+
 /// The place of a routine among those that are declared.
 fn place_of<D: Allocator>(declaration: &Declaration<D>, entry: Word) -> usize {
-    declaration
-        .routines()
-        .iter()
-        .position(|routine| routine.entry() == entry)
-        .unwrap_or(0)
+    for (place, routine) in declaration.routines().iter().enumerate() {
+        if routine.entry() == entry {
+            return place;
+        }
+    }
+    0
 }
 
 /// The class of a colour for a routine.
@@ -51,51 +74,38 @@ fn class_of<D: Allocator>(declaration: &Declaration<D>, kind: &Kind) -> &'static
 }
 
 /// Writes the numbers at the side and above.
-fn write_scale<A: Allocator>(pen: &mut Pen<A>) -> Result<(), AllocError> {
+fn write_scale<A: Allocator>(pen: &mut Pen<A>) {
     for row in 0..64usize {
-        pen.put(b"<text x=4 y=")?;
-        pen.number(TOP + STEP * row + 8)?;
-        pen.put(b">")?;
-        pen.word(Word::from_index(64 * row))?;
-        pen.put(b"</text>")?;
+        pen.numbered(b"<text x=4 y=", TOP + STEP * row + 8);
+        pen.put(b">");
+        pen.word(Word::from_index(64 * row));
+        pen.put(b"</text>");
     }
     for column in 0..8usize {
-        pen.put(b"<text x=")?;
-        pen.number(LEFT + 8 * STEP * column)?;
-        pen.put(b" y=10>+")?;
-        pen.number(10 * column)?;
-        pen.put(b"</text>")?;
+        pen.numbered(b"<text x=", LEFT + 8 * STEP * column);
+        pen.numbered(b" y=10>+", 10 * column);
+        pen.put(b"</text>");
     }
-    Ok(())
 }
 
 /// Writes a circle or a dot in the middle of a cell.
-fn write_dot<A: Allocator>(
-    pen: &mut Pen<A>,
-    at: Word,
-    class: &[u8],
-    size: &[u8],
-) -> Result<(), AllocError> {
-    pen.put(b"<circle class=")?;
-    pen.put(class)?;
-    pen.put(b" cx=")?;
-    pen.number(LEFT + STEP * usize::from(at.low_half()) + 5)?;
-    pen.put(b" cy=")?;
-    pen.number(TOP + STEP * usize::from(at.high_half()) + 5)?;
-    pen.put(b" r=")?;
-    pen.put(size)?;
-    pen.put(b" />")
+fn write_dot<A: Allocator>(pen: &mut Pen<A>, at: Word, class: &[u8], size: &[u8]) {
+    pen.put(b"<circle class=");
+    pen.put(class);
+    pen.numbered(b" cx=", left_of(at).saturating_add(5));
+    pen.numbered(b" cy=", top_of(at).saturating_add(5));
+    pen.put(b" r=");
+    pen.put(size);
+    pen.put(b" />");
 }
 
 /// Writes the square of a cell.
-fn write_square<A: Allocator>(pen: &mut Pen<A>, at: Word, class: &[u8]) -> Result<(), AllocError> {
-    pen.put(b"<rect class=")?;
-    pen.put(class)?;
-    pen.put(b" x=")?;
-    pen.number(LEFT + STEP * usize::from(at.low_half()))?;
-    pen.put(b" y=")?;
-    pen.number(TOP + STEP * usize::from(at.high_half()))?;
-    pen.put(b" width=9 height=9 />")
+fn write_square<A: Allocator>(pen: &mut Pen<A>, at: Word, class: &[u8]) {
+    pen.put(b"<rect class=");
+    pen.put(class);
+    pen.numbered(b" x=", left_of(at));
+    pen.numbered(b" y=", top_of(at));
+    pen.put(b" width=9 height=9 />");
 }
 
 /// Writes the marks of a cell: a variable in a body, a halt, the start, the place of a no.
@@ -104,21 +114,20 @@ fn write_marks<A: Allocator, B: Allocator, D: Allocator, C: Allocator>(
     report: &Report<'_, B, D, C>,
     at: Word,
     kind: &Kind,
-) -> Result<(), AllocError> {
+) {
     let declaration = report.declaration;
     if declaration.is_variable(at) && *kind != Kind::Variable {
-        write_dot(pen, at, b"w", b"2.5")?;
+        write_dot(pen, at, b"w", b"2.5");
     }
     if declaration.is_stop(at) || declaration.is_pause(at) {
-        write_dot(pen, at, b"h", b"3")?;
+        write_dot(pen, at, b"h", b"3");
     }
     if declaration.start() == at {
-        write_square(pen, at, b"s")?;
+        write_square(pen, at, b"s");
     }
     if report.is_marked(at) {
-        write_square(pen, at, b"\"s bad\"")?;
+        write_square(pen, at, b"\"s bad\"");
     }
-    Ok(())
 }
 
 /// What is said of a cell where a pointer rests on it; of a routine's its entry stands behind it.
@@ -139,12 +148,11 @@ fn write_title_name<A: Allocator, B: Allocator, D: Allocator, C: Allocator>(
     report: &Report<'_, B, D, C>,
     at: Word,
     word: Word,
-) -> Result<(), AllocError> {
-    if !report.is_code(at) {
-        return Ok(());
+) {
+    if report.is_code(at) {
+        pen.put(b" ");
+        pen.say(name(word, report.declaration.profile()).as_str().as_bytes());
     }
-    pen.put(b" ")?;
-    pen.say(name(word, report.declaration.profile()).as_str().as_bytes())
 }
 
 /// Writes what is shown where a pointer rests on a cell.
@@ -153,19 +161,19 @@ fn write_title<A: Allocator, B: Allocator, D: Allocator, C: Allocator>(
     report: &Report<'_, B, D, C>,
     at: Word,
     kind: &Kind,
-) -> Result<(), AllocError> {
-    pen.put(b"<title>")?;
-    pen.word(at)?;
-    pen.put(kind_text(kind))?;
+) {
+    pen.put(b"<title>");
+    pen.word(at);
+    pen.put(kind_text(kind));
     if let Kind::Routine(entry) = kind {
-        pen.word(*entry)?;
+        pen.word(*entry);
     }
     if let Some(word) = report.image.get(at) {
-        pen.put(b": ")?;
-        pen.word(word)?;
-        write_title_name(pen, report, at, word)?;
+        pen.put(b": ");
+        pen.word(word);
+        write_title_name(pen, report, at, word);
     }
-    pen.put(b"</title>")
+    pen.put(b"</title>");
 }
 
 /// Writes a cell, which leads to its line.
@@ -174,22 +182,20 @@ fn write_cell<A: Allocator, B: Allocator, D: Allocator, C: Allocator>(
     report: &Report<'_, B, D, C>,
     at: Word,
     line: Word,
-) -> Result<(), AllocError> {
+) {
     let kind = report.kind_of(at);
-    pen.put(b"<a href=#a")?;
-    pen.word(line)?;
-    pen.put(b">")?;
-    write_title(pen, report, at, &kind)?;
-    write_square(pen, at, class_of(report.declaration, &kind))?;
-    write_marks(pen, report, at, &kind)?;
-    pen.put(b"</a>\n")
+    pen.link(line);
+    write_title(pen, report, at, &kind);
+    write_square(pen, at, class_of(report.declaration, &kind));
+    write_marks(pen, report, at, &kind);
+    pen.put(b"</a>\n");
 }
 
 /// Writes the cells at which something stands.
 fn write_cells<A: Allocator, B: Allocator, D: Allocator, C: Allocator>(
     pen: &mut Pen<A>,
     report: &Report<'_, B, D, C>,
-) -> Result<(), AllocError> {
+) {
     let mut line = Word::ZERO;
     for index in 0..4096 {
         let at = Word::from_index(index);
@@ -197,55 +203,33 @@ fn write_cells<A: Allocator, B: Allocator, D: Allocator, C: Allocator>(
             line = at;
         }
         if report.kind_of(at) != Kind::Unset || report.is_marked(at) {
-            write_cell(pen, report, at, line)?;
+            write_cell(pen, report, at, line);
         }
     }
-    Ok(())
-}
-
-/// Writes an entry of the legend.
-fn write_key<A: Allocator>(pen: &mut Pen<A>, class: &[u8], text: &[u8]) -> Result<(), AllocError> {
-    pen.put(b"<span class=\"k ")?;
-    pen.put(class)?;
-    pen.put(b"\"></span>")?;
-    pen.put(text)
 }
 
 /// Writes what the colours and marks mean.
-fn write_legend<A: Allocator, D: Allocator>(
-    pen: &mut Pen<A>,
-    declaration: &Declaration<D>,
-) -> Result<(), AllocError> {
-    pen.put(b"<p>")?;
-    write_key(pen, b"m", b"main\n")?;
+fn write_legend<A: Allocator, D: Allocator>(pen: &mut Pen<A>, declaration: &Declaration<D>) {
+    pen.put(b"<p><span class=\"k m\"></span>main\n");
     for (place, routine) in declaration.routines().iter().enumerate() {
-        write_key(pen, colour_of(place), b"routine ")?;
-        pen.place(routine.entry())?;
-        pen.put(b"\n")?;
+        pen.put(b"<span class=\"k ");
+        pen.put(colour_of(place));
+        pen.put(b"\"></span>routine ");
+        pen.place(routine.entry());
+        pen.put(b"\n");
     }
-    write_key(pen, b"e", b"entry of a routine\n")?;
-    write_key(pen, b"v", b"variable\n")?;
-    write_key(pen, b"o", b"other word of the tape\n")?;
-    pen.put(
-        b"<br>A red ring is a declared halt, a black frame the start, a yellow dot a variable among ",
-    )?;
-    pen.put(
-        b"instructions, a red frame the place of a no. Each row has 0100 cells. Numbers are octal. ",
-    )?;
-    pen.put(b"A cell leads to its line of the listing.</p>\n")
+    pen.put(LEGEND);
 }
 
 /// Writes memory as a map.
 pub(crate) fn write_map<A: Allocator, B: Allocator, D: Allocator, C: Allocator>(
     pen: &mut Pen<A>,
     report: &Report<'_, B, D, C>,
-) -> Result<(), AllocError> {
-    pen.put(b"<h2 id=memory>Memory</h2>\n")?;
-    pen.put(b"<svg viewBox=\"0 0 680 660\" width=680 role=img aria-label=\"map of memory\">\n")?;
-    pen.put(b"<rect class=u x=34 y=14 width=640 height=640 />\n")?;
-    write_scale(pen)?;
-    pen.put(b"\n")?;
-    write_cells(pen, report)?;
-    pen.put(b"</svg>\n")?;
-    write_legend(pen, report.declaration)
+) {
+    pen.put(MAP);
+    write_scale(pen);
+    pen.put(b"\n");
+    write_cells(pen, report);
+    pen.put(b"</svg>\n");
+    write_legend(pen, report.declaration);
 }

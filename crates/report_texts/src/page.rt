@@ -1,5 +1,6 @@
 //! The page: what the verdict means, memory, routines, variables, and the listing.
 
+use crate::access::writes_through;
 use crate::graph::write_graph;
 use crate::listing::{push_listing, write_variable};
 use crate::map::write_map;
@@ -10,6 +11,67 @@ use instruct::Profile;
 use std::alloc::{AllocError, Allocator};
 use word12::Word;
 use wordset::WordSet;
+
+/// Which run a yes is about, behind its start.
+const RUN: &[u8] =
+    b" with these words in memory, whatever all other cells, AC, the link and MQ hold, and \
+however keys, tape frames, devices and switches come:</p>\n<ul>\n";
+
+/// What a yes doesn't show.
+const NOT_SHOWN: &[u8] =
+    b"</ul>\n<p>It is not shown that it ends, that it prints or computes what was meant, or \
+that the declaration is a wise one: if all cells may be written, a yes says little.</p>\n";
+
+/// What a no says behind its address.
+const REFUSED: &[u8] =
+    b", which is marked below. The program may keep its declaration all the same. What stands \
+below is what the certificate claims, and it may be wrong.</p>\n<pre>";
+
+/// What is said behind the address of a search that is stuck.
+const STUCK: &[u8] =
+    b", which is marked below. The program may keep its declaration all the same. What stands \
+below is the search's draft: what it had found until then, which may be wrong; where there is no fact it hadn't \
+come.</p>\n<pre>";
+
+/// What a declaration and a certificate are, and the links to the parts of a page.
+const PARTS: &[u8] =
+    b"<p>A declaration says where the program starts and may halt, which cells are its instructions, which it may \
+write, and which routines it has. A certificate says what holds before each instruction, so that it can be checked \
+that the declaration is kept.</p>\n\
+<p>On this page: <a href=#memory>memory</a>, <a href=#routines>routines</a>, \
+<a href=#variables>variables</a>, <a href=#listing>listing</a>.</p>\n";
+
+/// What stands behind the declared variables, above the table of those of which something is known.
+const VARIABLES: &[u8] =
+    b". By the certificate each of those below holds one of the words beside it, at every \
+address at which something is said of it; all others may hold any word:</p>\n<table>\n\
+<tr><th>cell<th>on the tape<th>what it may hold\n";
+
+/// How the items of the listing are read.
+const ITEMS: &[u8] =
+    b"; what is the same as on the line above is grey, and of more than eight such items only \
+the number of the others is told.\n\
+<code>AC in 0305,0310</code>: the accumulator holds one of these words. \
+<code>0010 in 0224-0230</code>: so does the cell 0010. <code>any</code>: nothing is claimed. \
+<code>[0010] = [0224] + 0231, so 0224-0230</code>: the word in the cell 0010 is that in the cell 0224 and 0231 more, \
+modulo 10000; with what is known of both, the cell 0010 holds one of the words behind <code>so</code>. Of a pointer and \
+a count that go up together, the pointer ends where the count does.";
+
+/// What a larger count would do, where an instruction writes through a pointer.
+const LARGER: &[u8] =
+    b" If the count were larger, the pointer would go further; if the program could then write \
+outside its variables, the verdict would be no (V5).";
+
+/// How the rest of the listing is read.
+const NAMES: &[u8] = b"\n\
+<code>reads</code>, <code>writes</code>: the cells that the instruction may read through a pointer (the pointer \
+is one of them), and those that it may write.\n\
+All numbers are octal, but how many more there are is told in decimal. <code>TAD Z010</code> names the cell 0010, and \
+<code>TAD C024</code> the cell 024 of the page that the instruction is on; behind <code>I</code> stands the cell that \
+holds the address; if that is one of 0010 to 0017, it is made one more first. <code>ISZ</code> makes a word one more, \
+and skips an instruction if it is 0000 then. <code>JMS</code> puts the address behind it into the cell that it names, \
+the entry of a routine, and goes on behind that cell; <code>JMP I</code> through the entry goes on at the address that \
+stands there: it returns.</p>\n<table>\n";
 
 /// The cells of all bodies.
 fn bodies_of<D: Allocator>(declaration: &Declaration<D>) -> WordSet {
@@ -30,35 +92,34 @@ fn entries_of<D: Allocator>(declaration: &Declaration<D>) -> WordSet {
 }
 
 /// Writes a point of a list: a text and cells.
-fn write_point<A: Allocator>(
-    pen: &mut Pen<A>,
-    text: &[u8],
-    cells: &WordSet,
-) -> Result<(), AllocError> {
-    pen.put(b"<li>")?;
-    pen.put(text)?;
+fn write_point<A: Allocator>(pen: &mut Pen<A>, text: &[u8], cells: &WordSet) {
+    pen.put(b"<li>");
+    pen.put(text);
     if cells.is_empty() {
-        return pen.put(b"none\n");
+        pen.put(b"none");
+    } else {
+        pen.places(cells);
     }
-    pen.places(cells)?;
-    pen.put(b"\n")
+    pen.put(b"\n");
 }
 
-/// Writes what is shown of writes and reads.
-fn write_cells<A: Allocator, D: Allocator>(
-    pen: &mut Pen<A>,
-    declaration: &Declaration<D>,
-) -> Result<(), AllocError> {
+/// Writes the parts of what a yes says.
+fn write_points<A: Allocator, D: Allocator>(pen: &mut Pen<A>, declaration: &Declaration<D>) {
+    write_point(
+        pen,
+        b"only these cells are executed: ",
+        &bodies_of(declaration),
+    );
     write_point(
         pen,
         b"only these cells are written, the variables: ",
         declaration.variables(),
-    )?;
+    );
     write_point(
         pen,
         b"and the entries, by the JMS that calls the routine or by its ISZ that skips an argument: ",
         &entries_of(declaration),
-    )?;
+    );
     match declaration.reads() {
         None => pen.put(b"<li>any cell may be read: the declaration has no list of reads\n"),
         Some(cells) => write_point(
@@ -67,84 +128,40 @@ fn write_cells<A: Allocator, D: Allocator>(
             cells,
         ),
     }
-}
-
-/// Writes the parts of what a yes says.
-fn write_points<A: Allocator, D: Allocator>(
-    pen: &mut Pen<A>,
-    declaration: &Declaration<D>,
-) -> Result<(), AllocError> {
-    pen.put(b"<ul>\n")?;
-    write_point(
-        pen,
-        b"only these cells are executed: ",
-        &bodies_of(declaration),
-    )?;
-    write_cells(pen, declaration)?;
     pen.put(
         b"<li>each routine returns to the place after its own call, as far on as is declared\n",
-    )?;
+    );
     write_point(
         pen,
         b"it halts, if at all, only at: ",
         &declaration.stops().union(declaration.pauses()),
-    )?;
+    );
     write_point(
         pen,
         b"of these CONTINUE may be pressed only at: ",
         declaration.pauses(),
-    )?;
-    pen.put(b"</ul>\n")
+    );
 }
 
 /// Writes the rest of what a yes says, and what it doesn't.
-fn write_yes<A: Allocator, D: Allocator>(
-    pen: &mut Pen<A>,
-    declaration: &Declaration<D>,
-) -> Result<(), AllocError> {
-    pen.put(b" on a PDP-8/")?;
+fn write_yes<A: Allocator, D: Allocator>(pen: &mut Pen<A>, declaration: &Declaration<D>) {
     pen.put(match declaration.profile() {
-        Profile::Pdp8I => b"I",
-        Profile::Pdp8E => b"E",
-    })?;
-    pen.put(b" that starts at ")?;
-    pen.place(declaration.start())?;
-    pen.put(
-        b" with these words in memory, whatever all other cells, AC, the link and MQ hold, and ",
-    )?;
-    pen.put(b"however keys, tape frames, devices and switches come:</p>\n")?;
-    write_points(pen, declaration)?;
-    pen.put(
-        b"<p>It is not shown that it ends, that it prints or computes what was meant, or that the ",
-    )?;
-    pen.put(b"declaration is a wise one: if all cells may be written, a yes says little.</p>\n")
+        Profile::Pdp8I => b" This holds of <b>every</b> run on a PDP-8/I that starts at ",
+        Profile::Pdp8E => b" This holds of <b>every</b> run on a PDP-8/E that starts at ",
+    });
+    pen.place(declaration.start());
+    pen.put(RUN);
+    write_points(pen, declaration);
+    pen.put(NOT_SHOWN);
 }
 
-/// Writes the rest of what a no says, and why it is one.
-fn write_no<A: Allocator>(pen: &mut Pen<A>, at: Word, why: &[u8]) -> Result<(), AllocError> {
-    pen.put(b"a condition on it fails at ")?;
-    pen.place(at)?;
-    pen.put(
-        b", which is marked below. The program may keep its declaration all the same. What stands below ",
-    )?;
-    pen.put(b"is what the certificate claims, and it may be wrong.</p>\n<pre>")?;
-    pen.say(why)?;
-    pen.put(b"</pre>\n")
-}
-
-/// Writes the rest of what is said of a search that is stuck, and why it is.
-fn write_stuck<A: Allocator>(pen: &mut Pen<A>, at: Word, why: &[u8]) -> Result<(), AllocError> {
-    pen.put(b"the search for a certificate is stuck at ")?;
-    pen.place(at)?;
-    pen.put(
-        b", which is marked below. The program may keep its declaration all the same. What stands below ",
-    )?;
-    pen.put(
-        b"is the search's draft: what it had found until then, which may be wrong; where there is no fact ",
-    )?;
-    pen.put(b"it hadn't come.</p>\n<pre>")?;
-    pen.say(why)?;
-    pen.put(b"</pre>\n")
+/// Writes why nothing is shown: what fails, at which address, what that means, and the reason as it is told.
+fn write_reason<A: Allocator>(pen: &mut Pen<A>, fails: &[u8], at: Word, means: &[u8], why: &[u8]) {
+    pen.put(fails);
+    pen.place(at);
+    pen.put(means);
+    pen.say(why);
+    pen.put(b"</pre>\n");
 }
 
 /// Writes the verdict's meaning, behind what it opens with.
@@ -152,14 +169,21 @@ fn write_verdict<A: Allocator, B: Allocator, D: Allocator, C: Allocator>(
     pen: &mut Pen<A>,
     report: &Report<'_, B, D, C>,
     why: &[u8],
-) -> Result<(), AllocError> {
+) {
     match report.finding {
-        Finding::Shown => write_yes(pen, report.declaration)?,
-        Finding::Refused(at) => write_no(pen, at, why)?,
-        Finding::Stuck(at) => write_stuck(pen, at, why)?,
+        Finding::Shown => write_yes(pen, report.declaration),
+        Finding::Refused(at) => {
+            write_reason(pen, b" A condition on it fails at ", at, REFUSED, why);
+        }
+        Finding::Stuck(at) => write_reason(
+            pen,
+            b" The search for a certificate is stuck at ",
+            at,
+            STUCK,
+            why,
+        ),
     }
-    pen.put(b"<p>On this page: <a href=#memory>memory</a>, <a href=#routines>routines</a>, ")?;
-    pen.put(b"<a href=#variables>variables</a>, <a href=#listing>listing</a>.</p>\n")
+    pen.put(PARTS);
 }
 
 /// Writes the row of a variable.
@@ -167,41 +191,35 @@ fn write_row<A: Allocator, B: Allocator, D: Allocator, C: Allocator>(
     pen: &mut Pen<A>,
     report: &Report<'_, B, D, C>,
     cell: Word,
-) -> Result<(), AllocError> {
-    pen.put(b"<tr><td>")?;
-    pen.place(cell)?;
-    pen.put(b"<td>")?;
+) {
+    pen.put(b"<tr><td>");
+    pen.place(cell);
+    pen.put(b"<td>");
     match report.image.get(cell) {
-        Some(word) => pen.word(word)?,
-        None => pen.put(b"----")?,
+        Some(word) => pen.word(word),
+        None => pen.put(b"----"),
     }
-    pen.put(b"<td>")?;
+    pen.put(b"<td>");
     pen.begin_items(0);
-    write_variable(pen, report, cell)?;
-    pen.put(b"\n")
+    write_variable(pen, report, cell);
+    pen.put(b"\n");
 }
 
 /// Writes the variables of which something is known, each with the words that it may hold anywhere.
 fn write_variables<A: Allocator, B: Allocator, D: Allocator, C: Allocator>(
     pen: &mut Pen<A>,
     report: &Report<'_, B, D, C>,
-) -> Result<(), AllocError> {
-    pen.put(b"<h2 id=variables>Variables</h2>\n<p>The declared variables: ")?;
-    pen.places(report.declaration.variables())?;
-    pen.put(
-        b". By the certificate each of those below holds one of the words beside it, at every ",
-    )?;
-    pen.put(
-        b"address at which something is said of it; all others may hold any word:</p>\n<table>\n",
-    )?;
-    pen.put(b"<tr><th>cell<th>on the tape<th>what it may hold\n")?;
+) {
+    pen.put(b"<h2 id=variables>Variables, in octal</h2>\n<p>The declared variables: ");
+    pen.places(report.declaration.variables());
+    pen.put(VARIABLES);
     for index in 0..4096 {
         let cell = Word::from_index(index);
         if report.held_in(cell).is_some() {
-            write_row(pen, report, cell)?;
+            write_row(pen, report, cell);
         }
     }
-    pen.put(b"</table>\n")
+    pen.put(b"</table>\n");
 }
 
 /// What stands beside an instruction; after a no it is only claimed.
@@ -217,63 +235,30 @@ fn listed_text(finding: Finding) -> &'static [u8] {
     }
 }
 
-/// Writes how the items of the listing are read.
-fn write_items_guide<A: Allocator>(pen: &mut Pen<A>) -> Result<(), AllocError> {
-    pen.put(b"<code>AC in 0305,0310</code>: the accumulator holds one of these words. ")?;
-    pen.put(b"<code>0010 in 0224-0230</code>: so does the cell 0010. ")?;
-    pen.put(
-        b"<code>[0010] = [0224] + 0231</code>: the word in the cell 0010 is that in the cell 0224 and 0231 more, ",
-    )?;
-    pen.put(
-        b"modulo 10000; so as far as the one is bounded, the other is: of a pointer and a count that ",
-    )?;
-    pen.put(b"go up together, the pointer ends where the count does. ")?;
-    pen.put(
-        b"If the count were larger, the pointer would go further; if the program could then write outside ",
-    )?;
-    pen.put(b"its variables, the verdict would be no (V5).\n")?;
-    pen.put(
-        b"<code>reads</code>, <code>writes</code>: the cells that the instruction may read through a pointer ",
-    )?;
-    pen.put(b"(the pointer is one of them), and those that it may write.\n")
-}
-
-/// Writes how numbers and names of instructions are read.
-fn write_names_guide<A: Allocator>(pen: &mut Pen<A>) -> Result<(), AllocError> {
-    pen.put(b"All numbers are octal. <code>TAD Z010</code> names the cell 0010, ")?;
-    pen.put(b"and <code>TAD C024</code> the cell 024 of the page that the instruction is on; ")?;
-    pen.put(b"behind <code>I</code> stands the cell that holds the address; ")?;
-    pen.put(b"if that is one of 0010 to 0017, it is made one more first. ")?;
-    pen.put(b"<code>ISZ</code> makes a word one more, and skips an instruction if it is 0000 then.")
-}
-
-/// Writes how the listing is read.
-fn write_guide<A: Allocator>(pen: &mut Pen<A>, finding: Finding) -> Result<(), AllocError> {
-    pen.put(b"<h2 id=listing>Listing</h2>\n<p>Beside each instruction stands ")?;
-    pen.put(listed_text(finding))?;
-    pen.put(
-        b"; what is the same as on the line above is grey, and of more than eight such items only the number ",
-    )?;
-    pen.put(b"of the others is told.\n")?;
-    write_items_guide(pen)?;
-    write_names_guide(pen)?;
-    pen.put(b"</p>\n<table>\n")
-}
-
 /// The page behind the verdict and what `opening` or `stuck_opening` says of it. `why` is what is told of
 /// a no, or of a search that is stuck.
+///
+/// # Errors
+///
+/// Memory was refused.
 pub fn page_below<A: Allocator + Copy, D: Allocator, C: Allocator>(
     alloc: A,
     report: &Report<'_, A, D, C>,
     why: &[u8],
 ) -> Result<Vec<u8, A>, AllocError> {
     let mut pen = Pen::new(alloc, Form::Page, &report.lines());
-    write_verdict(&mut pen, report, why)?;
-    write_map(&mut pen, report)?;
+    write_verdict(&mut pen, report, why);
+    write_map(&mut pen, report);
     write_graph(&mut pen, alloc, report)?;
-    write_variables(&mut pen, report)?;
-    write_guide(&mut pen, report.finding)?;
-    push_listing(&mut pen, report)?;
-    pen.put(b"</table>\n</body>\n</html>\n")?;
-    Ok(pen.into_bytes())
+    write_variables(&mut pen, report);
+    pen.put(b"<h2 id=listing>Listing, in octal</h2>\n<p>Beside each instruction stands ");
+    pen.put(listed_text(report.finding));
+    pen.put(ITEMS);
+    if writes_through(report) {
+        pen.put(LARGER);
+    }
+    pen.put(NAMES);
+    push_listing(&mut pen, report);
+    pen.put(b"</table>\n</body>\n</html>\n");
+    pen.into_bytes()
 }

@@ -12,7 +12,7 @@ const MOST_RUNS: usize = 16;
 const MOST_SAME: usize = 8;
 
 /// In which form a report is written.
-#[derive(Clone, Copy, PartialEq, Eq, Debug)]
+#[derive(Clone, Copy)]
 pub enum Form {
     /// Plain text.
     Text,
@@ -24,7 +24,9 @@ pub enum Form {
 #[derive(Drop)]
 pub(crate) struct Pen<A: Allocator> {
     bytes: Vec<u8, A>,
-    form: Form,
+    /// Whether memory was refused; from there on nothing more is written.
+    written: Result<(), AllocError>,
+    is_page: bool,
     /// The addresses that have a line of the listing, to which links may lead.
     lines: WordSet,
     /// How many blanks stand before the first item of the line.
@@ -35,12 +37,25 @@ pub(crate) struct Pen<A: Allocator> {
     same: usize,
 }
 
+/// What a byte is in HTML, if it has a meaning there.
+fn escaped(byte: u8) -> Option<&'static [u8]> {
+    match byte {
+        b'<' => Some(b"&lt;"),
+        b'>' => Some(b"&gt;"),
+        b'&' => Some(b"&amp;"),
+        b'"' => Some(b"&quot;"),
+        b'\'' => Some(b"&#39;"),
+        _ => None,
+    }
+}
+
 impl<A: Allocator> Pen<A> {
     /// A pen that has written nothing, for a listing with lines at these addresses.
     pub(crate) fn new(alloc: A, form: Form, lines: &WordSet) -> Pen<A> {
         Pen {
             bytes: Vec::new(alloc),
-            form,
+            written: Ok(()),
+            is_page: matches!(form, Form::Page),
             lines: *lines,
             indent: 0,
             has_item: false,
@@ -48,18 +63,18 @@ impl<A: Allocator> Pen<A> {
         }
     }
 
-    /// What was written.
-    pub(crate) fn into_bytes(self) -> Vec<u8, A> {
-        let Pen { bytes, .. } = self;
-        bytes
+    /// What was written, unless memory was refused.
+    pub(crate) fn into_bytes(self) -> Result<Vec<u8, A>, AllocError> {
+        let Pen { bytes, written, .. } = self;
+        match written {
+            Ok(()) => Ok(bytes),
+            Err(refused) => Err(refused),
+        }
     }
 
-    /// Whether it writes HTML.
-    pub(crate) fn is_page(&self) -> bool {
-        match self.form {
-            Form::Text => false,
-            Form::Page => true,
-        }
+    /// How many bytes were written.
+    pub(crate) fn len(&self) -> usize {
+        self.bytes.len()
     }
 
     /// Whether an address has a line of the listing.
@@ -68,115 +83,115 @@ impl<A: Allocator> Pen<A> {
     }
 
     /// Writes bytes as they are.
-    pub(crate) fn put(&mut self, bytes: &[u8]) -> Result<(), AllocError> {
-        self.bytes.extend_from_slice(bytes)
-    }
-
-    /// Writes markup, in a page alone.
-    pub(crate) fn mark(&mut self, markup: &[u8]) -> Result<(), AllocError> {
-        if self.is_page() {
-            self.bytes.extend_from_slice(markup)
-        } else {
-            Ok(())
+    pub(crate) fn put(&mut self, bytes: &[u8]) {
+        if self.written.is_ok() {
+            self.written = self.bytes.extend_from_slice(bytes);
         }
     }
 
-    /// Writes a byte that may have a meaning in HTML.
-    fn say_byte(&mut self, byte: u8) -> Result<(), AllocError> {
-        match byte {
-            b'<' => self.put(b"&lt;"),
-            b'>' => self.put(b"&gt;"),
-            b'&' => self.put(b"&amp;"),
-            b'"' => self.put(b"&quot;"),
-            b'\'' => self.put(b"&#39;"),
-            _ => self.bytes.extend_from_slice(&[byte]),
+    /// Writes markup, in a page alone.
+    pub(crate) fn mark(&mut self, markup: &[u8]) {
+        if self.is_page {
+            self.put(markup);
         }
     }
 
     /// Writes a text that isn't markup.
-    pub(crate) fn say(&mut self, text: &[u8]) -> Result<(), AllocError> {
-        if !self.is_page() {
+    pub(crate) fn say(&mut self, text: &[u8]) {
+        if !self.is_page {
             return self.put(text);
         }
         for byte in text {
-            self.say_byte(*byte)?;
+            match escaped(*byte) {
+                Some(name) => self.put(name),
+                None => self.put(&[*byte]),
+            }
         }
-        Ok(())
     }
 
     /// Writes a number in decimal digits.
-    pub(crate) fn number(&mut self, number: usize) -> Result<(), AllocError> {
+    pub(crate) fn number(&mut self, number: usize) {
         let mut digits = Buffer::new();
-        self.put(digits.format(number).as_bytes())
+        self.put(digits.format(number).as_bytes());
+    }
+
+    /// Writes a text, and behind it a number in decimal digits.
+    pub(crate) fn numbered(&mut self, text: &[u8], number: usize) {
+        self.put(text);
+        self.number(number);
     }
 
     /// Writes the four octal digits of a word.
-    pub(crate) fn word(&mut self, word: Word) -> Result<(), AllocError> {
-        self.bytes.extend_from_slice(&word.to_octal())
+    pub(crate) fn word(&mut self, word: Word) {
+        self.put(&word.to_octal());
+    }
+
+    /// Writes in a page the beginning of a link to the line of an address.
+    pub(crate) fn link(&mut self, at: Word) {
+        self.mark(b"<a href=#a");
+        self.mark(&at.to_octal());
+        self.mark(b">");
     }
 
     /// Writes an address, in a page with a link to its line, if it has one.
-    pub(crate) fn place(&mut self, at: Word) -> Result<(), AllocError> {
-        if !self.is_page() || !self.has_line(at) {
+    pub(crate) fn place(&mut self, at: Word) {
+        if !self.has_line(at) {
             return self.word(at);
         }
-        self.put(b"<a href=#a")?;
-        self.word(at)?;
-        self.put(b">")?;
-        self.word(at)?;
-        self.put(b"</a>")
+        self.link(at);
+        self.word(at);
+        self.mark(b"</a>");
     }
 
     /// Writes the words from one to another, both of them.
-    pub(crate) fn run(&mut self, first: Word, last: Word, linked: bool) -> Result<(), AllocError> {
+    pub(crate) fn run(&mut self, first: Word, last: Word, linked: bool) {
         if linked {
-            self.place(first)?;
+            self.place(first);
         } else {
-            self.word(first)?;
+            self.word(first);
         }
-        if first == last {
-            return Ok(());
+        if first != last {
+            self.put(b"-");
+            self.word(last);
         }
-        self.put(b"-")?;
-        self.word(last)
     }
 
     /// Writes the words of a set by their runs, at most some of them; `-` where there is none.
-    fn runs(&mut self, set: &WordSet, linked: bool) -> Result<(), AllocError> {
-        let mut next = 0usize;
+    fn runs(&mut self, set: &WordSet, linked: bool) {
+        if set.is_empty() {
+            self.put(b"-");
+        }
+        let mut rest = *set;
         for count in 0..MOST_RUNS {
-            let Some(first) = set.first_from(next) else {
-                return if count == 0 { self.put(b"-") } else { Ok(()) };
+            let Some(first) = rest.least() else {
+                return;
             };
             if count > 0 {
-                self.put(b",")?;
+                self.put(b",");
             }
             let last = last_from(set, first);
-            self.run(first, last, linked)?;
-            next = last.index() + 1;
+            self.run(first, last, linked);
+            rest = rest.minus(&WordSet::range(first, last));
         }
-        self.rest(set, next)
+        self.rest(rest.count());
     }
 
-    /// Writes how many words of a set from a number on aren't shown.
-    fn rest(&mut self, set: &WordSet, from: usize) -> Result<(), AllocError> {
-        let count = count_from(set, from);
-        if count == 0 {
-            return Ok(());
+    /// Writes how many words aren't shown.
+    fn rest(&mut self, count: usize) {
+        if count > 0 {
+            self.numbered(b" and ", count);
+            self.put(b" more");
         }
-        self.put(b" and ")?;
-        self.number(count)?;
-        self.put(b" more")
     }
 
     /// Writes the words of a set.
-    pub(crate) fn words(&mut self, set: &WordSet) -> Result<(), AllocError> {
-        self.runs(set, false)
+    pub(crate) fn words(&mut self, set: &WordSet) {
+        self.runs(set, false);
     }
 
     /// Writes the addresses of a set, in a page with links to the lines that there are.
-    pub(crate) fn places(&mut self, set: &WordSet) -> Result<(), AllocError> {
-        self.runs(set, true)
+    pub(crate) fn places(&mut self, set: &WordSet) {
+        self.runs(set, true);
     }
 
     /// Begins the items of a line, of which the first stands behind some blanks.
@@ -187,77 +202,72 @@ impl<A: Allocator> Pen<A> {
     }
 
     /// Writes what stands between an item and what is before it.
-    fn separate(&mut self) -> Result<(), AllocError> {
+    fn separate(&mut self) {
         if self.has_item {
             return self.put(b"; ");
         }
         self.has_item = true;
-        if self.is_page() {
-            return Ok(());
+        if !self.is_page {
+            for _ in 0..self.indent {
+                self.put(b" ");
+            }
         }
-        for _ in 0..self.indent {
-            self.put(b" ")?;
-        }
-        Ok(())
     }
 
     /// Begins an item, unless it is the same as on the line above and is left out; tells whether it was
     /// begun.
-    pub(crate) fn begin_item(&mut self, same: bool) -> Result<bool, AllocError> {
-        if !same {
-            self.separate()?;
-            return Ok(true);
+    pub(crate) fn begin_item(&mut self, same: bool) -> bool {
+        if same {
+            self.same = self.same.saturating_add(1);
+            if !self.is_page || self.same > MOST_SAME {
+                return false;
+            }
         }
-        self.same = self.same.saturating_add(1);
-        if !self.is_page() || self.same > MOST_SAME {
-            return Ok(false);
+        self.separate();
+        if same {
+            self.put(b"<i>");
         }
-        self.separate()?;
-        self.put(b"<i>")?;
-        Ok(true)
+        true
     }
 
     /// Writes in a page how many items that are the same as on the line above were left out.
-    pub(crate) fn end_same(&mut self) -> Result<(), AllocError> {
+    pub(crate) fn end_same(&mut self) {
         let more = self.same.saturating_sub(MOST_SAME);
-        if !self.is_page() || more == 0 {
-            return Ok(());
+        if self.is_page && more > 0 {
+            self.separate();
+            self.numbered(b"<i>and ", more);
+            self.put(b" more as above</i>");
         }
-        self.separate()?;
-        self.put(b"<i>and ")?;
-        self.number(more)?;
-        self.put(b" more as above</i>")
     }
 
     /// Ends an item.
-    pub(crate) fn end_item(&mut self, same: bool) -> Result<(), AllocError> {
-        if same { self.mark(b"</i>") } else { Ok(()) }
+    pub(crate) fn end_item(&mut self, same: bool) {
+        if same {
+            self.mark(b"</i>");
+        }
+    }
+
+    /// Writes in plain text what stands before a note behind the items.
+    pub(crate) fn note(&mut self) {
+        if !self.is_page {
+            self.put(b"  / ");
+        }
     }
 
     /// Writes an item that has nothing to do with the line above.
-    pub(crate) fn item(&mut self, text: &[u8]) -> Result<(), AllocError> {
-        self.separate()?;
-        self.say(text)
+    pub(crate) fn item(&mut self, text: &[u8]) {
+        self.separate();
+        self.say(text);
     }
 }
 
 /// The last word of the run of a set that begins with one of its words.
 fn last_from(set: &WordSet, first: Word) -> Word {
-    let last = Word::from_index(4095);
-    if first == last || !set.contains(first.add(Word::from_index(1))) {
+    if !set.contains(first.add(Word::from_index(1))) {
         return first;
     }
     match WordSet::all().minus(set).first_from(first.index()) {
-        Some(next) => next.add(last),
-        None => last,
+        Some(next) => next.add(Word::from_index(4095)),
+        None => Word::from_index(4095),
     }
-}
-
-/// How many words from a number on a set has.
-fn count_from(set: &WordSet, from: usize) -> usize {
-    if from >= 4096 {
-        return 0;
-    }
-    let rest = WordSet::range(Word::from_index(from), Word::from_index(4095));
-    set.meet(&rest).count()
 }

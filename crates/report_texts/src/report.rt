@@ -1,5 +1,6 @@
 //! What a report is made of.
 
+use crate::source_notes::SourceNotes;
 use crate::variables::{AllHeld, Held, held_of};
 use bin_tape::Image;
 use certificate::{Certificate, Routine};
@@ -10,7 +11,7 @@ use word12::Word;
 use wordset::WordSet;
 
 /// What stands at an address.
-#[derive(Clone, Copy, PartialEq, Eq, Debug)]
+#[derive(Clone, Copy, PartialEq)]
 pub(crate) enum Kind {
     /// The entry of a routine.
     Entry,
@@ -27,7 +28,7 @@ pub(crate) enum Kind {
 }
 
 /// What is known of a certificate.
-#[derive(Clone, Copy, PartialEq, Eq, Debug)]
+#[derive(Clone, Copy)]
 pub enum Finding {
     /// All conditions hold of it.
     Shown,
@@ -46,6 +47,8 @@ pub struct Report<'a, A: Allocator, D: Allocator, C: Allocator> {
     pub(crate) finding: Finding,
     /// The name of the condition that fails, or nothing where none is told.
     pub(crate) failing: &'a str,
+    /// What the source says of addresses, where one is known.
+    notes: Option<&'a SourceNotes<A>>,
     /// What stands at each address.
     kinds: Vec<Kind, A>,
     /// The addresses with a fact.
@@ -111,7 +114,7 @@ pub(crate) fn claimed_of<C: Allocator>(certificate: &Certificate<C>, entry: Word
 
 impl<'a, A: Allocator + Copy, D: Allocator, C: Allocator> Report<'a, A, D, C> {
     /// The report of a certificate and of what is known of it, with the name of the condition that fails,
-    /// if one is told.
+    /// if one is told, and what the source says of addresses, if it is known.
     ///
     /// # Errors
     ///
@@ -123,6 +126,7 @@ impl<'a, A: Allocator + Copy, D: Allocator, C: Allocator> Report<'a, A, D, C> {
         certificate: &'a Certificate<C>,
         finding: Finding,
         failing: &'a str,
+        notes: Option<&'a SourceNotes<A>>,
     ) -> Result<Report<'a, A, D, C>, AllocError> {
         let kinds = kinds_of(alloc, image, declaration)?;
         let mut facts = WordSet::empty();
@@ -133,6 +137,7 @@ impl<'a, A: Allocator + Copy, D: Allocator, C: Allocator> Report<'a, A, D, C> {
             certificate,
             finding,
             failing,
+            notes,
             kinds,
             facts,
             held,
@@ -146,6 +151,14 @@ impl<A: Allocator, D: Allocator, C: Allocator> Report<'_, A, D, C> {
         match self.kinds.get(at.index()) {
             Some(kind) => *kind,
             None => Kind::Unset,
+        }
+    }
+
+    /// What the source says of an address; nothing where it isn't known.
+    pub(crate) fn note_at(&self, at: Word) -> &[u8] {
+        match self.notes {
+            Some(notes) => notes.at(at),
+            None => b"",
         }
     }
 

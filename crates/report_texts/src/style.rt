@@ -30,8 +30,8 @@ pub fn opening(form: Form, verdict: &Result<(), Refusal>) -> &'static [u8]
     match form {
         Form::Text => b"",
         Form::Page => match verdict {
-            Ok(()) => b"</h1>\n<p>This is shown of <b>every</b> run",
-            Err(_) => b"</h1>\n<p>This certificate shows nothing: ",
+            Ok(()) => b"</h1>\n<p>Shown is that no run breaks the declaration.",
+            Err(_) => b"</h1>\n<p>This certificate shows nothing.",
         },
     }
 }
@@ -43,6 +43,6 @@ pub fn stuck_opening(form: Form) -> &'static [u8]
 {
     match form {
         Form::Text => b"",
-        Form::Page => b"</h1>\n<p>Nothing is shown: ",
+        Form::Page => b"</h1>\n<p>Nothing is shown.",
     }
 }

@@ -5,7 +5,7 @@ ghost use Rattle.std.specs.Prelude.{◌≡◌, false};
 use crate::files::{open_input, open_output};
 use command_line::Destination;
 use commands::drafting::report_draft;
-use commands::reporting::Form;
+use commands::reporting::{Form, SourceNotes};
 use commands::status::{Fault, Status};
 use std::alloc::Global;
 use std::rt::Files;
@@ -20,7 +20,8 @@ pub fn is_stuck(answer: &Result<Status, Fault>) -> bool {
     )
 }
 
-/// Writes to a file what a search had found when it was stuck; it is made once more for that.
+/// Writes to a file what a search had found when it was stuck, with what the source says of addresses, if there is
+/// one; the search is made once more for that.
 #[inline(never)]
 pub fn report_stuck<R: Files + Print, T: ByteSource, D: ByteSource>(
     rt: &R,
@@ -28,12 +29,13 @@ pub fn report_stuck<R: Files + Print, T: ByteSource, D: ByteSource>(
     tape: &mut T,
     declaration: &mut D,
     name: &str,
+    notes: Option<&SourceNotes<Global>>,
 ) -> Result<Status, Fault>
     requires readable { T.mark tape.old ≡ false }
     requires declaration_readable { D.mark declaration.old ≡ false }
 {
     let mut page = open_output(rt, Destination::MadeLast(name))?;
-    report_draft(alloc, tape, declaration, &mut page, Form::Page)
+    report_draft(alloc, tape, declaration, &mut page, Form::Page, notes)
 }
 
 /// Writes to a file what a search for the program of these files had found when it was stuck.
@@ -47,5 +49,5 @@ pub fn report_stuck_files<R: Files + Input + Print>(
 ) -> Result<Status, Fault> {
     let mut frames = open_input(rt, tape)?;
     let mut text = open_input(rt, declaration)?;
-    report_stuck(rt, alloc, &mut frames, &mut text, name)
+    report_stuck(rt, alloc, &mut frames, &mut text, name, None)
 }

@@ -50,7 +50,7 @@ fn done_with_numbers<R: Files + Input + Print + Eprint>(
             out,
             text,
             ..
-        } => of_command(report_numbered(rt, alloc, numbered, certificate, *out, *text)),
+        } => of_command(report_numbered(rt, alloc, source, numbered, certificate, *out, *text)),
         Task::Watch {
             events,
             explained,

@@ -9,14 +9,14 @@ use crate::files::{open_input, open_output};
 use crate::joined::{open_input_if, report_to, tell_to};
 use crate::numbering::Promise;
 use crate::saving::{save_answer, save_proposed};
-use crate::source_lines::with_source_lines;
+use crate::source_lines::{listing_of, with_source_lines};
 use command_line::{Destination, WatchedSession};
 use command_parts::inputs::{declaration_from, tape_from};
 use commands::completing::complete;
 use commands::declaring::{DeclareOptions, declare};
 use commands::explaining::explain;
 use commands::refuting::RefuteOptions;
-use commands::reporting::{Form, report};
+use commands::reporting::{Form, SourceNotes, notes_of, report};
 use commands::status::{DeviceFault, Fault, Status};
 use commands::verifying::{Answer, Lack, VerifyOptions, answer_status, verify_proposed};
 use commands::watched_session::watch_session;
@@ -188,16 +188,24 @@ pub fn explain_numbered<R: Files + Input + Print>(
     )
 }
 
+/// What a source says of addresses.
+fn source_notes(alloc: Global, given: &SourceText<'_>) -> Result<SourceNotes<Global>, Fault> {
+    let listing = listing_of(alloc, given.parts, given.declaration)?;
+    Ok(notes_of(alloc, &listing)?)
+}
+
 /// Writes what the certificate of a file says.
 #[inline(never)]
 pub fn report_numbered<R: Files + Input + Print>(
     rt: &R,
     alloc: Global,
+    given: &SourceText<'_>,
     numbered: &Numbered<Global>,
     certificate: &str,
     out: Destination<'_>,
     text: bool,
 ) -> Result<Status, Fault> {
+    let notes = source_notes(alloc, given)?;
     let mut claims = open_input(rt, certificate)?;
     let mut page = open_output(rt, out)?;
     let form = if text { Form::Text } else { Form::Page };
@@ -208,6 +216,7 @@ pub fn report_numbered<R: Files + Input + Print>(
         &mut claims,
         &mut page,
         form,
+        Some(&notes),
     )
 }
 
@@ -326,6 +335,25 @@ fn is_stuck(answer: &Result<Status, SourcedFault>) -> bool {
     )
 }
 
+/// Writes to a file what a search for a certificate had found when it was stuck.
+fn report_stuck_program<R: Files + Print>(
+    rt: &R,
+    alloc: Global,
+    given: &SourceText<'_>,
+    numbered: &Numbered<Global>,
+    name: &str,
+) -> Result<Status, Fault> {
+    let notes = source_notes(alloc, given)?;
+    report_stuck(
+        rt,
+        alloc,
+        &mut frames_of(numbered),
+        &mut promise_of(numbered),
+        name,
+        Some(&notes),
+    )
+}
+
 /// Guesses a certificate, and where the search is stuck writes a report, if one is asked for.
 pub fn guess_program<R: Files + Print + Eprint>(
     rt: &R,
@@ -345,8 +373,7 @@ pub fn guess_program<R: Files + Print + Eprint>(
         return answer;
     };
     if is_stuck(&answer) {
-        let mut frames = frames_of(numbered);
-        if let Err(fault) = report_stuck(rt, alloc, &mut frames, &mut promise_of(numbered), name) {
+        if let Err(fault) = report_stuck_program(rt, alloc, given, numbered, name) {
             return Err(SourcedFault::Command(fault));
         }
     }

@@ -90,7 +90,15 @@ pub fn report_from<R: Files + Input + Print>(
     let mut claims = open_input(rt, asked.certificate)?;
     let mut page = open_output(rt, asked.out)?;
     let form = if asked.text { Form::Text } else { Form::Page };
-    report(alloc, &mut frames, &mut text, &mut claims, &mut page, form)
+    report(
+        alloc,
+        &mut frames,
+        &mut text,
+        &mut claims,
+        &mut page,
+        form,
+        None,
+    )
 }
 
 /// Guesses a certificate for the tape of a file, and where the search is stuck writes a report, if one is

@@ -40,7 +40,11 @@ fn listed_text<'l>(listing: &'l [u8], address: &[u8]) -> &'l [u8] {
 }
 
 /// The listing of a source.
-fn listing_of(alloc: Global, parts: &[&[u8]], declaration: &[u8]) -> Result<Vec<u8>, Fault> {
+pub(crate) fn listing_of(
+    alloc: Global,
+    parts: &[&[u8]],
+    declaration: &[u8],
+) -> Result<Vec<u8>, Fault> {
     let mut listing = Vec::new(alloc);
     match assemble(alloc, parts, machine_of(declaration)) {
         Ok(program) => {

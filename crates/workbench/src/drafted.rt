@@ -20,8 +20,8 @@ pub fn is_stuck(answer: &Result<Status, Fault>) -> bool {
     )
 }
 
-/// Writes to a file what a search had found when it was stuck, with what a source says of addresses; the search
-/// is made once more for that.
+/// Writes to a file what a search had found when it was stuck, with what the source says of addresses, if there is
+/// one; the search is made once more for that.
 #[inline(never)]
 pub fn report_stuck<R: Files + Print, T: ByteSource, D: ByteSource>(
     rt: &R,

@@ -3,7 +3,7 @@
 use crate::numbering::{Given, Prepared, Promise, lend, read_all, tell_refused};
 use crate::programs::{
     SourceText, check_program, declare_program, explain_numbered, guess_program, refute_program,
-    report_program, verify_alone, verify_program, watch_program, watch_session_numbered,
+    report_numbered, verify_alone, verify_program, watch_program, watch_session_numbered,
     write_numbered,
 };
 use crate::spots::{Spot, behind_lines, line_counts, line_of, on_line, spot_of};
@@ -50,7 +50,7 @@ fn done_with_numbers<R: Files + Input + Print + Eprint>(
             out,
             text,
             ..
-        } => of_command(report_program(rt, alloc, source, numbered, certificate, *out, *text)),
+        } => of_command(report_numbered(rt, alloc, source, numbered, certificate, *out, *text)),
         Task::Watch {
             events,
             explained,

@@ -188,15 +188,15 @@ pub fn explain_numbered<R: Files + Input + Print>(
     )
 }
 
-/// What a source says of its addresses.
+/// What a source says of addresses.
 fn source_notes(alloc: Global, given: &SourceText<'_>) -> Result<SourceNotes<Global>, Fault> {
     let listing = listing_of(alloc, given.parts, given.declaration)?;
     Ok(notes_of(alloc, &listing)?)
 }
 
-/// Writes what the certificate of a file says, with the lines of the source.
+/// Writes what the certificate of a file says.
 #[inline(never)]
-pub fn report_program<R: Files + Input + Print>(
+pub fn report_numbered<R: Files + Input + Print>(
     rt: &R,
     alloc: Global,
     given: &SourceText<'_>,
@@ -335,6 +335,25 @@ fn is_stuck(answer: &Result<Status, SourcedFault>) -> bool {
     )
 }
 
+/// Writes to a file what a search for a certificate had found when it was stuck.
+fn report_stuck_program<R: Files + Print>(
+    rt: &R,
+    alloc: Global,
+    given: &SourceText<'_>,
+    numbered: &Numbered<Global>,
+    name: &str,
+) -> Result<Status, Fault> {
+    let notes = source_notes(alloc, given)?;
+    report_stuck(
+        rt,
+        alloc,
+        &mut frames_of(numbered),
+        &mut promise_of(numbered),
+        name,
+        Some(&notes),
+    )
+}
+
 /// Guesses a certificate, and where the search is stuck writes a report, if one is asked for.
 pub fn guess_program<R: Files + Print + Eprint>(
     rt: &R,
@@ -359,20 +378,6 @@ pub fn guess_program<R: Files + Print + Eprint>(
         }
     }
     answer
-}
-
-/// Writes to a file what a search had found when it was stuck, with the lines of the source.
-fn report_stuck_program<R: Files + Print>(
-    rt: &R,
-    alloc: Global,
-    given: &SourceText<'_>,
-    numbered: &Numbered<Global>,
-    name: &str,
-) -> Result<Status, Fault> {
-    let notes = source_notes(alloc, given)?;
-    let mut frames = frames_of(numbered);
-    let mut promise = promise_of(numbered);
-    report_stuck(rt, alloc, &mut frames, &mut promise, name, Some(&notes))
 }
 
 /// Looks for a run that breaks the declaration.

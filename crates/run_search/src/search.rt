@@ -84,8 +84,8 @@ pub struct Trial<A: Allocator> {
     pub watcher: Watcher<A>,
     run: Run<A>,
     plan: Plan<A>,
-    /// What was seen before the step that broke a rule, if one did.
-    glance: Option<Glance>,
+    /// Whether the next step was tried before, and broke a rule: what it asks for is given.
+    is_tried: bool,
     /// How many more steps it makes at most.
     left: u32,
 }
@@ -232,7 +232,7 @@ impl<A: Allocator + Copy> RunSearch<A> {
             watcher,
             run,
             plan,
-            glance: None,
+            is_tried: false,
             left: MOST_STEPS,
         })
     }
@@ -429,8 +429,11 @@ impl<A: Allocator + Copy> RunSearch<A> {
         turns.are_within();
         let before = turns.spent();
         let breaks = self.make_steps(program, trial, turns)?;
+        trial.is_tried = breaks;
         let spent = turns.spent().saturating_sub(before);
-        self.count(&trial.plan, spent.saturating_sub(breaks as u32));
+        let made = spent.saturating_sub(breaks as u32);
+        trial.left = trial.left.saturating_sub(made);
+        self.count(&trial.plan, made);
         Ok(breaks)
     }
 
@@ -486,50 +489,43 @@ impl<A: Allocator + Copy> RunSearch<A> {
         ensures within { turns.new.spent ≤ turns.new.limit }
     {
         turns.are_within();
-        let Some(glance) = self.look_ahead(program, trial)? else {
+        let glance = self.glance(&trial.watcher);
+        if !self.is_ready(program, trial, &glance)? {
             return Ok(Progress::Over);
-        };
-        let progress = self.step(
+        }
+        self.step(
             program,
             &mut trial.watcher,
             &mut trial.run,
             &trial.plan,
             &glance,
             turns,
-        )?;
-        if progress == Progress::Broken {
-            trial.glance = Some(glance);
-        } else {
-            trial.left = trial.left.saturating_sub(1);
-        }
-        Ok(progress)
+        )
     }
 
-    /// What is seen before the next step, with what it asks for given; none where the run is over. A step
-    /// that broke a rule is given nothing more.
-    fn look_ahead<D: Allocator>(
+    /// Gives what the next step asks for, unless it was tried before. False where the run is over.
+    fn is_ready<D: Allocator>(
         &mut self,
         program: &DeclaredProgram<'_, D>,
         trial: &mut Trial<A>,
-    ) -> Result<Option<Glance>, NoMemory>
+        glance: &Glance,
+    ) -> Result<bool, NoMemory>
         requires profile { profile_of trial.old.watcher.world
             ≡ (meaning program.now.declaration.now).profile }
         ensures profile { profile_of trial.new.watcher.world
             ≡ (meaning program.now.declaration.now).profile }
     {
-        if let Some(glance) = trial.glance {
-            trial.glance = None;
-            return Ok(Some(glance));
+        if trial.is_tried {
+            trial.is_tried = false;
+            return Ok(true);
         }
-        let glance = self.glance(&trial.watcher);
-        let goes_on = self.prepare(
+        self.prepare(
             program,
             &mut trial.watcher,
             &mut trial.run,
             &trial.plan,
-            &glance,
-        )?;
-        if goes_on { Ok(Some(glance)) } else { Ok(None) }
+            glance,
+        )
     }
 
     /// What steps were seen to do in all runs so far, apart from those that only break a rule once more;
@@ -687,7 +683,7 @@ impl<A: Allocator + Copy> RunSearch<A> {
         if plan.purpose == Purpose::Repeat {
             return Ok(progress);
         }
-        if turns.spent() != before && progress != Progress::Broken {
+        if self.records && turns.spent() != before && progress != Progress::Broken {
             self.record_step();
         }
         if progress == Progress::GoesOn {

@@ -58,6 +58,8 @@ pub struct RunSearch<A: Allocator> {
     record: Record<A>,
     /// Whether what steps do is recorded: that takes time.
     records: bool,
+    /// What the step that is about to be made does, where that is recorded.
+    sight: Option<Sight>,
     /// The steps that were made, and one for each run without a step.
     clock: u32,
     /// What it was when the last run began.
@@ -82,9 +84,9 @@ pub struct Trial<A: Allocator> {
     pub watcher: Watcher<A>,
     run: Run<A>,
     plan: Plan<A>,
-    /// What was seen before the step that broke a rule, if one did.
-    glance: Option<Glance>,
-    /// How many steps it makes at most.
+    /// Whether the next step was tried before, and broke a rule: what it asks for is given.
+    is_tried: bool,
+    /// How many more steps it makes at most.
     left: u32,
 }
 
@@ -92,8 +94,6 @@ pub struct Trial<A: Allocator> {
 #[derive(Clone, Copy)]
 struct Glance {
     at: Word,
-    /// What is recorded of the step, if anything is.
-    sight: Option<Sight>,
     ac: Word,
     look: Look,
     /// The address that an indirect reference uses, or the cell that a direct one stores in.
@@ -121,6 +121,7 @@ impl<A: Allocator + Copy> RunSearch<A> {
             aims: Aims::none(alloc)?,
             record: Record::nothing(alloc)?,
             records: false,
+            sight: None,
             clock: 0,
             begun: 0,
             roamed: 0,
@@ -231,7 +232,7 @@ impl<A: Allocator + Copy> RunSearch<A> {
             watcher,
             run,
             plan,
-            glance: None,
+            is_tried: false,
             left: MOST_STEPS,
         })
     }
@@ -426,40 +427,33 @@ impl<A: Allocator + Copy> RunSearch<A> {
         ensures within { turns.new.spent ≤ turns.new.limit }
     {
         turns.are_within();
-        if let Some(glance) = trial.glance {
-            trial.glance = None;
-            if let Some(breaks) = self.end_of_step(program, trial, &glance, turns)? {
-                return Ok(breaks);
-            }
-        }
-        for _step in 0..trial.left {
-            trial.left = trial.left.saturating_sub(1);
-            let glance = self.glance(&trial.watcher);
-            let goes_on = self.prepare(
-                program,
-                &mut trial.watcher,
-                &mut trial.run,
-                &trial.plan,
-                &glance,
-            )?;
-            if !goes_on {
-                return Ok(false);
-            }
-            if let Some(breaks) = self.end_of_step(program, trial, &glance, turns)? {
-                return Ok(breaks);
-            }
-        }
-        Ok(false)
+        let before = turns.spent();
+        let breaks = self.make_steps(program, trial, turns)?;
+        trial.is_tried = breaks;
+        let spent = turns.spent().saturating_sub(before);
+        let made = spent.saturating_sub(breaks as u32);
+        trial.left = trial.left.saturating_sub(made);
+        self.count(&trial.plan, made);
+        Ok(breaks)
     }
 
-    /// Makes a step of a run. None where the run goes on; else whether the step breaks a rule.
-    fn end_of_step<D: Allocator>(
+    /// Counts the steps that a run made.
+    fn count(&mut self, plan: &Plan<A>, made: u32) {
+        if plan.purpose != Purpose::Repeat {
+            self.clock = self.clock.saturating_add(made);
+        }
+        if plan.purpose == Purpose::Roam {
+            self.roamed = self.roamed.saturating_add(made);
+        }
+    }
+
+    /// Makes the steps of a run. True where the next one breaks a rule.
+    fn make_steps<D: Allocator>(
         &mut self,
         program: &DeclaredProgram<'_, D>,
         trial: &mut Trial<A>,
-        glance: &Glance,
         turns: &mut Turns,
-    ) -> Result<Option<bool>, NoMemory>
+    ) -> Result<bool, NoMemory>
         requires profile { profile_of trial.old.watcher.world
             ≡ (meaning program.now.declaration.now).profile }
         ensures profile { profile_of trial.new.watcher.world
@@ -468,22 +462,70 @@ impl<A: Allocator + Copy> RunSearch<A> {
         ensures rises { turns.old.spent ≤ turns.new.spent }
         ensures within { turns.new.spent ≤ turns.new.limit }
     {
-        let progress = self.step(
+        turns.are_within();
+        for _step in 0..trial.left {
+            match self.advance(program, trial, turns)? {
+                Progress::GoesOn => {}
+                Progress::Over => return Ok(false),
+                Progress::Broken => return Ok(true),
+            }
+        }
+        Ok(false)
+    }
+
+    /// Makes the next step of a run.
+    fn advance<D: Allocator>(
+        &mut self,
+        program: &DeclaredProgram<'_, D>,
+        trial: &mut Trial<A>,
+        turns: &mut Turns,
+    ) -> Result<Progress, NoMemory>
+        requires profile { profile_of trial.old.watcher.world
+            ≡ (meaning program.now.declaration.now).profile }
+        ensures profile { profile_of trial.new.watcher.world
+            ≡ (meaning program.now.declaration.now).profile }
+        ensures limit { turns.new.limit ≡ turns.old.limit }
+        ensures rises { turns.old.spent ≤ turns.new.spent }
+        ensures within { turns.new.spent ≤ turns.new.limit }
+    {
+        turns.are_within();
+        let glance = self.glance(&trial.watcher);
+        if !self.is_ready(program, trial, &glance)? {
+            return Ok(Progress::Over);
+        }
+        self.step(
+            program,
+            &mut trial.watcher,
+            &mut trial.run,
+            &trial.plan,
+            &glance,
+            turns,
+        )
+    }
+
+    /// Gives what the next step asks for, unless it was tried before. False where the run is over.
+    fn is_ready<D: Allocator>(
+        &mut self,
+        program: &DeclaredProgram<'_, D>,
+        trial: &mut Trial<A>,
+        glance: &Glance,
+    ) -> Result<bool, NoMemory>
+        requires profile { profile_of trial.old.watcher.world
+            ≡ (meaning program.now.declaration.now).profile }
+        ensures profile { profile_of trial.new.watcher.world
+            ≡ (meaning program.now.declaration.now).profile }
+    {
+        if trial.is_tried {
+            trial.is_tried = false;
+            return Ok(true);
+        }
+        self.prepare(
             program,
             &mut trial.watcher,
             &mut trial.run,
             &trial.plan,
             glance,
-            turns,
-        )?;
-        match progress {
-            Progress::GoesOn => Ok(None),
-            Progress::Over => Ok(Some(false)),
-            Progress::Broken => {
-                trial.glance = Some(*glance);
-                Ok(Some(true))
-            }
-        }
+        )
     }
 
     /// What steps were seen to do in all runs so far, apart from those that only break a rule once more;
@@ -609,14 +651,8 @@ impl<A: Allocator + Copy> RunSearch<A> {
             Look::Stored => target(word, cpu.pc),
             _ => Word::ZERO,
         };
-        let sight = if self.records {
-            Some(Sight::of(watcher, cpu.profile))
-        } else {
-            None
-        };
         Glance {
             at: cpu.pc,
-            sight,
             ac: cpu.ac,
             look,
             place,
@@ -639,26 +675,26 @@ impl<A: Allocator + Copy> RunSearch<A> {
         ensures rises { turns.old.spent ≤ turns.new.spent }
         ensures within { turns.new.spent ≤ turns.new.limit }
     {
+        if self.records {
+            self.sight = Some(Sight::of(watcher, program.declaration.profile()));
+        }
         let before = turns.spent();
         let progress = run.step(watcher, program.declaration, turns)?;
-        let is_made = turns.spent() != before && progress != Progress::Broken;
-        if plan.purpose == Purpose::Repeat || !is_made {
+        if plan.purpose == Purpose::Repeat {
             return Ok(progress);
         }
-        self.made(plan, glance);
+        if self.records && turns.spent() != before && progress != Progress::Broken {
+            self.record_step();
+        }
         if progress == Progress::GoesOn {
             self.note(watcher, run, plan, glance)?;
         }
         Ok(progress)
     }
 
-    /// A step was made.
-    fn made(&mut self, plan: &Plan<A>, glance: &Glance) {
-        self.clock = self.clock.saturating_add(1);
-        if plan.purpose == Purpose::Roam {
-            self.roamed = self.roamed.saturating_add(1);
-        }
-        if let Some(sight) = &glance.sight {
+    /// Records the step that was made, where that is wanted.
+    fn record_step(&mut self) {
+        if let Some(sight) = &self.sight {
             self.record.makes(sight);
         }
     }

@@ -1,7 +1,7 @@
 use Rattle.std.proofs.Common.{◌≡◌, ◌≤◌}
 use Rattle.declaration.specs.Kept.{meaning}
 use Rattle.peripherals.specs.World.{profile_of}
-use Rattle.run_search.proofs.search.RunSearch.go_on.Given as goal
+use Rattle.run_search.proofs.search.RunSearch.make_steps.Given as goal
 
 abbrev pub invariant-loop-step : goal.invariant-loop-step
 invariant-loop-step g l = record {

@@ -327,12 +327,20 @@ fn guess_with_reasons<R: Files + Print + Eprint>(
     Ok(status)
 }
 
+/// Whether a search is given up with this fault since it is stuck.
+fn is_stuck_fault(fault: &SourcedFault) -> bool {
+    match fault {
+        SourcedFault::Command(fault) => matches!(fault, Fault::Guess(GuessFault::Stuck(_))),
+        SourcedFault::Numbering(_) => false,
+    }
+}
+
 /// Whether the answer of a search is that it is stuck.
 fn is_stuck(answer: &Result<Status, SourcedFault>) -> bool {
-    matches!(
-        answer,
-        Ok(Status::Refused) | Err(SourcedFault::Command(Fault::Guess(GuessFault::Stuck(_))))
-    )
+    match answer {
+        Ok(status) => *status == Status::Refused,
+        Err(fault) => is_stuck_fault(fault),
+    }
 }
 
 /// Writes to a file what a search for a certificate had found when it was stuck.

@@ -22,6 +22,13 @@ impl<'a> Destination<'a> {
     }
 }
 
+/// Whether two names are those of one file, as far as the names tell: `./` in front says nothing.
+pub fn is_same_file(left: &str, right: &str) -> bool {
+    let left = left.strip_prefix("./").unwrap_or(left);
+    let right = right.strip_prefix("./").unwrap_or(right);
+    *left == *right
+}
+
 /// Whether the result goes to the value of `-o`.
 pub fn has_output(found: &ArgMatches<'_>) -> bool {
     found.get_str("output").is_some()
@@ -38,7 +45,7 @@ pub fn report_of<'a>(
         return Ok(None);
     };
     let result = out.name();
-    let taken = *name == *result || others.iter().any(|other| **other == *name);
+    let taken = is_same_file(name, result) || others.iter().any(|other| is_same_file(other, name));
     if name != "-" && taken {
         return Err(Refused::Misuse(Misuse::ReportIsTaken));
     }
@@ -55,7 +62,7 @@ pub fn destination_of<'a>(
         None => Destination::EmptiedFirst(found.get_str("OUT").unwrap_or("-")),
     };
     let out = destination.name();
-    if out != "-" && inputs.iter().any(|name| **name == *out) {
+    if out != "-" && inputs.iter().any(|name| is_same_file(name, out)) {
         return Err(Refused::Misuse(Misuse::OutputIsInput));
     }
     Ok(destination)

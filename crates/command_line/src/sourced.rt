@@ -2,7 +2,7 @@
 
 use crate::names::FileNames;
 use crate::operator::{WatchedSession, is_watched_with_operator, watched_session_of};
-use crate::outputs::{Destination, destination_of, has_output, report_of};
+use crate::outputs::{Destination, destination_of, has_output, is_same_file, report_of};
 use crate::refused::{Misuse, Refused};
 use crate::shown::shown_cells;
 use crate::sources::source_names;
@@ -233,7 +233,7 @@ fn result_of<'a>(
         None => Destination::MadeLast(found.get_str("output").unwrap_or("-")),
     };
     let name = out.name();
-    if name != "-" && inputs.iter().any(|input| **input == *name) {
+    if name != "-" && inputs.iter().any(|input| is_same_file(input, name)) {
         return Err(Refused::Misuse(Misuse::OutputIsInput));
     }
     Ok(out)
@@ -242,6 +242,16 @@ fn result_of<'a>(
 /// The last operand that a search needs: OUT, unless `-o` stands in its place.
 fn needed_out(found: &ArgMatches<'_>) -> Option<&'static str> {
     if has_output(found) { None } else { Some("OUT") }
+}
+
+/// The operands of a search: a declaration, if there is one, and OUT, unless `-o` names it. A single operand
+/// without `-o` might be meant for either, and is refused.
+fn search_operands<'a>(found: &ArgMatches<'a>) -> Result<Operands<'a>, Refused> {
+    let operands = operands_of(found, needed_out(found))?;
+    if operands.declaration.is_none() && !has_output(found) {
+        return Err(Refused::Misuse(Misuse::NoOutput));
+    }
+    Ok(operands)
 }
 
 /// The request for whether the program of a source keeps its declaration.
@@ -333,12 +343,12 @@ pub fn sourced_watch<'a>(alloc: Global, found: &ArgMatches<'a>) -> Result<Source
 
 /// The request for a certificate for a source.
 pub fn sourced_guess<'a>(alloc: Global, found: &ArgMatches<'a>) -> Result<Sourced<'a>, Refused> {
-    let operands = operands_of(found, needed_out(found))?;
+    let operands = search_operands(found)?;
     let declaration = operands.declaration;
     let sources = parts_of(alloc, found, &[declaration.unwrap_or("")])?;
     let out = search_output(alloc, found, operands.last, declaration, &sources)?;
     let report = report_of(found, &[declaration.unwrap_or("-")], &out)?;
-    if report.is_some_and(|name| sources.iter().any(|part| **part == *name)) {
+    if report.is_some_and(|name| sources.iter().any(|part| is_same_file(part, name))) {
         return Err(Refused::Misuse(Misuse::ReportIsTaken));
     }
     Ok(Sourced {
@@ -368,7 +378,7 @@ fn search_output<'a>(
 
 /// The request for a run that breaks the declaration of a source.
 pub fn sourced_refute<'a>(alloc: Global, found: &ArgMatches<'a>) -> Result<Sourced<'a>, Refused> {
-    let operands = operands_of(found, needed_out(found))?;
+    let operands = search_operands(found)?;
     let declaration = operands.declaration;
     let sources = parts_of(alloc, found, &[declaration.unwrap_or("")])?;
     let out = search_output(alloc, found, operands.last, declaration, &sources)?;

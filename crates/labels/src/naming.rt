@@ -9,7 +9,7 @@ ghost use Rattle.labels.specs.Programs.{IsSourceFault};
 use crate::address::{Cells, cells_of};
 use crate::fault::PlaceFault;
 use crate::placing::{
-    comment_of, cut_line, place, push_comment, return_of, said_of, without_return,
+    Cut, comment_of, cut_line, place, push_comment, return_of, said_of, without_return,
 };
 use crate::program::{NumberingFault, translation_of};
 use crate::within::{machine_of, reads_on, reads_on_after};
@@ -300,14 +300,19 @@ fn reads_back<A: Allocator + Copy, S: Allocator + Copy>(
     }
 }
 
-/// Adds a line with symbols, or in numbers where the one with symbols isn't read back as this one.
+/// Adds a line as somebody wrote it, if that is read back as this one; else with symbols; or in numbers where
+/// the one with symbols isn't read back either.
 fn push_line<A: Allocator + Copy, S: Allocator + Copy>(
     alloc: A,
     own: &SymbolTable<S>,
     tags: &[Tag],
     line: &[u8],
+    written: &[u8],
     text: &mut Vec<u8, A>,
 ) -> Result<(), AllocError> {
+    if reads_back(alloc, own, written, line)? {
+        return text.extend_from_slice(written);
+    }
     let mut named = Vec::new(alloc);
     name_line(own, tags, line, &mut named)?;
     if reads_back(alloc, own, &named, line)? {
@@ -317,36 +322,53 @@ fn push_line<A: Allocator + Copy, S: Allocator + Copy>(
     }
 }
 
+/// The first line of what is left of a text, and what is left behind it; no line is an empty one.
+fn cut_if<'t>(left: Option<&'t [u8]>) -> Cut<'t> {
+    match left {
+        Some(text) => cut_line(text),
+        None => Cut {
+            line: &[],
+            rest: None,
+        },
+    }
+}
+
 /// Adds the lines behind the first one, each behind a line feed.
 fn push_lines<A: Allocator + Copy, S: Allocator + Copy>(
     alloc: A,
     own: &SymbolTable<S>,
     tags: &[Tag],
     behind: Option<&[u8]>,
+    written_behind: Option<&[u8]>,
     text: &mut Vec<u8, A>,
 ) -> Result<(), AllocError> {
     let mut rest = behind;
+    let mut written = written_behind;
     while let Some(left) = rest {
         let cut = cut_line(left);
+        let kept = cut_if(written);
         text.push(b'\n')?;
-        push_line(alloc, own, tags, cut.line, text)?;
+        push_line(alloc, own, tags, cut.line, kept.line, text)?;
         rest = cut.rest;
+        written = kept.rest;
     }
     Ok(())
 }
 
-/// A declaration in numbers with symbols, line by line.
+/// A declaration in numbers with symbols, line by line; a line that was written with symbols stays so.
 fn name_lines<A: Allocator + Copy, S: Allocator + Copy>(
     alloc: A,
     parts: &[&[u8]],
     own: &SymbolTable<S>,
     numbers: &[u8],
+    written: &[u8],
 ) -> Result<Vec<u8, A>, AllocError> {
     let tags = tags_of(alloc, own, parts)?;
     let mut text = Vec::new(alloc);
     let cut = cut_line(numbers);
-    push_line(alloc, own, &tags, cut.line, &mut text)?;
-    push_lines(alloc, own, &tags, cut.rest, &mut text)?;
+    let kept = cut_line(written);
+    push_line(alloc, own, &tags, cut.line, kept.line, &mut text)?;
+    push_lines(alloc, own, &tags, cut.rest, kept.rest, &mut text)?;
     Ok(text)
 }
 
@@ -365,11 +387,12 @@ fn named_by<A: Allocator + Copy, S: Allocator + Copy>(
     parts: &[&[u8]],
     own: &SymbolTable<S>,
     numbers: &[u8],
+    written: &[u8],
 ) -> Result<Vec<u8, A>, AllocError>
     ensures { IfOk result (λ text. (text.items ≡ numbers.now) ⊎
         IsReadBack own.now.entries numbers.now text.items) }
 {
-    let text = name_lines(alloc, parts, own, numbers)?;
+    let text = name_lines(alloc, parts, own, numbers, written)?;
     if reads_back(alloc, own, &text, numbers)? {
         return Ok(text);
     }
@@ -381,7 +404,9 @@ fn named_by<A: Allocator + Copy, S: Allocator + Copy>(
 /// another one that an assignment gives a symbol as that symbol. Ranges are written by their two addresses.
 /// Comments stay, and what isn't four digits or a range of them, and what follows `returns`. A line that
 /// wouldn't be read back byte by byte stays in numbers, and so does the whole where it wouldn't, as where
-/// it has more than 16,384 bytes with symbols. Which names are taken is only tested.
+/// it has more than 16,384 bytes with symbols. A line of `written`, the text that somebody wrote and of which
+/// each line has its line in the numbers, stays as it is where it means that line. Which names are taken, and
+/// which lines stay, is only tested.
 ///
 /// # Errors
 ///
@@ -391,6 +416,7 @@ pub fn name_declaration<A: Allocator + Copy>(
     alloc: A,
     parts: &[&[u8]],
     numbers: &[u8],
+    written: &[u8],
 ) -> Result<Vec<u8, A>, NumberingFault>
     // What is given is placed as the numbers, byte by byte, by the symbols that the source means; or it is
     // the numbers.
@@ -399,7 +425,7 @@ pub fn name_declaration<A: Allocator + Copy>(
     ensures refused { IfErr result (IsSourceFault (machine numbers.now) (texts parts.now)) }
 {
     let translation = translation_of(alloc, parts, numbers)?;
-    match named_by(alloc, parts, translation.symbols(), numbers) {
+    match named_by(alloc, parts, translation.symbols(), numbers, written) {
         Ok(text) => Ok(text),
         Err(_) => Err(NumberingFault::NoMemory),
     }

@@ -20,7 +20,7 @@ pub use page::page_below;
 pub use pen::Form;
 use pen::Pen;
 pub use report::{Finding, Report};
-pub use source_notes::{SourceNotes, notes_of};
+pub use source_notes::{SourceNote, SourceNotes, notes_of};
 use std::alloc::{AllocError, Allocator};
 pub use style::{head_of, opening, stuck_opening};
 

@@ -5,6 +5,7 @@ use crate::known::write_fact;
 use crate::pen::Pen;
 use crate::report::{Finding, Kind, Report, before, claimed_of, unclaimed};
 use crate::routines::{write_exits, write_routine};
+use crate::source_notes::SourceNote;
 use certificate::{Certificate, Routine};
 use facts::Fact;
 use instruct::{Instruction, decode, name, refers_indirectly, target};
@@ -234,12 +235,21 @@ fn write_with_fact<A: Allocator, B: Allocator, D: Allocator, C: Allocator>(
     write_access(pen, report, &kind, &desk.routine, fact, at);
 }
 
-/// Writes what the source says of an address: in a page in a further column.
-fn write_note<A: Allocator>(pen: &mut Pen<A>, note: &[u8]) {
-    if !note.is_empty() {
-        pen.mark(b"<td>");
-        pen.note();
-        pen.say(note);
+/// Writes what the source says of an address, if it says something: in a page in a further column.
+fn write_note<A: Allocator>(pen: &mut Pen<A>, note: Option<SourceNote<'_>>) {
+    let Some(note) = note else {
+        return;
+    };
+    pen.mark(b"<td>");
+    pen.note();
+    if !note.place.is_empty() {
+        pen.say(note.place);
+        pen.put(b", ");
+    }
+    pen.numbered(b"line ", note.line);
+    if !note.text.is_empty() {
+        pen.put(b": ");
+        pen.say(note.text);
     }
 }
 

@@ -1,6 +1,6 @@
 //! What a report is made of.
 
-use crate::source_notes::SourceNotes;
+use crate::source_notes::{SourceNote, SourceNotes};
 use crate::variables::{AllHeld, Held, held_of};
 use bin_tape::Image;
 use certificate::{Certificate, Routine};
@@ -155,10 +155,10 @@ impl<A: Allocator, D: Allocator, C: Allocator> Report<'_, A, D, C> {
     }
 
     /// What the source says of an address; nothing where it isn't known.
-    pub(crate) fn note_at(&self, at: Word) -> &[u8] {
+    pub(crate) fn note_at(&self, at: Word) -> Option<SourceNote<'_>> {
         match self.notes {
             Some(notes) => notes.at(at),
-            None => b"",
+            None => None,
         }
     }
 

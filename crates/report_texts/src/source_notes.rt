@@ -8,29 +8,60 @@ use wordset::WordSet;
 /// Where the text of a source's line stands in a row of a listing.
 const TEXT: usize = 12;
 
-/// Where the note on an address stands in the text of all notes.
+/// Where bytes stand among those of all notes.
 #[derive(Clone, Copy)]
 struct Span {
     from: usize,
     to: usize,
 }
 
-/// A note for each address that a source gives a word: the label at or before it and how far behind that it
-/// is, the line's number, and its text.
+/// Where the note on an address stands.
+#[derive(Clone, Copy)]
+struct Entry {
+    place: Span,
+    /// The number of the line; 0 where there is no note.
+    line: usize,
+    text: Span,
+}
+
+/// What a source says of an address.
+#[derive(Clone, Copy)]
+pub struct SourceNote<'n> {
+    /// The label at or before the address, and how far behind that it is, such as `LOOP+2`; empty where there
+    /// is no label.
+    pub place: &'n [u8],
+    /// The number of the line, from 1, counted over all parts.
+    pub line: usize,
+    /// The line's text; empty where the word isn't the first one of its line.
+    pub text: &'n [u8],
+}
+
+/// A note for each address to which a source gives a word.
 #[derive(Drop)]
 pub struct SourceNotes<A: Allocator> {
-    text: Vec<u8, A>,
-    /// For each address the place of its note; an empty one where there is none.
-    spans: Vec<Span, A>,
+    bytes: Vec<u8, A>,
+    /// One for each address.
+    entries: Vec<Entry, A>,
 }
 
 impl<A: Allocator> SourceNotes<A> {
-    /// The note on an address, which is empty where the source gives it no word.
-    pub(crate) fn at(&self, at: Word) -> &[u8] {
-        match self.spans.get(at.index()) {
-            Some(span) => self.text.get(span.from..span.to).unwrap_or(b""),
-            None => b"",
+    /// The note on an address; none where the source gives it no word.
+    pub fn at(&self, at: Word) -> Option<SourceNote<'_>> {
+        let entry = self.entries.get(at.index())?;
+        if entry.line == 0 {
+            return None;
         }
+        Some(SourceNote {
+            place: self
+                .bytes
+                .get(entry.place.from..entry.place.to)
+                .unwrap_or(b""),
+            line: entry.line,
+            text: self
+                .bytes
+                .get(entry.text.from..entry.text.to)
+                .unwrap_or(b""),
+        })
     }
 }
 
@@ -88,19 +119,29 @@ impl<'l> Reached<'l> {
         }
     }
 
-    /// Writes the note on an address.
-    fn write<A: Allocator>(&self, pen: &mut Pen<A>, at: Word, text: &[u8]) {
+    /// Writes the last label, and how far behind it an address is.
+    fn write_place<A: Allocator>(&self, pen: &mut Pen<A>, at: Word) {
         if let Some(label_at) = self.label_at {
             if !self.label.is_empty() {
                 pen.put(self.label);
                 write_offset(pen, at.add(label_at.complement().increment()));
-                pen.put(b", ");
             }
         }
-        pen.numbered(b"line ", self.line);
-        if !text.is_empty() {
-            pen.put(b": ");
-            pen.put(text);
+    }
+
+    /// Writes the note on an address.
+    fn write<A: Allocator>(&self, pen: &mut Pen<A>, at: Word, text: &[u8]) -> Entry {
+        let from = pen.len();
+        self.write_place(pen, at);
+        let middle = pen.len();
+        pen.put(text);
+        Entry {
+            place: Span { from, to: middle },
+            line: self.line,
+            text: Span {
+                from: middle,
+                to: pen.len(),
+            },
         }
     }
 }
@@ -108,7 +149,7 @@ impl<'l> Reached<'l> {
 /// Adds what a row of a listing says: a row with a word and no text goes on with the line above it.
 fn add_row<'l, A: Allocator>(
     pen: &mut Pen<A>,
-    spans: &mut [Span],
+    entries: &mut [Entry],
     reached: &mut Reached<'l>,
     row: &'l [u8],
 ) {
@@ -121,23 +162,24 @@ fn add_row<'l, A: Allocator>(
     let Some(at) = address else {
         return;
     };
-    let from = pen.len();
-    reached.write(pen, at, text);
-    if let Some(span) = spans.get_mut(at.index()) {
-        *span = Span {
-            from,
-            to: pen.len(),
-        };
+    let found = reached.write(pen, at, text);
+    if let Some(entry) = entries.get_mut(at.index()) {
+        *entry = found;
     }
 }
 
 /// No note on any address.
-fn no_spans<A: Allocator>(alloc: A) -> Result<Vec<Span, A>, AllocError> {
-    let mut spans = Vec::new(alloc);
+fn no_entries<A: Allocator>(alloc: A) -> Result<Vec<Entry, A>, AllocError> {
+    let nowhere = Span { from: 0, to: 0 };
+    let mut entries = Vec::new(alloc);
     for _ in 0..4096 {
-        spans.push(Span { from: 0, to: 0 })?;
+        entries.push(Entry {
+            place: nowhere,
+            line: 0,
+            text: nowhere,
+        })?;
     }
-    Ok(spans)
+    Ok(entries)
 }
 
 /// The notes of a source whose listing `Program::write_listing` wrote; of several words for one address that
@@ -151,7 +193,7 @@ pub fn notes_of<A: Allocator + Copy>(
     listing: &[u8],
 ) -> Result<SourceNotes<A>, AllocError> {
     let mut pen = Pen::new(alloc, Form::Text, &WordSet::empty());
-    let mut spans = no_spans(alloc)?;
+    let mut entries = no_entries(alloc)?;
     let mut reached = Reached {
         line: 0,
         label: b"",
@@ -161,13 +203,13 @@ pub fn notes_of<A: Allocator + Copy>(
     for (end, byte) in listing.iter().enumerate() {
         if *byte == b'\n' {
             if let Some(row) = listing.get(start..end) {
-                add_row(&mut pen, &mut spans, &mut reached, row);
+                add_row(&mut pen, &mut entries, &mut reached, row);
             }
             start = end.saturating_add(1);
         }
     }
     Ok(SourceNotes {
-        text: pen.into_bytes()?,
-        spans,
+        bytes: pen.into_bytes()?,
+        entries,
     })
 }

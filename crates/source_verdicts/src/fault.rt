@@ -23,3 +23,13 @@ impl From<NumberingFault> for SourcedFault {
         SourcedFault::Numbering(fault)
     }
 }
+
+impl From<Fault> for SourcedFault {
+    ghost use Rattle.source_verdicts.specs.declared.fault.SourcedFault.TheVariants.{Command};
+
+    ghost from_gives = { λ fault result. result ≡ Command fault };
+
+    fn from(fault: Fault) -> SourcedFault {
+        SourcedFault::Command(fault)
+    }
+}

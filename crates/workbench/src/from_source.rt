@@ -2,8 +2,8 @@
 
 use crate::numbering::{Given, Prepared, Promise, lend, read_all, tell_refused};
 use crate::programs::{
-    SourceText, check_program, declare_program, explain_numbered, guess_program, refute_program,
-    report_numbered, verify_alone, verify_program, watch_program, watch_session_numbered,
+    SourceText, check_program, declare_program, explain_program, guess_program, refute_program,
+    report_numbered, verify_alone, verify_program, watch_program, watch_session_program,
     write_numbered,
 };
 use crate::spots::{Spot, behind_lines, line_counts, line_of, on_line, spot_of};
@@ -17,14 +17,6 @@ use source_verdicts::SourcedFault;
 use std::alloc::Global;
 use std::rt::Files;
 
-/// The answer of a command for tapes, as one for sources.
-fn of_command(answer: Result<Status, Fault>) -> Result<Status, SourcedFault> {
-    match answer {
-        Ok(status) => Ok(status),
-        Err(fault) => Err(SourcedFault::Command(fault)),
-    }
-}
-
 /// Does what is asked for with a program and its declaration, which are also there in numbers. What is said
 /// of a source and isn't proved by itself is said of the numbers.
 fn done_with_numbers<R: Files + Input + Print + Eprint>(
@@ -37,27 +29,27 @@ fn done_with_numbers<R: Files + Input + Print + Eprint>(
 ) -> Result<Status, SourcedFault> {
     match task {
         Task::Verify { save, options, .. } => match promise {
-            Promise::Proposed => of_command(verify_alone(rt, alloc, numbered, *save, options)),
+            Promise::Proposed => Ok(verify_alone(rt, alloc, numbered, *save, options)?),
             _ => verify_program(rt, alloc, source, numbered, *save, options),
         },
         Task::Check {
             certificate,
             explained: true,
-        } => of_command(explain_numbered(rt, alloc, numbered, certificate)),
+        } => Ok(explain_program(rt, alloc, source, numbered, certificate)?),
         Task::Check { certificate, .. } => check_program(rt, alloc, source, certificate),
         Task::Report {
             certificate,
             out,
             text,
             ..
-        } => of_command(report_numbered(rt, alloc, source, numbered, certificate, *out, *text)),
+        } => Ok(report_numbered(rt, alloc, source, numbered, certificate, *out, *text)?),
         Task::Watch {
             events,
             explained,
             show,
         } => watch_program(rt, alloc, source, events, *explained, show),
         Task::WatchSession(session) => {
-            of_command(watch_session_numbered(rt, alloc, numbered, session))
+            Ok(watch_session_program(rt, alloc, source, numbered, session)?)
         }
         Task::Guess {
             out,
@@ -68,7 +60,7 @@ fn done_with_numbers<R: Files + Input + Print + Eprint>(
         Task::Declare { out, options, .. } => {
             declare_program(rt, alloc, source, numbered, promise, *out, *options)
         }
-        Task::Place { out, .. } => of_command(write_numbered(rt, numbered, *out)),
+        Task::Place { out, .. } => Ok(write_numbered(rt, alloc, numbered, promise, *out)?),
     }
 }
 
@@ -79,14 +71,15 @@ fn done_with<R: Files + Input + Print + Eprint>(
     alloc: Global,
     parts: &[&[u8]],
     given: &Given,
-    task: &Task<'_>,
+    sourced: &Sourced<'_>,
 ) -> Result<Status, SourcedFault> {
     let numbered = number(alloc, parts, &given.text)?;
     let source = SourceText {
         parts,
         declaration: &given.text,
+        names: &sourced.sources,
     };
-    done_with_numbers(rt, alloc, &source, &numbered, given.promise, task)
+    done_with_numbers(rt, alloc, &source, &numbered, given.promise, &sourced.task)
 }
 
 /// The lines on a fault of a declaration within a source, of which the line stands there.
@@ -155,7 +148,7 @@ fn answer_given<R: Files + Input + Print + Eprint>(
     given: &Given,
 ) -> Result<Status, Fault> {
     let slices = lend(alloc, &given.parts)?;
-    match done_with(rt, alloc, &slices, given, &sourced.task) {
+    match done_with(rt, alloc, &slices, given, sourced) {
         Ok(status) => Ok(status),
         Err(SourcedFault::Numbering(fault)) => {
             Ok(tell_refused(rt, alloc, fault, sourced, &slices, &given.text))

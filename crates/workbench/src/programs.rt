@@ -9,15 +9,15 @@ use crate::files::{open_input, open_output};
 use crate::joined::{open_input_if, report_to, tell_to};
 use crate::numbering::Promise;
 use crate::saving::{save_answer, save_proposed};
-use crate::source_lines::{listing_of, with_source_lines};
+use crate::source_lines::{source_notes, with_source_lines};
 use command_line::{Destination, WatchedSession};
 use command_parts::inputs::{declaration_from, tape_from};
 use commands::completing::complete;
 use commands::declaring::{DeclareOptions, declare};
 use commands::explaining::explain;
 use commands::refuting::RefuteOptions;
-use commands::reporting::{Form, SourceNotes, notes_of, report};
-use commands::status::{DeviceFault, Fault, Status};
+use commands::reporting::{Form, report};
+use commands::status::{Fault, Status};
 use commands::verifying::{Answer, Lack, VerifyOptions, answer_status, verify_proposed};
 use commands::watched_session::watch_session;
 use fault_texts::push_omissions;
@@ -31,8 +31,9 @@ use source_verdicts::watching::watch_source;
 use std::alloc::Global;
 use std::io;
 use std::rt::Files;
-use streams::put;
 use streams::standard::{Reads, Writes};
+use streams::text::Lines;
+use streams::{ByteSink, put};
 use turns::GuessFault;
 use word12::Word;
 use wordset::WordSet;
@@ -44,20 +45,29 @@ pub struct SourceText<'a> {
     pub parts: &'a [&'a [u8]],
     /// The declaration, which may have symbols of the source.
     pub declaration: &'a [u8],
+    /// The names of the files of the parts.
+    pub names: &'a [&'a str],
+}
+
+/// Bytes in memory as an input.
+fn input_of(bytes: &[u8]) -> Reads<&[u8]>
+    ensures { result.failed ≡ false }
+{
+    Reads::new(bytes)
 }
 
 /// A tape in memory.
 fn frames_of(numbered: &Numbered<Global>) -> Reads<&[u8]>
     ensures { result.failed ≡ false }
 {
-    Reads::new(numbered.tape.as_slice())
+    input_of(&numbered.tape)
 }
 
 /// A declaration in memory.
 fn promise_of(numbered: &Numbered<Global>) -> Reads<&[u8]>
     ensures { result.failed ≡ false }
 {
-    Reads::new(numbered.declaration.as_slice())
+    input_of(&numbered.declaration)
 }
 
 /// The lines of a search that is stuck at this address, with what the program shows by itself before them,
@@ -97,7 +107,7 @@ fn tell_answer<R: Files + Print>(
         _ => report.extend_from_slice(lines)?,
     }
     if explained {
-        report = with_source_lines(alloc, given.parts, given.declaration, &report)?;
+        report = with_source_lines(alloc, given, &report)?;
     }
     put(&mut Writes::new(io::writer(rt)), &report)?;
     save_answer(rt, alloc, save, answer)?;
@@ -124,10 +134,7 @@ pub fn verify_program<R: Files + Print>(
         &mut lines,
     )?;
     let explained = options.search.explained;
-    match tell_answer(rt, alloc, given, numbered, &answer, &text, save, explained) {
-        Ok(status) => Ok(status),
-        Err(fault) => Err(SourcedFault::Command(fault)),
-    }
+    Ok(tell_answer(rt, alloc, given, numbered, &answer, &text, save, explained)?)
 }
 
 /// Says on standard error that the declaration of an answer is proposed.
@@ -161,37 +168,42 @@ pub fn check_program<R: Files + Input + Print>(
     given: &SourceText<'_>,
     certificate: &str,
 ) -> Result<Status, SourcedFault> {
-    let mut claims = match open_input(rt, certificate) {
-        Ok(claims) => claims,
-        Err(fault) => return Err(SourcedFault::Command(fault)),
-    };
+    let mut claims = open_input(rt, certificate)?;
     let mut out = Writes::new(io::writer(rt));
     check_source(alloc, given.parts, given.declaration, &mut claims, &mut out)
 }
 
-/// Checks the certificate of a file, and says why the verdict is no.
-#[inline(never)]
-pub fn explain_numbered<R: Files + Input + Print>(
+/// Writes to standard output what is told, with what the source says of it where that is asked for.
+fn tell_sourced<R: Print>(
     rt: &R,
     alloc: Global,
+    given: &SourceText<'_>,
+    told: &[u8],
+) -> Result<(), Fault> {
+    let lines = with_source_lines(alloc, given, told)?;
+    Ok(put(&mut Writes::new(io::writer(rt)), &lines)?)
+}
+
+/// Checks the certificate of a file, and says why the verdict is no.
+#[inline(never)]
+pub fn explain_program<R: Files + Input + Print>(
+    rt: &R,
+    alloc: Global,
+    given: &SourceText<'_>,
     numbered: &Numbered<Global>,
     certificate: &str,
 ) -> Result<Status, Fault> {
     let mut claims = open_input(rt, certificate)?;
-    let mut out = Writes::new(io::writer(rt));
-    explain(
+    let mut told = Vec::new(alloc);
+    let status = explain(
         alloc,
         &mut frames_of(numbered),
         &mut promise_of(numbered),
         &mut claims,
-        &mut out,
-    )
-}
-
-/// What a source says of addresses.
-fn source_notes(alloc: Global, given: &SourceText<'_>) -> Result<SourceNotes<Global>, Fault> {
-    let listing = listing_of(alloc, given.parts, given.declaration)?;
-    Ok(notes_of(alloc, &listing)?)
+        &mut Writes::new(&mut told),
+    )?;
+    tell_sourced(rt, alloc, given, &told)?;
+    Ok(status)
 }
 
 /// Writes what the certificate of a file says.
@@ -220,6 +232,30 @@ pub fn report_numbered<R: Files + Input + Print>(
     )
 }
 
+/// Watches a run by the events of a file, and writes what is told of it to a sink.
+fn watch_to<R: Files + Input, W: ByteSink>(
+    rt: &R,
+    alloc: Global,
+    given: &SourceText<'_>,
+    events: &str,
+    explained: bool,
+    show: &WordSet,
+    out: &mut W,
+) -> Result<Status, SourcedFault>
+    requires writable { W.mark out.old ≡ false }
+{
+    let mut list = open_input(rt, events)?;
+    watch_source(
+        alloc,
+        given.parts,
+        given.declaration,
+        &mut list,
+        explained,
+        show,
+        out,
+    )
+}
+
 /// Watches a run by the events of a file.
 #[inline(never)]
 pub fn watch_program<R: Files + Input + Print>(
@@ -230,33 +266,27 @@ pub fn watch_program<R: Files + Input + Print>(
     explained: bool,
     show: &WordSet,
 ) -> Result<Status, SourcedFault> {
-    let mut list = match open_input(rt, events) {
-        Ok(list) => list,
-        Err(fault) => return Err(SourcedFault::Command(fault)),
-    };
-    let mut out = Writes::new(io::writer(rt));
-    watch_source(
-        alloc,
-        given.parts,
-        given.declaration,
-        &mut list,
-        explained,
-        show,
-        &mut out,
-    )
+    if !explained {
+        let mut out = Writes::new(io::writer(rt));
+        return watch_to(rt, alloc, given, events, false, show, &mut out);
+    }
+    let mut told = Vec::new(alloc);
+    let mut lines = Writes::new(&mut told);
+    let status = watch_to(rt, alloc, given, events, true, show, &mut lines)?;
+    tell_sourced(rt, alloc, given, &told)?;
+    Ok(status)
 }
 
-/// Watches a run with an operator.
-#[inline(never)]
-pub fn watch_session_numbered<R: Files + Input + Print>(
+/// Watches a run with an operator, and gives what is told of it.
+fn watch_session_lines<R: Files + Input>(
     rt: &R,
     alloc: Global,
     numbered: &Numbered<Global>,
     session: &WatchedSession<'_>,
+    told: &mut Vec<u8>,
 ) -> Result<Status, Fault> {
     let mut reader = open_input_if(rt, session.reader)?;
     let mut keys = open_input_if(rt, session.keys)?;
-    let mut out = Writes::new(io::writer(rt));
     watch_session(
         alloc,
         &mut frames_of(numbered),
@@ -265,8 +295,27 @@ pub fn watch_session_numbered<R: Files + Input + Print>(
         &mut keys,
         session.options,
         session.explained,
-        &mut out,
+        &mut Writes::new(told),
     )
+}
+
+/// Watches a run with an operator.
+#[inline(never)]
+pub fn watch_session_program<R: Files + Input + Print>(
+    rt: &R,
+    alloc: Global,
+    given: &SourceText<'_>,
+    numbered: &Numbered<Global>,
+    session: &WatchedSession<'_>,
+) -> Result<Status, Fault> {
+    let mut told = Vec::new(alloc);
+    let status = watch_session_lines(rt, alloc, numbered, session, &mut told)?;
+    if session.explained {
+        tell_sourced(rt, alloc, given, &told)?;
+    } else {
+        put(&mut Writes::new(io::writer(rt)), &told)?;
+    }
+    Ok(status)
 }
 
 /// Guesses a certificate.
@@ -277,10 +326,7 @@ fn guess_alone<R: Files + Print>(
     given: &SourceText<'_>,
     out: Destination<'_>,
 ) -> Result<Status, SourcedFault> {
-    let mut certificate = match open_output(rt, out) {
-        Ok(certificate) => certificate,
-        Err(fault) => return Err(SourcedFault::Command(fault)),
-    };
+    let mut certificate = open_output(rt, out)?;
     guess_source(alloc, given.parts, given.declaration, &mut certificate)
 }
 
@@ -292,10 +338,7 @@ fn guess_with_lines<R: Files + Print>(
     out: Destination<'_>,
     lines: &mut Vec<u8>,
 ) -> Result<Status, SourcedFault> {
-    let mut certificate = match open_output(rt, out) {
-        Ok(certificate) => certificate,
-        Err(fault) => return Err(SourcedFault::Command(fault)),
-    };
+    let mut certificate = open_output(rt, out)?;
     explain_source(
         alloc,
         given.parts,
@@ -317,12 +360,9 @@ fn guess_with_reasons<R: Files + Print + Eprint>(
     let mut lines = Vec::new(alloc);
     let status = guess_with_lines(rt, alloc, given, out, &mut lines)?;
     if status == Status::Refused {
-        match with_reasons(alloc, numbered, &lines, stuck_address(&lines)) {
-            Ok(told) => {
-                let _ = put(&mut tell_to(rt), &told);
-            }
-            Err(fault) => return Err(SourcedFault::Command(fault)),
-        }
+        let told = with_reasons(alloc, numbered, &lines, stuck_address(&lines))?;
+        let text = with_source_lines(alloc, given, &told)?;
+        let _ = put(&mut tell_to(rt), &text);
     }
     Ok(status)
 }
@@ -381,11 +421,31 @@ pub fn guess_program<R: Files + Print + Eprint>(
         return answer;
     };
     if is_stuck(&answer) {
-        if let Err(fault) = report_stuck_program(rt, alloc, given, numbered, name) {
-            return Err(SourcedFault::Command(fault));
-        }
+        report_stuck_program(rt, alloc, given, numbered, name)?;
     }
     answer
+}
+
+/// Looks for a run that breaks the declaration, and writes what is told of it to a sink.
+fn refute_to<R: Files + Print, W: ByteSink>(
+    rt: &R,
+    alloc: Global,
+    given: &SourceText<'_>,
+    out: Destination<'_>,
+    options: RefuteOptions,
+    report: &mut W,
+) -> Result<Status, SourcedFault>
+    requires reportable { W.mark report.old ≡ false }
+{
+    let mut events = open_output(rt, out)?;
+    refute_source(
+        alloc,
+        given.parts,
+        given.declaration,
+        options,
+        &mut events,
+        report,
+    )
 }
 
 /// Looks for a run that breaks the declaration.
@@ -397,39 +457,88 @@ pub fn refute_program<R: Files + Print + Eprint>(
     out: Destination<'_>,
     options: RefuteOptions,
 ) -> Result<Status, SourcedFault> {
-    let mut events = match open_output(rt, out) {
-        Ok(events) => events,
-        Err(fault) => return Err(SourcedFault::Command(fault)),
-    };
     let mut report = report_to(rt, out.name() == "-");
-    refute_source(
-        alloc,
-        given.parts,
-        given.declaration,
-        options,
-        &mut events,
-        &mut report,
-    )
+    if !options.explained {
+        return refute_to(rt, alloc, given, out, options, &mut report);
+    }
+    let mut told = Vec::new(alloc);
+    let mut lines = Writes::new(&mut told);
+    let status = refute_to(rt, alloc, given, out, options, &mut lines)?;
+    let text = with_source_lines(alloc, given, &told)?;
+    match put(&mut report, &text) {
+        Ok(()) => Ok(status),
+        Err(failed) => Err(SourcedFault::Command(Fault::from(failed))),
+    }
 }
 
-/// Adds a declaration that is proposed, or that in numbers completed.
+/// Adds a declaration that is proposed, or these numbers completed.
 fn push_proposal(
     alloc: Global,
     numbered: &Numbered<Global>,
-    promise: Promise,
+    numbers: Option<&[u8]>,
     options: DeclareOptions,
     found: &mut Vec<u8>,
 ) -> Result<Status, Fault> {
     let mut frames = frames_of(numbered);
     let mut text = Writes::new(found);
-    if promise == Promise::Proposed {
-        return declare(alloc, &mut frames, options, &mut text);
+    match numbers {
+        None => declare(alloc, &mut frames, options, &mut text),
+        Some(numbers) => {
+            let mut promised = input_of(numbers);
+            complete(alloc, &mut frames, &mut promised, options.reads, &mut text)
+        }
     }
-    let mut promised = promise_of(numbered);
-    complete(alloc, &mut frames, &mut promised, options.reads, &mut text)
 }
 
-/// Writes a declaration that is proposed, or that of the file completed, with the symbols of the source.
+/// A text without its empty lines.
+fn without_empty_lines(alloc: Global, text: &[u8]) -> Result<Vec<u8>, Fault> {
+    let mut kept = Vec::new(alloc);
+    for line in Lines::of(text) {
+        if !line.is_empty() {
+            kept.extend_from_slice(line)?;
+            kept.push(b'\n')?;
+        }
+    }
+    Ok(kept)
+}
+
+/// The text of a declaration as it is written for people: that of lines within a source has an empty line for
+/// each other line of the source, and those are left out.
+fn as_written(alloc: Global, text: &[u8], promise: Promise) -> Result<Vec<u8>, Fault> {
+    if promise == Promise::Within {
+        return without_empty_lines(alloc, text);
+    }
+    let mut whole = Vec::new(alloc);
+    whole.extend_from_slice(text)?;
+    Ok(whole)
+}
+
+/// A declaration that is proposed for a program, or its own completed, with the symbols of the source.
+fn declared_with_symbols(
+    alloc: Global,
+    given: &SourceText<'_>,
+    numbered: &Numbered<Global>,
+    promise: Promise,
+    options: DeclareOptions,
+    found: &mut Vec<u8>,
+) -> Result<Status, SourcedFault> {
+    let written = as_written(alloc, given.declaration, promise)?;
+    let numbers = as_written(alloc, &numbered.declaration, promise)?;
+    let is_given = promise != Promise::Proposed;
+    let asked = if is_given {
+        Some(numbers.as_slice())
+    } else {
+        None
+    };
+    let mut text = Vec::new(alloc);
+    let status = push_proposal(alloc, numbered, asked, options, &mut text)?;
+    let kept = if is_given { written.as_slice() } else { b"" };
+    *found = name_declaration(alloc, given.parts, &text, kept)?;
+    Ok(status)
+}
+
+/// Writes a declaration that is proposed, or that of the file or of the source completed, with the symbols of the
+/// source.
 #[inline(never)]
 pub fn declare_program<R: Files + Print>(
     rt: &R,
@@ -440,19 +549,12 @@ pub fn declare_program<R: Files + Print>(
     out: Destination<'_>,
     options: DeclareOptions,
 ) -> Result<Status, SourcedFault> {
-    let mut text = match open_output(rt, out) {
-        Ok(text) => text,
-        Err(fault) => return Err(SourcedFault::Command(fault)),
-    };
+    let mut text = open_output(rt, out)?;
     let mut found = Vec::new(alloc);
-    let status = match push_proposal(alloc, numbered, promise, options, &mut found) {
-        Ok(status) => status,
-        Err(fault) => return Err(SourcedFault::Command(fault)),
-    };
-    let named = name_declaration(alloc, given.parts, &found)?;
-    match put(&mut text, &named) {
+    let status = declared_with_symbols(alloc, given, numbered, promise, options, &mut found)?;
+    match put(&mut text, &found) {
         Ok(()) => Ok(status),
-        Err(_) => Err(SourcedFault::Command(Fault::Device(DeviceFault::Write))),
+        Err(failed) => Err(SourcedFault::Command(Fault::from(failed))),
     }
 }
 
@@ -460,10 +562,15 @@ pub fn declare_program<R: Files + Print>(
 #[inline(never)]
 pub fn write_numbered<R: Files + Print>(
     rt: &R,
+    alloc: Global,
     numbered: &Numbered<Global>,
+    promise: Promise,
     out: Destination<'_>,
 ) -> Result<Status, Fault> {
     let mut text = open_output(rt, out)?;
-    put(&mut text, &numbered.declaration)?;
+    put(
+        &mut text,
+        &as_written(alloc, &numbered.declaration, promise)?,
+    )?;
     Ok(Status::Done)
 }

@@ -65,7 +65,8 @@ IsGuessSourceFault parts text (Numbering fault) = IsNumberingFault parts text fa
 IsGuessSourceFault parts text (Command fault) =
     IsProgramFault parts text fault ⊎ (IsGoodProgram parts text × IsSearchFault fault)
 
--- The fault is that of the source or of its declaration: not that of another input, of a device or of memory.
+-- The fault is that of the source or of its declaration, or memory was refused while these were put in numbers: it is not that of
+-- another input or of a device.
 abbrev pub is_fault_of_program : SourcedFault → Bool
 is_fault_of_program (Numbering fault) = true
 is_fault_of_program (Command (Declared fault)) = true

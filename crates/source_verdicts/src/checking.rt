@@ -42,8 +42,8 @@ pub fn check_source<A: Allocator + Copy, C: ByteSource, W: ByteSink>(
         (λ line. IsSourceCheckedSo (texts parts.now) declaration.now
         (C.remaining certificate.old) line status)
         (W.taken out.old) (W.taken out.new)) }
-    // A fault is that of the source, or else of the declaration, or else of the certificate's text, or else
-    // of a write or of memory.
+    // A fault is that of the source, or else of the declaration, or else of the certificate's text; or a
+    // write failed, or memory was refused.
     ensures faults { IfErr result (IsCheckSourceFault (texts parts.now) declaration.now
         (input (C.mark certificate.new) (C.remaining certificate.old)
         (C.remaining certificate.new))) }

@@ -45,8 +45,8 @@ pub fn watch_source<A: Allocator + Copy, E: ByteSource, W: ByteSink>(
         (λ told. IsSourceWatchedSo (texts parts.now) declaration.now
         (E.remaining list.old) explained (words show.now) told status)
         (W.taken out.old) (W.taken out.new)) }
-    // A fault is that of the source, or else of the declaration, or else of the text of events, or else of
-    // a write or of memory.
+    // A fault is that of the source, or else of the declaration, or else of the text of events; or a write
+    // failed, or memory was refused.
     ensures faults { IfErr result (IsWatchSourceFault (texts parts.now) declaration.now
         (input (E.mark list.new) (E.remaining list.old) (E.remaining list.new))) }
     // Where a write failed, a front of that went out,

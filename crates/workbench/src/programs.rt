@@ -532,7 +532,7 @@ fn declared_with_symbols(
     };
     let mut text = Vec::new(alloc);
     let status = push_proposal(alloc, numbered, asked, options, &mut text)?;
-    let kept = if is_given { written.as_slice() } else { b"" };
+    let kept: &[u8] = if is_given { &written } else { &[] };
     *found = name_declaration(alloc, given.parts, &text, kept)?;
     Ok(status)
 }

@@ -91,6 +91,8 @@ pub enum Task<'a> {
         options: DeclareOptions,
         /// Whether it is said what is wrong with an input that is refused.
         explained: bool,
+        /// Whether a start or a machine is named.
+        asked: bool,
     },
     /// To write the declaration in numbers.
     Place {
@@ -408,6 +410,7 @@ pub fn sourced_declare<'a>(alloc: Global, found: &ArgMatches<'a>) -> Result<Sour
             out: search_output(alloc, found, operands.last, from, &sources)?,
             options: declare_options(found)?,
             explained: found.get_flag("why"),
+            asked: is_start_named(found),
         },
         sources,
         declaration: from,

@@ -116,8 +116,7 @@ struct Promised {
 /// Whether a declaration is proposed where no file is named, by what the source says of one.
 fn is_proposed(task: &Task<'_>, within: &[u8]) -> bool {
     match task {
-        Task::Verify { .. } => !says_something(within),
-        Task::Declare { .. } => true,
+        Task::Verify { .. } | Task::Declare { .. } => !says_something(within),
         _ => false,
     }
 }
@@ -262,7 +261,9 @@ pub fn tell_refused<R: Eprint>(
 /// Whether a start or a machine is named beside a declaration within the source.
 fn is_asked_twice(task: &Task<'_>, promise: Promise) -> bool {
     match task {
-        Task::Verify { asked, .. } => *asked && promise == Promise::Within,
+        Task::Verify { asked, .. } | Task::Declare { asked, .. } => {
+            *asked && promise == Promise::Within
+        }
         _ => false,
     }
 }

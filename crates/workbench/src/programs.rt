@@ -496,7 +496,7 @@ fn without_empty_lines(alloc: Global, text: &[u8]) -> Result<Vec<u8>, Fault> {
     for line in Lines::of(text) {
         if !line.is_empty() {
             kept.extend_from_slice(line)?;
-            kept.push(b'\n')?;
+            kept.extend_from_slice(b"\n")?;
         }
     }
     Ok(kept)

@@ -140,6 +140,14 @@ fn push_instruction(
     text.extend_from_slice(note.text)
 }
 
+/// The front of each line that scripts read: it stays as it is.
+const FIXED: [&[u8]; 5] = [b"yes: ", b"no: ", b"not known: ", b"broken: ", b"pdp8: "];
+
+/// Whether a line is one that scripts read.
+fn is_fixed(line: &[u8], fronts: &[&[u8]]) -> bool {
+    fronts.iter().any(|front| line.starts_with(front))
+}
+
 /// What is told to people, with the source's line below each line that names an instruction, and what the
 /// source calls them behind other addresses.
 pub fn with_source_lines(
@@ -153,9 +161,10 @@ pub fn with_source_lines(
     for line in Lines::of(told) {
         match instruction_address(line) {
             Some(at) => push_instruction(&mut text, line, notes.at(at), given.names, &counts)?,
+            None if is_fixed(line, &FIXED) => text.extend_from_slice(line)?,
             None => push_named(&mut text, line, &notes)?,
         }
-        text.push(b'\n')?;
+        text.extend_from_slice(b"\n")?;
     }
     Ok(text)
 }

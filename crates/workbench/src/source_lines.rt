@@ -140,6 +140,20 @@ fn push_instruction(
     text.extend_from_slice(note.text)
 }
 
+/// Adds a line with what the source says of it.
+fn push_sourced(
+    text: &mut Vec<u8>,
+    line: &[u8],
+    notes: &SourceNotes<Global>,
+    names: &[&str],
+    counts: &[usize],
+) -> Result<(), AllocError> {
+    match instruction_address(line) {
+        Some(at) => push_instruction(text, line, notes.at(at), names, counts),
+        None => push_named(text, line, notes),
+    }
+}
+
 /// The front of each line that scripts read: it stays as it is.
 const FIXED: [&[u8]; 5] = [b"yes: ", b"no: ", b"not known: ", b"broken: ", b"pdp8: "];
 
@@ -159,10 +173,10 @@ pub fn with_source_lines(
     let counts = line_counts(alloc, given.parts)?;
     let mut text = Vec::new(alloc);
     for line in Lines::of(told) {
-        match instruction_address(line) {
-            Some(at) => push_instruction(&mut text, line, notes.at(at), given.names, &counts)?,
-            None if is_fixed(line, &FIXED) => text.extend_from_slice(line)?,
-            None => push_named(&mut text, line, &notes)?,
+        if is_fixed(line, &FIXED) {
+            text.extend_from_slice(line)?;
+        } else {
+            push_sourced(&mut text, line, &notes, given.names, &counts)?;
         }
         text.extend_from_slice(b"\n")?;
     }

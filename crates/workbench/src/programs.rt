@@ -32,7 +32,6 @@ use std::alloc::Global;
 use std::io;
 use std::rt::Files;
 use streams::standard::{Reads, Writes};
-use streams::text::Lines;
 use streams::{ByteSink, put};
 use turns::GuessFault;
 use word12::Word;
@@ -493,7 +492,7 @@ fn push_proposal(
 /// A text without its empty lines.
 fn without_empty_lines(alloc: Global, text: &[u8]) -> Result<Vec<u8>, Fault> {
     let mut kept = Vec::new(alloc);
-    for line in Lines::of(text) {
+    for line in text.split(|byte| *byte == b'\n') {
         if !line.is_empty() {
             kept.extend_from_slice(line)?;
             kept.extend_from_slice(b"\n")?;

@@ -9,7 +9,6 @@ use labels::machine_of;
 use pal_asm::{AssembleFault, assemble};
 use std::alloc::{AllocError, Global};
 use streams::standard::Writes;
-use streams::text::Lines;
 use word12::Word;
 
 /// Behind each of these words four digits are an address.
@@ -172,7 +171,7 @@ pub fn with_source_lines(
     let notes = source_notes(alloc, given)?;
     let counts = line_counts(alloc, given.parts)?;
     let mut text = Vec::new(alloc);
-    for line in Lines::of(told) {
+    for line in told.strip_suffix(b"\n").unwrap_or(told).split(|byte| *byte == b'\n') {
         if is_fixed(line, &FIXED) {
             text.extend_from_slice(line)?;
         } else {

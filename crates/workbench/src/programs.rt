@@ -489,10 +489,11 @@ fn push_proposal(
     }
 }
 
-/// A text without its empty lines.
+/// A text without its empty lines, and without blanks around the others.
 fn without_empty_lines(alloc: Global, text: &[u8]) -> Result<Vec<u8>, Fault> {
     let mut kept = Vec::new(alloc);
     for line in text.split(|byte| *byte == b'\n') {
+        let line = line.trim_ascii();
         if !line.is_empty() {
             kept.extend_from_slice(line)?;
             kept.extend_from_slice(b"\n")?;

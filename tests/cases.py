@@ -235,6 +235,8 @@ def pages():
 def main():
     if len(sys.argv) < 2:
         sys.exit(__doc__)
+    if not os.access(sys.argv[1], os.X_OK):
+        sys.exit(f'{sys.argv[1]} is no program that can be run: make run builds it')
     with tempfile.TemporaryDirectory() as program, concurrent.futures.ThreadPoolExecutor(os.cpu_count()) as pool:
         os.symlink(os.path.abspath(sys.argv[1]), os.path.join(program, 'pdp8'))
         done = list(pool.map(lambda path: run_page(path, program), sys.argv[2:] or pages()))

@@ -13,7 +13,7 @@ DIST = pdp8-workbench-$(VERSION)
 
 # Says what there is.
 help:
-	@echo "make try       the first look: builds pdp8 without any proof and runs it on a stored tape (a minute)"
+	@echo "make try       the first look: runs a stored tape on the machine, built without any proof (half a minute)"
 	@echo "make run       proves pdp8 and all below it, builds it and runs it on that tape (see README.md for times)"
 	@echo "make test      the gate: every proof from nothing, wrong edits, tests, all cases"
 	@echo "make cases     the cases of tests/cases/, README.md and docs/ against the program that is built"
@@ -25,11 +25,11 @@ help:
 	@echo "make bench     times the program itself, beside others where they are installed"
 	@echo "make fmt       lays out the sources"
 
-# Builds and runs the program without any proof.
+# Builds the crates of the machine alone, without any proof, and runs a tape that types HELLO.
 try:
-	@echo "Building pdp8 without any proof. This takes a minute."
-	cd crates/pdp8 && rt try < stdin
-	@echo "Nothing was proved. make run proves the program before it runs it."
+	@echo "Building the machine without any proof. This takes half a minute."
+	cd crates/first_look && rt try < stdin
+	@echo "The tape typed HELLO, in octal and with channel 8 set. Nothing was proved: make run proves and builds the whole program."
 
 # Proves the program and all crates below it, side by side, builds it, and runs it on the stored tape.
 run:

@@ -171,7 +171,11 @@ pub fn with_source_lines(
     let notes = source_notes(alloc, given)?;
     let counts = line_counts(alloc, given.parts)?;
     let mut text = Vec::new(alloc);
-    for line in told.strip_suffix(b"\n").unwrap_or(told).split(|byte| *byte == b'\n') {
+    for line in told
+        .strip_suffix(b"\n")
+        .unwrap_or(told)
+        .split(|byte| *byte == b'\n')
+    {
         if is_fixed(line, &FIXED) {
             text.extend_from_slice(line)?;
         } else {

@@ -15,7 +15,7 @@ use Rattle.certificate.specs.Order.{any, is_end, is_detail, details_of_last, Are
 use Rattle.certificate.specs.Gathered.{gathered}
 use Rattle.certificate.specs.Found.{newest_first, from_place, first_with_details}
 use Rattle.certificate.proofs.TextLemmas.{fact_ended}
-use Rattle.certificate.proofs.TextOrderLemmas.{body_of}
+use Rattle.certificate.proofs.GatherLemmas.{body_of}
 use Rattle.certificate.proofs.FormLemmas.{gathered_formed}
 use Rattle.certificate.proofs.MakerLemmas.{kept_body}
 use Rattle.certificate.proofs.SpelledLemmas.{front_after, front_more}

@@ -26,12 +26,10 @@ heads_more (l ∷ ls) ms = pick (is_detail l) (heads (ls ++ ms)) (heads ls) (hea
     pick true xs ys zs e = e
     pick false xs ys zs e = ap (λ (x : List Line). l ∷ x) e
 
-starts_more : (n m : ℕ) (ls : List Line) (l : Line) → m ≡ n + length ls →
-    starts n (ls ++ l ∷ []) ≡ starts n ls ++ (if is_detail l then [] else m ∷ [])
-starts_more n m [] l e = let z : n ≡ m = omega arith in rw z refl
-starts_more n m (k ∷ ls) l e =
-    pick (is_detail k) (starts (n + 1) (ls ++ l ∷ [])) (starts (n + 1) ls) (if is_detail l then [] else m ∷ [])
-    (starts_more (n + 1) m ls l (omega arith))
+pub starts_both : (n m : ℕ) (ls ms : List Line) → m ≡ n + length ls → starts n (ls ++ ms) ≡ starts n ls ++ starts m ms
+starts_both n m [] ms e = let z : n ≡ m = omega arith in rw z refl
+starts_both n m (k ∷ ls) ms e =
+    pick (is_detail k) (starts (n + 1) (ls ++ ms)) (starts (n + 1) ls) (starts m ms) (starts_both (n + 1) m ls ms (omega arith))
   where
     pick : (b : Bool) (xs ys zs : List ℕ) → xs ≡ ys ++ zs → (if b then xs else n ∷ xs) ≡ (if b then ys else n ∷ ys) ++ zs
     pick true xs ys zs e = e
@@ -77,7 +75,7 @@ detail_kept k new l before d e p s h = record {
   lines = lines_more k new l before e h;
   indexed = record {
     places = p ∙ (h.indexed.places ∙ rw (e, heads_more (all_said k) (l ∷ []), d, append-nil) refl);
-    starts = s ∙ (h.indexed.starts ∙ rw (e, starts_more 0 (length (all_said k)) (all_said k) l (omega arith), d, append-nil) refl);
+    starts = s ∙ (h.indexed.starts ∙ rw (e, starts_both 0 (length (all_said k)) (all_said k) (l ∷ []) (omega arith), d, append-nil) refl);
   };
 }
 
@@ -89,7 +87,7 @@ head_kept k new l before d e p s h = record {
   lines = lines_more k new l before e h;
   indexed = record {
     places = p ∙ rw (h.indexed.places, e, heads_more (all_said k) (l ∷ []), d) (sym (map_push place (heads (all_said k)) l));
-    starts = s ∙ rw (h.indexed.starts, e, starts_more 0 (length (all_said k)) (all_said k) l (omega arith), d) refl;
+    starts = s ∙ rw (h.indexed.starts, e, starts_both 0 (length (all_said k)) (all_said k) (l ∷ []) (omega arith), d) refl;
   };
 }
 

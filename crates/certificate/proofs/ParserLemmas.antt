@@ -354,7 +354,7 @@ pub whole_parsed : {A : Type 0} (kept : KeptLines A) (text line bytes : List ℕ
 whole_parsed kept text line bytes o p long v same is ended w h short none few =
     record {
       found = all ∙ (sym (ap (front v) lines) ∙
-          (sym (text_of_gathered v (all_said kept ++ End ∷ []) (rw lines order) (rw lines has_end)) ∙ ap spelled (gathered_end v (all_said kept))));
+          (sym (text_of_gathered v (all_said kept ++ End ∷ []) (rw lines order) (rw lines has_end)) ∙ ap spelled (gathered_end v (all_said kept) w.order w.no_end)));
       lines = gathered_formed v (all_said kept) w.order;
       is_text = record { lines = g.before; order = order; ended = has_end; text = all; few = few };
     }

@@ -1,5 +1,5 @@
 -- The text of a certificate, line by line.
-use Rattle.std.proofs.Common.{◌≡◌, ℕ, ◌+◌, List, [], ◌∷◌, ◌++◌, refl, ap, ◌∙◌, sym, append_assoc}
+use Rattle.std.proofs.Common.{◌≡◌, ℕ, ◌+◌, List, [], ◌∷◌, ◌++◌, refl, ap, ◌∙◌, sym, append_assoc, append-nil}
 use Rattle.std.specs.Prelude.{codes, map, flat_map}
 use Rattle.std.proofs.lemmas.List.Concat.{flat_map-append}
 use Rattle.word12.specs.Words.{octal_text}
@@ -9,6 +9,8 @@ use Rattle.certificate.specs.declared.Version.{Version}
 use Rattle.certificate.specs.Spelling.{RoutineLine, FactLine, ExitLine, Lines, cell_text, equation_text, details_text, routine_text, fact_text, exit_text, version_text, text}
 use Rattle.certificate.specs.Reading.{Each, IsTracked, IsEquation, IsStatement, IsRoutine, IsFactLine, IsExit, AreLines}
 use Rattle.certificate.specs.Line.{Line, RoutineIs, FactIs, ExitIs, CellIs, EquationIs, End, IsLine, IsRegisters, line_text, words_text, registers_of, details, lines_of_fact, lines_of_exit, lines_of, ended, all_ended, TextLaw}
+use Rattle.certificate.specs.Order.{front}
+use Rattle.certificate.specs.Found.{newest_first}
 
 -- Equal fronts and equal rests.
 pub joined : {a b c d : List ℕ} → a ≡ b → c ≡ d → a ++ c ≡ b ++ d
@@ -75,7 +77,7 @@ text_lines c =
     ap (λ (rest : List ℕ). version_text c.version ++ 10 ∷ rest) (after_first c.version c.routines c.facts c.exits) ∙
     seam (version_text c.version) (all_ended c.version (lines_of c))
 
-each_append : {A : Type 0} (p : A → Type 0) (xs ys : List A) → Each p xs → Each p ys → Each p (xs ++ ys)
+pub each_append : {A : Type 0} (p : A → Type 0) (xs ys : List A) → Each p xs → Each p ys → Each p (xs ++ ys)
 each_append p [] ys h g = g
 each_append p (x ∷ xs) ys h g = (h.0, each_append p xs ys h.1 g)
 
@@ -90,7 +92,7 @@ equations_form v (e ∷ es) h = (h.0, equations_form v es h.1)
 details_form : (v : Version) (s : Statement) → IsStatement v s → Each (IsLine v) (details s)
 details_form v s h = each_append (IsLine v) _ _ (cells_form v s.cells h.cells) (equations_form v s.equations h.equations)
 
-registers_form : (v : Version) (s : Statement) → IsStatement v s → IsRegisters v (registers_of s)
+pub registers_form : (v : Version) (s : Statement) → IsStatement v s → IsRegisters v (registers_of s)
 registers_form v s h = record { ac = h.ac; mq = h.mq; link = h.link }
 
 routines_form : (v : Version) (rs : List RoutineLine) → Each IsRoutine rs → Each (IsLine v) (map RoutineIs rs)
@@ -123,3 +125,13 @@ lines_form c h =
 
 pub text_law : TextLaw
 text_law = record { lines = text_lines; form = lines_form }
+
+-- Lines in the other order.
+pub newest_both : (before ls ms : List Line) → newest_first before (ls ++ ms) ≡ newest_first (newest_first before ls) ms
+newest_both before [] ms = refl
+newest_both before (l ∷ ls) ms = newest_both (l ∷ before) ls ms
+
+pub front_newest : (v : Version) (before ls : List Line) → front v (newest_first before ls) ≡ front v before ++ all_ended v ls
+front_newest v before [] = sym (append-nil (front v before))
+front_newest v before (l ∷ ls) =
+    front_newest v (l ∷ before) ls ∙ append_assoc (front v before) (ended (line_text v l)) (all_ended v ls)

@@ -13,7 +13,7 @@ use Rattle.certificate.specs.Order.{is_detail, has_details, is_end, any, how_man
 use Rattle.certificate.specs.Found.{newest_first}
 use Rattle.certificate.specs.Faults.{most_bytes, NoFeed, IsText, HasLine, HasFaultyLine, HasNoVersion, HasRest, IsCut, IsTooLong, HasFault}
 use Rattle.certificate.specs.Exact.{Alike}
-use Rattle.certificate.proofs.TextLemmas.{seam, front_newest}
+use Rattle.certificate.proofs.TextLemmas.{along, seam, front_newest}
 use Rattle.certificate.proofs.OneLineLemmas.{line_one, line_feed, version_feed, first_one}
 use Rattle.certificate.proofs.OneTextLemmas.{version_one}
 use Rattle.certificate.proofs.GatherLemmas.{Follow, follows, oldest, newest_oldest}
@@ -43,10 +43,7 @@ alike_self [] = tt
 alike_self (l ∷ ls) = (same_self l, alike_self ls)
 
 alike_back : (ls ms : List Line) → Alike SameLine ls ms → Alike SameLine ms ls
-alike_back [] [] h = tt
-alike_back [] (m ∷ ms) h = absurd h
-alike_back (l ∷ ls) [] h = absurd h
-alike_back (l ∷ ls) (m ∷ ms) h = (same_back l m h.0, alike_back ls ms h.1)
+alike_back = along SameLine (λ ls ms. Alike SameLine ms ls) tt (λ l m ls ms h g. (same_back l m h, g))
 
 -- What they have in common.
 record OfOneKind (l m : Line) : Type 0 where
@@ -78,29 +75,17 @@ place_kept l m h = absurd h
 -- Lists of such lines.
 any_same : (test : Line → Bool) → ((l m : Line) → SameLine l m → test l ≡ test m) → (b c : List Line) → Alike SameLine b c →
     any test b ≡ any test c
-any_same test kept [] [] h = refl
-any_same test kept [] (m ∷ ms) h = absurd h
-any_same test kept (l ∷ ls) [] h = absurd h
-any_same test kept (l ∷ ls) (m ∷ ms) h = rw (kept l m h.0, any_same test kept ls ms h.1) refl
+any_same test kept = along SameLine (λ b c. any test b ≡ any test c) refl (λ l m ls ms h e. rw (kept l m h, e) refl)
 
 many_same : (test : Line → Bool) → ((l m : Line) → SameLine l m → test l ≡ test m) → (b c : List Line) → Alike SameLine b c →
     how_many test b ≡ how_many test c
-many_same test kept [] [] h = refl
-many_same test kept [] (m ∷ ms) h = absurd h
-many_same test kept (l ∷ ls) [] h = absurd h
-many_same test kept (l ∷ ls) (m ∷ ms) h = rw (kept l m h.0, many_same test kept ls ms h.1) refl
+many_same test kept = along SameLine (λ b c. how_many test b ≡ how_many test c) refl (λ l m ls ms h e. rw (kept l m h, e) refl)
 
 length_same : (b c : List Line) → Alike SameLine b c → length b ≡ length c
-length_same [] [] h = refl
-length_same [] (m ∷ ms) h = absurd h
-length_same (l ∷ ls) [] h = absurd h
-length_same (l ∷ ls) (m ∷ ms) h = ap suc (length_same ls ms h.1)
+length_same = along SameLine (λ b c. length b ≡ length c) refl (λ l m ls ms h e. ap suc e)
 
 next_same : (b c : List Line) → Alike SameLine b c → next_place b ≡ next_place c
-next_same [] [] h = refl
-next_same [] (m ∷ ms) h = absurd h
-next_same (l ∷ ls) [] h = absurd h
-next_same (l ∷ ls) (m ∷ ms) h = ap (λ k. k + 1) (place_kept l m h.0)
+next_same = along SameLine (λ b c. next_place b ≡ next_place c) refl (λ l m ls ms h e. ap (λ k. k + 1) (place_kept l m h))
 
 if_alike : (p q : Bool) (a b c d : List Line) → p ≡ q → Alike SameLine a c → Alike SameLine b d →
     Alike SameLine (if p then a else b) (if q then c else d)
@@ -110,20 +95,15 @@ if_alike false true a b c d e f g = absurd (false≢true e)
 if_alike false false a b c d e f g = g
 
 heads_same : (b c : List Line) → Alike SameLine b c → Alike SameLine (heads b) (heads c)
-heads_same [] [] h = tt
-heads_same [] (m ∷ ms) h = absurd h
-heads_same (l ∷ ls) [] h = absurd h
-heads_same (l ∷ ls) (m ∷ ms) h =
-    if_alike (is_detail l) (is_detail m) (heads ls) (l ∷ heads ls) (heads ms) (m ∷ heads ms) (one_kind l m h.0).detail
-    (heads_same ls ms h.1) (h.0, heads_same ls ms h.1)
+heads_same =
+    along SameLine (λ b c. Alike SameLine (heads b) (heads c)) tt
+    (λ l m ls ms h g. if_alike (is_detail l) (is_detail m) (heads ls) (l ∷ heads ls) (heads ms) (m ∷ heads ms) (one_kind l m h).detail g (h, g))
 
 last_same : (b c : List Line) → Alike SameLine b c → Alike SameLine (details_of_last b) (details_of_last c)
-last_same [] [] h = tt
-last_same [] (m ∷ ms) h = absurd h
-last_same (l ∷ ls) [] h = absurd h
-last_same (l ∷ ls) (m ∷ ms) h =
-    if_alike (is_detail l) (is_detail m) (l ∷ details_of_last ls) [] (m ∷ details_of_last ms) [] (one_kind l m h.0).detail
-    (h.0, last_same ls ms h.1) tt
+last_same =
+    along SameLine (λ b c. Alike SameLine (details_of_last b) (details_of_last c)) tt
+    (λ l m ls ms h g.
+    if_alike (is_detail l) (is_detail m) (l ∷ details_of_last ls) [] (m ∷ details_of_last ms) [] (one_kind l m h).detail (h, g) tt)
 
 -- What may come next.
 pub stand_same : (b c : List Line) (l m : Line) → Alike SameLine b c → SameLine l m → may_stand b l ≡ may_stand c m

@@ -11,6 +11,15 @@ use Rattle.certificate.specs.Reading.{Each, IsTracked, IsEquation, IsStatement, 
 use Rattle.certificate.specs.Line.{Line, RoutineIs, FactIs, ExitIs, CellIs, EquationIs, End, IsLine, IsRegisters, line_text, words_text, registers_of, details, lines_of_fact, lines_of_exit, lines_of, ended, all_ended, TextLaw}
 use Rattle.certificate.specs.Order.{front}
 use Rattle.certificate.specs.Found.{newest_first}
+use Rattle.certificate.specs.Exact.{Alike}
+
+-- What holds of lists alike, element by element.
+pub along : {A : Type 0} (same : A → A → Type 0) (P : List A → List A → Type 0) → P [] [] →
+    ((x y : A) (xs ys : List A) → same x y → P xs ys → P (x ∷ xs) (y ∷ ys)) → (xs ys : List A) → Alike same xs ys → P xs ys
+along same P none more [] [] h = none
+along same P none more [] (y ∷ ys) h = absurd h
+along same P none more (x ∷ xs) [] h = absurd h
+along same P none more (x ∷ xs) (y ∷ ys) h = more x y xs ys h.0 (along same P none more xs ys h.1)
 
 -- Equal fronts and equal rests.
 pub joined : {a b c d : List ℕ} → a ≡ b → c ≡ d → a ++ c ≡ b ++ d

@@ -3,6 +3,7 @@ use Rattle.std.proofs.Common.{◌≡◌, ℕ, ◌+◌, ◌-◌, ◌<◌, ◌≤�
 use Rattle.std.specs.Prelude.{if◌then◌else◌}
 use Rattle.std.proofs.lemmas.Bool.{true≢false, eq-eqb, ne_eqb, cases_lt}
 use Rattle.std.proofs.lemmas.List.{take_all, take_more, drop_more, drop_all}
+use Rattle.std.proofs.Math.Bool.{or-true, or-false, or_assoc}
 use Rattle.wordset.specs.Words.{Words, nothing, between, union, has_some, HasNoneFrom}
 use Rattle.wordset.proofs.Tests.{some_from}
 use Rattle.certificate.specs.declared.packed.Run.{Run}
@@ -11,7 +12,7 @@ use Rattle.certificate.specs.Fields.{run_text}
 use Rattle.certificate.specs.Spelled.{Adds}
 use Rattle.certificate.specs.Packed.{joined, set_of_runs, StandApart}
 use Rattle.certificate.proofs.SetLemmas.{Run as SetRun, StartsAt}
-use Rattle.certificate.proofs.PackedLemmas.{in_between, below_between, above_between, runs_within}
+use Rattle.certificate.proofs.PackedLemmas.{or_with, in_between, below_between, above_between, runs_within}
 use Rattle.certificate.proofs.SpelledLemmas.{SetSofar, set_begun, run_written, set_written}
 
 -- More runs may stand after those up to an index.
@@ -31,26 +32,15 @@ all_apart runs i n h so = rw (take_all i runs h, append-nil runs) at (so [] tt)
 
 -- A set and more runs.
 joined_or : (t : Words) (rs : List Run) (v : ℕ) → joined t rs v ≡ (t v || joined nothing rs v)
-joined_or t [] v = sym (or_false (t v))
-  where
-    or_false : (b : Bool) → (b || false) ≡ b
-    or_false true = refl
-    or_false false = refl
+joined_or t [] v = sym (or-false (t v))
 joined_or t (r ∷ rs) v =
     joined_or (union t (between r.first r.last)) rs v ∙
     (or_assoc (t v) (between r.first r.last v) (joined nothing rs v) ∙
     ap (λ x. t v || x) (sym (joined_or (union nothing (between r.first r.last)) rs v)))
-  where
-    or_assoc : (a b c : Bool) → ((a || b) || c) ≡ (a || (b || c))
-    or_assoc true b c = refl
-    or_assoc false b c = refl
 
 -- A word is in the first run or in the others.
 first_or : (r : Run) (rs : List Run) (v : ℕ) → joined nothing (r ∷ rs) v ≡ (between r.first r.last v || joined nothing rs v)
 first_or r rs v = joined_or (union nothing (between r.first r.last)) rs v
-
-or_with : (a b c d : Bool) → a ≡ c → b ≡ d → (a || b) ≡ (c || d)
-or_with a b c d e f = ap (λ x. x || b) e ∙ ap (λ x. c || x) f
 
 -- No word stands before the first run.
 before_all : (n : ℕ) (rs : List Run) (v : ℕ) → StandApart n rs → v < n → joined nothing rs v ≡ false
@@ -91,7 +81,7 @@ found s n r rs starts h = record {
     | inr w ↦ (let z : r.first ≡ n = omega (arith, reached) in rw z (starts (omega (arith, order, small))))
   ];
   stops = elim (cases_lt r.last 4095) [
-    | inl w ↦ rw (after w) (or_true (r.last == 4095))
+    | inl w ↦ rw (after w) (or-true (r.last == 4095))
     | inr w ↦ rw (eq-eqb r.last 4095 (omega (arith, small))) refl
   ];
 }
@@ -104,10 +94,6 @@ found s n r rs starts h = record {
 
     small : r.last < 4096
     small = h.apart.2
-
-    or_true : (b : Bool) → (b || true) ≡ true
-    or_true true = refl
-    or_true false = refl
 
     before : (v : ℕ) → n ≤ v → v < r.first → s v ≡ false
     before v a b = h.left v (omega arith) (omega (arith, order, small)) ∙

@@ -22,12 +22,9 @@ pub none_added : (s : Statement) → with_details s [] ≡ s
 none_added s = rw (append-nil s.cells, append-nil s.equations) refl
 
 pub none_under : (s : Statement) (l : Line) (ls : List Line) → is_detail l ≡ false → with_details s (l ∷ ls) ≡ s
-none_under s (RoutineIs r) ls e = rw (append-nil s.cells, append-nil s.equations) refl
-none_under s (FactIs a r m) ls e = rw (append-nil s.cells, append-nil s.equations) refl
-none_under s (ExitIs x o r) ls e = rw (append-nil s.cells, append-nil s.equations) refl
 none_under s (CellIs c) ls e = absurd (cc)
 none_under s (EquationIs q) ls e = absurd (cc)
-none_under s End ls e = rw (append-nil s.cells, append-nil s.equations) refl
+none_under s l ls e = rw (append-nil s.cells, append-nil s.equations) refl
 
 -- Lines past the last one.
 pub nothing_from : (lines : List Line) (i : ℕ) → length lines ≤ i → drop i lines ≡ []

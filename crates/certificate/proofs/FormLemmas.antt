@@ -59,10 +59,7 @@ under_formed v before (EquationIs q ∷ ls) f =
       few_equations = λ h. let i = u.few_equations (omega arith) in omega arith;
     }
 under_formed v before [] f = none_under _ _ _
-under_formed v before (RoutineIs r ∷ ls) f = none_under _ _ _
-under_formed v before (FactIs a r m ∷ ls) f = none_under _ _ _
-under_formed v before (ExitIs x o r ∷ ls) f = none_under _ _ _
-under_formed v before (End ∷ ls) f = none_under _ _ _
+under_formed v before (l ∷ ls) f = none_under _ _ _
 
 -- What is said after a fact's or an exit's line.
 statement_formed : (v : Version) (r : Registers) (ls : List Line) → IsRegisters v r → Under 0 0 0 (cells_under ls) (equations_under ls) →

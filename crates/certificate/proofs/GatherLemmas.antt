@@ -6,11 +6,12 @@ use Rattle.facts.specs.Facts.{Equation}
 use Rattle.facts.specs.Statements.{TrackedCell}
 use Rattle.certificate.specs.declared.Version.{Version}
 use Rattle.certificate.specs.Spelling.{RoutineLine, FactLine, ExitLine, Lines, version_text, text}
+use Rattle.certificate.specs.Reading.{Each}
 use Rattle.certificate.specs.Line.{Line, RoutineIs, FactIs, ExitIs, CellIs, EquationIs, End, IsLine, details, lines_of_fact, lines_of_exit, lines_of, ended, all_ended}
 use Rattle.certificate.specs.Order.{any, is_detail, is_end, has_details, heads, details_of_last, next_place, IsNext, AreInOrder, front}
 use Rattle.certificate.specs.Gathered.{cells_under, equations_under, routines_of, facts_of, exits_of, gathered}
 use Rattle.certificate.specs.Found.{newest_first}
-use Rattle.certificate.proofs.TextLemmas.{text_law, newest_both, front_newest}
+use Rattle.certificate.proofs.TextLemmas.{text_lines, newest_both, front_newest}
 
 -- Each of the lines may come after those before it; these have the newest first.
 abbrev pub Follow : Version → List Line → List Line → Type 0
@@ -25,17 +26,19 @@ pub follows : (v : Version) (before ls : List Line) → AreInOrder v (newest_fir
 follows v before [] h = tt
 follows v before (l ∷ ls) h = let e = earlier v (l ∷ before) ls h in (e.0, e.1, follows v (l ∷ before) ls h)
 
+pub each_formed : (v : Version) (before ls : List Line) → Follow v before ls → Each (IsLine v) ls
+each_formed v before [] f = tt
+each_formed v before (l ∷ ls) f = (f.0, each_formed v (l ∷ before) ls f.2)
+
 -- After a fact or an exit only greater places come.
 past_routines : (v : Version) (before : List Line) → AreInOrder v before → any has_details before ≡ true → 4096 < next_place (heads before)
 past_routines v [] h e = absurd (cc)
 past_routines v (RoutineIs r ∷ ls) h e =
     let i : 4096 < next_place (heads ls) = past_routines v ls h.2 e in
     let o : next_place (heads ls) ≤ r.entry = h.1.order in let b : r.entry < 4096 = h.0.entry in omega arith
-past_routines v (FactIs a r m ∷ ls) h e = omega arith
-past_routines v (ExitIs x o r ∷ ls) h e = omega arith
 past_routines v (CellIs c ∷ ls) h e = past_routines v ls h.2 e
 past_routines v (EquationIs q ∷ ls) h e = past_routines v ls h.2 e
-past_routines v (End ∷ ls) h e = omega arith
+past_routines v (l ∷ ls) h e = omega arith
 
 no_routines : (v : Version) (before ls : List Line) → Follow v before ls → 4096 ≤ next_place (heads before) → routines_of ls ≡ []
 no_routines v before [] f h = refl
@@ -68,20 +71,14 @@ no_details : (v : Version) (before ls : List Line) → Follow v before ls → an
 no_details v before [] f n = (refl, refl)
 no_details v before (CellIs c ∷ ls) f n = absurd (not_both _ _ n f.1.stands)
 no_details v before (EquationIs q ∷ ls) f n = absurd (not_both _ _ n f.1.stands)
-no_details v before (RoutineIs r ∷ ls) f n = (refl, refl)
-no_details v before (FactIs a r m ∷ ls) f n = (refl, refl)
-no_details v before (ExitIs x o r ∷ ls) f n = (refl, refl)
-no_details v before (End ∷ ls) f n = (refl, refl)
+no_details v before (l ∷ ls) f n = (refl, refl)
 
 no_cells : (v : Version) (before ls : List Line) → Follow v before ls → 4096 ≤ next_place (details_of_last before) → cells_under ls ≡ []
 no_cells v before [] f h = refl
 no_cells v before (CellIs c ∷ ls) f h =
     absurd (let o : next_place (details_of_last before) ≤ c.address = f.1.order in let b : c.address < 4096 = f.0.address in omega arith)
 no_cells v before (EquationIs q ∷ ls) f h = no_cells v (EquationIs q ∷ before) ls f.2 (omega arith)
-no_cells v before (RoutineIs r ∷ ls) f h = refl
-no_cells v before (FactIs a r m ∷ ls) f h = refl
-no_cells v before (ExitIs x o r ∷ ls) f h = refl
-no_cells v before (End ∷ ls) f h = refl
+no_cells v before (l ∷ ls) f h = refl
 
 nothing_after : (v : Version) (before ls : List Line) → Follow v before ls → any is_end before ≡ true → ls ≡ []
 nothing_after v before [] f e = refl
@@ -192,7 +189,7 @@ lines_set_out v ls h e =
 pub text_of_gathered : (v : Version) (ls : List Line) → AreInOrder v (newest_first [] ls) → any is_end (newest_first [] ls) ≡ true →
     text (gathered v ls) ≡ front v (newest_first [] ls)
 text_of_gathered v ls h e =
-    text_law.lines (gathered v ls) ∙
+    text_lines (gathered v ls) ∙
     (ap (λ (x : List Line). ended (version_text v) ++ all_ended v x) (sym (lines_set_out v ls h e)) ∙ sym (front_newest v [] ls))
 
 -- The lines of a certificate before the end.
@@ -206,12 +203,9 @@ begins_detail (l ∷ ls) = is_detail l
 
 under_none : (ls : List Line) → begins_detail ls ≡ false → (cells_under ls ≡ []) × (equations_under ls ≡ [])
 under_none [] d = (refl, refl)
-under_none (RoutineIs r ∷ ls) d = (refl, refl)
-under_none (FactIs a r m ∷ ls) d = (refl, refl)
-under_none (ExitIs x o r ∷ ls) d = (refl, refl)
 under_none (CellIs c ∷ ls) d = absurd (cc)
 under_none (EquationIs q ∷ ls) d = absurd (cc)
-under_none (End ∷ ls) d = (refl, refl)
+under_none (l ∷ ls) d = (refl, refl)
 
 under : (cs : List TrackedCell) (es : List Equation) (ls : List Line) → begins_detail ls ≡ false →
     (cells_under (map CellIs cs ++ map EquationIs es ++ ls) ≡ cs) × (equations_under (map CellIs cs ++ map EquationIs es ++ ls) ≡ es)

@@ -19,7 +19,7 @@ use Rattle.certificate.specs.Gathered.{routines_of, facts_of, exits_of, gathered
 use Rattle.certificate.specs.Found.{newest_first, starts, all_said, IsIndexed, Keeps, IsWhole, HasMore}
 use Rattle.certificate.specs.Packed.{Begins}
 use Rattle.certificate.specs.Made.{with_routine, with_fact, with_exit, MayAddRoutine, MayAddFact, MayAddExit}
-use Rattle.certificate.proofs.TextLemmas.{text_law, both_ended, each_append}
+use Rattle.certificate.proofs.TextLemmas.{text_lines, both_ended, each_append}
 use Rattle.certificate.proofs.TextOrderLemmas.{body_order}
 use Rattle.certificate.proofs.GatherLemmas.{lines_set_out, body_of, gathered_body}
 use Rattle.certificate.proofs.FormLemmas.{gathered_formed}
@@ -64,7 +64,7 @@ kept_body v ls h e = open_body v ls h e ∙ ap body_of (gathered_end v ls h e)
 pub text_of_open : (v : Version) (ls : List Line) → AreInOrder v (newest_first [] ls) → any is_end (newest_first [] ls) ≡ false →
     text (gathered v ls) ≡ ended (version_text v) ++ all_ended v ls ++ ended (line_text v End)
 text_of_open v ls h e =
-    text_law.lines (gathered v ls) ∙
+    text_lines (gathered v ls) ∙
     (ap (λ (x : List Line). ended (version_text v) ++ all_ended v (x ++ End ∷ [])) (sym (kept_body v ls h e)) ∙
     (ap (λ (x : List ℕ). ended (version_text v) ++ x) (both_ended v ls (End ∷ [])) ∙
     sym (append_assoc (ended (version_text v)) (all_ended v ls) (ended (line_text v End)))))
@@ -245,12 +245,9 @@ fits_two One mq h = some_from 4096 mq 0 (omega arith) (h 0 (omega arith))
 fits_two Two mq h = h
 
 line_two : (v : Version) (l : Line) → IsLine v l → IsLine Two l
-line_two v (RoutineIs r) h = h
 line_two v (FactIs a r m) h = (h.0, record { ac = h.1.ac; mq = fits_two v r.mq h.1.mq; link = h.1.link })
 line_two v (ExitIs x o r) h = (h.0, h.1, record { ac = h.2.ac; mq = fits_two v r.mq h.2.mq; link = h.2.link })
-line_two v (CellIs c) h = h
-line_two v (EquationIs q) h = h
-line_two v End h = h
+line_two v l h = h
 
 order_two : (v : Version) (ls : List Line) → AreInOrder v ls → AreInOrder Two ls
 order_two v [] h = tt

@@ -15,7 +15,7 @@ use Rattle.certificate.specs.Faults.{most_bytes, NoFeed, IsText, HasLine, HasFau
 use Rattle.certificate.specs.Exact.{Alike}
 use Rattle.certificate.proofs.TextLemmas.{along, seam, front_newest}
 use Rattle.certificate.proofs.OneLineLemmas.{line_one, line_feed, version_feed, first_one}
-use Rattle.certificate.proofs.OneTextLemmas.{version_one}
+use Rattle.certificate.proofs.OneTextLemmas.{no_line, version_one}
 use Rattle.certificate.proofs.GatherLemmas.{Follow, follows, oldest, newest_oldest}
 
 -- Lines that say the same.
@@ -239,10 +239,6 @@ alone OneMore OneMore v b c line h f g = refl
 feed_within : (a b : List ℕ) → NoFeed (a ++ 10 ∷ b) → ⊥
 feed_within [] b h = h.0 refl
 feed_within (x ∷ xs) b h = feed_within xs b h.1
-
-no_line : (a b : List ℕ) → [] ≡ a ++ 10 ∷ b → ⊥
-no_line [] b e = absurd (cc)
-no_line (x ∷ xs) b e = absurd (cc)
 
 -- The ways to read a text.
 text_stop : (v : Version) (bytes : List ℕ) → IsText v bytes → Stop v bytes

@@ -11,16 +11,18 @@ use Rattle.certificate.specs.Reading.{Each, AreLines}
 use Rattle.certificate.specs.Line.{Registers, Line, RoutineIs, FactIs, ExitIs, CellIs, EquationIs, End, IsLine, line_text, SameRegisters, SameLine, registers_of, details, lines_of_fact, lines_of_exit, lines_of, all_ended}
 use Rattle.certificate.specs.Gathered.{cells_under, equations_under, stated, gathered}
 use Rattle.certificate.specs.Exact.{Alike, SameRoutineLine, SameCell, SameStatement, SameFactLine, SameExitLine, SameLines}
-use Rattle.certificate.proofs.TextLemmas.{text_law, seam}
+use Rattle.certificate.proofs.TextLemmas.{text_lines, seam}
+use Rattle.certificate.proofs.TextOrderLemmas.{text_law}
 use Rattle.certificate.proofs.OneLineLemmas.{line_one, line_feed, version_feed, first_one}
 use Rattle.certificate.proofs.GatherLemmas.{gathered_lines}
 
+-- There is no line in no bytes.
+pub no_line : (a b : List ℕ) → [] ≡ a ++ 10 ∷ b → ⊥
+no_line [] b e = absurd (cc)
+no_line (x ∷ xs) b e = absurd (cc)
+
 none_left : (v : Version) (l : Line) (ls : List Line) → [] ≡ all_ended v (l ∷ ls) → ⊥
-none_left v l ls e = go (line_text v l) (all_ended v ls) (e ∙ sym (seam (line_text v l) (all_ended v ls)))
-  where
-    go : (a b : List ℕ) → [] ≡ a ++ 10 ∷ b → ⊥
-    go [] b q = absurd (cc)
-    go (c ∷ cs) b q = absurd (cc)
+none_left v l ls e = no_line (line_text v l) (all_ended v ls) (e ∙ sym (seam (line_text v l) (all_ended v ls)))
 
 -- Lines of one text are the same.
 pub lines_one : (v : Version) (ls ms : List Line) → Each (IsLine v) ls → Each (IsLine v) ms → all_ended v ls ≡ all_ended v ms →
@@ -97,7 +99,7 @@ version_one Two Two e = refl
 pub text_one : (c d : Lines) → AreLines c → AreLines d → text c ≡ text d → SameLines c d
 text_one c d f g e =
     let a : version_text c.version ++ 10 ∷ all_ended c.version (lines_of c) ≡ version_text d.version ++ 10 ∷ all_ended d.version (lines_of d) =
-    seam (version_text c.version) (all_ended c.version (lines_of c)) ∙ (sym (text_law.lines c) ∙ (e ∙ (text_law.lines d ∙
+    seam (version_text c.version) (all_ended c.version (lines_of c)) ∙ (sym (text_lines c) ∙ (e ∙ (text_lines d ∙
     sym (seam (version_text d.version) (all_ended d.version (lines_of d)))))) in
     let p = first_one (version_text c.version) (version_text d.version) _ _ (version_feed c.version) (version_feed d.version) a in
     let v : c.version ≡ d.version = version_one c.version d.version p.0 in

@@ -143,11 +143,7 @@ record Ended (v : Version) (before : List Line) : Type 0 where
 ended_last : (v : Version) (before : List Line) → AreInOrder v before → any is_end before ≡ true → Ended v before
 ended_last v [] h e = absurd (true≢false (sym e))
 ended_last v (End ∷ ls) h e = record { is = refl; order = h.2; no_end = not_ended (any is_end ls) _ h.1.stands }
-ended_last v (RoutineIs r ∷ ls) h e = absurd (true≢false (sym e ∙ not_ended (any is_end ls) _ h.1.stands))
-ended_last v (FactIs a r m ∷ ls) h e = absurd (true≢false (sym e ∙ not_ended (any is_end ls) _ h.1.stands))
-ended_last v (ExitIs x o r ∷ ls) h e = absurd (true≢false (sym e ∙ not_ended (any is_end ls) _ h.1.stands))
-ended_last v (CellIs c ∷ ls) h e = absurd (true≢false (sym e ∙ not_ended (any is_end ls) _ h.1.stands))
-ended_last v (EquationIs q ∷ ls) h e = absurd (true≢false (sym e ∙ not_ended (any is_end ls) _ h.1.stands))
+ended_last v (l ∷ ls) h e = absurd (true≢false (sym e ∙ not_ended (any is_end ls) _ h.1.stands))
 
 -- A further line.
 pub next_kept : {A : Type 0} (kept mid new_kept : KeptLines A) (r : Result Unit CertificateFault) (text line new_text new_line bytes : List ℕ) (old new : Option Progress) (long : Bool)

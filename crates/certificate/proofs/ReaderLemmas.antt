@@ -9,12 +9,8 @@ use Rattle.certificate.specs.Reading.{Each, IsFactLine, IsExit, has_routine, has
 use Rattle.certificate.specs.Line.{Line, RoutineIs, FactIs, ExitIs, CellIs, EquationIs, End, IsLine}
 use Rattle.certificate.specs.Gathered.{routines_of, facts_of, exits_of}
 use Rattle.certificate.specs.Found.{from_place, all_said, IsWhole, FitUnderFirst, begins_routine, begins_fact, begins_exit, first_fact, first_exit, fact_statement, exit_statement, SaysFirst}
-use Rattle.certificate.proofs.GatherLemmas.{Follow, follows}
+use Rattle.certificate.proofs.GatherLemmas.{follows, each_formed}
 use Rattle.certificate.proofs.FormLemmas.{gathered_formed}
-
-each_formed : (v : Version) (before ls : List Line) → Follow v before ls → Each (IsLine v) ls
-each_formed v before [] f = tt
-each_formed v before (l ∷ ls) f = (f.0, each_formed v (l ∷ before) ls f.2)
 
 -- The one test is true exactly where the other is.
 tests_alike : (a b c d : ℕ) → (a ≡ b → c ≡ d) → (c ≡ d → a ≡ b) → (a == b) ≡ (c == d)
@@ -42,13 +38,9 @@ routines_found v (RoutineIs r ∷ ls) e h b = elim (eqb_tells r.entry e) [
     go f g = rw f (g.0, later (from_place e ls) g.1)
       where
         later : (rest : List Line) → SaysFirst (routines_of ls) e rest → SaysFirst (r ∷ routines_of ls) e rest
-        later [] s = tt
         later (RoutineIs q ∷ rest) s = record { rank = rw f s.rank; sites = rw f s.sites; writes = rw f s.writes }
-        later (FactIs a q m ∷ rest) s = tt
-        later (ExitIs x o q ∷ rest) s = tt
-        later (CellIs c ∷ rest) s = tt
-        later (EquationIs q ∷ rest) s = tt
-        later (End ∷ rest) s = tt
+        later [] s = tt
+        later (l ∷ rest) s = tt
 routines_found v (FactIs a r m ∷ ls) e h b = rw (untrue (4096 + a) e (λ q. omega arith)) (routines_found v ls e h.1 b)
 routines_found v (ExitIs x o r ∷ ls) e h b = rw (untrue (8192 + (8 * x + o)) e (λ q. omega arith)) (routines_found v ls e h.1 b)
 routines_found v (CellIs c ∷ ls) e h b = routines_found v ls e h.1 b

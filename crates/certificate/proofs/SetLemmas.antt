@@ -2,6 +2,7 @@
 use Rattle.std.proofs.Common.{◌≡◌, ◌⊎◌, ℕ, zero, suc, ◌+◌, ◌-◌, ◌<◌, ◌≤◌, ◌==◌, Bool, true, false, not, ◌&&◌, ◌||◌, List, [], ◌++◌, refl, ap, ◌∙◌, sym, inl, inr, arith, append_assoc, append-nil}
 use Rattle.std.specs.Prelude.{if◌then◌else◌, codes}
 use Rattle.std.proofs.lemmas.Bool.{false≢true, eq-eqb, ne_eqb, cases_lt}
+use Rattle.std.proofs.Math.Bool.{and-false}
 use Rattle.word12.specs.Words.{octal_text}
 use Rattle.wordset.specs.Words.{Words, some_below}
 use Rattle.certificate.specs.Spelling.{begins, ends, mark, marks}
@@ -95,18 +96,10 @@ none_rest s n none = elim (cases_lt n 4096) [
 
 -- A word after another doesn't begin a run, one before another doesn't end one.
 goes_on : (s : Words) (v : ℕ) → 0 < v → s (v - 1) ≡ true → begins s v ≡ false
-goes_on s v pos before = rw (ne_eqb v 0 (λ z. omega arith), before) (go (s v))
-  where
-    go : (b : Bool) → (b && false) ≡ false
-    go true = refl
-    go false = refl
+goes_on s v pos before = rw (ne_eqb v 0 (λ z. omega arith), before) (and-false (s v))
 
 not_yet : (s : Words) (v : ℕ) → v < 4095 → s (v + 1) ≡ true → ends s v ≡ false
-not_yet s v small after = rw (ne_eqb v 4095 (λ z. omega arith), after) (go (s v))
-  where
-    go : (b : Bool) → (b && false) ≡ false
-    go true = refl
-    go false = refl
+not_yet s v small after = rw (ne_eqb v 4095 (λ z. omega arith), after) (and-false (s v))
 
 begun : (s : Words) (v : ℕ) → s v ≡ true → (v == 0 || not (s (v - 1))) ≡ true → begins s v ≡ true
 begun s v here starts = rw here starts

@@ -8,14 +8,18 @@ use Rattle.std.proofs.Math.Seq.{take-append-add}
 use Rattle.std.specs.Io.KnownBytes.{Appends}
 use Rattle.std.proofs.KnownBytes.{Appends-trans}
 use Rattle.streams.specs.Bytes.{AppendsFront}
+use Rattle.streams.proofs.BytesLemmas.{front_after}
 use Rattle.certificate.specs.declared.Version.{Version}
 use Rattle.certificate.specs.Reading.{Each}
 use Rattle.certificate.specs.Line.{Line, line_text, ended, all_ended}
+use Rattle.std.proofs.Math.Bool.{or-true}
 use Rattle.wordset.specs.Words.{Words, all_words, difference, IsFirstFrom, HasNoneFrom}
 use Rattle.wordset.proofs.Tests.{IsSome}
 use Rattle.certificate.specs.Spelling.{marks, digits, offsets_text}
 use Rattle.certificate.specs.Fields.{run_text}
 use Rattle.certificate.specs.Spelled.{Adds, IsLastOf}
+use Rattle.certificate.proofs.TextLemmas.{both_ended}
+use Rattle.certificate.proofs.PackedLemmas.{still_in}
 use Rattle.certificate.proofs.SetLemmas.{rest, comma, Run, whole_rest, none_rest, run_rest, StartsAt, starts_after}
 use Rattle.certificate.proofs.RunLemmas.{no_comma, comma_rest}
 use Rattle.certificate.proofs.DigitLemmas.{digits_more, digits_none, no_offsets, some_offsets, has_offset}
@@ -73,7 +77,7 @@ found_run s others n low high starts f l are = record {
   order = l.order;
   small = l.small;
   before = f.before;
-  inside = λ v a b. there v (let q : high < 4096 = l.small in omega arith) (sym (are v) ∙ l.inside v a b);
+  inside = λ v a b. still_in s v (let q : high < 4096 = l.small in omega arith) (sym (are v) ∙ l.inside v a b);
   starts = elim (cases_lt n low) [
     | inl w ↦ rw (f.before (low - 1) (omega arith) (omega arith), ne_eqb low 0 (λ z. omega arith)) refl
     | inr w ↦ (let z : low ≡ n = (let q : n ≤ low = f.reached in omega arith) in rw z (starts (let p : low < 4096 = f.small in omega arith)))
@@ -81,13 +85,6 @@ found_run s others n low high starts f l are = record {
   stops = stop l.stops;
 }
   where
-    there : (v : ℕ) → v < 4096 → difference all_words s v ≡ false → s v ≡ true
-    there v h e = go (s v) (all_words v) (grind (arith, nat_tests)) e
-      where
-        go : (b c : Bool) → c ≡ true → (c && not b) ≡ false → b ≡ true
-        go true c k q = refl
-        go false c k q = absurd (let z : true ≡ false = rw k at q in true≢false z)
-
     gone : (v : ℕ) → difference all_words s v ≡ true → s v ≡ false
     gone v e = go (s v) (all_words v) e
       where
@@ -98,11 +95,7 @@ found_run s others n low high starts f l are = record {
 
     stop : (high ≡ 4095) ⊎ (others (high + 1) ≡ true) → (high == 4095 || not (s (high + 1))) ≡ true
     stop (inl e) = rw (eq-eqb high 4095 e) refl
-    stop (inr e) = let z : s (high + 1) ≡ false = gone (high + 1) (sym (are (high + 1)) ∙ e) in rw z (or_true (high == 4095))
-      where
-        or_true : (b : Bool) → (b || true) ≡ true
-        or_true true = refl
-        or_true false = refl
+    stop (inr e) = let z : s (high + 1) ≡ false = gone (high + 1) (sym (are (high + 1)) ∙ e) in rw z (or-true (high == 4095))
 
 -- A run more.
 pub run_written : (old now mid new : List ℕ) (s : Words) (n low high : ℕ) → SetSofar old now s n →
@@ -176,20 +169,7 @@ each_at P (x ∷ xs) (suc i) d h b = each_at P xs i d h.1 (omega arith)
 
 lines_more : (v : Version) (ls : List Line) (i : ℕ) (d : Line) → i < length ls →
     all_ended v (take (i + 1) ls) ≡ all_ended v (take i ls) ++ ended (line_text v (get_or ls i d))
-lines_more v ls i d h = rw (take_more ls i d h) (on (take i ls) (get_or ls i d))
-  where
-    on : (xs : List Line) (x : Line) →
-        all_ended v (xs ++ x ∷ []) ≡ all_ended v xs ++ ended (line_text v x)
-    on [] x = append-nil (ended (line_text v x))
-    on (y ∷ ys) x = ap (λ (z : List ℕ). ended (line_text v y) ++ z) (on ys x) ∙
-        sym (append_assoc (ended (line_text v y)) (all_ended v ys) (ended (line_text v x)))
-
-pub front_after : (a b c : Option (List ℕ)) (first second : List ℕ) → Appends a b first → AppendsFront b c second → AppendsFront a c (first ++ second)
-front_after a b c first second whole front = record {
-  count = length first + front.count;
-  within = let e = length-append first second in let f = front.within in omega (arith, e, f);
-  out = rw (take-append-add first second front.count) (Appends-trans a b c first (take front.count second) whole front.out);
-}
+lines_more v ls i d h = rw (take_more ls i d h) (both_ended v (take i ls) (get_or ls i d ∷ []) ∙ ap (λ (x : List ℕ). all_ended v (take i ls) ++ x) (append-nil _))
 
 pub front_more : (a b : Option (List ℕ)) (first second : List ℕ) → AppendsFront a b first → AppendsFront a b (first ++ second)
 front_more a b first second front = record {
@@ -210,13 +190,8 @@ pub line_cut : (a b c : Option (List ℕ)) (v : Version) (ls : List Line) (i : �
 line_cut a b c v ls i d text h p e q =
     let f : AppendsFront a c (all_ended v (take (i + 1) ls)) =
     rw (lines_more v ls i d h) (front_after a b c (all_ended v (take i ls)) (ended (line_text v (get_or ls i d))) p (rw e at q)) in
-    rw (sym (together (take (i + 1) ls) (drop (i + 1) ls)) ∙ ap (λ (x : List Line). all_ended v x) (take-append-drop (i + 1) ls))
+    rw (sym (both_ended v (take (i + 1) ls) (drop (i + 1) ls)) ∙ ap (λ (x : List Line). all_ended v x) (take-append-drop (i + 1) ls))
     at (front_more a c (all_ended v (take (i + 1) ls)) (all_ended v (drop (i + 1) ls)) f)
-  where
-    together : (xs ys : List Line) → all_ended v (xs ++ ys) ≡ all_ended v xs ++ all_ended v ys
-    together [] ys = refl
-    together (x ∷ xs) ys = ap (λ (z : List ℕ). ended (line_text v x) ++ z) (together xs ys) ∙
-        sym (append_assoc (ended (line_text v x)) (all_ended v xs) (all_ended v ys))
 
 pub lines_put : (a b : Option (List ℕ)) (v : Version) (ls : List Line) (i : ℕ) → length ls ≤ i → i ≤ length ls →
     Appends a b (all_ended v (take i ls)) → Appends a b (all_ended v ls)

@@ -81,7 +81,7 @@ after_first v rs fs es =
     (joined (sym (both_ended v (map RoutineIs rs ++ flat_map lines_of_fact fs) (flat_map lines_of_exit es))) refl ∙
     sym (both_ended v (map RoutineIs rs ++ flat_map lines_of_fact fs ++ flat_map lines_of_exit es) (End ∷ [])))))
 
-text_lines : (c : Lines) → text c ≡ ended (version_text c.version) ++ all_ended c.version (lines_of c)
+pub text_lines : (c : Lines) → text c ≡ ended (version_text c.version) ++ all_ended c.version (lines_of c)
 text_lines c =
     ap (λ (rest : List ℕ). version_text c.version ++ 10 ∷ rest) (after_first c.version c.routines c.facts c.exits) ∙
     seam (version_text c.version) (all_ended c.version (lines_of c))
@@ -90,50 +90,8 @@ pub each_append : {A : Type 0} (p : A → Type 0) (xs ys : List A) → Each p xs
 each_append p [] ys h g = g
 each_append p (x ∷ xs) ys h g = (h.0, each_append p xs ys h.1 g)
 
-cells_form : (v : Version) (cs : List TrackedCell) → Each IsTracked cs → Each (IsLine v) (map CellIs cs)
-cells_form v [] h = tt
-cells_form v (c ∷ cs) h = (h.0, cells_form v cs h.1)
-
-equations_form : (v : Version) (es : List Equation) → Each IsEquation es → Each (IsLine v) (map EquationIs es)
-equations_form v [] h = tt
-equations_form v (e ∷ es) h = (h.0, equations_form v es h.1)
-
-details_form : (v : Version) (s : Statement) → IsStatement v s → Each (IsLine v) (details s)
-details_form v s h = each_append (IsLine v) _ _ (cells_form v s.cells h.cells) (equations_form v s.equations h.equations)
-
 pub registers_form : (v : Version) (s : Statement) → IsStatement v s → IsRegisters v (registers_of s)
 registers_form v s h = record { ac = h.ac; mq = h.mq; link = h.link }
-
-routines_form : (v : Version) (rs : List RoutineLine) → Each IsRoutine rs → Each (IsLine v) (map RoutineIs rs)
-routines_form v [] h = tt
-routines_form v (r ∷ rs) h = (h.0, routines_form v rs h.1)
-
-facts_form : (v : Version) (fs : List FactLine) → Each (IsFactLine v) fs → Each (IsLine v) (flat_map lines_of_fact fs)
-facts_form v [] h = tt
-facts_form v (f ∷ fs) h =
-    each_append (IsLine v) (lines_of_fact f) _
-    ((h.0.address, registers_form v f.statement h.0.statement), details_form v f.statement h.0.statement)
-    (facts_form v fs h.1)
-
-exits_form : (v : Version) (es : List ExitLine) → Each (IsExit v) es → Each (IsLine v) (flat_map lines_of_exit es)
-exits_form v [] h = tt
-exits_form v (e ∷ es) h =
-    each_append (IsLine v) (lines_of_exit e) _
-    ((h.0.entry, h.0.offset, registers_form v e.statement h.0.statement), details_form v e.statement h.0.statement)
-    (exits_form v es h.1)
-
-lines_form : (c : Lines) → AreLines c → Each (IsLine c.version) (lines_of c)
-lines_form c h =
-    each_append (IsLine c.version) (map RoutineIs c.routines ++ flat_map lines_of_fact c.facts ++ flat_map lines_of_exit c.exits) _
-    (each_append (IsLine c.version) (map RoutineIs c.routines ++ flat_map lines_of_fact c.facts) _
-    (each_append (IsLine c.version) (map RoutineIs c.routines) _
-    (routines_form c.version c.routines h.routines)
-    (facts_form c.version c.facts h.facts))
-    (exits_form c.version c.exits h.exits))
-    (tt, tt)
-
-pub text_law : TextLaw
-text_law = record { lines = text_lines; form = lines_form }
 
 -- Lines in the other order.
 pub newest_both : (before ls ms : List Line) → newest_first before (ls ++ ms) ≡ newest_first (newest_first before ls) ms

@@ -3,7 +3,7 @@ use Rattle.std.proofs.Common.{◌≡◌, ℕ, ◌+◌, ◌-◌, ◌<◌, ◌≤�
 use Rattle.std.specs.Prelude.{if◌then◌else◌}
 use Rattle.std.proofs.lemmas.Bool.{true≢false, eq-eqb, ne_eqb, cases_lt}
 use Rattle.std.proofs.lemmas.List.{take_all, take_more, drop_more, drop_all}
-use Rattle.std.proofs.Math.Bool.{or-true, or-false, or_assoc}
+use Rattle.std.proofs.Math.Bool.{or-false, or_assoc}
 use Rattle.wordset.specs.Words.{Words, nothing, between, union, has_some, HasNoneFrom}
 use Rattle.wordset.proofs.Tests.{some_from}
 use Rattle.certificate.specs.declared.packed.Run.{Run}
@@ -11,7 +11,7 @@ use Rattle.certificate.specs.Spelling.{marks, set_text}
 use Rattle.certificate.specs.Fields.{run_text}
 use Rattle.certificate.specs.Spelled.{Adds}
 use Rattle.certificate.specs.Packed.{joined, set_of_runs, StandApart}
-use Rattle.certificate.proofs.SetLemmas.{Run as SetRun, StartsAt}
+use Rattle.certificate.proofs.SetLemmas.{Run as SetRun, StartsAt, a_run}
 use Rattle.certificate.proofs.PackedLemmas.{or_with, in_between, below_between, above_between, runs_within}
 use Rattle.certificate.proofs.SpelledLemmas.{SetSofar, set_begun, run_written, set_written}
 
@@ -69,22 +69,15 @@ past_one s n r rs h = record {
 
 -- The first one that is left is the next run of the set.
 found : (s : Words) (n : ℕ) (r : Run) (rs : List Run) → StartsAt s n → RunsLeft s n (r ∷ rs) → SetRun s n r.first r.last
-found s n r rs starts h = record {
-  reached = reached;
-  order = order;
-  small = small;
-  before = before;
-  inside = λ v a b. h.left v (omega (arith, reached)) (omega (arith, small)) ∙
-      (first_or r rs v ∙ or_with _ _ true (joined nothing rs v) (in_between r.first r.last v a b) refl);
-  starts = elim (cases_lt n r.first) [
-    | inl w ↦ rw (before (r.first - 1) (omega arith) (omega arith), ne_eqb r.first 0 (λ z. omega arith)) refl
-    | inr w ↦ (let z : r.first ≡ n = omega (arith, reached) in rw z (starts (omega (arith, order, small))))
-  ];
-  stops = elim (cases_lt r.last 4095) [
-    | inl w ↦ rw (after w) (or-true (r.last == 4095))
-    | inr w ↦ rw (eq-eqb r.last 4095 (omega (arith, small))) refl
-  ];
-}
+found s n r rs starts h =
+    a_run s n r.first r.last starts reached order small
+    (λ v a b. h.left v (omega arith) (omega (arith, order, small)) ∙
+    (first_or r rs v ∙ or_with _ _ false false (below_between r.first r.last v b) (before_all (r.last + 2) rs v h.apart.3 (omega (arith, order)))))
+    (λ v a b. h.left v (omega (arith, reached)) (omega (arith, small)) ∙
+    (first_or r rs v ∙ or_with _ _ true (joined nothing rs v) (in_between r.first r.last v a b) refl))
+    (λ w. h.left (r.last + 1) (omega (arith, reached, order)) (omega arith) ∙
+    (first_or r rs (r.last + 1) ∙
+    or_with _ _ false false (above_between r.first r.last (r.last + 1) (omega arith)) (before_all (r.last + 2) rs (r.last + 1) h.apart.3 (omega arith))))
   where
     reached : n ≤ r.first
     reached = h.apart.0
@@ -94,14 +87,6 @@ found s n r rs starts h = record {
 
     small : r.last < 4096
     small = h.apart.2
-
-    before : (v : ℕ) → n ≤ v → v < r.first → s v ≡ false
-    before v a b = h.left v (omega arith) (omega (arith, order, small)) ∙
-        (first_or r rs v ∙ or_with _ _ false false (below_between r.first r.last v b) (before_all (r.last + 2) rs v h.apart.3 (omega (arith, order))))
-
-    after : r.last < 4095 → s (r.last + 1) ≡ false
-    after w = h.left (r.last + 1) (omega (arith, reached, order)) (omega arith) ∙
-        (first_or r rs (r.last + 1) ∙ or_with _ _ false false (above_between r.first r.last (r.last + 1) (omega arith)) (before_all (r.last + 2) rs (r.last + 1) h.apart.3 (omega arith)))
 
 -- Runs as far as they're written.
 pub record RunsWritten (old now : List ℕ) (s : Words) (n : ℕ) (rs : List Run) : Type 0 where

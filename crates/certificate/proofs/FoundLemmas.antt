@@ -12,11 +12,8 @@ use Rattle.certificate.specs.Reading.{RiseFrom}
 use Rattle.certificate.specs.Line.{Line, RoutineIs, FactIs, ExitIs, CellIs, EquationIs, End}
 use Rattle.certificate.specs.Order.{is_detail, is_end, heads, place, next_place, AreInOrder}
 use Rattle.certificate.specs.Found.{newest_first, starts, from_place, all_said, IsIndexed, HasBetween, IsNextPlace, Keeps, unended}
+use Rattle.certificate.proofs.TextLemmas.{newest_both}
 use Rattle.certificate.proofs.GatherLemmas.{Follow, follows}
-
-pub reversed_more : (before ls : List Line) (l : Line) → newest_first before (ls ++ l ∷ []) ≡ l ∷ newest_first before ls
-reversed_more before [] l = refl
-reversed_more before (m ∷ ls) l = reversed_more (m ∷ before) ls l
 
 pub heads_more : (ls ms : List Line) → heads (ls ++ ms) ≡ heads ls ++ heads ms
 heads_more [] ms = refl
@@ -48,7 +45,7 @@ lines_more : {A : Type 0} (k new : KeptLines A) (l : Line) (before : List Line) 
     Keeps k before → newest_first [] (all_said new) ≡ l ∷ before
 lines_more k new l before e h =
     ap (λ (x : List Line). newest_first [] x) e ∙
-    (reversed_more [] (all_said k) l ∙ ap (λ (x : List Line). l ∷ x) h.lines)
+    (newest_both [] (all_said k) (l ∷ []) ∙ ap (λ (x : List Line). l ∷ x) h.lines)
 
 -- The end is known without being kept.
 pub end_kept : {A : Type 0} (k : KeptLines A) (l : Line) (before : List Line) → is_end l ≡ true → Keeps k before → Keeps k (unended (l ∷ before))

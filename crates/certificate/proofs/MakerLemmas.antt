@@ -19,11 +19,11 @@ use Rattle.certificate.specs.Gathered.{routines_of, facts_of, exits_of, gathered
 use Rattle.certificate.specs.Found.{newest_first, starts, all_said, IsIndexed, Keeps, IsWhole, HasMore}
 use Rattle.certificate.specs.Packed.{Begins}
 use Rattle.certificate.specs.Made.{with_routine, with_fact, with_exit, MayAddRoutine, MayAddFact, MayAddExit}
-use Rattle.certificate.proofs.TextLemmas.{text_lines, both_ended, each_append}
+use Rattle.certificate.proofs.TextLemmas.{text_lines, newest_both, both_ended, each_append}
 use Rattle.certificate.proofs.TextOrderLemmas.{body_order}
 use Rattle.certificate.proofs.GatherLemmas.{lines_set_out, body_of, gathered_body}
 use Rattle.certificate.proofs.FormLemmas.{gathered_formed}
-use Rattle.certificate.proofs.FoundLemmas.{reversed_more, heads_more, starts_both}
+use Rattle.certificate.proofs.FoundLemmas.{heads_more, starts_both}
 
 -- Lines and the end after them.
 places_small : (v : Version) (before : List Line) → AreInOrder v before → any is_end before ≡ false → next_place (heads before) ≤ 40960
@@ -43,7 +43,7 @@ closed : (v : Version) (ls : List Line) → AreInOrder v (newest_first [] ls) �
 closed v ls h e =
     let small : next_place (heads (newest_first [] ls)) ≤ 40960 = places_small v (newest_first [] ls) h e in
     let next : IsNext v (newest_first [] ls) End = record { stands = rw e refl; order = small; room = tt } in
-    record { order = rw (reversed_more [] ls End) (tt, next, h); ended = rw (reversed_more [] ls End) refl }
+    record { order = rw (newest_both [] ls (End ∷ [])) (tt, next, h); ended = rw (newest_both [] ls (End ∷ [])) refl }
 
 -- Lines in order are those of what they say, and the end adds nothing to it.
 open_body : (v : Version) (ls : List Line) → AreInOrder v (newest_first [] ls) → any is_end (newest_first [] ls) ≡ false →

@@ -51,9 +51,6 @@ no_runs old set = record {
   above = λ v h. refl;
 }
 
-pub runs_begin : (old new : List Run) (set : Words) (n : ℕ) → RunsSofar old new set n → Begins old new
-runs_begin old new set n s = (s.more, s.is)
-
 pub few_runs : (old new : List Run) (set : Words) (n : ℕ) → RunsSofar old new set n → length new ≤ length old + 4096
 few_runs old new set n s =
     let p : length s.more ≤ n = s.count in

@@ -17,9 +17,10 @@ use Rattle.certificate.specs.Found.{newest_first, all_said, Keeps, IsWhole, unen
 use Rattle.certificate.specs.Faults.{most_bytes, NoFeed, HasLine, HasFaultyLine, HasRest, IsCut, HasFault, AsksForMemory}
 use Rattle.certificate.proofs.LengthLemmas.{line_short}
 use Rattle.certificate.proofs.OneLineLemmas.{no_feed_both}
+use Rattle.certificate.proofs.TextLemmas.{newest_both}
 use Rattle.certificate.proofs.GatherLemmas.{text_of_gathered}
 use Rattle.certificate.proofs.FormLemmas.{gathered_formed}
-use Rattle.certificate.proofs.FoundLemmas.{reversed_more, not_end}
+use Rattle.certificate.proofs.FoundLemmas.{not_end}
 use Rattle.certificate.proofs.MakerLemmas.{gathered_end}
 use Rattle.certificate.specs.Parser.{Reached, HasRead, WasRead, Parts, Seen, Refuses, IsParsed}
 use Rattle.certificate.specs.declared.parser.Parser.{Parser}
@@ -318,16 +319,6 @@ cut kept text line bytes long o p n is h few number lacks = record {
     go false q none lacks = lacks q (h.same q ∙ none)
     go true q none lacks = let a : 32768 < length h.tail = h.long q in let b : length h.tail ≡ 0 = ap length none in omega arith
 
-pub if_ok : {X : Type 0} (r : Result X CertificateFault) (P O : X → Type 0) (Q : CertificateFault → Type 0) → ((x : X) → P x → O x) →
-    MatchResult r P Q → IfOk r O
-if_ok (Ok x) P O Q to h = to x h
-if_ok (Err f) P O Q to h = tt
-
-pub if_refused : {X : Type 0} (r : Result X CertificateFault) (P : X → Type 0) (bytes : List ℕ) → MatchResult r P (HasFault bytes) →
-    IfErr r (λ f. (f ≡ faults.NoMemory) ⊎ HasFault bytes f)
-if_refused (Ok x) P bytes h = tt
-if_refused (Err f) P bytes h = inr h
-
 pub not_empty : (line : List ℕ) → false ≡ (length line == 0) → line ≡ [] → ⊥
 not_empty line e f = true≢false (sym (eq-eqb (length line) 0 (ap length f)) ∙ sym e)
 
@@ -370,7 +361,7 @@ whole_parsed kept text line bytes o p long v same is ended w h short none few =
     lines : newest_first [] (all_said kept ++ End ∷ []) ≡ g.before
     lines =
         let e : Ended p.version g.before = ended_last p.version g.before g.order has_end in
-        reversed_more [] (all_said kept) End ∙ (ap (λ (x : List Line). End ∷ x) g.keeps.lines ∙ sym e.is)
+        newest_both [] (all_said kept) (End ∷ []) ∙ (ap (λ (x : List Line). End ∷ x) g.keeps.lines ∙ sym e.is)
 
 pub is_empty : (line : List ℕ) → true ≡ (length line == 0) → line ≡ []
 is_empty [] e = refl

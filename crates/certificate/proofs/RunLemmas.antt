@@ -11,7 +11,7 @@ use Rattle.certificate.specs.Spelling.{marks, set_text}
 use Rattle.certificate.specs.Fields.{run_text, NoDash, EndsField}
 use Rattle.certificate.proofs.PackedLemmas.{in_between, below_between, above_between}
 use Rattle.certificate.proofs.DigitLemmas.{at_some}
-use Rattle.certificate.proofs.SetLemmas.{rest, comma, Run, None_from, whole_rest, none_rest, run_rest, StartsAt, starts_after, gap_after, next_run}
+use Rattle.certificate.proofs.SetLemmas.{rest, comma, Run, None_from, whole_rest, none_rest, run_rest, StartsAt, starts_after, gap_after, next_run, a_run}
 
 -- The two sets have the same words below n.
 abbrev pub SameBelow : ℕ → Words → Words → Type 0
@@ -167,25 +167,20 @@ above_with t u low high v more a = more v ∙ rw (above_between low high v a) (o
 -- The run is a run of each set that begins so.
 run_with : (s t u : Words) (n low high : ℕ) → With t low high u → ((v : ℕ) → n ≤ v + 1 → t v ≡ false) → n ≤ low → low ≤ high →
     high < 4096 → SameBelow (high + 2) s u → Run s n low high
-run_with s t u n low high more gap h order small same = record {
-  reached = h;
-  order = order;
-  small = small;
-  before = λ v a b. same v (omega arith) (omega arith) ∙ (below_with t u low high v more b ∙ gap v (omega arith));
-  inside = λ v a b. same v (omega arith) (omega arith) ∙ inside_with t u low high v more a b;
-  starts = elim (cases_lt 0 low) [
-    | inr z ↦ (let e : low ≡ 0 = omega arith in rw (eq-eqb low 0 e) refl)
-    | inl z ↦ (let e : s (low - 1) ≡ false =
-        same (low - 1) (omega arith) (omega arith) ∙ (below_with t u low high (low - 1) more (omega arith) ∙ gap (low - 1) (omega arith)) in
-        rw (e, ne_eqb low 0 (λ q. omega arith)) refl)
-  ];
-  stops = elim (cases_lt high 4095) [
-    | inr z ↦ (let e : high ≡ 4095 = omega arith in rw (eq-eqb high 4095 e) refl)
-    | inl z ↦ (let e : s (high + 1) ≡ false =
-        same (high + 1) (omega arith) (omega arith) ∙ (above_with t u low high (high + 1) more (omega arith) ∙ gap (high + 1) (omega arith)) in
-        rw (e, ne_eqb high 4095 (λ q. omega arith)) refl)
-  ];
-}
+run_with s t u n low high more gap h order small same =
+    a_run s n low high starts h order small
+    (λ v a b. same v (omega arith) (omega arith) ∙ (below_with t u low high v more b ∙ gap v (omega arith)))
+    (λ v a b. same v (omega arith) (omega arith) ∙ inside_with t u low high v more a b)
+    (λ w. same (high + 1) (omega arith) (omega arith) ∙ (above_with t u low high (high + 1) more (omega arith) ∙ gap (high + 1) (omega arith)))
+  where
+    starts : StartsAt s n
+    starts w = elim (cases_lt 0 n) [
+      | inr z ↦ rw (eq-eqb n 0 (omega arith)) refl
+      | inl z ↦ rw (
+        same (n - 1) (omega arith) (omega arith) ∙ (below_with t u low high (n - 1) more (omega arith) ∙ gap (n - 1) (omega arith)),
+        ne_eqb n 0 (λ q. omega arith),
+      ) refl
+    ]
 
 same_with : (s t u : Words) (n low high : ℕ) → With t low high u → ((v : ℕ) → n ≤ v + 1 → t v ≡ false) → SameBelow n s t →
     Run s n low high → SameBelow (high + 2) s u

@@ -12,7 +12,6 @@ use Rattle.streams.proofs.BytesLemmas.{front_after}
 use Rattle.certificate.specs.declared.Version.{Version}
 use Rattle.certificate.specs.Reading.{Each}
 use Rattle.certificate.specs.Line.{Line, line_text, ended, all_ended}
-use Rattle.std.proofs.Math.Bool.{or-true}
 use Rattle.wordset.specs.Words.{Words, all_words, difference, IsFirstFrom, HasNoneFrom}
 use Rattle.wordset.proofs.Tests.{IsSome}
 use Rattle.certificate.specs.Spelling.{marks, digits, offsets_text}
@@ -20,7 +19,7 @@ use Rattle.certificate.specs.Fields.{run_text}
 use Rattle.certificate.specs.Spelled.{Adds, IsLastOf}
 use Rattle.certificate.proofs.TextLemmas.{both_ended}
 use Rattle.certificate.proofs.PackedLemmas.{still_in}
-use Rattle.certificate.proofs.SetLemmas.{rest, comma, Run, whole_rest, none_rest, run_rest, StartsAt, starts_after}
+use Rattle.certificate.proofs.SetLemmas.{rest, comma, Run, whole_rest, none_rest, run_rest, StartsAt, starts_after, a_run}
 use Rattle.certificate.proofs.RunLemmas.{no_comma, comma_rest}
 use Rattle.certificate.proofs.DigitLemmas.{digits_more, digits_none, no_offsets, some_offsets, has_offset}
 
@@ -72,18 +71,9 @@ set_begun old s = record { text = []; is = refl; adds = none old; starts = λ h.
 -- The next run.
 pub found_run : (s others : Words) (n low high : ℕ) → StartsAt s n → IsFirstFrom n s low → IsLastOf others low high →
     ((v : ℕ) → others v ≡ difference all_words s v) → Run s n low high
-found_run s others n low high starts f l are = record {
-  reached = f.reached;
-  order = l.order;
-  small = l.small;
-  before = f.before;
-  inside = λ v a b. still_in s v (let q : high < 4096 = l.small in omega arith) (sym (are v) ∙ l.inside v a b);
-  starts = elim (cases_lt n low) [
-    | inl w ↦ rw (f.before (low - 1) (omega arith) (omega arith), ne_eqb low 0 (λ z. omega arith)) refl
-    | inr w ↦ (let z : low ≡ n = (let q : n ≤ low = f.reached in omega arith) in rw z (starts (let p : low < 4096 = f.small in omega arith)))
-  ];
-  stops = stop l.stops;
-}
+found_run s others n low high starts f l are =
+    a_run s n low high starts f.reached l.order l.small f.before
+    (λ v a b. still_in s v (let q : high < 4096 = l.small in omega arith) (sym (are v) ∙ l.inside v a b)) (after l.stops)
   where
     gone : (v : ℕ) → difference all_words s v ≡ true → s v ≡ false
     gone v e = go (s v) (all_words v) e
@@ -93,9 +83,9 @@ found_run s others n low high starts f l are = record {
         go true true q = absurd (true≢false (sym q))
         go true false q = absurd (true≢false (sym q))
 
-    stop : (high ≡ 4095) ⊎ (others (high + 1) ≡ true) → (high == 4095 || not (s (high + 1))) ≡ true
-    stop (inl e) = rw (eq-eqb high 4095 e) refl
-    stop (inr e) = let z : s (high + 1) ≡ false = gone (high + 1) (sym (are (high + 1)) ∙ e) in rw z (or-true (high == 4095))
+    after : (high ≡ 4095) ⊎ (others (high + 1) ≡ true) → high < 4095 → s (high + 1) ≡ false
+    after (inl e) w = absurd (omega arith)
+    after (inr e) w = gone (high + 1) (sym (are (high + 1)) ∙ e)
 
 -- A run more.
 pub run_written : (old now mid new : List ℕ) (s : Words) (n low high : ℕ) → SetSofar old now s n →

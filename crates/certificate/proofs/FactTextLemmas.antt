@@ -107,17 +107,6 @@ detail_next v ls i l wrote all at is so =
     append_assoc wrote (ended (line_text v l)) (left v ls (i + 1)) ∙
     (ap (λ (x : List ℕ). wrote ++ x) (sym (ap (λ (x : List Line). all_ended v (details_of_last x)) at ∙ one_more v l (drop (i + 1) ls) is)) ∙ so)
 
-pub detail_over : (v : Version) (ls : List Line) (i : ℕ) (l : Line) (wrote all : List ℕ) → drop i ls ≡ l ∷ drop (i + 1) ls → is_detail l ≡ false →
-    wrote ++ all_ended v (details_of_last (drop i ls)) ≡ all → wrote ≡ all
-detail_over v ls i l wrote all at is so =
-    sym (append-nil wrote) ∙
-    (ap (λ (x : List ℕ). wrote ++ x) (sym (ap (λ (x : List Line). all_ended v (details_of_last x)) at ∙ none_more v l (drop (i + 1) ls) is)) ∙ so)
-
-pub detail_past : (v : Version) (ls : List Line) (i : ℕ) (wrote all : List ℕ) → length ls ≤ i →
-    wrote ++ all_ended v (details_of_last (drop i ls)) ≡ all → wrote ≡ all
-detail_past v ls i wrote all past so =
-    sym (append-nil wrote) ∙ (ap (λ (x : List ℕ). wrote ++ x) (sym (ap (λ (x : List Line). all_ended v (details_of_last x)) (drop_of_length-le ls past))) ∙ so)
-
 pub detail_cut : (a b c : Option (List ℕ)) (v : Version) (ls : List Line) (i : ℕ) (l : Line) (wrote all piece : List ℕ) → drop i ls ≡ l ∷ drop (i + 1) ls → is_detail l ≡ true →
     wrote ++ all_ended v (details_of_last (drop i ls)) ≡ all → Appends a b wrote → piece ≡ ended (line_text v l) → AppendsFront b c piece → AppendsFront a c all
 detail_cut a b c v ls i l wrote all piece at is so whole same front =

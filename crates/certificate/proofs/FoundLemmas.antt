@@ -239,13 +239,6 @@ sought_none k xs p i r same is found_by h rise =
     ])
 
 -- The place of a search is between two numbers where the first one was found, and is before the other.
-pub between_found : (xs places : List ℕ) (first end i : ℕ) (r : Result ℕ ℕ) → xs ≡ places → r ≡ Ok i →
-    IsBinarySearchResult (λ y. nat_cmp y first) xs r → RiseFrom 0 places → (first < end) ↔ HasBetween places first end
-between_found xs places first end i r same is found_by rise =
-    let n : Hit places first i = hit xs places first i r same is found_by rise in
-    let e : get_or places i 0 ≡ first = n.1 in
-    (λ h. record { at = i; there = n.0; reached = omega arith; before = omega arith }, λ h. (let x = h.reached in let y = h.before in omega arith))
-
 -- Where it wasn't found, the line at which it would stand is before the other.
 pub between_missed : (xs places : List ℕ) (first end i : ℕ) (r : Result ℕ ℕ) → xs ≡ places → r ≡ Err i →
     IsBinarySearchResult (λ y. nat_cmp y first) xs r → RiseFrom 0 places → ((i < length places) × (get_or places i 0 < end)) ↔ HasBetween places first end
@@ -261,17 +254,6 @@ between_missed xs places first end i r same is found_by rise =
     )
 
 -- A place that was found is the next one from itself on.
-pub next_found : (xs places : List ℕ) (from i : ℕ) (r : Result ℕ ℕ) → xs ≡ places → r ≡ Ok i →
-    IsBinarySearchResult (λ y. nat_cmp y from) xs r → RiseFrom 0 places → IsNextPlace places from from
-next_found xs places from i r same is found_by rise =
-    let n : Hit places from i = hit xs places from i r same is found_by rise in
-    let e : get_or places i 0 ≡ from = n.1 in
-    record {
-      reached = omega arith;
-      there = λ l. record { at = i; there = n.0; reached = omega arith; before = omega arith };
-      before = λ h. (let x = h.reached in let y = h.before in omega arith);
-    }
-
 -- Where it wasn't found, that of the line at which it would stand is.
 pub next_missed : (xs places : List ℕ) (from i : ℕ) (r : Result ℕ ℕ) → xs ≡ places → r ≡ Err i →
     IsBinarySearchResult (λ y. nat_cmp y from) xs r → RiseFrom 0 places → from ≤ 40960 →

@@ -222,13 +222,6 @@ on_ok (Ok x) P Q to h = to h
 on_ok (Err e) P Q to h = tt
 
 -- Nothing was kept.
-pub cut_back : {X : Type 0} (old long cut : List X) (n : ℕ) → Begins old long → n ≡ length old → cut ≡ take n long → cut ≡ old
-cut_back old long cut n b e c = c ∙ rw (e, b.1) (take-append_seam old b.0)
-
-pub same_index : {A : Type 0} (k new : KeptLines A) → all_said new ≡ all_said k → new.places.items ≡ k.places.items →
-    new.starts.items ≡ k.starts.items → IsIndexed k → IsIndexed new
-same_index k new e p s h = record { places = p ∙ rw e h.places; starts = s ∙ rw e h.starts }
-
 -- One list begins with another, and that with a third.
 pub begins_same : {X : Type 0} (xs : List X) → Begins xs xs
 begins_same xs = ([], sym (append-nil xs))

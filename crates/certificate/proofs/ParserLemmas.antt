@@ -37,11 +37,6 @@ Kept r text line old new_text new_line new long p =
     (λ u. (new_text ≡ text ++ line ++ 10 ∷ []) × (new_line ≡ []) × (new ≡ Some p) × (long ≡ false))
     (λ e. ⊥)
 
-pub kept_number : (r : Result Unit CertificateFault) (text line new_text new_line : List ℕ) (old new : Option Progress) (long : Bool) (p : Progress) (n : ℕ) →
-    Kept r text line old new_text new_line new long p → IfSome old (λ g. g.number ≤ n) → p.number ≤ n → IfSome new (λ g. g.number ≤ n)
-kept_number (Ok u) text line new_text new_line old new long p n k h g = let e : new ≡ Some p = k.2 in rw e g
-kept_number (Err f) text line new_text new_line old new long p n k h g = absurd k
-
 -- After a line was kept.
 kept_parts : {A : Type 0} (new_kept : KeptLines A) (text line new_text new_line bytes : List ℕ) (new : Option Progress) (long : Bool) (p : Progress) →
     bytes ≡ text ++ line → new_text ≡ text ++ line ++ 10 ∷ [] → new_line ≡ [] → new ≡ Some p → long ≡ false →
@@ -60,19 +55,6 @@ pub was_read : {A : Type 0} (p : Parser A) (bytes : List ℕ) → Seen p bytes �
 was_read p bytes s = record { text = s.text; read = s.parts.read }
 
 -- Before the first byte.
-pub nothing_seen : {A : Type 0} (p : Parser A) → Keeps p.kept [] → p.progress ≡ None → p.line.items ≡ [] → p.is_long ≡ false → Seen p []
-nothing_seen p keeps progress line short = record {
-  text = [];
-  parts = record {
-    tail = [];
-    split = refl;
-    read = rw progress (refl, keeps);
-    feed = tt;
-    same = λ q. line;
-    long = λ q. absurd (true≢false (sym q ∙ short));
-  };
-}
-
 -- The line so far, where it isn't too long.
 line_split : {A : Type 0} (kept : KeptLines A) (text line bytes : List ℕ) (progress : Option Progress) → (h : Parts text kept progress line false bytes) → bytes ≡ text ++ line
 line_split kept text line bytes progress h = rw (h.same refl) h.split
@@ -113,11 +95,6 @@ other_line kept text line bytes long v h none e = go long refl
         let a : 32768 < length h.tail = h.long q in
         let b : length h.tail ≡ length (version_text v) = ap length e in
         let c : length (version_text v) ≡ 18 = length_of v in omega arith
-
-pub first_refused : {A : Type 0} (kept : KeptLines A) (text line bytes : List ℕ) (long : Bool) → Parts text kept None line long bytes → length bytes < most_bytes →
-    ((v : Version) → long ≡ false → line ≡ version_text v → ⊥) → Refuses (bytes ++ 10 ∷ []) faults.Version
-first_refused kept text line bytes long h small none =
-    inr (λ rest. inl (h.tail, has_line text h.tail bytes [] rest h.split h.read.0 h.feed small, λ v. other_line kept text line bytes long v h (none v)))
 
 -- Lines after which one may stand have no end.
 open_before : (before : List Line) → any is_end before ≡ false → unended before ≡ before

@@ -16,9 +16,6 @@ use Rattle.certificate.proofs.PackedLemmas.{or_with, in_between, below_between, 
 use Rattle.certificate.proofs.SpelledLemmas.{SetSofar, set_begun, run_written, set_written}
 
 -- More runs may stand after those up to an index.
-pub none_yet : (rest : List Run) → StandApart 0 rest → StandApart 0 (take 0 rest ++ rest)
-none_yet rest h = h
-
 pub one_apart : (runs rest : List Run) (i n : ℕ) (r : Run) → i < length runs → r ≡ get_or runs i r →
     ((rest : List Run) → StandApart n rest → StandApart 0 (take i runs ++ rest)) → n ≤ r.first → r.first ≤ r.last → r.last < 4096 →
     StandApart (r.last + 2) rest → StandApart 0 (take (i + 1) runs ++ rest)

@@ -17,10 +17,6 @@ pub equation_added : (s : Statement) (e : Equation) (ls : List Line) →
     with_details (record s { equations = s.equations ++ e ∷ [] }) ls ≡ with_details s (EquationIs e ∷ ls)
 equation_added s e ls = rw (append_assoc s.equations (e ∷ []) (equations_under ls)) refl
 
--- Nothing more.
-pub none_added : (s : Statement) → with_details s [] ≡ s
-none_added s = rw (append-nil s.cells, append-nil s.equations) refl
-
 pub none_under : (s : Statement) (l : Line) (ls : List Line) → is_detail l ≡ false → with_details s (l ∷ ls) ≡ s
 none_under s (CellIs c) ls e = absurd (cc)
 none_under s (EquationIs q) ls e = absurd (cc)

@@ -95,9 +95,6 @@ fact_found v a ls small order unended =
 one_more : (v : Version) (l : Line) (rest : List Line) → is_detail l ≡ true → all_ended v (details_of_last (l ∷ rest)) ≡ ended (line_text v l) ++ all_ended v (details_of_last rest)
 one_more v l rest is = rw is refl
 
-none_more : (v : Version) (l : Line) (rest : List Line) → is_detail l ≡ false → all_ended v (details_of_last (l ∷ rest)) ≡ []
-none_more v l rest is = rw is refl
-
 abbrev left : Version → List Line → ℕ → List ℕ
 left v ls i = all_ended v (details_of_last (drop i ls))
 
@@ -116,6 +113,3 @@ detail_cut a b c v ls i l wrote all piece at is so whole same front =
 pub first_line_of : (v : Version) (ls : List Line) (i : ℕ) (l : Line) → drop i ls ≡ l ∷ drop (i + 1) ls →
     ended (line_text v l) ++ all_ended v (details_of_last (drop (i + 1) ls)) ≡ all_ended v (first_with_details (drop i ls))
 first_line_of v ls i l at = sym (ap (λ (x : List Line). all_ended v (first_with_details x)) at)
-
-pub nothing_past : (v : Version) (ls : List Line) (i : ℕ) → length ls ≤ i → all_ended v (first_with_details (drop i ls)) ≡ []
-nothing_past v ls i past = ap (λ (x : List Line). all_ended v (first_with_details x)) (drop_of_length-le ls past)

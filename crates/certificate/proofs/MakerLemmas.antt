@@ -221,14 +221,7 @@ pub on_ok : {X E : Type 0} (r : Result X E) (P Q : Type 0) → (P → Q) → OnO
 on_ok (Ok x) P Q to h = to h
 on_ok (Err e) P Q to h = tt
 
--- Nothing was kept.
 -- One list begins with another, and that with a third.
-pub begins_same : {X : Type 0} (xs : List X) → Begins xs xs
-begins_same xs = ([], sym (append-nil xs))
-
-pub begins_by : {X : Type 0} (xs ys more : List X) → ys ≡ xs ++ more → Begins xs ys
-begins_by xs ys more e = (more, e)
-
 pub begins_both : {X : Type 0} (xs ys zs : List X) → Begins xs ys → Begins ys zs → Begins xs zs
 begins_both xs ys zs a b = (a.0 ++ b.0, b.1 ∙ (ap (λ l. l ++ b.0) a.1 ∙ append_assoc xs a.0 b.0))
 
@@ -248,7 +241,3 @@ order_two v (l ∷ ls) h = (line_two v l h.0, record { stands = h.1.stands; orde
 
 pub whole_two : {A : Type 0} (v : Version) (k : KeptLines A) → IsWhole v k → IsWhole Two k
 whole_two v k w = record { order = order_two v (newest_first [] (all_said k)) w.order; no_end = w.no_end; indexed = w.indexed }
-
--- No line yet.
-pub whole_none : {A : Type 0} (v : Version) (k : KeptLines A) → Keeps k [] → IsWhole v k
-whole_none v k h = record { order = rw h.lines tt; no_end = rw h.lines refl; indexed = h.indexed }

@@ -81,21 +81,6 @@ has_line text tail bytes whole rest e f feed small = record {
   within = rw (← f) (let z : length bytes ≡ length (text ++ tail) = ap length e in omega (arith, length-append text tail));
 }
 
-other_line : {A : Type 0} (kept : KeptLines A) (text line bytes : List ℕ) (long : Bool) (v : Version) → (h : Parts text kept None line long bytes) →
-    (long ≡ false → line ≡ version_text v → ⊥) → h.tail ≡ version_text v → ⊥
-other_line kept text line bytes long v h none e = go long refl
-  where
-    length_of : (v : Version) → length (version_text v) ≡ 18
-    length_of One = refl
-    length_of Two = refl
-
-    go : (c : Bool) → long ≡ c → ⊥
-    go false q = none q (h.same q ∙ e)
-    go true q =
-        let a : 32768 < length h.tail = h.long q in
-        let b : length h.tail ≡ length (version_text v) = ap length e in
-        let c : length (version_text v) ≡ 18 = length_of v in omega arith
-
 -- Lines after which one may stand have no end.
 open_before : (before : List Line) → any is_end before ≡ false → unended before ≡ before
 open_before [] e = refl

@@ -41,10 +41,7 @@ joined a b c s t p q = record {
       (take_twice (a ++ s) t 32769 ∙ ap (λ (x : List ℕ). take 32769 x) (append_assoc a s t))));
 }
 
--- A byte for which there is room, and one for which there is none.
-pub pushed : (xs ys : List ℕ) (b : ℕ) → ys ≡ xs ++ b ∷ [] → Adds xs ys (b ∷ [])
-pushed xs ys b e = record { is = ap (λ (x : List ℕ). take 32769 x) e }
-
+-- A text that was added, and a byte for which there was no room.
 pub added : (xs ys text : List ℕ) → ys ≡ xs ++ text → Adds xs ys text
 added xs ys text e = record { is = ap (λ (x : List ℕ). take 32769 x) e }
 
@@ -182,7 +179,3 @@ line_cut a b c v ls i d text h p e q =
     rw (lines_more v ls i d h) (front_after a b c (all_ended v (take i ls)) (ended (line_text v (get_or ls i d))) p (rw e at q)) in
     rw (sym (both_ended v (take (i + 1) ls) (drop (i + 1) ls)) ∙ ap (λ (x : List Line). all_ended v x) (take-append-drop (i + 1) ls))
     at (front_more a c (all_ended v (take (i + 1) ls)) (all_ended v (drop (i + 1) ls)) f)
-
-pub lines_put : (a b : Option (List ℕ)) (v : Version) (ls : List Line) (i : ℕ) → length ls ≤ i → i ≤ length ls →
-    Appends a b (all_ended v (take i ls)) → Appends a b (all_ended v ls)
-lines_put a b v ls i g h p = rw (take_all i ls g) at p

@@ -5,11 +5,9 @@ use Rattle.std.proofs.lemmas.Bool.{cases_lt, true≢false, false≢true}
 use Rattle.std.proofs.lemmas.Bool.Decides.{eqb_tells}
 use Rattle.wordset.specs.Words.{Words, SameWords, nothing, everything, some_below, has_some}
 use Rattle.facts.specs.Facts.{Name, Ac, Cell, Equation}
-use Rattle.facts.specs.Statements.{TrackedCell}
 use Rattle.certificate.specs.declared.Version.{Version}
 use Rattle.certificate.specs.declared.Version.TheVariants.{One, Two}
-use Rattle.certificate.specs.Spelling.{RoutineLine}
-use Rattle.certificate.specs.Reading.{FitsVersion, IsRoutine, IsTracked, IsEquation, place_of_name}
+use Rattle.certificate.specs.Reading.{FitsVersion, IsEquation, place_of_name}
 use Rattle.certificate.specs.Line.{Registers, Line, RoutineIs, FactIs, ExitIs, CellIs, EquationIs, End, IsLine, IsRegisters, SameRegisters, SameLine, line_text}
 use Rattle.certificate.specs.Order.{Spells}
 use Rattle.certificate.proofs.DigitLemmas.{some_same}

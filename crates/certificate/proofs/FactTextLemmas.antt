@@ -1,17 +1,16 @@
 -- The lines of one fact among those of a certificate.
-use Rattle.std.proofs.Common.{◌≡◌, ℕ, ◌+◌, ◌*◌, ◌<◌, ◌≤◌, true, false, List, [], ◌∷◌, ◌++◌, refl, ap, ◌∙◌, sym, arith, append_assoc, append-nil, inl, inr, length, drop, subst, Option}
+use Rattle.std.proofs.Common.{◌≡◌, ℕ, ◌+◌, ◌*◌, ◌<◌, ◌≤◌, true, false, List, [], ◌∷◌, ◌++◌, refl, ap, ◌∙◌, sym, arith, append_assoc, append-nil, inl, inr, drop, subst, Option}
 use Rattle.std.specs.Prelude.{map, flat_map}
-use Rattle.std.proofs.Math.ListN.{drop_of_length-le}
 use Rattle.std.specs.Io.KnownBytes.{Appends}
 use Rattle.streams.specs.Bytes.{AppendsFront}
 use Rattle.streams.proofs.BytesLemmas.{front_after}
 use Rattle.std.proofs.lemmas.Bool.{eq-eqb, ne_eqb, cases_eq}
 use Rattle.facts.specs.Facts.{Equation}
-use Rattle.facts.specs.Statements.{TrackedCell, Statement}
+use Rattle.facts.specs.Statements.{TrackedCell}
 use Rattle.certificate.specs.declared.Version.{Version}
 use Rattle.certificate.specs.Spelling.{RoutineLine, FactLine, ExitLine, Lines, fact_text, fact_text_in, fact_text_at}
 use Rattle.certificate.specs.Reading.{RiseFrom, Each, IsRoutine, AreLines}
-use Rattle.certificate.specs.Line.{Line, RoutineIs, FactIs, CellIs, EquationIs, registers_of, details, lines_of_fact, lines_of_exit, line_text, ended, all_ended}
+use Rattle.certificate.specs.Line.{Line, RoutineIs, FactIs, CellIs, EquationIs, registers_of, lines_of_fact, lines_of_exit, line_text, ended, all_ended}
 use Rattle.certificate.specs.Order.{any, is_end, is_detail, details_of_last, AreInOrder}
 use Rattle.certificate.specs.Gathered.{gathered}
 use Rattle.certificate.specs.Found.{newest_first, from_place, first_with_details}

@@ -1,7 +1,6 @@
 -- Lines in order are the lines of a certificate: of that which they say together.
 use Rattle.std.proofs.Common.{◌≡◌, ℕ, List, [], refl, ap, ◌∙◌, sym}
 use Rattle.certificate.specs.declared.Version.{Version}
-use Rattle.certificate.specs.Line.{Line}
 use Rattle.certificate.specs.Order.{front}
 use Rattle.certificate.specs.Gathered.{gathered}
 use Rattle.certificate.specs.Found.{newest_first}

@@ -1,9 +1,8 @@
 -- Lines added to those of a certificate.
-use Rattle.std.proofs.Common.{◌≡◌, ℕ, ◌+◌, ◌*◌, ◌<◌, ◌≤◌, Bool, true, false, List, [], ◌∷◌, ◌++◌, length, refl, ap, ◌∙◌, sym, arith, append_assoc, append-nil, length-append}
-use Rattle.std.specs.Prelude.{map, flat_map, take, if◌then◌else◌, Result, Ok, Err, OnOk}
+use Rattle.std.proofs.Common.{◌≡◌, ℕ, ◌+◌, ◌*◌, ◌<◌, ◌≤◌, true, false, List, [], ◌∷◌, ◌++◌, length, refl, ap, ◌∙◌, sym, arith, append_assoc, append-nil, length-append}
+use Rattle.std.specs.Prelude.{map, flat_map, Result, Ok, Err, OnOk}
 use Rattle.std.proofs.lemmas.List.{map_push, append_cancel_right}
 use Rattle.std.proofs.lemmas.List.Concat.{flat_map-append}
-use Rattle.std.proofs.Math.Seq.{take-append_seam}
 use Rattle.facts.specs.Facts.{Equation}
 use Rattle.facts.specs.Statements.{TrackedCell}
 use Rattle.wordset.specs.Words.{Words}
@@ -13,10 +12,10 @@ use Rattle.certificate.specs.declared.Version.TheVariants.{One, Two}
 use Rattle.certificate.specs.declared.lines.KeptLines.{KeptLines}
 use Rattle.certificate.specs.Spelling.{RoutineLine, FactLine, ExitLine, Lines, version_text, text}
 use Rattle.certificate.specs.Reading.{RiseFrom, Each, FitsVersion, IsRoutine, IsFactLine, IsExit, AreLines}
-use Rattle.certificate.specs.Line.{Line, RoutineIs, FactIs, ExitIs, CellIs, EquationIs, End, IsLine, line_text, registers_of, details, lines_of_fact, lines_of_exit, lines_of, ended, all_ended}
+use Rattle.certificate.specs.Line.{Line, RoutineIs, FactIs, ExitIs, CellIs, EquationIs, End, IsLine, line_text, lines_of_fact, lines_of_exit, ended, all_ended}
 use Rattle.certificate.specs.Order.{any, is_end, is_detail, heads, place, next_place, IsNext, AreInOrder}
 use Rattle.certificate.specs.Gathered.{routines_of, facts_of, exits_of, gathered}
-use Rattle.certificate.specs.Found.{newest_first, starts, all_said, IsIndexed, Keeps, IsWhole, HasMore}
+use Rattle.certificate.specs.Found.{newest_first, starts, all_said, IsIndexed, IsWhole, HasMore}
 use Rattle.certificate.specs.Packed.{Begins}
 use Rattle.certificate.specs.Made.{with_routine, with_fact, with_exit, MayAddRoutine, MayAddFact, MayAddExit}
 use Rattle.certificate.proofs.TextLemmas.{text_lines, newest_both, both_ended, each_append}

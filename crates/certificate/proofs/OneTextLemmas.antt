@@ -1,16 +1,12 @@
 -- A text is that of one certificate.
-use Rattle.std.proofs.Common.{◌≡◌, ℕ, Bool, true, false, List, [], ◌∷◌, ◌++◌, refl, ap, ◌∙◌, sym, subst, append_assoc, get_or, arith}
-use Rattle.std.specs.Prelude.{map, flat_map}
-use Rattle.std.proofs.lemmas.Bool.{true≢false, false≢true}
-use Rattle.facts.specs.Facts.{Equation}
-use Rattle.facts.specs.Statements.{Statement}
+use Rattle.std.proofs.Common.{◌≡◌, ℕ, List, [], ◌∷◌, ◌++◌, refl, ap, ◌∙◌, sym, subst, get_or, arith}
 use Rattle.certificate.specs.declared.Version.{Version}
 use Rattle.certificate.specs.declared.Version.TheVariants.{One, Two}
-use Rattle.certificate.specs.Spelling.{RoutineLine, FactLine, ExitLine, Lines, version_text, text}
+use Rattle.certificate.specs.Spelling.{Lines, version_text, text}
 use Rattle.certificate.specs.Reading.{Each, AreLines}
-use Rattle.certificate.specs.Line.{Registers, Line, RoutineIs, FactIs, ExitIs, CellIs, EquationIs, End, IsLine, line_text, SameRegisters, SameLine, registers_of, details, lines_of_fact, lines_of_exit, lines_of, all_ended}
+use Rattle.certificate.specs.Line.{Registers, Line, RoutineIs, FactIs, ExitIs, CellIs, EquationIs, End, IsLine, line_text, SameRegisters, SameLine, lines_of, all_ended}
 use Rattle.certificate.specs.Gathered.{cells_under, equations_under, stated, gathered}
-use Rattle.certificate.specs.Exact.{Alike, SameRoutineLine, SameCell, SameStatement, SameFactLine, SameExitLine, SameLines}
+use Rattle.certificate.specs.Exact.{Alike, SameCell, SameStatement, SameLines}
 use Rattle.certificate.proofs.TextLemmas.{text_lines, seam}
 use Rattle.certificate.proofs.TextOrderLemmas.{text_law}
 use Rattle.certificate.proofs.OneLineLemmas.{line_one, line_feed, version_feed, first_one}

@@ -1,20 +1,19 @@
 -- A certificate's text taken byte by byte.
 use Rattle.std.proofs.Common.{◌≡◌, ◌⊎◌, ℕ, ◌+◌, ◌<◌, ◌≤◌, ◌==◌, Bool, true, false, List, [], ◌∷◌, ◌++◌, length, Option, Some, None, Result, Ok, Err, refl, ap, ◌∙◌, sym, subst, inl, inr, arith, append_assoc, append-nil, length-append}
-use Rattle.std.specs.Prelude.{not, ◌&&◌, ◌||◌, IfSome, IfOk, IfErr, MatchResult, take}
+use Rattle.std.specs.Prelude.{not, ◌&&◌, ◌||◌, MatchResult, take}
 use Rattle.std.proofs.lemmas.Bool.{true≢false, eqb-true, eq-eqb, cases_lt}
 use Rattle.std.proofs.Math.Seq.{take-append_seam}
 use Rattle.certificate.specs.declared.Version.{Version}
-use Rattle.certificate.specs.declared.Version.TheVariants.{One, Two}
 use Rattle.certificate.specs.declared.CertificateFault.{CertificateFault}
 use Rattle.certificate.specs.declared.CertificateFault.TheVariants as faults
 use Rattle.certificate.specs.declared.progress.Progress.{Progress}
 use Rattle.certificate.specs.declared.lines.KeptLines.{KeptLines}
 use Rattle.certificate.specs.Spelling.{version_text, text as spelled}
-use Rattle.certificate.specs.Line.{Line, RoutineIs, FactIs, ExitIs, CellIs, EquationIs, End, line_text}
+use Rattle.certificate.specs.Line.{Line, End, line_text}
 use Rattle.certificate.specs.Order.{any, is_end, may_stand, AreInOrder, front, IsBad, IsMisplaced, IsOneTooMany, Continues}
 use Rattle.certificate.specs.Progress.{Tracks, Declines}
 use Rattle.certificate.specs.Found.{newest_first, all_said, Keeps, IsWhole, unended}
-use Rattle.certificate.specs.Faults.{most_bytes, NoFeed, HasLine, HasFaultyLine, HasRest, IsCut, HasFault, AsksForMemory}
+use Rattle.certificate.specs.Faults.{most_bytes, NoFeed, HasLine, HasFaultyLine, HasRest, IsCut, AsksForMemory}
 use Rattle.certificate.proofs.LengthLemmas.{line_short}
 use Rattle.certificate.proofs.OneLineLemmas.{no_feed_both}
 use Rattle.certificate.proofs.TextLemmas.{newest_both}

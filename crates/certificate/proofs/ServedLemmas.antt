@@ -4,7 +4,7 @@ use Rattle.std.specs.Prelude.{replicate, IfOk, IfErr, IfSome, IsErrAnd, MatchRes
 use Rattle.std.specs.Io.KnownBytes.{Consumes, Keeps, IsAtEnd}
 use Rattle.std.proofs.KnownBytes.{Consumes-nil, Consumes-trans, Consumes-kept, Consumes-whole}
 use Rattle.std.proofs.lemmas.Bool.{true≢false}
-use Rattle.std.proofs.lemmas.List.{take_all, take_more, length-drop, take-append-le, take-append-drop, length-replicate}
+use Rattle.std.proofs.lemmas.List.{take_more, take-append-le, take-append-drop, length-replicate}
 use Rattle.std.proofs.Math.Seq.{take-append-add, take-add}
 use Rattle.streams.specs.Bytes.{Gave}
 use Rattle.certificate.specs.declared.Version.{Version}

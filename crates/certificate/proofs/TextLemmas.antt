@@ -7,8 +7,8 @@ use Rattle.facts.specs.Facts.{Equation}
 use Rattle.facts.specs.Statements.{TrackedCell, Statement}
 use Rattle.certificate.specs.declared.Version.{Version}
 use Rattle.certificate.specs.Spelling.{RoutineLine, FactLine, ExitLine, Lines, cell_text, equation_text, details_text, routine_text, fact_text, exit_text, version_text, text}
-use Rattle.certificate.specs.Reading.{Each, IsTracked, IsEquation, IsStatement, IsRoutine, IsFactLine, IsExit, AreLines}
-use Rattle.certificate.specs.Line.{Line, RoutineIs, FactIs, ExitIs, CellIs, EquationIs, End, IsLine, IsRegisters, line_text, words_text, registers_of, details, lines_of_fact, lines_of_exit, lines_of, ended, all_ended, TextLaw}
+use Rattle.certificate.specs.Reading.{Each, IsStatement}
+use Rattle.certificate.specs.Line.{Line, RoutineIs, FactIs, ExitIs, CellIs, EquationIs, End, IsRegisters, line_text, words_text, registers_of, details, lines_of_fact, lines_of_exit, lines_of, ended, all_ended}
 use Rattle.certificate.specs.Order.{front}
 use Rattle.certificate.specs.Found.{newest_first}
 use Rattle.certificate.specs.Exact.{Alike}

@@ -1,13 +1,13 @@
 -- The lines of a certificate come in order.
-use Rattle.std.proofs.Common.{◌≡◌, ℕ, ◌+◌, ◌*◌, ◌<◌, ◌≤◌, true, false, List, [], ◌∷◌, ◌++◌, length, refl, ap, ◌∙◌, sym, subst, arith, append_assoc, append-nil}
+use Rattle.std.proofs.Common.{◌≡◌, ℕ, ◌+◌, ◌*◌, ◌<◌, ◌≤◌, true, false, List, [], ◌∷◌, ◌++◌, length, refl, ap, ◌∙◌, sym, subst, arith}
 use Rattle.std.specs.Prelude.{map, flat_map}
 use Rattle.facts.specs.Facts.{Equation}
 use Rattle.facts.specs.Statements.{TrackedCell, Statement}
 use Rattle.certificate.specs.declared.Version.{Version}
 use Rattle.certificate.specs.Spelling.{RoutineLine, FactLine, ExitLine, Lines, text}
 use Rattle.certificate.specs.Reading.{RiseFrom, place_of_equation, Each, IsTracked, IsEquation, IsStatement, IsRoutine, IsFactLine, IsExit, AreLines}
-use Rattle.certificate.specs.Line.{Line, RoutineIs, FactIs, ExitIs, CellIs, EquationIs, End, IsRegisters, line_text, registers_of, details, lines_of_fact, lines_of_exit, lines_of, ended, all_ended, TextLaw}
-use Rattle.certificate.specs.Order.{is_end, has_details, any, how_many, is_routine, is_cell, is_equation, heads, details_of_last, next_place, IsNext, AreInOrder, front}
+use Rattle.certificate.specs.Line.{Line, RoutineIs, FactIs, ExitIs, CellIs, EquationIs, End, registers_of, details, lines_of_fact, lines_of_exit, lines_of, TextLaw}
+use Rattle.certificate.specs.Order.{is_end, has_details, any, how_many, is_routine, is_cell, is_equation, heads, details_of_last, next_place, IsNext, AreInOrder}
 use Rattle.certificate.specs.Found.{newest_first}
 use Rattle.certificate.specs.Faults.{most_bytes, IsText}
 use Rattle.certificate.proofs.TextLemmas.{text_lines, registers_form, newest_both, front_newest}

@@ -1,4 +1,4 @@
-use Rattle.std.proofs.Common.{◌≡◌, ◌<◌, ◌≤◌, ◌+◌, ◌-◌, ◌*◌, ◌/◌, arith}
+use Rattle.std.proofs.Common.{◌≡◌, ◌≤◌, ◌+◌, ◌-◌, ◌*◌, ◌/◌, arith}
 use Rattle.certificate.proofs.FoundLemmas.{places_of_order}
 use Rattle.certificate.proofs.NameLemmas.{least_of, next_is_claimed, none_is_claimed}
 use Rattle.certificate.proofs.Certificate.next_claimed.Goals as goal
